@@ -1,0 +1,35 @@
+-- A term as a tree, for definitions that go through two terms at once.
+use Rattle.std.specs.Prelude.{ℕ, ℤ, List, [], ◌∷◌}
+use Rattle.ets_term.specs.declared.term.Term.{Term, fold-Term}
+use Rattle.ets_term.specs.declared.term.Term.TheOpen.{Term-F}
+
+mutual
+  pub data Data : Type 0 where
+    int : ℤ → Data
+    atom : List ℕ → Data
+    pid : ℕ → Data
+    tid : ℕ → Data
+    tuple : Row → Data
+    list : Row → Data
+    binary : List ℕ → Data
+
+  pub data Row : Type 0 where
+    no_terms : Row
+    term : Data → Row → Row
+
+abbrev pub row_of : List Data → Row
+row_of [] = no_terms
+row_of (d ∷ ds) = term d (row_of ds)
+
+-- one level, with each term inside already seen as its tree
+abbrev pub data_step : Term-F Data → Data
+data_step (Term-F.Int n) = int n
+data_step (Term-F.Atom a) = atom a
+data_step (Term-F.Pid n) = pid n
+data_step (Term-F.Tid n) = tid n
+data_step (Term-F.Tuple ds) = tuple (row_of ds)
+data_step (Term-F.List ds) = list (row_of ds)
+data_step (Term-F.Binary s) = binary s
+
+abbrev pub data_of : Term → Data
+data_of = fold-Term Data data_step

@@ -1,0 +1,30 @@
+-- How deep a term is, and the elements of a tuple.
+use Rattle.std.specs.Prelude.{ℕ, ◌+◌, ◌-◌, ◌==◌, if◌then◌else◌, max, List, [], ◌∷◌, Option, None, slice_get}
+use Rattle.ets_term.specs.declared.term.Term.{Term, fold-Term, out-Term}
+use Rattle.ets_term.specs.declared.term.Term.TheOpen.{Term-F}
+
+-- the largest of some numbers, 0 of none
+abbrev pub largest : List ℕ → ℕ
+largest [] = 0
+largest (n ∷ ns) = max n (largest ns)
+
+-- 1 for what holds no terms, `{}` and `[]` too, else one more than the depth of the deepest element
+abbrev pub depth_step : Term-F ℕ → ℕ
+depth_step (Term-F.Tuple ds) = largest ds + 1
+depth_step (Term-F.List ds) = largest ds + 1
+depth_step _ = 1
+
+abbrev pub depth : Term → ℕ
+depth = fold-Term ℕ depth_step
+
+-- the elements of a tuple; any other term has none
+abbrev pub elements_step : Term-F Term → List Term
+elements_step (Term-F.Tuple ts) = ts
+elements_step _ = []
+
+abbrev pub elements : Term → List Term
+elements t = elements_step (out-Term t)
+
+-- element n of a tuple, counted from 1
+abbrev pub element_at : ℕ → Term → Option Term
+element_at n t = if n == 0 then None else slice_get (elements t) (n - 1)

@@ -1,0 +1,30 @@
+-- The bytes of a term, and the hash of them.
+use Rattle.std.specs.Prelude.{ℕ, ◌*◌, ◌%◌, ◌^◌, List, [], ◌∷◌, ◌++◌, length, fold, bit_xor}
+use Rattle.std.specs.Int.{to_be_bytes, w32, w64}
+use Rattle.ets_term.specs.declared.term.Term.{Term, fold-Term}
+use Rattle.ets_term.specs.declared.term.Term.TheOpen.{Term-F}
+use Rattle.ets_term.specs.Integers.{integer_bytes}
+
+abbrev pub joined : {A : Type 0} → List (List A) → List A
+joined [] = []
+joined (x ∷ xs) = x ++ joined xs
+
+-- a byte for the kind; then a number with its high byte first, or the count and then the parts
+abbrev pub encoding_step : Term-F (List ℕ) → List ℕ
+encoding_step (Term-F.Int n) = 1 ∷ integer_bytes n
+encoding_step (Term-F.Atom s) = 2 ∷ length s ∷ s
+encoding_step (Term-F.Pid n) = 3 ∷ to_be_bytes w32 n
+encoding_step (Term-F.Tid n) = 4 ∷ to_be_bytes w32 n
+encoding_step (Term-F.Tuple es) = 5 ∷ (to_be_bytes w64 (length es) ++ joined es)
+encoding_step (Term-F.List es) = 6 ∷ (to_be_bytes w64 (length es) ++ joined es)
+encoding_step (Term-F.Binary s) = 7 ∷ (to_be_bytes w64 (length s) ++ s)
+
+abbrev pub encoding : Term → List ℕ
+encoding = fold-Term (List ℕ) encoding_step
+
+-- FNV-1a of 32 bits: exclusive or with the byte, then times the prime
+abbrev pub fnv_step : ℕ → ℕ → ℕ
+fnv_step h b = (bit_xor h b * 16777619) % 2 ^ 32
+
+abbrev pub fnv : List ℕ → ℕ
+fnv bytes = fold fnv_step 2166136261 bytes

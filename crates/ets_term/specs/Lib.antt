@@ -1,0 +1,11 @@
+pub mod Character
+pub mod Data
+pub mod Depth
+pub mod Encoding
+pub mod Fits
+pub mod Integers
+pub mod Order
+pub mod Stored
+pub mod Writes
+pub mod formers
+pub mod laws

@@ -1,0 +1,4 @@
+pub mod Exact
+pub mod Hashed
+pub mod Ordered
+pub mod Same

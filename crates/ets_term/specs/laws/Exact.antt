@@ -1,0 +1,58 @@
+-- A term is what its tree says.
+use Rattle.std.specs.Prelude.{◌≡◌, List, [], ◌∷◌, map, refl}
+use Rattle.std.proofs.Common.{sym, ap, ◌∙◌, rules, subst}
+use Rattle.ets_term.specs.declared.term.Term.{Term, ind-Term, fold-roll-Term, the_lemmas}
+use Rattle.ets_term.specs.declared.term.Term.TheViews.{roll-Term}
+use Rattle.ets_term.specs.declared.term.Term.TheFolds.{map-Term}
+use Rattle.ets_term.specs.declared.term.Term.TheOpen.{Term-F}
+use Rattle.ets_term.specs.declared.term.Term.TheVariants.{Int, Atom, Pid, Tid, Tuple, List as Lst, Binary, rolls-Int, rolls-Atom, rolls-Pid, rolls-Tid, rolls-Tuple, rolls-List, rolls-Binary}
+use Rattle.ets_term.specs.Data.{Data, int, atom, pid, tid, tuple, list, binary, Row, no_terms, term, row_of, data_step, data_of}
+
+-- the term that a tree is of
+abbrev mutual
+  term_of : Data → Term
+  term_of (int n) = Int n
+  term_of (atom a) = Atom a
+  term_of (pid n) = Pid n
+  term_of (tid n) = Tid n
+  term_of (tuple ds) = Tuple (terms_of ds)
+  term_of (list ds) = Lst (terms_of ds)
+  term_of (binary s) = Binary s
+
+  terms_of : Row → List Term
+  terms_of no_terms = []
+  terms_of (term d ds) = term_of d ∷ terms_of ds
+
+pub data_of-Tuple : (ts : List Term) → data_of (Tuple ts) ≡ tuple (row_of (map data_of ts))
+data_of-Tuple ts = search (rules, the_lemmas)
+
+pub data_of-List : (ts : List Term) → data_of (Lst ts) ≡ list (row_of (map data_of ts))
+data_of-List ts = search (rules, the_lemmas)
+
+abbrev Known : Type 0
+Known = (t : Term) × (term_of (data_of t) ≡ t)
+
+abbrev plain : Known → Term
+plain k = k.0
+
+all_back : (ks : List Known) → terms_of (row_of (map data_of (map plain ks))) ≡ map plain ks
+all_back [] = refl
+all_back (k ∷ ks) = λ i. k.1 i ∷ all_back ks i
+
+abbrev opened : Term-F Known → Term
+opened y = roll-Term (map-Term Known Term plain y)
+
+one_back : (y : Term-F Known) → term_of (data_of (opened y)) ≡ opened y
+one_back (Term-F.Int n) = ap term_of (fold-roll-Term Data data_step (Term-F.Int n)) ∙ sym (rolls-Int n)
+one_back (Term-F.Atom s) = ap term_of (fold-roll-Term Data data_step (Term-F.Atom s)) ∙ sym (rolls-Atom s)
+one_back (Term-F.Pid n) = ap term_of (fold-roll-Term Data data_step (Term-F.Pid n)) ∙ sym (rolls-Pid n)
+one_back (Term-F.Tid n) = ap term_of (fold-roll-Term Data data_step (Term-F.Tid n)) ∙ sym (rolls-Tid n)
+one_back (Term-F.Tuple ks) = ap term_of (fold-roll-Term Data data_step (Term-F.Tuple (map plain ks))) ∙ ap Tuple (all_back ks) ∙ sym (rolls-Tuple (map plain ks))
+one_back (Term-F.List ks) = ap term_of (fold-roll-Term Data data_step (Term-F.List (map plain ks))) ∙ ap Lst (all_back ks) ∙ sym (rolls-List (map plain ks))
+one_back (Term-F.Binary s) = ap term_of (fold-roll-Term Data data_step (Term-F.Binary s)) ∙ sym (rolls-Binary s)
+
+pub back : (t : Term) → term_of (data_of t) ≡ t
+back = ind-Term (λ t. term_of (data_of t) ≡ t) (λ x y e. subst (λ (z : Term-F Term). term_of (data_of (roll-Term z)) ≡ roll-Term z) e (one_back y))
+
+pub data_of-exact : (t u : Term) → data_of t ≡ data_of u → t ≡ u
+data_of-exact t u e = sym (back t) ∙ ap term_of e ∙ back u

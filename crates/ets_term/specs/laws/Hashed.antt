@@ -1,0 +1,18 @@
+-- Equal terms write the same, and the hash stays below 2^32.
+use Rattle.std.specs.Prelude.{◌≡◌, ℕ, ◌<◌, ◌^◌, List, [], ◌∷◌, fold, true}
+use Rattle.std.proofs.Common.{ap, arith}
+use Rattle.ets_term.specs.declared.term.Term.{Term}
+use Rattle.ets_term.specs.Encoding.{fnv_step, fnv}
+use Rattle.ets_term.specs.Order.{same}
+use Rattle.ets_term.specs.Writes.{writes}
+use Rattle.ets_term.specs.laws.Same.{same-exact}
+
+pub writes-same : (s t : Term) → same s t ≡ true → writes s ≡ writes t
+writes-same s t h = ap writes (same-exact s t h)
+
+stays_below : (bytes : List ℕ) (h : ℕ) → h < 2 ^ 32 → fold fnv_step h bytes < 2 ^ 32
+stays_below [] h b = b
+stays_below (x ∷ xs) h b = stays_below xs (fnv_step h x) (omega arith)
+
+pub fnv-below : (bytes : List ℕ) → fnv bytes < 2 ^ 32
+fnv-below bytes = stays_below bytes 2166136261 (omega arith)

@@ -1,0 +1,109 @@
+// The comparisons of terms.
+ghost use Rattle.std.proofs.Common.{rules};
+ghost use Rattle.std.specs.Prelude.{◌≡◌, ◌↔◌, map};
+ghost use Rattle.std.specs.Ordering.{as_partial_cmp};
+ghost use Rattle.std.specs.Cmp.Rules.{comparing};
+ghost use Rattle.ets_term.specs.Data.{row_of, data_of};
+ghost use Rattle.ets_term.specs.Order.{order, same, row_order, rank};
+ghost use Rattle.ets_term.specs.laws.Ordered.{order_total};
+
+use crate::term::Term;
+use std::cmp::Ordering;
+
+impl Term {
+    /// How the term compares with another: integer < atom < table identifier < pid < tuple < list < binary (Erlang
+    /// Reference Manual, Expressions, Term Comparisons); tuples by size first, then element by element; else part by
+    /// part, a proper prefix below the longer. Identifiers and pids go by their numbers, which is this project's choice.
+    pub fn cmp_terms(&self, other: &Term) -> Ordering
+        ensures order { result ≡ order self.now other.now }
+        ensures alike { result ≡ Ordering.Equal ↔ self.now ≡ other.now }
+    {
+        self.cmp(other)
+    }
+}
+
+impl PartialEq for Term {
+    ghost eq = { same };
+
+    ghost laws = { Prim.search (comparing, order_total, rules) };
+
+    fn eq(&self, other: &Term) -> bool {
+        compare(self, other) == Ordering::Equal
+    }
+}
+
+impl Eq for Term {
+    ghost laws = { Prim.search (comparing, order_total, rules) };
+}
+
+impl PartialOrd for Term {
+    ghost partial_cmp = { as_partial_cmp order };
+
+    ghost laws = { Prim.search (comparing, order_total, rules) };
+
+    fn partial_cmp(&self, other: &Term) -> Option<Ordering> {
+        Some(self.cmp(other))
+    }
+}
+
+impl Ord for Term {
+    ghost cmp = { order };
+
+    ghost total = { Prim.search (comparing, order_total, rules) };
+
+    ghost matches_partial_cmp = { Prim.search (comparing, rules) };
+
+    ghost matches_eq = { Prim.search (comparing, rules) };
+
+    fn cmp(&self, other: &Term) -> Ordering {
+        compare(self, other)
+    }
+}
+
+#[cycle(compare)]
+#[tactic(auto, using(crate::proofs::Rows::row_len_of, crate::proofs::Rows::decided))]
+fn compare(a: &Term, b: &Term) -> Ordering
+    ensures { result ≡ order a.now b.now }
+{
+    match (a, b) {
+        (Term::Int(x), Term::Int(y)) => x.cmp(y),
+        (Term::Atom(x), Term::Atom(y)) => x.text().cmp(y.text()),
+        (Term::Pid(x), Term::Pid(y)) => x.cmp(y),
+        (Term::Tid(x), Term::Tid(y)) => x.cmp(y),
+        (Term::Tuple(x), Term::Tuple(y)) => match x.len().cmp(&y.len()) {
+            Ordering::Equal => compare_items(x.as_slice(), y.as_slice()),
+            by_size => by_size,
+        },
+        (Term::List(x), Term::List(y)) => compare_items(x.as_slice(), y.as_slice()),
+        (Term::Binary(x), Term::Binary(y)) => x.as_slice().cmp(y.as_slice()),
+        _ => kind(a).cmp(&kind(b)),
+    }
+}
+
+#[cycle(compare)]
+fn compare_items(xs: &[Term], ys: &[Term]) -> Ordering
+    ensures { result ≡ row_order (row_of (map data_of xs.now)) (row_of (map data_of ys.now)) }
+{
+    let both = xs.len().min(ys.len());
+    for i in 0..both {
+        let here = compare(&xs[i], &ys[i]);
+        if here != Ordering::Equal {
+            return here;
+        }
+    }
+    xs.len().cmp(&ys.len())
+}
+
+fn kind(term: &Term) -> u8
+    ensures { result ≡ rank (data_of term.now) }
+{
+    match term {
+        Term::Int(_) => 0,
+        Term::Atom(_) => 1,
+        Term::Tid(_) => 2,
+        Term::Pid(_) => 3,
+        Term::Tuple(_) => 4,
+        Term::List(_) => 5,
+        Term::Binary(_) => 6,
+    }
+}

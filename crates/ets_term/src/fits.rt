@@ -1,0 +1,53 @@
+// The ranges of what terms hold.
+ghost use Rattle.std.specs.Prelude.{◌<◌, map};
+ghost use Rattle.std.specs.List.{AllByRecursion};
+ghost use Rattle.ets_term.specs.Data.{row_of, data_of};
+ghost use Rattle.ets_term.specs.Fits.{Fits, RowFits};
+
+use crate::term::Term;
+
+impl Term {
+    /// Answers nothing, and promises that the term fits: its integers, pids, identifiers and bytes are in their ranges,
+    /// and each of its atoms has at most 255 characters, all printable ASCII.
+    pub fn fits(&self)
+        ensures { Fits self.now }
+    {
+        fits_term(self)
+    }
+}
+
+#[cycle(fits)]
+fn fits_term(term: &Term)
+    ensures { Fits term.now }
+{
+    match term {
+        Term::Int(n) => {
+            let _n = *n;
+        }
+        Term::Atom(name) => {
+            let _text = name.text();
+        }
+        Term::Pid(n) => {
+            let _n = *n;
+        }
+        Term::Tid(n) => {
+            let _n = *n;
+        }
+        Term::Tuple(items) => fits_items(items.as_slice()),
+        Term::List(items) => fits_items(items.as_slice()),
+        Term::Binary(bytes) => fits_bytes(bytes.as_slice()),
+    }
+}
+
+fn fits_bytes(bytes: &[u8])
+    ensures { AllByRecursion (λ b. b < 256) bytes.now }
+{}
+
+#[cycle(fits)]
+fn fits_items(items: &[Term])
+    ensures { RowFits (row_of (map data_of items.now)) }
+{
+    for item in items {
+        fits_term(item);
+    }
+}

@@ -1,0 +1,74 @@
+// FNV-1a of terms.
+ghost use Rattle.std.specs.Prelude.{◌≡◌, ◌∷◌, fold, map};
+ghost use Rattle.std.specs.Int.{to_be_bytes, w64};
+ghost use Rattle.ets_term.specs.Encoding.{encoding, joined, fnv_step};
+
+use crate::key_hash::KeyHash;
+use crate::term::Term;
+
+/// The hash FNV-1a of 32 bits over the encoding of the term: a byte for the kind (integer 1, atom 2, pid 3, table
+/// identifier 4, tuple 5, list 6, binary 7); then 8 bytes of an integer or of a count, 1 byte of an atom's length, or 4
+/// bytes of a pid's or an identifier's number, each with the high byte first; then the characters, elements or bytes.
+#[derive(Clone, Copy)]
+pub struct Fnv;
+
+impl KeyHash for Fnv {
+    ghost use Rattle.ets_term.specs.Encoding.{fnv};
+    ghost use Rattle.ets_term.specs.laws.Hashed.{fnv-below};
+
+    ghost number = { λ _ term. fnv (encoding term) };
+
+    ghost below = { λ _ term. fnv-below (encoding term) };
+
+    fn hash32(&self, term: &Term) -> u32 {
+        fnv_term(2166136261, term)
+    }
+}
+
+#[cycle(fnv)]
+fn fnv_term(start: u32, term: &Term) -> u32
+    ensures { result ≡ fold fnv_step start (encoding term.now) }
+{
+    match term {
+        Term::Int(n) => fnv_bytes(fnv_bytes(start, &[1]), &n.to_be_bytes()),
+        Term::Atom(atom) => {
+            let text = atom.text().as_bytes();
+            fnv_bytes(fnv_bytes(start, &[2, text.len() as u8]), text)
+        }
+        Term::Pid(n) => fnv_bytes(fnv_bytes(start, &[3]), &n.to_be_bytes()),
+        Term::Tid(n) => fnv_bytes(fnv_bytes(start, &[4]), &n.to_be_bytes()),
+        Term::Tuple(items) => fnv_items(fnv_count(start, 5, items.len()), items.as_slice()),
+        Term::List(items) => fnv_items(fnv_count(start, 6, items.len()), items.as_slice()),
+        Term::Binary(bytes) => fnv_bytes(fnv_count(start, 7, bytes.len()), bytes.as_slice()),
+    }
+}
+
+#[cycle(fnv)]
+fn fnv_items(start: u32, items: &[Term]) -> u32
+    ensures { result ≡ fold fnv_step start (joined (map encoding items.now)) }
+{
+    let mut hash = start;
+    for item in items {
+        hash = fnv_term(hash, item);
+    }
+    hash
+}
+
+fn fnv_count(start: u32, kind: u8, count: usize) -> u32
+    ensures { result ≡ fold fnv_step start (kind ∷ to_be_bytes w64 count) }
+{
+    fnv_bytes(fnv_bytes(start, &[kind]), &(count as u64).to_be_bytes())
+}
+
+fn fnv_bytes(start: u32, bytes: &[u8]) -> u32
+    ensures { result ≡ fold fnv_step start bytes.now }
+{
+    let mut hash = start;
+    for byte in bytes {
+        hash = (hash ^ (*byte as u32)).wrapping_mul(16777619);
+    }
+    hash
+}
+
+#[cfg(test)]
+mod tests;

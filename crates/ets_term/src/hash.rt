@@ -1,0 +1,79 @@
+// The bytes of terms, as any hasher takes them.
+ghost use Rattle.std.specs.Prelude.{◌≡◌, [], ◌∷◌, fold, map};
+ghost use Rattle.std.specs.Int.{to_be_bytes, w64};
+ghost use Rattle.ets_term.specs.Encoding.{encoding, joined};
+ghost use Rattle.ets_term.specs.Writes.{writes};
+ghost use Rattle.ets_term.specs.laws.Hashed.{writes-same};
+
+use crate::term::Term;
+use std::hash::{Hash, Hasher};
+
+impl Term {
+    /// Answers nothing, and promises that the bytes which the term writes to a hasher are, joined, its encoding.
+    pub fn hashes_its_encoding(&self)
+        ensures { joined (writes self.now) ≡ encoding self.now }
+    {}
+}
+
+impl Hash for Term {
+    ghost hash_input = { writes };
+
+    ghost respects_eq = { writes-same };
+
+    fn hash<H: Hasher>(&self, state: &mut H) {
+        feed(self, state)
+    }
+}
+
+#[cycle(feed)]
+fn feed<H: Hasher>(term: &Term, state: &mut H)
+    ensures { state.new ≡ fold H.write state.old (writes term.now) }
+{
+    match term {
+        Term::Int(n) => {
+            state.write(&[1]);
+            state.write(&n.to_be_bytes());
+        }
+        Term::Atom(atom) => {
+            let text = atom.text().as_bytes();
+            state.write(&[2, text.len() as u8]);
+            state.write(text);
+        }
+        Term::Pid(n) => {
+            state.write(&[3]);
+            state.write(&n.to_be_bytes());
+        }
+        Term::Tid(n) => {
+            state.write(&[4]);
+            state.write(&n.to_be_bytes());
+        }
+        Term::Tuple(items) => {
+            feed_count(5, items.len(), state);
+            feed_items(items.as_slice(), state);
+        }
+        Term::List(items) => {
+            feed_count(6, items.len(), state);
+            feed_items(items.as_slice(), state);
+        }
+        Term::Binary(bytes) => {
+            feed_count(7, bytes.len(), state);
+            state.write(bytes.as_slice());
+        }
+    }
+}
+
+#[cycle(feed)]
+fn feed_items<H: Hasher>(items: &[Term], state: &mut H)
+    ensures { state.new ≡ fold H.write state.old (joined (map writes items.now)) }
+{
+    for item in items {
+        feed(item, state);
+    }
+}
+
+fn feed_count<H: Hasher>(kind: u8, count: usize, state: &mut H)
+    ensures { state.new ≡ fold H.write state.old ((kind ∷ []) ∷ to_be_bytes w64 count ∷ []) }
+{
+    state.write(&[kind]);
+    state.write(&(count as u64).to_be_bytes());
+}

@@ -1,0 +1,130 @@
+ghost use Rattle.std.specs.Prelude.{◌≡◌, [], ◌∷◌, ◌++◌, ◌<◌, ◌==◌, length, slice_get, slice_index, OnOk, OnErr, MatchOption, option_copied};
+ghost use Rattle.std.specs.Prelude.{◌^◌};
+ghost use Rattle.std.specs.Iterator.Runs.{EveryRun, ItemsMapTo};
+ghost use Rattle.std.specs.Slice.Iter.{iter_rest, iter_steps};
+
+use std::alloc::{AllocError, Global};
+use std::marker::Model;
+use std::ops::DerefSlice;
+use std::slice;
+
+/// A `Vec` that contracts see as the list of its elements, so that a copy equals what it copies. Made from a `Vec` and
+/// given back as one without taking memory.
+#[derive(Debug, Drop)]
+pub struct Items<T> {
+    items: Vec<T>,
+}
+
+impl<T> Model for Items<T> {
+    ghost use Rattle.std.specs.Prelude.{List};
+    ghost use Rattle.std.specs.Coded.{coded_list};
+
+    ghost Value = { List T };
+
+    ghost coded = { coded_list T.code };
+
+    ghost view = { λ it. it.items.items };
+}
+
+impl<T> Items<T> {
+    /// No items.
+    pub fn new(alloc: Global) -> Items<T>
+        ensures { result ≡ [] }
+    {
+        Items {
+            items: Vec::new(alloc),
+        }
+    }
+
+    /// The items of the `Vec`, which is kept as it is.
+    pub fn from_vec(items: Vec<T>) -> Items<T>
+        ensures { result ≡ items.items }
+    {
+        Self { items }
+    }
+
+    /// The items as a `Vec` again.
+    pub fn into_vec(self) -> Vec<T>
+        ensures { result.items ≡ self }
+    {
+        let Items { items } = self;
+        items
+    }
+
+    /// The items in their order.
+    pub fn as_slice(&self) -> &[T]
+        ensures { result.now ≡ self.now }
+    {
+        self.items.as_slice()
+    }
+
+    /// How many there are.
+    pub fn len(&self) -> usize
+        ensures { result ≡ length self.now }
+    {
+        self.items.len()
+    }
+
+    /// Whether there are none.
+    pub fn is_empty(&self) -> bool
+        ensures { result ≡ (length self.now == 0) }
+    {
+        self.items.is_empty()
+    }
+
+    /// The item at the place, counted from 0; None past the end.
+    pub fn get(&self, at: usize) -> Option<&T>
+        ensures { option_copied result ≡ slice_get self.now at }
+    {
+        self.items.get(at)
+    }
+
+    /// Takes the last item off; None where there is none.
+    pub fn pop(&mut self) -> Option<T>
+        ensures { MatchOption result ((self.old ≡ []) × (self.new ≡ [])) (λ last. self.old ≡ self.new ++ last ∷ []) }
+    {
+        self.items.pop()
+    }
+}
+
+impl<T: Drop> Items<T> {
+    /// Puts an item at the end. Want of memory changes nothing.
+    pub fn push(&mut self, item: T) -> Result<(), AllocError>
+        ensures ok { OnOk result (self.new ≡ self.old ++ item ∷ []) }
+        ensures err { OnErr result (self.new ≡ self.old) }
+    {
+        self.items.push(item)?;
+        Ok(())
+    }
+}
+
+impl<T> From<Vec<T>> for Items<T> {
+    ghost from_gives = { λ v r. r ≡ v.items };
+
+    fn from(items: Vec<T>) -> Items<T> {
+        Items::from_vec(items)
+    }
+}
+
+impl<T> DerefSlice for Items<T> {
+    type Elem = T;
+
+    ghost deref_gives = { λ v xs. xs ≡ v };
+
+    fn deref(&self) -> &[T] {
+        self.as_slice()
+    }
+}
+
+impl<'a, T> IntoIterator for &'a Items<T> {
+    type Item = &'a T;
+
+    type IntoIter = slice::Iter<'a, T>;
+
+    ghost into_iter_gives = { λ v it. (iter_rest it ≡ v.now) × (length (iter_rest it) < 2 ^ 64)
+        × EveryRun (iter_steps {A = T}) (λ p. ItemsMapTo p (λ x. x.now) (iter_rest p.from)) };
+
+    fn into_iter(self) -> slice::Iter<'a, T> {
+        self.as_slice().iter()
+    }
+}

@@ -1,0 +1,116 @@
+ghost use Rattle.std.specs.Prelude.{◌≡◌, IfOk, min, map, option_copied};
+ghost use Rattle.ets_term.specs.Depth.{depth, largest, element_at};
+
+use crate::atom::Atom;
+use crate::items::Items;
+use std::alloc::{AllocError, Global};
+
+/// The integers of terms: 64 bits, from -2^63 to 2^63-1.
+pub type Integer = i64;
+
+/// A term of Erlang (Erlang Reference Manual, Data Types), one of seven kinds. Two terms are equal when they are built
+/// alike.
+#[derive(Drop)]
+pub enum Term {
+    Int(Integer),
+    Atom(Atom),
+    /// The process with this number, `<0.7.0>` in text.
+    Pid(u32),
+    /// The table identifier with this number, `#Tid<7>` in text.
+    Tid(u32),
+    Tuple(Items<Term>),
+    /// A proper list.
+    List(Items<Term>),
+    /// Whole bytes.
+    Binary(Items<u8>),
+}
+
+/// The integer 0.
+impl Default for Term {
+    ghost use Rattle.std.specs.Prelude.{pos};
+    ghost use Rattle.ets_term.specs.declared.term.Term.TheVariants.{Int};
+
+    ghost is_default = { λ t. t ≡ Int (pos 0) };
+
+    fn default() -> Term {
+        Term::Int(0)
+    }
+}
+
+impl Term {
+    /// The same term again.
+    pub fn try_clone(&self, alloc: Global) -> Result<Term, AllocError>
+        ensures { IfOk result (λ t. t ≡ self.now) }
+    {
+        copy(alloc, self)
+    }
+
+    /// How deep the term is, or `usize::MAX` where it is deeper: 1 for what holds no terms, `{}` and `[]` too, else one
+    /// more than the depth of its deepest element.
+    pub fn depth(&self) -> usize
+        ensures { result ≡ min (depth self.now) usize.MAX }
+    {
+        depth_of(self)
+    }
+
+    /// Element n of a tuple, counted from 1; None where the term is no tuple or has no such element.
+    pub fn element(&self, n: usize) -> Option<&Term>
+        ensures { option_copied result ≡ element_at n self.now }
+    {
+        if n == 0 {
+            return None;
+        }
+        match self {
+            Term::Tuple(items) => items.get(n - 1),
+            _ => None,
+        }
+    }
+}
+
+#[cycle(copy)]
+fn copy(alloc: Global, term: &Term) -> Result<Term, AllocError>
+    ensures { IfOk result (λ t. t ≡ term.now) }
+{
+    match term {
+        Term::Int(n) => Ok(Term::Int(*n)),
+        Term::Atom(a) => Ok(Term::Atom(a.try_clone(alloc)?)),
+        Term::Pid(n) => Ok(Term::Pid(*n)),
+        Term::Tid(n) => Ok(Term::Tid(*n)),
+        Term::Tuple(items) => Ok(Term::Tuple(copy_items(alloc, items.as_slice())?)),
+        Term::List(items) => Ok(Term::List(copy_items(alloc, items.as_slice())?)),
+        Term::Binary(bytes) => Ok(Term::Binary(Items::from_vec(bytes.as_slice().to_vec(alloc)?))),
+    }
+}
+
+#[cycle(copy)]
+fn copy_items(alloc: Global, items: &[Term]) -> Result<Items<Term>, AllocError>
+    ensures { IfOk result (λ v. v ≡ items.now) }
+{
+    let mut copies = Vec::with_capacity(alloc, items.len())?;
+    for item in items {
+        copies.push(copy(alloc, item)?)?;
+    }
+    Ok(Items::from_vec(copies))
+}
+
+#[cycle(depth)]
+fn depth_of(term: &Term) -> usize
+    ensures { result ≡ min (depth term.now) usize.MAX }
+{
+    match term {
+        Term::Tuple(items) => deepest(items.as_slice()).saturating_add(1),
+        Term::List(items) => deepest(items.as_slice()).saturating_add(1),
+        _ => 1,
+    }
+}
+
+#[cycle(depth)]
+fn deepest(items: &[Term]) -> usize
+    ensures { result ≡ min (largest (map depth items.now)) usize.MAX }
+{
+    let mut most = 0;
+    for item in items {
+        most = most.max(depth_of(item));
+    }
+    most
+}
