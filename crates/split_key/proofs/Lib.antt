@@ -1,0 +1,4 @@
+pub mod Revs
+pub mod Intervals
+pub mod Parents
+pub mod Halves

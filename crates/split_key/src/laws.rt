@@ -1,0 +1,38 @@
+//! The laws of split keys, each the contract of a function that does nothing.
+
+ghost use Rattle.std.specs.Prelude.{◌≡◌, ℕ, ◌+◌, ◌*◌, ◌/◌, ◌%◌, ◌^◌, ◌<◌, ◌≤◌, ◌⊎◌, ◌↔◌};
+ghost use Rattle.split_key.specs.Keys.{rev, key_of_item, key_of_dummy, IsPowerOfTwo, IsInBucket, IsWithoutTopBit};
+
+/// Reversing twice changes nothing.
+pub fn reversal_undoes_itself(number: u32)
+    ensures { rev 32 (rev 32 number) ≡ number }
+{}
+
+/// The items of a bucket are those whose keys stand in one interval, which begins at the dummy's key.
+pub fn bucket_is_interval(hash: u32, bucket: u32, size: u32)
+    requires size { IsPowerOfTwo size }
+    requires bucket { bucket < size }
+    ensures { (hash % size ≡ bucket) ↔ IsInBucket (key_of_item hash) bucket size }
+{}
+
+/// Doubling cuts a bucket's interval in two: the first half stays the bucket's, and the second begins
+/// at the new bucket's dummy.
+pub fn doubling_cuts_in_two(bucket: u32, size: u32)
+    requires size { IsPowerOfTwo size }
+    requires bucket { bucket < size }
+    ensures halves { 2 ^ 33 / size ≡ 2 * (2 ^ 33 / (2 * size)) }
+    ensures middle { key_of_dummy (bucket + size) ≡ key_of_dummy bucket + 2 ^ 33 / (2 * size) }
+{}
+
+/// Doubling moves no item but to the new bucket of its own.
+pub fn doubling_splits_bucket(hash: u32, bucket: u32, size: u32)
+    requires { bucket < size }
+    ensures { (hash % size ≡ bucket) ↔ ((hash % (2 * size) ≡ bucket) ⊎ (hash % (2 * size) ≡ bucket + size)) }
+{}
+
+/// A bucket's parent has a lesser number, and its dummy stands in front.
+pub fn parent_stands_before(bucket: u32, parent: u32)
+    requires { IsWithoutTopBit bucket parent }
+    ensures below { parent < bucket }
+    ensures before { key_of_dummy parent < key_of_dummy bucket }
+{}
