@@ -1,0 +1,157 @@
+-- What callers of a `NodeList` need: what stands where after a change, and how long a search is.
+use Rattle.std.proofs.Common.{◌≡◌, ◌≢◌, ℕ, ◌+◌, ◌<◌, ◌≤◌, inl, inr, List, [], ◌∷◌, length, Some, None, is_some, Bool, true, false, cond, nat_lt, count_by, ◌&&◌, ◌||◌, refl, sym, ◌∙◌, ap, subst, arith}
+use Rattle.std.proofs.lemmas.Bool.{cases_lt, cases_eq}
+use Rattle.std.proofs.lemmas.Bool.Decides.{nat_tests}
+use Rattle.std.proofs.lemmas.List.Sums.{sum_by-cons}
+use Rattle.ets_term.specs.declared.term.Term.{Term}
+use Rattle.node_list.specs.declared.node.Item.{Item}
+use Rattle.node_list.specs.Cells.{Cell, Sorted, StartsWithDummy, new_cell}
+use Rattle.node_list.specs.Places.{IsFresh, Stands, StandsUpTo, HasItem, from, behind, all_but_first, first_place}
+use Rattle.node_list.specs.Search.{is_it, place_of, passed}
+use Rattle.node_list.specs.Changes.{put_cell, without}
+use Rattle.node_list.proofs.CellLaws.{put-past, put-on, from-here, from-on, without-here, without-on, at-most-from, search-past, search-on}
+
+-- the head stands before every key
+pub head-stands : (at key : ℕ) (cs : List Cell) → first_place cs ≡ Some at → StartsWithDummy cs → StandsUpTo key at cs
+head-stands at key [] e d = absurd d
+head-stands at key (c ∷ cs) e d =
+    let same : c.at ≡ at = cc in
+    let zero : c.key ≡ 0 = d.0 in
+    record { cell = c; later = cs; is = from-here at c cs same; up_to = omega arith }
+
+pub head-is : (at : ℕ) (cs : List Cell) → first_place cs ≡ Some at → StartsWithDummy cs → Stands at cs
+head-is at cs e d = let s = head-stands at 0 cs e d in record { cell = s.cell; later = s.later; is = s.is }
+
+pub item-stands : (at : ℕ) (cs : List Cell) → HasItem at cs → Stands at cs
+item-stands at cs h = record { cell = h.cell; later = h.later; is = h.is }
+
+-- every item stands behind the head
+pub item-behind : (head at : ℕ) (cs : List Cell) → first_place cs ≡ Some head → StartsWithDummy cs → HasItem at cs → HasItem at (behind head cs)
+item-behind head at [] e d h = absurd d
+item-behind head at (c ∷ cs) e d h =
+    let first : c.at ≡ head = cc in
+    let P : List Cell → Type 0 = λ zs. HasItem at (all_but_first zs) in
+    elim (cases_eq c.at at) [
+      | inl here ↦
+          let same : c ≡ h.cell = cc (sym (from-here at c cs here) ∙ h.is) in
+          let has : c.item ≡ Some h.item = ap (λ (z : Cell). z.item) same ∙ h.has in
+          let none : c.item ≡ None = d.1 in
+          absurd (cc (has, none))
+      | inr other ↦
+          subst P (sym (from-here head c cs first)) (record { cell = h.cell; later = h.later; item = h.item; is = sym (from-on at c cs other) ∙ h.is; has = h.has })
+    ]
+
+-- ---- after an insertion
+
+pub put-stands : (x : Cell) (cs : List Cell) → IsFresh x.at cs → (later : List Cell) × (from x.at (put_cell x cs) ≡ x ∷ later)
+put-stands x [] f = ([], from-here x.at x [] refl)
+put-stands x (c ∷ cs) f =
+    let P : List Cell → Type 0 = λ zs. (later : List Cell) × (from x.at zs ≡ x ∷ later) in
+    elim (cases_lt x.key c.key) [
+      | inl past ↦ subst P (sym (put-past x c cs past)) (c ∷ cs, from-here x.at x (c ∷ cs) refl)
+      | inr on ↦
+          let later = put-stands x cs f.1 in
+          subst P (sym (put-on x c cs on)) (later.0, from-on x.at c (put_cell x cs) f.0 ∙ later.1)
+    ]
+
+pub item-placed : (at key : ℕ) (item : Item) (old new : List Cell) → new ≡ put_cell (new_cell at key (Some item)) old → IsFresh at old → HasItem at new
+item-placed at key item old new e f =
+    let P : List Cell → Type 0 = λ zs. HasItem at zs in
+    let s = put-stands (new_cell at key (Some item)) old f in
+    subst P (sym e) (record { cell = new_cell at key (Some item); later = s.0; item = item; is = s.1; has = refl })
+
+pub put-keeps : (x : Cell) (cs : List Cell) (at : ℕ) (d : Cell) (ds : List Cell) → x.at ≢ at → from at cs ≡ d ∷ ds → (later : List Cell) × (from at (put_cell x cs) ≡ d ∷ later)
+put-keeps x [] at d ds n e = absurd (cc)
+put-keeps x (c ∷ cs) at d ds n e =
+    let P : List Cell → Type 0 = λ zs. (later : List Cell) × (from at zs ≡ d ∷ later) in
+    elim (cases_lt x.key c.key) [
+      | inl past ↦ subst P (sym (put-past x c cs past)) (ds, from-on at x (c ∷ cs) n ∙ e)
+      | inr on ↦
+          subst P (sym (put-on x c cs on))
+          (elim (cases_eq c.at at) [
+            | inl here ↦
+                let same : c ≡ d = cc (sym (from-here at c cs here) ∙ e) in
+                (put_cell x cs, from-here at c (put_cell x cs) here ∙ ap (λ (z : Cell). z ∷ put_cell x cs) same)
+            | inr other ↦
+                let later = put-keeps x cs at d ds n (sym (from-on at c cs other) ∙ e) in
+                (later.0, from-on at c (put_cell x cs) other ∙ later.1)
+          ])
+    ]
+
+pub put-fresh : (x : Cell) (cs : List Cell) (at : ℕ) → x.at ≢ at → IsFresh at cs → IsFresh at (put_cell x cs)
+put-fresh x [] at n f = (n, tt)
+put-fresh x (c ∷ cs) at n f =
+    let P : List Cell → Type 0 = λ zs. IsFresh at zs in
+    elim (cases_lt x.key c.key) [
+      | inl past ↦ subst P (sym (put-past x c cs past)) (n, f)
+      | inr on ↦ subst P (sym (put-on x c cs on)) (f.0, put-fresh x cs at n f.1)
+    ]
+
+-- ---- after a removal
+
+pub without-keeps : (gone : ℕ) (cs : List Cell) (at : ℕ) (d : Cell) (ds : List Cell) → gone ≢ at → from at cs ≡ d ∷ ds → (later : List Cell) × (from at (without gone cs) ≡ d ∷ later)
+without-keeps gone [] at d ds n e = absurd (cc)
+without-keeps gone (c ∷ cs) at d ds n e =
+    let P : List Cell → Type 0 = λ zs. (later : List Cell) × (from at zs ≡ d ∷ later) in
+    elim (cases_eq c.at gone) [
+      | inl here ↦
+          let other : c.at ≢ at = λ same. n (sym here ∙ same) in
+          subst P (sym (without-here gone c cs here)) (ds, sym (from-on at c cs other) ∙ e)
+      | inr stays ↦
+          subst P (sym (without-on gone c cs stays))
+          (elim (cases_eq c.at at) [
+            | inl here ↦
+                let same : c ≡ d = cc (sym (from-here at c cs here) ∙ e) in
+                (without gone cs, from-here at c (without gone cs) here ∙ ap (λ (z : Cell). z ∷ without gone cs) same)
+            | inr other ↦
+                let later = without-keeps gone cs at d ds n (sym (from-on at c cs other) ∙ e) in
+                (later.0, from-on at c (without gone cs) other ∙ later.1)
+          ])
+    ]
+
+-- ---- search
+
+not_it-lower : (key : ℕ) (term : Term) (c : Cell) → c.key < key → is_it key term c ≡ false
+not_it-lower key term c h = grind (arith, nat_tests)
+
+-- a search from a node of a lower key finds what the whole list has
+pub place_of-from : (key : ℕ) (term : Term) (start : ℕ) (cs : List Cell) (d : Cell) (ds : List Cell) → Sorted cs → from start cs ≡ d ∷ ds → d.key < key → place_of key term cs ≡ place_of key term (d ∷ ds)
+place_of-from key term start [] d ds o e h = absurd (cc)
+place_of-from key term start (c ∷ cs) d ds o e h =
+    elim (cases_eq c.at start) [
+      | inl here ↦ ap (place_of key term) (sym (from-here start c cs here) ∙ e)
+      | inr other ↦
+          let later : from start cs ≡ d ∷ ds = sym (from-on start c cs other) ∙ e in
+          let low : c.key ≤ d.key = at-most-from start c.key cs d ds o.0 o.1 later in
+          let no : is_it key term c ≡ false = not_it-lower key term c (omega arith) in
+          (search-on key term c cs (omega arith) no).found ∙ place_of-from key term start cs d ds o.1 later h
+    ]
+
+-- an item below a key
+abbrev pub is_item_below : ℕ → Cell → Bool
+is_item_below high c = nat_lt c.key high && is_some c.item
+
+-- below a key stand items alone
+abbrev pub ItemsBelow : ℕ → List Cell → Type 0
+ItemsBelow high [] = Unit {0}
+ItemsBelow high (c ∷ cs) = (c.key < high → is_some c.item ≡ true) × ItemsBelow high cs
+
+one-more-at-most : (key : ℕ) (term : Term) (c : Cell) (cs : List Cell) (b : Bool) → (nat_lt key c.key || is_it key term c) ≡ b → length (passed key term (c ∷ cs)) ≤ length (passed key term cs) + 1
+one-more-at-most key term c cs true e = let P : Bool → Type 0 = λ b. length (cond b (c ∷ []) (c ∷ passed key term cs)) ≤ length (passed key term cs) + 1 in subst P (sym e) (omega arith)
+one-more-at-most key term c cs false e = let P : Bool → Type 0 = λ b. length (cond b (c ∷ []) (c ∷ passed key term cs)) ≤ length (passed key term cs) + 1 in subst P (sym e) (omega arith)
+
+count-yes : (p : Cell → Bool) (c : Cell) (cs : List Cell) → p c ≡ true → count_by p (c ∷ cs) ≡ count_by p cs + 1
+count-yes p c cs h = sum_by-cons (λ z. cond (p z) 1 0) c cs ∙ rw h (omega arith)
+
+is_item_below-yes : (high : ℕ) (c : Cell) → c.key < high → is_some c.item ≡ true → is_item_below high c ≡ true
+is_item_below-yes high c h e = grind (arith, nat_tests)
+
+-- a search for a key below `high` passes the items below `high`, and one more node
+pub length-passed : (key : ℕ) (term : Term) (high : ℕ) (cs : List Cell) → Sorted cs → key < high → ItemsBelow high cs → length (passed key term cs) ≤ count_by (is_item_below high) cs + 1
+length-passed key term high [] o h b = omega arith
+length-passed key term high (c ∷ cs) o h b =
+    elim (cases_lt c.key high) [
+      | inl low ↦
+          omega (arith, one-more-at-most key term c cs (nat_lt key c.key || is_it key term c) refl, length-passed key term high cs o.1 h b.1, count-yes (is_item_below high) c cs (is_item_below-yes high c low (b.0 low)))
+      | inr past ↦ let far : key < c.key = omega arith in omega (arith, (search-past key term c cs o far).passed)
+    ]

@@ -1,0 +1,9 @@
+pub mod WalkLaws
+pub mod TickLaws
+pub mod CellLaws
+pub mod PlaceLaws
+pub mod InsertLaws
+pub mod ChainLaws
+pub mod UnlinkLaws
+pub mod ListLaws
+pub mod CallerLaws

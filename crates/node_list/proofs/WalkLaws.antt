@@ -1,0 +1,71 @@
+-- Laws of `walk` and `Links`.
+use Rattle.std.proofs.Common.{◌≡◌, ℕ, zero, suc, ◌≤◌, List, [], ◌∷◌, length, Option, Some, None, refl, sym, ◌∙◌, ap, subst, arith}
+use Rattle.slab.specs.Slab.{Slab, get, slab_len}
+use Rattle.node_list.specs.declared.node.Node.{Node}
+use Rattle.node_list.specs.Cells.{Cell}
+use Rattle.node_list.specs.Walks.{walk, Links, Linked, rest, cell_of, node_of}
+
+pub walk-some : (n : ℕ) (g : ℕ → Option Node) (at : ℕ) (node : Node) → g at ≡ Some node → walk (suc n) g (Some at) ≡ cell_of at node ∷ walk n g node.next
+unfolding walk
+walk-some n g at node e = rw (e, walk) refl
+
+pub walk-none : (n : ℕ) (g : ℕ → Option Node) → walk n g None ≡ []
+unfolding walk
+walk-none zero g = refl
+walk-none (suc n) g = refl
+
+pub walk-is : (n : ℕ) (g : ℕ → Option Node) (link : Option ℕ) (xs : List Cell) → Links g link xs → length xs ≤ n → walk n g link ≡ xs
+unfolding walk
+walk-is zero g link [] l h = refl
+walk-is zero g link (c ∷ cs) l h = absurd (omega arith)
+walk-is (suc n) g link [] l h = rw l refl
+walk-is (suc n) g link (c ∷ cs) l h =
+    let ih : walk n g l.1.0 ≡ cs = walk-is n g l.1.0 cs l.1.2 (omega arith) in
+    rw l.0 (walk-some n g c.at (node_of c l.1.0) l.1.1 ∙ rw ih refl)
+
+pub walk-length : (n : ℕ) (g : ℕ → Option Node) (link : Option ℕ) → length (walk n g link) ≤ n
+unfolding walk
+walk-length zero g link = omega arith
+walk-length (suc n) g None = omega arith
+walk-length (suc n) g (Some at) =
+    elim (g at) as (λ o. length (elim o as (λ _. List Cell) [ None ↦ [] | Some node ↦ cell_of at node ∷ walk n g node.next ]) ≤ suc n)
+    [ None ↦ omega arith | Some node ↦ omega (arith, walk-length n g node.next) ]
+
+pub record Step (s : Slab Node) (p : ℕ) (node : Node) : Type 0 where
+  pub at : get s p ≡ Some node
+  pub is : rest s (Some p) ≡ cell_of p node ∷ rest s node.next
+  pub onward : Linked s node.next
+
+step-of : (s : Slab Node) (p : ℕ) (xs : List Cell) → rest s (Some p) ≡ xs → Links (get s) (Some p) xs → length xs ≤ slab_len s → (node : Node) × Step s p node
+step-of s p [] e l h = absurd (cc)
+step-of s p (c ∷ cs) e l h =
+    let same : p ≡ c.at = cc in
+    let node = node_of c l.1.0 in
+    let tail : rest s l.1.0 ≡ cs = walk-is (slab_len s) (get s) l.1.0 cs l.1.2 (omega arith) in (
+      node_of c l.1.0,
+      record {
+        at = rw same l.1.1;
+        is = e ∙ rw (tail, same) refl;
+        onward = record { links = rw tail l.1.2 };
+      },
+    )
+
+pub rest-step : (s : Slab Node) (p : ℕ) → Linked s (Some p) → (node : Node) × Step s p node
+rest-step s p h = step-of s p (rest s (Some p)) refl h.links (walk-length (slab_len s) (get s) (Some p))
+
+pub rest-step_at : (s : Slab Node) (p : ℕ) (node : Node) → Linked s (Some p) → get s p ≡ Some node → Step s p node
+rest-step_at s p node h e =
+    let found = rest-step s p h in
+    let same : found.0 ≡ node = cc (found.1.at, e) in
+    let P : Node → Type 0 = λ n. Step s p n in subst P same found.1
+
+-- a slab of one node, which links to nothing
+pub only-node : (s : Slab Node) (node : Node) → get s 0 ≡ Some node → node.next ≡ None → slab_len s ≡ 1 → rest s (Some 0) ≡ cell_of 0 node ∷ []
+only-node s node e none n =
+    let l : Links (get s) (Some 0) (cell_of 0 node ∷ []) = (refl, (None, e ∙ ap (λ (z : Option ℕ). Some (record node { next = z })) none, refl)) in
+    walk-is (slab_len s) (get s) (Some 0) (cell_of 0 node ∷ []) l (omega arith)
+
+pub only-linked : (s : Slab Node) (node : Node) → get s 0 ≡ Some node → node.next ≡ None → rest s (Some 0) ≡ cell_of 0 node ∷ [] → Linked s (Some 0)
+only-linked s node e none is =
+    let P : List Cell → Type 0 = λ zs. Links (get s) (Some 0) zs in
+    record { links = subst P (sym is) (refl, (None, e ∙ ap (λ (z : Option ℕ). Some (record node { next = z })) none, refl)) }

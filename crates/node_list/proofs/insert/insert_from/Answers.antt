@@ -1,0 +1,52 @@
+use Rattle.std.proofs.Common.{◌≡◌, ℕ, Some, Option, IsSome, subst, refl, sym, ◌∙◌, ap}
+use Rattle.slab.specs.Slab.{get, with_value}
+use Rattle.node_list.specs.Cells.{new_cell}
+use Rattle.node_list.specs.Changes.{put_cell}
+use Rattle.node_list.specs.Walks.{rest, Linked, last_up_to_in}
+use Rattle.node_list.specs.declared.node.Node.{Node}
+use Rattle.node_list.proofs.InsertLaws.{begun, inserted, spot-node}
+use Rattle.node_list.proofs.PlaceLaws.{with_value-len, apart-vacant}
+use Rattle.node_list.proofs.insert.insert_from.Goals as goal
+
+pub last_up_to-last-requires-clause-linked : goal.last_up_to-last-requires-clause-linked
+last_up_to-last-requires-clause-linked c = (begun c.args.nodes.now c.args.key c.args.start c.requires.linked c.requires.sorted c.requires.stands).linked
+
+pub last_up_to-last-requires-clause-up_to : goal.last_up_to-last-requires-clause-up_to
+last_up_to-last-requires-clause-up_to c = (begun c.args.nodes.now c.args.key c.args.start c.requires.linked c.requires.sorted c.requires.stands).up_to
+
+pub index-requires : goal.index-requires
+index-requires c =
+    let spot = (begun c.args.nodes.now c.args.key c.args.start c.requires.linked c.requires.sorted c.requires.stands).spot in
+    let found = spot-node (get c.args.nodes.now) c.args.key (last_up_to_in c.args.key c.args.start (rest c.args.nodes.now (Some c.args.start))) (Some 0) (rest c.args.nodes.now (Some 0)) c.requires.linked.links spot in
+    let P : Option Node → Type 0 = λ o. IsSome o in
+    subst P (sym (ap (get c.args.nodes.now) c.last_up_to-last.ensures ∙ found.1)) refl
+
+pub returns-clause-linked : goal.returns-clause-linked
+returns-clause-linked c =
+    let m = c.insert_reserved-place.new.self in
+    let n = c.index_mut.result.now in
+    let x = new_cell c.insert_reserved-place.result c.args.key c.args.item in
+    let len = with_value-len m c.last_up_to-last.result n (record n { next = Some c.insert_reserved-place.result }) c.index_mut.ensures.value in
+    let i = inserted c.args.nodes.now m x c.args.start c.last_up_to-last.result c.index.result.now n
+    (begun c.args.nodes.now c.args.key c.args.start c.requires.linked c.requires.sorted c.requires.stands)
+    c.requires.linked c.last_up_to-last.ensures c.index.ensures c.insert_reserved-place.ensures.was_vacant c.insert_reserved-place.ensures.updates
+    c.insert_reserved-place.ensures.len c.index_mut.ensures.value (len ∙ c.insert_reserved-place.ensures.len) in
+    let P : Option ℕ → Type 0 = λ o. Linked (with_value m c.last_up_to-last.result (record n { next = o })) (Some 0) in
+    subst P (sym c.to.ensures) i.linked
+
+pub returns-clause-cells : goal.returns-clause-cells
+returns-clause-cells c =
+    let m = c.insert_reserved-place.new.self in
+    let n = c.index_mut.result.now in
+    let x = new_cell c.insert_reserved-place.result c.args.key c.args.item in
+    let len = with_value-len m c.last_up_to-last.result n (record n { next = Some c.insert_reserved-place.result }) c.index_mut.ensures.value in
+    let i = inserted c.args.nodes.now m x c.args.start c.last_up_to-last.result c.index.result.now n
+    (begun c.args.nodes.now c.args.key c.args.start c.requires.linked c.requires.sorted c.requires.stands)
+    c.requires.linked c.last_up_to-last.ensures c.index.ensures c.insert_reserved-place.ensures.was_vacant c.insert_reserved-place.ensures.updates
+    c.insert_reserved-place.ensures.len c.index_mut.ensures.value (len ∙ c.insert_reserved-place.ensures.len) in
+    let P : Option ℕ → Type 0 = λ o. rest (with_value m c.last_up_to-last.result (record n { next = o })) (Some 0) ≡ put_cell x (rest c.args.nodes.now (Some 0)) in
+    subst P (sym c.to.ensures) i.cells
+
+pub returns-clause-fresh : goal.returns-clause-fresh
+returns-clause-fresh c =
+    apart-vacant (get c.args.nodes.now) c.insert_reserved-place.result c.insert_reserved-place.ensures.was_vacant (Some 0) (rest c.args.nodes.now (Some 0)) c.requires.linked.links

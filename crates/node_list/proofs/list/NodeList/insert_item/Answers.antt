@@ -1,0 +1,17 @@
+use Rattle.std.proofs.Common.{◌+◌, Some, length, ◌∙◌, ap}
+use Rattle.node_list.specs.Cells.{new_cell, new_item}
+use Rattle.node_list.specs.Walks.{rest}
+use Rattle.node_list.specs.Listed.{Listed}
+use Rattle.node_list.proofs.CellLaws.{length-put}
+use Rattle.node_list.proofs.ListLaws.{put-list}
+use Rattle.node_list.proofs.list.NodeList.insert_item.Goals as goal
+
+pub invariant_of-self : goal.invariant_of-self
+invariant_of-self c =
+    put-list c.self.inside.nodes c.insert_from.new.nodes (new_cell c.insert_from.result c.args.key (Some (new_item c.args.term c.args.chain))) c.self.invariant
+    c.insert_from.ensures.linked c.insert_from.ensures.cells c.insert_from.ensures.len
+
+pub returns-clause-len : goal.returns-clause-len
+returns-clause-len c =
+    ap length c.insert_from.ensures.cells
+    ∙ (length-put (new_cell c.insert_from.result c.args.key (Some (new_item c.args.term c.args.chain))) (rest c.self.inside.nodes (Some 0)) ∙ ap (λ (v : Listed). length v.cells + 1) c.self.view_is)

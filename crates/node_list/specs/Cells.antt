@@ -1,0 +1,30 @@
+-- A list of nodes as its callers see it.
+use Rattle.std.specs.Prelude.{◌≡◌, ℕ, ◌≤◌, List, [], ◌∷◌, Option, None}
+use Rattle.ets_term.specs.declared.term.Term.{Term}
+use Rattle.node_list.specs.declared.node.Item.{Item}
+
+-- a node: its place, its split key, and its item, if it is no dummy
+pub record Cell : Type 0 where
+  pub at : ℕ
+  pub key : ℕ
+  pub item : Option Item
+
+abbrev pub new_cell : ℕ → ℕ → Option Item → Cell
+new_cell at key item = record { at = at; key = key; item = item }
+
+abbrev pub new_item : Term → List Term → Item
+new_item term chain = record { term = term; chain = chain }
+
+abbrev pub StartsFrom : ℕ → List Cell → Type 0
+StartsFrom key [] = Unit {0}
+StartsFrom key (c ∷ cs) = key ≤ c.key
+
+-- the keys never fall
+abbrev pub Sorted : List Cell → Type 0
+Sorted [] = Unit {0}
+Sorted (c ∷ cs) = StartsFrom c.key cs × Sorted cs
+
+-- the first node is the dummy of key 0
+abbrev pub StartsWithDummy : List Cell → Type 0
+StartsWithDummy [] = ⊥
+StartsWithDummy (c ∷ cs) = (c.key ≡ 0) × (c.item ≡ None)

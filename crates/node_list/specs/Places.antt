@@ -1,0 +1,63 @@
+-- Where the nodes of a list stand.
+use Rattle.std.specs.Prelude.{◌≡◌, ◌≢◌, ℕ, ◌≤◌, nat_eq, if◌then◌else◌, List, [], ◌∷◌, Option, Some, None}
+use Rattle.node_list.specs.declared.node.Item.{Item}
+use Rattle.node_list.specs.Cells.{Cell}
+
+-- no node has this place
+abbrev pub IsFresh : ℕ → List Cell → Type 0
+IsFresh at [] = Unit {0}
+IsFresh at (c ∷ cs) = (c.at ≢ at) × IsFresh at cs
+
+-- no two nodes have one place
+abbrev pub AreApart : List Cell → Type 0
+AreApart [] = Unit {0}
+AreApart (c ∷ cs) = IsFresh c.at cs × AreApart cs
+
+-- the nodes from the one at a place on
+abbrev pub from : ℕ → List Cell → List Cell
+from at [] = []
+from at (c ∷ cs) = if nat_eq c.at at then c ∷ cs else from at cs
+
+-- a node stands at this place
+pub record Stands (at : ℕ) (cells : List Cell) : Type 0 where
+  pub cell : Cell
+  pub later : List Cell
+  pub is : from at cells ≡ cell ∷ later
+
+-- a node stands at this place, and its key is at most this one
+pub record StandsUpTo (key at : ℕ) (cells : List Cell) : Type 0 where
+  pub cell : Cell
+  pub later : List Cell
+  pub is : from at cells ≡ cell ∷ later
+  pub up_to : cell.key ≤ key
+
+-- an item stands at this place
+pub record HasItem (at : ℕ) (cells : List Cell) : Type 0 where
+  pub cell : Cell
+  pub later : List Cell
+  pub item : Item
+  pub is : from at cells ≡ cell ∷ later
+  pub has : cell.item ≡ Some item
+
+abbrev pub all_but_first : List Cell → List Cell
+all_but_first [] = []
+all_but_first (c ∷ cs) = cs
+
+-- the nodes behind the one at a place
+abbrev pub behind : ℕ → List Cell → List Cell
+behind at cells = all_but_first (from at cells)
+
+abbrev pub first_place : List Cell → Option ℕ
+first_place [] = None
+first_place (c ∷ cs) = Some c.at
+
+abbrev pub place_after : ℕ → List Cell → Option ℕ
+place_after at cells = first_place (behind at cells)
+
+abbrev pub first_item : List Cell → Option Item
+first_item [] = None
+first_item (c ∷ cs) = c.item
+
+-- the item at a place, if there is a node and it is no dummy
+abbrev pub item_at : ℕ → List Cell → Option Item
+item_at at cells = first_item (from at cells)

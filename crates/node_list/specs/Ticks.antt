@@ -1,0 +1,10 @@
+-- Counting, up to the greatest number of 64 bits.
+use Rattle.std.specs.Prelude.{ℕ, ◌+◌, ◌-◌, ◌^◌, min}
+
+-- one more, if there is a greater number
+abbrev pub tick : ℕ → ℕ
+tick n = min (n + 1) (2 ^ 64 - 1)
+
+-- so many more: the lesser of the sum and the greatest number
+abbrev pub ticks : ℕ → ℕ → ℕ
+ticks more n = min (n + more) (2 ^ 64 - 1)

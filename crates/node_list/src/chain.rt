@@ -1,0 +1,74 @@
+ghost use Rattle.std.specs.Prelude.{◌≡◌, [], ◌∷◌, ◌++◌, length, OnOk, OnErr, MatchOption};
+
+use ets_term::Term;
+use smallvec::SmallVec;
+use std::alloc::{AllocError, Global};
+use std::marker::Model;
+
+/// The terms of one item, in their order. The first of them has its place in the value itself, so that a chain of
+/// one term takes no memory of its own.
+#[derive(Drop)]
+pub struct Chain {
+    terms: SmallVec<Term, 1>,
+}
+
+impl Model for Chain {
+    ghost use Rattle.std.specs.Prelude.{List};
+    ghost use Rattle.std.specs.Coded.{coded_list};
+    ghost use Rattle.ets_term.specs.declared.term.Term.{Term};
+    ghost use Rattle.ets_term.specs.contracts.term.Term as term;
+
+    ghost Value = { List Term };
+
+    ghost coded = { coded_list term.the_row.coded };
+
+    ghost view = { λ c. c.terms.items };
+}
+
+impl Chain {
+    /// No terms.
+    pub fn new(alloc: Global) -> Chain
+        ensures { result ≡ [] }
+    {
+        Chain {
+            terms: SmallVec::new(alloc),
+        }
+    }
+
+    /// One term, for which no memory is taken.
+    pub fn one(alloc: Global, term: Term) -> Chain
+        ensures { result ≡ term ∷ [] }
+    {
+        let mut terms = SmallVec::new(alloc);
+        terms.push_reserved(term);
+        Chain { terms }
+    }
+
+    pub fn as_slice(&self) -> &[Term]
+        ensures { result.now ≡ self.now }
+    {
+        self.terms.as_slice()
+    }
+
+    pub fn len(&self) -> usize
+        ensures { result ≡ length self.now }
+    {
+        self.terms.len()
+    }
+
+    /// Appends a term; where memory is wanting the term is dropped.
+    pub fn push(&mut self, term: Term) -> Result<(), AllocError>
+        ensures ok { OnOk result (self.new ≡ self.old ++ term ∷ []) }
+        ensures err { OnErr result (self.new ≡ self.old) }
+    {
+        self.terms.push(term)?;
+        Ok(())
+    }
+
+    /// Takes the last term off.
+    pub fn pop(&mut self) -> Option<Term>
+        ensures { MatchOption result ((self.old ≡ []) × (self.new ≡ [])) (λ last. self.old ≡ self.new ++ last ∷ []) }
+    {
+        self.terms.pop()
+    }
+}

@@ -1,0 +1,49 @@
+ghost use Rattle.std.specs.Prelude.{◌≡◌, ◌<◌, ◌-◌, ◌^◌, Some, None};
+
+use std::marker::Model;
+
+/// The place of the next node, or none, in one word: an `Option<usize>` takes two.
+#[derive(Clone, Copy)]
+pub struct Link {
+    place: usize,
+}
+
+impl Model for Link {
+    ghost use Rattle.std.specs.Prelude.{Option, ℕ, ◌<◌, ◌^◌};
+    ghost use Rattle.node_list.specs.Links.{link_to, place_of, link_back};
+
+    ghost Value = { Option ℕ };
+
+    ghost view = { λ l. link_to l.place };
+
+    ghost invariant = { λ l. l.place < 2 ^ 64 };
+
+    ghost inverse = { λ o. record { place = place_of o } };
+
+    ghost inverse_ok = { λ a h. link_back a h };
+}
+
+impl Link {
+    pub fn none() -> Link
+        ensures { result ≡ None }
+    {
+        Link { place: usize::MAX }
+    }
+
+    pub fn to(place: usize) -> Link
+        requires { place < 2 ^ 64 - 1 }
+        ensures { result ≡ Some place }
+    {
+        Link { place }
+    }
+
+    pub fn get(self) -> Option<usize>
+        ensures { result ≡ self }
+    {
+        if self.place == usize::MAX {
+            None
+        } else {
+            Some(self.place)
+        }
+    }
+}

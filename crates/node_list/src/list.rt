@@ -1,0 +1,171 @@
+ghost use Rattle.std.specs.Prelude.{◌≡◌, ◌+◌, ◌≤◌, Some, None, [], ◌∷◌, length, IfOk, OnOk, IsOk, MatchOption, option_map};
+ghost use Rattle.std.specs.Borrow.{sem};
+
+use crate::chain::Chain;
+use crate::find::find_from;
+use crate::insert::insert_from;
+use crate::link::Link;
+use crate::node::{Item, Node};
+use crate::reader::Reader;
+use crate::steps::Steps;
+use crate::unlink::unlink_from;
+use ets_term::Term;
+use slab::Slab;
+use std::alloc::{AllocError, Global};
+use std::marker::Model;
+
+#[cfg(test)]
+mod tests;
+
+/// The place of a node, which stays its own until the node is unlinked.
+pub type At = usize;
+
+/// The place of the first node of every list.
+const HEAD: At = 0;
+
+/// One sorted list of nodes. A contract sees its `cells`, from the first to the last, and its `capacity`: how many
+/// nodes fit with no allocation.
+#[derive(Drop)]
+pub struct NodeList {
+    nodes: Slab<Node>,
+}
+
+impl Model for NodeList {
+    ghost use Rattle.std.specs.Prelude.{Some};
+    ghost use Rattle.node_list.specs.Listed.{Listed, listed_code};
+
+    ghost Value = { Listed };
+
+    ghost coded = { listed_code };
+
+    ghost use Rattle.node_list.specs.Walks.{rest, IsList};
+
+    ghost view = { λ s. record { cells = rest s.nodes (Some 0); capacity = s.nodes.capacity } };
+
+    ghost invariant = { λ s. IsList s.nodes };
+}
+
+impl NodeList {
+    ghost use Rattle.node_list.specs.Cells.{new_cell, new_item, Sorted, StartsWithDummy};
+    ghost use Rattle.node_list.specs.Places.{first_place, AreApart, from, behind, item_at, place_after, IsFresh, Stands, StandsUpTo, HasItem};
+    ghost use Rattle.node_list.specs.Search.{place_of, passed};
+    ghost use Rattle.node_list.specs.Changes.{put_cell, without};
+    ghost use Rattle.node_list.specs.Listed.{HasRoom};
+    ghost use Rattle.node_list.specs.ListLending.{LendsChainAt};
+    ghost use Rattle.node_list.specs.Ticks.{ticks};
+
+    /// A list of one node, the dummy of key 0.
+    pub fn new(alloc: Global) -> Result<NodeList, AllocError>
+        ensures { IfOk result (λ l. l.cells ≡ new_cell 0 0 None ∷ []) }
+    {
+        let mut nodes = Slab::new(alloc);
+        nodes.insert(Node {
+            key: 0,
+            next: Link::none(),
+            item: None,
+        })?;
+        Ok(NodeList { nodes })
+    }
+
+    /// The place of the first node, a dummy of key 0. The list is sorted, and no place is in it twice.
+    pub fn head(&self) -> At
+        ensures first { first_place self.now.cells ≡ Some result }
+        ensures dummy { StartsWithDummy self.now.cells }
+        ensures sorted { Sorted self.now.cells }
+        ensures apart { AreApart self.now.cells }
+    {
+        prove!(self.nodes.contains(HEAD));
+        HEAD
+    }
+
+    /// Makes room for so many insertions, which then take no memory.
+    pub fn reserve(&mut self, additional: usize) -> Result<(), AllocError>
+        ensures room { OnOk result (HasRoom self.new additional) }
+        ensures cells { self.new.cells ≡ self.old.cells }
+        ensures capacity { self.old.capacity ≤ self.new.capacity }
+        ensures succeeds { HasRoom self.old additional → IsOk result }
+    {
+        self.nodes.reserve(additional)
+    }
+
+    /// Puts a dummy to its sorted place, after nodes with an equal key. `start` stands before that place.
+    pub fn insert_dummy(&mut self, start: At, key: u64) -> At
+        requires room { HasRoom self.old 1 }
+        requires stands { StandsUpTo key start self.old.cells }
+        ensures cells { self.new.cells ≡ put_cell (new_cell result key None) self.old.cells }
+        ensures fresh { IsFresh result self.old.cells }
+        ensures len { length self.new.cells ≡ length self.old.cells + 1 }
+        ensures capacity { self.new.capacity ≡ self.old.capacity }
+    {
+        insert_from(&mut self.nodes, start, key, None)
+    }
+
+    /// Puts an item to its sorted place, after nodes with an equal key. `start` stands before that place.
+    pub fn insert_item(&mut self, start: At, key: u64, term: Term, chain: Chain) -> At
+        requires room { HasRoom self.old 1 }
+        requires stands { StandsUpTo key start self.old.cells }
+        ensures cells { self.new.cells ≡ put_cell (new_cell result key (Some (new_item term chain))) self.old.cells }
+        ensures fresh { IsFresh result self.old.cells }
+        ensures len { length self.new.cells ≡ length self.old.cells + 1 }
+        ensures capacity { self.new.capacity ≡ self.old.capacity }
+    {
+        insert_from(&mut self.nodes, start, key, Some(Item { term, chain }))
+    }
+
+    /// The place of the item with this key and term, among the nodes from `start` on. It counts each node that it
+    /// looks at: those up to and with the item, or the first of a greater key, or else all.
+    pub fn find(&self, start: At, key: u64, term: &Term, steps: &mut Steps) -> Option<At>
+        requires { Stands start self.now.cells }
+        ensures found { result ≡ place_of key term.now (from start self.now.cells) }
+        ensures ticks { steps.new ≡ ticks (length (passed key term.now (from start self.now.cells))) steps.old }
+    {
+        find_from(Reader::new(&self.nodes), start, key, term, steps)
+    }
+
+    /// Takes an item out. `start` stands before it.
+    pub fn unlink(&mut self, start: At, at: At) -> (Term, Chain)
+        requires { HasItem at (behind start self.old.cells) }
+        ensures item { item_at at self.old.cells ≡ Some (new_item result.0 result.1) }
+        ensures cells { self.new.cells ≡ without at self.old.cells }
+        ensures len { length self.new.cells + 1 ≡ length self.old.cells }
+        ensures capacity { self.new.capacity ≡ self.old.capacity }
+    {
+        let Node {
+            key: _,
+            next: _,
+            item,
+        } = unlink_from(&mut self.nodes, start, at);
+        match item {
+            Some(Item { term, chain }) => (term, chain),
+            None => unreachable!(),
+        }
+    }
+
+    /// The place of the node behind this one, if there is one.
+    pub fn after(&self, at: At) -> Option<At>
+        requires { Stands at self.now.cells }
+        ensures { result ≡ place_after at self.now.cells }
+    {
+        self.nodes[at].next.get()
+    }
+
+    /// The term and the chain of an item, or `None` for a dummy.
+    pub fn item(&self, at: At) -> Option<(&Term, &Chain)>
+        requires { Stands at self.now.cells }
+        ensures { MatchOption result (item_at at self.now.cells ≡ None) (λ found. item_at at self.now.cells ≡ Some (new_item found.0.now found.1.now)) }
+    {
+        match &self.nodes[at].item {
+            Some(item) => Some((&item.term, &item.chain)),
+            None => None,
+        }
+    }
+
+    /// The chain of an item, for a change of it alone.
+    pub fn chain_mut(&mut self, at: At) -> &mut Chain
+        requires { HasItem at self.old.cells }
+        ensures* lends { sem 𝓛 (LendsChainAt at self.entry result) }
+        ensures value { option_map (λ item. item.chain) (item_at at self.old.cells) ≡ Some result.now }
+    {
+        self.nodes[at].chain_mut()
+    }
+}

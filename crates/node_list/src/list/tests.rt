@@ -1,0 +1,149 @@
+ghost use Rattle.std.specs.Prelude.{◌≡◌, [], ◌∷◌, Some, IfOk};
+ghost use Rattle.std.specs.Borrow.{sem};
+ghost use Rattle.ets_term.specs.declared.term.Term.TheVariants.{Int};
+ghost use Rattle.node_list.specs.Cells.{new_cell, new_item};
+ghost use Rattle.node_list.specs.Places.{IsFresh};
+ghost use Rattle.node_list.specs.Changes.{put_cell};
+
+use super::{At, NodeList};
+use crate::chain::Chain;
+use crate::node::Node;
+use crate::steps::Steps;
+use ets_term::Term;
+use std::alloc::{AllocError, Global};
+use std::mem::size_of;
+use std::test::Fail;
+
+fn keys(list: &NodeList, alloc: Global) -> Result<Vec<u64>, AllocError> {
+    let mut keys = Vec::new(alloc);
+    let mut at = Some(list.head());
+    for _ in 0..list.nodes.len() {
+        if let Some(node) = at.and_then(|place| list.nodes.get(place)) {
+            keys.push(node.key)?;
+            at = node.next.get();
+        }
+    }
+    Ok(keys)
+}
+
+fn add_dummy(list: &mut NodeList, key: u64) -> Result<At, AllocError> {
+    list.reserve(1)?;
+    let head = list.head();
+    Ok(list.insert_dummy(head, key))
+}
+
+fn add_item(list: &mut NodeList, alloc: Global, key: u64, number: i64) -> Result<At, AllocError>
+    ensures cells { IfOk result (λ at. list.new.cells ≡ put_cell (new_cell at key (Some (new_item (Int number) (Int number ∷ [])))) list.old.cells) }
+    ensures fresh { IfOk result (λ at. IsFresh at list.old.cells) }
+{
+    list.reserve(1)?;
+    let head = list.head();
+    let chain = Chain::one(alloc, Term::Int(number));
+    Ok(list.insert_item(head, key, Term::Int(number), chain))
+}
+
+// The dummies of the buckets 0 to 3, and an item of hash 3.
+#[test]
+fn keys_in_split_order(rt: HostRuntime) -> Result<(), Fail> {
+    let alloc = rt.alloc();
+    let mut list = NodeList::new(alloc)?;
+    add_dummy(&mut list, 4_294_967_296)?;
+    add_item(&mut list, alloc, 6_442_450_945, 3)?;
+    add_dummy(&mut list, 2_147_483_648)?;
+    add_dummy(&mut list, 6_442_450_944)?;
+    let keys = keys(&list, alloc)?;
+    let wanted = [
+        0,
+        2_147_483_648,
+        4_294_967_296,
+        6_442_450_944,
+        6_442_450_945,
+    ];
+    assert_eq!(rt; keys.as_slice(), wanted.as_slice());
+    Ok(())
+}
+
+// Two items of one key stand in the order in which they came, and a search counts what it passes.
+#[test]
+fn finds_among_equal_keys(rt: HostRuntime) -> Result<(), Fail> {
+    let alloc = rt.alloc();
+    let mut list = NodeList::new(alloc)?;
+    let first = add_item(&mut list, alloc, 5, 1)?;
+    let second = add_item(&mut list, alloc, 5, 2)?;
+    add_item(&mut list, alloc, 7, 1)?;
+    let head = list.head();
+    assert_eq!(rt; list.after(head), Some(first));
+    let mut steps = Steps::new();
+    assert_eq!(rt; list.find(head, 5, &Term::Int(2), &mut steps), Some(second));
+    assert_eq!(rt; steps.count(), 3);
+    assert_eq!(rt; list.find(head, 5, &Term::Int(3), &mut steps), None);
+    assert_eq!(rt; steps.count(), 7);
+    assert_eq!(rt; list.find(head, 9, &Term::Int(1), &mut steps), None);
+    assert_eq!(rt; steps.count(), 11);
+    Ok(())
+}
+
+#[test]
+fn reads_an_item(rt: HostRuntime) -> Result<(), Fail> {
+    let alloc = rt.alloc();
+    let mut list = NodeList::new(alloc)?;
+    let at = add_item(&mut list, alloc, 5, 1)?;
+    let (term, chain) = list.item(at).ok_or("a dummy")?;
+    assert!(rt; *term == Term::Int(1));
+    assert_eq!(rt; chain.len(), 1);
+    let head = list.head();
+    assert!(rt; list.item(head).is_none());
+    Ok(())
+}
+
+#[test]
+fn changes_a_chain(rt: HostRuntime) -> Result<(), Fail> {
+    let alloc = rt.alloc();
+    let mut list = NodeList::new(alloc)?;
+    let at = add_item(&mut list, alloc, 5, 1)?;
+    let chain = list.chain_mut(at);
+    chain.push(Term::Int(2))?;
+    chain.push(Term::Int(3))?;
+    assert!(rt; chain.pop().ok_or("no term")? == Term::Int(3));
+    assert!(rt; chain.as_slice() == [Term::Int(1), Term::Int(2)].as_slice());
+    Ok(())
+}
+
+// A place that was given back is given out again.
+#[test]
+fn unlinks_an_item(rt: HostRuntime) -> Result<(), Fail> {
+    let alloc = rt.alloc();
+    let mut list = NodeList::new(alloc)?;
+    add_dummy(&mut list, 8)?;
+    let at = add_item(&mut list, alloc, 5, 1)?;
+    let head = list.head();
+    let (term, chain) = list.unlink(head, at);
+    assert!(rt; term == Term::Int(1));
+    assert!(rt; chain.as_slice() == [Term::Int(1)].as_slice());
+    assert_eq!(rt; keys(&list, alloc)?.as_slice(), [0, 8].as_slice());
+    assert_eq!(rt; add_item(&mut list, alloc, 9, 1)?, at);
+    Ok(())
+}
+
+#[test]
+fn want_of_memory_changes_nothing(rt: HostRuntime) -> Result<(), Fail> {
+    let alloc = rt.alloc();
+    let mut list = NodeList::new(alloc)?;
+    add_dummy(&mut list, 8)?;
+    assert!(rt; list.reserve(usize::MAX).is_err());
+    assert_eq!(rt; keys(&list, alloc)?.as_slice(), [0, 8].as_slice());
+    Ok(())
+}
+
+// A slot of the slab has a tag of 8 bytes beside its node.
+#[test]
+fn an_item_takes_two_lines_of_memory(rt: HostRuntime) {
+    assert!(rt; size_of::<Node>() + 8 <= 128);
+}
+
+#[test]
+fn a_chain_may_be_empty(rt: HostRuntime) {
+    let chain = Chain::new(rt.alloc());
+    assert_eq!(rt; chain.len(), 0);
+    assert_eq!(rt; Chain::one(rt.alloc(), Term::Int(1)).len(), 1);
+}
