@@ -1,0 +1,14 @@
+pub mod Numbers
+pub mod Runs
+pub mod Blanks
+pub mod Characters
+pub mod Binaries
+pub mod Names
+pub mod Begins
+pub mod Pieces
+pub mod Texts
+pub mod Escapes
+pub mod Going
+pub mod Sound
+pub mod Spelled
+pub mod RoundTrip

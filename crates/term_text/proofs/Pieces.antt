@@ -1,0 +1,103 @@
+-- A text that is sent in pieces.
+use Rattle.std.proofs.Common.{◌≡◌, ap, sym, subst, ◌∙◌, ℕ, List, [], ◌∷◌, ◌++◌, ◌+◌, ◌<◌, ◌≤◌, length, length-append, arith, take, drop, get_or, map, Bool, true, append_assoc, Option, None, Some, Result, Ok, Err, IsErr, is_err}
+use Rattle.std.proofs.lemmas.Bool.{false≢true}
+use Rattle.std.proofs.lemmas.List.{append-nil, drop_more, drop_all}
+use Rattle.std.specs.Io.KnownBytes.{Appends, Keeps}
+use Rattle.std.proofs.Math.Seq.{take-append_seam}
+use Rattle.std.specs.Str.{IsUtf8}
+use Rattle.std.specs.String.Boundary.{IsSplitPoint}
+use Rattle.std.proofs.lemmas.Str.{IsCharBoundary-from_take}
+use Rattle.term_text.specs.Printed.{row_text, comma_if}
+use Rattle.term_text.specs.Sent.{AppendsFront, Sends}
+
+pub appends_then : (a b c : Option (List ℕ)) (x y : List ℕ) → Appends a b x → Appends b c y → Appends a c (x ++ y)
+appends_then None b c x y h k = tt
+appends_then (Some p) None c x y h k = absurd h
+appends_then (Some p) (Some q) None x y h k = absurd k
+appends_then (Some p) (Some q) (Some r) x y h k = k ∙ ap (λ (w : List ℕ). w ++ y) h ∙ append_assoc p x y
+
+-- after a fault in the first piece
+pub front_first : (a b : Option (List ℕ)) (x y : List ℕ) → AppendsFront a b x → AppendsFront a b (x ++ y)
+front_first a b x y (sent, rest, e, h) = (sent, rest ++ y, ap (λ (w : List ℕ). w ++ y) e ∙ append_assoc sent rest y, h)
+
+-- after a fault in a later piece
+pub front_then : (a b c : Option (List ℕ)) (x y : List ℕ) → Appends a b x → AppendsFront b c y → AppendsFront a c (x ++ y)
+front_then a b c x y h (sent, rest, e, k) = (x ++ sent, rest, ap (λ (w : List ℕ). x ++ w) e ∙ sym (append_assoc x sent rest), appends_then a b c x sent h k)
+
+pub sends_fault : {A E : Type 0} (a b : Option (List ℕ)) (x : List ℕ) (r : Result A E) → IsErr r → AppendsFront a b x → Sends a b x r
+sends_fault a b x (Ok v) e h = absurd (false≢true e)
+sends_fault a b x (Err f) e h = h
+
+pub sends_then : {A E : Type 0} (a b c : Option (List ℕ)) (x y : List ℕ) (r : Result A E) → Appends a b x → Sends b c y r → Sends a c (x ++ y) r
+sends_then a b c x y (Ok v) h k = appends_then a b c x y h k
+sends_then a b c x y (Err f) h k = front_then a b c x y h k
+
+pub appends_nothing : (a : Option (List ℕ)) → Appends a a []
+appends_nothing None = tt
+appends_nothing (Some p) = sym (append-nil p)
+
+pub front_as : (a b : Option (List ℕ)) (x y : List ℕ) → x ≡ y → AppendsFront a b x → AppendsFront a b y
+front_as a b x y e h = let P : List ℕ → Type 0 = λ w. AppendsFront a b w in subst P e h
+
+pub appends_as : (a b : Option (List ℕ)) (x y : List ℕ) → x ≡ y → Appends a b x → Appends a b y
+appends_as a b x y e h = let P : List ℕ → Type 0 = λ w. Appends a b w in subst P e h
+
+-- texts parted by commas, of which so many have been sent
+abbrev pub Rows : {X : Type 0} → Option (List ℕ) → Option (List ℕ) → (X → List ℕ) → Bool → List X → List ℕ → Type 0
+Rows a b f later xs whole = (sent : List ℕ) × (sent ++ row_text later (map f xs) ≡ whole) × Appends a b sent
+
+pub rows_comma : {X : Type 0} (a b c : Option (List ℕ)) (f : X → List ℕ) (later : Bool) (x : X) (xs : List X) (whole : List ℕ)
+    → Rows a b f later (x ∷ xs) whole → AppendsFront b c (comma_if later) → AppendsFront a c whole
+rows_comma a b c f later x xs whole (sent, e, h) k = front_as a c _ whole e (front_then a b c sent _ h (front_first b c (comma_if later) _ k))
+
+pub rows_item : {X : Type 0} (a b m c : Option (List ℕ)) (f : X → List ℕ) (later : Bool) (x : X) (xs : List X) (whole : List ℕ)
+    → Rows a b f later (x ∷ xs) whole → Appends b m (comma_if later) → AppendsFront m c (f x) → AppendsFront a c whole
+rows_item a b m c f later x xs whole (sent, e, h) j k = front_as a c _ whole e (front_then a b c sent _ h (front_then b m c (comma_if later) _ j (front_first m c (f x) _ k)))
+
+pub rows_more : {X : Type 0} (a b m c : Option (List ℕ)) (f : X → List ℕ) (later : Bool) (x : X) (xs : List X) (whole : List ℕ)
+    → Rows a b f later (x ∷ xs) whole → Appends b m (comma_if later) → Appends m c (f x) → Rows a c f true xs whole
+rows_more a b m c f later x xs whole (sent, e, h) j k =
+    let now : List ℕ = comma_if later ++ f x in (
+      sent ++ now,
+      append_assoc sent now (row_text true (map f xs)) ∙ ap (λ (w : List ℕ). sent ++ w) (append_assoc (comma_if later) (f x) (row_text true (map f xs))) ∙ e,
+      appends_then a b c sent now h (appends_then b m c (comma_if later) (f x) j k),
+    )
+
+pub rows_done : {X : Type 0} (a b : Option (List ℕ)) (f : X → List ℕ) (later : Bool) (whole : List ℕ) → Rows a b f later [] whole → Appends a b whole
+rows_done a b f later whole (sent, e, h) = appends_as a b sent whole (sym (append-nil sent) ∙ e) h
+
+-- the next of the texts
+pub rows_here : {X : Type 0} (a b : Option (List ℕ)) (f : X → List ℕ) (later : Bool) (xs : List X) (i : ℕ) (d : X) (whole : List ℕ) → i < length xs
+    → Rows a b f later (drop i xs) whole → Rows a b f later (get_or xs i d ∷ drop (i + 1) xs) whole
+rows_here a b f later xs i d whole h rows = let P : List _ → Type 0 = λ ys. Rows a b f later ys whole in subst P (drop_more xs i d h) rows
+
+-- none is left
+pub rows_end : {X : Type 0} (a b : Option (List ℕ)) (f : X → List ℕ) (later : Bool) (xs : List X) (i : ℕ) (whole : List ℕ) → length xs ≤ i
+    → Rows a b f later (drop i xs) whole → Appends a b whole
+rows_end a b f later xs i whole h rows = let P : List _ → Type 0 = λ ys. Rows a b f later ys whole in rows_done a b f later whole (subst P (drop_all i xs h) rows)
+
+pub rows_at : {X : Type 0} (a b : Option (List ℕ)) (f : X → List ℕ) (later : Bool) (xs : List X) (i : ℕ) (x : X) (whole : List ℕ) → i < length xs → get_or xs i x ≡ x
+    → Rows a b f later (drop i xs) whole → Rows a b f later (x ∷ drop (i + 1) xs) whole
+rows_at a b f later xs i x whole h e rows = let P : List _ → Type 0 = λ ys. Rows a b f later ys whole in subst P (drop_more xs i x h ∙ ap (λ (y : _). y ∷ drop (i + 1) xs) e) rows
+
+pub sends_as : {A E : Type 0} (a b : Option (List ℕ)) (x y : List ℕ) (r : Result A E) → x ≡ y → Sends a b x r → Sends a b y r
+sends_as a b x y r e h = let P : List ℕ → Type 0 = λ w. Sends a b w r in subst P e h
+
+pub appends_keeps : (a b c : Option (List ℕ)) (x : List ℕ) → Appends a b x → Keeps b c → Appends a c x
+appends_keeps None b c x h k = tt
+appends_keeps (Some p) None c x h k = absurd h
+appends_keeps (Some p) (Some q) None x h k = absurd k
+appends_keeps (Some p) (Some q) (Some r) x h k = k ∙ h
+
+-- the end of what stood there before is where a character ends
+pub front_boundary : (old new text : List ℕ) → IsUtf8 old → IsUtf8 new → AppendsFront (Some old) (Some new) text → IsSplitPoint new (length old)
+front_boundary old new text u v (sent, rest, e, h) =
+    let le : length old ≤ length new = omega (arith, ap length h, length-append old sent) in
+    let P : List ℕ → Type 0 = λ bs. IsUtf8 bs in
+    let front : old ≡ take (length old) new = sym (ap (take (length old)) h ∙ take-append_seam old sent) in
+    let b = IsCharBoundary-from_take new (length old) v le (subst P front u) in
+    (le, λ _. b.1)
+
+pub sends_front : {A E : Type 0} (a b : Option (List ℕ)) (x : List ℕ) (r : Result A E) → is_err r ≡ true → Sends a b x r → AppendsFront a b x
+sends_front a b x (Ok v) e h = absurd (false≢true e)
+sends_front a b x (Err f) e h = h

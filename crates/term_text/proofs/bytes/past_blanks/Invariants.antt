@@ -1,0 +1,14 @@
+use Rattle.std.proofs.Common.{◌≤◌, ◌-◌, length}
+use Rattle.term_text.specs.Machine.{Step}
+use Rattle.term_text.specs.Reader.{IgnoresBlanks, Comes}
+use Rattle.term_text.proofs.bytes.past_blanks.Given as goal
+
+abbrev pub invariant-loop-place : goal.invariant-loop-place
+invariant-loop-place l = record {
+  stays : (s : Step) → IgnoresBlanks s → Comes l.text l.at s l.place s;
+  behind : l.at ≤ l.place;
+  within : l.place ≤ length l.text;
+}
+
+abbrev pub decreases-loop-place : goal.decreases-loop-place
+decreases-loop-place l = length l.text - l.place

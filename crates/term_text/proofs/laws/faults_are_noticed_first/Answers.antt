@@ -1,0 +1,5 @@
+use Rattle.term_text.proofs.Going.{goes_on, stuck}
+use Rattle.term_text.proofs.laws.faults_are_noticed_first.Goals as goal
+
+pub returns : goal.returns
+returns c = record { before = goes_on; from = stuck }

@@ -1,0 +1,23 @@
+-- What a text that has been read so far can go on to.
+use Rattle.std.specs.Prelude.{◌≡◌, ℕ, ◌+◌, List, [], ◌∷◌, ◌++◌, false}
+use Rattle.ets_term.specs.declared.term.Term.{Term}
+use Rattle.term_text.specs.Machine.{wants, Step, goes, found, fails, step, reading}
+
+-- the state behind some bytes
+abbrev pub state : ℕ → Step → List ℕ → Step
+state at s [] = s
+state at s (b ∷ bs) = state (at + 1) (step at s b) bs
+
+-- the state behind the bytes of a text that has been read so far
+abbrev pub so_far : List ℕ → Step
+so_far bs = state 0 (goes (wants false) []) bs
+
+-- a state with no fault
+abbrev pub Stands : Step → Type 0
+Stands (goes mode os) = Unit {0}
+Stands (found t n) = Unit {0}
+Stands (fails f) = ⊥
+
+-- some text that begins so is read as a term
+abbrev pub GoesOn : List ℕ → Type 0
+GoesOn bs = (more : List ℕ) × (t : Term) × (n : ℕ) × (reading (bs ++ more) ≡ found t n)

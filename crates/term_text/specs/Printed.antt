@@ -1,0 +1,40 @@
+-- The printed text of terms: without blanks, a string as a list, numbers without superfluous zeros.
+use Rattle.std.specs.Prelude.{ℕ, List, [], ◌∷◌, ◌++◌, map, Bool, true, false, ◌&&◌, ◌||◌, ◌==◌, if◌then◌else◌, decimal}
+use Rattle.std.specs.Fmt.{signed_decimal}
+use Rattle.std.specs.List.{list_all, flat_map}
+use Rattle.ets_term.specs.declared.term.Term.{Term, fold-Term}
+use Rattle.ets_term.specs.declared.term.Term.TheOpen.{Term-F}
+use Rattle.term_text.specs.Text.{is_small, is_name, begins}
+
+-- a small letter, then letters, digits, `_` and `@`
+abbrev pub is_plain : List ℕ → Bool
+is_plain s = begins is_small s && list_all is_name s
+
+-- a character between single quotes: a quote and a `\` have a `\` before them
+abbrev pub escaped : ℕ → List ℕ
+escaped c = if (c == 39) || (c == 92) then 92 ∷ c ∷ [] else c ∷ []
+
+abbrev pub atom_text : List ℕ → List ℕ
+atom_text s = if is_plain s then s else (39 ∷ []) ++ (flat_map escaped s ++ 39 ∷ [])
+
+-- a comma, where something stands before
+abbrev pub comma_if : Bool → List ℕ
+comma_if later = if later then 44 ∷ [] else []
+
+-- texts parted by commas
+abbrev pub row_text : Bool → List (List ℕ) → List ℕ
+row_text later [] = []
+row_text later (s ∷ ss) = comma_if later ++ (s ++ row_text true ss)
+
+-- `<0.7.0>`, `#Tid<7>`, `{a,b}`, `[1,2]` and `<<97,98>>`
+abbrev pub printed_step : Term-F (List ℕ) → List ℕ
+printed_step (Term-F.Int n) = signed_decimal n
+printed_step (Term-F.Atom s) = atom_text s
+printed_step (Term-F.Pid n) = (60 ∷ 48 ∷ 46 ∷ []) ++ (decimal n ++ 46 ∷ 48 ∷ 62 ∷ [])
+printed_step (Term-F.Tid n) = (35 ∷ 84 ∷ 105 ∷ 100 ∷ 60 ∷ []) ++ (decimal n ++ 62 ∷ [])
+printed_step (Term-F.Tuple ss) = (123 ∷ []) ++ (row_text false ss ++ 125 ∷ [])
+printed_step (Term-F.List ss) = (91 ∷ []) ++ (row_text false ss ++ 93 ∷ [])
+printed_step (Term-F.Binary bs) = (60 ∷ 60 ∷ []) ++ (row_text false (map decimal bs) ++ 62 ∷ 62 ∷ [])
+
+abbrev pub printed : Term → List ℕ
+printed = fold-Term (List ℕ) printed_step

@@ -1,0 +1,12 @@
+-- What a text that is sent piece by piece leaves.
+use Rattle.std.specs.Prelude.{◌≡◌, ℕ, List, ◌++◌, Option, Result, Ok, Err}
+use Rattle.std.specs.Io.KnownBytes.{Appends}
+
+-- a front of the text was appended
+abbrev pub AppendsFront : Option (List ℕ) → Option (List ℕ) → List ℕ → Type 0
+AppendsFront old new text = (sent rest : List ℕ) × (text ≡ sent ++ rest) × Appends old new sent
+
+-- the text was appended, or after a fault a front of it
+abbrev pub Sends : {A E : Type 0} → Option (List ℕ) → Option (List ℕ) → List ℕ → Result A E → Type 0
+Sends old new text (Ok x) = Appends old new text
+Sends old new text (Err e) = AppendsFront old new text

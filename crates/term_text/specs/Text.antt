@@ -1,0 +1,39 @@
+-- The bytes of a text, by what they may stand for.
+use Rattle.std.specs.Prelude.{ℕ, ◌+◌, ◌-◌, ◌*◌, List, [], ◌∷◌, Bool, false, ◌&&◌, ◌||◌, ◌==◌, nat_le, if◌then◌else◌}
+
+-- space, tab, line feed and carriage return
+unfoldable pub is_blank : ℕ → Bool
+is_blank b = (b == 32) || (b == 9) || (b == 10) || (b == 13)
+
+unfoldable pub is_digit : ℕ → Bool
+is_digit b = nat_le 48 b && nat_le b 57
+
+unfoldable pub is_small : ℕ → Bool
+is_small b = nat_le 97 b && nat_le b 122
+
+-- what an atom without quotes goes on with: letters, digits, `_` and `@`
+unfoldable pub is_name : ℕ → Bool
+is_name b = is_small b || (nat_le 65 b && nat_le b 90) || is_digit b || (b == 95) || (b == 64)
+
+-- the sign that closes a list, or a tuple
+unfoldable pub closes : Bool → ℕ → Bool
+closes square b = if square then b == 93 else b == 125
+
+-- the bytes that a term can begin with: `{`, `[`, `-`, `'`, `"`, `<`, `#`, digits and small letters
+unfoldable pub begins_term : ℕ → Bool
+begins_term b = (b == 123) || (b == 91) || (b == 45) || (b == 39) || (b == 34) || (b == 60) || (b == 35) || is_digit b || is_small b
+
+-- how many bytes at the front pass
+abbrev pub count : (ℕ → Bool) → List ℕ → ℕ
+count p [] = 0
+count p (b ∷ bs) = if p b then count p bs + 1 else 0
+
+-- the number n with the digits at the front written behind it
+abbrev pub spelled : ℕ → List ℕ → ℕ
+spelled n [] = n
+spelled n (b ∷ bs) = if is_digit b then spelled (n * 10 + (b - 48)) bs else n
+
+-- whether the first byte passes
+abbrev pub begins : (ℕ → Bool) → List ℕ → Bool
+begins p [] = false
+begins p (b ∷ bs) = p b

@@ -1,0 +1,115 @@
+//! Binaries, pids and table identifiers.
+ghost use Rattle.std.specs.Prelude.{◌≡◌, ◌+◌, ◌≤◌, ◌<◌, ◌∷◌, [], List, true, length, IfOk, slice_index};
+ghost use Rattle.term_text.specs.Machine.{Open, byte, digit, quoted, goes, opened_binary, angle, arrive, digits, pid, identifier};
+ghost use Rattle.term_text.specs.Reader.{Reads, Gathers};
+ghost use Rattle.term_text.specs.declared.quotes.Quotes.TheVariants as form;
+
+use crate::bytes::{digit_stands, past_blanks, stands};
+use crate::fault::TextFault;
+use crate::number::{Size, number_at, signs_at};
+use crate::quoted::quoted_at;
+use crate::quotes::Quotes;
+use ets_term::{Items, Term};
+use std::alloc::Global;
+
+/// The bytes of a binary, of which there is one here, and where the sign behind them must stand.
+#[tactic(auto, using(crate::proofs::Binaries::bytes_end, crate::proofs::Binaries::comma_byte, crate::proofs::Binaries::wants_digit, crate::proofs::Blanks::behind_byte_ignores, crate::proofs::Blanks::wants_byte_ignores, crate::proofs::Runs::begins_in))]
+fn bytes_at(alloc: Global, text: &[u8], at: usize) -> Result<(Items<u8>, usize), TextFault>
+    requires { at ≤ length text.now }
+    ensures within { IfOk result (λ x. (at ≤ x.1) × (x.1 ≤ length text.now)) }
+    ensures reads { Gathers text.now at result }
+{
+    let mut bytes = Vec::new(alloc);
+    let mut place = at;
+    loop {
+        let (n, end) = number_at(text, place, place, u8::MAX as Size)?;
+        bytes.push(n as u8)?;
+        let behind = past_blanks(text, end);
+        if !stands(text, behind, b',') {
+            return Ok((Items::from_vec(bytes), behind));
+        }
+        place = past_blanks(text, behind + 1);
+    }
+}
+
+/// A binary of bytes, behind its `<<` and blanks.
+fn byte_binary_at(alloc: Global, text: &[u8], at: usize) -> Result<(Term, usize), TextFault>
+    requires { at ≤ length text.now }
+    ensures within { IfOk result (λ x. (at ≤ x.1) × (x.1 ≤ length text.now)) }
+    ensures reads { (os : List Open) → Reads text.now at (goes (digit (byte []) at) os) os result }
+{
+    let (bytes, place) = bytes_at(alloc, text, at)?;
+    let end = signs_at(text, place, b">>")?;
+    Ok((Term::Binary(bytes), end))
+}
+
+/// A binary of a string, behind the opening quote.
+#[tactic(auto, using(crate::proofs::Binaries::string_ends, crate::proofs::Blanks::behind_string_ignores))]
+fn string_binary_at(alloc: Global, text: &[u8], at: usize) -> Result<(Term, usize), TextFault>
+    requires { at ≤ length text.now }
+    ensures within { IfOk result (λ x. (at ≤ x.1) × (x.1 ≤ length text.now)) }
+    ensures reads { (os : List Open) → Reads text.now at (goes (quoted form.Binary []) os) os result }
+{
+    let (bytes, behind) = quoted_at(alloc, text, at, Quotes::Binary, false)?;
+    let place = past_blanks(text, behind);
+    let end = signs_at(text, place, b">>")?;
+    Ok((Term::Binary(bytes), end))
+}
+
+/// A binary, behind its `<<`.
+#[tactic(auto, using(crate::proofs::Binaries::opened_quote, crate::proofs::Binaries::opened_digit, crate::proofs::Binaries::opened_ends, crate::proofs::Blanks::opened_binary_ignores, crate::proofs::Runs::reads_along, crate::proofs::Runs::begins_in))]
+fn binary_at(alloc: Global, text: &[u8], at: usize) -> Result<(Term, usize), TextFault>
+    requires { at ≤ length text.now }
+    ensures within { IfOk result (λ x. (at ≤ x.1) × (x.1 ≤ length text.now)) }
+    ensures reads { (os : List Open) → Reads text.now at (goes opened_binary os) os result }
+{
+    let start = past_blanks(text, at);
+    if stands(text, start, b'"') {
+        return string_binary_at(alloc, text, start + 1);
+    }
+    if digit_stands(text, start) {
+        return byte_binary_at(alloc, text, start);
+    }
+    let end = signs_at(text, start, b">>")?;
+    Ok((Term::Binary(Items::new(alloc)), end))
+}
+
+/// A pid, behind its `<0`.
+fn pid_at(text: &[u8], at: usize) -> Result<(Term, usize), TextFault>
+    requires { at ≤ length text.now }
+    ensures within { IfOk result (λ x. (at ≤ x.1) × (x.1 ≤ length text.now)) }
+    ensures reads { (os : List Open) → Reads text.now at (arrive at (46 ∷ []) (digits pid) os) os result }
+{
+    let first = signs_at(text, at, b".")?;
+    let (n, behind) = number_at(text, first, first, u32::MAX as Size)?;
+    let end = signs_at(text, behind, b".0>")?;
+    Ok((Term::Pid(n as u32), end))
+}
+
+/// A table identifier, behind its `#`.
+pub(crate) fn identifier_at(text: &[u8], at: usize) -> Result<(Term, usize), TextFault>
+    requires { at ≤ length text.now }
+    ensures within { IfOk result (λ x. (at ≤ x.1) × (x.1 ≤ length text.now)) }
+    ensures reads { (os : List Open) → Reads text.now at (arrive at (84 ∷ 105 ∷ 100 ∷ 60 ∷ []) (digits identifier) os) os result }
+{
+    let first = signs_at(text, at, b"Tid<")?;
+    let (n, behind) = number_at(text, first, first, u32::MAX as Size)?;
+    let end = signs_at(text, behind, b">")?;
+    Ok((Term::Tid(n as u32), end))
+}
+
+/// A pid or a binary, behind its `<`.
+pub(crate) fn angle_at(alloc: Global, text: &[u8], at: usize) -> Result<(Term, usize), TextFault>
+    requires { at ≤ length text.now }
+    ensures within { IfOk result (λ x. (at ≤ x.1) × (x.1 ≤ length text.now)) }
+    ensures reads { (os : List Open) → Reads text.now at (goes angle os) os result }
+{
+    if at >= text.len() {
+        return Err(TextFault::Unclosed(at));
+    }
+    match text[at] {
+        b'<' => binary_at(alloc, text, at + 1),
+        b'0' => pid_at(text, at + 1),
+        _ => Err(TextFault::Unexpected(at)),
+    }
+}

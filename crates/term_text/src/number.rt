@@ -1,0 +1,93 @@
+//! Numbers and fixed signs.
+ghost use Rattle.std.specs.Prelude.{◌≡◌, ◌+◌, ◌-◌, ◌*◌, ◌≤◌, ◌<◌, ℕ, List, true, false, get_or, length, drop, IfOk, OnErr, MatchOption};
+ghost use Rattle.term_text.specs.Reader.{Counts, Passes};
+ghost use Rattle.term_text.specs.Text.{is_digit, count, spelled};
+
+use crate::bytes::is_digit_byte;
+use crate::fault::TextFault;
+
+/// The size of a number, without its sign.
+pub(crate) type Size = u64;
+
+#[tactic(auto, unfolding(crate::specs::Text::is_digit))]
+fn digit_of(b: u8) -> Size
+    requires { is_digit b ≡ true }
+    ensures digit { result ≡ b - 48 }
+    ensures small { result ≤ 9 }
+{
+    (b - b'0') as Size
+}
+
+/// The number with one more digit, where it is within the limit.
+fn with_digit(n: Size, digit: Size, limit: Size) -> Option<Size>
+    requires digit_in { digit ≤ 9 }
+    requires limit_in { 9 ≤ limit }
+    ensures { MatchOption result (limit < n * 10 + digit) (λ m. (m ≡ n * 10 + digit) × (m ≤ limit)) }
+{
+    if n > (limit - digit) / 10 {
+        return None;
+    }
+    Some(n * 10 + digit)
+}
+
+/// The number that the digits from this byte on spell, and where they end. None where it passes the limit.
+#[tactic(auto, using(crate::proofs::Numbers::spelled_grows))]
+pub(crate) fn digits_at(text: &[u8], at: usize, limit: Size) -> Option<(Size, usize)>
+    requires within { at ≤ length text.now }
+    requires limit_in { 9 ≤ limit }
+    ensures { MatchOption result (limit < spelled 0 (drop at text.now)) (λ x. (x.0 ≡ spelled 0 (drop at text.now)) × (x.0 ≤ limit) × (x.1 ≡ at + count is_digit (drop at text.now)) × (x.1 ≤ length text.now)) }
+{
+    let mut n: Size = 0;
+    let mut place = at;
+    while place < text.len() && is_digit_byte(text[place]) {
+        match with_digit(n, digit_of(text[place]), limit) {
+            Some(more) => n = more,
+            None => return None,
+        }
+        place += 1;
+    }
+    Some((n, place))
+}
+
+/// The number that must begin at this byte, and where its digits end. With its sign it begins at `start`.
+pub(crate) fn number_at(
+    text: &[u8],
+    at: usize,
+    start: usize,
+    limit: Size,
+) -> Result<(Size, usize), TextFault>
+    requires within { at ≤ length text.now }
+    requires limit_in { 9 ≤ limit }
+    ensures within { IfOk result (λ x. (x.0 ≤ limit) × (at ≤ x.1) × (x.1 ≤ length text.now)) }
+    ensures reads { Counts text.now at start limit result }
+{
+    if at >= text.len() {
+        return Err(TextFault::Unclosed(at));
+    }
+    if !is_digit_byte(text[at]) {
+        return Err(TextFault::Unexpected(at));
+    }
+    match digits_at(text, at, limit) {
+        Some(found) => Ok(found),
+        None => Err(TextFault::OutOfRange(start)),
+    }
+}
+
+/// Where signs that must stand here end.
+pub(crate) fn signs_at(text: &[u8], at: usize, signs: &[u8]) -> Result<usize, TextFault>
+    requires { at ≤ length text.now }
+    ensures within { IfOk result (λ n. (at ≤ n) × (n ≤ length text.now)) }
+    ensures reads { Passes text.now at signs.now result }
+{
+    let mut place = at;
+    for sign in signs {
+        if place >= text.len() {
+            return Err(TextFault::Unclosed(place));
+        }
+        if text[place] != *sign {
+            return Err(TextFault::Unexpected(place));
+        }
+        place += 1;
+    }
+    Ok(place)
+}

@@ -1,0 +1,126 @@
+//! What stands in quotes.
+ghost use Rattle.std.specs.Prelude.{◌≡◌, ◌+◌, ◌≤◌, ◌<◌, ◌==◌, ◌∷◌, [], List, map, true, false, length, IfOk, IsTrue, slice_index};
+ghost use Rattle.std.specs.List.{list_all};
+ghost use Rattle.ets_term.specs.Character.{is_character};
+ghost use Rattle.term_text.specs.Machine.{code, quote, Open, quoted, goes};
+ghost use Rattle.term_text.specs.Reader.{Escapes, Extends, IsShort, Unquotes, Reads, IsDeep};
+ghost use Rattle.term_text.specs.declared.quotes.Quotes.TheVariants as form;
+
+use crate::bytes::is_character_byte;
+use crate::fault::TextFault;
+use crate::quotes::Quotes;
+use ets_term::{Atom, Integer, Items, Term};
+use std::alloc::{AllocError, Global};
+
+/// The character behind a `\`, and where it ends.
+fn escape_at(text: &[u8], at: usize, quotes: Quotes) -> Result<(u8, usize), TextFault>
+    requires { at ≤ length text.now }
+    ensures within { IfOk result (λ x. (at < x.1) × (x.1 ≤ length text.now)) }
+    ensures character { IfOk result (λ x. is_character x.0 ≡ true) }
+    ensures reads { Escapes text.now at quotes result }
+{
+    if at >= text.len() {
+        return Err(TextFault::Unclosed(at));
+    }
+    let b = text[at];
+    if b != quotes.quote() && b != b'\\' {
+        return Err(TextFault::Unexpected(at));
+    }
+    Ok((b, at + 1))
+}
+
+/// The character at this byte, which is no closing quote, and where it ends. There are n before it.
+fn character_at(
+    text: &[u8],
+    at: usize,
+    quotes: Quotes,
+    deep: bool,
+    n: usize,
+) -> Result<(u8, usize), TextFault>
+    requires within { at < length text.now }
+    requires open { (slice_index text.now at == quote quotes) ≡ false }
+    ensures within { IfOk result (λ x. (at < x.1) × (x.1 ≤ length text.now)) }
+    ensures character { IfOk result (λ x. is_character x.0 ≡ true) }
+    ensures short { IfOk result (λ x. IsShort quotes n → IsShort quotes (n + 1)) }
+    ensures reads { Extends text.now at quotes deep n result }
+{
+    let b = text[at];
+    if b != b'\\' && !is_character_byte(b) {
+        return Err(TextFault::Unexpected(at));
+    }
+    if let Some(fault) = quotes.refusal(at, n, deep) {
+        return Err(fault);
+    }
+    if b == b'\\' {
+        return escape_at(text, at + 1, quotes);
+    }
+    Ok((b, at + 1))
+}
+
+/// The characters up to the closing quote, and where that ends.
+pub(crate) fn quoted_at(
+    alloc: Global,
+    text: &[u8],
+    at: usize,
+    quotes: Quotes,
+    deep: bool,
+) -> Result<(Items<u8>, usize), TextFault>
+    requires { at ≤ length text.now }
+    ensures within { IfOk result (λ x. (at ≤ x.1) × (x.1 ≤ length text.now)) }
+    ensures characters { IfOk result (λ x. IsTrue (list_all is_character x.0)) }
+    ensures short { IfOk result (λ x. IsShort quotes (length x.0)) }
+    ensures reads { Unquotes text.now at quotes deep result }
+{
+    let mut chars = Vec::new(alloc);
+    let mut place = at;
+    while place < text.len() {
+        if text[place] == quotes.quote() {
+            return Ok((Items::from_vec(chars), place + 1));
+        }
+        let (c, end) = character_at(text, place, quotes, deep, chars.len())?;
+        chars.push(c)?;
+        place = end;
+    }
+    Err(TextFault::Unclosed(place))
+}
+
+/// The atom whose quote is at this byte.
+pub(crate) fn quoted_atom_at(
+    alloc: Global,
+    text: &[u8],
+    at: usize,
+) -> Result<(Term, usize), TextFault>
+    requires { at < length text.now }
+    ensures within { IfOk result (λ x. (at ≤ x.1) × (x.1 ≤ length text.now)) }
+    ensures reads { (os : List Open) → Reads text.now (at + 1) (goes (quoted (form.Atom at) []) os) os result }
+{
+    let (chars, end) = quoted_at(alloc, text, at + 1, Quotes::Atom(at), false)?;
+    let name = Atom::of_bytes(alloc, chars.as_slice())?;
+    Ok((Term::Atom(name), end))
+}
+
+/// The string behind its opening quote: the list of its characters' codes.
+pub(crate) fn string_at(
+    alloc: Global,
+    text: &[u8],
+    at: usize,
+    deep: bool,
+) -> Result<(Term, usize), TextFault>
+    requires { at ≤ length text.now }
+    ensures within { IfOk result (λ x. (at ≤ x.1) × (x.1 ≤ length text.now)) }
+    ensures reads { (os : List Open) → IsDeep form.String deep os → Reads text.now at (goes (quoted form.String []) os) os result }
+{
+    let (chars, end) = quoted_at(alloc, text, at, Quotes::String, deep)?;
+    let codes = codes_of(alloc, chars.as_slice())?;
+    Ok((Term::List(codes), end))
+}
+
+fn codes_of(alloc: Global, chars: &[u8]) -> Result<Items<Term>, AllocError>
+    ensures { IfOk result (λ ts. ts ≡ map code chars.now) }
+{
+    let mut codes = Vec::with_capacity(alloc, chars.len())?;
+    for c in chars {
+        codes.push(Term::Int(*c as Integer))?;
+    }
+    Ok(Items::from_vec(codes))
+}

@@ -1,0 +1,125 @@
+//! The reader: one pass over the bytes, with the levels that are left.
+ghost use Rattle.std.specs.Prelude.{◌≡◌, ◌+◌, ◌≤◌, ◌<◌, ◌∷◌, List, true, false, length, IfOk, slice_index};
+ghost use Rattle.term_text.specs.Machine.{Open, wants, goes, opening, bracket, begin, reading};
+ghost use Rattle.term_text.specs.Reader.{Gives, Reads};
+
+use crate::binary::{angle_at, identifier_at};
+use crate::bytes::{begins_byte, closes_byte, is_digit_byte, past_blanks};
+use crate::fault::TextFault;
+use crate::plain::{integer_at, name_at};
+use crate::quoted::{quoted_atom_at, string_at};
+use ets_term::{Items, Term};
+use std::alloc::Global;
+
+/// How deep a term may be.
+const MAX_DEPTH: usize = 128;
+
+/// Reads the term at the front of the text, and how many bytes it takes with the blanks before it. A fault is the one
+/// that is noticed first.
+pub fn read_term(alloc: Global, text: &str) -> Result<(Term, usize), TextFault>
+    ensures { Gives (reading text.now) result }
+{
+    let bytes = text.as_bytes();
+    read_term_bytes(alloc, bytes)
+}
+
+/// Reads the term at the front of a text that is given by its bytes, as `read_term` does.
+pub fn read_term_bytes(alloc: Global, text: &[u8]) -> Result<(Term, usize), TextFault>
+    ensures { Gives (reading text.now) result }
+{
+    term_at(alloc, text, 0, MAX_DEPTH)
+}
+
+/// The term that must begin here, behind blanks, with so many levels left.
+#[cycle(term)]
+fn term_at(alloc: Global, text: &[u8], at: usize, room: usize) -> Result<(Term, usize), TextFault>
+    requires { at ≤ length text.now }
+    ensures within { IfOk result (λ x. (at ≤ x.1) × (x.1 ≤ length text.now)) }
+    ensures reads { (os : List Open) → length os + room ≡ 128 → Reads text.now at (goes (wants false) os) os result }
+{
+    let start = past_blanks(text, at);
+    if start >= text.len() {
+        return Err(TextFault::Unclosed(start));
+    }
+    form_at(alloc, text, start, room)
+}
+
+/// The term whose first byte stands here.
+#[cycle(term)]
+fn form_at(alloc: Global, text: &[u8], at: usize, room: usize) -> Result<(Term, usize), TextFault>
+    requires { at < length text.now }
+    ensures within { IfOk result (λ x. (at ≤ x.1) × (x.1 ≤ length text.now)) }
+    ensures reads { (os : List Open) → length os + room ≡ 128 → Reads text.now (at + 1) (begin at os (slice_index text.now at)) os result }
+{
+    let b = text[at];
+    if !begins_byte(b) {
+        return Err(TextFault::Unexpected(at));
+    }
+    if room == 0 {
+        return Err(TextFault::TooDeep(at));
+    }
+    match b {
+        b'{' => bracket_at(alloc, text, at + 1, false, room - 1),
+        b'[' => bracket_at(alloc, text, at + 1, true, room - 1),
+        b'-' => integer_at(text, at + 1, at, true),
+        b'\'' => quoted_atom_at(alloc, text, at),
+        b'"' => string_at(alloc, text, at + 1, room == 1),
+        b'<' => angle_at(alloc, text, at + 1),
+        b'#' => identifier_at(text, at + 1),
+        _ => {
+            if is_digit_byte(b) {
+                integer_at(text, at, at, false)
+            } else {
+                name_at(alloc, text, at)
+            }
+        }
+    }
+}
+
+/// A tuple, or a list if square, behind the sign that opens it, with so many levels left inside.
+#[cycle(term)]
+fn bracket_at(
+    alloc: Global,
+    text: &[u8],
+    at: usize,
+    square: bool,
+    room: usize,
+) -> Result<(Term, usize), TextFault>
+    requires { at ≤ length text.now }
+    ensures within { IfOk result (λ x. (at ≤ x.1) × (x.1 ≤ length text.now)) }
+    ensures reads { (os : List Open) → length os + room ≡ 127 → Reads text.now at (goes (wants true) (opening square ∷ os)) os result }
+{
+    let mut items = Items::new(alloc);
+    let mut place = past_blanks(text, at);
+    if place < text.len() && closes_byte(square, text[place]) {
+        return Ok((bracket_of(square, items), place + 1));
+    }
+    loop {
+        let (item, end) = match term_at(alloc, text, place, room) {
+            Ok(found) => found,
+            Err(fault) => return Err(fault),
+        };
+        items.push(item)?;
+        let behind = past_blanks(text, end);
+        if behind >= text.len() {
+            return Err(TextFault::Unclosed(behind));
+        }
+        if closes_byte(square, text[behind]) {
+            return Ok((bracket_of(square, items), behind + 1));
+        }
+        if text[behind] != b',' {
+            return Err(TextFault::Unexpected(behind));
+        }
+        place = behind + 1;
+    }
+}
+
+fn bracket_of(square: bool, terms: Items<Term>) -> Term
+    ensures { result ≡ bracket (record { square = square; terms = terms }) }
+{
+    if square {
+        Term::List(terms)
+    } else {
+        Term::Tuple(terms)
+    }
+}

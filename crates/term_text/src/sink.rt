@@ -1,0 +1,69 @@
+//! Where a text goes piece by piece: a string or a writer.
+ghost use Rattle.std.specs.Prelude.{◌≡◌, Option, List, ℕ};
+ghost use Rattle.term_text.specs.Sent.{Sends};
+
+use std::alloc::AllocError;
+use std::io::{Error, Write};
+
+/// Where a text goes piece by piece.
+pub(crate) trait Sink {
+    type Fault: Drop;
+
+    ghost contents: { Self → Option (List ℕ) };
+
+    /// Appends a piece. After a fault a front of it has been appended.
+    fn put(&mut self, piece: &str) -> Result<(), Self::Fault>
+        ensures { Sends (contents self.old) (contents self.new) piece.now result };
+}
+
+/// A string that grows.
+#[derive(Drop)]
+pub(crate) struct Buffer {
+    pub(crate) text: String,
+}
+
+impl Sink for Buffer {
+    ghost use Rattle.std.specs.Prelude.{Some, string_bytes};
+
+    type Fault = AllocError;
+
+    ghost contents = { λ b. Some (string_bytes b.text) };
+
+    fn put(&mut self, piece: &str) -> Result<(), AllocError> {
+        self.text.push_str(piece)
+    }
+}
+
+/// Why a text was not written whole.
+#[derive(Debug, Drop)]
+pub enum WriteFault {
+    /// The writer took no byte.
+    Zero,
+    /// The writer's own error.
+    Io(Error),
+}
+
+impl<W: Write> Sink for W {
+    type Fault = WriteFault;
+
+    ghost contents = { W.contents };
+
+    fn put(&mut self, piece: &str) -> Result<(), WriteFault> {
+        write_bytes(piece.as_bytes(), self)
+    }
+}
+
+/// Writes the bytes. After a fault a front of them has gone out.
+fn write_bytes<W: Write>(bytes: &[u8], out: &mut W) -> Result<(), WriteFault>
+    ensures { Sends (W.contents out.old) (W.contents out.new) bytes.now result }
+{
+    let mut done = 0;
+    while done < bytes.len() {
+        match out.write(&bytes[done..]) {
+            Ok(0) => return Err(WriteFault::Zero),
+            Ok(n) => done += n,
+            Err(error) => return Err(WriteFault::Io(error)),
+        }
+    }
+    Ok(())
+}
