@@ -1,0 +1,6 @@
+pub mod PlainLaws
+pub mod IndexLaws
+pub mod OwnerLaws
+pub mod Entering
+pub mod RunLaws
+pub mod CallLaws

@@ -1,0 +1,17 @@
+//! Each step of a node is a step of the machine in specs/: its reply is one that the machine may give, and a refusal changes nothing.
+#![tactic(auto)]
+
+mod limits;
+mod node;
+mod options;
+mod process;
+mod step;
+mod table;
+mod tables;
+#[cfg(test)]
+mod tests;
+
+pub use limits::Limits;
+pub use node::{Node, RunFault};
+pub use step::{Call, Reply, Step};
+pub use table::Protection;

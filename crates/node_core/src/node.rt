@@ -1,0 +1,175 @@
+ghost use Rattle.std.specs.Prelude.{◌≡◌, ◌≤◌, ℕ, IfOk, IfErr, OnErr, length, take};
+ghost use Rattle.ets_term.specs.Character.{IsAtomText};
+ghost use Rattle.node_core.specs.State.{empty, lives, next_identifier};
+ghost use Rattle.node_core.specs.Table.{resolve};
+ghost use Rattle.node_core.specs.Machine.{step, run, growth_reply};
+ghost use Rattle.node_core.specs.declared.step.Step.TheVariants.{Enrol, End, Ask};
+
+mod calls;
+
+use crate::limits::Limits;
+use crate::process::Process;
+use crate::step::{Call, Reply, Step};
+use crate::tables::Tables;
+use ets_term::{Atom, Items, KeyHash, Term};
+use indexmap::IndexMap;
+use std::alloc::{AllocError, Global};
+use std::marker::Model;
+
+/// Tables and the processes that share them.
+#[derive(Drop)]
+pub struct Node<H: KeyHash + Copy> {
+    alloc: Global,
+    limits: Limits,
+    hash: H,
+    processes: IndexMap<u32, Process>,
+    tables: Tables,
+}
+
+impl<H: KeyHash + Copy> Model for Node<H> {
+    ghost use Rattle.node_core.specs.State.{State};
+    ghost use Rattle.node_core.specs.Codes.{state_code};
+
+    ghost Value = { State };
+
+    ghost coded = { state_code };
+
+    ghost view = { λ n. record { limits = n.limits; processes = n.processes.entries; tables = n.tables } };
+}
+
+/// Memory was refused; these are the replies of the steps done before.
+#[derive(Drop)]
+pub struct RunFault {
+    pub replies: Items<Reply>,
+}
+
+impl<H: KeyHash + Copy> Node<H> {
+    /// A node without processes and tables. It takes no memory.
+    pub fn new(alloc: Global, limits: Limits, hash: H) -> Self
+        ensures { result ≡ empty limits }
+    {
+        Node {
+            alloc,
+            limits,
+            hash,
+            processes: IndexMap::new(alloc),
+            tables: Tables::new(alloc),
+        }
+    }
+
+    /// How many tables were ever made, which is the identifier of the next.
+    pub fn made(&self) -> u32
+        ensures { result ≡ next_identifier self.now }
+    {
+        self.tables.made()
+    }
+
+    /// The identifier of the table that a term names: a table's identifier, or the name of a named one. It takes no memory.
+    pub fn resolve(&self, term: &Term) -> Option<u32>
+        ensures { result ≡ resolve self.now.tables term.now }
+    {
+        self.tables.resolve(term)
+    }
+
+    /// Does one step. Want of memory changes nothing.
+    pub fn step(&mut self, event: &Step) -> Result<Reply, AllocError>
+        ensures ok { IfOk result (λ r. step self.old event.now r self.new) }
+        ensures err { OnErr result (self.new ≡ self.old) }
+    {
+        match event {
+            Step::Enrol(pid) => self.enrol(*pid),
+            Step::End(pid) => self.end(*pid),
+            Step::Ask(pid, call) => self.ask(*pid, call),
+            Step::Grow(id) | Step::Ready(id, _) => self.growth(*id),
+        }
+    }
+
+    /// Does steps in order. Want of memory stops it after the steps whose replies it then hands back.
+    pub fn run(&mut self, steps: &[Step]) -> Result<Vec<Reply>, RunFault>
+        ensures ok { IfOk result (λ replies. run self.old steps.now replies.items self.new) }
+        ensures err { IfErr result (λ f. run self.old (take (length f.replies) steps.now) f.replies self.new) }
+    {
+        let mut replies = Vec::new(self.alloc);
+        if replies.reserve(steps.len()).is_err() {
+            return Err(RunFault::after(replies));
+        }
+        for event in steps {
+            match self.step(event) {
+                Ok(reply) => {
+                    if replies.push(reply).is_err() {
+                        return Err(RunFault::after(replies));
+                    }
+                }
+                Err(_) => return Err(RunFault::after(replies)),
+            }
+        }
+        Ok(replies)
+    }
+
+    fn is_alive(&self, pid: u32) -> bool
+        ensures { result ≡ lives self.now.processes pid }
+    {
+        match self.processes.get(&pid) {
+            Some(process) => process.lives(),
+            None => false,
+        }
+    }
+
+    #[tactic(auto, using(crate::proofs::Entering::entering))]
+    fn enrol(&mut self, pid: u32) -> Result<Reply, AllocError>
+        ensures ok { IfOk result (λ r. step self.old (Enrol pid) r self.new) }
+        ensures err { OnErr result (self.new ≡ self.old) }
+    {
+        if self.processes.contains_key(&pid) {
+            return Ok(Reply::Badarg);
+        }
+        if self.processes.len() >= self.limits.processes as usize {
+            return Ok(Reply::SystemLimit);
+        }
+        self.processes.insert(pid, Process::new())?;
+        Ok(Reply::Value(Term::Pid(pid)))
+    }
+
+    fn end(&mut self, pid: u32) -> Result<Reply, AllocError>
+        ensures ok { IfOk result (λ r. step self.old (End pid) r self.new) }
+        ensures err { OnErr result (self.new ≡ self.old) }
+    {
+        if !self.is_alive(pid) {
+            return Ok(Reply::NoProcess);
+        }
+        let reply = word(self.alloc, b"true")?;
+        if let Some(process) = self.processes.get_mut(&pid) {
+            process.end();
+        }
+        self.tables.remove_owned(pid);
+        Ok(reply)
+    }
+
+    /// Growing and readying: the list of objects has no buckets, so nothing is to be done.
+    fn growth(&self, id: u32) -> Result<Reply, AllocError>
+        ensures { IfOk result (λ r. r ≡ growth_reply self.now id) }
+    {
+        match self.tables.get(id) {
+            Some(_) => word(self.alloc, b"ok"),
+            None => Ok(Reply::Badarg),
+        }
+    }
+}
+
+impl RunFault {
+    fn after(replies: Vec<Reply>) -> RunFault
+        ensures { result.replies ≡ replies.items }
+    {
+        RunFault {
+            replies: Items::from_vec(replies),
+        }
+    }
+}
+
+/// The atom with these characters as a reply.
+fn word(alloc: Global, text: &[u8]) -> Result<Reply, AllocError>
+    requires { IsAtomText text.now }
+    ensures { IfOk result (λ r. r ≡ Reply.Value (Term.Atom text.now)) }
+{
+    Ok(Reply::Value(Term::Atom(Atom::of_bytes(alloc, text)?)))
+}
