@@ -1,0 +1,108 @@
+-- What a line says.
+use Rattle.std.specs.Prelude.{ℕ, zero, suc, ◌+◌, ◌-◌, ◌*◌, ◌==◌, nat_le, ◌&&◌, ◌||◌, Bool, true, false, if◌then◌else◌, List, [], ◌∷◌, ◌++◌, length, take, drop, fold, codes}
+use Rattle.std.specs.List.{prefix_len}
+use Rattle.std.specs.Str.{bytes_eq}
+use Rattle.ets_term.specs.declared.term.Term.{Term}
+use Rattle.ets_script.specs.Classes.{is_blank, is_lower, is_digit, is_word_byte, is_clean, starts, past}
+use Rattle.ets_script.specs.Reads.{Read, read, fault, and_then}
+use Rattle.ets_script.specs.Terms.{term}
+
+-- A line that is not silent has its first fault at an offset, begins or ends the process of a name, asks a call for one
+-- (its name, the call's word and arguments), or names a table that may grow, or that may ready a bucket.
+pub data Command : Type 0 where
+  faulty : ℕ → Command
+  spawn : List ℕ → Command
+  exit : List ℕ → Command
+  ask : List ℕ → List ℕ → List Term → Command
+  grow : Term → Command
+  ready : Term → ℕ → Command
+
+-- one blank or more
+abbrev pub gap : List ℕ → Read (Unit {0})
+gap bs = if starts is_blank bs then read tt (past is_blank bs) else fault (length bs)
+
+-- a name, or the word of a call: a lower-case letter, then letters, digits, `_` and `@`, at most 255 bytes
+abbrev pub word : List ℕ → Read (List ℕ)
+word bs =
+    if starts is_lower bs && nat_le (prefix_len is_word_byte bs) 255
+    then read (take (prefix_len is_word_byte bs) bs) (drop (prefix_len is_word_byte bs) bs)
+    else fault (length bs)
+
+-- the number that digits write
+abbrev pub number : List ℕ → ℕ
+number digits = fold (λ n d. 10 * n + (d - 48)) 0 digits
+
+-- a bucket: digits, of a number below 2^32
+abbrev pub bucket : List ℕ → Read ℕ
+bucket bs =
+    if starts is_digit bs && nat_le (number (take (prefix_len is_digit bs) bs)) 4294967295
+    then read (number (take (prefix_len is_digit bs) bs)) (drop (prefix_len is_digit bs) bs)
+    else fault (length bs)
+
+-- the parenthesis that opens arguments, with blanks before it
+abbrev pub opening : List ℕ → Read (Unit {0})
+opening bs = if starts (λ b. b == 40) (past is_blank bs) then read tt (drop 1 (past is_blank bs)) else fault (length (past is_blank bs))
+
+-- nothing but blanks
+abbrev pub ended : List ℕ → Read (Unit {0})
+ended bs = if length (past is_blank bs) == 0 then read tt [] else fault (length (past is_blank bs))
+
+-- behind an argument: a comma, so that one more must come, or the parenthesis that closes them
+abbrev pub behind : List ℕ → Read Bool
+behind bs =
+    if starts (λ b. b == 44) (past is_blank bs) then read true (drop 1 (past is_blank bs))
+    else if starts (λ b. b == 41) (past is_blank bs) then read false (drop 1 (past is_blank bs))
+    else fault (length (past is_blank bs))
+
+-- arguments behind those before, up to and with the parenthesis that closes them; at most so many as there are bytes,
+-- since each takes one at least
+abbrev pub arguments_from : ℕ → List Term → List ℕ → Read (List Term)
+arguments_from zero terms bs = fault (length bs)
+arguments_from (suc n) terms bs = and_then (term bs) (λ t rest. and_then (behind rest) (λ more after. if more then arguments_from n (terms ++ t ∷ []) after else read (terms ++ t ∷ []) after))
+
+abbrev pub arguments : List ℕ → Read (List Term)
+arguments bs =
+    if starts (λ b. b == 41) (past is_blank bs) then read [] (drop 1 (past is_blank bs))
+    else arguments_from (length (past is_blank bs)) [] (past is_blank bs)
+
+-- `spawn NAME` and `exit NAME`, behind the first word
+abbrev pub named : (List ℕ → Command) → List ℕ → Read Command
+named says bs = and_then (gap bs) (λ _ rest. and_then (word rest) (λ name after. and_then (ended after) (λ _ none. read (says name) none)))
+
+-- `grow T`
+abbrev pub grown : List ℕ → Read Command
+grown bs = and_then (gap bs) (λ _ rest. and_then (term rest) (λ t after. and_then (ended after) (λ _ none. read (grow t) none)))
+
+-- `ready T B`
+abbrev pub readied : List ℕ → Read Command
+readied bs = and_then (gap bs) (λ _ rest. and_then (term rest) (λ t more. and_then (gap more) (λ _ digits. and_then (bucket digits) (λ b after. and_then (ended after) (λ _ none. read (ready t b) none)))))
+
+-- `NAME word(T1,..,Tn)`
+abbrev pub asked : List ℕ → List ℕ → Read Command
+asked name bs = and_then (gap bs) (λ _ rest. and_then (word rest) (λ call more. and_then (opening more) (λ _ inner. and_then (arguments inner) (λ terms after. and_then (ended after) (λ _ none. read (ask name call terms) none)))))
+
+-- a line by its first word
+abbrev pub by_word : List ℕ → List ℕ → Read Command
+by_word name bs =
+    if bytes_eq name (codes "spawn") then named spawn bs
+    else if bytes_eq name (codes "exit") then named exit bs
+    else if bytes_eq name (codes "grow") then grown bs
+    else if bytes_eq name (codes "ready") then readied bs
+    else asked name bs
+
+abbrev pub said : List ℕ → Read Command
+said text = and_then (word (past is_blank text)) by_word
+
+-- A line that is clean up to some byte says what its clean bytes say, if these are all. Else it has its fault where they
+-- have theirs, or at that byte, where they end too early or would make a whole line.
+abbrev pub up_to : ℕ → ℕ → Read Command → Command
+up_to clean whole (read c rest) = if clean == whole then c else faulty clean
+up_to clean whole (fault left) = faulty (clean - left)
+
+-- a blank line, or a comment
+abbrev pub is_silent : List ℕ → Bool
+is_silent line = (length (past is_blank line) == 0) || starts (λ b. b == 37) (past is_blank line)
+
+-- what a line says that is not silent
+abbrev pub command : List ℕ → Command
+command line = up_to (prefix_len is_clean line) (length line) (said (take (prefix_len is_clean line) line))

@@ -1,0 +1,24 @@
+-- How the bytes of a script are cut into lines.
+use Rattle.std.specs.Prelude.{◌≡◌, ◌≢◌, ℕ, ◌≤◌, ◌<◌, ◌⊎◌, List, [], ◌∷◌, ◌++◌, length, All}
+use Rattle.std.specs.Io.BufRead.{strip_last}
+
+-- no byte is an LF
+abbrev pub IsOneLine : List ℕ → Type 0
+IsOneLine bytes = All (λ b. b ≢ 10) bytes
+
+-- a line: its text, or that it is too long to be looked at
+pub data Line : Type 0 where
+  text : List ℕ → Line
+  too_long : Line
+
+-- Bytes without an LF, and the bytes of a line that has them before its LF, or that ends with the input and has at
+-- least one.
+abbrev pub Ends : List ℕ → List ℕ → Type 0 → Type 0
+Ends before bytes last = (bytes ≡ before ++ 10 ∷ []) ⊎ ((bytes ≡ before) × (0 < length before) × last)
+
+-- These bytes are one line, `last` where nothing follows them. Past 65,536 bytes before the LF it is too long, a CR
+-- counted. One CR before the LF is no part of the text; where no LF follows it, it is.
+abbrev pub IsLine : List ℕ → Line → Type 0 → Type 0
+IsLine bytes (text t) last = (before : List ℕ) × IsOneLine before × (length before ≤ 65536)
+    × (((bytes ≡ before ++ 10 ∷ []) × (t ≡ strip_last 13 before)) ⊎ ((bytes ≡ before) × (0 < length before) × last × (t ≡ before)))
+IsLine bytes too_long last = (before : List ℕ) × IsOneLine before × (65536 < length before) × Ends before bytes last

@@ -1,0 +1,69 @@
+//! What a line is answered, and how that is printed.
+ghost use Rattle.std.specs.Prelude.{◌≡◌, ◌∷◌, [], ◌++◌, OnOk, OnErr, codes};
+ghost use Rattle.ets_script.specs.Answers.{printed, reply_text};
+ghost use Rattle.ets_script.specs.Output.{Sends, Breaks};
+
+use crate::output::{Pending, WriteFault};
+use itoa::Buffer;
+use node_core::Reply;
+use std::io::Write;
+
+/// What a line is answered.
+#[derive(Drop)]
+pub enum Answer {
+    /// Nothing is printed.
+    Silent,
+    /// A reply of the node, or one that the script itself gives in the node's words.
+    Replied(Reply),
+    /// There was no memory, and nothing has changed.
+    NoMemory,
+    /// The line is no command; the offset of its first fault.
+    Syntax(usize),
+    TooLong,
+}
+
+impl Answer {
+    /// Prints the answer on a line of its own, behind what waits.
+    pub fn print<W: Write>(&self, pending: &mut Pending, writer: &mut W) -> Result<(), WriteFault>
+        ensures ok { OnOk result (Sends (W.contents writer.old) (W.contents writer.new) (pending.old ++ printed self.now) pending.new) }
+        ensures err { OnErr result (Breaks (W.contents writer.old) (W.contents writer.new) (pending.old ++ printed self.now)) }
+    {
+        match self {
+            Answer::Silent => Ok(()),
+            Answer::Replied(reply) => print_reply(reply, pending, writer),
+            Answer::NoMemory => pending.add(writer, b"** nomem\n"),
+            Answer::Syntax(at) => print_syntax(*at, pending, writer),
+            Answer::TooLong => pending.add(writer, b"** line too long\n"),
+        }
+    }
+}
+
+fn print_reply<W: Write>(
+    reply: &Reply,
+    pending: &mut Pending,
+    writer: &mut W,
+) -> Result<(), WriteFault>
+    ensures ok { OnOk result (Sends (W.contents writer.old) (W.contents writer.new) (pending.old ++ (reply_text reply.now ++ 10 ∷ [])) pending.new) }
+    ensures err { OnErr result (Breaks (W.contents writer.old) (W.contents writer.new) (pending.old ++ (reply_text reply.now ++ 10 ∷ []))) }
+{
+    match reply {
+        Reply::Value(term) => pending.add_term(writer, term),
+        Reply::Badarg => pending.add(writer, b"** badarg\n"),
+        Reply::SystemLimit => pending.add(writer, b"** system_limit\n"),
+        Reply::NoProcess => pending.add(writer, b"** noproc\n"),
+    }
+}
+
+fn print_syntax<W: Write>(
+    at: usize,
+    pending: &mut Pending,
+    writer: &mut W,
+) -> Result<(), WriteFault>
+    ensures ok { OnOk result (Sends (W.contents writer.old) (W.contents writer.new) (pending.old ++ printed (Answer.Syntax at)) pending.new) }
+    ensures err { OnErr result (Breaks (W.contents writer.old) (W.contents writer.new) (pending.old ++ printed (Answer.Syntax at))) }
+{
+    let mut digits = Buffer::new();
+    pending.add(writer, b"** syntax ")?;
+    pending.add(writer, digits.format(at).as_bytes())?;
+    pending.add(writer, b"\n")
+}

@@ -1,0 +1,169 @@
+//! A script: the names that it spawned, and its node.
+ghost use Rattle.std.specs.Prelude.{◌≡◌, ◌≤◌, ◌<◌, ◌++◌, ◌+◌, ◌⊎◌, [], false, length, map, vec_items, IfSome, MatchOption};
+ghost use Rattle.node_core.specs.State.{empty};
+ghost use Rattle.node_core.specs.declared.step.Step.TheVariants.{End, Ask};
+ghost use Rattle.ets_script.specs.Lines.{text};
+ghost use Rattle.ets_script.specs.declared.answer.Answer.TheVariants.{NoMemory};
+ghost use Rattle.ets_script.specs.Says.{said_by};
+ghost use Rattle.ets_script.specs.Script.{Scripted, pid_of, table_of, Stays, Steps, StepsOf, Spawns, Enrols, Obeys, Answers, at_start};
+ghost use Rattle.std.specs.Str.{bytes_eq};
+ghost use Rattle.indexmap.specs.IndexSet.{spare, contains_by, index_set_len};
+
+use crate::answer::Answer;
+use crate::command::{Command, is_silent, read_command};
+use ets_term::{KeyHash, Term};
+use indexmap::IndexSet;
+use node_core::{Call, Limits, Node, Reply, Step};
+use std::alloc::{AllocError, Global};
+use std::marker::Model;
+
+/// The names that were spawned, in order, and the node.
+#[derive(Drop)]
+pub struct Script<H: KeyHash + Copy> {
+    names: IndexSet<Vec<u8>>,
+    node: Node<H>,
+}
+
+impl<H: KeyHash + Copy> Model for Script<H> {
+    ghost use Rattle.std.specs.Prelude.{◌≤◌, map, vec_items};
+    ghost use Rattle.indexmap.specs.IndexSet.{index_set_len};
+    ghost use Rattle.ets_script.specs.Script.{Scripted};
+    ghost use Rattle.ets_script.specs.Codes.{scripted_code};
+
+    ghost Value = { Scripted };
+
+    ghost coded = { scripted_code };
+
+    ghost view = { λ s. record { names = map vec_items s.names.keys; node = s.node } };
+
+    ghost invariant = { λ s. index_set_len s.names ≤ 4294967296 };
+}
+
+impl<H: KeyHash + Copy> Script<H> {
+    /// No name, and a node without processes and tables.
+    pub fn new(alloc: Global, limits: Limits, hash: H) -> Script<H>
+        ensures { result ≡ at_start (empty limits) }
+    {
+        Script {
+            names: IndexSet::new(alloc),
+            node: Node::new(alloc, limits, hash),
+        }
+    }
+
+    pub fn into_node(self) -> Node<H>
+        ensures { result ≡ self.node }
+    {
+        self.node
+    }
+
+    /// Does what a line says.
+    pub fn answer(&mut self, alloc: Global, line: &[u8]) -> Answer
+        ensures { Answers self.old (text line.now) result self.new }
+    {
+        if is_silent(line) {
+            return Answer::Silent;
+        }
+        match read_command(alloc, line) {
+            Ok(command) => self.obey(alloc, command),
+            Err(_) => Answer::NoMemory,
+        }
+    }
+
+    // Does what a command says.
+    fn obey(&mut self, alloc: Global, command: Command<'_>) -> Answer
+        ensures { Obeys (said_by command.entry) self.old result self.new ⊎ Stays self.old NoMemory result self.new }
+    {
+        match command {
+            Command::Faulty(at) => Answer::Syntax(at),
+            Command::Spawn(name) => self.spawn(alloc, name),
+            Command::Exit(name) => match self.pid(name) {
+                Some(pid) => self.step(&Step::End(pid)),
+                None => Answer::Replied(Reply::NoProcess),
+            },
+            Command::Ask(name, word, terms) => match self.pid(name) {
+                Some(pid) => self.step(&Step::Ask(pid, Call::new(word, terms.into_vec()))),
+                None => Answer::Replied(Reply::NoProcess),
+            },
+            Command::Grow(table) => {
+                let table = self.table(&table);
+                self.step(&Step::Grow(table))
+            }
+            Command::Ready(table, bucket) => {
+                let table = self.table(&table);
+                self.step(&Step::Ready(table, bucket))
+            }
+        }
+    }
+
+    // The process that a name stands for.
+    fn pid(&self, name: &[u8]) -> Option<u32>
+        ensures { result ≡ pid_of self.now name.now }
+    {
+        match self.names.get_index_of(name) {
+            Some(place) => Some(place as u32),
+            None => None,
+        }
+    }
+
+    // The table that a term names; else the next identifier.
+    fn table(&self, term: &Term) -> u32
+        ensures { result ≡ table_of self.now term.now }
+    {
+        match self.node.resolve(term) {
+            Some(table) => table,
+            None => self.node.made(),
+        }
+    }
+
+    // A step of the node.
+    fn step(&mut self, step: &Step) -> Answer
+        ensures { Steps self.old step.now result self.new ⊎ Stays self.old NoMemory result self.new }
+    {
+        match self.node.step(step) {
+            Ok(reply) => Answer::Replied(reply),
+            Err(_) => Answer::NoMemory,
+        }
+    }
+
+    // Enrols the next number for a name. Room for the name is made first.
+    fn spawn(&mut self, alloc: Global, name: &[u8]) -> Answer
+        ensures { Spawns (pid_of self.old name.now) self.old name.now result self.new ⊎ Stays self.old NoMemory result self.new }
+    {
+        match self.names.get_index_of(name) {
+            Some(_) => return Answer::Replied(Reply::Badarg),
+            None => {}
+        }
+        let Ok(number) = u32::try_from(self.names.len()) else {
+            return Answer::NoMemory;
+        };
+        let Ok(name) = Vec::from_slice(alloc, name) else {
+            return Answer::NoMemory;
+        };
+        if self.names.reserve(1).is_err() {
+            return Answer::NoMemory;
+        }
+        enrol(&mut self.names, &mut self.node, number, name)
+    }
+}
+
+// Enrols a number for a new name, for which there is room.
+fn enrol<H: KeyHash + Copy>(
+    names: &mut IndexSet<Vec<u8>>,
+    node: &mut Node<H>,
+    number: u32,
+    name: Vec<u8>,
+) -> Answer
+    requires room { 0 < spare names.old }
+    requires new { contains_by (λ k. bytes_eq name.items k.items) names.old ≡ false }
+    ensures enrolled { Enrols (map vec_items names.old.keys) node.old number name.items result (map vec_items names.new.keys) node.new }
+    ensures len { index_set_len names.new ≤ index_set_len names.old + 1 }
+{
+    match node.step(&Step::Enrol(number)) {
+        Ok(Reply::Value(term)) => {
+            let _ = names.insert(name);
+            Answer::Replied(Reply::Value(term))
+        }
+        Ok(reply) => Answer::Replied(reply),
+        Err(_) => Answer::NoMemory,
+    }
+}

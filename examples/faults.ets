@@ -1,0 +1,17 @@
+% What bad lines answer: the offset of the fault that is noticed first, and nothing changes.
+spawn p
+p new(t,[named_table])
+p insert(t,{a,1)
+p insert(t,{a,1}
+p insert(t,{a,1|2})
+p insert(t,9223372036854775808)
+p lookup t,a)
+P lookup(t,a)
+p lookup(t,a) x
+spawn
+spawn p
+exit nobody
+grow u
+ready t 99
+ready t 4294967296
+p lookup(t,a)

@@ -1,0 +1,4 @@
+spawn p
+p new(t,[named_table])
+p insert(t,{a,1})
+p lookup(t,a)
