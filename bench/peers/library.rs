@@ -1,0 +1,189 @@
+//! Measures the store's crates as a library, each beside the same in straight Rust: library PART COUNT.
+//!
+//! Prints a line for each figure: WHO OPERATION FIGURE, in nanoseconds an operation or in bytes an object.
+mod list;
+mod term;
+
+use std::collections::HashMap;
+use std::hash::{BuildHasherDefault, Hasher};
+use std::hint::black_box;
+use std::sync::Mutex;
+use std::time::Instant;
+use term::{Reader, Term, print};
+
+// The crate ets_bench. Each call does a whole phase, since no value of the store crosses the border; its leading
+// argument, the allocator, has no size.
+unsafe extern "C" {
+    fn ets_bench_read(turns: u64) -> u64;
+    fn ets_bench_print(turns: u64) -> u64;
+    fn ets_bench_list(items: u64, buckets: u64, finds: u64) -> u64;
+}
+
+const TEXT: &str = "{key123,456,[1,2,3],'Hello World'}";
+
+fn show(who: &str, operation: &str, figure: f64) {
+    println!("{who} {operation} {figure:.1}");
+}
+
+/// The least seconds of five runs.
+fn best(mut work: impl FnMut()) -> f64 {
+    let run = |_| {
+        let start = Instant::now();
+        work();
+        start.elapsed().as_secs_f64()
+    };
+    (0..5).map(run).fold(f64::INFINITY, f64::min)
+}
+
+/// Each number below `count` once, in an order that jumps about: another one for each seed. The store has the same.
+pub fn shuffled(count: u64, seed: u64) -> impl Iterator<Item = u64> {
+    let mask = count.next_power_of_two() - 1;
+    let mix = move |i: u64| {
+        let a = (i.wrapping_mul(0x9E37_79B1) ^ seed) & mask;
+        let b = (a ^ (a >> 7)).wrapping_mul(0x85EB_CA6B) & mask;
+        b ^ (b >> 9)
+    };
+    (0..=mask).map(mix).filter(move |x| *x < count)
+}
+
+fn text(count: u64) {
+    let each = 1e9 / count as f64;
+    let ours = best(|| assert_eq!(unsafe { ets_bench_read(count) }, count * TEXT.len() as u64));
+    show("store", "read", ours * each);
+    let theirs = best(|| {
+        for _ in 0..count {
+            let mut reader = Reader { bytes: black_box(TEXT.as_bytes()), at: 0 };
+            drop(black_box(reader.term()));
+            assert_eq!(reader.at, TEXT.len());
+        }
+    });
+    show("Rust", "read", theirs * each);
+    let ours = best(|| assert_eq!(unsafe { ets_bench_print(count) }, count * TEXT.len() as u64));
+    show("store", "print", ours * each);
+    let object = Reader { bytes: TEXT.as_bytes(), at: 0 }.term();
+    let theirs = best(|| {
+        let (mut out, mut all) = (Vec::new(), 0);
+        for _ in 0..count {
+            out.clear();
+            print(black_box(&object), &mut out);
+            all += out.len() as u64;
+        }
+        assert_eq!(all, count * TEXT.len() as u64);
+    });
+    show("Rust", "print", theirs * each);
+}
+
+const BUCKETS: u64 = 262_144;
+
+fn store_list(count: u64) {
+    let each = 1e9 / count as f64;
+    let inserted = best(|| assert_eq!(unsafe { ets_bench_list(count, BUCKETS, 0) }, 0));
+    let found = best(|| assert_eq!(unsafe { ets_bench_list(count, BUCKETS, 1) }, count));
+    show("store", "list-insert", inserted * each);
+    show("store", "list-find", (found - inserted) * each);
+    show("store", "list-bytes", peak() / count as f64);
+}
+
+fn rust_list(count: u64) {
+    let each = 1e9 / count as f64;
+    let inserted = best(|| assert_eq!(list::phase(count, BUCKETS, 0), 0));
+    let found = best(|| assert_eq!(list::phase(count, BUCKETS, 1), count));
+    show("Rust", "list-insert", inserted * each);
+    show("Rust", "list-find", (found - inserted) * each);
+    show("Rust", "list-bytes", peak() / count as f64);
+}
+
+/// The most bytes that this process had in memory.
+fn peak() -> f64 {
+    let status = std::fs::read_to_string("/proc/self/status").unwrap();
+    let line = status.lines().find(|line| line.starts_with("VmHWM")).unwrap();
+    line.split_whitespace().nth(1).unwrap().parse::<f64>().unwrap() * 1024.0
+}
+
+/// FNV-1a over the encoding of an integer.
+#[derive(Default)]
+struct Fnv(u64);
+
+impl Hasher for Fnv {
+    fn finish(&self) -> u64 {
+        self.0
+    }
+
+    fn write(&mut self, bytes: &[u8]) {
+        for byte in bytes {
+            self.0 = (self.0 ^ u64::from(*byte)).wrapping_mul(16_777_619) & 0xFFFF_FFFF;
+        }
+    }
+}
+
+/// A key that is hashed as the store hashes it.
+#[derive(PartialEq, Eq)]
+struct Key(Term);
+
+impl std::hash::Hash for Key {
+    fn hash<H: Hasher>(&self, hasher: &mut H) {
+        if let Term::Int(n) = &self.0 {
+            hasher.write(&2_166_136_261u32.to_be_bytes());
+            hasher.write(&[1]);
+            hasher.write(&n.to_be_bytes());
+        }
+    }
+}
+
+fn mutex_map(count: u64) {
+    type Map = HashMap<Key, Term, BuildHasherDefault<Fnv>>;
+    let map: Mutex<Map> = Mutex::new(HashMap::default());
+    let key = |k: u64| Key(Term::Int(k as i64));
+    let object = |k: u64| Term::Tuple(vec![Term::Int(k as i64), Term::Int(1)]);
+    let phase = |operation: &str, seed: u64, work: &dyn Fn(&mut Map, u64) -> bool| {
+        let start = Instant::now();
+        let done = shuffled(count, seed).filter(|k| work(&mut map.lock().unwrap(), *k)).count() as u64;
+        assert_eq!(done, count);
+        show("Mutex<HashMap>", operation, start.elapsed().as_secs_f64() * 1e9 / count as f64);
+    };
+    phase("insert", 1, &|map, k| map.insert(key(k), object(k)).is_none());
+    show("Mutex<HashMap>", "bytes", peak() / count as f64);
+    phase("hit", 2, &|map, k| map.get(&key(k)).is_some_and(|object| matches!(object, Term::Tuple(row) if row.len() == 2)));
+    phase("miss", 2, &|map, k| !map.contains_key(&key(k + count)));
+    phase("counter", 3, &|map, k| match map.get_mut(&key(k)) {
+        Some(Term::Tuple(row)) => match &mut row[1] {
+            Term::Int(n) => {
+                *n += 1;
+                true
+            }
+            _ => false,
+        },
+        _ => false,
+    });
+    phase("delete", 4, &|map, k| map.remove(&key(k)).is_some());
+}
+
+/// What one dependent miss of the cache costs: a walk along `count` lines in shuffled order.
+fn chase(count: u64) {
+    let order: Vec<u64> = shuffled(count, 5).collect();
+    let mut next = vec![[0u64; 16]; count as usize];
+    for pair in order.windows(2) {
+        next[pair[0] as usize][0] = pair[1];
+    }
+    next[order[order.len() - 1] as usize][0] = order[0];
+    let seconds = best(|| {
+        let mut at = order[0];
+        (0..count).for_each(|_| at = next[at as usize][0]);
+        assert_eq!(black_box(at), order[0]);
+    });
+    show("machine", "miss", seconds * 1e9 / count as f64);
+}
+
+fn main() {
+    let mut words = std::env::args().skip(1);
+    let part = words.next().unwrap_or_default();
+    let count = words.next().and_then(|word| word.parse().ok()).unwrap_or(1_000_000);
+    match part.as_str() {
+        "text" => text(count),
+        "store-list" => store_list(count),
+        "rust-list" => rust_list(count),
+        "mutex-map" => mutex_map(count),
+        "chase" => chase(count),
+        _ => eprintln!("library text|store-list|rust-list|mutex-map|chase [COUNT]"),
+    }
+}

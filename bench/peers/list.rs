@@ -1,0 +1,95 @@
+//! A split-ordered list in straight Rust, laid out as `node_list` is: nodes in one arena, links of half a word.
+use crate::shuffled;
+use crate::term::Term;
+
+const NONE: u32 = u32::MAX;
+
+/// The objects of one key: one of them lies inside.
+#[allow(dead_code)]
+pub enum Chain {
+    One(Term),
+    Many(Vec<Term>),
+}
+
+struct Node {
+    key: u64,
+    next: u32,
+    item: Option<(Term, Chain)>,
+}
+
+pub struct List {
+    nodes: Vec<Node>,
+}
+
+fn fnv(bytes: impl IntoIterator<Item = u8>) -> u32 {
+    bytes.into_iter().fold(2_166_136_261, |hash, byte| (hash ^ u32::from(byte)).wrapping_mul(16_777_619))
+}
+
+/// The hash of an integer: FNV-1a over the byte 1, then its eight bytes.
+fn hash(n: i64) -> u32 {
+    fnv([1].into_iter().chain(n.to_be_bytes()))
+}
+
+impl List {
+    pub fn new() -> List {
+        List { nodes: vec![Node { key: 0, next: NONE, item: None }] }
+    }
+
+    pub fn insert(&mut self, start: u32, key: u64, item: Option<(Term, Chain)>) -> u32 {
+        let mut last = start;
+        loop {
+            let next = self.nodes[last as usize].next;
+            if next == NONE || self.nodes[next as usize].key > key {
+                break;
+            }
+            last = next;
+        }
+        let at = self.nodes.len() as u32;
+        let next = std::mem::replace(&mut self.nodes[last as usize].next, at);
+        self.nodes.push(Node { key, next, item });
+        at
+    }
+
+    pub fn find(&self, start: u32, key: u64, term: &Term) -> Option<u32> {
+        let mut at = start;
+        while at != NONE {
+            let node = &self.nodes[at as usize];
+            if node.key > key {
+                return None;
+            }
+            if node.key == key && node.item.as_ref().is_some_and(|item| item.0 == *term) {
+                return Some(at);
+            }
+            at = node.next;
+        }
+        None
+    }
+}
+
+/// Inserts `items` objects `{K,1}` into `buckets` chains, then finds each where `finds` is not 0, and answers how many it found.
+pub fn phase(items: u64, buckets: u64, finds: u64) -> u64 {
+    let mut list = List::new();
+    list.nodes.reserve((items + buckets) as usize);
+    let mut dummies = vec![0u32];
+    for bucket in 1..buckets as u32 {
+        let parent = bucket - (1 << (31 - bucket.leading_zeros()));
+        dummies.push(list.insert(dummies[parent as usize], 2 * u64::from(bucket.reverse_bits()), None));
+    }
+    let place = |k: u64| {
+        let hash = hash(k as i64);
+        (dummies[(hash as u64 & (buckets - 1)) as usize], 2 * u64::from(hash.reverse_bits()) + 1)
+    };
+    for k in shuffled(items, 1) {
+        let (start, key) = place(k);
+        let object = Term::Tuple(vec![Term::Int(k as i64), Term::Int(1)]);
+        list.insert(start, key, Some((Term::Int(k as i64), Chain::One(object))));
+    }
+    if finds == 0 {
+        return 0;
+    }
+    let found = |k: &u64| {
+        let (start, key) = place(*k);
+        list.find(start, key, &Term::Int(*k as i64)).is_some()
+    };
+    shuffled(items, 2).filter(found).count() as u64
+}

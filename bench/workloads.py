@@ -1,0 +1,128 @@
+"""The script workloads: each a name, what it shows, a probe and its lines, the same at every run."""
+
+from dataclasses import dataclass
+from typing import Callable, Iterator
+
+
+@dataclass(frozen=True)
+class Workload:
+    name: str
+    shows: str
+    lines: Callable[[int], Iterator[str]]
+    size: int
+    quick: int
+    sorted_parts: bool = False  # the answers hold keys in the table's own order
+
+    def script(self, quick: bool) -> str:
+        return "\n".join(self.lines(self.quick if quick else self.size)) + "\n"
+
+    def probe(self) -> str:
+        """The same lines in small: a store that answers them has the calls of this workload."""
+        return "\n".join(self.lines(8)) + "\n"
+
+
+def shuffled(count: int) -> Iterator[int]:
+    """The numbers below count, each once, in an order that jumps about."""
+    step = next(s for s in range(count * 2 // 3 | 1, count * 3, 2) if _coprime(s, count))
+    return ((i * step) % count for i in range(count))
+
+
+def _coprime(a: int, b: int) -> bool:
+    while b:
+        a, b = b, a % b
+    return a == 1
+
+
+def table(options: str = "") -> list[str]:
+    return ["spawn p", f"p new(t,[named_table{options}])"]
+
+
+def one_key(count: int) -> Iterator[str]:
+    yield from table()
+    for i in range(count // 2):
+        yield f"p insert(t,{{a,{i}}})"
+        yield "p lookup(t,a)"
+
+
+def many_keys(count: int) -> Iterator[str]:
+    yield from table()
+    for i in shuffled(count // 2):
+        yield f"p insert(t,{{{i},{i * 7}}})"
+        yield f"p lookup(t,{i})"
+
+
+def nested(count: int) -> Iterator[str]:
+    yield from table()
+    for i in range(count // 2):
+        yield f"p insert(t,{{k{i % 500},{{'Hello World',[{i},{{x,'it\\'s',{{{i},y}}}}]}},[a,b,c]}})"
+        yield f"p lookup(t,k{i * 31 % 500})" if i >= 500 else "p lookup(t,none)"
+
+
+def counters(count: int) -> Iterator[str]:
+    yield from table()
+    for i in range(100):
+        yield f"p insert(t,{{{i},0}})"
+    for i in range(count):
+        yield f"p update_counter(t,{i % 100},{i % 7})"
+
+
+def select(count: int) -> Iterator[str]:
+    yield from table()
+    objects = min(count * 10, 10_000)
+    for i in shuffled(objects):
+        yield f"p insert(t,{{{i},{i * 3}}})"
+    for i in range(count):
+        yield f"p select(t,[{{{{{i % objects},'$1'}},[],['$1']}}])"
+        if i % 50 == 0:
+            yield f"p select(t,[{{{{'_','$1'}},[{{'>','$1',{objects * 3 - 30}}}],['$1']}}])"
+
+
+def bags(count: int) -> Iterator[str]:
+    yield from table(",bag")
+    for i in range(count):
+        yield f"p insert(t,{{k{i // 100},{i}}})"
+        if i % 100 == 99:
+            yield f"p lookup(t,k{i // 100})"
+
+
+def heirs(count: int) -> Iterator[str]:
+    """Processes with a table each, that goes to the first process as they end, or away with them."""
+    yield "spawn p"
+    for i in range(1, count + 1):
+        heir = ",{heir,<0.0.0>,g}" if i % 2 else ""
+        yield f"spawn p{i}"
+        yield f"p{i} new(t{i},[named_table,public{heir}])"
+        yield f"p{i} insert(t{i},{{a,{i}}})"
+    for i in range(1, count + 1):
+        yield f"exit p{i}"
+    yield "p receive()"
+    for i in range(1, count + 1, 2):
+        yield f"p lookup(t{i},a)"
+
+
+def walk(count: int) -> Iterator[str]:
+    """A fixed table whose keys are asked for one by one, each then deleted and inserted again.
+
+    So each key but the first is answered once by `next`, in whatever order a table has."""
+    yield from table()
+    for i in shuffled(count):
+        yield f"p insert(t,{{{i},0}})"
+    yield "p safe_fixtable(t,true)"
+    yield "p first(t)"
+    for i in range(count):
+        yield f"p next(t,{i})"
+        yield f"p delete(t,{i})"
+        yield f"p insert(t,{{{i},1}})"
+    yield "p safe_fixtable(t,false)"
+
+
+WORKLOADS = [
+    Workload("one key", "insert and lookup in turn, one key", one_key, 200_000, 200_000),
+    Workload("many keys", "insert and lookup in turn, 100,000 keys", many_keys, 200_000, 10_000),
+    Workload("nested terms", "objects with nested tuples and quoted atoms, 500 keys", nested, 100_000, 20_000),
+    Workload("counters", "update_counter over 100 keys", counters, 200_000, 50_000),
+    Workload("select", "select with a bound key, and each 50th unbound, over 10,000 objects", select, 20_000, 1_000, True),
+    Workload("bags", "100 objects a key in a bag", bags, 50_000, 10_000),
+    Workload("heirs", "processes with a table each, heirs and exits", heirs, 2_000, 500),
+    Workload("fixed walk", "next over a fixed table, with deletes and inserts between", walk, 20_000, 2_000, True),
+]
