@@ -1,7 +1,8 @@
 -- How deep a term is, and the elements of a tuple.
-use Rattle.std.specs.Prelude.{ℕ, ◌+◌, ◌-◌, ◌==◌, if◌then◌else◌, max, List, [], ◌∷◌, Option, None, slice_get}
+use Rattle.std.specs.Prelude.{ℕ, Bool, nat_lt, ◌+◌, ◌-◌, ◌==◌, if◌then◌else◌, max, List, [], ◌∷◌, Option, None, slice_get}
 use Rattle.ets_term.specs.declared.term.Term.{Term, fold-Term, out-Term}
 use Rattle.ets_term.specs.declared.term.Term.TheOpen.{Term-F}
+use Rattle.ets_term.specs.declared.term.TheConstants.{MAX_DEPTH}
 
 -- the largest of some numbers, 0 of none
 abbrev pub largest : List ℕ → ℕ
@@ -16,6 +17,10 @@ depth_step _ = 1
 
 abbrev pub depth : Term → ℕ
 depth = fold-Term ℕ depth_step
+
+-- whether a term is deeper than an argument or a stored object may be
+abbrev pub is_too_deep : Term → Bool
+is_too_deep term = nat_lt MAX_DEPTH (depth term)
 
 -- the elements of a tuple; any other term has none
 abbrev pub elements_step : Term-F Term → List Term

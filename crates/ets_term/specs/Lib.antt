@@ -1,3 +1,4 @@
+pub mod Atoms
 pub mod Character
 pub mod Data
 pub mod Depth
@@ -5,7 +6,7 @@ pub mod Encoding
 pub mod Fits
 pub mod Integers
 pub mod Order
-pub mod Stored
 pub mod Writes
 pub mod formers
+pub mod inside
 pub mod laws

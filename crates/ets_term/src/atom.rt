@@ -15,7 +15,7 @@ pub struct Atom {
 impl Model for Atom {
     ghost use Rattle.std.specs.Prelude.{List, ℕ};
     ghost use Rattle.ets_term.specs.Character.{IsAtomText};
-    ghost use Rattle.ets_term.specs.Stored.{characters, EndsInPlace};
+    ghost use Rattle.ets_term.specs.inside.Stored.{characters, EndsInPlace};
 
     ghost Value = { List ℕ };
 

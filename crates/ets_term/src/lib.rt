@@ -21,4 +21,4 @@ pub use atom::{Atom, AtomFault};
 pub use fnv::Fnv;
 pub use items::Items;
 pub use key_hash::{AllSame, KeyHash};
-pub use term::{Integer, Term};
+pub use term::{Integer, MAX_DEPTH, Term};

@@ -1,7 +1,7 @@
 // The characters of an atom: up to 22 in place, more in memory of their own.
 ghost use Rattle.std.specs.Prelude.{◌≡◌, ◌≤◌, length, IfOk, IsOk};
 ghost use Rattle.std.specs.Str.{IsUtf8};
-ghost use Rattle.ets_term.specs.Stored.{characters, EndsInPlace};
+ghost use Rattle.ets_term.specs.inside.Stored.{characters, EndsInPlace};
 
 use std::alloc::{AllocError, Global};
 

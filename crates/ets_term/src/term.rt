@@ -1,5 +1,6 @@
 ghost use Rattle.std.specs.Prelude.{◌≡◌, IfOk, min, map, option_copied};
-ghost use Rattle.ets_term.specs.Depth.{depth, largest, element_at};
+ghost use Rattle.ets_term.specs.Atoms.{is_atom};
+ghost use Rattle.ets_term.specs.Depth.{depth, is_too_deep, largest, element_at};
 
 use crate::atom::Atom;
 use crate::items::Items;
@@ -7,6 +8,9 @@ use std::alloc::{AllocError, Global};
 
 /// The integers of terms: 64 bits, from -2^63 to 2^63-1.
 pub type Integer = i64;
+
+/// The greatest depth of an argument and of a stored object.
+pub const MAX_DEPTH: usize = 128;
 
 /// A term of Erlang (Erlang Reference Manual, Data Types), one of seven kinds. Two terms are equal when they are built
 /// alike.
@@ -51,6 +55,23 @@ impl Term {
         ensures { result ≡ min (depth self.now) usize.MAX }
     {
         depth_of(self)
+    }
+
+    /// Whether the term is deeper than `MAX_DEPTH`.
+    pub fn is_too_deep(&self) -> bool
+        ensures { result ≡ is_too_deep self.now }
+    {
+        self.depth() > MAX_DEPTH
+    }
+
+    /// Whether the term is the atom with this text.
+    pub fn is_atom(&self, text: &str) -> bool
+        ensures { result ≡ is_atom text.now self.now }
+    {
+        match self {
+            Term::Atom(atom) => atom.text() == text,
+            _ => false,
+        }
     }
 
     /// Element n of a tuple, counted from 1; None where the term is no tuple or has no such element.

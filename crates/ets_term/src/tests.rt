@@ -1,5 +1,5 @@
 // Values from outside: the order across kinds, the bounds of atoms, and each public call on its happy path.
-use crate::{AllSame, Atom, AtomFault, Fnv, Items, KeyHash, Term};
+use crate::{AllSame, Atom, AtomFault, Fnv, Items, KeyHash, MAX_DEPTH, Term};
 use std::alloc::Global;
 use std::hash::{DefaultHasher, Hash, Hasher};
 use std::mem::size_of;
@@ -126,6 +126,41 @@ fn depths_and_copies(rt: HostRuntime) -> Result<(), Fail> {
     parts.push(Term::default())?;
     parts.push(pair)?;
     is_of_depth(&rt, alloc, &Term::List(parts), 3)
+}
+
+// A list within a list, so many levels deep.
+fn nested(alloc: Global, levels: usize) -> Result<Term, Fail> {
+    let mut term = Term::List(Items::new(alloc));
+    for _ in 1..levels {
+        let mut outer = Items::new(alloc);
+        outer.push(term)?;
+        term = Term::List(outer);
+    }
+    Ok(term)
+}
+
+#[test]
+fn deep_and_long_terms_are_copied(rt: HostRuntime) -> Result<(), Fail> {
+    let alloc = rt.alloc();
+    for levels in [4, 9, 17, 33, 65, 128, 129, 2000] {
+        let term = nested(alloc, levels)?;
+        is_of_depth(&rt, alloc, &term, levels)?;
+        assert_eq!(rt; term.is_too_deep(), levels > MAX_DEPTH);
+    }
+    let mut long = Items::new(alloc);
+    for n in 0..70_000 {
+        long.push(Term::Int(n))?;
+    }
+    is_of_depth(&rt, alloc, &Term::Tuple(long), 2)
+}
+
+#[test]
+fn an_atom_has_its_text_alone(rt: HostRuntime) -> Result<(), Fail> {
+    let alloc = rt.alloc();
+    assert!(rt; atom(alloc, "ab")?.is_atom("ab"));
+    assert!(rt; !atom(alloc, "ab")?.is_atom("a"));
+    assert!(rt; !tuple(alloc, "a")?.is_atom("a"));
+    Ok(())
 }
 
 #[test]

@@ -10,7 +10,7 @@ use Rattle.ets_term.specs.Data.{Data, int, atom, pid, tid, tuple, list, binary, 
 
 -- the term that a tree is of
 abbrev mutual
-  term_of : Data → Term
+  pub term_of : Data → Term
   term_of (int n) = Int n
   term_of (atom a) = Atom a
   term_of (pid n) = Pid n
@@ -19,7 +19,7 @@ abbrev mutual
   term_of (list ds) = Lst (terms_of ds)
   term_of (binary s) = Binary s
 
-  terms_of : Row → List Term
+  pub terms_of : Row → List Term
   terms_of no_terms = []
   terms_of (term d ds) = term_of d ∷ terms_of ds
 

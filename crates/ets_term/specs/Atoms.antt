@@ -1,0 +1,21 @@
+-- Atoms among terms.
+use Rattle.std.specs.Prelude.{ℕ, Bool, false, List, Option, Some, None}
+use Rattle.std.specs.Str.{bytes_eq}
+use Rattle.ets_term.specs.declared.term.Term.{Term, out-Term}
+use Rattle.ets_term.specs.declared.term.Term.TheOpen.{Term-F}
+
+abbrev pub text_form : Term-F Term → Option (List ℕ)
+text_form (Term-F.Atom text) = Some text
+text_form _ = None
+
+-- the text of an atom; no other term has one
+abbrev pub text_of : Term → Option (List ℕ)
+text_of term = text_form (out-Term term)
+
+abbrev pub is_atom_form : List ℕ → Term-F Term → Bool
+is_atom_form text (Term-F.Atom own) = bytes_eq own text
+is_atom_form text _ = false
+
+-- whether a term is the atom with this text
+abbrev pub is_atom : List ℕ → Term → Bool
+is_atom text term = is_atom_form text (out-Term term)
