@@ -1,0 +1,13 @@
+"""Stands in for ets_script: answers the lines of a script as recorded beside it, and only these, in their order."""
+
+import pathlib
+import sys
+
+script = pathlib.Path(sys.argv[1])
+lines = [line for line in script.read_text().splitlines() if line and not line.startswith("%")]
+answers = script.with_name(script.name + ".stdout").read_text().splitlines()
+for line, answer in zip(lines, answers, strict=True):
+    asked = sys.stdin.readline().rstrip("\n")
+    if asked != line:
+        sys.exit(f"asked {asked!r}, recorded {line!r}")
+    print(answer, flush=True)
