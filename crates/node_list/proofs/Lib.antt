@@ -1,3 +1,4 @@
+pub mod SlotLaws
 pub mod WalkLaws
 pub mod TickLaws
 pub mod CellLaws

@@ -1,10 +1,12 @@
--- What a lent chain leaves behind, in a node.
+-- What a lent chain leaves behind, in a slot and in an item.
 use Rattle.std.specs.Prelude.{List, Option, Some, None}
 use Rattle.std.specs.Borrow.{Lends, MutBor, Fml}
 use Rattle.ets_term.specs.declared.term.Term.{Term}
 use Rattle.node_list.specs.declared.node.Item.{Item}
 use Rattle.node_list.specs.declared.node.Node.{Node}
-use Rattle.node_list.specs.contracts.node.Node.{the_row}
+use Rattle.node_list.specs.declared.slot.Slot.{Slot}
+use Rattle.node_list.specs.declared.slot.Slot.TheVariants.{Dummy, Full}
+use Rattle.node_list.specs.contracts.slot.Slot.{the_row}
 use Rattle.node_list.specs.contracts.chain.Chain as chain
 
 -- the item with this chain
@@ -15,5 +17,10 @@ item_with (Some item) w = Some (record item { chain = w })
 abbrev pub node_with : Node → List Term → Node
 node_with n w = record n { item = item_with n.item w }
 
-abbrev pub LendsChain : MutBor Node → MutBor (List Term) → Fml
-LendsChain s r = Lends the_row chain.the_row s r (node_with s.now)
+-- the slot with this chain in its item
+abbrev pub slot_with : Slot → List Term → Slot
+slot_with Dummy w = Dummy
+slot_with (Full item) w = Full (record item { chain = w })
+
+abbrev pub LendsSlotChain : MutBor Slot → MutBor (List Term) → Fml
+LendsSlotChain s r = Lends the_row chain.the_row s r (slot_with s.now)

@@ -6,5 +6,8 @@ pub mod Listed
 pub mod ListLending
 pub mod Places
 pub mod Search
+pub mod Seen
+pub mod SlotLending
+pub mod Slots
 pub mod Ticks
 pub mod Walks

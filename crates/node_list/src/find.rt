@@ -24,13 +24,13 @@ pub fn find_from(
     let mut at = Some(start);
     while let Some(place) = at {
         let node = nodes.read(place, steps);
-        if key < node.key {
+        if key < node.front.key {
             return None;
         }
-        if node.key == key && node.holds(term) {
+        if node.front.key == key && node.slot.holds(term) {
             return Some(place);
         }
-        at = node.next.get();
+        at = node.front.next.get();
     }
     None
 }

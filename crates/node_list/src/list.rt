@@ -6,11 +6,11 @@ use crate::find::find_from;
 use crate::insert::insert_from;
 use crate::link::Link;
 use crate::node::{Item, Node};
+use crate::nodes::Nodes;
 use crate::reader::Reader;
 use crate::steps::Steps;
 use crate::unlink::unlink_from;
 use ets_term::Term;
-use slab::Slab;
 use std::alloc::{AllocError, Global};
 use std::marker::Model;
 
@@ -27,7 +27,7 @@ const HEAD: At = 0;
 /// nodes fit with no allocation.
 #[derive(Drop)]
 pub struct NodeList {
-    nodes: Slab<Node>,
+    nodes: Nodes,
 }
 
 impl Model for NodeList {
@@ -58,12 +58,13 @@ impl NodeList {
     pub fn new(alloc: Global) -> Result<NodeList, AllocError>
         ensures { IfOk result (λ l. l.cells ≡ new_cell 0 0 None ∷ []) }
     {
-        let mut nodes = Slab::new(alloc);
-        nodes.insert(Node {
+        let mut nodes = Nodes::new(alloc);
+        nodes.reserve(1)?;
+        nodes.insert_reserved(Node {
             key: 0,
             next: Link::none(),
             item: None,
-        })?;
+        });
         Ok(NodeList { nodes })
     }
 
@@ -74,7 +75,7 @@ impl NodeList {
         ensures sorted { Sorted self.now.cells }
         ensures apart { AreApart self.now.cells }
     {
-        prove!(self.nodes.contains(HEAD));
+        let _nodes = &self.nodes;
         HEAD
     }
 
@@ -146,7 +147,7 @@ impl NodeList {
         requires { Stands at self.now.cells }
         ensures { result ≡ place_after at self.now.cells }
     {
-        self.nodes[at].next.get()
+        self.nodes.front(at).next.get()
     }
 
     /// The term and the chain of an item, or `None` for a dummy.
@@ -154,7 +155,7 @@ impl NodeList {
         requires { Stands at self.now.cells }
         ensures { MatchOption result (item_at at self.now.cells ≡ None) (λ found. item_at at self.now.cells ≡ Some (new_item found.0.now found.1.now)) }
     {
-        match &self.nodes[at].item {
+        match self.nodes.see(at).slot.item() {
             Some(item) => Some((&item.term, &item.chain)),
             None => None,
         }
@@ -166,6 +167,6 @@ impl NodeList {
         ensures* lends { sem 𝓛 (LendsChainAt at self.entry result) }
         ensures value { option_map (λ item. item.chain) (item_at at self.old.cells) ≡ Some result.now }
     {
-        self.nodes[at].chain_mut()
+        self.nodes.chain_mut(at)
     }
 }
