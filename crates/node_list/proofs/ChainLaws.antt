@@ -7,10 +7,9 @@ use Rattle.slab.proofs.SlabLemmas.{Updates-with_value}
 use Rattle.ets_term.specs.declared.term.Term.{Term}
 use Rattle.node_list.specs.declared.node.Node.{Node}
 use Rattle.node_list.specs.Cells.{Cell, Sorted, StartsFrom, StartsWithDummy}
-use Rattle.node_list.specs.Walks.{Links, rest, node_of, IsList}
-use Rattle.node_list.specs.Lending.{item_with, node_with}
-use Rattle.node_list.specs.SlotLending.{nodes_with}
-use Rattle.node_list.specs.ListLending.{cells_with}
+use Rattle.node_list.specs.inside.Walks.{Links, rest, node_of, IsList}
+use Rattle.node_list.specs.inside.NodeLending.{node_with, nodes_with}
+use Rattle.node_list.specs.Changes.{item_with, cells_with}
 use Rattle.node_list.proofs.WalkLaws.{walk-is, walk-length}
 use Rattle.node_list.proofs.PlaceLaws.{with_value-len}
 

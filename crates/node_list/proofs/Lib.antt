@@ -1,3 +1,4 @@
+pub mod KeptLaws
 pub mod SlotLaws
 pub mod WalkLaws
 pub mod TickLaws

@@ -11,8 +11,9 @@ use Rattle.node_list.specs.declared.node.Node.{Node}
 use Rattle.node_list.specs.declared.front.Front.{Front}
 use Rattle.node_list.specs.declared.slot.Slot.{Slot}
 use Rattle.node_list.specs.declared.slot.Slot.TheVariants.{Dummy, Full}
-use Rattle.node_list.specs.Slots.{slot_of, item_in, whole, node_in, nodes_of, AreNodes}
-use Rattle.node_list.specs.Lending.{node_with, slot_with}
+use Rattle.node_list.specs.inside.Slots.{slot_of, item_in, whole, node_in, nodes_of, AreNodes}
+use Rattle.node_list.specs.inside.NodeLending.{node_with}
+use Rattle.node_list.specs.inside.SlotLending.{slot_with}
 
 pub get-nodes : (os : List (Option Front)) (ss : List Slot) (k : ℕ) → get_or (nodes_of os ss) k None ≡ node_in (get_or os k None) (get_or ss k Dummy)
 get-nodes [] ss k = refl

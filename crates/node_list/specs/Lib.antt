@@ -1,13 +1,10 @@
 pub mod Cells
+pub mod Chains
 pub mod Changes
 pub mod Lending
-pub mod Links
 pub mod Listed
-pub mod ListLending
 pub mod Places
 pub mod Search
-pub mod Seen
-pub mod SlotLending
-pub mod Slots
 pub mod Ticks
-pub mod Walks
+pub mod inside
+pub mod laws

@@ -2,7 +2,7 @@ ghost use Rattle.std.specs.Prelude.{◌≡◌, Some, length};
 ghost use Rattle.node_list.specs.Cells.{Sorted};
 ghost use Rattle.node_list.specs.Search.{place_of, passed};
 ghost use Rattle.node_list.specs.Ticks.{ticks};
-ghost use Rattle.node_list.specs.Walks.{rest, Linked};
+ghost use Rattle.node_list.specs.inside.Walks.{rest, Linked};
 
 use crate::reader::Reader;
 use crate::steps::Steps;

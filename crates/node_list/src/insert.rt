@@ -1,9 +1,9 @@
-ghost use Rattle.std.specs.Prelude.{◌≡◌, ◌+◌, Some};
+ghost use Rattle.std.specs.Prelude.{◌≡◌, ◌+◌, ◌-◌, ◌^◌, ◌<◌, Some};
 ghost use Rattle.slab.specs.Slab.{get, slab_len, HasRoomFor};
 ghost use Rattle.node_list.specs.Cells.{Sorted, new_cell};
 ghost use Rattle.node_list.specs.Places.{StandsUpTo, IsFresh};
 ghost use Rattle.node_list.specs.Changes.{put_cell};
-ghost use Rattle.node_list.specs.Walks.{rest, Linked, IsKeyUpTo, last_up_to_in};
+ghost use Rattle.node_list.specs.inside.Walks.{rest, Linked, IsKeyUpTo, last_up_to_in};
 
 use crate::link::Link;
 use crate::node::{Item, Node};
@@ -33,6 +33,7 @@ pub fn insert_from(nodes: &mut Nodes, start: usize, key: u64, item: Option<Item>
     requires stands { StandsUpTo key start (rest nodes.old (Some 0)) }
     ensures linked { Linked nodes.new (Some 0) }
     ensures cells { rest nodes.new (Some 0) ≡ put_cell (new_cell result key item) (rest nodes.old (Some 0)) }
+    ensures place { result < 2 ^ 64 - 1 }
     ensures fresh { IsFresh result (rest nodes.old (Some 0)) }
     ensures capacity { nodes.new.capacity ≡ nodes.old.capacity }
     ensures len { slab_len nodes.new ≡ slab_len nodes.old + 1 }

@@ -30,5 +30,6 @@ mod steps;
 mod unlink;
 
 pub use chain::Chain;
+pub use link::Link;
 pub use list::{At, NodeList};
 pub use steps::Steps;

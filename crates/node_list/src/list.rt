@@ -1,4 +1,4 @@
-ghost use Rattle.std.specs.Prelude.{◌≡◌, ◌+◌, ◌≤◌, Some, None, [], ◌∷◌, length, IfOk, OnOk, IsOk, MatchOption, option_map};
+ghost use Rattle.std.specs.Prelude.{◌≡◌, ◌+◌, ◌-◌, ◌^◌, ◌<◌, ◌≤◌, Some, None, [], ◌∷◌, length, IfOk, OnOk, IsOk, MatchOption, option_map};
 ghost use Rattle.std.specs.Borrow.{sem};
 
 use crate::chain::Chain;
@@ -38,7 +38,7 @@ impl Model for NodeList {
 
     ghost coded = { listed_code };
 
-    ghost use Rattle.node_list.specs.Walks.{rest, IsList};
+    ghost use Rattle.node_list.specs.inside.Walks.{rest, IsList};
 
     ghost view = { λ s. record { cells = rest s.nodes (Some 0); capacity = s.nodes.capacity } };
 
@@ -47,11 +47,11 @@ impl Model for NodeList {
 
 impl NodeList {
     ghost use Rattle.node_list.specs.Cells.{new_cell, new_item, Sorted, StartsWithDummy};
-    ghost use Rattle.node_list.specs.Places.{first_place, AreApart, from, behind, item_at, place_after, IsFresh, Stands, StandsUpTo, HasItem};
+    ghost use Rattle.node_list.specs.Places.{first_place, AreApart, from, behind, item_at, key_at, place_after, IsFresh, Stands, StandsUpTo, HasItem};
     ghost use Rattle.node_list.specs.Search.{place_of, passed};
     ghost use Rattle.node_list.specs.Changes.{put_cell, without};
     ghost use Rattle.node_list.specs.Listed.{HasRoom};
-    ghost use Rattle.node_list.specs.ListLending.{LendsChainAt};
+    ghost use Rattle.node_list.specs.Lending.{LendsChainAt};
     ghost use Rattle.node_list.specs.Ticks.{ticks};
 
     /// A list of one node, the dummy of key 0.
@@ -71,12 +71,32 @@ impl NodeList {
     /// The place of the first node, a dummy of key 0. The list is sorted, and no place is in it twice.
     pub fn head(&self) -> At
         ensures first { first_place self.now.cells ≡ Some result }
+        ensures place { result < 2 ^ 64 - 1 }
         ensures dummy { StartsWithDummy self.now.cells }
         ensures sorted { Sorted self.now.cells }
         ensures apart { AreApart self.now.cells }
     {
         let _nodes = &self.nodes;
         HEAD
+    }
+
+    /// What holds of every list, for a caller's proof: it does nothing.
+    pub fn known(&self)
+        ensures dummy { StartsWithDummy self.now.cells }
+        ensures sorted { Sorted self.now.cells }
+        ensures apart { AreApart self.now.cells }
+        ensures few { length self.now.cells < 2 ^ 64 - 1 }
+    {
+        let _head = self.head();
+        let _len = self.len();
+    }
+
+    /// How many nodes there are, dummies and items.
+    pub fn len(&self) -> usize
+        ensures value { result ≡ length self.now.cells }
+        ensures few { result < 2 ^ 64 - 1 }
+    {
+        self.nodes.len()
     }
 
     /// Makes room for so many insertions, which then take no memory.
@@ -95,6 +115,7 @@ impl NodeList {
         requires stands { StandsUpTo key start self.old.cells }
         ensures cells { self.new.cells ≡ put_cell (new_cell result key None) self.old.cells }
         ensures fresh { IsFresh result self.old.cells }
+        ensures place { result < 2 ^ 64 - 1 }
         ensures len { length self.new.cells ≡ length self.old.cells + 1 }
         ensures capacity { self.new.capacity ≡ self.old.capacity }
     {
@@ -107,6 +128,7 @@ impl NodeList {
         requires stands { StandsUpTo key start self.old.cells }
         ensures cells { self.new.cells ≡ put_cell (new_cell result key (Some (new_item term chain))) self.old.cells }
         ensures fresh { IsFresh result self.old.cells }
+        ensures place { result < 2 ^ 64 - 1 }
         ensures len { length self.new.cells ≡ length self.old.cells + 1 }
         ensures capacity { self.new.capacity ≡ self.old.capacity }
     {
@@ -148,6 +170,14 @@ impl NodeList {
         ensures { result ≡ place_after at self.now.cells }
     {
         self.nodes.front(at).next.get()
+    }
+
+    /// The key of the node at this place.
+    pub fn key(&self, at: At) -> u64
+        requires { Stands at self.now.cells }
+        ensures { key_at at self.now.cells ≡ Some result }
+    {
+        self.nodes.front(at).key
     }
 
     /// The term and the chain of an item, or `None` for a dummy.

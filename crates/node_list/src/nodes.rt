@@ -1,9 +1,9 @@
 ghost use Rattle.std.specs.Prelude.{◌≡◌, ◌+◌, ◌<◌, ◌≤◌, ◌-◌, ◌^◌, [], Some, None, IsOk, OnOk};
 ghost use Rattle.std.specs.Borrow.{sem};
 ghost use Rattle.slab.specs.Slab.{get, slab_len, ContainsKey, HasRoomFor, Updates};
-ghost use Rattle.node_list.specs.Slots.{ShowsFront, ShowsChain, Relinks, HasItemIn};
-ghost use Rattle.node_list.specs.Seen.{seen_node};
-ghost use Rattle.node_list.specs.SlotLending.{LendsChainIn};
+ghost use Rattle.node_list.specs.inside.Slots.{ShowsFront, ShowsChain, Relinks, HasItemIn};
+ghost use Rattle.node_list.specs.inside.Seen.{seen_node};
+ghost use Rattle.node_list.specs.inside.NodeLending.{LendsChainIn};
 
 use crate::chain::Chain;
 use crate::front::Front;
@@ -40,7 +40,7 @@ impl Model for Nodes {
 
     ghost coded = { slab_code node.the_row.coded };
 
-    ghost use Rattle.node_list.specs.Slots.{nodes_of, AreNodes};
+    ghost use Rattle.node_list.specs.inside.Slots.{nodes_of, AreNodes};
 
     ghost view = { λ s. record {
       slots = nodes_of s.nodes.slots s.items.items;
@@ -143,8 +143,12 @@ impl Nodes {
         }
     }
 
-    #[cfg(test)]
-    pub fn len(&self) -> usize {
+    pub fn len(&self) -> usize
+        ensures value { result ≡ slab_len self.now }
+        ensures few { result < 2 ^ 64 - 1 }
+    {
+        let _capacity = self.nodes.capacity();
+        let _places = self.items.capacity();
         self.nodes.len()
     }
 

@@ -1,6 +1,6 @@
 ghost use Rattle.std.specs.Prelude.{◌≡◌, Some};
 ghost use Rattle.slab.specs.Slab.{get, ContainsKey};
-ghost use Rattle.node_list.specs.Seen.{seen_node};
+ghost use Rattle.node_list.specs.inside.Seen.{seen_node};
 ghost use Rattle.node_list.specs.Ticks.{tick};
 
 use crate::nodes::{Nodes, Seen};

@@ -1,8 +1,8 @@
 ghost use Rattle.std.specs.Prelude.{◌≡◌, IsSome, Some, option_map, option_copied};
 ghost use Rattle.std.specs.Borrow.{sem};
 ghost use Rattle.node_list.specs.Search.{holds};
-ghost use Rattle.node_list.specs.Slots.{item_in, slot_of};
-ghost use Rattle.node_list.specs.Lending.{LendsSlotChain};
+ghost use Rattle.node_list.specs.inside.Slots.{item_in, slot_of};
+ghost use Rattle.node_list.specs.inside.SlotLending.{LendsSlotChain};
 
 use crate::chain::Chain;
 use crate::node::Item;

@@ -2,7 +2,7 @@ ghost use Rattle.std.specs.Prelude.{◌≡◌, ◌+◌, Some};
 ghost use Rattle.slab.specs.Slab.{get, slab_len};
 ghost use Rattle.node_list.specs.Places.{all_but_first, behind};
 ghost use Rattle.node_list.specs.Changes.{without};
-ghost use Rattle.node_list.specs.Walks.{rest, Linked, HasPlace, StandsBefore};
+ghost use Rattle.node_list.specs.inside.Walks.{rest, Linked, HasPlace, StandsBefore};
 
 use crate::node::Node;
 use crate::nodes::Nodes;

@@ -3,9 +3,9 @@ use Rattle.std.proofs.lemmas.Bool.Decides.{nat_tests}
 use Rattle.slab.specs.Slab.{get, slab_len}
 use Rattle.node_list.specs.Cells.{Sorted}
 use Rattle.node_list.specs.Search.{place_of, passed, is_it}
-use Rattle.node_list.specs.Seen.{seen_node}
+use Rattle.node_list.specs.inside.Seen.{seen_node}
 use Rattle.node_list.specs.Ticks.{ticks}
-use Rattle.node_list.specs.Walks.{rest, Linked, cell_of}
+use Rattle.node_list.specs.inside.Walks.{rest, Linked, cell_of}
 use Rattle.node_list.proofs.WalkLaws.{rest-step, rest-step_at, walk-none}
 use Rattle.node_list.proofs.CellLaws.{search-past, search-here, search-on}
 use Rattle.node_list.proofs.TickLaws.{tick-on, ticks-none, tick-in_range, ticks-one}

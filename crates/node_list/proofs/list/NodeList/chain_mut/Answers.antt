@@ -2,7 +2,7 @@ use Rattle.std.proofs.Common.{◌≡◌, Option, List, option_map, subst, IsSome
 use Rattle.node_list.specs.Cells.{Cell}
 use Rattle.node_list.specs.Places.{from, first_item}
 use Rattle.node_list.specs.Listed.{Listed}
-use Rattle.node_list.specs.ListLending.{cells_with}
+use Rattle.node_list.specs.Changes.{cells_with}
 use Rattle.node_list.specs.declared.node.Node.{Node}
 use Rattle.node_list.specs.declared.node.Item.{Item}
 use Rattle.node_list.proofs.PlaceLaws.{place-node}

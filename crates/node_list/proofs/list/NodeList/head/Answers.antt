@@ -1,7 +1,7 @@
 use Rattle.std.proofs.Common.{Some, subst}
 use Rattle.slab.specs.Slab.{get}
 use Rattle.node_list.specs.Places.{AreApart}
-use Rattle.node_list.specs.Walks.{rest}
+use Rattle.node_list.specs.inside.Walks.{rest}
 use Rattle.node_list.specs.Listed.{Listed}
 use Rattle.node_list.proofs.PlaceLaws.{apart-links}
 use Rattle.node_list.proofs.list.NodeList.head.Goals as goal

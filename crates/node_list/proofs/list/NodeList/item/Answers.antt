@@ -1,6 +1,6 @@
 use Rattle.std.proofs.Common.{◌≡◌, Option, option_copied, subst, IsSome, refl, sym, ◌∙◌, ap}
 use Rattle.node_list.specs.Places.{from, first_item}
-use Rattle.node_list.specs.Seen.{seen_node}
+use Rattle.node_list.specs.inside.Seen.{seen_node}
 use Rattle.node_list.specs.Listed.{Listed}
 use Rattle.node_list.specs.declared.node.Node.{Node}
 use Rattle.node_list.proofs.PlaceLaws.{place-node}

@@ -3,9 +3,9 @@ use Rattle.node_list.specs.declared.node.Node.{Node}
 use Rattle.node_list.specs.declared.front.Front.{Front}
 use Rattle.slab.specs.Slab.{Slab, get}
 use Rattle.node_list.specs.declared.node.Item.{Item}
-use Rattle.node_list.specs.Slots.{whole, node_in, nodes_of}
-use Rattle.node_list.specs.Lending.{node_with, slot_with}
-use Rattle.node_list.specs.SlotLending.{nodes_with}
+use Rattle.node_list.specs.inside.Slots.{whole, node_in, nodes_of}
+use Rattle.node_list.specs.inside.NodeLending.{node_with, nodes_with}
+use Rattle.node_list.specs.inside.SlotLending.{slot_with}
 use Rattle.node_list.proofs.SlotLaws.{has-front, front-at, node-is, read, nodes-slot, whole-with}
 use Rattle.node_list.proofs.nodes.Nodes.chain_mut.Goals as goal
 

@@ -2,7 +2,7 @@ use Rattle.std.proofs.Common.{IsSome, get_or, refl, sym, subst}
 use Rattle.node_list.specs.declared.node.Node.{Node}
 use Rattle.node_list.specs.declared.slot.Slot.TheVariants.{Dummy}
 use Rattle.slab.specs.Slab.{Slab, get}
-use Rattle.node_list.specs.Slots.{ShowsFront, whole}
+use Rattle.node_list.specs.inside.Slots.{ShowsFront, whole}
 use Rattle.node_list.proofs.SlotLaws.{has-front, node-is}
 use Rattle.node_list.proofs.nodes.Nodes.front.Goals as goal
 

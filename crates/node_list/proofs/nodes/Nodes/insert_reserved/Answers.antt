@@ -3,7 +3,7 @@ use Rattle.node_list.specs.declared.node.Node.{Node}
 use Rattle.node_list.specs.declared.front.Front.{Front}
 use Rattle.node_list.specs.declared.slot.Slot.TheVariants.{Dummy}
 use Rattle.slab.specs.Slab.{Slab, get, slab_len, HasRoomFor}
-use Rattle.node_list.specs.Slots.{node_in, item_in}
+use Rattle.node_list.specs.inside.Slots.{node_in, item_in}
 use Rattle.node_list.proofs.SlotLaws.{get-nodes, writes, count-nodes, item-slot}
 use Rattle.node_list.proofs.nodes.Nodes.insert_reserved.Goals as goal
 

@@ -1,7 +1,7 @@
 use Rattle.std.proofs.Common.{◌≡◌, ◌+◌, ◌<◌, length, None, Some, IsSome, set, sym, ◌∙◌, ap, subst}
 use Rattle.node_list.specs.declared.node.Node.{Node}
 use Rattle.slab.specs.Slab.{Slab, get, slab_len}
-use Rattle.node_list.specs.Slots.{item_in}
+use Rattle.node_list.specs.inside.Slots.{item_in}
 use Rattle.node_list.proofs.SlotLaws.{has-front, node-is, read, writes, count-nodes}
 use Rattle.node_list.proofs.nodes.Nodes.remove.Goals as goal
 

@@ -5,7 +5,7 @@ use Rattle.node_list.specs.declared.slot.Slot.{Slot}
 use Rattle.slab.specs.Slab.{Slab, HasRoomFor}
 use Rattle.std.proofs.lemmas.List.{take_all}
 use Rattle.node_list.specs.declared.nodes.Nodes.TheInside.{Inside}
-use Rattle.node_list.specs.Slots.{nodes_of}
+use Rattle.node_list.specs.inside.Slots.{nodes_of}
 use Rattle.node_list.proofs.SlotLaws.{count-nodes, cloned, grown}
 use Rattle.node_list.proofs.nodes.Nodes.reserve.Goals.{then-additional-quarter, else-additional-quarter, then-had-places+in_ok-reserve_exact-2+in_ok-resize_with, else-had-places}
 use Rattle.node_list.proofs.nodes.Nodes.reserve.Goals as goal

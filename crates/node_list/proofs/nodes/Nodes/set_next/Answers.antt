@@ -2,7 +2,7 @@ use Rattle.std.proofs.Common.{List, Option, IsSome, get_or, refl, sym, ◌∙◌
 use Rattle.node_list.specs.declared.node.Node.{Node}
 use Rattle.node_list.specs.declared.slot.Slot.TheVariants.{Dummy}
 use Rattle.slab.specs.Slab.{Slab, get, with_value}
-use Rattle.node_list.specs.Slots.{whole}
+use Rattle.node_list.specs.inside.Slots.{whole}
 use Rattle.node_list.proofs.SlotLaws.{has-front, node-is, nodes-front}
 use Rattle.node_list.proofs.nodes.Nodes.set_next.Goals as goal
 
