@@ -1,9 +1,10 @@
 -- Laws of a slab of fronts with what stands beside them.
 use Rattle.std.proofs.Common.{◌≡◌, ◌≢◌, ℕ, zero, suc, ◌<◌, List, [], ◌∷◌, ◌++◌, length, get_or, set, slice_get, Option, Some, None, IsSome, is_some, count_by, Bool, cond, refl, sym, ◌∙◌, ap, subst, arith}
 use Rattle.std.specs.List.{AllZip}
-use Rattle.std.proofs.lemmas.List.{get_or-set_same, get_or-set_other, get_or_append_left}
+use Rattle.std.proofs.lemmas.List.{get_or-set_same, get_or-set_other, length-set}
 use Rattle.std.proofs.lemmas.List.Sums.{sum_by-cons}
-use Rattle.std.proofs.lemmas.Option.{slice_get-get_or}
+use Rattle.std.proofs.lemmas.Option.{slice_get-get_or, get_or_from_slice_get, unwrap_or-slice_get}
+use Rattle.std.specs.Option.{unwrap_or}
 use Rattle.ets_term.specs.declared.term.Term.{Term}
 use Rattle.slab.specs.Slab.{Slab, get, Updates, IsSlotClone, IsSlabClone}
 use Rattle.node_list.specs.declared.node.Item.{Item}
@@ -11,7 +12,7 @@ use Rattle.node_list.specs.declared.node.Node.{Node}
 use Rattle.node_list.specs.declared.front.Front.{Front}
 use Rattle.node_list.specs.declared.slot.Slot.{Slot}
 use Rattle.node_list.specs.declared.slot.Slot.TheVariants.{Dummy, Full}
-use Rattle.node_list.specs.inside.Slots.{slot_of, item_in, whole, node_in, nodes_of, AreNodes}
+use Rattle.node_list.specs.inside.Slots.{slot_of, item_in, whole, node_in, nodes_of, PutsSlot}
 use Rattle.node_list.specs.inside.NodeLending.{node_with}
 use Rattle.node_list.specs.inside.SlotLending.{slot_with}
 
@@ -36,24 +37,6 @@ count-nodes (o ∷ os) (s ∷ ss) =
     let one : Option Node → ℕ = λ z. cond (is_some z) 1 0 in
     let two : Option Front → ℕ = λ z. cond (is_some z) 1 0 in
     omega (arith, count-nodes os ss, sum_by-cons one (node_in o s) (nodes_of os ss), sum_by-cons two o os, ap {B = ℕ} (λ (b : Bool). cond b 1 0) (some-node o s))
-
--- only what stands at places with a front counts
-pub nodes-same : (os : List (Option Front)) (ss ts : List Slot) → ((k : ℕ) → IsSome (get_or os k None) → get_or ts k Dummy ≡ get_or ss k Dummy) → nodes_of os ts ≡ nodes_of os ss
-nodes-same [] ss ts h = refl
-nodes-same (None ∷ os) [] [] h = refl
-nodes-same (None ∷ os) [] (t ∷ ts) h = ap (λ (ns : List (Option Node)). None ∷ ns) (nodes-same os [] ts (λ k. h (suc k)))
-nodes-same (None ∷ os) (s ∷ ss) [] h = ap (λ (ns : List (Option Node)). None ∷ ns) (nodes-same os ss [] (λ k. h (suc k)))
-nodes-same (None ∷ os) (s ∷ ss) (t ∷ ts) h = ap (λ (ns : List (Option Node)). None ∷ ns) (nodes-same os ss ts (λ k. h (suc k)))
-nodes-same (Some f ∷ os) [] [] h = refl
-nodes-same (Some f ∷ os) [] (t ∷ ts) h =
-    let a : node_in (Some f) t ≡ node_in (Some f) Dummy = ap (λ (z : Slot). Some (whole f z)) (h zero refl) in
-    ap (λ (n : Option Node). n ∷ nodes_of os ts) a ∙ ap (λ (ns : List (Option Node)). Some (whole f Dummy) ∷ ns) (nodes-same os [] ts (λ k. h (suc k)))
-nodes-same (Some f ∷ os) (s ∷ ss) [] h =
-    let a : node_in (Some f) Dummy ≡ node_in (Some f) s = ap (λ (z : Slot). Some (whole f z)) (h zero refl) in
-    ap (λ (n : Option Node). n ∷ nodes_of os []) a ∙ ap (λ (ns : List (Option Node)). Some (whole f s) ∷ ns) (nodes-same os ss [] (λ k. h (suc k)))
-nodes-same (Some f ∷ os) (s ∷ ss) (t ∷ ts) h =
-    let a : node_in (Some f) t ≡ node_in (Some f) s = ap (λ (z : Slot). Some (whole f z)) (h zero refl) in
-    ap (λ (n : Option Node). n ∷ nodes_of os ts) a ∙ ap (λ (ns : List (Option Node)). Some (whole f s) ∷ ns) (nodes-same os ss ts (λ k. h (suc k)))
 
 -- a write of one array alone
 pub nodes-front : (os : List (Option Front)) (ss : List Slot) (k : ℕ) (f : Front) → nodes_of (set os k (Some f)) ss ≡ set (nodes_of os ss) k (Some (whole f (get_or ss k Dummy)))
@@ -87,13 +70,29 @@ pub node-is : (n : Slab Front) (ss : List Slot) (k : ℕ) (f : Front) (s : Slot)
 node-is n ss k f s a b = get-nodes n.slots ss k ∙ (ap (λ (o : Option Front). node_in o (get_or ss k Dummy)) a ∙ ap (λ (z : Slot). Some (whole f z)) (sym b))
 
 -- ---- a place is written in both arrays
-pub writes : (old new : Slab Front) (ss : List Slot) (k : ℕ) (o : Option Front) (s : Slot) → Updates old new k o → k < length ss
-    → (get_or (nodes_of new.slots (set ss k s)) k None ≡ node_in o s) × ((j : ℕ) → j ≢ k → get_or (nodes_of new.slots (set ss k s)) j None ≡ get_or (nodes_of old.slots ss) j None)
-writes old new ss k o s u h = (
-  get-nodes new.slots (set ss k s) k ∙ (ap (λ (z : Option Front). node_in z (get_or (set ss k s) k Dummy)) u.changed ∙ ap (node_in o) (get_or-set_same ss k s Dummy h)),
-  λ j other. get-nodes new.slots (set ss k s) j
-      ∙ (ap (λ (z : Option Front). node_in z (get_or (set ss k s) j Dummy)) (u.others j other)
-      ∙ (ap (node_in (get old j)) (get_or-set_other ss k j s Dummy other) ∙ sym (get-nodes old.slots ss j))),
+pub puts-set : (ss : List Slot) (k : ℕ) (s : Slot) → k < length ss → PutsSlot ss (set ss k s) k s
+puts-set ss k s h =
+    record {
+      here = slice_get-get_or (set ss k s) k s (omega (arith, length-set ss k s, h)) ∙ ap Some (get_or-set_same ss k s s h);
+      others = λ j other had.
+          slice_get-get_or (set ss k s) j s (omega (arith, length-set ss k s, had)) ∙ (ap Some (get_or-set_other ss k j s s other) ∙ sym (slice_get-get_or ss j s had));
+    }
+
+same-slot : (ss ts : List Slot) (j : ℕ) → slice_get ts j ≡ slice_get ss j → get_or ts j Dummy ≡ get_or ss j Dummy
+same-slot ss ts j e = sym (unwrap_or-slice_get ts j Dummy) ∙ (ap (λ (o : Option Slot). unwrap_or o Dummy) e ∙ unwrap_or-slice_get ss j Dummy)
+
+-- what stands at a place with no front does not count
+same-node : (o : Option Front) (a b : Slot) → (IsSome o → a ≡ b) → node_in o a ≡ node_in o b
+same-node None a b h = refl
+same-node (Some f) a b h = ap (λ (z : Slot). Some (whole f z)) (h refl)
+
+pub writes : (old new : Slab Front) (ss ts : List Slot) (k : ℕ) (o : Option Front) (s : Slot) → Updates old new k o → PutsSlot ss ts k s → ((j : ℕ) → IsSome (get old j) → j < length ss)
+    → (get_or (nodes_of new.slots ts) k None ≡ node_in o s) × ((j : ℕ) → j ≢ k → get_or (nodes_of new.slots ts) j None ≡ get_or (nodes_of old.slots ss) j None)
+writes old new ss ts k o s u p within = (
+  get-nodes new.slots ts k ∙ (ap (λ (z : Option Front). node_in z (get_or ts k Dummy)) u.changed ∙ ap (node_in o) (get_or_from_slice_get ts k s Dummy p.here)),
+  λ j other. get-nodes new.slots ts j
+      ∙ (ap (λ (z : Option Front). node_in z (get_or ts j Dummy)) (u.others j other)
+      ∙ (same-node (get old j) (get_or ts j Dummy) (get_or ss j Dummy) (λ some. same-slot ss ts j (p.others j other (within j some))) ∙ sym (get-nodes old.slots ss j))),
 )
 
 -- what a read of the second array tells
@@ -122,6 +121,3 @@ slots-same (Some f ∷ xs) (Some g ∷ ys) h = rw (h.0, slots-same xs ys h.1) re
 
 pub cloned : (n copy : Slab Front) → IsSlabClone (λ x y. y ≡ x) n copy → copy.slots ≡ n.slots
 cloned n copy c = slots-same n.slots copy.slots c.slots
-
-pub grown : (n : Slab Front) (ss ts ys : List Slot) → AreNodes n ss → ts ≡ ss ++ ys → nodes_of n.slots ts ≡ nodes_of n.slots ss
-grown n ss ts ys a e = nodes-same n.slots ss ts (λ k some. ap (λ (zs : List Slot). get_or zs k Dummy) e ∙ get_or_append_left ss ys Dummy k (a.within k some))

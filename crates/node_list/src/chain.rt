@@ -1,4 +1,4 @@
-ghost use Rattle.std.specs.Prelude.{◌≡◌, ◌+◌, ◌<◌, [], ◌∷◌, ◌++◌, length, take, slice_get, slice_set, Some, IsOk, OnOk, OnErr, MatchOption};
+ghost use Rattle.std.specs.Prelude.{◌≡◌, ◌+◌, ◌<◌, ◌≤◌, vec_len, vec_capacity, [], ◌∷◌, ◌++◌, length, take, slice_get, slice_set, Some, IsOk, OnOk, OnErr, MatchOption};
 ghost use Rattle.node_list.specs.Chains.{all_but};
 
 use ets_term::Term;
@@ -6,6 +6,9 @@ use smallvec::SmallVec;
 use std::alloc::{AllocError, Global};
 use std::marker::Model;
 use std::mem;
+
+#[cfg(test)]
+mod tests;
 
 /// The terms of one item, in their order. The first of them has its place in the value itself, so that a chain of
 /// one term takes no memory of its own.
@@ -100,5 +103,15 @@ impl Chain {
         let had = self.len();
         self.terms.retain(|t| *t != *term);
         had - self.len()
+    }
+    /// Moves the terms to the end of a list that has room for them.
+    pub fn move_into(self, list: &mut Vec<Term>)
+        requires { vec_len list.old + length self ≤ vec_capacity list.old }
+        ensures items { list.new.items ≡ list.old.items ++ self }
+        ensures capacity { vec_capacity list.new ≡ vec_capacity list.old }
+    {
+        for term in self.terms {
+            list.push_reserved(term);
+        }
     }
 }

@@ -1,7 +1,7 @@
-ghost use Rattle.std.specs.Prelude.{◌≡◌, ◌+◌, ◌<◌, ◌≤◌, ◌-◌, ◌^◌, [], Some, None, IsOk, OnOk};
+ghost use Rattle.std.specs.Prelude.{◌≡◌, ◌+◌, ◌<◌, ◌≤◌, ◌-◌, ◌^◌, [], Some, None, IsOk, OnOk, vec_capacity};
 ghost use Rattle.std.specs.Borrow.{sem};
 ghost use Rattle.slab.specs.Slab.{get, slab_len, ContainsKey, HasRoomFor, Updates};
-ghost use Rattle.node_list.specs.inside.Slots.{ShowsFront, ShowsChain, Relinks, HasItemIn};
+ghost use Rattle.node_list.specs.inside.Slots.{ShowsFront, ShowsChain, Relinks, HasItemIn, PutsSlot};
 ghost use Rattle.node_list.specs.inside.Seen.{seen_node};
 ghost use Rattle.node_list.specs.inside.NodeLending.{LendsChainIn};
 
@@ -15,6 +15,32 @@ use std::alloc::{AllocError, Global};
 use std::marker::Model;
 use std::mem;
 
+/// Room for so many nodes is made at first.
+const FIRST_ROOM: usize = 8;
+
+/// For how many nodes more room is made: as many as there are, so that growth costs each node a constant.
+fn growth(len: usize, additional: usize) -> usize
+    ensures { additional ≤ result }
+{
+    additional.max(len).max(FIRST_ROOM)
+}
+
+/// Puts a slot at a place. The slab gives its places out in turn, but does not promise it, so there may be a gap.
+fn put_slot(items: &mut Vec<Slot>, at: usize, slot: Slot)
+    requires { at < vec_capacity items.old }
+    ensures puts { PutsSlot items.old.items items.new.items at slot }
+    ensures capacity { vec_capacity items.old ≤ vec_capacity items.new }
+{
+    if at < items.len() {
+        items[at] = slot;
+        return;
+    }
+    if items.len() < at && items.resize_with(at, || Slot::Dummy).is_err() {
+        unreachable!();
+    }
+    items.push_reserved(slot);
+}
+
 /// A node as a search sees it.
 #[derive(Clone, Copy)]
 pub struct Seen<'a> {
@@ -27,7 +53,7 @@ pub struct Seen<'a> {
 #[derive(Drop)]
 pub struct Nodes {
     nodes: Slab<Front>,
-    // As many as the slab can hold, or more. A place with no node has a dummy.
+    // With room for as many as the slab can hold. A place with no node has a dummy, or lies past their end.
     items: Vec<Slot>,
 }
 
@@ -48,7 +74,7 @@ impl Model for Nodes {
       capacity = s.nodes.capacity;
     } };
 
-    ghost invariant = { λ s. AreNodes s.nodes s.items.items };
+    ghost invariant = { λ s. AreNodes s.nodes s.items };
 }
 
 impl Nodes {
@@ -73,21 +99,11 @@ impl Nodes {
         if self.nodes.capacity() - len >= additional {
             return Ok(());
         }
-        // The items have to be as many as the slab can hold, and may fail to be: so it is a copy that grows.
+        // A place needs room in both arrays, and either can be refused: so it is a copy of the first that grows.
         let mut nodes = self.nodes.clone()?;
-        let quarter = len / 4;
-        let more = if additional < quarter {
-            quarter
-        } else {
-            additional
-        };
-        nodes.reserve_exact(more)?;
-        let places = nodes.capacity();
-        let had = self.items.len();
-        if had < places {
-            self.items.reserve_exact(places - had)?;
-            self.items.resize_with(places, || Slot::Dummy)?;
-        }
+        nodes.reserve_exact(growth(len, additional))?;
+        let more = nodes.capacity().saturating_sub(self.items.len());
+        self.items.reserve_exact(more)?;
         self.nodes = nodes;
         Ok(())
     }
@@ -104,7 +120,7 @@ impl Nodes {
     {
         let Node { key, next, item } = node;
         let at = self.nodes.insert_reserved(Front { key, next });
-        self.items[at] = Slot::new(item);
+        put_slot(&mut self.items, at, Slot::new(item));
         at
     }
 

@@ -1,5 +1,5 @@
 -- How nodes lie in two arrays: their fronts in a slab, and what else they have beside it.
-use Rattle.std.specs.Prelude.{◌≡◌, ◌≤◌, ◌<◌, ℕ, List, [], ◌∷◌, length, Option, Some, None, IsSome, option_map}
+use Rattle.std.specs.Prelude.{◌≡◌, ◌≤◌, ◌<◌, ◌≢◌, ℕ, List, [], ◌∷◌, length, slice_get, Option, Some, None, IsSome, option_map, Vec, vec_capacity, vec_items}
 use Rattle.slab.specs.Slab.{Slab, get, with_value}
 use Rattle.ets_term.specs.declared.term.Term.{Term}
 use Rattle.node_list.specs.declared.node.Item.{Item}
@@ -32,10 +32,15 @@ nodes_of [] ss = []
 nodes_of (o ∷ os) [] = node_in o Dummy ∷ nodes_of os []
 nodes_of (o ∷ os) (s ∷ ss) = node_in o s ∷ nodes_of os ss
 
--- whatever place the slab gives out has a slot, and so has every place with a node
-pub record AreNodes (nodes : Slab Front) (ss : List Slot) : Type 0 where
-  pub room : nodes.capacity ≤ length ss
-  pub within : (k : ℕ) → IsSome (get nodes k) → k < length ss
+-- whatever place the slab gives out has room for a slot, and every place with a node has a slot
+pub record AreNodes {A : Type 0} (nodes : Slab Front) (items : Vec Slot A) : Type 0 where
+  pub room : nodes.capacity ≤ vec_capacity items
+  pub within : (k : ℕ) → IsSome (get nodes k) → k < length (vec_items items)
+
+-- a place has this slot now, and every other that had a slot has that one
+pub record PutsSlot (old new : List Slot) (at : ℕ) (slot : Slot) : Type 0 where
+  pub here : slice_get new at ≡ Some slot
+  pub others : (k : ℕ) → k ≢ at → k < length old → slice_get new k ≡ slice_get old k
 
 -- the node at a place has this key and this link
 pub record ShowsFront (s : Slab Node) (at : ℕ) (f : Front) : Type 0 where

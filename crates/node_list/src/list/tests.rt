@@ -136,15 +136,50 @@ fn want_of_memory_changes_nothing(rt: HostRuntime) -> Result<(), Fail> {
     Ok(())
 }
 
+// Each node at the head, from 4,999 down to 1: the slab grows many times, and the keys stand in order.
+#[test]
+fn holds_many_nodes(rt: HostRuntime) -> Result<(), Fail> {
+    let alloc = rt.alloc();
+    let mut list = NodeList::new(alloc)?;
+    for number in 1..5_000 {
+        add_item(&mut list, alloc, 5_000 - number, 1)?;
+    }
+    assert_eq!(rt; list.len(), 5_000);
+    let mut wanted = Vec::new(alloc);
+    for key in 0..5_000 {
+        wanted.push(key)?;
+    }
+    assert_eq!(rt; keys(&list, alloc)?.as_slice(), wanted.as_slice());
+    let head = list.head();
+    let mut steps = Steps::new();
+    assert!(rt; list.find(head, 4_999, &Term::Int(1), &mut steps).is_some());
+    assert_eq!(rt; steps.count(), 5_000);
+    Ok(())
+}
+
+#[test]
+fn reserves_much_room(rt: HostRuntime) -> Result<(), Fail> {
+    let mut list = NodeList::new(rt.alloc())?;
+    list.reserve(5_000)?;
+    list.reserve(100_000)?;
+    assert_eq!(rt; list.len(), 1);
+    Ok(())
+}
+
+#[test]
+fn tells_a_key(rt: HostRuntime) -> Result<(), Fail> {
+    let alloc = rt.alloc();
+    let mut list = NodeList::new(alloc)?;
+    let at = add_item(&mut list, alloc, 5, 1)?;
+    list.known();
+    assert_eq!(rt; list.key(at), 5);
+    let head = list.head();
+    assert_eq!(rt; list.key(head), 0);
+    Ok(())
+}
+
 #[test]
 fn a_search_passes_no_items(rt: HostRuntime) {
     assert_eq!(rt; size_of::<Front>(), 16);
     assert_eq!(rt; size_of::<Slot>(), 88);
-}
-
-#[test]
-fn a_chain_may_be_empty(rt: HostRuntime) {
-    let chain = Chain::new(rt.alloc());
-    assert_eq!(rt; chain.len(), 0);
-    assert_eq!(rt; Chain::one(rt.alloc(), Term::Int(1)).len(), 1);
 }

@@ -20,9 +20,7 @@ returns-clause-was_vacant c =
 
 pub returns-clause-updates : goal.returns-clause-updates
 returns-clause-updates c =
-    let front : Front = record { key = c.args.node.key; next = c.args.node.next } in
-    let inside : c.insert_reserved-at.result < length c.self.inside.items.items = omega (arith, c.insert_reserved-at.ensures.key_in_range, c.insert_reserved-at.ensures.capacity, c.self.invariant.room) in
-    let u = writes c.self.inside.nodes c.insert_reserved-at.new.self c.self.inside.items.items c.insert_reserved-at.result (Some (record { key = c.args.node.key; next = c.args.node.next })) c.new.result c.insert_reserved-at.ensures.updates inside in
+    let u = writes c.self.inside.nodes c.insert_reserved-at.new.self c.self.inside.items.items c.put_slot.new.items.items c.insert_reserved-at.result (Some (record { key = c.args.node.key; next = c.args.node.next })) c.new.result c.insert_reserved-at.ensures.updates c.put_slot.ensures.puts c.self.invariant.within in
     let item : item_in c.new.result ≡ c.args.node.item = ap item_in c.new.ensures ∙ item-slot c.args.node.item in
     record {
       changed = u.0 ∙ ap (λ o. let n : Node = record { key = c.args.node.key; next = c.args.node.next; item = o } in Some n) item;
@@ -31,5 +29,5 @@ returns-clause-updates c =
 
 pub returns-clause-len : goal.returns-clause-len
 returns-clause-len c =
-    count-nodes c.insert_reserved-at.new.self.slots (set c.self.inside.items.items c.insert_reserved-at.result c.new.result)
+    count-nodes c.insert_reserved-at.new.self.slots c.put_slot.new.items.items
     ∙ (c.insert_reserved-at.ensures.len ∙ (ap (λ k. k + 1) (sym (count-nodes c.self.inside.nodes.slots c.self.inside.items.items)) ∙ ap (λ (v : Slab Node). slab_len v + 1) c.self.view_is))
