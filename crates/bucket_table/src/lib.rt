@@ -4,7 +4,9 @@
 mod entry;
 mod growth;
 mod rows;
+mod split;
 
 pub use entry::{Entry, Place};
 pub use growth::{Growth, Readying};
 pub use rows::Rows;
+pub use split::SplitRows;
