@@ -86,18 +86,22 @@ def bags(count: int) -> Iterator[str]:
 
 
 def heirs(count: int) -> Iterator[str]:
-    """Processes with a table each, that goes to the first process as they end, or away with them."""
+    """Processes with a table each, that goes to the first process as they end, or away with them: 2,000 at a time."""
     yield "spawn p"
-    for i in range(1, count + 1):
-        heir = ",{heir,<0.0.0>,g}" if i % 2 else ""
-        yield f"spawn p{i}"
-        yield f"p{i} new(t{i},[named_table,public{heir}])"
-        yield f"p{i} insert(t{i},{{a,{i}}})"
-    for i in range(1, count + 1):
-        yield f"exit p{i}"
-    yield "p receive()"
-    for i in range(1, count + 1, 2):
-        yield f"p lookup(t{i},a)"
+    for past in range(0, count, 2_000):
+        block = range(past + 1, min(past + 2_000, count) + 1)
+        for i in block:
+            heir = ",{heir,<0.0.0>,g}" if i % 2 else ""
+            yield f"spawn p{i}"
+            yield f"p{i} new(t{i},[named_table,public{heir}])"
+            yield f"p{i} insert(t{i},{{a,{i}}})"
+        for i in block:
+            yield f"exit p{i}"
+        yield "p receive()"
+        for i in block:
+            if i % 2:
+                yield f"p lookup(t{i},a)"
+                yield f"p delete(t{i})"
 
 
 def walk(count: int) -> Iterator[str]:
@@ -116,13 +120,14 @@ def walk(count: int) -> Iterator[str]:
     yield "p safe_fixtable(t,false)"
 
 
+# The full sizes keep the fastest peer busy for half a second or more on a machine with nothing else to do.
 WORKLOADS = [
-    Workload("one key", "insert and lookup in turn, one key", one_key, 200_000, 200_000),
-    Workload("many keys", "insert and lookup in turn, 100,000 keys", many_keys, 200_000, 10_000),
-    Workload("nested terms", "objects with nested tuples and quoted atoms, 500 keys", nested, 100_000, 20_000),
-    Workload("counters", "update_counter over 100 keys", counters, 200_000, 50_000),
-    Workload("select", "select with a bound key, and each 50th unbound, over 10,000 objects", select, 20_000, 1_000, True),
-    Workload("bags", "100 objects a key in a bag", bags, 50_000, 10_000),
-    Workload("heirs", "processes with a table each, heirs and exits", heirs, 2_000, 500),
-    Workload("fixed walk", "next over a fixed table, with deletes and inserts between", walk, 20_000, 2_000, True),
+    Workload("one key", "insert and lookup in turn, one key", one_key, 2_000_000, 200_000),
+    Workload("many keys", "insert and lookup in turn, 800,000 keys", many_keys, 1_600_000, 10_000),
+    Workload("nested terms", "objects with nested tuples and quoted atoms, 500 keys", nested, 600_000, 20_000),
+    Workload("counters", "update_counter over 100 keys", counters, 3_000_000, 50_000),
+    Workload("select", "select with a bound key, and each 50th unbound, over 10,000 objects", select, 200_000, 1_000, True),
+    Workload("bags", "100 objects a key in a bag", bags, 600_000, 10_000),
+    Workload("heirs", "processes with a table each, heirs and exits", heirs, 100_000, 500),
+    Workload("fixed walk", "next over a fixed table, with deletes and inserts between", walk, 400_000, 2_000, True),
 ]

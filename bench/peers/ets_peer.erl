@@ -62,6 +62,7 @@ call(<<"new">>, [Name, Options]) -> ets:new(Name, Options);
 call(<<"insert">>, [T, X]) -> ets:insert(T, X);
 call(<<"lookup">>, [T, K]) -> ets:lookup(T, K);
 call(<<"delete">>, [T, K]) -> ets:delete(T, K);
+call(<<"delete">>, [T]) -> ets:delete(T);
 call(<<"update_counter">>, [T, K, U]) -> ets:update_counter(T, K, U);
 call(<<"select">>, [T, S]) -> ets:select(T, S);
 call(<<"safe_fixtable">>, [T, B]) -> ets:safe_fixtable(T, B);

@@ -35,13 +35,17 @@ fn best(mut work: impl FnMut()) -> f64 {
     (0..5).map(run).fold(f64::INFINITY, f64::min)
 }
 
-/// Each number below `count` once, in an order that jumps about: another one for each seed. The store has the same.
+/// Each number below `count` once, in an order that jumps about, with multipliers of its own for each seed, so that no
+/// order runs along another one. The store and the other peers have the same.
 pub fn shuffled(count: u64, seed: u64) -> impl Iterator<Item = u64> {
     let mask = count.next_power_of_two() - 1;
+    let odd = seed.wrapping_mul(0xD6E8_FEB8_6659_FD92) | 1;
     let mix = move |i: u64| {
-        let a = (i.wrapping_mul(0x9E37_79B1) ^ seed) & mask;
-        let b = (a ^ (a >> 7)).wrapping_mul(0x85EB_CA6B) & mask;
-        b ^ (b >> 9)
+        let a = i.wrapping_mul(odd) & mask;
+        let b = (a ^ (a >> 9)).wrapping_mul(0x85EB_CA6B ^ seed.wrapping_mul(0x2C1B_3C6C)) & mask;
+        let c = (b ^ (b >> 7)).wrapping_mul(odd ^ 0x9E37_79B8) & mask;
+        let d = (c ^ (c >> 11)).wrapping_mul(0xC2B2_AE35 ^ seed.wrapping_mul(0x1656_67B0)) & mask;
+        d ^ (d >> 8)
     };
     (0..=mask).map(mix).filter(move |x| *x < count)
 }
@@ -130,22 +134,33 @@ impl std::hash::Hash for Key {
     }
 }
 
-fn mutex_map(count: u64) {
-    type Map = HashMap<Key, Term, BuildHasherDefault<Fnv>>;
-    let map: Mutex<Map> = Mutex::new(HashMap::default());
-    let key = |k: u64| Key(Term::Int(k as i64));
-    let object = |k: u64| Term::Tuple(vec![Term::Int(k as i64), Term::Int(1)]);
-    let phase = |operation: &str, seed: u64, work: &dyn Fn(&mut Map, u64) -> bool| {
-        let start = Instant::now();
-        let done = shuffled(count, seed).filter(|k| work(&mut map.lock().unwrap(), *k)).count() as u64;
-        assert_eq!(done, count);
-        show("Mutex<HashMap>", operation, start.elapsed().as_secs_f64() * 1e9 / count as f64);
-    };
-    phase("insert", 1, &|map, k| map.insert(key(k), object(k)).is_none());
-    show("Mutex<HashMap>", "bytes", peak() / count as f64);
-    phase("hit", 2, &|map, k| map.get(&key(k)).is_some_and(|object| matches!(object, Term::Tuple(row) if row.len() == 2)));
-    phase("miss", 2, &|map, k| !map.contains_key(&key(k + count)));
-    phase("counter", 3, &|map, k| match map.get_mut(&key(k)) {
+/// The bytes that this process has in memory now.
+fn resident() -> f64 {
+    let pages = std::fs::read_to_string("/proc/self/statm").unwrap();
+    pages.split_whitespace().nth(1).unwrap().parse::<f64>().unwrap() * 4096.0
+}
+
+/// Small tables are made again and again, and each figure is the least.
+fn repeats(count: u64) -> u64 {
+    (300_000 / count).max(1)
+}
+
+type Map = HashMap<Key, Term, BuildHasherDefault<Fnv>>;
+
+fn key(k: u64) -> Key {
+    Key(Term::Int(k as i64))
+}
+
+fn insert(map: &mut Map, k: u64) -> bool {
+    map.insert(key(k), Term::Tuple(vec![Term::Int(k as i64), Term::Int(1)])).is_none()
+}
+
+fn hit(map: &mut Map, k: u64) -> bool {
+    map.get(&key(k)).is_some_and(|object| matches!(object, Term::Tuple(row) if row.len() == 2))
+}
+
+fn count_up(map: &mut Map, k: u64) -> bool {
+    match map.get_mut(&key(k)) {
         Some(Term::Tuple(row)) => match &mut row[1] {
             Term::Int(n) => {
                 *n += 1;
@@ -154,8 +169,43 @@ fn mutex_map(count: u64) {
             _ => false,
         },
         _ => false,
-    });
-    phase("delete", 4, &|map, k| map.remove(&key(k)).is_some());
+    }
+}
+
+fn mutex_map(count: u64) {
+    type Work = fn(&mut Map, u64) -> bool;
+    let miss: Work = |map, k| !map.contains_key(&key(k));
+    let delete: Work = |map, k| map.remove(&key(k)).is_some();
+    let phases: [(&str, u64, Work); 5] =
+        [("insert", 0, insert), ("hit", 0, hit), ("miss", count, miss), ("counter", 0, count_up), ("delete", 0, delete)];
+    let orders: Vec<Vec<u64>> = (1..=5).map(|seed| shuffled(count, seed).collect()).collect();
+    let mut best = [f64::INFINITY; 5];
+    for _ in 0..repeats(count) {
+        let map: Mutex<Map> = Mutex::new(HashMap::default());
+        for (at, (_, past, work)) in phases.iter().enumerate() {
+            let start = Instant::now();
+            let done = orders[at].iter().filter(|k| work(&mut map.lock().unwrap(), **k + past)).count() as u64;
+            best[at] = best[at].min(start.elapsed().as_secs_f64());
+            assert_eq!(done, count);
+        }
+    }
+    for (at, (operation, ..)) in phases.iter().enumerate() {
+        show("Mutex<HashMap>", operation, best[at] * 1e9 / count as f64);
+    }
+}
+
+/// As many tables as make some 300,000 objects, so that the pages of a small one do not blur it.
+fn mutex_map_bytes(count: u64) {
+    let order: Vec<u64> = shuffled(count, 1).collect();
+    let before = resident();
+    let tables: Vec<Mutex<Map>> = (0..repeats(count))
+        .map(|_| {
+            let mut map = HashMap::default();
+            order.iter().for_each(|k| assert!(insert(&mut map, *k)));
+            Mutex::new(map)
+        })
+        .collect();
+    show("Mutex<HashMap>", "bytes", (resident() - before) / (count * tables.len() as u64) as f64);
 }
 
 /// What one dependent miss of the cache costs: a walk along `count` lines in shuffled order.
@@ -183,7 +233,8 @@ fn main() {
         "store-list" => store_list(count),
         "rust-list" => rust_list(count),
         "mutex-map" => mutex_map(count),
+        "mutex-map-bytes" => mutex_map_bytes(count),
         "chase" => chase(count),
-        _ => eprintln!("library text|store-list|rust-list|mutex-map|chase [COUNT]"),
+        _ => eprintln!("library text|store-list|rust-list|mutex-map|mutex-map-bytes|chase [COUNT]"),
     }
 }

@@ -1,8 +1,8 @@
-//! A split-ordered list in straight Rust, laid out as `node_list` is: nodes in one arena, links of half a word.
+//! A split-ordered list in straight Rust, laid out as `node_list` is: keys and links in one arena, items in another.
 use crate::shuffled;
 use crate::term::Term;
 
-const NONE: u32 = u32::MAX;
+const NONE: usize = usize::MAX;
 
 /// The objects of one key: one of them lies inside.
 #[allow(dead_code)]
@@ -13,12 +13,14 @@ pub enum Chain {
 
 struct Node {
     key: u64,
-    next: u32,
-    item: Option<(Term, Chain)>,
+    next: usize,
 }
+
+type Item = Option<(Term, Chain)>;
 
 pub struct List {
     nodes: Vec<Node>,
+    items: Vec<Item>,
 }
 
 fn fnv(bytes: impl IntoIterator<Item = u8>) -> u32 {
@@ -32,32 +34,33 @@ fn hash(n: i64) -> u32 {
 
 impl List {
     pub fn new() -> List {
-        List { nodes: vec![Node { key: 0, next: NONE, item: None }] }
+        List { nodes: vec![Node { key: 0, next: NONE }], items: vec![None] }
     }
 
-    pub fn insert(&mut self, start: u32, key: u64, item: Option<(Term, Chain)>) -> u32 {
+    pub fn insert(&mut self, start: usize, key: u64, item: Item) -> usize {
         let mut last = start;
         loop {
-            let next = self.nodes[last as usize].next;
-            if next == NONE || self.nodes[next as usize].key > key {
+            let next = self.nodes[last].next;
+            if next == NONE || self.nodes[next].key > key {
                 break;
             }
             last = next;
         }
-        let at = self.nodes.len() as u32;
-        let next = std::mem::replace(&mut self.nodes[last as usize].next, at);
-        self.nodes.push(Node { key, next, item });
+        let at = self.nodes.len();
+        let next = std::mem::replace(&mut self.nodes[last].next, at);
+        self.nodes.push(Node { key, next });
+        self.items.push(item);
         at
     }
 
-    pub fn find(&self, start: u32, key: u64, term: &Term) -> Option<u32> {
+    pub fn find(&self, start: usize, key: u64, term: &Term) -> Option<usize> {
         let mut at = start;
         while at != NONE {
-            let node = &self.nodes[at as usize];
+            let node = &self.nodes[at];
             if node.key > key {
                 return None;
             }
-            if node.key == key && node.item.as_ref().is_some_and(|item| item.0 == *term) {
+            if node.key == key && self.items[at].as_ref().is_some_and(|item| item.0 == *term) {
                 return Some(at);
             }
             at = node.next;
@@ -70,7 +73,8 @@ impl List {
 pub fn phase(items: u64, buckets: u64, finds: u64) -> u64 {
     let mut list = List::new();
     list.nodes.reserve((items + buckets) as usize);
-    let mut dummies = vec![0u32];
+    list.items.reserve((items + buckets) as usize);
+    let mut dummies = vec![0];
     for bucket in 1..buckets as u32 {
         let parent = bucket - (1 << (31 - bucket.leading_zeros()));
         dummies.push(list.insert(dummies[parent as usize], 2 * u64::from(bucket.reverse_bits()), None));

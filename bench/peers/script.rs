@@ -193,6 +193,11 @@ impl Node {
                 self.table(t).delete(key);
                 done()
             }
+            ("delete", [Term::Atom(_)]) => {
+                let at = self.names.remove(&args[0]).unwrap();
+                self.tables[at] = None;
+                done()
+            }
             ("update_counter", [t, key, by]) => self.table(t).count(key, by),
             ("select", [t, spec]) => Term::List(self.table(t).select(spec)),
             ("safe_fixtable", [t, on]) if *on == atom("true") => {

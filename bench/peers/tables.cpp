@@ -1,11 +1,14 @@
 // Two split-ordered hash tables of the field, over objects {K,V} of boxed terms: liburcu's cds_lfht and oneTBB's
-// concurrent_unordered_map. Prints nanoseconds an operation and bytes an object, a line each: PEER OPERATION FIGURE.
+// concurrent_unordered_map. Prints nanoseconds an operation, or bytes an object: lines of PEER OPERATION FIGURE.
+#include <algorithm>
 #include <chrono>
 #include <cstdint>
 #include <cstdio>
 #include <cstdlib>
 #include <cstring>
-#include <numeric>
+#include <string>
+#include <unistd.h>
+#include <utility>
 #include <vector>
 
 #include <tbb/concurrent_unordered_map.h>
@@ -33,24 +36,39 @@ static Term *object(int64_t key, int64_t value) {
     return terms;
 }
 
-static std::vector<int64_t> shuffled(size_t count, uint64_t seed) {
-    std::vector<int64_t> keys(count);
-    std::iota(keys.begin(), keys.end(), 0);
-    seed = seed * 88172645463325252ull + 1;
-    for (size_t i = count - 1; i > 0; i--) {
-        seed ^= seed << 13;
-        seed ^= seed >> 7;
-        seed ^= seed << 17;
-        std::swap(keys[i], keys[seed % (i + 1)]);
+// Each number below `count` once, in an order that jumps about, the same as the store's and the other peers'.
+static std::vector<int64_t> shuffled(uint64_t count, uint64_t seed) {
+    uint64_t mask = 1;
+    while (mask < count) mask *= 2;
+    mask -= 1;
+    uint64_t odd = seed * 0xD6E8FEB86659FD92ull | 1;
+    std::vector<int64_t> keys;
+    for (uint64_t i = 0; i <= mask; i++) {
+        uint64_t a = i * odd & mask;
+        uint64_t b = (a ^ a >> 9) * (0x85EBCA6Bull ^ seed * 0x2C1B3C6Cull) & mask;
+        uint64_t c = (b ^ b >> 7) * (odd ^ 0x9E3779B8ull) & mask;
+        uint64_t d = (c ^ c >> 11) * (0xC2B2AE35ull ^ seed * 0x165667B0ull) & mask;
+        uint64_t key = d ^ d >> 8;
+        if (key < count) keys.push_back(static_cast<int64_t>(key));
     }
     return keys;
 }
 
-template <class Work> static void timed(const char *peer, const char *operation, size_t count, Work work) {
+// The least nanoseconds an operation of several turns, in the order of the phases.
+static std::vector<std::pair<const char *, double>> best;
+
+template <class Work> static void timed(const char *operation, size_t count, Work work) {
     auto start = std::chrono::steady_clock::now();
     work();
     std::chrono::duration<double, std::nano> spent = std::chrono::steady_clock::now() - start;
-    printf("%s %s %.0f\n", peer, operation, spent.count() / static_cast<double>(count));
+    double each = spent.count() / static_cast<double>(count);
+    for (auto &known : best) {
+        if (known.first == operation) {
+            known.second = std::min(known.second, each);
+            return;
+        }
+    }
+    best.emplace_back(operation, each);
 }
 
 // Bytes in memory: each library has an allocator of its own.
@@ -60,10 +78,6 @@ static size_t in_use() {
     if (!statm || fscanf(statm, "%*u %zu", &pages) != 1) abort();
     fclose(statm);
     return pages * 4096;
-}
-
-static void bytes(const char *peer, size_t before, size_t count) {
-    printf("%s bytes %.0f\n", peer, static_cast<double>(in_use() - before) / static_cast<double>(count));
 }
 
 struct Entry {
@@ -83,73 +97,112 @@ static Entry *find(cds_lfht *table, int64_t key) {
     return node ? caa_container_of(node, Entry, node) : nullptr;
 }
 
-static void userspace_rcu(const std::vector<int64_t> &keys, const std::vector<int64_t> &others) {
-    const char *peer = "cds_lfht";
-    size_t count = keys.size(), before = in_use();
-    rcu_register_thread();
+using Keys = std::vector<int64_t>;
+
+// Small tables are made again and again, and each figure is the least.
+static size_t repeats(size_t count) { return std::max<size_t>(1, 300000 / count); }
+
+struct Lfht {
+    static constexpr const char *name = "cds_lfht";
     cds_lfht *table = cds_lfht_new(2, 1, 0, CDS_LFHT_AUTO_RESIZE | CDS_LFHT_ACCOUNTING, nullptr);
-    timed(peer, "insert", count, [&] {
-        for (int64_t key : keys) {
-            auto *entry = static_cast<Entry *>(malloc(sizeof(Entry)));
-            cds_lfht_node_init(&entry->node);
-            entry->key = {0, key};
-            entry->object = object(key, 1);
-            rcu_read_lock();
-            cds_lfht_add_replace(table, fnv(key), has_key, &key, &entry->node);
-            rcu_read_unlock();
-        }
-    });
-    bytes(peer, before, count);
-    int64_t sum = 0;
-    rcu_read_lock();
-    timed(peer, "hit", count, [&] { for (int64_t key : others) sum += find(table, key)->object[1].value; });
-    timed(peer, "miss", count, [&] { for (int64_t key : others) sum += find(table, -1 - key) != nullptr; });
-    timed(peer, "counter", count, [&] { for (int64_t key : others) find(table, key)->object[1].value += 1; });
-    timed(peer, "delete", count, [&] {
-        for (int64_t key : others) {
-            Entry *entry = find(table, key);
-            cds_lfht_del(table, &entry->node);
-            free(entry->object); // one thread: nobody reads what went, and its node waits for a grace period elsewhere
-        }
-    });
-    rcu_read_unlock();
-    if (sum != static_cast<int64_t>(count)) abort();
-    rcu_unregister_thread();
-}
+
+    void insert(int64_t key) {
+        auto *entry = static_cast<Entry *>(malloc(sizeof(Entry)));
+        cds_lfht_node_init(&entry->node);
+        entry->key = {0, key};
+        entry->object = object(key, 1);
+        rcu_read_lock();
+        cds_lfht_add_replace(table, fnv(key), has_key, &key, &entry->node);
+        rcu_read_unlock();
+    }
+
+    Term *get(int64_t key) {
+        rcu_read_lock();
+        Entry *entry = find(table, key);
+        rcu_read_unlock();
+        return entry ? entry->object : nullptr;
+    }
+
+    void remove(int64_t key) {
+        rcu_read_lock();
+        Entry *entry = find(table, key);
+        cds_lfht_del(table, &entry->node);
+        rcu_read_unlock();
+        free(entry->object); // one thread: nobody reads what went; its node would wait for a grace period, and stays
+    }
+
+    void end() { cds_lfht_destroy(table, nullptr); }
+};
 
 struct Hash {
     size_t operator()(int64_t key) const { return fnv(key); }
 };
 
-static void threading_blocks(const std::vector<int64_t> &keys, const std::vector<int64_t> &others) {
-    const char *peer = "oneTBB";
-    size_t count = keys.size(), before = in_use();
+struct Tbb {
+    static constexpr const char *name = "oneTBB";
     tbb::concurrent_unordered_map<int64_t, Term *, Hash> table;
-    timed(peer, "insert", count, [&] { for (int64_t key : keys) table.emplace(key, object(key, 1)); });
-    bytes(peer, before, count);
-    int64_t sum = 0;
-    timed(peer, "hit", count, [&] { for (int64_t key : others) sum += table.find(key)->second[1].value; });
-    timed(peer, "miss", count, [&] { for (int64_t key : others) sum += table.find(-1 - key) != table.end(); });
-    timed(peer, "counter", count, [&] { for (int64_t key : others) table.find(key)->second[1].value += 1; });
-    timed(peer, "delete", count, [&] {
-        for (int64_t key : others) {
-            auto at = table.find(key);
-            free(at->second);
-            table.unsafe_erase(at);
-        }
-    });
-    if (sum != static_cast<int64_t>(count)) abort();
+
+    void insert(int64_t key) { table.emplace(key, object(key, 1)); }
+
+    Term *get(int64_t key) {
+        auto at = table.find(key);
+        return at == table.end() ? nullptr : at->second;
+    }
+
+    void remove(int64_t key) {
+        auto at = table.find(key);
+        free(at->second);
+        table.unsafe_erase(at);
+    }
+
+    void end() {}
+};
+
+template <class Table> static void times(size_t count) {
+    std::vector<Keys> orders;
+    for (uint64_t seed = 1; seed <= 5; seed++) orders.push_back(shuffled(count, seed));
+    for (size_t turn = 0; turn < repeats(count); turn++) {
+        Table table;
+        int64_t sum = 0, past = static_cast<int64_t>(count);
+        timed("insert", count, [&] { for (int64_t key : orders[0]) table.insert(key); });
+        timed("hit", count, [&] { for (int64_t key : orders[1]) sum += table.get(key)[1].value; });
+        timed("miss", count, [&] { for (int64_t key : orders[2]) sum += table.get(key + past) != nullptr; });
+        timed("counter", count, [&] { for (int64_t key : orders[3]) table.get(key)[1].value += 1; });
+        timed("delete", count, [&] { for (int64_t key : orders[4]) table.remove(key); });
+        if (sum != past) abort();
+        table.end();
+    }
+    for (auto &known : best) printf("%s %s %.1f\n", Table::name, known.first, known.second);
+}
+
+// As many tables as make some 300,000 objects, so that the pages of a small one do not blur it.
+template <class Table> static void bytes(size_t count) {
+    Keys keys = shuffled(count, 1);
+    size_t before = in_use();
+    auto *tables = new std::vector<Table>(repeats(count));
+    for (auto &table : *tables) {
+        for (int64_t key : keys) table.insert(key);
+    }
+    double each = static_cast<double>(in_use() - before) / static_cast<double>(count * tables->size());
+    printf("%s bytes %.1f\n", Table::name, each);
 }
 
 int main(int argc, char **argv) {
+    std::string part = argc > 1 ? argv[1] : "";
     size_t count = argc > 2 ? strtoull(argv[2], nullptr, 10) : 1000000;
-    auto keys = shuffled(count, 1), others = shuffled(count, 2); // looked for in another order than inserted
-    if (argc > 1 && !strcmp(argv[1], "cds_lfht")) {
-        userspace_rcu(keys, others);
-    } else if (argc > 1 && !strcmp(argv[1], "oneTBB")) {
-        threading_blocks(keys, others);
+    rcu_register_thread();
+    if (part == "cds_lfht") {
+        times<Lfht>(count);
+    } else if (part == "cds_lfht-bytes") {
+        bytes<Lfht>(count);
+    } else if (part == "oneTBB") {
+        times<Tbb>(count);
+    } else if (part == "oneTBB-bytes") {
+        bytes<Tbb>(count);
     } else {
-        fprintf(stderr, "tables cds_lfht|oneTBB [COUNT]\n");
+        fprintf(stderr, "tables cds_lfht|cds_lfht-bytes|oneTBB|oneTBB-bytes [COUNT]\n");
         return 2;
     }
+    fflush(stdout);
+    _exit(0); // what the tables hold goes with the process
 }

@@ -9,10 +9,13 @@ pub fn places(count: u64) -> u64
     count.next_power_of_two()
 }
 
-/// The number at place `i` of an order that jumps about, another one for each seed. Where `mask` is one less than a
-/// power of two, each number up to it comes once.
+/// The number at place `i` of an order that jumps about, with multipliers of its own for each seed, so that no order runs
+/// along another one. Where `mask` is one less than a power of two, each number up to it comes once.
 pub fn shuffled(i: u64, seed: u64, mask: u64) -> u64 {
-    let a = (i.wrapping_mul(0x9E37_79B1) ^ seed) & mask;
-    let b = (a ^ (a >> 7)).wrapping_mul(0x85EB_CA6B) & mask;
-    b ^ (b >> 9)
+    let odd = seed.wrapping_mul(0xD6E8_FEB8_6659_FD92) | 1;
+    let a = i.wrapping_mul(odd) & mask;
+    let b = (a ^ (a >> 9)).wrapping_mul(0x85EB_CA6B ^ seed.wrapping_mul(0x2C1B_3C6C)) & mask;
+    let c = (b ^ (b >> 7)).wrapping_mul(odd ^ 0x9E37_79B8) & mask;
+    let d = (c ^ (c >> 11)).wrapping_mul(0xC2B2_AE35 ^ seed.wrapping_mul(0x1656_67B0)) & mask;
+    d ^ (d >> 8)
 }

@@ -7,7 +7,8 @@ ghost use Rattle.node_list.specs.Changes.{put_cell};
 
 use super::{At, NodeList};
 use crate::chain::Chain;
-use crate::node::Node;
+use crate::front::Front;
+use crate::slot::Slot;
 use crate::steps::Steps;
 use ets_term::Term;
 use std::alloc::{AllocError, Global};
@@ -18,9 +19,9 @@ fn keys(list: &NodeList, alloc: Global) -> Result<Vec<u64>, AllocError> {
     let mut keys = Vec::new(alloc);
     let mut at = Some(list.head());
     for _ in 0..list.nodes.len() {
-        if let Some(node) = at.and_then(|place| list.nodes.get(place)) {
-            keys.push(node.key)?;
-            at = node.next.get();
+        if let Some(front) = at.and_then(|place| list.nodes.front_at(place)) {
+            keys.push(front.key)?;
+            at = front.next.get();
         }
     }
     Ok(keys)
@@ -135,15 +136,50 @@ fn want_of_memory_changes_nothing(rt: HostRuntime) -> Result<(), Fail> {
     Ok(())
 }
 
-// A slot of the slab has a tag of 8 bytes beside its node.
+// Each node at the head, from 4,999 down to 1: the slab grows many times, and the keys stand in order.
 #[test]
-fn an_item_takes_two_lines_of_memory(rt: HostRuntime) {
-    assert!(rt; size_of::<Node>() + 8 <= 128);
+fn holds_many_nodes(rt: HostRuntime) -> Result<(), Fail> {
+    let alloc = rt.alloc();
+    let mut list = NodeList::new(alloc)?;
+    for number in 1..5_000 {
+        add_item(&mut list, alloc, 5_000 - number, 1)?;
+    }
+    assert_eq!(rt; list.len(), 5_000);
+    let mut wanted = Vec::new(alloc);
+    for key in 0..5_000 {
+        wanted.push(key)?;
+    }
+    assert_eq!(rt; keys(&list, alloc)?.as_slice(), wanted.as_slice());
+    let head = list.head();
+    let mut steps = Steps::new();
+    assert!(rt; list.find(head, 4_999, &Term::Int(1), &mut steps).is_some());
+    assert_eq!(rt; steps.count(), 5_000);
+    Ok(())
 }
 
 #[test]
-fn a_chain_may_be_empty(rt: HostRuntime) {
-    let chain = Chain::new(rt.alloc());
-    assert_eq!(rt; chain.len(), 0);
-    assert_eq!(rt; Chain::one(rt.alloc(), Term::Int(1)).len(), 1);
+fn reserves_much_room(rt: HostRuntime) -> Result<(), Fail> {
+    let mut list = NodeList::new(rt.alloc())?;
+    list.reserve(5_000)?;
+    list.reserve(100_000)?;
+    assert_eq!(rt; list.len(), 1);
+    Ok(())
+}
+
+#[test]
+fn tells_a_key(rt: HostRuntime) -> Result<(), Fail> {
+    let alloc = rt.alloc();
+    let mut list = NodeList::new(alloc)?;
+    let at = add_item(&mut list, alloc, 5, 1)?;
+    list.known();
+    assert_eq!(rt; list.key(at), 5);
+    let head = list.head();
+    assert_eq!(rt; list.key(head), 0);
+    Ok(())
+}
+
+#[test]
+fn a_search_passes_no_items(rt: HostRuntime) {
+    assert_eq!(rt; size_of::<Front>(), 16);
+    assert_eq!(rt; size_of::<Slot>(), 88);
 }

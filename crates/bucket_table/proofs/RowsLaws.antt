@@ -1,0 +1,190 @@
+-- Rows with their hints stay rows.
+use Rattle.std.proofs.Common.{inl, inr, ◌%◌, ◌≤◌, ◌≡◌, ℕ, zero, suc, ◌+◌, ◌-◌, ◌*◌, ◌/◌, ◌^◌, ◌<◌, List, [], ◌∷◌, ◌++◌, length, replicate, take, set, get_or, Option, Some, None, Bool, true, false, nat_eq, ◌&&◌, refl, sym, ◌∙◌, ap, subst, arith}
+use Rattle.std.specs.Map.{lookup}
+use Rattle.std.proofs.lemmas.List.{length-set}
+use Rattle.ets_term.specs.declared.term.Term.{Term}
+use Rattle.ets_term.specs.Order.{same}
+use Rattle.split_key.specs.Keys.{key_of_item, key_of_dummy}
+use Rattle.split_key.proofs.Revs.{pow-suc}
+use Rattle.split_key.proofs.Halves.{exponent-lt}
+use Rattle.std.proofs.lemmas.Bool.{cases_eq}
+use Rattle.node_list.proofs.CellLaws.{from-here, from-on, at-most-from}
+use Rattle.node_list.specs.Cells.{Cell, Sorted, new_cell, new_item}
+use Rattle.node_list.specs.Places.{IsFresh, AreApart, HasItem, from, behind, all_but_first, first_place}
+use Rattle.node_list.specs.Changes.{put_cell, without}
+use Rattle.node_list.specs.Changes.{cells_with}
+use Rattle.bucket_table.specs.inside.Nodes.{slots_of}
+use Rattle.bucket_table.specs.inside.Layout.{ArePlaced, IsStartOf}
+use Rattle.bucket_table.specs.inside.Found.{IsFound}
+use Rattle.bucket_table.specs.inside.Firsts.{first_in, AreHints, IsRows, IsNewFirst, KeepsFirst, IsNoted, IsItemIn, IsNextHint, IsSucceeded}
+use Rattle.bucket_table.proofs.ContentLaws.{placed-key}
+use Rattle.bucket_table.proofs.CountLaws.{placed-from}
+use Rattle.bucket_table.proofs.FirstLaws.{first-on}
+use Rattle.bucket_table.proofs.NewLaws.{new-split}
+use Rattle.bucket_table.proofs.StartLaws.{in-bucket}
+use Rattle.bucket_table.proofs.SplitLaws.{put-split, without-split, with-split, ready-split, grown-split, grown-length}
+use Rattle.bucket_table.proofs.HintedLaws.{hints-put, hints-dummy, hints-without, hints-with, hints-none}
+
+pub rows-like : (number : Term → ℕ) (dummies : List (Option ℕ)) (shift : ℕ) (firsts fs : List (Option (Option ℕ))) (cells zs : List Cell) → IsRows number dummies shift firsts cells → fs ≡ firsts → zs ≡ cells → IsRows number dummies shift fs zs
+rows-like number dummies shift firsts fs cells zs r e f =
+    let P : List (Option (Option ℕ)) → Type 0 = λ gs. IsRows number dummies shift gs zs in
+    let Q : List Cell → Type 0 = λ cs. IsRows number dummies shift firsts cs in
+    subst P (sym e) (subst Q (sym f) r)
+
+and-false : (b : Bool) → (b && false) ≡ false
+and-false true = refl
+and-false false = refl
+
+none-first : (wide f k : ℕ) → first_in wide f (new_cell 0 k None ∷ []) ≡ None
+none-first wide f k = first-on wide f (new_cell 0 k None) [] (and-false (nat_eq (k / wide) f))
+
+hints-empty : (wide n : ℕ) (firsts : List (Option (Option ℕ))) (cs : List Cell) → ((f : ℕ) → first_in wide f cs ≡ None) → firsts ≡ replicate n (Some None) → AreHints wide firsts cs
+hints-empty wide n firsts cs none is f first e = none f ∙ go n f first (ap (λ (zs : List (Option (Option ℕ))). get_or zs f None) (sym is) ∙ e)
+  where
+    go : (n f : ℕ) (first : Option ℕ) → get_or (replicate n (Some None)) f None ≡ Some first → None ≡ first
+    go zero f first e = absurd (cc)
+    go (suc n) zero first e = cc
+    go (suc n) (suc f) first e = go n f first e
+
+pub new-rows : (number : Term → ℕ) (head : ℕ) (dummies : List (Option ℕ)) (firsts : List (Option (Option ℕ))) (n : ℕ) (cells : List Cell) → dummies ≡ Some head ∷ None ∷ [] → cells ≡ new_cell 0 0 None ∷ [] → first_place cells ≡ Some head → firsts ≡ replicate n (Some None) → IsRows number dummies 29 firsts cells
+new-rows number head dummies firsts n cells d e f h = record {
+  split = new-split number head dummies cells d e f;
+  hinted = record { doublings = 1; size = ap length d; narrow = refl; hints = hints-empty (2 ^ 29) n firsts cells (λ g. ap (first_in (2 ^ 29) g) e ∙ none-first (2 ^ 29) g 0) h };
+}
+
+-- a node of a greater key stands behind
+stands-behind : (start at : ℕ) (cs : List Cell) (d : Cell) (ds : List Cell) (e : Cell) (es : List Cell) → Sorted cs → from start cs ≡ d ∷ ds → from at cs ≡ e ∷ es → d.key < e.key → from at ds ≡ e ∷ es
+stands-behind start at [] d ds e es o s t h = absurd (cc)
+stands-behind start at (c ∷ cs) d ds e es o s t h =
+    elim (cases_eq c.at at) [
+      | inl here ↦
+          let same' : c ≡ e = cc (sym (from-here at c cs here) ∙ t) in
+          let k : c.key ≡ e.key = ap (λ (z : Cell). z.key) same' in
+          elim (cases_eq c.at start) [
+            | inl first ↦
+                let also : c ≡ d = cc (sym (from-here start c cs first) ∙ s) in
+                let l : c.key ≡ d.key = ap (λ (z : Cell). z.key) also in
+                absurd (omega arith)
+            | inr other ↦
+                let l : c.key ≤ d.key = at-most-from start c.key cs d ds o.0 o.1 (sym (from-on start c cs other) ∙ s) in
+                absurd (omega arith)
+          ]
+      | inr miss ↦
+          let t' : from at cs ≡ e ∷ es = sym (from-on at c cs miss) ∙ t in
+          elim (cases_eq c.at start) [
+            | inl first ↦
+                let later : cs ≡ ds = cc (sym (from-here start c cs first) ∙ s) in
+                ap (from at) (sym later) ∙ t'
+            | inr other ↦ stands-behind start at cs d ds e es o.1 (sym (from-on start c cs other) ∙ s) t' h
+          ]
+    ]
+
+abbrev no_hints : List (Option (Option ℕ))
+no_hints = []
+
+take-none : (n : ℕ) → take n no_hints ≡ no_hints
+take-none zero = refl
+take-none (suc n) = refl
+
+-- a cleared list of hints filled up with one
+pub cleared-grown : (old after : List (Option (Option ℕ))) (unknown what : Option (Option ℕ)) (n m : ℕ) → old ≡ [] → unknown ≡ what → m ≡ 0 → after ≡ take n old ++ replicate (n - m) unknown → after ≡ replicate n what
+cleared-grown old after unknown what n m e u z h =
+    let none : n - m ≡ n = omega (arith, z) in
+    h ∙ (ap (λ (zs : List (Option (Option ℕ))). take n zs ++ replicate (n - m) unknown) e
+    ∙ (ap (λ (zs : List (Option (Option ℕ))). zs ++ replicate (n - m) unknown) (take-none n)
+    ∙ (ap (λ (k : ℕ). replicate k unknown) none ∙ ap (replicate n) u)))
+
+module _ (number : Term → ℕ) (dummies : List (Option ℕ)) (shift : ℕ) (firsts : List (Option (Option ℕ))) (cells : List Cell) (r : IsRows number dummies shift firsts cells) where
+  pub rows-put : (after : List (Option (Option ℕ))) (moves : Bool) (at key : ℕ) (term : Term) (chain : List Term) (new : List Cell) → IsFresh at cells → key ≡ key_of_item (number term) → lookup (same term) (slots_of cells) ≡ None
+      → new ≡ put_cell (new_cell at key (Some (new_item term chain))) cells → IsNoted moves (key / 2 ^ shift) at firsts after
+      → (moves ≡ true → IsNewFirst (2 ^ shift) (key / 2 ^ shift) cells key) → (moves ≡ false → KeepsFirst (2 ^ shift) (key / 2 ^ shift) cells key (get_or firsts (key / 2 ^ shift) None))
+      → IsRows number dummies shift after new
+  rows-put after moves at key term chain new f k none e noted new_first old_first = record {
+    split = put-split number dummies cells r.split at key term chain new f k none e;
+    hinted = record {
+      doublings = r.hinted.doublings;
+      size = r.hinted.size;
+      narrow = r.hinted.narrow;
+      hints = hints-put (2 ^ shift) firsts after moves at key (new_item term chain) cells new r.hinted.hints e noted new_first old_first;
+    };
+  }
+
+  -- where a found item stands
+  pub found-in : (term : Term) (at index : ℕ) → IsFound term at cells → index ≡ key_of_item (number term) / 2 ^ shift → IsItemIn (2 ^ shift) index at cells
+  found-in term at index h at_index =
+      let P : List Cell → Type 0 = λ zs. ArePlaced number dummies zs in
+      let p : ArePlaced number dummies (h.cell ∷ h.later) = subst P h.is (placed-from number dummies at cells r.split.placed) in
+      let is : h.cell.key ≡ key_of_item (number term) = placed-key number dummies h.cell.at h.cell.key h.cell.item h.item h.has p.0 ∙ ap (λ (t : Term). key_of_item (number t)) h.same_term in
+      record { cell = h.cell; later = h.later; item = h.item; is = h.is; has = h.has; inside = ap (λ (z : ℕ). z / 2 ^ shift) is ∙ sym at_index }
+
+  -- it stands behind its bucket's start
+  pub found-behind-start : (ds : List (Option ℕ)) (term : Term) (hash at start : ℕ) → IsFound term at cells → Sorted cells → ds ≡ dummies → IsStartOf ds (hash % length ds) start → hash ≡ number term → HasItem at (behind start cells)
+  found-behind-start ds term hash at start h o same' s e =
+      let Q : List (Option ℕ) → Type 0 = λ es. IsStartOf es (hash % length es) start in
+      let s' : IsStartOf dummies (hash % length dummies) start = subst Q same' s in
+      let d = r.split.stand s'.nearest start s'.entry in
+      let b = in-bucket number dummies cells term (hash % length dummies) start r.split s' (ap (λ (n : ℕ). n % length dummies) e) in
+      let low : key_of_dummy (hash % length dummies) < key_of_item (number term) = b.low in
+      let before : key_of_dummy s'.nearest ≤ key_of_dummy (hash % length dummies) = s'.before in
+      let P : List Cell → Type 0 = λ zs. ArePlaced number dummies zs in
+      let p : ArePlaced number dummies (h.cell ∷ h.later) = subst P h.is (placed-from number dummies at cells r.split.placed) in
+      let is : h.cell.key ≡ key_of_item (number term) = placed-key number dummies h.cell.at h.cell.key h.cell.item h.item h.has p.0 ∙ ap (λ (t : Term). key_of_item (number t)) h.same_term in
+      let H : List Cell → Type 0 = λ zs. HasItem at (all_but_first zs) in
+      let later = stands-behind start at cells (new_cell start (key_of_dummy s'.nearest) None) d.later h.cell h.later o d.is h.is (omega (arith, low, before, is)) in
+      subst H (sym d.is) (record { cell = h.cell; later = h.later; item = h.item; is = later; has = h.has })
+
+  pub rows-without : (after : List (Option (Option ℕ))) (hint : Option (Option ℕ)) (term : Term) (at index : ℕ) (new : List Cell) → IsFound term at cells → AreApart cells → new ≡ without at cells → index ≡ key_of_item (number term) / 2 ^ shift
+      → IsNextHint (2 ^ shift) index at cells hint → IsSucceeded index at hint firsts after → IsRows number dummies shift after new
+  rows-without after hint term at index new h a e at_index next succeeded = record {
+    split = without-split number dummies cells r.split term at new h e;
+    hinted = record {
+      doublings = r.hinted.doublings;
+      size = r.hinted.size;
+      narrow = r.hinted.narrow;
+      hints = hints-without (2 ^ shift) firsts after hint at index cells new (found-in term at index h at_index) r.hinted.hints a e next succeeded;
+    };
+  }
+
+  pub rows-with : (term : Term) (at : ℕ) (w : List Term) → IsFound term at cells → IsRows number dummies shift firsts (cells_with at w cells)
+  rows-with term at w h = record {
+    split = with-split number dummies cells r.split term at w h;
+    hinted = record {
+      doublings = r.hinted.doublings;
+      size = r.hinted.size;
+      narrow = r.hinted.narrow;
+      hints = hints-with (2 ^ shift) firsts at w cells r.hinted.hints;
+    };
+  }
+
+  pub rows-ready : (bucket at : ℕ) → bucket < length dummies → get_or dummies bucket None ≡ None → IsFresh at cells → (new : List Cell) → new ≡ put_cell (new_cell at (key_of_dummy bucket) None) cells → IsRows number (set dummies bucket (Some at)) shift firsts new
+  rows-ready bucket at below none f new e = record {
+    split = ready-split number dummies cells r.split bucket at below none f new (set dummies bucket (Some at)) e refl;
+    hinted = record {
+      doublings = r.hinted.doublings;
+      size = length-set dummies bucket (Some at) ∙ r.hinted.size;
+      narrow = r.hinted.narrow;
+      hints = hints-dummy (2 ^ shift) firsts at (key_of_dummy bucket) cells new r.hinted.hints e;
+    };
+  }
+
+  pub rows-unknown : (n : ℕ) (after : List (Option (Option ℕ))) → after ≡ replicate n None → IsRows number dummies shift after cells
+  rows-unknown n after e = record {
+    split = r.split;
+    hinted = record { doublings = r.hinted.doublings; size = r.hinted.size; narrow = r.hinted.narrow; hints = hints-none (2 ^ shift) n after cells e };
+  }
+
+  pub rows-grown : length dummies < 2 ^ 20 → (after : List (Option ℕ)) (hints : List (Option (Option ℕ))) (n : ℕ) → after ≡ dummies ++ replicate (length dummies) None → hints ≡ replicate n None → IsRows number after (shift - 1) hints cells
+  rows-grown h after hints n e f =
+      let l : length after ≡ 2 * length dummies = ap length e ∙ grown-length number dummies cells r.split in
+      let R : ℕ → Type 0 = λ z. z < 2 ^ 20 in
+      let fewer : r.hinted.doublings < 20 = exponent-lt r.hinted.doublings 20 (subst R r.hinted.size h) in
+      let narrow : shift + r.hinted.doublings ≡ 30 = r.hinted.narrow in
+      record {
+        split = grown-split number dummies cells r.split h after e;
+        hinted = record {
+          doublings = suc r.hinted.doublings;
+          size = l ∙ (ap (λ (z : ℕ). 2 * z) r.hinted.size ∙ sym (pow-suc r.hinted.doublings));
+          narrow = omega arith;
+          hints = hints-none (2 ^ (shift - 1)) n hints cells f;
+        };
+      }

@@ -1,0 +1,208 @@
+-- A search from the dummy of a bucket, or of one in front of it.
+use Rattle.std.proofs.Common.{◌≡◌, ℕ, ◌+◌, ◌-◌, ◌%◌, ◌^◌, ◌<◌, ◌≤◌, ◌⊎◌, inl, inr, List, [], ◌∷◌, length, map, Option, Some, None, is_some, MatchOption, IfSome, true, false, nat_eq, count_by, get_or, refl, sym, ◌∙◌, ap, subst, arith}
+use Rattle.std.specs.Map.{lookup}
+use Rattle.std.proofs.lemmas.List.{length-map}
+use Rattle.std.proofs.lemmas.Nat.{mod_below, pow_pos}
+use Rattle.std.proofs.Math.ListN.{get_or-map}
+use Rattle.ets_term.specs.declared.term.Term.{Term}
+use Rattle.ets_term.specs.Order.{same}
+use Rattle.split_key.specs.Keys.{key_of_item, key_of_dummy}
+use Rattle.node_list.specs.declared.node.Item.{Item}
+use Rattle.node_list.specs.Cells.{Cell, Sorted, StartsFrom, new_cell}
+use Rattle.node_list.specs.Places.{from, behind, all_but_first, HasItem, IsFresh, AreApart, Stands, StandsUpTo}
+use Rattle.node_list.specs.Search.{place_of, passed}
+use Rattle.node_list.specs.Ticks.{ticks}
+use Rattle.node_list.proofs.CellLaws.{sorted-from, search-on}
+use Rattle.node_list.proofs.CallerLaws.{is_item_below, ItemsBelow, length-passed, place_of-from}
+use Rattle.bucket_table.specs.inside.Nodes.{slots_of}
+use Rattle.bucket_table.specs.inside.Layout.{IsPlaced, ArePlaced, IsKnown, HasDummies, IsSplit, IsStartOf}
+use Rattle.bucket_table.specs.Buckets.{hash_keys, bucket_keys, HasLooked}
+use Rattle.bucket_table.proofs.KeyLaws.{width, IsItemOf, item-of, bucket-of-key, dummy-alone}
+use Rattle.bucket_table.proofs.ContentLaws.{item-cases, is_it-no, found, found-item, absent, place_of-on}
+use Rattle.bucket_table.specs.inside.Found.{IsFound}
+use Rattle.bucket_table.proofs.CountLaws.{count-dummy, count-from, placed-from, apart-from, hash-passed, hash-from, below-bucket}
+
+pub start-stands : (dummies : List (Option ℕ)) (bucket at key : ℕ) (cs : List Cell) → HasDummies dummies cs → IsStartOf dummies bucket at → key_of_dummy bucket ≤ key → StandsUpTo key at cs
+start-stands dummies bucket at key cs h s low =
+    let d = h s.nearest at s.entry in
+    let before : key_of_dummy s.nearest ≤ key_of_dummy bucket = s.before in
+    record { cell = new_cell at (key_of_dummy s.nearest) None; later = d.later; is = d.is; up_to = omega arith }
+
+pub start-is : (dummies : List (Option ℕ)) (bucket at : ℕ) (cs : List Cell) → HasDummies dummies cs → IsStartOf dummies bucket at → Stands at cs
+start-is dummies bucket at cs h s =
+    let d = h s.nearest at s.entry in
+    record { cell = new_cell at (key_of_dummy s.nearest) None; later = d.later; is = d.is }
+
+starts-later : (low : ℕ) (c : Cell) (cs : List Cell) → low ≤ c.key → StartsFrom c.key cs → StartsFrom low cs
+starts-later low c [] h s = tt
+starts-later low c (d ∷ ds) h s = omega (arith, h, s)
+
+some-one : (a b : ℕ) (o p : Option ℕ) → o ≡ p → o ≡ Some a → p ≡ Some b → a ≡ b
+some-one a b o p q e f = cc
+
+item-some : (o : Option Item) (item : Item) → o ≡ Some item → is_some o ≡ true
+item-some o item e = ap is_some e
+
+-- behind a bucket's dummy no dummy stands below the end of its keys
+items-below : (number : Term → ℕ) (dummies : List (Option ℕ)) (bucket at low high : ℕ) → get_or dummies bucket None ≡ Some at
+    → ((b : ℕ) → b < length dummies → low ≤ key_of_dummy b → key_of_dummy b < high → b ≡ bucket)
+    → (cs : List Cell) → IsFresh at cs → StartsFrom low cs → Sorted cs → ArePlaced number dummies cs → ItemsBelow high cs
+items-below number dummies bucket at low high e only [] f s o p = tt
+items-below number dummies bucket at low high e only (c ∷ cs) f s o p =
+    let near : StartsFrom low cs = starts-later low c cs s o.0 in (
+      λ less.
+          elim (item-cases c.item) [
+            | inl none ↦
+                let P : Option Item → Type 0 = λ z. IsPlaced number dummies c.at c.key z in
+                let k : IsKnown dummies c.at c.key = subst P none p.0 in
+                let L : ℕ → Type 0 = λ z. low ≤ z in
+                let H : ℕ → Type 0 = λ z. z < high in
+                let b : k.bucket ≡ bucket = only k.bucket k.below (subst L k.is s) (subst H k.is less) in
+                absurd (f.0 (some-one c.at at (get_or dummies k.bucket None) (get_or dummies bucket None) (ap (λ (z : ℕ). get_or dummies z None) b) k.entry e))
+            | inr some ↦ item-some c.item some.0 some.1
+          ],
+      items-below number dummies bucket at low high e only cs f.1 near o.1 p.1,
+    )
+
+option-cases : (o : Option ℕ) → (o ≡ None) ⊎ ((at : ℕ) × (o ≡ Some at))
+option-cases None = inl refl
+option-cases (Some at) = inr (at, refl)
+
+module _ (number : Term → ℕ) (dummies : List (Option ℕ)) (cs : List Cell) (term : Term) (bucket start : ℕ) (i : IsSplit number dummies cs) (s : IsStartOf dummies bucket start) (e : bucket ≡ number term % length dummies) where
+  abbrev key : ℕ
+  key = key_of_item (number term)
+
+  pub in-bucket : IsItemOf (number term) bucket (2 ^ i.doublings)
+  in-bucket = let few : i.doublings ≤ 20 = i.few in item-of i.doublings (32 - i.doublings) (number term) bucket (omega arith) (e ∙ ap (λ (n : ℕ). number term % n) i.size)
+
+  strict : key_of_dummy s.nearest < key
+  strict = let low : key_of_dummy bucket < key_of_item (number term) = in-bucket.low in let before : key_of_dummy s.nearest ≤ key_of_dummy bucket = s.before in omega arith
+
+  pub bucket-within : bucket < length dummies
+  bucket-within =
+      let P : ℕ → Type 0 = λ z. z < length dummies in
+      let some : 0 < length dummies = (let q : 0 < 2 ^ i.doublings = pow_pos i.doublings in omega (arith, i.size)) in
+      subst P (sym e) (mod_below (number term) (length dummies) some)
+
+  abbrev first : Cell
+  first = new_cell start (key_of_dummy s.nearest) None
+
+  module _ (o : Sorted cs) (a : AreApart cs) where
+    -- what a search from the start finds is what the whole list has
+    pub whole : place_of key term cs ≡ place_of key term (from start cs)
+    whole =
+        let d = i.stand s.nearest start s.entry in
+        place_of-from key term start cs first d.later o d.is strict ∙ ap (place_of key term) (sym d.is)
+
+    pub search-found : (at : ℕ) → place_of key term (from start cs) ≡ Some at → IsFound term at cs
+    search-found at h = found number dummies key term refl at cs i.placed a (whole ∙ h)
+
+    pub search-absent : place_of key term (from start cs) ≡ None → lookup (same term) (slots_of cs) ≡ None
+    search-absent h = absent number dummies key term refl cs i.placed (whole ∙ h)
+
+    none-found : lookup (same term) (slots_of cs) ≡ None → place_of key term (from start cs) ≡ None
+    none-found h =
+        elim (option-cases (place_of key term (from start cs))) [
+          | inl none ↦ none
+          | inr some ↦ let f = search-found some.0 some.1 in absurd (cc (f.objects, h))
+        ]
+
+    first-passed : length (passed key term (from start cs)) ≡ length (passed key term (i.stand s.nearest start s.entry).later) + 1
+    first-passed =
+        let d = i.stand s.nearest start s.entry in
+        let low : first.key ≤ key = (let st : key_of_dummy s.nearest < key = strict in omega arith) in
+        ap (λ (zs : List Cell). length (passed key term zs)) d.is ∙ (search-on key term first d.later low (is_it-no key term first refl)).passed
+
+    all-passed : lookup (same term) (slots_of cs) ≡ None → hash_keys number (number term) (slots_of cs) ≤ length (passed key term (from start cs))
+    all-passed h =
+        let d = i.stand s.nearest start s.entry in
+        let n = hash-from number dummies key (number term) refl start cs first d.later o i.placed d.is strict in
+        let m = hash-passed number dummies key (number term) refl term (from start cs) (sorted-from start cs o) (placed-from number dummies start cs i.placed) (none-found h) in
+        omega (arith, n, m)
+
+    few-passed : s.nearest ≡ bucket → length (passed key term (from start cs)) ≤ bucket_keys number (length dummies) bucket (slots_of cs) + 2
+    few-passed near =
+        let d = i.stand s.nearest start s.entry in
+        let n = length dummies in
+        let j = i.doublings in
+        let few : i.doublings ≤ 20 = i.few in
+        let full : i.doublings + (32 - i.doublings) ≡ 32 = omega arith in
+        let W : ℕ → Type 0 = λ z. bucket < z in
+        let within : bucket < 2 ^ j = subst W i.size bucket-within in
+        let low = key_of_dummy bucket in
+        let high = key_of_dummy bucket + width (2 ^ j) in
+        let A : List Cell → Type 0 = λ zs. AreApart zs in
+        let S : List Cell → Type 0 = λ zs. Sorted zs in
+        let R : List Cell → Type 0 = λ zs. ArePlaced number dummies zs in
+        let ap' = subst A d.is (apart-from start cs a) in
+        let so = subst S d.is (sorted-from start cs o) in
+        let pl = subst R d.is (placed-from number dummies start cs i.placed) in
+        let L : ℕ → Type 0 = λ b. StartsFrom (key_of_dummy b) d.later in
+        let starts : StartsFrom (key_of_dummy bucket) d.later = subst L near so.0 in
+        let E : ℕ → Type 0 = λ b. get_or dummies b None ≡ Some start in
+        let alone : (b : ℕ) → b < length dummies → key_of_dummy bucket ≤ key_of_dummy b → key_of_dummy b < key_of_dummy bucket + width (2 ^ i.doublings) → b ≡ bucket =
+        λ b below l h. (let Q : ℕ → Type 0 = λ z. b < z in dummy-alone i.doublings (32 - i.doublings) bucket b full within (subst Q i.size below) l h) in
+        let items : ItemsBelow (key_of_dummy bucket + width (2 ^ i.doublings)) d.later =
+        items-below number dummies bucket start (key_of_dummy bucket) (key_of_dummy bucket + width (2 ^ i.doublings)) (subst E near s.entry) alone d.later ap'.0 starts so.1 pl.1 in
+        let most : length (passed key term d.later) ≤ count_by (is_item_below (key_of_dummy bucket + width (2 ^ i.doublings))) d.later + 1 =
+        length-passed key term (key_of_dummy bucket + width (2 ^ i.doublings)) d.later so.1 in-bucket.high items in
+        let only : (h : ℕ) → key_of_dummy bucket ≤ key_of_item h → key_of_item h < key_of_dummy bucket + width (2 ^ i.doublings) → h % length dummies ≡ bucket =
+        λ h l u. ap (λ (z : ℕ). h % z) i.size ∙ bucket-of-key i.doublings (32 - i.doublings) h bucket full within l u in
+        let mine : count_by (is_item_below (key_of_dummy bucket + width (2 ^ i.doublings))) d.later ≤ bucket_keys number (length dummies) bucket (slots_of d.later) =
+        below-bucket number dummies (length dummies) bucket (key_of_dummy bucket) (key_of_dummy bucket + width (2 ^ i.doublings)) only d.later starts so.1 pl.1 in
+        let part = count-from (λ t. nat_eq (number t.0 % length dummies) bucket) start cs in
+        let same' = ap (λ (zs : List Cell). bucket_keys number (length dummies) bucket (slots_of zs)) d.is in
+        let dummy = count-dummy (λ t. nat_eq (number t.0 % length dummies) bucket) first d.later refl in
+        omega (arith, first-passed, most, mine, part, same', dummy)
+
+    pub looked : (old new : ℕ) → new ≡ ticks (length (passed key term (from start cs))) old → HasLooked number (slots_of cs) (map is_some dummies) term old new
+    looked old new t =
+        let len : length (map is_some dummies) ≡ length dummies = length-map dummies is_some in
+        let ready : get_or (map is_some dummies) bucket false ≡ is_some (get_or dummies bucket None) = get_or-map is_some dummies bucket None in
+        let P : ℕ → Type 0 = λ n. get_or (map is_some dummies) (number term % n) false ≡ true → length (passed key term (from start cs)) ≤ bucket_keys number n (number term % n) (slots_of cs) + 2 in
+        let Q : ℕ → Type 0 = λ b. get_or (map is_some dummies) b false ≡ true → length (passed key term (from start cs)) ≤ bucket_keys number (length dummies) b (slots_of cs) + 2 in
+        let bound = λ (h : get_or (map is_some dummies) bucket false ≡ true). few-passed (s.own (sym ready ∙ h)) in
+        record {
+          nodes = length (passed key term (from start cs));
+          ticked = t;
+          present = λ h. omega (arith, first-passed);
+          absent = all-passed;
+          bound = subst P (sym len) (subst Q e bound);
+        }
+
+    pub answer : (r : Option ℕ) → r ≡ place_of key term (from start cs) → MatchOption r (lookup (same term) (slots_of cs) ≡ None) (λ at. IsFound term at cs)
+    answer None r = search-absent (sym r)
+    answer (Some at) r = search-found at (sym r)
+
+    found-behind : (at : ℕ) → place_of key term (from start cs) ≡ Some at → HasItem at (behind start cs)
+    found-behind at h =
+        let d = i.stand s.nearest start s.entry in
+        let A : List Cell → Type 0 = λ zs. AreApart zs in
+        let R : List Cell → Type 0 = λ zs. ArePlaced number dummies zs in
+        let H : List Cell → Type 0 = λ zs. HasItem at (all_but_first zs) in
+        let a' : AreApart (first ∷ d.later) = subst A d.is (apart-from start cs a) in
+        let p' : ArePlaced number dummies (first ∷ d.later) = subst R d.is (placed-from number dummies start cs i.placed) in
+        let later : place_of key term d.later ≡ Some at = sym (ap (place_of key term) d.is ∙ place_of-on key term first d.later (is_it-no key term first refl)) ∙ h in
+        subst H (sym d.is) (found-item term at d.later (found number dummies key term refl at d.later p'.1 a'.1 later))
+
+    pub answer-behind : (r : Option ℕ) → r ≡ place_of key term (from start cs) → IfSome r (λ at. HasItem at (behind start cs))
+    answer-behind None r = tt
+    answer-behind (Some at) r = found-behind at (sym r)
+
+-- where an item may be put from
+pub item-stands : (number : Term → ℕ) (dummies ds : List (Option ℕ)) (cs zs : List Cell) (term : Term) (hash start key' : ℕ) → IsSplit number dummies cs → IsStartOf ds (hash % length ds) start → ds ≡ dummies → hash ≡ number term → key' ≡ key_of_item hash → zs ≡ cs → StandsUpTo key' start zs
+item-stands number dummies ds cs zs term hash start key' i s d h k z =
+    let P : List Cell → Type 0 = λ ys. StandsUpTo key' start ys in
+    let Q : List (Option ℕ) → Type 0 = λ es. IsStartOf es (hash % length es) start in
+    let s' : IsStartOf dummies (hash % length dummies) start = subst Q d s in
+    let b = in-bucket number dummies cs term (hash % length dummies) start i s' (ap (λ (n : ℕ). n % length dummies) h) in
+    let low : key_of_dummy (hash % length dummies) < key_of_item (number term) = b.low in
+    let same' : key' ≡ key_of_item (number term) = k ∙ ap key_of_item h in
+    subst P (sym z) (start-stands dummies (hash % length dummies) start key' cs i.stand s' (omega arith))
+
+-- where a dummy may be put from
+pub dummy-stands : (number : Term → ℕ) (dummies ds : List (Option ℕ)) (cs zs : List Cell) (bucket start key' : ℕ) → IsSplit number dummies cs → IsStartOf ds bucket start → ds ≡ dummies → key' ≡ key_of_dummy bucket → zs ≡ cs → StandsUpTo key' start zs
+dummy-stands number dummies ds cs zs bucket start key' i s d k z =
+    let P : List Cell → Type 0 = λ ys. StandsUpTo key' start ys in
+    let Q : List (Option ℕ) → Type 0 = λ es. IsStartOf es bucket start in
+    subst P (sym z) (start-stands dummies bucket start key' cs i.stand (subst Q d s) (omega arith))

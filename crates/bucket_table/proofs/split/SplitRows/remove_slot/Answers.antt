@@ -1,0 +1,90 @@
+use Rattle.std.proofs.Common.{◌≡◌, ◌%◌, ℕ, refl, Some, IsSome, length, sym, ◌∙◌, ap, subst, arith}
+use Rattle.ets_term.specs.Order.{same}
+use Rattle.node_list.specs.declared.node.Item.{Item}
+use Rattle.node_list.specs.Cells.{new_item}
+use Rattle.bucket_table.specs.Slots.{objects_of, without}
+use Rattle.bucket_table.specs.Split.{Split, key_of_place}
+use Rattle.bucket_table.specs.inside.Nodes.{slots_of}
+use Rattle.bucket_table.proofs.ContentLaws.{found-item}
+use Rattle.bucket_table.proofs.CountedLaws.{length-removed}
+use Rattle.bucket_table.proofs.PlacedLaws.{placed-parity}
+use Rattle.bucket_table.proofs.RowsLaws.{found-behind-start}
+use Rattle.bucket_table.proofs.SeatLaws.{at-place, place-stands, place-key, read-item}
+use Rattle.bucket_table.specs.inside.Layout.{IsStartOf}
+use Rattle.bucket_table.proofs.KeyLaws.{low-bits}
+use Rattle.bucket_table.proofs.SurveyLaws.{item-small}
+use Rattle.bucket_table.proofs.SweepLaws.{rows-out}
+use Rattle.bucket_table.proofs.split.SplitRows.remove_slot.Goals as goal
+
+pub key-key-requires : goal.key-key-requires
+key-key-requires g c =
+    let P : Split g.row.H.Denot → Type 0 = λ v. IsSome (key_of_place v.places c.args.place) in
+    let p = at-place c.args.place c.self.inside.list.cells c.known.ensures.apart c.self.invariant.rows.split.distinct (subst P (sym c.self.view_is) c.requires) in
+    place-stands c.args.place c.self.inside.list.cells p
+
+pub hash_of-requires : goal.hash_of-requires
+hash_of-requires g c =
+    let P : Split g.row.H.Denot → Type 0 = λ v. IsSome (key_of_place v.places c.args.place) in
+    let p = at-place c.args.place c.self.inside.list.cells c.known.ensures.apart c.self.invariant.rows.split.distinct (subst P (sym c.self.view_is) c.requires) in
+    let key = place-key (g.H.KeyHash.number c.self.inside.hash) c.self.inside.dummies.items c.args.place c.self.inside.list.cells c.self.invariant.rows.split.placed p c.key-key.result c.key-key.ensures in
+    let small = item-small ((g.H.KeyHash.number c.self.inside.hash) p.key) in
+    omega (arith, key, small)
+
+pub take_out-slot-requires-clause-parity : goal.take_out-slot-requires-clause-parity
+take_out-slot-requires-clause-parity g c = placed-parity (g.H.KeyHash.number c.self.inside.hash) c.self.inside.dummies.items c.self.inside.list.cells c.self.invariant.rows.split.placed
+
+pub take_out-slot-requires-clause-stands : goal.take_out-slot-requires-clause-stands
+take_out-slot-requires-clause-stands g c =
+    let P : Split g.row.H.Denot → Type 0 = λ v. IsSome (key_of_place v.places c.args.place) in
+    let p = at-place c.args.place c.self.inside.list.cells c.known.ensures.apart c.self.invariant.rows.split.distinct (subst P (sym c.self.view_is) c.requires) in
+    let key = place-key (g.H.KeyHash.number c.self.inside.hash) c.self.inside.dummies.items c.args.place c.self.inside.list.cells c.self.invariant.rows.split.placed p c.key-key.result c.key-key.ensures in
+    let s = c.self.invariant.rows.split in
+    let hash = c.hash_of.ensures ((g.H.KeyHash.number c.self.inside.hash) p.key) key in
+    let M : ℕ → Type 0 = λ n. IsStartOf c.deref.result.now n c.start_of-start.result in
+    let low = low-bits ((g.H.KeyHash.number c.self.inside.hash) p.key) s.doublings (length c.deref.result.now) (ap length c.deref.ensures.value ∙ s.size) s.few in
+    let start = subst M (ap (λ (n : ℕ). n % length c.deref.result.now) hash ∙ low) c.start_of-start.ensures in
+    found-behind-start (g.H.KeyHash.number c.self.inside.hash) c.self.inside.dummies.items c.self.inside.shift c.self.inside.firsts.items c.self.inside.list.cells c.self.invariant.rows c.deref.result.now p.key ((g.H.KeyHash.number c.self.inside.hash) p.key) c.args.place c.start_of-start.result
+    p.found c.known.ensures.sorted c.deref.ensures.value start refl
+
+pub overflow_sub-self : goal.overflow_sub-self
+overflow_sub-self g c =
+    let P : Split g.row.H.Denot → Type 0 = λ v. IsSome (key_of_place v.places c.args.place) in
+    let p = at-place c.args.place c.self.inside.list.cells c.known.ensures.apart c.self.invariant.rows.split.distinct (subst P (sym c.self.view_is) c.requires) in
+    let l = length-removed (same p.key) (slots_of c.self.inside.list.cells) p.found.item.chain p.found.objects in
+    omega (arith, l, c.self.invariant.counted)
+
+pub invariant_of-self : goal.invariant_of-self
+invariant_of-self g c =
+    let P : Split g.row.H.Denot → Type 0 = λ v. IsSome (key_of_place v.places c.args.place) in
+    let p = at-place c.args.place c.self.inside.list.cells c.known.ensures.apart c.self.invariant.rows.split.distinct (subst P (sym c.self.view_is) c.requires) in
+    let rows = rows-out (g.H.KeyHash.number c.self.inside.hash) c.self.inside.dummies.items c.self.inside.shift c.self.inside.firsts.items c.take_out-slot.new.firsts.items c.args.place c.self.inside.list.cells c.take_out-slot.new.list.cells c.self.invariant.rows c.known.ensures.apart (found-item p.key c.args.place c.self.inside.list.cells p.found) c.take_out-slot.ensures.cells c.take_out-slot.ensures.hints in
+    let l = length-removed (same p.key) (slots_of c.self.inside.list.cells) p.found.item.chain p.found.objects in
+    let is = ap slots_of c.take_out-slot.ensures.cells ∙ p.found.removed in
+    record { rows = rows; counted = omega (arith, l, ap length is, c.self.invariant.counted); due = c.self.invariant.due }
+
+pub returns-clause-key : goal.returns-clause-key
+returns-clause-key g c =
+    let P : Split g.row.H.Denot → Type 0 = λ v. IsSome (key_of_place v.places c.args.place) in
+    let p = at-place c.args.place c.self.inside.list.cells c.known.ensures.apart c.self.invariant.rows.split.distinct (subst P (sym c.self.view_is) c.requires) in
+    let item = read-item c.args.place c.self.inside.list.cells p (new_item c.take_out-slot.result.0 c.take_out-slot.result.1) c.take_out-slot.ensures.item in
+    let same_key : p.key ≡ c.take_out-slot.result.0 = sym p.found.same_term ∙ ap (λ (i : Item). i.term) item in
+    let Q : Split g.row.H.Denot → Type 0 = λ v. key_of_place v.places c.args.place ≡ Some c.take_out-slot.result.0 in
+    subst Q c.self.view_is (p.is ∙ ap Some same_key)
+
+pub returns-clause-was : goal.returns-clause-was
+returns-clause-was g c =
+    let P : Split g.row.H.Denot → Type 0 = λ v. IsSome (key_of_place v.places c.args.place) in
+    let p = at-place c.args.place c.self.inside.list.cells c.known.ensures.apart c.self.invariant.rows.split.distinct (subst P (sym c.self.view_is) c.requires) in
+    let item = read-item c.args.place c.self.inside.list.cells p (new_item c.take_out-slot.result.0 c.take_out-slot.result.1) c.take_out-slot.ensures.item in
+    let same_key : p.key ≡ c.take_out-slot.result.0 = sym p.found.same_term ∙ ap (λ (i : Item). i.term) item in
+    let Q : Split g.row.H.Denot → Type 0 = λ v. objects_of v.slots c.take_out-slot.result.0 ≡ Some c.take_out-slot.result.1 in
+    subst Q c.self.view_is (ap (objects_of (slots_of c.self.inside.list.cells)) (sym same_key) ∙ (p.found.objects ∙ ap (λ (i : Item). Some i.chain) item))
+
+pub returns-clause-now : goal.returns-clause-now
+returns-clause-now g c =
+    let P : Split g.row.H.Denot → Type 0 = λ v. IsSome (key_of_place v.places c.args.place) in
+    let p = at-place c.args.place c.self.inside.list.cells c.known.ensures.apart c.self.invariant.rows.split.distinct (subst P (sym c.self.view_is) c.requires) in
+    let item = read-item c.args.place c.self.inside.list.cells p (new_item c.take_out-slot.result.0 c.take_out-slot.result.1) c.take_out-slot.ensures.item in
+    let same_key : p.key ≡ c.take_out-slot.result.0 = sym p.found.same_term ∙ ap (λ (i : Item). i.term) item in
+    let Q : Split g.row.H.Denot → Type 0 = λ v. slots_of c.take_out-slot.new.list.cells ≡ without v.slots c.take_out-slot.result.0 in
+    subst Q c.self.view_is (ap slots_of c.take_out-slot.ensures.cells ∙ (p.found.removed ∙ ap (without (slots_of c.self.inside.list.cells)) same_key))

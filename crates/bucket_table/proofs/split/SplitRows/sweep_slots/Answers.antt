@@ -1,0 +1,15 @@
+use Rattle.std.proofs.Common.{ℕ, List, Option, subst, arith}
+use Rattle.bucket_table.specs.inside.Firsts.{IsRows}
+use Rattle.bucket_table.proofs.split.SplitRows.sweep_slots.Goals as goal
+
+pub overflow_sub-self : goal.overflow_sub-self
+overflow_sub-self g c = omega (arith, c.sweep_all.ensures.len, c.sweep_all.ensures.fewer, c.self.invariant.counted, c.len.ensures.value, c.len-before.ensures.value)
+
+pub invariant_of-self : goal.invariant_of-self
+invariant_of-self g c =
+    let D : List (Option ℕ) → Type 0 = λ ds. IsRows (g.H.KeyHash.number c.self.inside.hash) ds c.self.inside.shift c.sweep_all.new.firsts.items c.sweep_all.new.list.cells in
+    record {
+      rows = subst D c.deref.ensures.value c.sweep_all.ensures.rows;
+      counted = omega (arith, c.sweep_all.ensures.len, c.sweep_all.ensures.fewer, c.self.invariant.counted, c.len.ensures.value, c.len-before.ensures.value);
+      due = c.self.invariant.due;
+    }

@@ -1,0 +1,5 @@
+pub mod Slots
+pub mod Entries
+pub mod Buckets
+pub mod Split
+pub mod inside

@@ -1,0 +1,73 @@
+ghost use Rattle.std.specs.Prelude.{◌≡◌, ◌⊎◌, Some, None, length, get_or};
+
+use std::marker::Model;
+
+/// What is known of the first item of an interval of keys, in one word: nothing, that there is none, or its place.
+#[derive(Clone, Copy)]
+pub struct Hint {
+    word: u32,
+}
+
+impl Model for Hint {
+    ghost use Rattle.std.specs.Prelude.{Option, ℕ, ◌<◌, ◌^◌};
+
+    ghost Value = { Option (Option ℕ) };
+
+    ghost use Rattle.bucket_table.specs.inside.Hints.{hint_of, word_of, hint_back};
+
+    ghost view = { λ h. hint_of h.word };
+
+    ghost invariant = { λ h. h.word < 2 ^ 32 };
+
+    ghost inverse = { λ o. record { word = word_of o } };
+
+    ghost inverse_ok = { λ a h. hint_back a h };
+}
+
+impl Hint {
+    pub fn unknown() -> Hint
+        ensures { result ≡ None }
+    {
+        Hint { word: u32::MAX }
+    }
+
+    pub fn empty() -> Hint
+        ensures { result ≡ Some None }
+    {
+        Hint { word: u32::MAX - 1 }
+    }
+
+    /// The place, or nothing where it is too great for the word.
+    pub fn to(place: usize) -> Hint
+        ensures { (result ≡ None) ⊎ (result ≡ Some (Some place)) }
+    {
+        if place < 4294967294 {
+            Hint { word: place as u32 }
+        } else {
+            Hint::unknown()
+        }
+    }
+
+    pub fn get(self) -> Option<Option<usize>>
+        ensures { result ≡ self }
+    {
+        if self.word == u32::MAX {
+            None
+        } else if self.word == u32::MAX - 1 {
+            Some(None)
+        } else {
+            Some(Some(self.word as usize))
+        }
+    }
+}
+
+/// The hint at an index, unknown past the end.
+pub fn hint_at(firsts: &[Hint], index: usize) -> Option<Option<usize>>
+    ensures { result ≡ get_or firsts.now index None }
+{
+    if index < firsts.len() {
+        firsts[index].get()
+    } else {
+        None
+    }
+}

@@ -1,0 +1,27 @@
+use std::alloc::{AllocError, Global};
+
+/// The numbers below `count`, each once, in an order that jumps about, with multipliers of its own for each seed, so
+/// that no order runs along another one. The peers have the same.
+pub fn shuffled(alloc: Global, count: u64, seed: u64) -> Result<Vec<u64>, AllocError> {
+    let mut numbers = Vec::new(alloc);
+    let Some(places) = count.checked_next_power_of_two() else {
+        return Ok(numbers);
+    };
+    for i in 0..places {
+        let number = jump(i, seed, places.wrapping_sub(1));
+        if number < count {
+            numbers.push(number)?;
+        }
+    }
+    Ok(numbers)
+}
+
+/// The number at place `i`. Where `mask` is one less than a power of two, each number up to it comes once.
+fn jump(i: u64, seed: u64, mask: u64) -> u64 {
+    let odd = seed.wrapping_mul(0xD6E8_FEB8_6659_FD92) | 1;
+    let a = i.wrapping_mul(odd) & mask;
+    let b = (a ^ (a >> 9)).wrapping_mul(0x85EB_CA6B ^ seed.wrapping_mul(0x2C1B_3C6C)) & mask;
+    let c = (b ^ (b >> 7)).wrapping_mul(odd ^ 0x9E37_79B8) & mask;
+    let d = (c ^ (c >> 11)).wrapping_mul(0xC2B2_AE35 ^ seed.wrapping_mul(0x1656_67B0)) & mask;
+    d ^ (d >> 8)
+}
