@@ -1,4 +1,17 @@
 //! The rows of a table: slots with distinct keys, in two kept forms with one content.
+//!
+//! *Guarantee.* No call changes the order of the slots that stay, each call has its exact effect on the list of slots,
+//! growth leaves it as it is, and a refusal of memory changes nothing. A search in a ready bucket looks at no more nodes
+//! than the bucket has keys, and two.
+//!
+//! *Weakness.* Keys of one hash stand in one bucket at every size, so a bad hash makes searches long. A `purge` or
+//! `clear` walks over all nodes.
+//!
+//! *Mechanism.* The nodes stand in one list, in the order of their split keys; a bucket is a stretch of it, behind its
+//! dummy. For each eighth of a bucket the place of its first item is known, or that it has none, or nothing: a search
+//! begins there, or else at the dummy of the nearest ready bucket.
+//!
+//! *Limits.* Buckets are 2 to 1,048,576. A place that was given back is given out again.
 #![tactic(auto)]
 
 mod entry;
@@ -10,3 +23,6 @@ pub use entry::{Entry, Place};
 pub use growth::{Growth, Readying};
 pub use rows::Rows;
 pub use split::SplitRows;
+
+#[cfg(test)]
+mod tests;
