@@ -1,8 +1,6 @@
 -- A compiled expression has the value of the expression.
 use Rattle.std.proofs.Common.{◌≡◌, ℕ, suc, ◌==◌, ◌&&◌, ◌||◌, nat_lt, Bool, true, false, if◌then◌else◌, List, [], ◌∷◌, Option, Some, None, map, codes, rules, refl, sym, ap, ◌∙◌, arith, is_some}
 use Rattle.std.proofs.lemmas.Bool.Decides.{nat_tests}
-use Rattle.std.specs.List.{list_any}
-use Rattle.std.specs.Map.{lookup}
 use Rattle.std.specs.Option.{option_map, option_and_then}
 use Rattle.std.specs.Str.{bytes_eq}
 use Rattle.ets_term.specs.declared.term.Term.{Term}
@@ -14,7 +12,7 @@ use Rattle.match_spec.specs.declared.expression.function.Function.{Function}
 use Rattle.match_spec.specs.declared.expression.Expression.{Expression, the_lemmas}
 use Rattle.match_spec.specs.declared.expression.Expression.TheOpen.{Expression-F}
 use Rattle.match_spec.specs.declared.expression.Expression.TheVariants.{Constant, Object, Bindings as Bound, Variable, Tuple, List as Terms, Apply, Join, Decide}
-use Rattle.match_spec.specs.inside.CompiledExpressions.{expression_value, expression_step, all_of, joined_of, apply_of, decide, expression_of, expressions_of, name_expression, called, decide_else, join_else, apply_else}
+use Rattle.match_spec.specs.inside.CompiledExpressions.{expression_value, expression_step, all_of, joined_of, apply_of, decide, expression_of, expressions_of, name_expression, called, decide_else, apply_else}
 use Rattle.match_spec.specs.inside.FirstPlaces.{FirstPlaces, way_in, places_of, first_of}
 use Rattle.match_spec.specs.Functions.{apply, truth}
 use Rattle.match_spec.specs.Names.{function_of, decides, stops_at, is_function}

@@ -1,5 +1,5 @@
 -- Parts of lists and tuples, of terms and of their trees.
-use Rattle.std.proofs.Common.{◌≡◌, ℕ, zero, suc, ◌-◌, ◌==◌, ℤ, pos, if◌then◌else◌, false, List, [], ◌∷◌, Option, Some, None, map, length, drop, rules, refl, sym, ap, ◌∙◌, arith}
+use Rattle.std.proofs.Common.{◌≡◌, ℕ, zero, suc, ◌-◌, ◌==◌, ℤ, if◌then◌else◌, false, List, [], ◌∷◌, Some, None, map, length, drop, rules, refl, sym, ap, ◌∙◌, arith}
 use Rattle.std.proofs.lemmas.Bool.Decides.{nat_tests}
 use Rattle.std.specs.List.{slice_get}
 use Rattle.std.specs.Option.{option_map}

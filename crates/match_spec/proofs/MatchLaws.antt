@@ -1,9 +1,7 @@
 -- Where a term matches by some bindings, each variable of the pattern is bound to what stands at its first place.
-use Rattle.std.proofs.Common.{◌≡◌, ℕ, suc, ◌<◌, nat_lt, ◌+◌, ◌==◌, ◌&&◌, ◌||◌, ◌++◌, is_some, map, fold, unwrap_or, Bool, true, false, if◌then◌else◌, List, [], ◌∷◌, Option, Some, None, codes, refl, sym, ap, subst, ◌∙◌, arith, zero-add, add-zero}
-use Rattle.std.proofs.lemmas.Bool.Decides.{nat_tests}
+use Rattle.std.proofs.Common.{◌≡◌, ℕ, suc, ◌+◌, ◌==◌, ◌&&◌, ◌||◌, ◌++◌, is_some, map, unwrap_or, Bool, true, false, if◌then◌else◌, List, [], ◌∷◌, Option, Some, None, codes, refl, sym, ap, subst, ◌∙◌, arith, zero-add, add-zero}
 use Rattle.std.proofs.lemmas.Slice.Eq.{bytes_eq-Decides}
 use Rattle.std.specs.Option.{option_map, option_or}
-use Rattle.std.specs.List.{list_any}
 use Rattle.std.specs.Str.{bytes_eq}
 use Rattle.ets_term.specs.Data.{Data, int, atom, pid, tid, tuple, list, binary, Row, no_terms, term}
 use Rattle.match_spec.specs.Patterns.{Bindings, binding, Match, matches, row_matches, name_matches, is_just, candidates, bindings_of, values, IsBindings}

@@ -3,7 +3,7 @@ use Rattle.std.proofs.Common.{◌≡◌, ℕ, ◌<◌, nat_lt, ◌==◌, ◌||�
 use Rattle.std.proofs.lemmas.Bool.Decides.{nat_tests}
 use Rattle.std.specs.List.{list_any}
 use Rattle.match_spec.specs.Variables.{put}
-use Rattle.match_spec.proofs.BoolLaws.{or_assoc, or-right}
+use Rattle.match_spec.proofs.BoolLaws.{or_assoc}
 
 pub same_number : (n m : ℕ) → (n == m) ≡ true → n ≡ m
 same_number n m h = grind (arith, nat_tests)
@@ -99,7 +99,6 @@ above-apart m (k ∷ ks) a = rw (apart m k a.0) (above-apart m ks (above-less m 
 pub above-rising : (k : ℕ) (ks : List ℕ) → Above k ks → Rising ks
 above-rising k [] a = tt
 above-rising k (l ∷ ks) a = a.1
-
 
 above-has : (m : ℕ) (ks : List ℕ) (n : ℕ) → Above m ks → has ks n ≡ true → m < n
 above-has m [] n a h = cc

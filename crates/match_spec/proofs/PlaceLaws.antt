@@ -3,20 +3,19 @@ use Rattle.std.proofs.Common.{◌≡◌, ℕ, suc, nat_lt, ◌==◌, ◌||◌, �
 use Rattle.std.proofs.lemmas.Bool.Decides.{nat_tests}
 use Rattle.std.proofs.lemmas.List.{append-nil, append_assoc}
 use Rattle.std.proofs.lemmas.List.Sums.{fold-append}
-use Rattle.std.specs.BTreeMap.{is_at, insert_entry}
+use Rattle.std.specs.BTreeMap.{insert_entry}
 use Rattle.std.specs.Cmp.{unsigned_ties}
 use Rattle.std.specs.List.{list_any}
 use Rattle.std.specs.Map.{lookup}
 use Rattle.std.specs.Option.{option_map, option_or}
 use Rattle.std.specs.Ordering.{nat_cmp}
-use Rattle.std.specs.declared.cmp.Ordering.{Ordering}
 use Rattle.ets_term.specs.Data.{Data, int, atom, pid, tid, tuple, list, binary, Row, no_terms, term}
 use Rattle.match_spec.specs.Expressions.{is_bound}
 use Rattle.match_spec.specs.Patterns.{Bindings}
 use Rattle.match_spec.specs.Places.{Place, is_number, place_of, place_from, first_place, value_at}
 use Rattle.match_spec.specs.Variables.{numbers_in, numbers, row_numbers, variable, variables, put}
 use Rattle.match_spec.specs.inside.FirstPlaces.{FirstPlaces, place_in, way_in, numbers_of, places_of, added_unless, noted, first_in, first_from, first_of}
-use Rattle.match_spec.proofs.BoolLaws.{or-right, clash, None-Some}
+use Rattle.match_spec.proofs.BoolLaws.{or-right, clash}
 use Rattle.match_spec.proofs.NumberLaws.{has, same_number, itself, Rising, put-rising, put-there, above-apart, above-rising}
 
 abbrev at_number : FirstPlaces → ℕ → Option Place

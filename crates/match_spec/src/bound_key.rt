@@ -42,7 +42,11 @@ pub(crate) fn bound_by_all(clauses: &[Term], keypos: usize) -> Option<&Term>
 fn key_if_all_bind<'a>(clauses: &[Term], keypos: usize, key: &'a Term) -> Option<&'a Term>
     ensures { option_map data_of (option_copied result) ≡ (if all_bind keypos (data_of key.now) (row_of (map data_of (drop 1 clauses.now))) then Some (data_of key.now) else None) }
 {
-    if all_bind(clauses, keypos, key) { Some(key) } else { None }
+    if all_bind(clauses, keypos, key) {
+        Some(key)
+    } else {
+        None
+    }
 }
 
 // Whether the clauses behind the first bind this key.

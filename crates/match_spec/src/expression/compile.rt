@@ -81,7 +81,11 @@ fn tuple_expression(
     }
 }
 
-fn name_expression(alloc: Global, name: &Atom, first: &FirstPlaces) -> Result<Expression, AllocError>
+fn name_expression(
+    alloc: Global,
+    name: &Atom,
+    first: &FirstPlaces,
+) -> Result<Expression, AllocError>
     ensures { IfOk result (λ e. e ≡ name_expression first.now.entries name.now (variable name.now)) }
 {
     let text = name.text();

@@ -80,7 +80,13 @@ pub(crate) fn evaluate<'a>(
                 None => Ok(None),
             }
         }
-        Expression::Decide(stop, arguments) => decided(alloc, *stop, arguments.as_slice(), places, object),
+        Expression::Decide(stop, arguments) => decided(
+            alloc,
+            *stop,
+            arguments.as_slice(),
+            places,
+            object,
+        ),
     }
 }
 

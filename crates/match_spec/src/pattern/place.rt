@@ -129,7 +129,10 @@ pub(crate) fn way_in(first: &FirstPlaces, number: u32) -> &[usize]
 }
 
 /// The places, in order of number.
-pub(crate) fn in_order(alloc: Global, first: &FirstPlaces) -> Result<Items<Items<usize>>, AllocError>
+pub(crate) fn in_order(
+    alloc: Global,
+    first: &FirstPlaces,
+) -> Result<Items<Items<usize>>, AllocError>
     ensures { IfOk result (λ places. places ≡ places_of first.now.entries) }
 {
     let mut places = Vec::with_capacity(alloc, first.len())?;

@@ -46,16 +46,31 @@ fn counts(alloc: Global, clause: &Clause, object: &Term) -> Result<bool, AllocEr
     if !fits(&clause.head, object, object) {
         return Ok(false);
     }
-    hold(alloc, clause.conditions.as_slice(), clause.places.as_slice(), object)
+    hold(
+        alloc,
+        clause.conditions.as_slice(),
+        clause.places.as_slice(),
+        object,
+    )
 }
 
 fn outcome(alloc: Global, clause: &Clause, object: &Term) -> Result<Term, AllocError>
     ensures { IfOk result (λ t. data_of t ≡ outcome_of (map (expression_value clause.now.places) clause.now.body) (data_of object.now)) }
 {
-    last_value(alloc, clause.body.as_slice(), clause.places.as_slice(), object)
+    last_value(
+        alloc,
+        clause.body.as_slice(),
+        clause.places.as_slice(),
+        object,
+    )
 }
 
-fn hold(alloc: Global, conditions: &[Expression], places: &[Items<usize>], object: &Term) -> Result<bool, AllocError>
+fn hold(
+    alloc: Global,
+    conditions: &[Expression],
+    places: &[Items<usize>],
+    object: &Term,
+) -> Result<bool, AllocError>
     ensures { IfOk result (λ b. b ≡ hold_of (map (expression_value places.now) conditions.now) (data_of object.now)) }
 {
     for condition in conditions {
@@ -68,7 +83,12 @@ fn hold(alloc: Global, conditions: &[Expression], places: &[Items<usize>], objec
 
 // Whether the condition gives true. A comparison answers at once, without an atom for its answer.
 #[tactic(auto, using(crate::proofs::ValueLaws::expression_value_of_two))]
-fn holds(alloc: Global, condition: &Expression, places: &[Items<usize>], object: &Term) -> Result<bool, AllocError>
+fn holds(
+    alloc: Global,
+    condition: &Expression,
+    places: &[Items<usize>],
+    object: &Term,
+) -> Result<bool, AllocError>
     ensures { IfOk result (λ b. b ≡ option_map_or is_true (expression_value places.now condition.now (data_of object.now)) false) }
 {
     if let Expression::Apply(function, arguments) = condition {
@@ -126,7 +146,12 @@ fn is_the_true(term: &Term) -> bool
     }
 }
 
-fn last_value(alloc: Global, body: &[Expression], places: &[Items<usize>], object: &Term) -> Result<Term, AllocError>
+fn last_value(
+    alloc: Global,
+    body: &[Expression],
+    places: &[Items<usize>],
+    object: &Term,
+) -> Result<Term, AllocError>
     ensures { IfOk result (λ t. data_of t ≡ outcome_of (map (expression_value places.now) body.now) (data_of object.now)) }
 {
     for i in 0..body.len() {
