@@ -1,0 +1,172 @@
+-- What a part without variables matches, and the keys of what matches.
+use Rattle.std.proofs.Common.{◌≡◌, ℕ, zero, suc, ◌<◌, length, get_or, drop, map, arith, [], ◌∷◌, ◌&&◌, ◌||◌, not, Bool, true, false, if◌then◌else◌, List, Option, Some, None, is_some, codes, Bor, option_copied, IfSome, refl, sym, ap, subst, ◌∙◌}
+use Rattle.std.specs.Cmp.{Equal-is}
+use Rattle.std.specs.Option.{option_map, option_and_then, option_map_or}
+use Rattle.std.specs.Str.{bytes_eq}
+use Rattle.ets_term.specs.Data.{Data, int, atom, pid, tid, tuple, list, binary, Row, no_terms, term, row_of, data_of}
+use Rattle.ets_term.specs.Depth.{element_at}
+use Rattle.ets_term.specs.Order.{data_order}
+use Rattle.ets_term.specs.declared.term.Term.{Term}
+use Rattle.ets_term.specs.laws.Exact.{data_of-exact}
+use Rattle.ets_term.specs.laws.Ordered.{order_exact}
+use Rattle.match_spec.specs.BoundKeys.{is_ground, are_ground, bound_key, clause_key, all_bind, spec_key, IsKeyOfMatches, IsKeyOfResults}
+use Rattle.match_spec.specs.Functions.{row_element, tuple_element}
+use Rattle.match_spec.specs.Patterns.{Bindings, matches, row_matches, name_matches, alike, candidates, bindings_of}
+use Rattle.match_spec.specs.Places.{value_at}
+use Rattle.match_spec.specs.Specifications.{RawClause, clause_parts, counted_or, result_or, first_result, result_of}
+use Rattle.match_spec.specs.Variables.{variable}
+use Rattle.match_spec.proofs.BoolLaws.{both-true, clash, same_Some, None-Some}
+use Rattle.match_spec.proofs.ListLaws.{element_at_tree}
+
+pub alike-exact : (d e : Data) → alike d e ≡ true → d ≡ e
+alike-exact d e h = order_exact d e ((Equal-is (data_order d e)).0 h)
+
+module _ (b : ℕ → Option Data) where
+  named : (a : List ℕ) (t : Data) (any : Bool) (o : Option ℕ) → (not any && not (is_some o)) ≡ true → (any || name_matches b a o t) ≡ true → atom a ≡ t
+  named a t true o g h = cc
+  named a t false None g h = alike-exact (atom a) t h
+  named a t false (Some n) g h = cc
+
+  mutual
+    -- it matches itself alone
+    pub ground-alone : (p t : Data) → is_ground p ≡ true → matches b p t ≡ true → p ≡ t
+    ground-alone (atom a) t g h = named a t (bytes_eq a (codes "_")) (variable a) g h
+    ground-alone (tuple ps) (tuple ts) g h = ap tuple (grounds-alone ps ts g h)
+    ground-alone (list ps) (list ts) g h = ap list (grounds-alone ps ts g h)
+    ground-alone p t g h = alike-exact p t h
+
+    grounds-alone : (ps ts : Row) → are_ground ps ≡ true → row_matches b ps ts ≡ true → ps ≡ ts
+    grounds-alone no_terms no_terms g h = refl
+    grounds-alone (term p ps) (term t ts) g h =
+        let q = both-true _ _ g in
+        let r = both-true _ _ h in
+        λ i. term (ground-alone p t q.0 r.0 i) (grounds-alone ps ts q.1 r.1 i)
+    grounds-alone no_terms (term t ts) g h = cc
+    grounds-alone (term p ps) no_terms g h = cc
+
+kept : (o : Option Data) (k : Data) → option_and_then (λ key. if is_ground key then Some key else None) o ≡ Some k → (o ≡ Some k) × (is_ground k ≡ true)
+kept None k h = absurd (None-Some h)
+kept (Some d) k h = by (is_ground d) refl h
+  where
+    by : (c : Bool) → is_ground d ≡ c → (if c then Some d else None) ≡ Some k → (Some d ≡ Some k) × (is_ground k ≡ true)
+    by true e q = (q, subst (λ x. is_ground x ≡ true) (same_Some q) e)
+    by false e q = absurd (None-Some q)
+
+module _ (b : ℕ → Option Data) (k : Data) (ground : is_ground k ≡ true) where
+  -- where a row matches, a part that is ground stands in both
+  row_has : (ps ts : Row) (i : ℕ) → row_matches b ps ts ≡ true → row_element ps i ≡ Some k → row_element ts i ≡ Some k
+  row_has no_terms ts i h e = absurd (None-Some e)
+  row_has (term p ps) no_terms i h e = cc
+  row_has (term p ps) (term t ts) zero h e =
+      let r = both-true _ _ h in ap Some (sym (ground-alone b k t ground (subst (λ x. matches b x t ≡ true) (same_Some e) r.0)))
+  row_has (term p ps) (term t ts) (suc i) h e = let r = both-true _ _ h in row_has ps ts i r.1 e
+
+module _ (keypos : ℕ) where
+  key-alone : (b : ℕ → Option Data) (p t k : Data) → matches b p t ≡ true → tuple_element keypos p ≡ Some k → is_ground k ≡ true → tuple_element keypos t ≡ Some k
+  key-alone b p t k h e g = by keypos p t h e
+    where
+      by : (n : ℕ) (p t : Data) → matches b p t ≡ true → tuple_element n p ≡ Some k → tuple_element n t ≡ Some k
+      by zero p t h e = absurd (None-Some e)
+      by (suc i) (tuple ps) (tuple ts) h e = row_has b k g ps ts i h e
+      by (suc i) (tuple ps) (int n) h e = cc
+      by (suc i) (tuple ps) (atom n) h e = cc
+      by (suc i) (tuple ps) (pid n) h e = cc
+      by (suc i) (tuple ps) (tid n) h e = cc
+      by (suc i) (tuple ps) (list n) h e = cc
+      by (suc i) (tuple ps) (binary n) h e = cc
+      by (suc i) (int n) t h e = absurd (None-Some e)
+      by (suc i) (atom n) t h e = absurd (None-Some e)
+      by (suc i) (pid n) t h e = absurd (None-Some e)
+      by (suc i) (tid n) t h e = absurd (None-Some e)
+      by (suc i) (list n) t h e = absurd (None-Some e)
+      by (suc i) (binary n) t h e = absurd (None-Some e)
+
+  matched : (p t : Data) (c : Bool) → is_some (if c then Some (candidates p t) else None) ≡ true → c ≡ true
+  matched p t true h = refl
+  matched p t false h = h
+
+  -- what a pattern binds stands in every object that matches
+  match_key : (p t k : Data) → bound_key keypos p ≡ Some k → is_some (bindings_of p t) ≡ true → tuple_element keypos t ≡ Some k
+  match_key p t k e h = let q = kept (tuple_element keypos p) k e in key-alone (λ n. Some (value_at p t n)) p t k (matched p t _ h) q.0 q.1
+
+  term_key : (object key : Term) → tuple_element keypos (data_of object) ≡ Some (data_of key) → element_at keypos object ≡ Some key
+  term_key object key e = by (element_at keypos object) (element_at_tree keypos object ∙ e)
+    where
+      by : (o : Option Term) → option_map data_of o ≡ Some (data_of key) → o ≡ Some key
+      by None h = absurd (None-Some h)
+      by (Some t) h = ap Some (data_of-exact t key (same_Some h))
+
+  pub is_key_of_matches : (p : Data) (key : Term) → bound_key keypos p ≡ Some (data_of key) → IsKeyOfMatches keypos p key
+  is_key_of_matches p key e = λ object h. term_key object key (match_key p (data_of object) (data_of key) e h)
+
+  module _ (t k : Data) where
+    abbrev Has : Type 0
+    Has = tuple_element keypos t ≡ Some k
+
+    clause_has : (o : Option RawClause) (rest : Option Data) → option_and_then (λ parts. bound_key keypos parts.head) o ≡ Some k → (is_some rest ≡ true → Has) → is_some (result_or o t rest) ≡ true → Has
+    clause_has None rest e f h = absurd (None-Some e)
+    clause_has (Some c) rest e f h = by (bindings_of c.head t) refl h
+      where
+        by : (o : Option Bindings) → bindings_of c.head t ≡ o → is_some (counted_or o t c rest) ≡ true → Has
+        by None q i = f i
+        by (Some b) q i = match_key c.head t k e (ap is_some q)
+
+    same_key : (o : Option Data) → option_map_or (alike k) o false ≡ true → o ≡ Some k
+    same_key None h = absurd (clash h refl)
+    same_key (Some d) h = ap Some (sym (alike-exact k d h))
+
+    clauses_have : (cs : Row) → all_bind keypos k cs ≡ true → is_some (first_result cs t) ≡ true → Has
+    clauses_have no_terms a h = absurd (clash h refl)
+    clauses_have (term c cs) a h =
+        let both = both-true _ _ a in clause_has (clause_parts c) (first_result cs t) (same_key (clause_key keypos c) both.0) (clauses_have cs both.1) h
+
+    all_kept : (o : Option Data) (cs : Row) → option_and_then (λ key. if all_bind keypos key cs then Some key else None) o ≡ Some k → (o ≡ Some k) × (all_bind keypos k cs ≡ true)
+    all_kept None cs h = absurd (None-Some h)
+    all_kept (Some d) cs h = by (all_bind keypos d cs) refl h
+      where
+        by : (c : Bool) → all_bind keypos d cs ≡ c → (if c then Some d else None) ≡ Some k → (Some d ≡ Some k) × (all_bind keypos k cs ≡ true)
+        by true e q = (q, subst (λ x. all_bind keypos x cs ≡ true) (same_Some q) e)
+        by false e q = absurd (None-Some q)
+
+    -- what all clauses bind stands in every object for which one of them counts
+    result_key : (spec : Data) → spec_key keypos spec ≡ Some k → is_some (result_of spec t) ≡ true → Has
+    result_key (list (term c cs)) e h =
+        let q = all_kept (clause_key keypos c) cs e in clause_has (clause_parts c) (first_result cs t) q.0 (clauses_have cs q.1) h
+    result_key (list no_terms) e h = absurd (None-Some e)
+    result_key (int n) e h = absurd (None-Some e)
+    result_key (atom n) e h = absurd (None-Some e)
+    result_key (pid n) e h = absurd (None-Some e)
+    result_key (tid n) e h = absurd (None-Some e)
+    result_key (tuple n) e h = absurd (None-Some e)
+    result_key (binary n) e h = absurd (None-Some e)
+
+  pub is_key_of_results : (spec : Data) (key : Term) → spec_key keypos spec ≡ Some (data_of key) → IsKeyOfResults keypos spec key
+  is_key_of_results spec key e = λ object h. term_key object key (result_key (data_of object) (data_of key) spec e h)
+
+-- the same of what a call answers
+pub every_match : (keypos : ℕ) (p : Data) (r : Option (Bor Term)) → option_map data_of (option_copied r) ≡ bound_key keypos p → IfSome r (λ key. IsKeyOfMatches keypos p key.now)
+every_match keypos p None e = tt
+every_match keypos p (Some key) e = is_key_of_matches keypos p key.now (sym e)
+
+pub every_result : (keypos : ℕ) (spec : Data) (r : Option (Bor Term)) → option_map data_of (option_copied r) ≡ spec_key keypos spec → IfSome r (λ key. IsKeyOfResults keypos spec key.now)
+every_result keypos spec None e = tt
+every_result keypos spec (Some key) e = is_key_of_results keypos spec key.now (sym e)
+
+pub key_of_element : (keypos : ℕ) (p key : Term) → element_at keypos p ≡ Some key → bound_key keypos (data_of p) ≡ (if is_ground (data_of key) then Some (data_of key) else None)
+key_of_element keypos p key e = ap (option_and_then (λ k. if is_ground k then Some k else None)) (sym (element_at_tree keypos p) ∙ ap (option_map data_of) e)
+
+pub key_of_none : (keypos : ℕ) (p : Term) → element_at keypos p ≡ None → bound_key keypos (data_of p) ≡ None
+key_of_none keypos p e = ap (option_and_then (λ k. if is_ground k then Some k else None)) (sym (element_at_tree keypos p) ∙ ap (option_map data_of) e)
+
+pub key_of_nothing : (keypos : ℕ) (cs : List Term) → length cs ≡ 0 → spec_key keypos (list (row_of (map data_of cs))) ≡ None
+key_of_nothing keypos [] h = refl
+key_of_nothing keypos (c ∷ cs) h = absurd (omega arith)
+
+pub key_of_first : (keypos : ℕ) (cs : List Term) (c : Term) (k : Data) → 0 < length cs → get_or cs 0 c ≡ c → clause_key keypos (data_of c) ≡ Some k
+    → spec_key keypos (list (row_of (map data_of cs))) ≡ (if all_bind keypos k (row_of (map data_of (drop 1 cs))) then Some k else None)
+key_of_first keypos [] c k h is e = absurd (omega arith)
+key_of_first keypos (a ∷ cs) c k h is e = rw (is, e) refl
+
+pub key_of_no_first : (keypos : ℕ) (cs : List Term) (c : Term) → 0 < length cs → get_or cs 0 c ≡ c → clause_key keypos (data_of c) ≡ None → spec_key keypos (list (row_of (map data_of cs))) ≡ None
+key_of_no_first keypos [] c h is e = absurd (omega arith)
+key_of_no_first keypos (a ∷ cs) c h is e = rw (is, e) refl

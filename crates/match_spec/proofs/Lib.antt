@@ -1,0 +1,15 @@
+mod Examples
+pub mod BoolLaws
+pub mod CompiledLaws
+pub mod ExpressionLaws
+pub mod FitLaws
+pub mod KeyLaws
+pub mod ListLaws
+pub mod MatchLaws
+pub mod NumberLaws
+pub mod PartLaws
+pub mod PlaceLaws
+pub mod SpecLaws
+pub mod TreeLaws
+pub mod ValueLaws
+pub mod VariableLaws

@@ -1,0 +1,34 @@
+-- Terms and their trees.
+use Rattle.std.proofs.Common.{◌≡◌, ℕ, ℤ, List, map, true, rules, refl, ap, ◌∙◌}
+use Rattle.std.specs.Cmp.{Equal-is}
+use Rattle.std.proofs.lemmas.Cmp.{tied_itself}
+use Rattle.ets_term.specs.declared.term.Term.{the_lemmas}
+use Rattle.ets_term.specs.declared.term.Term.TheVariants.{Int, Atom}
+use Rattle.ets_term.specs.Data.{Data, int, atom, pid, tid, tuple, list, binary, Row, no_terms, term, row_of, data_of}
+use Rattle.ets_term.specs.laws.Exact.{term_of, terms_of, data_of-Tuple, data_of-List}
+use Rattle.ets_term.specs.laws.Ordered.{order_total}
+use Rattle.match_spec.specs.Patterns.{alike}
+
+pub data_of-Atom : (a : List ℕ) → data_of (Atom a) ≡ atom a
+data_of-Atom a = search (rules, the_lemmas)
+
+pub data_of-Int : (n : ℤ) → data_of (Int n) ≡ int n
+data_of-Int n = search (rules, the_lemmas)
+
+mutual
+  pub data_of-term_of : (d : Data) → data_of (term_of d) ≡ d
+  data_of-term_of (int n) = search (rules, the_lemmas)
+  data_of-term_of (atom a) = search (rules, the_lemmas)
+  data_of-term_of (pid n) = search (rules, the_lemmas)
+  data_of-term_of (tid n) = search (rules, the_lemmas)
+  data_of-term_of (tuple ds) = data_of-Tuple (terms_of ds) ∙ ap tuple (row_of-terms_of ds)
+  data_of-term_of (list ds) = data_of-List (terms_of ds) ∙ ap list (row_of-terms_of ds)
+  data_of-term_of (binary s) = search (rules, the_lemmas)
+
+  pub row_of-terms_of : (ds : Row) → row_of (map data_of (terms_of ds)) ≡ ds
+  row_of-terms_of no_terms = refl
+  row_of-terms_of (term d ds) = λ i. term (data_of-term_of d i) (row_of-terms_of ds i)
+
+-- a term is built like itself
+pub alike-refl : (d : Data) → alike d d ≡ true
+alike-refl d = (Equal-is _).1 (tied_itself order_total d)

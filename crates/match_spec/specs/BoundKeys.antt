@@ -1,0 +1,47 @@
+-- The keys that patterns and specifications bind.
+use Rattle.std.specs.Prelude.{◌≡◌, ℕ, ◌&&◌, not, Bool, true, false, if◌then◌else◌, Option, Some, None, is_some, codes}
+use Rattle.std.specs.Option.{option_and_then, option_map_or}
+use Rattle.std.specs.Str.{bytes_eq}
+use Rattle.ets_term.specs.Data.{Data, atom, tuple, list, Row, no_terms, term, data_of}
+use Rattle.ets_term.specs.Depth.{element_at}
+use Rattle.ets_term.specs.declared.term.Term.{Term}
+use Rattle.match_spec.specs.Functions.{tuple_element}
+use Rattle.match_spec.specs.Patterns.{alike, bindings_of}
+use Rattle.match_spec.specs.Specifications.{clause_parts, result_of}
+use Rattle.match_spec.specs.Variables.{variable}
+
+abbrev mutual
+  -- whether a part of a pattern has neither a variable nor `'_'`
+  pub is_ground : Data → Bool
+  is_ground (atom a) = not (bytes_eq a (codes "_")) && not (is_some (variable a))
+  is_ground (tuple ps) = are_ground ps
+  is_ground (list ps) = are_ground ps
+  is_ground p = true
+
+  pub are_ground : Row → Bool
+  are_ground no_terms = true
+  are_ground (term p ps) = is_ground p && are_ground ps
+
+-- the key's part of a pattern, where it has neither a variable nor `'_'`
+abbrev pub bound_key : ℕ → Data → Option Data
+bound_key keypos pattern = option_and_then (λ key. if is_ground key then Some key else None) (tuple_element keypos pattern)
+
+abbrev pub clause_key : ℕ → Data → Option Data
+clause_key keypos clause = option_and_then (λ parts. bound_key keypos parts.head) (clause_parts clause)
+
+abbrev pub all_bind : ℕ → Data → Row → Bool
+all_bind keypos key no_terms = true
+all_bind keypos key (term c cs) = option_map_or (alike key) (clause_key keypos c) false && all_bind keypos key cs
+
+-- the key that the heads of all clauses bind
+abbrev pub spec_key : ℕ → Data → Option Data
+spec_key keypos (list (term c cs)) = option_and_then (λ key. if all_bind keypos key cs then Some key else None) (clause_key keypos c)
+spec_key keypos spec = None
+
+-- every object that matches the pattern has this key
+abbrev pub IsKeyOfMatches : ℕ → Data → Term → Type 0
+IsKeyOfMatches keypos pattern key = (object : Term) → is_some (bindings_of pattern (data_of object)) ≡ true → element_at keypos object ≡ Some key
+
+-- every object for which the specification gives something has this key
+abbrev pub IsKeyOfResults : ℕ → Data → Term → Type 0
+IsKeyOfResults keypos spec key = (object : Term) → is_some (result_of spec (data_of object)) ≡ true → element_at keypos object ≡ Some key

@@ -1,0 +1,95 @@
+-- The values of expressions, and which terms are expressions (ERTS User's Guide, Match Specifications in Erlang).
+use Rattle.std.specs.Prelude.{ℕ, ◌==◌, ◌&&◌, ◌||◌, not, Bool, true, false, if◌then◌else◌, List, [], ◌∷◌, Option, Some, None, option_map, codes}
+use Rattle.std.specs.List.{list_any}
+use Rattle.std.specs.Option.{option_and_then}
+use Rattle.std.specs.Str.{bytes_eq}
+use Rattle.ets_term.specs.Data.{Data, atom, tuple, list, Row, no_terms, term, row_of}
+use Rattle.ets_term.specs.Order.{row_len}
+use Rattle.match_spec.specs.Functions.{apply, boolean, truth}
+use Rattle.match_spec.specs.Names.{function_of, decides, stops_at, is_function}
+use Rattle.match_spec.specs.Patterns.{Bindings, binding, values}
+use Rattle.match_spec.specs.Variables.{variable}
+
+-- what an atom is for an expression: a variable its binding, `'$_'` the object, `'$$'` the list of bindings, else itself
+abbrev pub name_value : Bindings → Data → List ℕ → Option ℕ → Option Data
+name_value b object a (Some n) = binding b n
+name_value b object a None =
+    if bytes_eq a (codes "$_") then Some object
+    else if bytes_eq a (codes "$$") then Some (list (row_of (values b)))
+    else Some (atom a)
+
+abbrev pub is_stop : Bool → Bool → Bool
+is_stop true x = x
+is_stop false true = false
+is_stop false false = true
+
+-- one that decides is enough
+abbrev pub join : Bool → Bool → Bool → Bool
+join true x y = x || y
+join false x y = x && y
+
+-- the function with a name and a number of arguments, at the values of all arguments
+abbrev pub applied : List ℕ → ℕ → Option (List Data) → Option Data
+applied f n ds = option_and_then (λ g. option_and_then (apply g) ds) (function_of f n)
+
+abbrev pub joined_or : Option Bool → (Bool → Option Bool) → Option Data → Option Data
+joined_or None joined otherwise = otherwise
+joined_or (Some decisive) joined otherwise = option_map truth (joined decisive)
+
+abbrev pub decided_or : Option Bool → (Bool → Option Data) → Option Data → Option Data
+decided_or None decided otherwise = otherwise
+decided_or (Some stop) decided otherwise = decided stop
+
+-- `{const,T}` is T, which is not looked into
+abbrev pub constant_or : List ℕ → Row → Option Data → Option Data
+constant_or f (term e no_terms) otherwise = if bytes_eq f (codes "const") then Some e else otherwise
+constant_or f es otherwise = otherwise
+
+abbrev mutual
+  -- the value of an expression, None where it fails
+  pub value : Bindings → Data → Data → Option Data
+  value b object (atom a) = name_value b object a (variable a)
+  value b object (list es) = option_map (λ ds. list (row_of ds)) (all_values b object es)
+  value b object (tuple (term (tuple es) no_terms)) = option_map (λ ds. tuple (row_of ds)) (all_values b object es)
+  value b object (tuple (term (atom f) es)) =
+      constant_or f es (decided_or (stops_at f) (λ stop. decided b object stop es)
+      (joined_or (decides f) (λ decisive. joined b object decisive es) (applied f (row_len es) (all_values b object es))))
+  value b object (tuple es) = None
+  value b object d = Some d
+
+  -- the values of all, None where one fails
+  pub all_values : Bindings → Data → Row → Option (List Data)
+  all_values b object no_terms = Some []
+  all_values b object (term e es) = option_and_then (λ d. option_map (λ ds. d ∷ ds) (all_values b object es)) (value b object e)
+
+  -- `and` and `or`: whether one decides; all are evaluated, and each must be a boolean
+  pub joined : Bindings → Data → Bool → Row → Option Bool
+  joined b object decisive no_terms = Some (not decisive)
+  joined b object decisive (term e es) = option_and_then (λ d. option_and_then (λ x. option_map (join decisive x) (joined b object decisive es)) (boolean d)) (value b object e)
+
+  -- `andalso` and `orelse`: from the left, up to the first boolean that decides; what is behind it is not evaluated
+  pub decided : Bindings → Data → Bool → Row → Option Data
+  decided b object stop no_terms = None
+  decided b object stop (term e no_terms) = option_and_then (λ d. option_map (λ x. d) (boolean d)) (value b object e)
+  decided b object stop (term e es) = option_and_then (λ d. option_and_then (λ x. if is_stop stop x then Some d else decided b object stop es) (boolean d)) (value b object e)
+
+abbrev pub is_constant : List ℕ → ℕ → Bool
+is_constant f n = (n == 1) && bytes_eq f (codes "const")
+
+abbrev pub is_bound : List ℕ → Option ℕ → Bool
+is_bound ns None = true
+is_bound ns (Some n) = list_any (λ m. n == m) ns
+
+abbrev mutual
+  -- whether a term is an expression, where the head binds these variables
+  pub is_expression : List ℕ → Data → Bool
+  is_expression ns (atom a) = is_bound ns (variable a)
+  is_expression ns (list es) = are_expressions ns es
+  is_expression ns (tuple (term (tuple es) no_terms)) = are_expressions ns es
+  is_expression ns (tuple (term (atom f) es)) = is_constant f (row_len es) || (is_function f (row_len es) && are_expressions ns es)
+  is_expression ns (tuple es) = false
+  is_expression ns d = true
+
+  pub are_expressions : List ℕ → Row → Bool
+  are_expressions ns no_terms = true
+  are_expressions ns (term e es) = is_expression ns e && are_expressions ns es

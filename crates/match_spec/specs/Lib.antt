@@ -1,0 +1,9 @@
+pub mod BoundKeys
+pub mod Expressions
+pub mod Functions
+pub mod Names
+pub mod Patterns
+pub mod Places
+pub mod Specifications
+pub mod Variables
+pub mod inside

@@ -1,0 +1,88 @@
+-- The names of functions (ERTS User's Guide, Match Specifications in Erlang).
+use Rattle.std.specs.Prelude.{ℕ, ◌==◌, ◌&&◌, ◌||◌, nat_lt, Bool, true, false, if◌then◌else◌, List, Option, Some, None, is_some, codes}
+use Rattle.std.specs.Str.{bytes_eq}
+use Rattle.match_spec.specs.declared.expression.arithmetic.Operation.{Operation}
+use Rattle.match_spec.specs.declared.expression.arithmetic.Operation.TheVariants.{Add, Subtract, Multiply, Divide, Remainder}
+use Rattle.match_spec.specs.declared.expression.comparison.Comparison.{Comparison}
+use Rattle.match_spec.specs.declared.expression.comparison.Comparison.TheVariants.{Greater, GreaterOrEqual, Less, LessOrEqual, Equal, NotEqual}
+use Rattle.match_spec.specs.declared.expression.function.Function.{Function}
+use Rattle.match_spec.specs.declared.expression.function.Function.TheVariants.{Is, Not, Abs, Hd, Tl, Length, Size, Xor, Element, Calculate, Compare}
+use Rattle.match_spec.specs.declared.expression.guards.Kind.{Kind}
+use Rattle.match_spec.specs.declared.expression.guards.Kind.TheVariants.{Atom, Integer, List as AnyList, Tuple, Binary, Pid, Reference}
+
+abbrev pub kind_named : List ℕ → Option Kind
+kind_named f =
+    if bytes_eq f (codes "is_atom") then Some Atom
+    else if bytes_eq f (codes "is_integer") || bytes_eq f (codes "is_number") then Some Integer
+    else if bytes_eq f (codes "is_list") then Some AnyList
+    else if bytes_eq f (codes "is_tuple") then Some Tuple
+    else if bytes_eq f (codes "is_binary") then Some Binary
+    else if bytes_eq f (codes "is_pid") then Some Pid
+    else if bytes_eq f (codes "is_reference") then Some Reference
+    else None
+
+abbrev pub operation_named : List ℕ → Option Operation
+operation_named f =
+    if bytes_eq f (codes "+") then Some Add
+    else if bytes_eq f (codes "-") then Some Subtract
+    else if bytes_eq f (codes "*") then Some Multiply
+    else if bytes_eq f (codes "div") then Some Divide
+    else if bytes_eq f (codes "rem") then Some Remainder
+    else None
+
+abbrev pub comparison_named : List ℕ → Option Comparison
+comparison_named f =
+    if bytes_eq f (codes ">") then Some Greater
+    else if bytes_eq f (codes ">=") then Some GreaterOrEqual
+    else if bytes_eq f (codes "<") then Some Less
+    else if bytes_eq f (codes "=<") then Some LessOrEqual
+    else if bytes_eq f (codes "=:=") || bytes_eq f (codes "==") then Some Equal
+    else if bytes_eq f (codes "=/=") || bytes_eq f (codes "/=") then Some NotEqual
+    else None
+
+abbrev pub is_or : Option Kind → Option Function → Option Function
+is_or None f = f
+is_or (Some k) f = Some (Is k)
+
+abbrev pub calculate_or : Option Operation → Option Function → Option Function
+calculate_or None f = f
+calculate_or (Some op) f = Some (Calculate op)
+
+abbrev pub compare_or : Option Comparison → Option Function → Option Function
+compare_or None f = f
+compare_or (Some c) f = Some (Compare c)
+
+abbrev pub one_argument : List ℕ → Option Function
+one_argument f = is_or (kind_named f) (
+    if bytes_eq f (codes "not") then Some Not
+    else if bytes_eq f (codes "abs") then Some Abs
+    else if bytes_eq f (codes "hd") then Some Hd
+    else if bytes_eq f (codes "tl") then Some Tl
+    else if bytes_eq f (codes "length") then Some Length
+    else if bytes_eq f (codes "size") then Some Size
+    else None)
+
+abbrev pub two_arguments : List ℕ → Option Function
+two_arguments f = compare_or (comparison_named f) (calculate_or (operation_named f) (
+    if bytes_eq f (codes "xor") then Some Xor
+    else if bytes_eq f (codes "element") then Some Element
+    else None))
+
+-- the function with this name and number of arguments
+abbrev pub function_of : List ℕ → ℕ → Option Function
+function_of f n =
+    if n == 1 then one_argument f
+    else if n == 2 then two_arguments f
+    else None
+
+-- what decides a connective that evaluates all: one `false` an `and`, one `true` an `or`
+abbrev pub decides : List ℕ → Option Bool
+decides f = if bytes_eq f (codes "and") then Some false else if bytes_eq f (codes "or") then Some true else None
+
+-- where a connective stops that does not: `andalso` at `false`, `orelse` at `true`
+abbrev pub stops_at : List ℕ → Option Bool
+stops_at f = if bytes_eq f (codes "andalso") then Some false else if bytes_eq f (codes "orelse") then Some true else None
+
+-- whether there is such a function; the connectives take one argument or more
+abbrev pub is_function : List ℕ → ℕ → Bool
+is_function f n = ((is_some (stops_at f) || is_some (decides f)) && nat_lt 0 n) || is_some (function_of f n)

@@ -1,0 +1,82 @@
+-- Match specifications, and what they give for an object (ERTS User's Guide, Match Specifications in Erlang).
+use Rattle.std.specs.Prelude.{ℕ, ◌&&◌, nat_lt, Bool, true, false, if◌then◌else◌, List, Option, Some, None, unwrap_or, codes}
+use Rattle.std.specs.Option.{option_map_or, option_and_then}
+use Rattle.std.specs.Str.{bytes_eq}
+use Rattle.ets_term.specs.Data.{Data, atom, tuple, list, Row, no_terms, term}
+use Rattle.ets_term.specs.Order.{row_len}
+use Rattle.match_spec.specs.Patterns.{Bindings, bindings_of}
+use Rattle.match_spec.specs.Expressions.{value, are_expressions}
+use Rattle.match_spec.specs.Variables.{variables}
+
+-- a pattern is an atom or a tuple
+abbrev pub is_pattern : Data → Bool
+is_pattern (atom a) = true
+is_pattern (tuple ps) = true
+is_pattern d = false
+
+pub record RawClause : Type 0 where
+  pub head : Data
+  pub conditions : Row
+  pub body : Row
+
+-- `{Head,Conditions,Body}`, where Conditions and Body are lists
+abbrev pub clause_parts : Data → Option RawClause
+clause_parts (tuple (term head (term (list conditions) (term (list body) no_terms)))) = Some (record { head = head; conditions = conditions; body = body })
+clause_parts d = None
+
+-- the head is a pattern, the conditions are expressions of these variables, and the body is one expression or more
+abbrev pub is_good_by : List ℕ → RawClause → Bool
+is_good_by ns c = (is_pattern c.head && nat_lt 0 (row_len c.body)) && (are_expressions ns c.conditions && are_expressions ns c.body)
+
+-- the variables of the head are those that it binds
+abbrev pub is_good : RawClause → Bool
+is_good c = is_good_by (variables c.head) c
+
+abbrev pub is_clause : Data → Bool
+is_clause c = option_map_or is_good (clause_parts c) false
+
+abbrev pub are_clauses : Row → Bool
+are_clauses no_terms = true
+are_clauses (term c cs) = is_clause c && are_clauses cs
+
+-- a specification is a list, not empty, of clauses `{Head,Conditions,Body}`
+abbrev pub is_spec : Data → Bool
+is_spec (list cs) = nat_lt 0 (row_len cs) && are_clauses cs
+is_spec d = false
+
+abbrev pub is_true : Data → Bool
+is_true (atom a) = bytes_eq a (codes "true")
+is_true d = false
+
+-- whether all conditions give true; one that fails does not
+abbrev pub hold : Bindings → Data → Row → Bool
+hold b object no_terms = true
+hold b object (term c cs) = option_map_or is_true (value b object c) false && hold b object cs
+
+-- the value of the last expression, None where one fails
+abbrev pub last_value : Bindings → Data → Row → Option Data
+last_value b object no_terms = None
+last_value b object (term e no_terms) = value b object e
+last_value b object (term e es) = option_and_then (λ d. last_value b object es) (value b object e)
+
+-- the value of the last expression of a body, or `'EXIT'` if one of them fails
+abbrev pub outcome : Bindings → Data → Row → Data
+outcome b object body = unwrap_or (last_value b object body) (atom (codes "EXIT"))
+
+abbrev pub counted_or : Option Bindings → Data → RawClause → Option Data → Option Data
+counted_or None object c otherwise = otherwise
+counted_or (Some b) object c otherwise = if hold b object c.conditions then Some (outcome b object c.body) else otherwise
+
+abbrev pub result_or : Option RawClause → Data → Option Data → Option Data
+result_or None object otherwise = otherwise
+result_or (Some c) object otherwise = counted_or (bindings_of c.head object) object c otherwise
+
+-- the first clause counts whose head matches and whose conditions hold
+abbrev pub first_result : Row → Data → Option Data
+first_result no_terms object = None
+first_result (term c cs) object = result_or (clause_parts c) object (first_result cs object)
+
+-- what a specification gives for an object, None where no clause counts
+abbrev pub result_of : Data → Data → Option Data
+result_of (list cs) object = first_result cs object
+result_of d object = None

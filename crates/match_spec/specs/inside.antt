@@ -1,0 +1,4 @@
+pub mod CompiledClauses
+pub mod CompiledExpressions
+pub mod CompiledPatterns
+pub mod FirstPlaces

@@ -1,0 +1,102 @@
+// The keys that patterns bind.
+ghost use Rattle.std.specs.Prelude.{◌≡◌, if◌then◌else◌, Some, None, map, drop, option_copied};
+ghost use Rattle.std.specs.Option.{option_map};
+ghost use Rattle.ets_term.specs.Data.{atom, list, data_of, row_of};
+ghost use Rattle.match_spec.specs.BoundKeys.{is_ground, are_ground, bound_key, clause_key, all_bind, spec_key};
+
+use crate::spec::check::clause_parts;
+use crate::variable::variable;
+use ets_term::Term;
+
+/// The element of the pattern at `keypos`, where it has neither a variable nor `'_'`.
+#[tactic(auto, using(crate::proofs::KeyLaws::key_of_element, crate::proofs::KeyLaws::key_of_none))]
+pub(crate) fn bound_part(pattern: &Term, keypos: usize) -> Option<&Term>
+    ensures { option_map data_of (option_copied result) ≡ bound_key keypos (data_of pattern.now) }
+{
+    match pattern.element(keypos) {
+        Some(key) => ground_or_none(key),
+        None => None,
+    }
+}
+
+fn ground_or_none(key: &Term) -> Option<&Term>
+    ensures { option_map data_of (option_copied result) ≡ (if is_ground (data_of key.now) then Some (data_of key.now) else None) }
+{
+    if is_ground(key) { Some(key) } else { None }
+}
+
+/// The key that the heads of all clauses bind.
+#[tactic(auto, using(crate::proofs::KeyLaws::key_of_first, crate::proofs::KeyLaws::key_of_no_first, crate::proofs::KeyLaws::key_of_nothing))]
+pub(crate) fn bound_by_all(clauses: &[Term], keypos: usize) -> Option<&Term>
+    ensures { option_map data_of (option_copied result) ≡ spec_key keypos (list (row_of (map data_of clauses.now))) }
+{
+    if clauses.is_empty() {
+        return None;
+    }
+    match clause_key(&clauses[0], keypos) {
+        Some(key) => key_if_all_bind(clauses, keypos, key),
+        None => None,
+    }
+}
+
+fn key_if_all_bind<'a>(clauses: &[Term], keypos: usize, key: &'a Term) -> Option<&'a Term>
+    ensures { option_map data_of (option_copied result) ≡ (if all_bind keypos (data_of key.now) (row_of (map data_of (drop 1 clauses.now))) then Some (data_of key.now) else None) }
+{
+    if all_bind(clauses, keypos, key) {
+        Some(key)
+    } else {
+        None
+    }
+}
+
+// Whether the clauses behind the first bind this key.
+fn all_bind(clauses: &[Term], keypos: usize, key: &Term) -> bool
+    ensures { result ≡ all_bind keypos (data_of key.now) (row_of (map data_of (drop 1 clauses.now))) }
+{
+    for i in 1..clauses.len() {
+        match clause_key(&clauses[i], keypos) {
+            Some(other) if *key == *other => {}
+            _ => return false,
+        }
+    }
+    true
+}
+
+fn clause_key(clause: &Term, keypos: usize) -> Option<&Term>
+    ensures { option_map data_of (option_copied result) ≡ clause_key keypos (data_of clause.now) }
+{
+    match clause_parts(clause) {
+        Some(parts) => bound_part(parts.head, keypos),
+        None => None,
+    }
+}
+
+#[cycle(bound)]
+fn is_ground(part: &Term) -> bool
+    ensures { result ≡ is_ground (data_of part.now) }
+{
+    match part {
+        Term::Atom(name) => is_plain(name.text()),
+        Term::Tuple(items) => are_ground(items.as_slice()),
+        Term::List(items) => are_ground(items.as_slice()),
+        _ => true,
+    }
+}
+
+#[cycle(bound)]
+fn are_ground(parts: &[Term]) -> bool
+    ensures { result ≡ are_ground (row_of (map data_of parts.now)) }
+{
+    for part in parts {
+        if !is_ground(part) {
+            return false;
+        }
+    }
+    true
+}
+
+fn is_plain(name: &str) -> bool
+    ensures { result ≡ is_ground (atom name.now) }
+{
+    name != "_" && variable(name.as_bytes()).is_none()
+}

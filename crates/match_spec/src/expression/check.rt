@@ -1,0 +1,90 @@
+// Whether a term is an expression.
+ghost use Rattle.std.specs.Prelude.{◌≡◌, ◌&&◌, ◌||◌, drop, map};
+ghost use Rattle.ets_term.specs.Data.{tuple, data_of, row_of};
+ghost use Rattle.match_spec.specs.Expressions.{is_expression, are_expressions, is_constant, is_bound};
+ghost use Rattle.match_spec.specs.Names.{is_function};
+ghost use Rattle.match_spec.specs.inside.FirstPlaces.{numbers_of};
+
+use crate::expression::function::{decides, function_of, stops_at};
+use crate::pattern::place::FirstPlaces;
+use crate::variable::variable;
+use ets_term::Term;
+
+/// Whether the term is an expression, where the head binds these variables.
+#[cycle(checked)]
+pub(crate) fn is_expression(term: &Term, first: &FirstPlaces) -> bool
+    ensures { result ≡ is_expression (numbers_of first.now.entries) (data_of term.now) }
+{
+    match term {
+        Term::Atom(name) => is_bound(variable(name.text().as_bytes()), first),
+        Term::List(items) => are_expressions(items.as_slice(), 0, first),
+        Term::Tuple(items) => is_tuple_expression(items.as_slice(), first),
+        _ => true,
+    }
+}
+
+#[tactic(auto, using(crate::proofs::PlaceLaws::is_bound_lookup))]
+fn is_bound(number: Option<u32>, first: &FirstPlaces) -> bool
+    ensures { result ≡ is_bound (numbers_of first.now.entries) number }
+{
+    match number {
+        Some(number) => first.contains_key(&number),
+        None => true,
+    }
+}
+
+/// Whether those from the one at `start` on are expressions.
+#[cycle(checked)]
+pub(crate) fn are_expressions(terms: &[Term], start: usize, first: &FirstPlaces) -> bool
+    ensures { result ≡ are_expressions (numbers_of first.now.entries) (row_of (map data_of (drop start terms.now))) }
+{
+    for i in start..terms.len() {
+        if !is_expression(&terms[i], first) {
+            return false;
+        }
+    }
+    true
+}
+
+#[cycle(checked)]
+fn is_tuple_expression(terms: &[Term], first: &FirstPlaces) -> bool
+    ensures { result ≡ is_expression (numbers_of first.now.entries) (tuple (row_of (map data_of terms.now))) }
+{
+    if terms.is_empty() {
+        return false;
+    }
+    match &terms[0] {
+        Term::Tuple(parts) => {
+            if terms.len() == 1 {
+                are_expressions(parts.as_slice(), 0, first)
+            } else {
+                false
+            }
+        }
+        Term::Atom(name) => {
+            let count = terms.len() - 1;
+            let inside = are_expressions(terms, 1, first);
+            is_application(name.text(), count, inside)
+        }
+        _ => false,
+    }
+}
+
+fn is_application(name: &str, count: usize, inside: bool) -> bool
+    ensures { result ≡ (is_constant name.now count || (is_function name.now count && inside)) }
+{
+    is_constant(name, count) || (is_function(name, count) && inside)
+}
+
+fn is_constant(name: &str, count: usize) -> bool
+    ensures { result ≡ is_constant name.now count }
+{
+    count == 1 && name == "const"
+}
+
+fn is_function(name: &str, count: usize) -> bool
+    ensures { result ≡ is_function name.now count }
+{
+    ((stops_at(name).is_some() || decides(name).is_some()) && count > 0)
+        || function_of(name, count).is_some()
+}

@@ -1,0 +1,131 @@
+// From an expression to its compiled form.
+ghost use Rattle.std.specs.Prelude.{◌≡◌, drop, length, map, IfOk};
+ghost use Rattle.ets_term.specs.Data.{tuple, data_of, row_of};
+ghost use Rattle.match_spec.specs.Variables.{variable};
+ghost use Rattle.match_spec.specs.inside.CompiledExpressions.{expression_of, expressions_of, name_expression, constant_else, called};
+
+use crate::expression::Expression;
+use crate::expression::function::{decides, function_of, stops_at};
+use crate::pattern::place::{FirstPlaces, way_in};
+use crate::variable::variable;
+use ets_term::{Atom, Items, Term};
+use std::alloc::{AllocError, Global};
+
+/// The expression, compiled, where the variables of the head stand at these places.
+#[cycle(expression)]
+#[tactic(auto, using(ets_term::specs::laws::Exact::back))]
+pub(crate) fn expression_of(
+    alloc: Global,
+    term: &Term,
+    first: &FirstPlaces,
+) -> Result<Expression, AllocError>
+    ensures { IfOk result (λ e. e ≡ expression_of first.now.entries (data_of term.now)) }
+{
+    match term {
+        Term::Atom(name) => name_expression(alloc, name, first),
+        Term::Tuple(items) => tuple_expression(alloc, items.as_slice(), first),
+        Term::List(items) => Ok(Expression::List(expressions_of(
+            alloc,
+            items.as_slice(),
+            0,
+            first,
+        )?)),
+        Term::Int(_) => Ok(Expression::Constant(term.try_clone(alloc)?)),
+        Term::Pid(_) => Ok(Expression::Constant(term.try_clone(alloc)?)),
+        Term::Tid(_) => Ok(Expression::Constant(term.try_clone(alloc)?)),
+        Term::Binary(_) => Ok(Expression::Constant(term.try_clone(alloc)?)),
+    }
+}
+
+/// The expressions from the one at `start` on, compiled.
+#[cycle(expression)]
+pub(crate) fn expressions_of(
+    alloc: Global,
+    terms: &[Term],
+    start: usize,
+    first: &FirstPlaces,
+) -> Result<Items<Expression>, AllocError>
+    ensures { IfOk result (λ es. es ≡ expressions_of first.now.entries (row_of (map data_of (drop start terms.now)))) }
+{
+    let mut compiled = Vec::new(alloc);
+    for i in start..terms.len() {
+        compiled.push(expression_of(alloc, &terms[i], first)?)?;
+    }
+    Ok(Items::from_vec(compiled))
+}
+
+#[cycle(expression)]
+fn tuple_expression(
+    alloc: Global,
+    terms: &[Term],
+    first: &FirstPlaces,
+) -> Result<Expression, AllocError>
+    ensures { IfOk result (λ e. e ≡ expression_of first.now.entries (tuple (row_of (map data_of terms.now)))) }
+{
+    if terms.is_empty() {
+        return Ok(Expression::Object);
+    }
+    match &terms[0] {
+        Term::Tuple(parts) => {
+            if terms.len() == 1 {
+                Ok(Expression::Tuple(expressions_of(alloc, parts.as_slice(), 0, first)?))
+            } else {
+                Ok(Expression::Object)
+            }
+        }
+        Term::Atom(name) => {
+            let compiled = expressions_of(alloc, terms, 1, first)?;
+            application(alloc, name.text(), &terms[1..], compiled)
+        }
+        _ => Ok(Expression::Object),
+    }
+}
+
+fn name_expression(
+    alloc: Global,
+    name: &Atom,
+    first: &FirstPlaces,
+) -> Result<Expression, AllocError>
+    ensures { IfOk result (λ e. e ≡ name_expression first.now.entries name.now (variable name.now)) }
+{
+    let text = name.text();
+    if let Some(number) = variable(text.as_bytes()) {
+        return Ok(Expression::Variable(Items::from_vec(way_in(first, number).to_vec(alloc)?)));
+    }
+    if text == "$_" {
+        return Ok(Expression::Object);
+    }
+    if text == "$$" {
+        return Ok(Expression::Bindings);
+    }
+    Ok(Expression::Constant(Term::Atom(name.try_clone(alloc)?)))
+}
+
+fn application(
+    alloc: Global,
+    name: &str,
+    arguments: &[Term],
+    compiled: Items<Expression>,
+) -> Result<Expression, AllocError>
+    ensures { IfOk result (λ e. e ≡ constant_else name.now (row_of (map data_of arguments.now)) (called name.now (length arguments.now) compiled)) }
+{
+    if arguments.len() == 1 && name == "const" {
+        return Ok(Expression::Constant(arguments[0].try_clone(alloc)?));
+    }
+    Ok(called(name, arguments.len(), compiled))
+}
+
+fn called(name: &str, count: usize, compiled: Items<Expression>) -> Expression
+    ensures { result ≡ called name.now count compiled }
+{
+    if let Some(stop) = stops_at(name) {
+        return Expression::Decide(stop, compiled);
+    }
+    if let Some(decisive) = decides(name) {
+        return Expression::Join(decisive, compiled);
+    }
+    match function_of(name, count) {
+        Some(function) => Expression::Apply(function, compiled),
+        None => Expression::Object,
+    }
+}

@@ -1,0 +1,96 @@
+// Booleans, and the tests of a term's kind.
+ghost use Rattle.std.specs.Prelude.{◌≡◌, IfOk};
+ghost use Rattle.ets_term.specs.Data.{data_of};
+ghost use Rattle.match_spec.specs.Functions.{truth, boolean, is_kind, exclusive};
+ghost use Rattle.match_spec.specs.Names.{kind_named};
+
+use ets_term::{Atom, Term};
+use std::alloc::{AllocError, Global};
+
+/// A kind of terms. A reference is a table identifier.
+#[derive(Clone, Copy)]
+pub(crate) enum Kind {
+    Atom,
+    Integer,
+    List,
+    Tuple,
+    Binary,
+    Pid,
+    Reference,
+}
+
+/// The kind for which the function of this name tests.
+pub(crate) fn kind_named(name: &str) -> Option<Kind>
+    ensures { result ≡ kind_named name.now }
+{
+    if name == "is_atom" {
+        Some(Kind::Atom)
+    } else if name == "is_integer" || name == "is_number" {
+        Some(Kind::Integer)
+    } else if name == "is_list" {
+        Some(Kind::List)
+    } else if name == "is_tuple" {
+        Some(Kind::Tuple)
+    } else if name == "is_binary" {
+        Some(Kind::Binary)
+    } else if name == "is_pid" {
+        Some(Kind::Pid)
+    } else if name == "is_reference" {
+        Some(Kind::Reference)
+    } else {
+        None
+    }
+}
+
+/// Whether the term is of the kind.
+pub(crate) fn is_kind(kind: Kind, term: &Term) -> bool
+    ensures { result ≡ is_kind kind (data_of term.now) }
+{
+    match (kind, term) {
+        (Kind::Atom, Term::Atom(_)) => true,
+        (Kind::Integer, Term::Int(_)) => true,
+        (Kind::List, Term::List(_)) => true,
+        (Kind::Tuple, Term::Tuple(_)) => true,
+        (Kind::Binary, Term::Binary(_)) => true,
+        (Kind::Pid, Term::Pid(_)) => true,
+        (Kind::Reference, Term::Tid(_)) => true,
+        _ => false,
+    }
+}
+
+/// The atom `true` or `false`.
+pub(crate) fn truth(alloc: Global, b: bool) -> Result<Term, AllocError>
+    ensures { IfOk result (λ t. data_of t ≡ truth b) }
+{
+    if b {
+        return Ok(Term::Atom(Atom::of_bytes(alloc, b"true")?));
+    }
+    Ok(Term::Atom(Atom::of_bytes(alloc, b"false")?))
+}
+
+/// What boolean the term is, if it is one.
+pub(crate) fn boolean(term: &Term) -> Option<bool>
+    ensures { result ≡ boolean (data_of term.now) }
+{
+    let Term::Atom(name) = term else {
+        return None;
+    };
+    let text = name.text();
+    if text == "true" {
+        Some(true)
+    } else if text == "false" {
+        Some(false)
+    } else {
+        None
+    }
+}
+
+/// Whether one of two booleans is true and the other false.
+pub(crate) fn exclusive(x: Option<bool>, y: Option<bool>) -> Option<bool>
+    ensures { result ≡ exclusive x y }
+{
+    match (x, y) {
+        (Some(x), Some(y)) => Some(x != y),
+        _ => None,
+    }
+}

@@ -1,0 +1,92 @@
+// Parts of lists and tuples, and how many there are.
+ghost use Rattle.std.specs.Prelude.{◌≡◌, drop, map, IfOk, option_copied};
+ghost use Rattle.std.specs.Option.{option_map};
+ghost use Rattle.ets_term.specs.Data.{int, list, data_of, row_of};
+ghost use Rattle.match_spec.specs.Functions.{head, tail, element, list_length, size};
+
+use crate::expression::arithmetic::count;
+use ets_term::{Integer, Items, Term};
+use std::alloc::{AllocError, Global};
+
+/// The first element of a list.
+pub(crate) fn head(term: &Term) -> Option<&Term>
+    ensures { option_map data_of (option_copied result) ≡ head (data_of term.now) }
+{
+    match term {
+        Term::List(items) => items.get(0),
+        _ => None,
+    }
+}
+
+/// The list of the elements behind the first.
+pub(crate) fn tail(alloc: Global, term: &Term) -> Result<Option<Term>, AllocError>
+    ensures { IfOk result (λ t. option_map data_of t ≡ tail (data_of term.now)) }
+{
+    match term {
+        Term::List(items) => behind_first(alloc, items.as_slice()),
+        _ => Ok(None),
+    }
+}
+
+#[tactic(auto, using(crate::proofs::ListLaws::tail_of))]
+fn behind_first(alloc: Global, items: &[Term]) -> Result<Option<Term>, AllocError>
+    ensures { IfOk result (λ t. option_map data_of t ≡ tail (list (row_of (map data_of items.now)))) }
+{
+    if items.is_empty() {
+        return Ok(None);
+    }
+    Ok(Some(Term::List(copies_from(alloc, items, 1)?)))
+}
+
+fn copies_from(alloc: Global, items: &[Term], start: usize) -> Result<Items<Term>, AllocError>
+    ensures { IfOk result (λ ts. ts ≡ drop start items.now) }
+{
+    let mut copies = Vec::new(alloc);
+    for i in start..items.len() {
+        copies.push(items[i].try_clone(alloc)?)?;
+    }
+    Ok(Items::from_vec(copies))
+}
+
+/// How many elements a list has.
+#[tactic(auto, using(crate::proofs::ListLaws::list_length_of))]
+pub(crate) fn list_length(term: &Term) -> Option<Term>
+    ensures { option_map data_of result ≡ list_length (data_of term.now) }
+{
+    match term {
+        Term::List(items) => count(items.len()),
+        _ => None,
+    }
+}
+
+/// How many elements a tuple, or bytes a binary has.
+#[tactic(auto, using(crate::proofs::ListLaws::size_of_tuple))]
+pub(crate) fn size(term: &Term) -> Option<Term>
+    ensures { option_map data_of result ≡ size (data_of term.now) }
+{
+    match term {
+        Term::Tuple(items) => count(items.len()),
+        Term::Binary(bytes) => count(bytes.len()),
+        _ => None,
+    }
+}
+
+/// Element n of the tuple, where n is an integer.
+pub(crate) fn element<'a>(n: &Term, tuple: &'a Term) -> Option<&'a Term>
+    ensures { option_map data_of (option_copied result) ≡ element (data_of n.now) (data_of tuple.now) }
+{
+    match n {
+        Term::Int(n) => numbered(*n, tuple),
+        _ => None,
+    }
+}
+
+#[tactic(auto, using(crate::proofs::ListLaws::element_at_tree))]
+fn numbered(n: Integer, tuple: &Term) -> Option<&Term>
+    ensures { option_map data_of (option_copied result) ≡ element (int n) (data_of tuple.now) }
+{
+    match usize::try_from(n) {
+        Ok(n) => tuple.element(n),
+        Err(_) => None,
+    }
+}

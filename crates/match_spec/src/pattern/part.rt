@@ -1,0 +1,55 @@
+// Compiled patterns.
+ghost use Rattle.std.specs.Prelude.{◌≡◌, map};
+ghost use Rattle.ets_term.specs.Data.{data_of, row_of};
+ghost use Rattle.match_spec.specs.inside.CompiledPatterns.{part_fits, all_fit};
+
+use crate::pattern::place::at;
+use ets_term::{Items, Term};
+
+/// A part of a pattern. A variable is `Anything` at its first place; at the others it is compared with what stands there.
+#[derive(Drop)]
+pub(crate) enum Part {
+    Anything,
+    Again(Items<usize>),
+    Tuple(Items<Part>),
+    List(Items<Part>),
+    Constant(Term),
+}
+
+/// Whether the part of the object fits.
+#[cycle(fits)]
+pub(crate) fn fits(part: &Part, object: &Term, term: &Term) -> bool
+    ensures { result ≡ part_fits part.now (data_of object.now) (data_of term.now) }
+{
+    match (part, term) {
+        (Part::Anything, _) => true,
+        (Part::Again(place), _) => *at(place.as_slice(), object) == *term,
+        (Part::Tuple(parts), Term::Tuple(items)) => all_fit(
+            parts.as_slice(),
+            object,
+            items.as_slice(),
+        ),
+        (Part::List(parts), Term::List(items)) => all_fit(
+            parts.as_slice(),
+            object,
+            items.as_slice(),
+        ),
+        (Part::Constant(constant), _) => *constant == *term,
+        _ => false,
+    }
+}
+
+#[cycle(fits)]
+fn all_fit(parts: &[Part], object: &Term, terms: &[Term]) -> bool
+    ensures { result ≡ all_fit (map part_fits parts.now) (data_of object.now) (row_of (map data_of terms.now)) }
+{
+    if parts.len() != terms.len() {
+        return false;
+    }
+    for i in 0..parts.len() {
+        if !fits(&parts[i], object, &terms[i]) {
+            return false;
+        }
+    }
+    true
+}

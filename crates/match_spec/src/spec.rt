@@ -1,0 +1,130 @@
+ghost use Rattle.std.specs.Prelude.{◌≡◌, [], ◌∷◌, ◌++◌, true, false, map, option_copied, IfOk, OnOk, IfSome, IsErrOf};
+ghost use Rattle.std.specs.Option.{option_map};
+ghost use Rattle.ets_term.specs.Data.{list, data_of, row_of};
+ghost use Rattle.match_spec.specs.BoundKeys.{spec_key, IsKeyOfResults};
+ghost use Rattle.match_spec.specs.Specifications.{is_spec, is_clause, are_clauses, is_good, result_of};
+ghost use Rattle.match_spec.specs.inside.CompiledClauses.{clauses_of, clauses_from, clause_of, clause_by, parts_seen};
+ghost use Rattle.match_spec.specs.inside.FirstPlaces.{first_of};
+
+pub(crate) mod check;
+pub(crate) mod clause;
+
+use crate::bound_key::bound_by_all;
+use crate::expression::compile::expressions_of;
+use crate::fault::SpecFault;
+use crate::pattern::compile::part_of;
+use crate::pattern::place::{FirstPlaces, first_places, in_order};
+use crate::spec::check::{ClauseParts, clause_parts, is_good};
+use crate::spec::clause::{Clause, first_counted};
+use ets_term::{Items, Term};
+use std::alloc::{AllocError, Global};
+use std::marker::Model;
+
+/// A match specification. Contracts see it as the term that it was made from.
+#[derive(Drop)]
+pub struct Spec {
+    whole: Term,
+    clauses: Items<Clause>,
+}
+
+impl Model for Spec {
+    ghost use Rattle.ets_term.specs.contracts.term.Term as term;
+    ghost use Rattle.ets_term.specs.declared.term.Term as declared;
+    ghost use Rattle.ets_term.specs.Data.{data_of};
+    ghost use Rattle.match_spec.specs.inside.CompiledClauses.{IsCompiledSpec};
+
+    ghost Value = { declared.Term };
+
+    ghost coded = { term.the_row.coded };
+
+    ghost view = { λ s. s.whole };
+
+    ghost invariant = { λ s. IsCompiledSpec (data_of s.whole) s.clauses };
+}
+
+impl Spec {
+    /// The specification that the term is. A term that is none, wherever it has its fault, is `Badarg`.
+    pub fn compile(alloc: Global, term: &Term) -> Result<Spec, SpecFault>
+        ensures same { IfOk result (λ s. s ≡ term.now) }
+        ensures good { OnOk result (is_spec (data_of term.now) ≡ true) }
+        ensures badarg { IsErrOf result SpecFault.Badarg → is_spec (data_of term.now) ≡ false }
+    {
+        let Term::List(terms) = term else {
+            return Err(SpecFault::Badarg);
+        };
+        if terms.is_empty() {
+            return Err(SpecFault::Badarg);
+        }
+        let clauses = clauses_of(alloc, terms.as_slice())?;
+        Ok(Spec {
+            whole: term.try_clone(alloc)?,
+            clauses,
+        })
+    }
+
+    /// What it gives for the object, None where no clause counts.
+    pub fn result(&self, alloc: Global, object: &Term) -> Result<Option<Term>, AllocError>
+        ensures { IfOk result (λ given. option_map data_of given ≡ result_of (data_of self.now) (data_of object.now)) }
+    {
+        first_counted(alloc, self.clauses.as_slice(), object)
+    }
+
+    /// The key of every object for which it gives something, where the heads of all clauses have the same element at
+    /// `keypos`, counted from 1, with neither a variable nor `'_'` in it.
+    pub fn bound_key(&self, keypos: usize) -> Option<&Term>
+        ensures key { option_map data_of (option_copied result) ≡ spec_key keypos (data_of self.now) }
+        ensures every { IfSome result (λ key. IsKeyOfResults keypos (data_of self.now) key.now) }
+    {
+        match &self.whole {
+            Term::List(clauses) => bound_by_all(clauses.as_slice(), keypos),
+            _ => None,
+        }
+    }
+}
+
+fn clauses_of(alloc: Global, terms: &[Term]) -> Result<Items<Clause>, SpecFault>
+    ensures made { IfOk result (λ cs. cs ≡ clauses_from (row_of (map data_of terms.now))) }
+    ensures good { OnOk result (are_clauses (row_of (map data_of terms.now)) ≡ true) }
+    ensures badarg { IsErrOf result SpecFault.Badarg → are_clauses (row_of (map data_of terms.now)) ≡ false }
+{
+    let mut clauses = Vec::with_capacity(alloc, terms.len())?;
+    for term in terms {
+        let clause = clause_of(alloc, term)?;
+        add(&mut clauses, clause)?;
+    }
+    Ok(Items::from_vec(clauses))
+}
+
+fn clause_of(alloc: Global, term: &Term) -> Result<Clause, SpecFault>
+    ensures made { IfOk result (λ c. c ∷ [] ≡ clauses_from (row_of (data_of term.now ∷ []))) }
+    ensures good { OnOk result (is_clause (data_of term.now) ≡ true) }
+    ensures badarg { IsErrOf result SpecFault.Badarg → is_clause (data_of term.now) ≡ false }
+{
+    let Some(parts) = clause_parts(term) else {
+        return Err(SpecFault::Badarg);
+    };
+    let first = first_places(alloc, parts.head)?;
+    if !is_good(parts, &first) {
+        return Err(SpecFault::Badarg);
+    }
+    Ok(compiled(alloc, parts, &first)?)
+}
+
+fn compiled(alloc: Global, parts: ClauseParts, first: &FirstPlaces) -> Result<Clause, AllocError>
+    ensures { IfOk result (λ c. c ≡ clause_by first.now.entries (parts_seen parts.entry)) }
+{
+    let mut here = Vec::new(alloc);
+    Ok(Clause {
+        head: part_of(alloc, parts.head, first, &mut here)?,
+        places: in_order(alloc, first)?,
+        conditions: expressions_of(alloc, parts.conditions, 0, first)?,
+        body: expressions_of(alloc, parts.body, 0, first)?,
+    })
+}
+
+fn add(clauses: &mut Vec<Clause>, clause: Clause) -> Result<(), AllocError>
+    ensures { OnOk result (clauses.new.items ≡ clauses.old.items ++ clause ∷ []) }
+{
+    clauses.push(clause)?;
+    Ok(())
+}

@@ -1,0 +1,77 @@
+// The parts of a clause, and whether they are good.
+ghost use Rattle.std.specs.Prelude.{◌≡◌, ◌&&◌, nat_lt, map};
+ghost use Rattle.std.specs.Option.{option_map};
+ghost use Rattle.ets_term.specs.Data.{tuple, data_of, row_of};
+ghost use Rattle.ets_term.specs.Order.{row_len};
+ghost use Rattle.match_spec.specs.Specifications.{clause_parts, is_good_by};
+ghost use Rattle.match_spec.specs.inside.CompiledClauses.{parts_seen};
+ghost use Rattle.match_spec.specs.inside.FirstPlaces.{numbers_of};
+
+use crate::expression::check::are_expressions;
+use crate::pattern::is_pattern;
+use crate::pattern::place::FirstPlaces;
+use ets_term::Term;
+
+/// The three parts of a clause.
+#[derive(Clone, Copy)]
+pub(crate) struct ClauseParts<'a> {
+    pub(crate) head: &'a Term,
+    pub(crate) conditions: &'a [Term],
+    pub(crate) body: &'a [Term],
+}
+
+/// The parts of the clause, where it has the form of one.
+pub(crate) fn clause_parts(term: &Term) -> Option<ClauseParts>
+    ensures { option_map parts_seen result ≡ clause_parts (data_of term.now) }
+{
+    match term {
+        Term::Tuple(parts) => three_parts(parts.as_slice()),
+        _ => None,
+    }
+}
+
+fn three_parts(parts: &[Term]) -> Option<ClauseParts>
+    ensures { option_map parts_seen result ≡ clause_parts (tuple (row_of (map data_of parts.now))) }
+{
+    if parts.len() != 3 {
+        return None;
+    }
+    let Term::List(conditions) = &parts[1] else {
+        return None;
+    };
+    let Term::List(body) = &parts[2] else {
+        return None;
+    };
+    Some(ClauseParts {
+        head: &parts[0],
+        conditions: conditions.as_slice(),
+        body: body.as_slice(),
+    })
+}
+
+/// Whether the parts are good, where the head binds these variables.
+pub(crate) fn is_good(parts: ClauseParts, first: &FirstPlaces) -> bool
+    ensures { result ≡ is_good_by (numbers_of first.now.entries) (parts_seen parts.entry) }
+{
+    let conditions = are_expressions(parts.conditions, 0, first);
+    let body = are_expressions(parts.body, 0, first);
+    all_four(
+        is_pattern(parts.head),
+        is_nonempty(parts.body),
+        conditions,
+        body,
+    )
+}
+
+fn all_four(a: bool, b: bool, c: bool, d: bool) -> bool
+    ensures { result ≡ ((a && b) && (c && d)) }
+{
+    (a && b) && (c && d)
+}
+
+#[tactic(auto, using(crate::proofs::ExpressionLaws::row_len_of))]
+pub(crate) fn is_nonempty(terms: &[Term]) -> bool
+    ensures { result ≡ nat_lt 0 (row_len (row_of (map data_of terms.now))) }
+{
+    terms.len() > 0
+}

@@ -1,0 +1,173 @@
+// Compiled clauses.
+ghost use Rattle.std.specs.Prelude.{◌≡◌, [], ◌∷◌, false, map, codes, IfOk};
+ghost use Rattle.std.specs.Option.{option_map, option_map_or};
+ghost use Rattle.ets_term.specs.Data.{atom, data_of};
+ghost use Rattle.match_spec.specs.Functions.{apply};
+ghost use Rattle.match_spec.specs.Specifications.{is_true};
+ghost use Rattle.match_spec.specs.inside.CompiledClauses.{counts, hold_of, last_of, outcome_of, first_counted};
+ghost use Rattle.match_spec.specs.inside.CompiledExpressions.{seen, apply_of, expression_value};
+
+use crate::expression::Expression;
+use crate::expression::comparison::compares;
+use crate::expression::evaluate::{Value, apply_to_two, discard, evaluate};
+use crate::expression::function::Function;
+use crate::pattern::part::{Part, fits};
+use ets_term::{Atom, Items, Term};
+use std::alloc::{AllocError, Global};
+
+/// A clause. The places are where the variables of its head stand, in order of number.
+#[derive(Drop)]
+pub(crate) struct Clause {
+    pub(crate) head: Part,
+    pub(crate) places: Items<Items<usize>>,
+    pub(crate) conditions: Items<Expression>,
+    pub(crate) body: Items<Expression>,
+}
+
+/// What the first of the clauses gives that counts, if one does.
+pub(crate) fn first_counted(
+    alloc: Global,
+    clauses: &[Clause],
+    object: &Term,
+) -> Result<Option<Term>, AllocError>
+    ensures { IfOk result (λ t. option_map data_of t ≡ first_counted clauses.now (data_of object.now)) }
+{
+    for clause in clauses {
+        if counts(alloc, clause, object)? {
+            return Ok(Some(outcome(alloc, clause, object)?));
+        }
+    }
+    Ok(None)
+}
+
+fn counts(alloc: Global, clause: &Clause, object: &Term) -> Result<bool, AllocError>
+    ensures { IfOk result (λ b. b ≡ counts clause.now (data_of object.now)) }
+{
+    if !fits(&clause.head, object, object) {
+        return Ok(false);
+    }
+    hold(
+        alloc,
+        clause.conditions.as_slice(),
+        clause.places.as_slice(),
+        object,
+    )
+}
+
+fn outcome(alloc: Global, clause: &Clause, object: &Term) -> Result<Term, AllocError>
+    ensures { IfOk result (λ t. data_of t ≡ outcome_of (map (expression_value clause.now.places) clause.now.body) (data_of object.now)) }
+{
+    last_value(
+        alloc,
+        clause.body.as_slice(),
+        clause.places.as_slice(),
+        object,
+    )
+}
+
+fn hold(
+    alloc: Global,
+    conditions: &[Expression],
+    places: &[Items<usize>],
+    object: &Term,
+) -> Result<bool, AllocError>
+    ensures { IfOk result (λ b. b ≡ hold_of (map (expression_value places.now) conditions.now) (data_of object.now)) }
+{
+    for condition in conditions {
+        if !holds(alloc, condition, places, object)? {
+            return Ok(false);
+        }
+    }
+    Ok(true)
+}
+
+// Whether the condition gives true. A comparison answers at once, without an atom for its answer.
+#[tactic(auto, using(crate::proofs::ValueLaws::expression_value_of_two))]
+fn holds(
+    alloc: Global,
+    condition: &Expression,
+    places: &[Items<usize>],
+    object: &Term,
+) -> Result<bool, AllocError>
+    ensures { IfOk result (λ b. b ≡ option_map_or is_true (expression_value places.now condition.now (data_of object.now)) false) }
+{
+    if let Expression::Apply(function, arguments) = condition {
+        if let [first, second] = arguments.as_slice() {
+            return two_hold(alloc, *function, first, second, places, object);
+        }
+    }
+    Ok(is_true(evaluate(alloc, condition, places, object)?))
+}
+
+fn two_hold(
+    alloc: Global,
+    function: Function,
+    first: &Expression,
+    second: &Expression,
+    places: &[Items<usize>],
+    object: &Term,
+) -> Result<bool, AllocError>
+    ensures { IfOk result (λ b. b ≡ option_map_or is_true (apply_of function (expression_value places.now first.now ∷ expression_value places.now second.now ∷ []) (data_of object.now)) false) }
+{
+    let Some(x) = evaluate(alloc, first, places, object)? else {
+        return Ok(false);
+    };
+    let Some(y) = evaluate(alloc, second, places, object)? else {
+        return Ok(false);
+    };
+    values_hold(alloc, function, x, y)
+}
+
+#[tactic(auto, using(crate::proofs::ValueLaws::is_true_truth))]
+fn values_hold(alloc: Global, function: Function, x: Value, y: Value) -> Result<bool, AllocError>
+    ensures { IfOk result (λ b. b ≡ option_map_or is_true (apply function (seen x.entry ∷ seen y.entry ∷ [])) false) }
+{
+    if let Function::Compare(comparison) = function {
+        return Ok(compares(comparison, x.term(), y.term()));
+    }
+    Ok(is_true(apply_to_two(alloc, function, x, y)?))
+}
+
+fn is_true(value: Option<Value>) -> bool
+    ensures { result ≡ option_map_or is_true (option_map seen value.entry) false }
+{
+    match value {
+        Some(value) => is_the_true(value.term()),
+        None => false,
+    }
+}
+
+fn is_the_true(term: &Term) -> bool
+    ensures { result ≡ is_true (data_of term.now) }
+{
+    match term {
+        Term::Atom(name) => name.text() == "true",
+        _ => false,
+    }
+}
+
+fn last_value(
+    alloc: Global,
+    body: &[Expression],
+    places: &[Items<usize>],
+    object: &Term,
+) -> Result<Term, AllocError>
+    ensures { IfOk result (λ t. data_of t ≡ outcome_of (map (expression_value places.now) body.now) (data_of object.now)) }
+{
+    for i in 0..body.len() {
+        let Some(x) = evaluate(alloc, &body[i], places, object)? else {
+            return exit(alloc);
+        };
+        if i + 1 == body.len() {
+            return x.into_term(alloc);
+        }
+        discard(x);
+    }
+    exit(alloc)
+}
+
+fn exit(alloc: Global) -> Result<Term, AllocError>
+    ensures { IfOk result (λ t. data_of t ≡ atom (codes "EXIT")) }
+{
+    Ok(Term::Atom(Atom::of_bytes(alloc, b"EXIT")?))
+}
