@@ -3,8 +3,10 @@
 
 mod entry;
 mod growth;
+mod plain;
 mod rows;
 
 pub use entry::{Entry, Place};
 pub use growth::{Growth, Readying};
+pub use plain::PlainRows;
 pub use rows::Rows;
