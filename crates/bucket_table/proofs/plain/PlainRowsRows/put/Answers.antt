@@ -15,7 +15,7 @@ loop-key-init c = record {
   all = search rules;
   len = search rules;
   put = c.reserve.ensures.entries ∙ sym (append-nil _);
-  room = ?;
+  room = omega (arith, ap length c.into_iter-key-iterator.ensures.into_iter_gives.0, c.len.ensures, c.in_ok-reserve.ensures.ok, c.args.rows.ok.0);
 }
 
 pub push-requires : goal.push-requires
@@ -34,12 +34,15 @@ loop-key-preserved c =
     record {
       all = append_assoc at.yielded (x ∷ []) _ ∙ rw (← steps) at.invariant.all;
       len = omega (arith, at.invariant.len, gone, short);
-      put = ?;
+      put = c.in_ok-push.ensures.ok ∙ ap (λ l. l ++ x ∷ []) at.invariant.put ∙ append_assoc c.args.self.now.slots.entries at.yielded (x ∷ []);
       room = omega (arith, at.invariant.room, short, c.push.ensures.room);
     }
 
 pub returns-in_err-push : goal.returns-in_err-push
-returns-in_err-push c = ?
+returns-in_err-push c =
+    let short = ap length c.in-Some.ensures.steps.0 in
+    let some : 0 < spare c.loop-key.self.slots = omega (arith, short, c.loop-key.invariant.room) in
+    absurd (true≢false (sym (c.in_err-push.ensures.succeeds some)))
 
 pub returns : goal.returns
 returns c =
