@@ -1,0 +1,16 @@
+use Rattle.std.proofs.Common.{◌≡◌, ◌≤◌, List, [], ◌∷◌, Some, true, ◌||◌, unwrap_or, sym, ap, subst, ◌∙◌, length}
+use Rattle.ets_term.specs.declared.term.Term.{Term}
+use Rattle.bucket_table.specs.Slots.{objects_of, has_objects}
+use Rattle.bucket_table.specs.Entries.{with_objects_in}
+use Rattle.table_ops.proofs.PutLaws.{map-key, own-in, set-in, set-put, set-full, fills, no-fill, key-there}
+use Rattle.table_ops.proofs.put.put_in_set.Goals as goal
+
+pub returns-clause-slots : goal.returns-clause-slots
+returns-clause-slots g c =
+    let old = g.R.Rows.content c.args.rows.now in
+    let new = g.R.Rows.content c.replace_at-was.new.self in
+    let place = g.R.Rows.key_at c.args.rows.now c.args.place in
+    let one : c.one.result ≡ c.args.object.now ∷ [] = c.one.ensures ∙ ap (λ t. t ∷ []) c.in_ok-copy.ensures in
+    map-key place _ _ (λ key is kept.
+      let own = own-in old place key c.replace_at-was.result is c.replace_at-was.ensures.was in
+      let seen = own-in old place key c.objects_at.result.now is c.objects_at.ensures in ?) c.requires
