@@ -1,16 +1,23 @@
 -- What deletion makes of the slots is what one call on the rows makes of them.
-use Rattle.std.proofs.Common.{◌≡◌, ℕ, ◌+◌, ◌≤◌, ◌==◌, Bool, true, false, not, ◌||◌, cond, List, [], ◌∷◌, ◌++◌, Option, None, Some, filter, map, refl, sym, ap, subst, ◌∙◌, length, true≢false, if◌then◌else◌, arith}
+use Rattle.std.proofs.Common.{◌≡◌, ℕ, suc, ◌+◌, ◌-◌, ◌≤◌, ◌==◌, Bool, true, false, not, ◌||◌, cond, List, [], ◌∷◌, ◌++◌, Option, None, Some, Ok, filter, map, refl, sym, ap, subst, ◌∙◌, length, true≢false, if◌then◌else◌, arith}
+use Rattle.std.specs.Prelude.{MatchOption}
+use Rattle.std.proofs.lemmas.Bool.Decides.{nat_tests}
 use Rattle.std.specs.List.{AllByRecursion, IsDistinct}
 use Rattle.std.specs.Map.{keys_of}
 use Rattle.ets_term.specs.declared.term.Term.{Term}
 use Rattle.ets_term.specs.Order.{same}
 use Rattle.ets_term.specs.laws.Same.{same-exact, same-refl}
-use Rattle.bucket_table.specs.Slots.{Slot, objects_of, with_objects, without, has_objects, cleared, purged, object_count}
+use Rattle.bucket_table.specs.Slots.{Slot, HasDistinctKeys, objects_of, with_objects, without, has_objects, cleared, purged, object_count}
 use Rattle.table_ops.specs.declared.kind.Kind.{Kind}
 use Rattle.table_ops.specs.declared.kind.Kind.TheVariants.{Set, Bag, DuplicateBag}
-use Rattle.table_ops.specs.Content.{key_of, IsStored, IsKept, IsSlot, AreSlots}
-use Rattle.table_ops.specs.Drop.{Which, left, dropped, of_key, equal_to, each}
-use Rattle.table_ops.specs.inside.Thinned.{thinned}
+use Rattle.table_ops.specs.Content.{Content, key_of, IsStored, IsKept, IsSlot, AreSlots}
+use Rattle.table_ops.specs.Drop.{Which, left, dropped, of_key, equal_to, each, DeletesObject}
+use Rattle.node_list.specs.Chains.{all_but}
+use Rattle.bucket_table.specs.Entries.{objects_in}
+use Rattle.table_ops.specs.inside.Counted.{IsCounted}
+use Rattle.table_ops.specs.inside.Thinned.{thinned, Thins}
+use Rattle.table_ops.specs.inside.Undo.{AtKey}
+use Rattle.table_ops.proofs.PutLaws.{of-key, own-in}
 use Rattle.table_ops.proofs.Counts.{count-set, count-gone}
 use Rattle.table_ops.proofs.KeptLaws.{slots-set, slot-of}
 
@@ -18,15 +25,15 @@ or-not : (b : Bool) → (b || not b) ≡ true
 or-not true = refl
 or-not false = refl
 
-or-true : (b : Bool) → (b || true) ≡ true
-or-true true = refl
-or-true false = refl
+or-either : (hold b : Bool) → (hold || b || not b) ≡ true
+or-either true b = refl
+or-either false b = or-not b
 
 -- a slot of which nothing goes stays
 stays : (hold : Bool) (s : Slot) (l : List Term) (D : List Slot) → l ≡ s.1 → cond (hold || has_objects l || not (has_objects s.1)) ((s.0, l) ∷ D) D ≡ s ∷ D
 stays hold s l D e =
     subst (λ (w : List Term). cond (hold || has_objects w || not (has_objects s.1)) ((s.0, w) ∷ D) D ≡ s ∷ D) (sym e)
-    (ap (λ (b : Bool). cond b (s ∷ D) D) (ap (λ (b : Bool). hold || b) (or-not (has_objects s.1)) ∙ or-true hold))
+    (ap (λ (b : Bool). cond b (s ∷ D) D) (or-either hold (has_objects s.1)))
 
 -- of slots of other keys nothing goes
 abbrev pub Spares : Which → Term → List Slot → Type 0
@@ -199,7 +206,7 @@ dropped-each false (s ∷ ss) =
 
 pub nothing-left : (hold : Bool) (slots : List Slot) → object_count (dropped hold each slots) ≡ 0
 nothing-left true [] = refl
-nothing-left true (s ∷ ss) = ap (λ (l : List Term). length l + object_count (dropped true each ss)) (each-left s.1) ∙ nothing-left true ss
+nothing-left true (s ∷ ss) = omega (arith, ap length (each-left s.1), nothing-left true ss)
 nothing-left false [] = refl
 nothing-left false (s ∷ ss) = nothing-at (not (has_objects s.1)) s (left each s) (dropped false each ss) (each-left s.1) (nothing-left false ss)
   where
@@ -207,3 +214,64 @@ nothing-left false (s ∷ ss) = nothing-at (not (has_objects s.1)) s (left each 
     nothing-at true t [] D e h = omega (arith, h)
     nothing-at false t [] D e h = h
     nothing-at b t (x ∷ xs) D e h = cc
+
+-- the objects at the place of a key were taken
+pub key-taken : (hold : Bool) (old new : List Slot) (o : Option Term) (key : Term) (c : List Term) → HasDistinctKeys old → o ≡ Some key → objects_in old o ≡ Some c → AtKey o (λ k. new ≡ thinned hold old k c []) → new ≡ dropped hold (of_key key) old
+key-taken hold old new o key c d is own t =
+    let had = own-in old o key c is own in
+    of-key o (λ k. new ≡ thinned hold old k c []) key t is
+    ∙ sym (one-thinned hold (of_key key) old key c d (spares-key key old) had ∙ ap (thinned hold old key c) (left-key key c))
+
+pub taken-count : (hold : Bool) (old new : List Slot) (o : Option Term) (key : Term) (c : List Term) → o ≡ Some key → objects_in old o ≡ Some c → AtKey o (λ k. new ≡ thinned hold old k c []) → object_count new + length c ≡ object_count old
+taken-count hold old new o key c is own t =
+    let now : new ≡ thinned hold old key c [] = of-key o (λ k. new ≡ thinned hold old k c []) key t is in
+    omega (arith, ap object_count now, thinned-count hold old key c [] (own-in old o key c is own))
+
+-- every instance of an object was
+pub object-taken : (hold : Bool) (kind : Kind) (keypos : ℕ) (old new : List Slot) (o : Option Term) (key object : Term) (n : ℕ) → HasDistinctKeys old → AreSlots kind keypos old → key_of keypos object ≡ Some key → o ≡ Some key → AtKey o (λ k. Thins hold old k object n new) → new ≡ dropped hold (equal_to object) old
+object-taken hold kind keypos old new o key object n d a its is t =
+    let h = of-key o (λ k. Thins hold old k object n new) key t is in
+    h.now ∙ sym (one-thinned hold (equal_to object) old key h.objects d (spares-object kind keypos object key old its a) h.had)
+
+pub object-count : (hold : Bool) (old new : List Slot) (o : Option Term) (key object : Term) (n : ℕ) → o ≡ Some key → AtKey o (λ k. Thins hold old k object n new) → object_count new + n ≡ object_count old
+object-count hold old new o key object n is t =
+    let h = of-key o (λ k. Thins hold old k object n new) key t is in
+    omega (arith, ap object_count h.now, thinned-count hold old key h.objects (all_but object h.objects) h.had, h.counted)
+
+-- fewer objects are counted
+pub counted-less : (hold : Bool) (which : Which) (kind : Kind) (keypos limit count n : ℕ) (old new : List Slot) → IsCounted kind keypos limit count old → new ≡ dropped hold which old → object_count new + n ≡ object_count old → IsCounted kind keypos limit (count - n) new
+counted-less hold which kind keypos limit count n old new i now less = record {
+  counted = omega (arith, i.counted, less);
+  within = omega (arith, i.within);
+  few = i.few;
+  slots_are = subst (AreSlots kind keypos) (sym now) (slots-dropped hold which kind keypos old i.slots_are);
+}
+
+not-zero : (n : ℕ) → (suc n == 0) ≡ false
+not-zero n = grind (arith, nat_tests)
+
+-- a chain is empty as its slot is held
+empty-held : (c : List Term) → (length c == 0) ≡ not (has_objects c)
+empty-held [] = refl
+empty-held (x ∷ xs) = not-zero (length xs)
+
+thins-at : (b : Bool) (hold : Bool) (old new : List Slot) (key : Term) (c l : List Term) → (hold || has_objects l || (length c == 0)) ≡ b → new ≡ cond b (with_objects old key l) (without old key) → new ≡ thinned hold old key c l
+thins-at b hold old new key c l e h =
+    h ∙ ap (λ (t : Bool). cond t (with_objects old key l) (without old key)) (sym e ∙ ap (λ (t : Bool). hold || has_objects l || t) (empty-held c))
+
+-- the slot of a key was thinned out, by a test that the code made
+pub thins : (b : Bool) (hold : Bool) (old new : List Slot) (key object : Term) (c l : List Term) (n : ℕ) → objects_of old key ≡ Some c → l ≡ all_but object c → length l + n ≡ length c → (hold || has_objects l || (length c == 0)) ≡ b → new ≡ cond b (with_objects old key l) (without old key) → Thins hold old key object n new
+thins b hold old new key object c l n had rest counted e h = record {
+  objects = c;
+  had = had;
+  now = thins-at b hold old new key c l e h ∙ ap (thinned hold old key c) rest;
+  counted = subst (λ (k : List Term). length k + n ≡ length c) rest counted;
+}
+
+deletes-at : (o : Option Term) (key : Term) (P Q : Type 0) → o ≡ Some key → Q → MatchOption o P (λ _. Q)
+deletes-at None key P Q e q = cc
+deletes-at (Some k) key P Q e q = q
+
+-- an object is deleted so
+pub deletes : (hold : Bool) (object key : Term) (old : Content) → key_of old.keypos object ≡ Some key → (slots : List Slot) → slots ≡ dropped hold (equal_to object) old.slots → DeletesObject hold object old (Ok tt) (record old { slots = slots })
+deletes hold object key old its slots e = deletes-at (key_of old.keypos object) key _ _ its (refl, ap (λ (l : List Slot). let r : Content = record old { slots = l } in r) e)

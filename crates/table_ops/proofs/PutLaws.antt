@@ -18,7 +18,7 @@ use Rattle.table_ops.specs.Content.{key_of, objects_under, IsKept}
 use Rattle.table_ops.specs.Put.{add, Writes, Puts, PutsAll}
 use Rattle.table_ops.specs.inside.Undo.{AtKey, but_last, undone, gain, gain_of, PutsOne, PutsObject, PutsEach}
 use Rattle.table_ops.proofs.Counts.{count-enters, count-set, count-writes, written}
-use Rattle.table_ops.proofs.SlotLaws.{set_value-twice, set_value-same, lookup-set_value, without-Enters}
+use Rattle.table_ops.proofs.SlotLaws.{set_value-twice, set_value-same, lookup-set_value, remove_entry-set_value, without-Enters}
 
 -- what holds at a place's key, once the place has one
 pub at-key : (o : Option Term) (P : Term → Type 0) → is_some o ≡ true → ((key : Term) → o ≡ Some key → P key) → AtKey o P
@@ -41,7 +41,7 @@ pub to-key : (o : Option Term) (P : Term → Type 0) (key : Term) → o ≡ Some
 to-key None P key e h = cc
 to-key (Some own) P key e h = let is : own ≡ key = cc in subst P (sym is) h
 
-under-some : (slots : List Slot) (key : Term) (c : List Term) → objects_of slots key ≡ Some c → objects_under slots key ≡ c
+pub under-some : (slots : List Slot) (key : Term) (c : List Term) → objects_of slots key ≡ Some c → objects_under slots key ≡ c
 under-some slots key c h = ap (λ o. unwrap_or o []) h
 
 add-none : (kind : Kind) (object : Term) → add kind [] object ≡ object ∷ []
@@ -167,6 +167,13 @@ set-in old new o key w is h = h ∙ ap (λ k. with_objects_in old k w) is
 pub twice-in : (old mid new : List Slot) (o own : Option Term) (key : Term) (v w : List Term) → o ≡ Some key → mid ≡ with_objects_in old o v → own ≡ o → new ≡ with_objects_in mid own w → new ≡ with_objects old key w
 twice-in old mid new o own key v w is first same_place second =
     set-in mid new own key w (same_place ∙ is) second ∙ ap (λ l. with_objects l key w) (set-in old mid o key v is first) ∙ set_value-twice (same key) old v w
+
+-- or not, and the slot was taken away
+pub out-in : (old mid new : List Slot) (o own : Option Term) (key taken : Term) (v : List Term) → o ≡ Some key → mid ≡ with_objects_in old o v → own ≡ o → own ≡ Some taken → new ≡ without mid taken → new ≡ without old key
+out-in old mid new o own key taken v is first same_place its gone =
+    let one : Some taken ≡ Some key = sym its ∙ same_place ∙ is in
+    let equal : taken ≡ key = cc in
+    gone ∙ ap (without mid) equal ∙ ap (λ l. without l key) (set-in old mid o key v is first) ∙ remove_entry-set_value (same key) old v
 
 pub popped : (r : Option Term) (old new : List Term) → MatchOption r ((old ≡ []) × (new ≡ [])) (λ last. old ≡ new ++ last ∷ []) → new ≡ but_last old
 popped None old new h = h.1 ∙ sym (ap but_last h.0)

@@ -55,6 +55,14 @@ module _ {K X : Type 0} (t : K → Bool) where
   remove_entry-added [] r k c here h = rw here
   remove_entry-added (e ∷ f) r k c here h = gone_at (t e.0) e f r h k c (remove_entry-added f r k c here)
 
+  remove_set_at : (b : Bool) (e : K × X) (es : List (K × X)) (v : X) → remove_entry t (set_value t es v) ≡ remove_entry t es → t e.0 ≡ b → remove_entry t (cond b ((e.0, v) ∷ es) (e ∷ set_value t es v)) ≡ cond b es (e ∷ remove_entry t es)
+  remove_set_at true e es v ih at = rw at
+  remove_set_at false e es v ih at = rw at (ap (λ l. e ∷ l) ih)
+
+  pub remove_entry-set_value : (es : List (K × X)) (v : X) → remove_entry t (set_value t es v) ≡ remove_entry t es
+  remove_entry-set_value [] v = refl
+  remove_entry-set_value (e ∷ es) v = remove_set_at (t e.0) e es v (remove_entry-set_value es v) refl
+
 -- a new slot that is taken away again leaves the slots as they were
 pub without-Enters : (old new : List Slot) (k : Term) (c : List Term) → Enters old k c new → objects_of old k ≡ None → without new k ≡ old
 without-Enters old new k c a h =

@@ -13,7 +13,8 @@ use Rattle.table_ops.specs.declared.refusal.Refusal.TheVariants.{Badarg, SystemL
 use Rattle.table_ops.specs.declared.undo.Undo.{Undo}
 use Rattle.table_ops.specs.declared.undo.Undo.TheVariants.{NewSlot, Objects, LastObject, Nothing}
 use Rattle.table_ops.specs.Content.{Content, key_of, is_object, objects_under, AreSlots}
-use Rattle.table_ops.specs.Put.{add, Writes, Puts, PutsAll, Stores}
+use Rattle.table_ops.specs.Put.{add, Writes, Puts, PutsAll, Stores, Inserts, InsertsNew, is_taken}
+use Rattle.table_ops.specs.Refusals.{Comes}
 use Rattle.table_ops.specs.inside.Undo.{AtKey, undone, undone_all, gain, gain_of, PutsOne, PutsObject, PutsEach}
 use Rattle.table_ops.proofs.Counts.{count-writes, written}
 use Rattle.table_ops.proofs.KeptLaws.{neither, slot-under, slots-puts, slots-puts-all, not-shorter}
@@ -112,7 +113,7 @@ any-drop p zero xs h = h
 any-drop p (suc n) [] h = h
 any-drop p (suc n) (x ∷ xs) h = any-drop p n xs (neither (p x) (list_any p xs) h).1
 
-any-take : (p : Term → Bool) (n : ℕ) (xs : List Term) → list_any p xs ≡ false → list_any p (take n xs) ≡ false
+pub any-take : (p : Term → Bool) (n : ℕ) (xs : List Term) → list_any p xs ≡ false → list_any p (take n xs) ≡ false
 any-take p zero xs h = refl
 any-take p (suc n) [] h = refl
 any-take p (suc n) (x ∷ xs) h = let b = neither (p x) (list_any p xs) h in ap (λ c. c || list_any p (take n xs)) b.0 ∙ any-take p n xs b.1
@@ -122,7 +123,7 @@ all-at p [] i x h g = cc
 all-at p (y ∷ ys) zero x h g = let is : y ≡ x = cc in ap p (sym is) ∙ (both (p y) (list_all p ys) h).0
 all-at p (y ∷ ys) (suc i) x h g = all-at p ys i x (both (p y) (list_all p ys) h).1 g
 
-any-at : (p : Term → Bool) (xs : List Term) (i : ℕ) (x : Term) → list_any p xs ≡ false → slice_get xs i ≡ Some x → p x ≡ false
+pub any-at : (p : Term → Bool) (xs : List Term) (i : ℕ) (x : Term) → list_any p xs ≡ false → slice_get xs i ≡ Some x → p x ≡ false
 any-at p [] i x h g = cc
 any-at p (y ∷ ys) zero x h g = let is : y ≡ x = cc in ap p (sym is) ∙ (neither (p y) (list_any p ys) h).0
 any-at p (y ∷ ys) (suc i) x h g = any-at p ys i x (neither (p y) (list_any p ys) h).1 g
@@ -144,6 +145,38 @@ undone-push keypos [] u [] object slots h = cc
 undone-push keypos [] u (o ∷ os) object slots h = let is : o ≡ object = cc in ap (λ x. undone u (unwrap_or (key_of keypos x) x) slots) is
 undone-push keypos (v ∷ vs) u [] object slots h = cc
 undone-push keypos (v ∷ vs) u (o ∷ os) object slots h = ap (undone v (unwrap_or (key_of keypos o) o)) (undone-push keypos vs u os object slots h)
+
+refused-same-at : (o : Option Term) (room : Bool) (kind : Kind) (object : Term) (old new : List Slot) (e : Refusal) → AtKey o (λ key. PutsOne room kind key object old (Err e) new) → new ≡ old
+refused-same-at None room kind object old new e p = absurd p
+refused-same-at (Some key) room kind object old new Badarg p = absurd p
+refused-same-at (Some key) room kind object old new SystemLimit p = p.0
+refused-same-at (Some key) room kind object old new Memory p = p
+
+-- what is refused changes nothing
+pub refused-same : (room : Bool) (kind : Kind) (keypos : ℕ) (object : Term) (old new : List Slot) (e : Refusal) → PutsObject room kind keypos object old (Err e) new → new ≡ old
+refused-same room kind keypos object old new e p = refused-same-at (key_of keypos object) room kind object old new e p
+
+-- so many objects of a list are in, and can be taken back
+pub record Steps (limit count : ℕ) (kind : Kind) (keypos : ℕ) (objects : List Term) (i : ℕ) (old new : List Slot) (undos : List Undo) : Type 0 where
+  pub done : PutsAll kind keypos old (take i objects) new
+  pub back : undone_all keypos undos objects new ≡ old
+  pub counted : count ≡ object_count new
+  pub within : count ≤ limit
+
+pub next-step : (limit count : ℕ) (kind : Kind) (keypos : ℕ) (objects : List Term) (i : ℕ) (old mid new : List Slot) (undos : List Undo) (u : Undo) (object : Term)
+    → Steps limit count kind keypos objects i old mid undos → length undos ≡ i → slice_get objects i ≡ Some object → PutsObject (nat_lt count limit) kind keypos object mid (Ok u) new
+    → Steps limit (count + gain u) kind keypos objects (i + 1) old new (undos ++ u ∷ [])
+next-step limit count kind keypos objects i old mid new undos u object s logged at p =
+    let k = at-one (key_of keypos object) (λ key. PutsOne (nat_lt count limit) kind key object mid (Ok u) new) p in
+    let put = k.2 in
+    let here : slice_get objects (length undos) ≡ Some object = ap (slice_get objects) logged ∙ at in
+    let more : take (i + 1) objects ≡ take i objects ++ object ∷ [] = ap (λ n. take n objects) (omega arith) ∙ take-one objects i object at in
+    record {
+      done = subst (λ l. PutsAll kind keypos old l new) (sym more) (puts-push kind keypos old (take i objects) mid object k.0 new s.done k.1 put.0);
+      back = undone-push keypos undos u objects object new here ∙ ap (λ o. undone_all keypos undos objects (undone u (unwrap_or o object) new)) k.1 ∙ ap (undone_all keypos undos objects) put.1 ∙ s.back;
+      counted = omega (arith, s.counted, put.2);
+      within = within-limit count limit u s.within put.3;
+    }
 
 -- where one of a list is one too many, the whole list is
 pub all-refused : (limit before : ℕ) (kind : Kind) (keypos : ℕ) (old mid : List Slot) (objects : List Term) (i : ℕ) (object : Term)
@@ -187,3 +220,33 @@ module _ {X : Type 0} (done : X) (objects : List Term) (old : Content) where
   pub stores-full : list_any is_too_deep objects ≡ false → (slots : List Slot) → PutsAll old.kind old.keypos old.slots objects slots → old.limit < object_count slots → Stores done objects old (Err SystemLimit) old
   stores-full shallow slots p many =
       room_at (list_any is_too_deep objects) _ _ shallow (slots, p, full_at (nat_lt old.limit (object_count slots)) _ _ (above old.limit (object_count slots) many) (refl, refl))
+
+  -- or none is
+  pub stores-refused : list_any is_too_deep objects ≡ false → (e : Refusal) (slots : List Slot) → PutsEach old.limit old.kind old.keypos objects old.slots (Err e) slots → Comes (Stores done objects old) old (Err e) (record old { slots = slots })
+  stores-refused shallow Badarg slots p = absurd p
+  stores-refused shallow SystemLimit slots p =
+      subst (λ (l : List Slot). Stores done objects old (Err SystemLimit) (record old { slots = l })) (sym p.0) (stores-full shallow p.1.0 p.1.1 p.1.2)
+  stores-refused shallow Memory slots p = ap (λ (l : List Slot). let c : Content = record old { slots = l } in c) p
+
+module _ (objects : List Term) (old : Content) where
+  -- a list of objects is inserted as it is stored
+  pub inserts : list_all (is_object old.keypos) objects ≡ true → (r : Result (Unit {0}) Refusal) (new : Content) → Comes (Stores tt objects old) old r new → Comes (Inserts objects old) old r new
+  inserts are (Ok x) new h = full_at (list_all (is_object old.keypos) objects) _ _ are h
+  inserts are (Err Badarg) new h = full_at (list_all (is_object old.keypos) objects) _ _ are h
+  inserts are (Err SystemLimit) new h = full_at (list_all (is_object old.keypos) objects) _ _ are h
+  inserts are (Err Memory) new h = h
+
+  pub inserts-badarg : list_all (is_object old.keypos) objects ≡ false → Inserts objects old (Err Badarg) old
+  inserts-badarg none = room_at (list_all (is_object old.keypos) objects) _ _ none (refl, refl)
+
+  pub new-badarg : list_all (is_object old.keypos) objects ≡ false → InsertsNew objects old (Err Badarg) old
+  new-badarg none = room_at (list_all (is_object old.keypos) objects) _ _ none (refl, refl)
+
+  pub new-taken : list_all (is_object old.keypos) objects ≡ true → list_any (is_taken old.keypos old.slots) objects ≡ true → InsertsNew objects old (Ok false) old
+  new-taken are taken = full_at (list_all (is_object old.keypos) objects) _ _ are (full_at (list_any (is_taken old.keypos old.slots) objects) _ _ taken (refl, refl))
+
+  pub new-stores : list_all (is_object old.keypos) objects ≡ true → list_any (is_taken old.keypos old.slots) objects ≡ false → (r : Result Bool Refusal) (new : Content) → Comes (Stores true objects old) old r new → Comes (InsertsNew objects old) old r new
+  new-stores are free (Ok x) new h = full_at (list_all (is_object old.keypos) objects) _ _ are (room_at (list_any (is_taken old.keypos old.slots) objects) _ _ free h)
+  new-stores are free (Err Badarg) new h = full_at (list_all (is_object old.keypos) objects) _ _ are (room_at (list_any (is_taken old.keypos old.slots) objects) _ _ free h)
+  new-stores are free (Err SystemLimit) new h = full_at (list_all (is_object old.keypos) objects) _ _ are (room_at (list_any (is_taken old.keypos old.slots) objects) _ _ free h)
+  new-stores are free (Err Memory) new h = h

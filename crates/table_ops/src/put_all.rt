@@ -15,7 +15,7 @@ use ets_term::Term;
 use std::alloc::Global;
 
 /// Puts one object under its key.
-pub fn put_object<R: Rows>(
+fn put_object<R: Rows>(
     alloc: Global,
     rows: &mut R,
     kind: Kind,
@@ -57,7 +57,7 @@ fn take_all_back<R: Rows>(
 }
 
 /// Puts the one object of a list, without a log; answers how many objects the table has then.
-pub fn put_one<R: Rows>(
+fn put_one<R: Rows>(
     alloc: Global,
     rows: &mut R,
     kind: Kind,
@@ -79,7 +79,7 @@ pub fn put_one<R: Rows>(
 }
 
 /// Puts objects one after another, or none of them where one is refused; answers how many the table has then.
-pub fn put_all<R: Rows>(
+fn put_all<R: Rows>(
     alloc: Global,
     rows: &mut R,
     kind: Kind,
@@ -112,4 +112,29 @@ pub fn put_all<R: Rows>(
         }
     }
     Ok(count)
+}
+
+/// Puts the objects of a list, all or none; answers how many the table has then. One alone takes no log.
+pub fn put_list<R: Rows>(
+    alloc: Global,
+    rows: &mut R,
+    kind: Kind,
+    keypos: u32,
+    limit: usize,
+    before: usize,
+    objects: &[Term],
+) -> Result<usize, Refusal>
+    requires objects { list_all (is_object keypos) objects.now ≡ true }
+    requires slots { AreSlots kind keypos (R.content rows.old) }
+    requires count { before ≡ object_count (R.content rows.old) }
+    requires within { before ≤ limit }
+    requires few { limit < 2 ^ 32 }
+    requires shallow { list_any is_too_deep objects.now ≡ false }
+    ensures slots { PutsEach limit kind keypos objects.now (R.content rows.old) result (R.content rows.new) }
+    ensures buckets { R.readiness rows.new ≡ R.readiness rows.old }
+{
+    match objects {
+        [object] => put_one(alloc, rows, kind, keypos, limit, before, object),
+        _ => put_all(alloc, rows, kind, keypos, limit, before, objects),
+    }
 }

@@ -1,4 +1,5 @@
-ghost use Rattle.std.specs.Prelude.{◌≡◌, [], Some, IsSome};
+ghost use Rattle.std.specs.Prelude.{◌≡◌, ◌||◌, [], Some, IsSome};
+ghost use Rattle.bucket_table.specs.Slots.{has_objects};
 ghost use Rattle.bucket_table.specs.Entries.{objects_in};
 ghost use Rattle.table_ops.specs.inside.Thinned.{thinned, Thins};
 ghost use Rattle.table_ops.specs.inside.Undo.{AtKey};
@@ -22,6 +23,13 @@ pub fn take_at<R: Rows>(alloc: Global, rows: &mut R, hold: bool, place: Place) -
     objects
 }
 
+/// Whether a slot with these objects left stays.
+fn stays(hold: bool, was_held: bool, objects: &[Term]) -> bool
+    ensures { result ≡ (hold || has_objects objects.now || was_held) }
+{
+    hold || !objects.is_empty() || was_held
+}
+
 /// Takes every instance of an object out of a slot, and tells how many. The slot goes with its last object, unless
 /// slots are held.
 pub fn take_object<R: Rows>(
@@ -36,8 +44,9 @@ pub fn take_object<R: Rows>(
     ensures buckets { R.readiness rows.new ≡ R.readiness rows.old }
 {
     let mut objects = rows.replace_at(place, Chain::new(alloc));
+    let was_held = objects.len() == 0;
     let count = objects.remove_all(object);
-    if hold || objects.len() > 0 || count == 0 {
+    if stays(hold, was_held, objects.as_slice()) {
         let _ = rows.replace_at(place, objects);
     } else {
         let _ = rows.remove_at(place);

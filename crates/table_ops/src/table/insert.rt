@@ -6,7 +6,7 @@ ghost use Rattle.table_ops.specs.Refusals.{Comes};
 
 use super::Table;
 use crate::object::{any_too_deep, are_objects, key_of};
-use crate::put_all::{put_all, put_one};
+use crate::put_all::put_list;
 use crate::refusal::Refusal;
 use bucket_table::Rows;
 use ets_term::Term;
@@ -22,7 +22,7 @@ impl<R: Rows> Table<R> {
         if !are_objects(self.keypos, objects) {
             return Err(Refusal::Badarg);
         }
-        self.store(objects)
+        self.store(objects, ())
     }
 
     /// Inserts objects if none of their keys has an object; answers whether it did (stdlib manual, ets:insert_new/2).
@@ -34,11 +34,10 @@ impl<R: Rows> Table<R> {
         if !are_objects(self.keypos, objects) {
             return Err(Refusal::Badarg);
         }
-        if objects.iter().any(|object| self.is_taken(object)) {
+        if self.any_taken(objects) {
             return Ok(false);
         }
-        self.store(objects)?;
-        Ok(true)
+        self.store(objects, true)
     }
 
     /// Whether the key of an object has objects.
@@ -51,21 +50,33 @@ impl<R: Rows> Table<R> {
         }
     }
 
-    /// Stores objects one after another, or none of them.
-    fn store(&mut self, objects: &[Term]) -> Result<(), Refusal>
+    /// Whether the key of one of these objects has objects.
+    fn any_taken(&self, objects: &[Term]) -> bool
+        ensures { result ≡ list_any (is_taken self.now.content.keypos self.now.content.slots) objects.now }
+    {
+        objects.iter().any(|object| self.is_taken(object))
+    }
+
+    /// Stores objects one after another, or none of them; answers `done` once they are stored.
+    fn store<X: Copy>(&mut self, objects: &[Term], done: X) -> Result<X, Refusal>
         requires { list_all (is_object self.old.content.keypos) objects.now ≡ true }
-        ensures content { Comes (Stores tt objects.now self.old.content) self.old.content result self.new.content }
+        ensures content { Comes (Stores done objects.now self.old.content) self.old.content result self.new.content }
         ensures buckets { self.new.buckets ≡ self.old.buckets }
     {
         if any_too_deep(objects) {
             return Err(Refusal::SystemLimit);
         }
         let limit = self.limit as usize;
-        let count = match objects {
-            [object] => put_one(self.alloc, &mut self.rows, self.kind, self.keypos, limit, self.count, object)?,
-            _ => put_all(self.alloc, &mut self.rows, self.kind, self.keypos, limit, self.count, objects)?,
-        };
+        let count = put_list(
+            self.alloc,
+            &mut self.rows,
+            self.kind,
+            self.keypos,
+            limit,
+            self.count,
+            objects,
+        )?;
         self.count = count;
-        Ok(())
+        Ok(done)
     }
 }

@@ -49,10 +49,11 @@ impl<R: Rows> Table<R> {
         self.rows.known();
         let mut at = self.rows.first_at();
         for _ in 0..self.rows.len() {
-            if let Some((key, objects)) = at {
-                copy_behind(self.alloc, &mut copies, objects)?;
-                at = self.rows.next_at(key).flatten();
-            }
+            let Some((key, objects)) = at else {
+                unreachable!()
+            };
+            copy_behind(self.alloc, &mut copies, objects)?;
+            at = self.rows.next_at(key).flatten();
         }
         Ok(Items::from_vec(copies))
     }

@@ -18,6 +18,7 @@ impl<R: Rows> Table<R> {
         ensures content { self.new.content ≡ without_those hold (of_key key.now) self.old.content }
         ensures buckets { self.new.buckets ≡ self.old.buckets }
     {
+        self.rows.known();
         let Some(place) = self.rows.find(key) else {
             return;
         };
@@ -32,6 +33,7 @@ impl<R: Rows> Table<R> {
         ensures err { OnErr result (self.new.content ≡ self.old.content) }
         ensures buckets { self.new.buckets ≡ self.old.buckets }
     {
+        self.rows.known();
         let Some(place) = self.rows.find(key) else {
             return Ok(Items::new(self.alloc));
         };
@@ -50,10 +52,12 @@ impl<R: Rows> Table<R> {
         let Some(key) = key_of(self.keypos, object) else {
             return Err(Refusal::Badarg);
         };
+        self.rows.known();
         let Some(place) = self.rows.find(key) else {
             return Ok(());
         };
-        self.count -= take_object(self.alloc, &mut self.rows, hold, place, object);
+        let count = take_object(self.alloc, &mut self.rows, hold, place, object);
+        self.count -= count;
         Ok(())
     }
 
