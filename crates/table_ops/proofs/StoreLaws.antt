@@ -170,7 +170,8 @@ next-step limit count kind keypos objects i old mid new undos u object s logged 
     let k = at-one (key_of keypos object) (λ key. PutsOne (nat_lt count limit) kind key object mid (Ok u) new) p in
     let put = k.2 in
     let here : slice_get objects (length undos) ≡ Some object = ap (slice_get objects) logged ∙ at in
-    let more : take (i + 1) objects ≡ take i objects ++ object ∷ [] = ap (λ n. take n objects) (omega arith) ∙ take-one objects i object at in
+    let next : i + 1 ≡ suc i = omega arith in
+    let more : take (i + 1) objects ≡ take i objects ++ object ∷ [] = ap (λ n. take n objects) next ∙ take-one objects i object at in
     record {
       done = subst (λ l. PutsAll kind keypos old l new) (sym more) (puts-push kind keypos old (take i objects) mid object k.0 new s.done k.1 put.0);
       back = undone-push keypos undos u objects object new here ∙ ap (λ o. undone_all keypos undos objects (undone u (unwrap_or o object) new)) k.1 ∙ ap (undone_all keypos undos objects) put.1 ∙ s.back;
