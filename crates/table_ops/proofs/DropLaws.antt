@@ -54,7 +54,7 @@ cond-cons false s x y = refl
 thinned-at : (b : Bool) (hold : Bool) (which : Which) (s : Slot) (ss : List Slot) (key : Term) (c : List Term) → same key s.0 ≡ b → AllByRecursion (λ y. same s.0 y ≡ false) (keys_of ss) → Spares which key (s ∷ ss)
     → (objects_of ss key ≡ Some c → dropped hold which ss ≡ thinned hold ss key c (left which (key, c))) → cond b (Some s.1) (objects_of ss key) ≡ Some c
     → cond (hold || has_objects (left which s) || not (has_objects s.1)) ((s.0, left which s) ∷ dropped hold which ss) (dropped hold which ss)
-      ≡ cond (hold || has_objects (left which (key, c)) || not (has_objects c)) (cond b ((s.0, left which (key, c)) ∷ ss) (s ∷ with_objects ss key (left which (key, c)))) (cond b ss (s ∷ without ss key))
+    ≡ cond (hold || has_objects (left which (key, c)) || not (has_objects c)) (cond b ((s.0, left which (key, c)) ∷ ss) (s ∷ with_objects ss key (left which (key, c)))) (cond b ss (s ∷ without ss key))
 thinned-at true hold which s ss key c e d sp rest h =
     let has : s.1 ≡ c = cc in
     let is : s ≡ (key, c) = λ i. (sym (same-exact key s.0 e) i, has i) in

@@ -192,7 +192,7 @@ all-refused limit before kind keypos old mid objects i object a are shallow at d
     let more = slots-puts kind keypos mid w.0 k.0 object so_far k.1 (any-at is_too_deep objects i object shallow at) w.1 in
     let rest = completed kind keypos w.0 (drop (suc i) objects) more (all-drop (is_object keypos) (suc i) objects are) (any-drop is_too_deep (suc i) objects shallow) in
     let whole : PutsAll kind keypos old (take i objects ++ object ∷ drop (suc i) objects) rest.0 =
-        puts-append kind keypos old (take i objects) (object ∷ drop (suc i) objects) mid rest.0 done (k.0, k.1, (w.0, w.1, rest.1)) in
+    puts-append kind keypos old (take i objects) (object ∷ drop (suc i) objects) mid rest.0 done (k.0, k.1, (w.0, w.1, rest.1)) in
     (same, (rest.0, subst (λ l. PutsAll kind keypos old l rest.0) (take-with objects i object at) whole, omega (arith, w.2, rest.2)))
 all-refused limit before kind keypos old mid objects i object a are shallow at done counted Memory new back p same = same
 

@@ -38,7 +38,7 @@ abbrev pub Stores : {X : Type 0} → X → List Term → Content → Change X Co
 Stores done objects old r new =
     MatchBool (list_any is_too_deep objects) (gives (Err SystemLimit) old r new)
     ((slots : List Slot) × PutsAll old.kind old.keypos old.slots objects slots
-      × MatchBool (nat_lt old.limit (object_count slots)) (gives (Err SystemLimit) old r new) (gives (Ok done) (record old { slots = slots }) r new))
+    × MatchBool (nat_lt old.limit (object_count slots)) (gives (Err SystemLimit) old r new) (gives (Ok done) (record old { slots = slots }) r new))
 
 -- insert(Table, Objects): badarg where one of them is no object
 abbrev pub Inserts : List Term → Content → Change (Unit {0}) Content

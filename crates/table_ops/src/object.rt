@@ -6,7 +6,6 @@ ghost use Rattle.table_ops.specs.Content.{key_of, is_object};
 
 use ets_term::Term;
 
-
 /// The key of an object of a table with this keypos: a tuple's element at keypos, if that is not the atom
 /// `'$end_of_table'`. None where the term is no object.
 pub fn key_of(keypos: u32, object: &Term) -> Option<&Term>

@@ -26,13 +26,7 @@ impl Undo {
     {
         match self {
             Undo::NewSlot => 1,
-            Undo::Objects(objects) => {
-                if objects.len() == 0 {
-                    1
-                } else {
-                    0
-                }
-            }
+            Undo::Objects(objects) => { if objects.len() == 0 { 1 } else { 0 } }
             Undo::LastObject => 1,
             Undo::Nothing => 0,
         }

@@ -39,7 +39,12 @@ fn delete_object_takes_every_instance(rt: HostRuntime) -> Result<(), Fail> {
     table.delete_object(&tuple(alloc, &[8, 1])?, true)?;
     assert_eq!(rt; table.slots(), 1);
     assert_eq!(rt; table.size(), 0);
-    assert!(rt; matches!(table.delete_object(&Term::Int(8), false), Err(Refusal::Badarg)));
+    assert!(rt;
+        matches!(
+            table.delete_object(&Term::Int(8), false),
+            Err(Refusal::Badarg)
+        )
+    );
     Ok(())
 }
 
@@ -79,17 +84,32 @@ fn the_limit_counts_objects_after_the_call(rt: HostRuntime) -> Result<(), Fail> 
     let alloc = rt.alloc();
     let mut table = Table::new(alloc, PlainRows::new(alloc), Kind::Set, 1, 3);
     table.insert(pairs(alloc, &[(1, 1), (2, 1)])?.as_slice())?;
-    assert!(rt; matches!(table.insert(pairs(alloc, &[(3, 1), (4, 1)])?.as_slice()), Err(Refusal::SystemLimit)));
+    assert!(rt;
+        matches!(
+            table.insert(pairs(alloc, &[(3, 1), (4, 1)])?.as_slice()),
+            Err(Refusal::SystemLimit)
+        )
+    );
     assert_eq!(rt; table.size(), 2);
     table.insert(pairs(alloc, &[(3, 1), (1, 2), (3, 3), (2, 2)])?.as_slice())?;
     assert_eq!(rt; table.size(), 3);
-    assert!(rt; matches!(table.insert(&[tuple(alloc, &[4, 1])?]), Err(Refusal::SystemLimit)));
+    assert!(rt;
+        matches!(
+            table.insert(&[tuple(alloc, &[4, 1])?]),
+            Err(Refusal::SystemLimit)
+        )
+    );
     table.insert(&[tuple(alloc, &[3, 4])?])?;
     has(&rt, &table, 1, &[2])?;
     has(&rt, &table, 3, &[4])?;
     table.delete_key(&Term::Int(1), true);
     table.insert(&[tuple(alloc, &[4, 1])?])?;
-    assert!(rt; matches!(table.insert(&[tuple(alloc, &[1, 1])?]), Err(Refusal::SystemLimit)));
+    assert!(rt;
+        matches!(
+            table.insert(&[tuple(alloc, &[1, 1])?]),
+            Err(Refusal::SystemLimit)
+        )
+    );
     Ok(())
 }
 
@@ -186,7 +206,12 @@ fn what_is_too_deep_is_refused(rt: HostRuntime) -> Result<(), Fail> {
     table.insert(&[deep.try_clone(alloc)?])?;
     let mut items = Items::new(alloc);
     items.push(deep)?;
-    assert!(rt; matches!(table.insert(&[Term::Tuple(items)]), Err(Refusal::SystemLimit)));
+    assert!(rt;
+        matches!(
+            table.insert(&[Term::Tuple(items)]),
+            Err(Refusal::SystemLimit)
+        )
+    );
     assert_eq!(rt; table.size(), 1);
     Ok(())
 }

@@ -7,4 +7,4 @@ returns-then-has-clause-slots g c =
     let old = g.R.Rows.content c.args.rows.now in
     let place = g.R.Rows.key_at c.args.rows.now c.args.place in
     at-key place _ c.requires (λ key is.
-      bag-has c.args.room key c.args.object.now old c.objects_at.result.now (own-in old place key c.objects_at.result.now is c.objects_at.ensures) (sym c.has.ensures ∙ c.if-has.true))
+    bag-has c.args.room key c.args.object.now old c.objects_at.result.now (own-in old place key c.objects_at.result.now is c.objects_at.ensures) (sym c.has.ensures ∙ c.if-has.true))

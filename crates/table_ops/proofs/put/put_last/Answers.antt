@@ -13,9 +13,9 @@ returns-in_default-clause-slots g c =
     let new = g.R.Rows.content c.replace_at.new.self in
     let place = g.R.Rows.key_at c.args.rows.now c.args.place in
     at-key place _ c.requires (λ key is.
-      let own = own-in old place key c.replace_at-objects.result is c.replace_at-objects.ensures.was in
-      let written = twice-in old mid new place (g.R.Rows.key_at c.replace_at-objects.new.self c.args.place) key c.new.result c.push-pushed.new.self is c.replace_at-objects.ensures.now c.replace_at-objects.ensures.place c.replace_at.ensures.now in
-      written ∙ ap (with_objects old key) c.in_default.ensures.err ∙ set_value-same (same key) old c.replace_at-objects.result own)
+    let own = own-in old place key c.replace_at-objects.result is c.replace_at-objects.ensures.was in
+    let written = twice-in old mid new place (g.R.Rows.key_at c.replace_at-objects.new.self c.args.place) key c.new.result c.push-pushed.new.self is c.replace_at-objects.ensures.now c.replace_at-objects.ensures.place c.replace_at.ensures.now in
+    written ∙ ap (with_objects old key) c.in_default.ensures.err ∙ set_value-same (same key) old c.replace_at-objects.result own)
 
 pub returns-clause-slots : goal.returns-clause-slots
 returns-clause-slots g c =
@@ -26,6 +26,6 @@ returns-clause-slots g c =
     let was = c.replace_at-objects.result in
     let pushed : c.push-pushed.new.self ≡ was ++ c.args.object.now ∷ [] = c.in-Ok.ensures.ok ∙ ap (λ t. was ++ t ∷ []) c.in_ok-copy.ensures in
     at-key place _ c.requires (λ key is.
-      let own = own-in old place key was is c.replace_at-objects.ensures.was in
-      let written = twice-in old mid new place (g.R.Rows.key_at c.replace_at-objects.new.self c.args.place) key c.new.result c.push-pushed.new.self is c.replace_at-objects.ensures.now c.replace_at-objects.ensures.place c.replace_at.ensures.now in
-      last-put c.args.room key c.args.object.now old new was own c.if-not-room.false (written ∙ ap (with_objects old key) pushed))
+    let own = own-in old place key was is c.replace_at-objects.ensures.was in
+    let written = twice-in old mid new place (g.R.Rows.key_at c.replace_at-objects.new.self c.args.place) key c.new.result c.push-pushed.new.self is c.replace_at-objects.ensures.now c.replace_at-objects.ensures.place c.replace_at.ensures.now in
+    last-put c.args.room key c.args.object.now old new was own c.if-not-room.false (written ∙ ap (with_objects old key) pushed))

@@ -61,7 +61,7 @@ returns-in-Err g c =
     let within : i < length xs = omega arith in
     let at : slice_get xs i ≡ Some x = slice_get_read xs (length xs) i x refl within c.object-item.is in
     let same : back ≡ old =
-        c.take_all_back.ensures.slots ∙ ap (undone_all c.args.keypos c.loop-object.log.items xs) (refused-same _ c.args.kind c.args.keypos x mid new e c.in-Err.ensures.slots) ∙ inv.back in
+    c.take_all_back.ensures.slots ∙ ap (undone_all c.args.keypos c.loop-object.log.items xs) (refused-same _ c.args.kind c.args.keypos x mid new e c.in-Err.ensures.slots) ∙ inv.back in
     record {
       slots = all-refused c.args.limit c.loop-object.count c.args.kind c.args.keypos old mid xs i x c.requires.slots c.requires.objects c.requires.shallow at inv.done inv.counted e new back c.in-Err.ensures.slots same;
       buckets = c.take_all_back.ensures.buckets ∙ c.in-Err.ensures.buckets ∙ inv.buckets;

@@ -22,7 +22,7 @@ loop-undo-preserved g c =
     let key : c.in-Some-key_of.key.now ≡ unwrap_or (key_of c.args.keypos x) x = ap (λ o. unwrap_or o x) c.in-Some-key_of.ensures in
     record {
       slots = ap (undone_all c.args.keypos left xs) (c.take_back.ensures.slots ∙ ap (λ k. undone u k cur) key)
-        ∙ sym (undone-push c.args.keypos left u xs x cur at) ∙ ap (λ l. undone_all c.args.keypos l xs cur) (sym items) ∙ inv.slots;
+          ∙ sym (undone-push c.args.keypos left u xs x cur at) ∙ ap (λ l. undone_all c.args.keypos l xs cur) (sym items) ∙ inv.slots;
       buckets = c.take_back.ensures.buckets ∙ inv.buckets;
       long = omega (arith, counted, more, inv.long);
     }

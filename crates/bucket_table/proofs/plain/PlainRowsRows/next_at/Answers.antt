@@ -16,7 +16,7 @@ returns-in-Some-get_index c =
     let at = at-place slots c.in-Some.place c.args.key.now own.0 c.in-Some.ensures.unique own.1 in
     let next : c.in-Some.place + 1 ≡ suc c.in-Some.place = omega arith in
     rw at.behind (ap Some (ap (λ o. Some (c.in-Some-get_index.key.now, o)) c.as_slice-in-Some-get_index.ensures
-      ∙ c.in-Some-get_index.ensures.entry ∙ ap (λ l. slice_get l (c.in-Some.place + 1)) c.as_slice.ensures.entries ∙ ap (slice_get slots) next ∙ sym (first-of-drop slots (suc c.in-Some.place))))
+    ∙ c.in-Some-get_index.ensures.entry ∙ ap (λ l. slice_get l (c.in-Some.place + 1)) c.as_slice.ensures.entries ∙ ap (slice_get slots) next ∙ sym (first-of-drop slots (suc c.in-Some.place))))
 
 pub returns-in-None : goal.returns-in-None
 returns-in-None c =

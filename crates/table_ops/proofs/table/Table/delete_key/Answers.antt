@@ -35,4 +35,4 @@ returns-clause-content g c =
     let new = g.R.Rows.content c.take_at-objects.new.rows in
     let place = g.R.Rows.key_at c.self.inside.rows c.in-Some.place in
     rw (← c.self.view_is) (ap (λ (l : List Slot). let r : Content = record { kind = c.self.inside.kind; keypos = c.self.inside.keypos; limit = c.self.inside.limit; slots = l } in r)
-      (key-taken c.args.hold old new place c.args.key.now c.take_at-objects.result c.known.ensures c.in-Some.ensures.0 c.take_at-objects.ensures.objects c.take_at-objects.ensures.slots))
+    (key-taken c.args.hold old new place c.args.key.now c.take_at-objects.result c.known.ensures c.in-Some.ensures.0 c.take_at-objects.ensures.objects c.take_at-objects.ensures.slots))

@@ -38,4 +38,4 @@ returns-clause-content g c =
     let old : Content = record { kind = c.self.inside.kind; keypos = c.self.inside.keypos; limit = c.self.inside.limit; slots = slots } in
     let its = sym c.in-Some.ensures in
     rw (← c.self.view_is) (deletes c.args.hold c.args.object.now c.in-Some.key.now old its new
-      (object-taken c.args.hold c.self.inside.kind c.self.inside.keypos slots new place c.in-Some.key.now c.args.object.now c.take_object-count.result c.known.ensures c.self.invariant.slots_are its c.in-Some-find.ensures.0 c.take_object-count.ensures.slots))
+    (object-taken c.args.hold c.self.inside.kind c.self.inside.keypos slots new place c.in-Some.key.now c.args.object.now c.take_object-count.result c.known.ensures c.self.invariant.slots_are its c.in-Some-find.ensures.0 c.take_object-count.ensures.slots))

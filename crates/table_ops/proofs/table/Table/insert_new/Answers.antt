@@ -9,6 +9,6 @@ pub returns-clause-content : goal.returns-clause-content
 returns-clause-content g c =
     let content = c.args.self.now.content in
     let are : list_all (is_object content.keypos) c.args.objects.now ≡ true =
-        ap (λ (t : Tabled). list_all (is_object t.content.keypos) c.args.objects.now) (sym c.self.view_is) ∙ sym c.are_objects.ensures ∙ c.if-not-are_objects.false in
+    ap (λ (t : Tabled). list_all (is_object t.content.keypos) c.args.objects.now) (sym c.self.view_is) ∙ sym c.are_objects.ensures ∙ c.if-not-are_objects.false in
     let free : list_any (is_taken content.keypos content.slots) c.args.objects.now ≡ false = sym c.any_taken.ensures ∙ c.if-any_taken.false in
     new-stores c.args.objects.now content are free c.store.result c.store.new.self.content c.store.ensures.content
