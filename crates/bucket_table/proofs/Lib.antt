@@ -19,3 +19,4 @@ pub mod SeatLaws
 pub mod SweepLaws
 pub mod LeastLaws
 pub mod EnterLaws
+pub mod PlainLaws

@@ -16,11 +16,13 @@
 
 mod entry;
 mod growth;
+mod plain;
 mod rows;
 mod split;
 
 pub use entry::{Entry, Place};
 pub use growth::{Growth, Readying};
+pub use plain::PlainRows;
 pub use rows::Rows;
 pub use split::SplitRows;
 
