@@ -1,0 +1,2 @@
+pub mod RestoreLaws
+pub mod RefusalLaws
