@@ -1,2 +1,3 @@
-pub mod RestoreLaws
+pub mod Examples
 pub mod RefusalLaws
+pub mod RestoreLaws

@@ -64,15 +64,15 @@ fn nested(alloc: Global, depth: usize) -> Result<Term, AllocError> {
     Ok(term)
 }
 
-fn is_badarg<T: Drop>(result: Result<T, CounterFault>) -> bool {
-    match result {
+fn is_badarg<T: Drop>(outcome: Result<T, CounterFault>) -> bool {
+    match outcome {
         Err(CounterFault::Badarg) => true,
         _ => false,
     }
 }
 
-fn is_limit<T: Drop>(result: Result<T, CounterFault>) -> bool {
-    match result {
+fn is_limit<T: Drop>(outcome: Result<T, CounterFault>) -> bool {
+    match outcome {
         Err(CounterFault::SystemLimit) => true,
         _ => false,
     }

@@ -92,8 +92,9 @@ fn bad_forms(rt: HostRuntime) -> Result<(), Fail> {
     assert!(rt; is_badarg(read_ops(alloc, &lists(alloc, &[&[2, 1], &[1, 1]])?, 1)));
     assert!(rt; is_badarg(read_ops(alloc, &Term::List(terms(alloc, &[1])?), 1)));
     assert!(rt; is_badarg(read_ops(alloc, &atom(alloc, "a")?, 1)));
-    for bad in [[0, 1].as_slice(), &[-1, 1], &[1, 1], &[2], &[2, 1, 1], &[2, 1, 1, 1, 1], &[]] {
-        assert!(rt; is_badarg(read_ops(alloc, &numbers(alloc, *bad)?, 1)));
+    let wrong: [&[Integer]; 7] = [&[0, 1], &[-1, 1], &[1, 1], &[2], &[2, 1, 1], &[2, 1, 1, 1, 1], &[]];
+    for bad in wrong {
+        assert!(rt; is_badarg(read_ops(alloc, &numbers(alloc, bad)?, 1)));
     }
     let word = pair(alloc, Term::Int(2), atom(alloc, "a")?)?;
     assert!(rt; is_badarg(read_ops(alloc, &word, 1)));
