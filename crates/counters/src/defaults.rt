@@ -50,7 +50,13 @@ pub fn keyed(alloc: Global, default: &Term, keypos: u32, key: &Term) -> Result<T
 /// The object to be stored where a key has none, made of the Default with the key at keypos and the counters updated, and
 /// the answer (stdlib manual, module ets, update_counter/4). Badarg where that is no object, or as in `update_counter`;
 /// then SystemLimit, also for an object of more than `MAX_DEPTH` levels.
-pub fn start_counter(alloc: Global, default: &Term, keypos: u32, key: &Term, ops: &Ops) -> Result<(Term, Term), CounterFault>
+pub fn start_counter(
+    alloc: Global,
+    default: &Term,
+    keypos: u32,
+    key: &Term,
+    ops: &Ops,
+) -> Result<(Term, Term), CounterFault>
     ensures done { IfOk result (λ r. counted_from ops.now (keyed keypos key.now default.now) ≡ Ok r) }
     ensures badarg { IsErrOf result CounterFault.Badarg → counted_from ops.now (keyed keypos key.now default.now) ≡ Err CounterFault.Badarg }
     ensures limit { IsErrOf result CounterFault.SystemLimit → counted_from ops.now (keyed keypos key.now default.now) ≡ Err CounterFault.SystemLimit }
@@ -66,7 +72,13 @@ pub fn start_counter(alloc: Global, default: &Term, keypos: u32, key: &Term, ops
 /// The object to be stored where a key has none, made of the Default with the key at keypos and those elements written.
 /// Badarg where that is no object, or as in `update_elements`; then SystemLimit, also for an object of more than
 /// `MAX_DEPTH` levels.
-pub fn start_elements(alloc: Global, default: &Term, keypos: u32, key: &Term, specs: ElementSpecs) -> Result<Term, CounterFault>
+pub fn start_elements(
+    alloc: Global,
+    default: &Term,
+    keypos: u32,
+    key: &Term,
+    specs: ElementSpecs,
+) -> Result<Term, CounterFault>
     ensures done { IfOk result (λ object. written_from specs (keyed keypos key.now default.now) ≡ Ok object) }
     ensures badarg { IsErrOf result CounterFault.Badarg → written_from specs (keyed keypos key.now default.now) ≡ Err CounterFault.Badarg }
     ensures limit { IsErrOf result CounterFault.SystemLimit → written_from specs (keyed keypos key.now default.now) ≡ Err CounterFault.SystemLimit }

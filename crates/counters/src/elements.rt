@@ -64,14 +64,22 @@ fn all_specs(alloc: Global, keypos: u32, terms: &[Term]) -> Result<Items<Element
 
 /// Reads the values for elements of an object whose key stands at keypos: `{Pos,Value}`, or a list of these. Badarg for
 /// every other form, a position that is no integer or under 1, and the key's.
-pub fn read_element_specs(alloc: Global, term: &Term, keypos: u32) -> Result<ElementSpecs, CounterFault>
+pub fn read_element_specs(
+    alloc: Global,
+    term: &Term,
+    keypos: u32,
+) -> Result<ElementSpecs, CounterFault>
     ensures read { IfOk result (λ specs. specs_of keypos term.now ≡ Some specs) }
     ensures badarg { IsErrOf result CounterFault.Badarg → specs_of keypos term.now ≡ None }
     ensures one { is_list term.now ≡ false → specs_of keypos term.now ≡ None → IsErrOf result CounterFault.Badarg }
     ensures limit { ¬ IsErrOf result CounterFault.SystemLimit }
 {
     match term {
-        Term::Tuple(parts) => Ok(ElementSpecs::One(spec_of_parts(alloc, keypos, parts.as_slice())?)),
+        Term::Tuple(parts) => Ok(ElementSpecs::One(spec_of_parts(
+            alloc,
+            keypos,
+            parts.as_slice(),
+        )?)),
         Term::List(terms) => Ok(ElementSpecs::Many(all_specs(alloc, keypos, terms.as_slice())?)),
         _ => Err(CounterFault::Badarg),
     }
@@ -81,7 +89,9 @@ pub fn read_element_specs(alloc: Global, term: &Term, keypos: u32) -> Result<Ele
 fn has_all(count: usize, specs: &[ElementSpec]) -> bool
     ensures { result ≡ has_all count specs.now }
 {
-    specs.iter().all(|spec| 0 < spec.position && spec.position <= count)
+    specs
+        .iter()
+        .all(|spec| 0 < spec.position && spec.position <= count)
 }
 
 /// Whether a value that stays is too deep for an element.
@@ -172,7 +182,11 @@ fn write_one(elements: &mut Items<Term>, spec: ElementSpec) -> Result<(), Counte
 }
 
 /// The object with those elements written, as `update_elements` writes them.
-pub fn apply_elements(alloc: Global, object: &Term, specs: ElementSpecs) -> Result<Term, CounterFault>
+pub fn apply_elements(
+    alloc: Global,
+    object: &Term,
+    specs: ElementSpecs,
+) -> Result<Term, CounterFault>
     ensures done { IfOk result (λ object'. updated_elements specs object.now ≡ Ok object') }
     ensures badarg { IsErrOf result CounterFault.Badarg → updated_elements specs object.now ≡ Err CounterFault.Badarg }
     ensures limit { IsErrOf result CounterFault.SystemLimit → updated_elements specs object.now ≡ Err CounterFault.SystemLimit }

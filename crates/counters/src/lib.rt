@@ -27,6 +27,8 @@ mod tests;
 
 pub use counter::{apply_ops, update_counter};
 pub use defaults::{is_default, keyed, start_counter, start_elements};
-pub use elements::{ElementSpec, ElementSpecs, apply_elements, read_element_specs, update_elements};
+pub use elements::{
+    ElementSpec, ElementSpecs, apply_elements, read_element_specs, update_elements,
+};
 pub use fault::CounterFault;
-pub use ops::{read_ops, Bound, Op, Ops};
+pub use ops::{Bound, Op, Ops, read_ops};

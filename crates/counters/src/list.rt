@@ -21,7 +21,11 @@ pub struct Saved {
 }
 
 /// Does a list of operations in place, all or none, and answers the list of new values.
-pub fn count_many(alloc: Global, elements: &mut Items<Term>, ops: &[Op]) -> Result<Term, CounterFault>
+pub fn count_many(
+    alloc: Global,
+    elements: &mut Items<Term>,
+    ops: &[Op],
+) -> Result<Term, CounterFault>
     ensures done { IfOk result (λ answer. updated_elements (Many ops.now) elements.old ≡ Ok (Tuple elements.new, answer)) }
     ensures badarg { IsErrOf result CounterFault.Badarg ↔ (updated_elements (Many ops.now) elements.old ≡ Err CounterFault.Badarg) }
     ensures limit { IsErrOf result CounterFault.SystemLimit → updated_elements (Many ops.now) elements.old ≡ Err CounterFault.SystemLimit }
@@ -37,11 +41,16 @@ pub fn count_many(alloc: Global, elements: &mut Items<Term>, ops: &[Op]) -> Resu
 fn are_counters(elements: &[Term], ops: &[Op]) -> bool
     ensures { result ≡ list_all (λ op. is_some (integer_at op.position elements.now)) ops.now }
 {
-    ops.iter().all(|op| integer_at(elements, op.position).is_some())
+    ops.iter()
+        .all(|op| integer_at(elements, op.position).is_some())
 }
 
 /// Does the operations from the left and answers the new values; where one cannot be done, none is.
-fn count_list(alloc: Global, elements: &mut Items<Term>, ops: &[Op]) -> Result<Items<Term>, CounterFault>
+fn count_list(
+    alloc: Global,
+    elements: &mut Items<Term>,
+    ops: &[Op],
+) -> Result<Items<Term>, CounterFault>
     ensures done { IfOk result (λ answers. count_all ops.now elements.old ≡ Some (elements.new, answers)) }
     ensures badarg { ¬ IsErrOf result CounterFault.Badarg }
     ensures limit { IsErrOf result CounterFault.SystemLimit → count_all ops.now elements.old ≡ None }

@@ -40,12 +40,7 @@ fn bound_of(threshold: &Term, set_value: &Term) -> Option<Bound>
     })
 }
 
-fn op_from(
-    keypos: u32,
-    position: &Term,
-    increment: &Term,
-    bound: Option<Bound>,
-) -> Option<Op>
+fn op_from(keypos: u32, position: &Term, increment: &Term, bound: Option<Bound>) -> Option<Op>
     ensures { result ≡ op_from keypos position.now increment.now bound }
 {
     Some(Op {

@@ -1,7 +1,13 @@
 use super::*;
 
 /// The update of `{c,value}`, keypos 1: whether it answers this and leaves `{c,after}`.
-fn gives(alloc: Global, value: Integer, update: &Term, answer: &Term, after: Integer) -> Result<bool, Fail> {
+fn gives(
+    alloc: Global,
+    value: Integer,
+    update: &Term,
+    answer: &Term,
+    after: Integer,
+) -> Result<bool, Fail> {
     let ops = read_ops(alloc, update, 1)?;
     let wanted = counter(alloc, after)?;
     let (object, told) = apply_ops(alloc, &counter(alloc, value)?, &ops)?;
@@ -30,8 +36,24 @@ fn thresholds(rt: HostRuntime) -> Result<(), Fail> {
     let alloc = rt.alloc();
     assert!(rt; gives(alloc, 5, &numbers(alloc, &[2, 3, 7, 0])?, &Term::Int(0), 0)?);
     assert!(rt; gives(alloc, 5, &numbers(alloc, &[2, 3, 8, 0])?, &Term::Int(8), 8)?);
-    assert!(rt; gives(alloc, -5, &numbers(alloc, &[2, -3, -8, 1])?, &Term::Int(-8), -8)?);
-    assert!(rt; gives(alloc, -5, &numbers(alloc, &[2, -3, -7, 1])?, &Term::Int(1), 1)?);
+    assert!(rt;
+        gives(
+            alloc,
+            -5,
+            &numbers(alloc, &[2, -3, -8, 1])?,
+            &Term::Int(-8),
+            -8
+        )?
+    );
+    assert!(rt;
+        gives(
+            alloc,
+            -5,
+            &numbers(alloc, &[2, -3, -7, 1])?,
+            &Term::Int(1),
+            1
+        )?
+    );
     assert!(rt; gives(alloc, 9, &numbers(alloc, &[2, 0, 8, 4])?, &Term::Int(4), 4)?);
     Ok(())
 }
@@ -64,9 +86,33 @@ fn exact_sums(rt: HostRuntime) -> Result<(), Fail> {
     let alloc = rt.alloc();
     let most = Integer::MAX;
     assert!(rt; refuses_with_limit(alloc, most, &Term::Int(1))?);
-    assert!(rt; gives(alloc, most, &numbers(alloc, &[2, 1, most, 0])?, &Term::Int(0), 0)?);
-    assert!(rt; gives(alloc, most, &numbers(alloc, &[2, 0, most, 0])?, &Term::Int(most), most)?);
-    assert!(rt; gives(alloc, Integer::MIN, &numbers(alloc, &[2, -1, 0, 5])?, &Term::Int(5), 5)?);
+    assert!(rt;
+        gives(
+            alloc,
+            most,
+            &numbers(alloc, &[2, 1, most, 0])?,
+            &Term::Int(0),
+            0
+        )?
+    );
+    assert!(rt;
+        gives(
+            alloc,
+            most,
+            &numbers(alloc, &[2, 0, most, 0])?,
+            &Term::Int(most),
+            most
+        )?
+    );
+    assert!(rt;
+        gives(
+            alloc,
+            Integer::MIN,
+            &numbers(alloc, &[2, -1, 0, 5])?,
+            &Term::Int(5),
+            5
+        )?
+    );
     assert!(rt; refuses_with_limit(alloc, Integer::MIN, &Term::Int(-1))?);
     assert!(rt; refuses_with_limit(alloc, most, &lists(alloc, &[&[2, 1], &[2, -1]])?)?);
     assert!(rt; refuses_with_limit(alloc, most, &lists(alloc, &[&[2, -3], &[2, 2], &[2, 2]])?)?);
@@ -92,7 +138,15 @@ fn bad_forms(rt: HostRuntime) -> Result<(), Fail> {
     assert!(rt; is_badarg(read_ops(alloc, &lists(alloc, &[&[2, 1], &[1, 1]])?, 1)));
     assert!(rt; is_badarg(read_ops(alloc, &Term::List(terms(alloc, &[1])?), 1)));
     assert!(rt; is_badarg(read_ops(alloc, &atom(alloc, "a")?, 1)));
-    let wrong: [&[Integer]; 7] = [&[0, 1], &[-1, 1], &[1, 1], &[2], &[2, 1, 1], &[2, 1, 1, 1, 1], &[]];
+    let wrong: [&[Integer]; 7] = [
+        &[0, 1],
+        &[-1, 1],
+        &[1, 1],
+        &[2],
+        &[2, 1, 1],
+        &[2, 1, 1, 1, 1],
+        &[],
+    ];
     for bad in wrong {
         assert!(rt; is_badarg(read_ops(alloc, &numbers(alloc, bad)?, 1)));
     }

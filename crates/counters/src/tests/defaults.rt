@@ -42,7 +42,13 @@ fn elements_of_the_default(rt: HostRuntime) -> Result<(), Fail> {
     let key = atom(alloc, "c")?;
     let default = numbers(alloc, &[0, 1])?;
     let update = numbers(alloc, &[2, 9])?;
-    let object = start_elements(alloc, &default, 1, &key, read_element_specs(alloc, &update, 1)?)?;
+    let object = start_elements(
+        alloc,
+        &default,
+        1,
+        &key,
+        read_element_specs(alloc, &update, 1)?,
+    )?;
     assert!(rt; object == counter(alloc, 9)?);
     let past = read_element_specs(alloc, &numbers(alloc, &[4, 9])?, 1)?;
     assert!(rt; is_badarg(start_elements(alloc, &default, 1, &key, past)));

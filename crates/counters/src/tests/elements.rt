@@ -56,7 +56,9 @@ fn bad_elements(rt: HostRuntime) -> Result<(), Fail> {
     }
     assert!(rt; is_badarg(read_element_specs(alloc, &Term::Int(2), 1)));
     assert!(rt; is_badarg(read_element_specs(alloc, &numbers(alloc, &[2, 3, 4])?, 1)));
-    assert!(rt; is_badarg(read_element_specs(alloc, &pair(alloc, atom(alloc, "x")?, Term::Int(2))?, 1)));
+    assert!(rt;
+        is_badarg(read_element_specs(alloc, &pair(alloc, atom(alloc, "x")?, Term::Int(2))?, 1))
+    );
     Ok(())
 }
 
