@@ -1,5 +1,5 @@
 -- The new value of a counter (stdlib manual, module ets, update_counter/3). Sums are exact.
-use Rattle.std.specs.Prelude.{◌+ℤ◌, ◌&&◌, Bool, if◌then◌else◌, ℤ, pos, int_le, int_lt, Option, Some, None, MatchOption}
+use Rattle.std.specs.Prelude.{◌+ℤ◌, ◌&&◌, Bool, if◌then◌else◌, ℤ, pos, int_le, int_lt, Option, Some, None}
 use Rattle.ets_term.specs.Integers.{least, greatest}
 use Rattle.counters.specs.declared.ops.Op.{Op}
 use Rattle.counters.specs.declared.ops.Bound.{Bound}
