@@ -1,180 +1,199 @@
 use super::*;
 
-/// The update of `{c,value}`, keypos 1: whether it answers this and leaves `{c,after}`.
+const MOST: Integer = Integer::MAX;
+const LEAST: Integer = Integer::MIN;
+
+/// The object `{c,value}`.
+fn counter(alloc: Global, value: Integer) -> Result<Term, Fail> {
+    tuple(alloc, &[Part::Atom("c"), Part::Int(value)])
+}
+
+fn numbers(alloc: Global, values: &[Integer]) -> Result<Items<Term>, Fail> {
+    let mut items = Items::new(alloc);
+    for value in values {
+        items.push(Term::Int(*value))?;
+    }
+    Ok(items)
+}
+
+/// The list of these operations.
+fn listed(alloc: Global, ops: &[&[Integer]]) -> Result<Term, Fail> {
+    let mut items = Items::new(alloc);
+    for op in ops {
+        items.push(Term::Tuple(numbers(alloc, *op)?))?;
+    }
+    Ok(Term::List(items))
+}
+
+/// Whether the update of `{c,before}` answers this and leaves `{c,after}`, in place and on a copy.
 fn gives(
     alloc: Global,
-    value: Integer,
+    before: Integer,
     update: &Term,
     answer: &Term,
     after: Integer,
 ) -> Result<bool, Fail> {
     let ops = read_ops(alloc, update, 1)?;
-    let wanted = counter(alloc, after)?;
-    let (object, told) = apply_ops(alloc, &counter(alloc, value)?, &ops)?;
-    let mut changed = counter(alloc, value)?;
-    let also = update_counter(alloc, &mut changed, &ops)?;
-    Ok(told == *answer && also == *answer && object == wanted && changed == wanted)
+    let mut object = counter(alloc, before)?;
+    let (copy, told) = apply_ops(alloc, &object, &ops)?;
+    let also = update_counter(alloc, &mut object, &ops)?;
+    Ok(told == *answer && also == *answer && copy == object && object == counter(alloc, after)?)
 }
 
-/// The update of `{c,value}`, keypos 1, is refused and leaves the object.
-fn refuses_with_limit(alloc: Global, value: Integer, update: &Term) -> Result<bool, Fail> {
+/// Why the update of `{c,before}` is refused; None where it is done or the object has changed.
+fn refusal(alloc: Global, before: Integer, update: &Term) -> Result<Option<CounterFault>, Fail> {
     let ops = read_ops(alloc, update, 1)?;
-    let mut object = counter(alloc, value)?;
-    let refused = is_limit(update_counter(alloc, &mut object, &ops));
-    Ok(refused && object == counter(alloc, value)?)
-}
-
-fn refuses_with_badarg(alloc: Global, value: Integer, update: &Term) -> Result<bool, Fail> {
-    let ops = read_ops(alloc, update, 1)?;
-    let mut object = counter(alloc, value)?;
-    let refused = is_badarg(update_counter(alloc, &mut object, &ops));
-    Ok(refused && object == counter(alloc, value)?)
+    let mut object = counter(alloc, before)?;
+    let Err(fault) = update_counter(alloc, &mut object, &ops) else {
+        return Ok(None);
+    };
+    if object != counter(alloc, before)? {
+        return Ok(None);
+    }
+    Ok(Some(fault))
 }
 
 #[test]
 fn thresholds(rt: HostRuntime) -> Result<(), Fail> {
     let alloc = rt.alloc();
-    assert!(rt; gives(alloc, 5, &numbers(alloc, &[2, 3, 7, 0])?, &Term::Int(0), 0)?);
-    assert!(rt; gives(alloc, 5, &numbers(alloc, &[2, 3, 8, 0])?, &Term::Int(8), 8)?);
-    assert!(rt;
-        gives(
-            alloc,
-            -5,
-            &numbers(alloc, &[2, -3, -8, 1])?,
-            &Term::Int(-8),
-            -8
-        )?
-    );
-    assert!(rt;
-        gives(
-            alloc,
-            -5,
-            &numbers(alloc, &[2, -3, -7, 1])?,
-            &Term::Int(1),
-            1
-        )?
-    );
-    assert!(rt; gives(alloc, 9, &numbers(alloc, &[2, 0, 8, 4])?, &Term::Int(4), 4)?);
+    let rows = [
+        (5, [2, 3, 7, 0], 0),
+        (5, [2, 3, 8, 0], 8),
+        (-5, [2, -3, -8, 1], -8),
+        (-5, [2, -3, -7, 1], 1),
+        (9, [2, 0, 8, 4], 4),
+        (MOST, [2, 1, MOST, 0], 0),
+        (MOST, [2, 0, MOST, 0], MOST),
+        (LEAST, [2, -1, 0, 5], 5),
+    ];
+    for (before, op, after) in rows {
+        let update = Term::Tuple(numbers(alloc, &op)?);
+        assert!(rt; gives(alloc, before, &update, &Term::Int(after), after)?);
+    }
     Ok(())
 }
 
 #[test]
 fn integer_alone(rt: HostRuntime) -> Result<(), Fail> {
     let alloc = rt.alloc();
-    assert!(rt; gives(alloc, 5, &Term::Int(-7), &Term::Int(-2), -2)?);
+    for (before, increment, after) in [(5, 3, 8), (5, -7, -2), (MOST, 0, MOST)] {
+        assert!(rt; gives(alloc, before, &Term::Int(increment), &Term::Int(after), after)?);
+    }
     let ops = read_ops(alloc, &Term::Int(4), 2)?;
-    let (object, answer) = apply_ops(alloc, &numbers(alloc, &[1, 2, 3])?, &ops)?;
-    assert!(rt; answer == Term::Int(7));
-    assert!(rt; object == numbers(alloc, &[1, 2, 7])?);
+    let mut object = Term::Tuple(numbers(alloc, &[1, 2, 3])?);
+    assert!(rt; update_counter(alloc, &mut object, &ops)? == Term::Int(7));
+    assert!(rt; object == Term::Tuple(numbers(alloc, &[1, 2, 7])?));
     Ok(())
 }
 
 #[test]
-fn lists_of_operations(rt: HostRuntime) -> Result<(), Fail> {
+fn lists_answer_each_new_value(rt: HostRuntime) -> Result<(), Fail> {
     let alloc = rt.alloc();
-    let answer = Term::List(terms(alloc, &[6, 16])?);
-    assert!(rt; gives(alloc, 5, &lists(alloc, &[&[2, 1], &[2, 10]])?, &answer, 16)?);
-    let none = Term::List(Items::new(alloc));
-    assert!(rt; gives(alloc, 5, &none, &none, 5)?);
-    let one = Term::List(terms(alloc, &[6])?);
-    assert!(rt; gives(alloc, 5, &lists(alloc, &[&[2, 1]])?, &one, 6)?);
+    let rows: [(&[&[Integer]], &[Integer], Integer); 4] = [
+        (&[&[2, 1], &[2, 10]], &[6, 16], 16),
+        (&[&[2, 10], &[2, 1, 15, 0]], &[15, 0], 0),
+        (&[&[2, 1]], &[6], 6),
+        (&[], &[], 5),
+    ];
+    for (ops, answers, after) in rows {
+        let answer = Term::List(numbers(alloc, answers)?);
+        assert!(rt; gives(alloc, 5, &listed(alloc, ops)?, &answer, after)?);
+    }
     Ok(())
 }
 
 #[test]
-fn exact_sums(rt: HostRuntime) -> Result<(), Fail> {
+fn sums_past_the_integers(rt: HostRuntime) -> Result<(), Fail> {
     let alloc = rt.alloc();
-    let most = Integer::MAX;
-    assert!(rt; refuses_with_limit(alloc, most, &Term::Int(1))?);
-    assert!(rt;
-        gives(
-            alloc,
-            most,
-            &numbers(alloc, &[2, 1, most, 0])?,
-            &Term::Int(0),
-            0
-        )?
-    );
-    assert!(rt;
-        gives(
-            alloc,
-            most,
-            &numbers(alloc, &[2, 0, most, 0])?,
-            &Term::Int(most),
-            most
-        )?
-    );
-    assert!(rt;
-        gives(
-            alloc,
-            Integer::MIN,
-            &numbers(alloc, &[2, -1, 0, 5])?,
-            &Term::Int(5),
-            5
-        )?
-    );
-    assert!(rt; refuses_with_limit(alloc, Integer::MIN, &Term::Int(-1))?);
-    assert!(rt; refuses_with_limit(alloc, most, &lists(alloc, &[&[2, 1], &[2, -1]])?)?);
-    assert!(rt; refuses_with_limit(alloc, most, &lists(alloc, &[&[2, -3], &[2, 2], &[2, 2]])?)?);
+    for (before, increment) in [(MOST, 1), (LEAST, -1), (2, MOST)] {
+        let fault = refusal(alloc, before, &Term::Int(increment))?;
+        assert!(rt; matches!(fault, Some(CounterFault::SystemLimit)));
+    }
+    let rows: [&[&[Integer]]; 3] = [
+        &[&[2, 1]],
+        &[&[2, 1], &[2, -1]],
+        &[&[2, -3], &[2, 2], &[2, 2]],
+    ];
+    for ops in rows {
+        let fault = refusal(alloc, MOST, &listed(alloc, ops)?)?;
+        assert!(rt; matches!(fault, Some(CounterFault::SystemLimit)));
+    }
     Ok(())
 }
 
 #[test]
-fn badarg_goes_before_the_limit(rt: HostRuntime) -> Result<(), Fail> {
+fn elements_that_are_no_counters(rt: HostRuntime) -> Result<(), Fail> {
     let alloc = rt.alloc();
-    let most = Integer::MAX;
-    assert!(rt; refuses_with_badarg(alloc, most, &lists(alloc, &[&[2, 1], &[9, 1]])?)?);
-    assert!(rt; refuses_with_badarg(alloc, 5, &lists(alloc, &[&[2, 1], &[3, 1]])?)?);
-    assert!(rt; refuses_with_badarg(alloc, 5, &numbers(alloc, &[3, 1])?)?);
-    let ops = read_ops(alloc, &numbers(alloc, &[1, 1])?, 2)?;
-    assert!(rt; is_badarg(apply_ops(alloc, &counter(alloc, 5)?, &ops)));
+    let rows: [&[&[Integer]]; 3] = [&[&[2, 1], &[9, 1]], &[&[3, 1], &[2, 1]], &[&[3, 1]]];
+    for ops in rows {
+        let fault = refusal(alloc, MOST, &listed(alloc, ops)?)?;
+        assert!(rt; matches!(fault, Some(CounterFault::Badarg)));
+    }
+    let past = Term::Tuple(numbers(alloc, &[3, 1])?);
+    assert!(rt; matches!(refusal(alloc, 5, &past)?, Some(CounterFault::Badarg)));
+    Ok(())
+}
+
+#[test]
+fn objects_that_have_no_counter(rt: HostRuntime) -> Result<(), Fail> {
+    let alloc = rt.alloc();
+    let ops = read_ops(alloc, &Term::Tuple(numbers(alloc, &[1, 1])?), 2)?;
+    let mut object = counter(alloc, 5)?;
+    assert!(rt; is_badarg(update_counter(alloc, &mut object, &ops)));
     assert!(rt; is_badarg(apply_ops(alloc, &Term::Int(5), &ops)));
     Ok(())
 }
 
 #[test]
-fn bad_forms(rt: HostRuntime) -> Result<(), Fail> {
+fn wrong_operations(rt: HostRuntime) -> Result<(), Fail> {
     let alloc = rt.alloc();
-    assert!(rt; is_badarg(read_ops(alloc, &lists(alloc, &[&[2, 1], &[1, 1]])?, 1)));
-    assert!(rt; is_badarg(read_ops(alloc, &Term::List(terms(alloc, &[1])?), 1)));
-    assert!(rt; is_badarg(read_ops(alloc, &atom(alloc, "a")?, 1)));
-    let wrong: [&[Integer]; 7] = [
-        &[0, 1],
-        &[-1, 1],
-        &[1, 1],
-        &[2],
-        &[2, 1, 1],
-        &[2, 1, 1, 1, 1],
+    let rows: [&[Part]; 8] = [
+        &[Part::Int(0), Part::Int(1)],
+        &[Part::Int(-1), Part::Int(1)],
+        &[Part::Int(1), Part::Int(1)],
+        &[Part::Int(2)],
+        &[Part::Int(2), Part::Int(1), Part::Int(1)],
+        &[Part::Int(2), Part::Atom("a")],
+        &[Part::Atom("a"), Part::Int(1)],
         &[],
     ];
-    for bad in wrong {
-        assert!(rt; is_badarg(read_ops(alloc, &numbers(alloc, bad)?, 1)));
+    for wrong in rows {
+        assert!(rt; is_badarg(read_ops(alloc, &tuple(alloc, wrong)?, 1)));
+        let good = [Part::Int(2), Part::Int(1)];
+        assert!(rt; is_badarg(read_ops(alloc, &list(alloc, &[&good, wrong])?, 1)));
     }
-    let word = pair(alloc, Term::Int(2), atom(alloc, "a")?)?;
+    Ok(())
+}
+
+#[test]
+fn wrong_updates(rt: HostRuntime) -> Result<(), Fail> {
+    let alloc = rt.alloc();
+    let integers = Term::List(numbers(alloc, &[1])?);
+    assert!(rt; is_badarg(read_ops(alloc, &integers, 1)));
+    let word = term(alloc, Part::Atom("a"))?;
     assert!(rt; is_badarg(read_ops(alloc, &word, 1)));
     Ok(())
+}
+
+/// The list of so many operations `{2,1}`.
+fn ones(alloc: Global, count: usize) -> Result<Term, Fail> {
+    let mut items = Items::new(alloc);
+    for _ in 0..count {
+        items.push(Term::Tuple(numbers(alloc, &[2, 1])?))?;
+    }
+    Ok(Term::List(items))
 }
 
 #[test]
 fn five_thousand_operations(rt: HostRuntime) -> Result<(), Fail> {
     let alloc = rt.alloc();
-    let mut updates = Items::new(alloc);
-    let mut wanted = Items::new(alloc);
-    for i in 1..5001 {
-        updates.push(numbers(alloc, &[2, 1])?)?;
-        wanted.push(Term::Int(5 + i))?;
+    let mut answers = Items::new(alloc);
+    for n in 6..5006 {
+        answers.push(Term::Int(n))?;
     }
-    assert!(rt; gives(alloc, 5, &Term::List(updates), &Term::List(wanted), 5005)?);
-    Ok(())
-}
-
-#[test]
-fn five_thousand_undone(rt: HostRuntime) -> Result<(), Fail> {
-    let alloc = rt.alloc();
-    let mut updates = Items::new(alloc);
-    for _ in 0..5000 {
-        updates.push(numbers(alloc, &[2, 1])?)?;
-    }
-    assert!(rt; refuses_with_limit(alloc, Integer::MAX - 4999, &Term::List(updates))?);
+    let update = ones(alloc, 5000)?;
+    assert!(rt; gives(alloc, 5, &update, &Term::List(answers), 5005)?);
+    let fault = refusal(alloc, MOST - 4999, &update)?;
+    assert!(rt; matches!(fault, Some(CounterFault::SystemLimit)));
     Ok(())
 }

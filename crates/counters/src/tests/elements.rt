@@ -1,99 +1,138 @@
 use super::*;
 
-/// `{k,1,2}`.
-fn object(alloc: Global) -> Result<Term, AllocError> {
-    let mut items = Items::new(alloc);
-    items.push(atom(alloc, "k")?)?;
-    items.push(Term::Int(1))?;
-    items.push(Term::Int(2))?;
-    Ok(Term::Tuple(items))
+/// `{k,second,2}`.
+fn object(alloc: Global, second: Part) -> Result<Term, Fail> {
+    tuple(alloc, &[Part::Atom("k"), second, Part::Int(2)])
 }
 
-fn with_second(alloc: Global, value: Term) -> Result<Term, AllocError> {
+/// `{position,value}`.
+fn written(alloc: Global, position: Integer, value: Term) -> Result<Term, Fail> {
     let mut items = Items::new(alloc);
-    items.push(atom(alloc, "k")?)?;
+    items.push(Term::Int(position))?;
     items.push(value)?;
-    items.push(Term::Int(2))?;
     Ok(Term::Tuple(items))
 }
 
-fn list_of_two(alloc: Global, first: Term, second: Term) -> Result<Term, AllocError> {
-    let mut items = Items::new(alloc);
-    items.push(first)?;
-    items.push(second)?;
-    Ok(Term::List(items))
+/// Whether the update of `{k,1,2}` makes this, in place and on a copy.
+fn makes(alloc: Global, update: &Term, wanted: &Term) -> Result<bool, Fail> {
+    let mut changed = object(alloc, Part::Int(1))?;
+    let copy = apply_elements(alloc, &changed, read_element_specs(alloc, update, 1)?)?;
+    update_elements(&mut changed, read_element_specs(alloc, update, 1)?)?;
+    Ok(copy == *wanted && changed == *wanted)
+}
+
+/// Why the update of `{k,1,2}` is refused; None where it is done or the object has changed.
+fn refusal(alloc: Global, update: &Term) -> Result<Option<CounterFault>, Fail> {
+    let specs = read_element_specs(alloc, update, 1)?;
+    let mut changed = object(alloc, Part::Int(1))?;
+    let Err(fault) = update_elements(&mut changed, specs) else {
+        return Ok(None);
+    };
+    if changed != object(alloc, Part::Int(1))? {
+        return Ok(None);
+    }
+    Ok(Some(fault))
 }
 
 #[test]
 fn last_value_stays(rt: HostRuntime) -> Result<(), Fail> {
     let alloc = rt.alloc();
-    let first = pair(alloc, Term::Int(2), atom(alloc, "x")?)?;
-    let second = pair(alloc, Term::Int(2), atom(alloc, "y")?)?;
-    let both = list_of_two(alloc, first, second)?;
-    let wanted = with_second(alloc, atom(alloc, "y")?)?;
-    let made = apply_elements(alloc, &object(alloc)?, read_element_specs(alloc, &both, 1)?)?;
-    assert!(rt; made == wanted);
-    let mut changed = object(alloc)?;
-    update_elements(&mut changed, read_element_specs(alloc, &both, 1)?)?;
-    assert!(rt; changed == wanted);
-    let one = pair(alloc, Term::Int(2), atom(alloc, "y")?)?;
-    let made = apply_elements(alloc, &object(alloc)?, read_element_specs(alloc, &one, 1)?)?;
-    assert!(rt; made == wanted);
-    let none = Term::List(Items::new(alloc));
-    let made = apply_elements(alloc, &object(alloc)?, read_element_specs(alloc, &none, 1)?)?;
-    assert!(rt; made == object(alloc)?);
+    let wanted = object(alloc, Part::Atom("y"))?;
+    let x = [Part::Int(2), Part::Atom("x")];
+    let y = [Part::Int(2), Part::Atom("y")];
+    assert!(rt; makes(alloc, &tuple(alloc, &y)?, &wanted)?);
+    let rows: [&[&[Part]]; 3] = [&[&y], &[&x, &y], &[&y, &x, &y]];
+    for update in rows {
+        assert!(rt; makes(alloc, &list(alloc, update)?, &wanted)?);
+    }
     Ok(())
 }
 
 #[test]
-fn bad_elements(rt: HostRuntime) -> Result<(), Fail> {
+fn no_value(rt: HostRuntime) -> Result<(), Fail> {
     let alloc = rt.alloc();
-    for position in [0, 1, -2] {
-        let bad = pair(alloc, Term::Int(position), atom(alloc, "x")?)?;
-        assert!(rt; is_badarg(read_element_specs(alloc, &bad, 1)));
-        let also = list_of_two(alloc, pair(alloc, Term::Int(2), Term::Int(3))?, bad)?;
-        assert!(rt; is_badarg(read_element_specs(alloc, &also, 1)));
+    let none = Term::List(Items::new(alloc));
+    assert!(rt; makes(alloc, &none, &object(alloc, Part::Int(1))?)?);
+    Ok(())
+}
+
+#[test]
+fn wrong_values(rt: HostRuntime) -> Result<(), Fail> {
+    let alloc = rt.alloc();
+    let rows: [&[Part]; 7] = [
+        &[Part::Int(0), Part::Atom("x")],
+        &[Part::Int(1), Part::Atom("x")],
+        &[Part::Int(-2), Part::Atom("x")],
+        &[Part::Atom("x"), Part::Int(2)],
+        &[Part::Int(2)],
+        &[Part::Int(2), Part::Int(3), Part::Int(4)],
+        &[],
+    ];
+    for wrong in rows {
+        assert!(rt; is_badarg(read_element_specs(alloc, &tuple(alloc, wrong)?, 1)));
+        let good = [Part::Int(2), Part::Int(3)];
+        assert!(rt; is_badarg(read_element_specs(alloc, &list(alloc, &[&good, wrong])?, 1)));
     }
     assert!(rt; is_badarg(read_element_specs(alloc, &Term::Int(2), 1)));
-    assert!(rt; is_badarg(read_element_specs(alloc, &numbers(alloc, &[2, 3, 4])?, 1)));
-    assert!(rt;
-        is_badarg(read_element_specs(alloc, &pair(alloc, atom(alloc, "x")?, Term::Int(2))?, 1))
-    );
     Ok(())
 }
 
 #[test]
 fn past_the_tuple(rt: HostRuntime) -> Result<(), Fail> {
     let alloc = rt.alloc();
-    let past = pair(alloc, Term::Int(4), atom(alloc, "x")?)?;
-    let mut changed = object(alloc)?;
-    assert!(rt; is_badarg(update_elements(&mut changed, read_element_specs(alloc, &past, 1)?)));
-    let good = pair(alloc, Term::Int(2), atom(alloc, "x")?)?;
-    let both = list_of_two(alloc, good, past)?;
-    assert!(rt; is_badarg(update_elements(&mut changed, read_element_specs(alloc, &both, 1)?)));
-    assert!(rt; changed == object(alloc)?);
-    let specs = read_element_specs(alloc, &both, 1)?;
-    assert!(rt; is_badarg(apply_elements(alloc, &atom(alloc, "k")?, specs)));
+    let good = [Part::Int(2), Part::Atom("x")];
+    let past = [Part::Int(4), Part::Atom("x")];
+    let rows: [&[&[Part]]; 3] = [&[&past], &[&good, &past], &[&past, &good]];
+    for update in rows {
+        let fault = refusal(alloc, &list(alloc, update)?)?;
+        assert!(rt; matches!(fault, Some(CounterFault::Badarg)));
+    }
+    let fault = refusal(alloc, &tuple(alloc, &past)?)?;
+    assert!(rt; matches!(fault, Some(CounterFault::Badarg)));
     Ok(())
 }
 
 #[test]
-fn too_deep(rt: HostRuntime) -> Result<(), Fail> {
+fn no_tuple(rt: HostRuntime) -> Result<(), Fail> {
     let alloc = rt.alloc();
-    let deep = pair(alloc, Term::Int(2), nested(alloc, MAX_DEPTH)?)?;
-    let mut changed = object(alloc)?;
-    assert!(rt; is_limit(update_elements(&mut changed, read_element_specs(alloc, &deep, 1)?)));
-    assert!(rt; changed == object(alloc)?);
-    let flat = pair(alloc, Term::Int(2), Term::Int(7))?;
-    let overwritten = list_of_two(alloc, deep.try_clone(alloc)?, flat.try_clone(alloc)?)?;
-    update_elements(&mut changed, read_element_specs(alloc, &overwritten, 1)?)?;
-    assert!(rt; changed == with_second(alloc, Term::Int(7))?);
-    let stays = list_of_two(alloc, flat, deep)?;
-    assert!(rt; is_limit(update_elements(&mut changed, read_element_specs(alloc, &stays, 1)?)));
-    assert!(rt; changed == with_second(alloc, Term::Int(7))?);
-    let less = pair(alloc, Term::Int(2), nested(alloc, MAX_DEPTH - 1)?)?;
-    update_elements(&mut changed, read_element_specs(alloc, &less, 1)?)?;
-    assert!(rt; changed == with_second(alloc, nested(alloc, MAX_DEPTH - 1)?)?);
+    let none = Term::List(Items::new(alloc));
+    let specs = read_element_specs(alloc, &none, 1)?;
+    assert!(rt; is_badarg(apply_elements(alloc, &Term::Int(1), specs)));
+    Ok(())
+}
+
+/// The list of these values for the second element, in turn, each of so many levels.
+fn of_depths(alloc: Global, depths: &[usize]) -> Result<Term, Fail> {
+    let mut items = Items::new(alloc);
+    for levels in depths {
+        items.push(written(alloc, 2, nested(alloc, *levels)?)?)?;
+    }
+    Ok(Term::List(items))
+}
+
+#[test]
+fn values_too_deep(rt: HostRuntime) -> Result<(), Fail> {
+    let alloc = rt.alloc();
+    let rows: [&[usize]; 3] = [&[MAX_DEPTH], &[1, MAX_DEPTH], &[MAX_DEPTH + 1]];
+    for depths in rows {
+        let fault = refusal(alloc, &of_depths(alloc, depths)?)?;
+        assert!(rt; matches!(fault, Some(CounterFault::SystemLimit)));
+    }
+    let alone = written(alloc, 2, nested(alloc, MAX_DEPTH)?)?;
+    assert!(rt; matches!(refusal(alloc, &alone)?, Some(CounterFault::SystemLimit)));
+    Ok(())
+}
+
+#[test]
+fn values_just_deep_enough(rt: HostRuntime) -> Result<(), Fail> {
+    let alloc = rt.alloc();
+    let rows: [&[usize]; 2] = [&[MAX_DEPTH - 1], &[MAX_DEPTH, MAX_DEPTH - 1]];
+    for depths in rows {
+        let specs = read_element_specs(alloc, &of_depths(alloc, depths)?, 1)?;
+        let mut changed = object(alloc, Part::Int(1))?;
+        update_elements(&mut changed, specs)?;
+        assert!(rt; changed.depth() == MAX_DEPTH);
+    }
     Ok(())
 }
 
@@ -101,12 +140,10 @@ fn too_deep(rt: HostRuntime) -> Result<(), Fail> {
 fn five_thousand_values(rt: HostRuntime) -> Result<(), Fail> {
     let alloc = rt.alloc();
     let mut updates = Items::new(alloc);
-    for i in 0..5000 {
-        updates.push(numbers(alloc, &[2, i])?)?;
+    for n in 0..5000 {
+        updates.push(written(alloc, 2, Term::Int(n))?)?;
     }
-    let specs = read_element_specs(alloc, &Term::List(updates), 1)?;
-    let mut changed = object(alloc)?;
-    update_elements(&mut changed, specs)?;
-    assert!(rt; changed == with_second(alloc, Term::Int(4999))?);
+    let wanted = object(alloc, Part::Int(4999))?;
+    assert!(rt; makes(alloc, &Term::List(updates), &wanted)?);
     Ok(())
 }
