@@ -1,6 +1,7 @@
 use super::*;
 
 const MOST: Integer = Integer::MAX;
+
 const LEAST: Integer = Integer::MIN;
 
 /// The object `{c,value}`.
@@ -77,7 +78,15 @@ fn thresholds(rt: HostRuntime) -> Result<(), Fail> {
 fn integer_alone(rt: HostRuntime) -> Result<(), Fail> {
     let alloc = rt.alloc();
     for (before, increment, after) in [(5, 3, 8), (5, -7, -2), (MOST, 0, MOST)] {
-        assert!(rt; gives(alloc, before, &Term::Int(increment), &Term::Int(after), after)?);
+        assert!(rt;
+            gives(
+                alloc,
+                before,
+                &Term::Int(increment),
+                &Term::Int(after),
+                after
+            )?
+        );
     }
     let ops = read_ops(alloc, &Term::Int(4), 2)?;
     let mut object = Term::Tuple(numbers(alloc, &[1, 2, 3])?);
