@@ -1,10 +1,11 @@
-ghost use Rattle.std.specs.Prelude.{◌≡◌, [], ◌∷◌, ◌++◌, ◌<◌, ◌==◌, length, slice_get, slice_index, OnOk, OnErr, MatchOption, option_copied};
+ghost use Rattle.std.specs.Prelude.{◌≡◌, [], ◌∷◌, ◌++◌, ◌<◌, ◌==◌, length, slice_get, slice_set, slice_index, Some, OnOk, OnErr, MatchOption, option_copied};
 ghost use Rattle.std.specs.Prelude.{◌^◌};
 ghost use Rattle.std.specs.Iterator.Runs.{EveryRun, ItemsMapTo};
 ghost use Rattle.std.specs.Slice.Iter.{iter_rest, iter_steps};
 
 use std::alloc::{AllocError, Global};
 use std::marker::Model;
+use std::mem;
 use std::ops::DerefSlice;
 use std::slice;
 
@@ -77,6 +78,15 @@ impl<T> Items<T> {
         ensures { option_copied result ≡ slice_get self.now at }
     {
         self.items.get(at)
+    }
+
+    /// Puts another item at the place, counted from 0, and hands the old one back. The others stay, and none is copied.
+    pub fn replace(&mut self, at: usize, item: T) -> T
+        requires { at < length self.old }
+        ensures new { self.new ≡ slice_set self.old at item }
+        ensures old { slice_get self.old at ≡ Some result }
+    {
+        mem::replace(&mut self.items[at], item)
     }
 
     /// Takes the last item off; None where there is none.

@@ -1,0 +1,21 @@
+-- Integers among terms, and positions in a tuple that an update may name.
+use Rattle.std.specs.Prelude.{ℕ, ◌==◌, ◌||◌, if◌then◌else◌, ℤ, pos, negsuc, Option, Some, None}
+use Rattle.std.specs.Option.{option_and_then}
+use Rattle.ets_term.specs.declared.term.Term.{Term, out-Term}
+use Rattle.ets_term.specs.declared.term.Term.TheOpen.{Term-F}
+
+abbrev pub integer_form : Term-F Term → Option ℤ
+integer_form (Term-F.Int n) = Some n
+integer_form _ = None
+
+-- the integer that a term is
+abbrev pub integer_of : Term → Option ℤ
+integer_of term = integer_form (out-Term term)
+
+-- positions count from 1, and the key's is none
+abbrev pub position_at : ℕ → ℤ → Option ℕ
+position_at keypos (pos n) = if n == 0 || n == keypos then None else Some n
+position_at keypos (negsuc n) = None
+
+abbrev pub position_of : ℕ → Term → Option ℕ
+position_of keypos term = option_and_then (position_at keypos) (integer_of term)
