@@ -8,7 +8,7 @@ use Rattle.std.proofs.Math.Seq.{get_or-append_seam}
 use Rattle.std.proofs.lemmas.List.Quantifiers.{position-Some}
 use Rattle.std.proofs.lemmas.Slice.Eq.{bytes_eq-Decides}
 use Rattle.node_core.specs.Table.{Table, Tables, table_at, is_named, whereis}
-use Rattle.node_core.specs.Indices.{ByName, ByOwner}
+use Rattle.node_core.specs.inside.Indices.{ByName, ByOwner}
 use Rattle.node_core.proofs.PlainLaws.{position-None}
 
 -- one place has changed

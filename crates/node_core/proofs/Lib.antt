@@ -3,4 +3,3 @@ pub mod IndexLaws
 pub mod OwnerLaws
 pub mod Entering
 pub mod RunLaws
-pub mod CallLaws

@@ -13,7 +13,7 @@ use Rattle.std.proofs.lemmas.Option.{same_Some}
 use Rattle.std.specs.Str.{bytes_eq}
 use Rattle.node_core.specs.Table.{Table, Tables, table_at, is_named}
 use Rattle.node_core.specs.Machine.{table_after_end}
-use Rattle.node_core.specs.Indices.{ByOwner, AreAmong, AreIndexed}
+use Rattle.node_core.specs.inside.Indices.{ByOwner, AreAmong, AreIndexed}
 use Rattle.node_core.proofs.IndexLaws.{ChangesAt, pushed, none_past, names_kept, owners_kept, named_more}
 
 same_number : (m n : ℕ) → nat_eq m n ≡ true → m ≡ n

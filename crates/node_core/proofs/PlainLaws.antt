@@ -14,10 +14,10 @@ use Rattle.ets_term.specs.declared.term.Term.{Term}
 use Rattle.ets_term.specs.Depth.{element_at}
 use Rattle.ets_term.specs.Order.{same}
 use Rattle.ets_term.specs.laws.Same.{same-exact}
-use Rattle.node_core.specs.Atoms.{is_atom}
+use Rattle.ets_term.specs.Atoms.{is_atom}
 use Rattle.node_core.specs.Slots.{Slot, Enters, Put, key_of, object_count, add}
 use Rattle.node_core.specs.Slots as kinds
-use Rattle.node_core.specs.Plain.{key_in, slot_of, slots_of}
+use Rattle.node_core.specs.inside.PlainTable.{key_in, slot_of, slots_of}
 
 past : (a n : ℕ) (b : Bool) → nat_lt a n ≡ b → cond b (Some a) None ≡ None → n ≤ a
 past a n true e h = cc

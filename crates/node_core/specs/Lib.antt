@@ -1,10 +1,10 @@
-pub mod Atoms
 pub mod Slots
 pub mod Table
 pub mod State
 pub mod Options
+pub mod Outcomes
+pub mod Access
+pub mod rules
 pub mod Calls
 pub mod Machine
-pub mod Plain
-pub mod Indices
-pub mod Codes
+pub mod inside

@@ -7,7 +7,7 @@ use Rattle.std.specs.Prelude.{codes}
 use Rattle.ets_term.specs.declared.term.Term.{Term}
 use Rattle.ets_term.specs.Depth.{element_at}
 use Rattle.ets_term.specs.Order.{same}
-use Rattle.node_core.specs.Atoms.{is_atom}
+use Rattle.ets_term.specs.Atoms.{is_atom}
 
 -- a set keeps one object of a key, a bag many but no object twice, a duplicate bag any number
 pub data Kind : Type 0 where

@@ -57,10 +57,10 @@ abbrev pub whereis : Tables → List ℕ → Option ℕ
 whereis tables name = position (is_named name) tables
 
 -- the identifier of the table that a term names: the identifier of a table, or the name of a named one
-abbrev pub resolve_step : Tables → Term-F Term → Option ℕ
-resolve_step tables (Term-F.Tid t) = option_map (λ _. t) (table_at tables t)
-resolve_step tables (Term-F.Atom name) = whereis tables name
-resolve_step tables _ = None
+abbrev pub resolve_form : Tables → Term-F Term → Option ℕ
+resolve_form tables (Term-F.Tid t) = option_map (λ _. t) (table_at tables t)
+resolve_form tables (Term-F.Atom name) = whereis tables name
+resolve_form tables _ = None
 
 abbrev pub resolve : Tables → Term → Option ℕ
-resolve tables term = resolve_step tables (out-Term term)
+resolve tables term = resolve_form tables (out-Term term)

@@ -5,6 +5,7 @@ mod limits;
 mod node;
 mod options;
 mod process;
+mod refusal;
 mod step;
 mod table;
 mod tables;

@@ -1,17 +1,23 @@
 ghost use Rattle.std.specs.Prelude.{◌≡◌, ◌≤◌, ℕ, IfOk, IfErr, OnErr, length, take};
-ghost use Rattle.ets_term.specs.Character.{IsAtomText};
-ghost use Rattle.node_core.specs.State.{empty, lives, next_identifier};
+ghost use Rattle.node_core.specs.State.{empty, next_identifier};
 ghost use Rattle.node_core.specs.Table.{resolve};
-ghost use Rattle.node_core.specs.Machine.{step, run, growth_reply};
-ghost use Rattle.node_core.specs.declared.step.Step.TheVariants.{Enrol, End, Ask};
+ghost use Rattle.node_core.specs.Machine.{step, run};
 
-mod calls;
+mod access;
+mod ask;
+mod growth;
+mod insertion;
+mod processes;
+mod reading;
+mod replies;
+mod table_of_calls;
+mod tables;
 
 use crate::limits::Limits;
 use crate::process::Process;
-use crate::step::{Call, Reply, Step};
+use crate::step::{Reply, Step};
 use crate::tables::Tables;
-use ets_term::{Atom, Items, KeyHash, Term};
+use ets_term::{Items, KeyHash, Term};
 use indexmap::IndexMap;
 use std::alloc::{AllocError, Global};
 use std::marker::Model;
@@ -28,7 +34,7 @@ pub struct Node<H: KeyHash + Copy> {
 
 impl<H: KeyHash + Copy> Model for Node<H> {
     ghost use Rattle.node_core.specs.State.{State};
-    ghost use Rattle.node_core.specs.Codes.{state_code};
+    ghost use Rattle.node_core.specs.inside.Codes.{state_code};
 
     ghost Value = { State };
 
@@ -105,55 +111,6 @@ impl<H: KeyHash + Copy> Node<H> {
         }
         Ok(replies)
     }
-
-    fn is_alive(&self, pid: u32) -> bool
-        ensures { result ≡ lives self.now.processes pid }
-    {
-        match self.processes.get(&pid) {
-            Some(process) => process.lives(),
-            None => false,
-        }
-    }
-
-    #[tactic(auto, using(crate::proofs::Entering::entering))]
-    fn enrol(&mut self, pid: u32) -> Result<Reply, AllocError>
-        ensures ok { IfOk result (λ r. step self.old (Enrol pid) r self.new) }
-        ensures err { OnErr result (self.new ≡ self.old) }
-    {
-        if self.processes.contains_key(&pid) {
-            return Ok(Reply::Badarg);
-        }
-        if self.processes.len() >= self.limits.processes as usize {
-            return Ok(Reply::SystemLimit);
-        }
-        self.processes.insert(pid, Process::new())?;
-        Ok(Reply::Value(Term::Pid(pid)))
-    }
-
-    fn end(&mut self, pid: u32) -> Result<Reply, AllocError>
-        ensures ok { IfOk result (λ r. step self.old (End pid) r self.new) }
-        ensures err { OnErr result (self.new ≡ self.old) }
-    {
-        if !self.is_alive(pid) {
-            return Ok(Reply::NoProcess);
-        }
-        let reply = word(self.alloc, b"true")?;
-        if let Some(process) = self.processes.get_mut(&pid) {
-            process.end();
-        }
-        self.tables.remove_owned(pid);
-        Ok(reply)
-    }
-
-    /// Growing and readying: the list of objects has no buckets, so nothing is to be done.
-    fn growth(&self, id: u32) -> Result<Reply, AllocError>
-        ensures { IfOk result (λ r. r ≡ growth_reply self.now id) }
-    {
-        match self.tables.get(id) {
-            Some(_) => word(self.alloc, b"ok"),
-            None => Ok(Reply::Badarg),
-        }
-    }
 }
 
 impl RunFault {
@@ -164,12 +121,4 @@ impl RunFault {
             replies: Items::from_vec(replies),
         }
     }
-}
-
-/// The atom with these characters as a reply.
-fn word(alloc: Global, text: &[u8]) -> Result<Reply, AllocError>
-    requires { IsAtomText text.now }
-    ensures { IfOk result (λ r. r ≡ Reply.Value (Term.Atom text.now)) }
-{
-    Ok(Reply::Value(Term::Atom(Atom::of_bytes(alloc, text)?)))
 }

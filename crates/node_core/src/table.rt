@@ -1,10 +1,10 @@
 ghost use Rattle.std.specs.Prelude.{◌≡◌, [], length, None, Some, OnErr, IfOk, option_copied, unwrap_or, position, codes};
 ghost use Rattle.std.specs.FinMap as map;
 ghost use Rattle.ets_term.specs.Order.{same};
-ghost use Rattle.node_core.specs.Atoms.{is_atom};
+ghost use Rattle.ets_term.specs.Atoms.{is_atom};
 ghost use Rattle.node_core.specs.Slots.{set, key_of, objects_of};
 ghost use Rattle.node_core.specs.Table.{may_read, may_write};
-ghost use Rattle.node_core.specs.Plain.{Inserts, key_in};
+ghost use Rattle.node_core.specs.inside.PlainTable.{Inserts, key_in};
 
 use ets_term::{Atom, Items, Term};
 use std::alloc::{AllocError, Global};
@@ -38,8 +38,8 @@ impl Model for Table {
     ghost use Rattle.std.specs.FinMap as map;
     ghost use Rattle.node_core.specs.Slots.{set};
     ghost use Rattle.node_core.specs.Table.{Table};
-    ghost use Rattle.node_core.specs.Codes.{table_code};
-    ghost use Rattle.node_core.specs.Plain.{slots_of};
+    ghost use Rattle.node_core.specs.inside.Codes.{table_code};
+    ghost use Rattle.node_core.specs.inside.PlainTable.{slots_of};
 
     ghost Value = { Table };
 

@@ -1,8 +1,8 @@
 ghost use Rattle.std.specs.Prelude.{◌≡◌, ℕ, ◌==◌, ◌+◌, if◌then◌else◌, ◌++◌, ◌∷◌, ◌<◌, ◌^◌, [], Some, None, IfOk, OnOk, OnErr, IsTrue, length, map, MatchOption, slice_set, option_copied, vec_len};
 ghost use Rattle.node_core.specs.Table.{table_at, whereis, resolve, is_named};
-ghost use Rattle.node_core.specs.Plain.{Inserts};
+ghost use Rattle.node_core.specs.inside.PlainTable.{Inserts};
 ghost use Rattle.node_core.specs.Machine.{table_after_end};
-ghost use Rattle.node_core.specs.Indices.{owned_by, AreAmong, ByName};
+ghost use Rattle.node_core.specs.inside.Indices.{owned_by, AreAmong, ByName};
 ghost use Rattle.indexmap.specs.IndexMap.{get_by_text};
 ghost use Rattle.node_core.specs.Table as model;
 ghost use Rattle.node_core.specs.Slots.{key_of};
@@ -24,8 +24,8 @@ pub struct Tables {
 impl Model for Tables {
     ghost use Rattle.std.specs.Coded.{coded_list, coded_option};
     ghost use Rattle.node_core.specs.Table.{Tables};
-    ghost use Rattle.node_core.specs.Codes.{table_code};
-    ghost use Rattle.node_core.specs.Indices.{AreIndexed, owned_by};
+    ghost use Rattle.node_core.specs.inside.Codes.{table_code};
+    ghost use Rattle.node_core.specs.inside.Indices.{AreIndexed, owned_by};
     ghost use Rattle.indexmap.specs.IndexMap.{get_by_text};
     ghost use Rattle.std.specs.Prelude.{◌<◌, ◌^◌, length};
 

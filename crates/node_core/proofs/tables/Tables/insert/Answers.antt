@@ -5,8 +5,8 @@ use Rattle.std.proofs.lemmas.Option.{same_Some}
 use Rattle.std.proofs.lemmas.Result.{IfOk-weaker}
 use Rattle.std.specs.Prelude.{Contains}
 use Rattle.node_core.specs.Table.{Table, is_named, table_at}
-use Rattle.node_core.specs.Indices.{owned_by}
-use Rattle.node_core.specs.Plain.{Inserts}
+use Rattle.node_core.specs.inside.Indices.{owned_by}
+use Rattle.node_core.specs.inside.PlainTable.{Inserts}
 use Rattle.node_core.proofs.IndexLaws.{written, names_kept, owners_kept}
 use Rattle.node_core.proofs.tables.Tables.insert.Goals as goal
 

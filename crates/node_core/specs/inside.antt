@@ -1,0 +1,4 @@
+pub mod Codes
+pub mod Indices
+pub mod PlainTable
+pub mod Refusals
