@@ -3,11 +3,9 @@ use Rattle.std.specs.Prelude.{ℕ, List, [], ◌∷◌, codes}
 use Rattle.std.specs.Bool.{MatchBool}
 use Rattle.std.specs.Str.{bytes_eq}
 use Rattle.ets_term.specs.declared.term.Term.{Term}
-use Rattle.node_core.specs.declared.node.access.Access.TheVariants.{Read, Write}
 use Rattle.node_core.specs.declared.step.Reply.TheVariants.{Badarg}
-use Rattle.node_core.specs.State.{State}
-use Rattle.node_core.specs.Outcomes.{Outcome, gives}
-use Rattle.node_core.specs.Access.{on_table}
+use Rattle.node_core.specs.State.{State, Outcome, gives}
+use Rattle.node_core.specs.Access.{reads, writes}
 use Rattle.node_core.specs.rules.Insertion.{Insert}
 use Rattle.node_core.specs.rules.Reading.{Lookup}
 use Rattle.node_core.specs.rules.Tables.{New}
@@ -17,14 +15,20 @@ abbrev pub called : List ℕ → List ℕ → Outcome → Outcome → Outcome
 called name own rule otherwise reply new = MatchBool (bytes_eq name own) (rule reply new) (otherwise reply new)
 
 module _ (old : State) (p : ℕ) where
-  abbrev pub objects_of_two : List ℕ → Term → Term → Outcome → Outcome
-  objects_of_two name x y others =
+  -- calls of two arguments on tables
+  abbrev pub table_calls_of_two : List ℕ → Term → Term → Outcome
+  table_calls_of_two name x y =
       called name (codes "new") (New old p x y) (
-      called name (codes "insert") (on_table old p Write x (Insert old y)) (
-      called name (codes "lookup") (on_table old p Read x (Lookup old y)) (
-      others)))
+      gives Badarg old)
+
+  -- calls of two arguments on objects
+  abbrev pub object_calls_of_two : List ℕ → Term → Term → Outcome → Outcome
+  object_calls_of_two name x y others =
+      called name (codes "insert") (writes old p x (Insert old.limits.objects y)) (
+      called name (codes "lookup") (reads old p x (Lookup y)) (
+      others))
 
   -- any call; what is in no table is badarg
   abbrev pub call : List ℕ → List Term → Outcome
-  call name (x ∷ y ∷ []) = objects_of_two name x y (gives Badarg old)
+  call name (x ∷ y ∷ []) = object_calls_of_two name x y (table_calls_of_two name x y)
   call name _ = gives Badarg old

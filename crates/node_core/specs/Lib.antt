@@ -1,8 +1,6 @@
-pub mod Slots
-pub mod Table
+pub mod Content
 pub mod State
 pub mod Options
-pub mod Outcomes
 pub mod Access
 pub mod rules
 pub mod Calls

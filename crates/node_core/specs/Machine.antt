@@ -8,16 +8,14 @@ use Rattle.node_core.specs.declared.step.Step.{Step}
 use Rattle.node_core.specs.declared.step.Step.TheVariants.{Enrol, End, Ask, Grow, Ready}
 use Rattle.node_core.specs.declared.step.Reply.{Reply}
 use Rattle.node_core.specs.declared.step.Reply.TheVariants.{Value, Badarg, SystemLimit, NoProcess}
-use Rattle.node_core.specs.Table.{Table, table_at}
-use Rattle.node_core.specs.State.{State, process_at, lives}
-use Rattle.node_core.specs.Outcomes.{Outcome, gives, refuse}
+use Rattle.node_core.specs.State.{Table, table_at, State, process_at, lives, Outcome, gives, refuse}
 use Rattle.node_core.specs.rules.Insertion.{true_reply}
 use Rattle.node_core.specs.Calls.{call}
 
 -- what the end of a process leaves of a table: nothing of its own
 abbrev pub table_after_end : ℕ → Option Table → Option Table
 table_after_end p None = None
-table_after_end p (Some table) = if table.owner == p then None else Some table
+table_after_end p (Some table) = if table.head.owner == p then None else Some table
 
 -- the end of a process: it lives no more, its messages go, and so do its tables
 abbrev pub after_end : State → ℕ → State

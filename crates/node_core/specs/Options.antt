@@ -5,7 +5,7 @@ use Rattle.std.specs.Str.{bytes_eq}
 use Rattle.ets_term.specs.declared.term.Term.{Term, out-Term}
 use Rattle.ets_term.specs.declared.term.Term.TheOpen.{Term-F}
 use Rattle.node_core.specs.declared.options.Options.{Options}
-use Rattle.node_core.specs.declared.table.Protection.TheVariants.{Public, Protected}
+use Rattle.node_core.specs.declared.head.Protection.TheVariants.{Public, Protected}
 
 -- what holds where no option says otherwise
 abbrev pub usual : Options

@@ -1,6 +1,6 @@
 ghost use Rattle.std.specs.Prelude.{◌≡◌, ◌≤◌, ℕ, IfOk, IfErr, OnErr, length, take};
 ghost use Rattle.node_core.specs.State.{empty, next_identifier};
-ghost use Rattle.node_core.specs.Table.{resolve};
+ghost use Rattle.node_core.specs.Access.{resolve};
 ghost use Rattle.node_core.specs.Machine.{step, run};
 
 mod access;
@@ -63,11 +63,11 @@ impl<H: KeyHash + Copy> Node<H> {
         }
     }
 
-    /// How many tables were ever made, which is the identifier of the next.
-    pub fn made(&self) -> u32
+    /// The identifier that the next table gets, which is how many tables were ever made.
+    pub fn next_identifier(&self) -> u32
         ensures { result ≡ next_identifier self.now }
     {
-        self.tables.made()
+        self.tables.next_identifier()
     }
 
     /// The identifier of the table that a term names: a table's identifier, or the name of a named one. It takes no memory.

@@ -4,7 +4,8 @@ use Rattle.std.specs.Option.{option_map_or}
 use Rattle.std.specs.Map.{lookup}
 use Rattle.std.specs.declared.alloc.Global.{Global}
 use Rattle.std.specs.declared.vec.Vec.{Vec}
-use Rattle.node_core.specs.Table.{Table, Tables, table_at, is_named}
+use Rattle.node_core.specs.State.{Table, Tables, table_at}
+use Rattle.node_core.specs.Access.{is_named}
 
 -- the identifiers that stand under an owner
 abbrev pub owned_by : List (ℕ × Vec ℕ Global) → ℕ → List ℕ
@@ -16,11 +17,11 @@ ByName names tables = (name : List ℕ) (t : ℕ) → (names name ≡ Some t) �
 
 -- all tables of an owner are among the identifiers
 abbrev pub AreAmong : List ℕ → ℕ → Tables → Type 0
-AreAmong ids owner tables = (t : ℕ) (table : Table) → table_at tables t ≡ Some table → table.owner ≡ owner → Contains ids t
+AreAmong ids owner tables = (t : ℕ) (table : Table) → table_at tables t ≡ Some table → table.head.owner ≡ owner → Contains ids t
 
 -- an owner leads to all tables of its own, and perhaps to others
 abbrev pub ByOwner : (ℕ → List ℕ) → Tables → Type 0
-ByOwner owned tables = (t : ℕ) (table : Table) → table_at tables t ≡ Some table → Contains (owned table.owner) t
+ByOwner owned tables = (t : ℕ) (table : Table) → table_at tables t ≡ Some table → Contains (owned table.head.owner) t
 
 pub record AreIndexed (names : List ℕ → Option ℕ) (owned : ℕ → List ℕ) (tables : Tables) : Type 0 where
   pub by_name : ByName names tables

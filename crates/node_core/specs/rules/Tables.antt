@@ -6,15 +6,17 @@ use Rattle.ets_term.specs.declared.term.Term.TheVariants.{Atom, Tid}
 use Rattle.ets_term.specs.Atoms.{text_of}
 use Rattle.node_core.specs.declared.step.Reply.TheVariants.{Value, Badarg, SystemLimit}
 use Rattle.node_core.specs.declared.options.Options.{Options}
-use Rattle.node_core.specs.Slots.{set}
-use Rattle.node_core.specs.Table.{Table, whereis}
-use Rattle.node_core.specs.State.{State, next_identifier}
+use Rattle.node_core.specs.declared.kind.Kind.TheVariants.{Set}
+use Rattle.node_core.specs.State.{Table, State, next_identifier, Outcome, gives, refuse}
+use Rattle.node_core.specs.Access.{whereis}
 use Rattle.node_core.specs.Options.{options_of}
-use Rattle.node_core.specs.Outcomes.{Outcome, gives, refuse}
 
 -- a table of these options, without objects
 abbrev pub new_table_of : ℕ → List ℕ → Options → Table
-new_table_of p name options = record { name = name; named = options.named; owner = p; heir = None; protection = options.protection; kind = set; keypos = 1; slots = []; fixes = map.empty }
+new_table_of p name options = record {
+  head = record { name = name; named = options.named; owner = p; heir = None; protection = options.protection };
+  fixed = record { content = record { kind = Set; keypos = 1; slots = [] }; fixes = map.empty };
+}
 
 -- a new table of this name with these options: its name if it is a named table, else its identifier
 abbrev pub new_table : State → ℕ → List ℕ → Options → Outcome

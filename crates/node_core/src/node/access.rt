@@ -1,9 +1,13 @@
 // The table that a call is about.
 ghost use Rattle.std.specs.Prelude.{◌≡◌, option_copied, option_map};
+ghost use Rattle.std.specs.Option.{option_copied_mut};
+ghost use Rattle.std.specs.Borrow.{sem};
+ghost use Rattle.node_core.specs.declared.node.access.Access.TheVariants.{Read};
 ghost use Rattle.node_core.specs.Access.{may, usable};
 
 use super::Node;
-use crate::table::Table;
+use crate::head::Head;
+use crate::plain_table::PlainTable;
 use ets_term::{KeyHash, Term};
 
 /// What a call is to do with a table.
@@ -14,25 +18,39 @@ pub enum Access {
 }
 
 impl<H: KeyHash + Copy> Node<H> {
-    /// The table that a term names, where the process may use it so.
-    pub fn usable(&self, access: Access, pid: u32, term: &Term) -> Option<&Table>
-        ensures { option_copied result ≡ option_map (λ found. found.1) (usable access self.now.tables pid term.now) }
+    ghost use Rattle.node_core.specs.inside.Lending.{LendsUsable};
+
+    /// The table that a term names, where the process may read it.
+    pub fn readable(&self, pid: u32, term: &Term) -> Option<&PlainTable>
+        ensures { option_copied result ≡ option_map (λ found. found.1.fixed.content) (usable Read self.now.tables pid term.now) }
     {
         let id = self.tables.resolve(term)?;
         let table = self.tables.get(id)?;
-        if may(access, table, pid) {
-            Some(table)
-        } else {
-            None
+        if !may(Access::Read, table.head(), pid) {
+            return None;
         }
+        Some(table.content())
+    }
+
+    /// The table that a term names, where the process may use it so, for a change of it alone.
+    pub fn usable_mut(&mut self, access: Access, pid: u32, term: &Term) -> Option<&mut PlainTable>
+        ensures* lends { sem 𝓛 (LendsUsable H.row H.KeyHash self.entry access pid term.now result) }
+        ensures value { option_copied_mut result ≡ option_map (λ found. found.1.fixed.content) (usable access self.old.tables pid term.now) }
+    {
+        let id = self.tables.resolve(term)?;
+        let table = self.tables.get(id)?;
+        if !may(access, table.head(), pid) {
+            return None;
+        }
+        self.tables.content_mut(id)
     }
 }
 
-pub fn may(access: Access, table: &Table, pid: u32) -> bool
-    ensures { result ≡ may access table.now pid }
+fn may(access: Access, head: &Head, pid: u32) -> bool
+    ensures { result ≡ may access head.now pid }
 {
     match access {
-        Access::Read => table.may_read(pid),
-        Access::Write => table.may_write(pid),
+        Access::Read => head.may_read(pid),
+        Access::Write => head.may_write(pid),
     }
 }

@@ -21,7 +21,7 @@ impl<H: KeyHash + Copy> Node<H> {
         }
     }
 
-    #[tactic(auto, using(crate::proofs::Entering::entering))]
+    #[tactic(auto, using(crate::proofs::Enrolments::enrolling))]
     pub fn enrol(&mut self, pid: u32) -> Result<Reply, AllocError>
         ensures ok { IfOk result (λ r. step self.old (Enrol pid) r self.new) }
         ensures err { OnErr result (self.new ≡ self.old) }

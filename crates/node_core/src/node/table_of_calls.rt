@@ -1,8 +1,5 @@
 // The table of calls: a name and its method, at most eight names a function, by number of arguments.
-ghost use Rattle.std.specs.Prelude.{◌≡◌};
-ghost use Rattle.node_core.specs.Calls.{call, objects_of_two};
-ghost use Rattle.node_core.specs.Outcomes.{gives};
-ghost use Rattle.node_core.specs.declared.step.Reply.TheVariants.{Badarg};
+ghost use Rattle.node_core.specs.Calls.{call, object_calls_of_two, table_calls_of_two};
 ghost use Rattle.node_core.specs.inside.Refusals.{Comes};
 
 use super::Node;
@@ -15,20 +12,40 @@ impl<H: KeyHash + Copy> Node<H> {
         ensures { Comes (call self.old pid name.now args.now) self.old result self.new }
     {
         match args {
-            [x, y] => self.objects_of_two(pid, name, x, y),
+            [x, y] => self.object_calls_of_two(pid, name, x, y),
             _ => Err(Refusal::Badarg),
         }
     }
 
-    fn objects_of_two(&mut self, pid: u32, name: &str, x: &Term, y: &Term) -> Result<Reply, Refusal>
-        ensures { Comes (objects_of_two self.old pid name.now x.now y.now (gives Badarg self.old)) self.old result self.new }
+    fn object_calls_of_two(
+        &mut self,
+        pid: u32,
+        name: &str,
+        x: &Term,
+        y: &Term,
+    ) -> Result<Reply, Refusal>
+        ensures { Comes (object_calls_of_two self.old pid name.now x.now y.now (table_calls_of_two self.old pid name.now x.now y.now)) self.old result self.new }
     {
-        if name == "new" {
-            self.new_call(pid, x, y)
-        } else if name == "insert" {
+        if name == "insert" {
             self.insert(pid, x, y)
         } else if name == "lookup" {
             self.lookup(pid, x, y)
+        } else {
+            self.table_calls_of_two(pid, name, x, y)
+        }
+    }
+
+    fn table_calls_of_two(
+        &mut self,
+        pid: u32,
+        name: &str,
+        x: &Term,
+        y: &Term,
+    ) -> Result<Reply, Refusal>
+        ensures { Comes (table_calls_of_two self.old pid name.now x.now y.now) self.old result self.new }
+    {
+        if name == "new" {
+            self.new_call(pid, x, y)
         } else {
             Err(Refusal::Badarg)
         }

@@ -2,12 +2,14 @@
 ghost use Rattle.std.specs.Prelude.{◌≡◌, ◌&&◌, if◌then◌else◌, is_some, IfOk};
 ghost use Rattle.ets_term.specs.declared.term.Term.TheVariants as term;
 ghost use Rattle.node_core.specs.declared.step.Reply.TheVariants.{Value};
-ghost use Rattle.node_core.specs.Table.{whereis};
+ghost use Rattle.node_core.specs.Access.{whereis};
 ghost use Rattle.node_core.specs.rules.Tables.{New, new_table};
 ghost use Rattle.node_core.specs.inside.Refusals.{Comes};
 
 use super::Node;
+use crate::head::Head;
 use crate::options::Options;
+use crate::plain_table::PlainTable;
 use crate::refusal::Refusal;
 use crate::step::Reply;
 use crate::table::Table;
@@ -28,27 +30,28 @@ impl<H: KeyHash + Copy> Node<H> {
     fn new_table(&mut self, pid: u32, name: &Atom, options: Options) -> Result<Reply, Refusal>
         ensures { Comes (new_table self.old pid name.now options) self.old result self.new }
     {
-        if self.is_taken(options, name.text()) {
+        if self.name_is_taken(options, name.text()) {
             return Err(Refusal::Badarg);
         }
-        let id = self.tables.made();
+        let id = self.tables.next_identifier();
         if id >= self.limits.tables {
             return Err(Refusal::SystemLimit);
         }
         let reply = name_or_identifier(self.alloc, options, name, id)?;
-        let table = Table::new(
-            self.alloc,
-            name.try_clone(self.alloc)?,
-            options.named,
-            pid,
-            options.protection,
-        );
+        let head = Head {
+            name: name.try_clone(self.alloc)?,
+            named: options.named,
+            owner: pid,
+            heir: None,
+            protection: options.protection,
+        };
+        let table = Table::new(head, PlainTable::new(self.alloc));
         self.tables.add(self.alloc, table)?;
         Ok(reply)
     }
 
     /// Whether the table is to be a named one, and another has its name.
-    fn is_taken(&self, options: Options, name: &str) -> bool
+    fn name_is_taken(&self, options: Options, name: &str) -> bool
         ensures { result ≡ (options.named && is_some (whereis self.now.tables name.now)) }
     {
         options.named && self.tables.whereis(name).is_some()

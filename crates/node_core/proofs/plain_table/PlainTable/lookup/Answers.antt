@@ -2,8 +2,8 @@ use Rattle.std.proofs.Common.{◌≡◌, ◌∷◌, [], Some, sym, ap, ◌∙◌
 use Rattle.std.proofs.lemmas.Grind.{common_steps}
 use Rattle.std.specs.Map.{lookup}
 use Rattle.ets_term.specs.Order.{same}
-use Rattle.node_core.proofs.PlainLaws.{lookup-found, lookup-absent, has_key}
-use Rattle.node_core.proofs.table.Table.lookup.Goals as goal
+use Rattle.node_core.proofs.PlainTables.{lookup-found, lookup-absent, has_key}
+use Rattle.node_core.proofs.plain_table.PlainTable.lookup.Goals as goal
 
 pub returns-in_ok-push-in-Some : goal.returns-in_ok-push-in-Some
 returns-in_ok-push-in-Some c =

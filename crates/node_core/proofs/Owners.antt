@@ -11,10 +11,11 @@ use Rattle.std.proofs.lemmas.List.{drop_all, get_or-set_same, get_or-set_other}
 use Rattle.std.proofs.lemmas.List.Elements.{Contains-append_left, Contains-push}
 use Rattle.std.proofs.lemmas.Option.{same_Some}
 use Rattle.std.specs.Str.{bytes_eq}
-use Rattle.node_core.specs.Table.{Table, Tables, table_at, is_named}
+use Rattle.node_core.specs.State.{Table, Tables, table_at}
+use Rattle.node_core.specs.Access.{is_named}
 use Rattle.node_core.specs.Machine.{table_after_end}
 use Rattle.node_core.specs.inside.Indices.{ByOwner, AreAmong, AreIndexed}
-use Rattle.node_core.proofs.IndexLaws.{ChangesAt, pushed, none_past, names_kept, owners_kept, named_more}
+use Rattle.node_core.proofs.Indices.{ChangesAt, pushed, none_past, names_kept, owners_kept, named_more}
 
 same_number : (m n : ℕ) → nat_eq m n ≡ true → m ≡ n
 same_number m n h = grind (arith, nat_tests)
@@ -60,13 +61,13 @@ first_or_rest x xs t h = by h.0 h.1 h.2
     by (suc k) within at = inr (k, omega arith, at)
 
 module _ (owner : ℕ) where
-  gone : (b : Bool) (table : Table) → nat_eq table.owner owner ≡ b → table_after_end owner (table_after_end owner (Some table)) ≡ table_after_end owner (Some table)
+  gone : (b : Bool) (table : Table) → nat_eq table.head.owner owner ≡ b → table_after_end owner (table_after_end owner (Some table)) ≡ table_after_end owner (Some table)
   gone true table e = rw e
   gone false table e = rw (e, e)
 
   twice : (o : Option Table) → table_after_end owner (table_after_end owner o) ≡ table_after_end owner o
   twice None = refl
-  twice (Some table) = gone (nat_eq table.owner owner) table refl
+  twice (Some table) = gone (nat_eq table.head.owner owner) table refl
 
   -- to take a table out first changes nothing of what is left
   pub map_after_set : (tables : Tables) (place : ℕ) → map (table_after_end owner) (set tables place (table_after_end owner (table_at tables place))) ≡ map (table_after_end owner) tables
@@ -74,27 +75,27 @@ module _ (owner : ℕ) where
   map_after_set (o ∷ tables) zero = ap (λ x. x ∷ map (table_after_end owner) tables) (twice o)
   map_after_set (o ∷ tables) (suc place) = ap (λ rest. table_after_end owner o ∷ rest) (map_after_set tables place)
 
-  other : (b : Bool) (table rest : Table) → nat_eq table.owner owner ≡ b → cond b None (Some table) ≡ Some rest → (Some table ≡ Some rest) × (table.owner ≡ owner → ⊥)
+  other : (b : Bool) (table rest : Table) → nat_eq table.head.owner owner ≡ b → cond b None (Some table) ≡ Some rest → (Some table ≡ Some rest) × (table.head.owner ≡ owner → ⊥)
   other true table rest e h = cc
-  other false table rest e h = (h, λ same. let is : nat_eq table.owner owner ≡ true = rw same (own_number owner) in cc)
+  other false table rest e h = (h, λ same. let is : nat_eq table.head.owner owner ≡ true = rw same (own_number owner) in cc)
 
   -- a table that is left was there before, and is another's
-  pub left_over : (o : Option Table) (table : Table) → table_after_end owner o ≡ Some table → (o ≡ Some table) × (table.owner ≡ owner → ⊥)
+  pub left_over : (o : Option Table) (table : Table) → table_after_end owner o ≡ Some table → (o ≡ Some table) × (table.head.owner ≡ owner → ⊥)
   left_over None table h = cc
   left_over (Some own) table h =
-      let parts = other (nat_eq own.owner owner) own table refl h in
+      let parts = other (nat_eq own.head.owner owner) own table refl h in
       (parts.0, λ same. parts.1 (let e = parts.0 in cc))
 
-  kept : (b : Bool) (table : Table) → nat_eq table.owner owner ≡ b → (table.owner ≡ owner → ⊥) → cond b None (Some table) ≡ Some table
-  kept true table e differs = absurd (differs (same_number table.owner owner e))
+  kept : (b : Bool) (table : Table) → nat_eq table.head.owner owner ≡ b → (table.head.owner ≡ owner → ⊥) → cond b None (Some table) ≡ Some table
+  kept true table e differs = absurd (differs (same_number table.head.owner owner e))
   kept false table e differs = refl
 
   -- where none is the owner's, none goes
-  pub map_none : (tables : Tables) → ((t : ℕ) (table : Table) → table_at tables t ≡ Some table → table.owner ≡ owner → ⊥) → map (table_after_end owner) tables ≡ tables
+  pub map_none : (tables : Tables) → ((t : ℕ) (table : Table) → table_at tables t ≡ Some table → table.head.owner ≡ owner → ⊥) → map (table_after_end owner) tables ≡ tables
   map_none [] h = refl
   map_none (None ∷ tables) h = ap (λ rest. None ∷ rest) (map_none tables (λ t. h (suc t)))
   map_none (Some table ∷ tables) h =
-      let here = kept (nat_eq table.owner owner) table refl (h 0 table refl) in
+      let here = kept (nat_eq table.head.owner owner) table refl (h 0 table refl) in
       let rest = map_none tables (λ t. h (suc t)) in
       λ i. here i ∷ rest i
 
@@ -128,27 +129,27 @@ module _ (owned after : ℕ → List ℕ) (owner id : ℕ) (noting : (p : ℕ) �
 
   module _ (names : List ℕ → Option ℕ) (old : Tables) (indexed : AreIndexed names owned old) where
     pub indexed_noted : AreIndexed names after old
-    indexed_noted = record { by_name = indexed.by_name; by_owner = λ t table at. noted_more table.owner t (indexed.by_owner t table at) }
+    indexed_noted = record { by_name = indexed.by_name; by_owner = λ t table at. noted_more table.head.owner t (indexed.by_owner t table at) }
 
-    module _ (table : Table) (its : table.owner ≡ owner) (next : length old ≡ id) where
+    module _ (table : Table) (its : table.head.owner ≡ owner) (next : length old ≡ id) where
       owners_more : ByOwner after (old ++ Some table ∷ [])
       owners_more = owners_kept names old _ (length old) (Some table) indexed.by_name (pushed old (Some table)) owned after indexed.by_owner noted_more
-          (λ own e. subst (λ i. Contains (after own.owner) i) (sym next) (subst (λ p. Contains (after p) id) (sym its ∙ ap (λ (t : Table). t.owner) (same_Some _ _ e)) noted_here))
+          (λ own e. subst (λ i. Contains (after own.head.owner) i) (sym next) (subst (λ p. Contains (after p) id) (sym its ∙ ap (λ (t : Table). t.head.owner) (same_Some _ _ e)) noted_here))
 
       -- a table more, which is not named
-      pub indexed_more : table.named ≡ false → AreIndexed names after (old ++ Some table ∷ [])
+      pub indexed_more : table.head.named ≡ false → AreIndexed names after (old ++ Some table ∷ [])
       indexed_more e = record {
         by_name = names_kept names old _ (length old) (Some table) indexed.by_name (pushed old (Some table))
-            (λ name. ap (λ n. n && bytes_eq name table.name) e ∙ sym (ap (is_named name) (none_past old (length old) (omega arith))));
+            (λ name. ap (λ n. n && bytes_eq name table.head.name) e ∙ sym (ap (is_named name) (none_past old (length old) (omega arith))));
         by_owner = owners_more;
       }
 
       -- a table more, with its name
-      pub indexed_named : (more : List ℕ → Option ℕ) (name : List ℕ) → name ≡ table.name → table.named ≡ true → names table.name ≡ None → ((q : List ℕ) → more q ≡ cond (bytes_eq name q) (Some id) (names q))
+      pub indexed_named : (more : List ℕ → Option ℕ) (name : List ℕ) → name ≡ table.head.name → table.head.named ≡ true → names table.head.name ≡ None → ((q : List ℕ) → more q ≡ cond (bytes_eq name q) (Some id) (names q))
           → AreIndexed more after (old ++ Some table ∷ [])
       indexed_named more name its_name named free updated = record {
         by_name = named_more names more old _ table indexed.by_name (pushed old (Some table)) named free
-            (λ q. updated q ∙ ap (λ n. cond (bytes_eq n q) (Some id) (names q)) its_name ∙ ap (λ i. cond (bytes_eq table.name q) (Some i) (names q)) (sym next));
+            (λ q. updated q ∙ ap (λ n. cond (bytes_eq n q) (Some id) (names q)) its_name ∙ ap (λ i. cond (bytes_eq table.head.name q) (Some i) (names q)) (sym next));
         by_owner = owners_more;
       }
 
@@ -173,4 +174,4 @@ module _ (owner : ℕ) (owned after : ℕ → List ℕ) (old : Tables) (by_owner
   pub owners_less : ((p : ℕ) → (p ≡ owner → ⊥) → after p ≡ owned p) → ByOwner after (map (table_after_end owner) old)
   owners_less same t table at =
       let left = left_over owner (table_at old t) table (sym (get_or-map (table_after_end owner) old t None) ∙ at) in
-      subst (λ ids. Contains ids t) (sym (same table.owner left.1)) (by_owner t table left.0)
+      subst (λ ids. Contains ids t) (sym (same table.head.owner left.1)) (by_owner t table left.0)

@@ -7,6 +7,7 @@ use Rattle.std.proofs.lemmas.List.Quantifiers.{position-Some}
 use Rattle.std.proofs.lemmas.List.Recursion.{found_at, found_nowhere}
 use Rattle.std.proofs.lemmas.List.Sums.{fails_before_first}
 use Rattle.std.specs.Bool.{MatchBool}
+use Rattle.std.specs.Prelude.{Result, Ok, Err}
 use Rattle.std.specs.List.{position_or_len}
 use Rattle.std.specs.Map.{lookup, set_value}
 use Rattle.std.specs.Option.{MatchOption, option_and_then}
@@ -15,19 +16,13 @@ use Rattle.ets_term.specs.Depth.{element_at}
 use Rattle.ets_term.specs.Order.{same}
 use Rattle.ets_term.specs.laws.Same.{same-exact}
 use Rattle.ets_term.specs.Atoms.{is_atom}
-use Rattle.node_core.specs.Slots.{Slot, Enters, Put, key_of, object_count, add}
-use Rattle.node_core.specs.Slots as kinds
+use Rattle.node_core.proofs.Positions.{position-None}
+use Rattle.node_core.proofs.Refusals.{chosen, otherwise, above, at_most}
+use Rattle.node_core.specs.declared.kind.Kind.TheVariants.{Set}
+use Rattle.node_core.specs.Content.{Slot, Enters, with_objects, object_count, Content, Puts, Insert, key_of}
+use Rattle.node_core.specs.declared.refusal.Refusal.{Refusal}
+use Rattle.node_core.specs.declared.refusal.Refusal.TheVariants.{SystemLimit}
 use Rattle.node_core.specs.inside.PlainTable.{key_in, slot_of, slots_of}
-
-past : (a n : ℕ) (b : Bool) → nat_lt a n ≡ b → cond b (Some a) None ≡ None → n ≤ a
-past a n true e h = cc
-past a n false e h = grind (arith, nat_tests)
-
--- where no element passes, each fails
-pub position-None : {X : Type 0} (p : X → Bool) (xs : List X) (k : ℕ) (d : X) → position p xs ≡ None → k < length xs → p (get_or xs k d) ≡ false
-position-None p xs k d h within =
-    let all : length xs ≤ position_or_len p xs = past (position_or_len p xs) (length xs) (nat_lt (position_or_len p xs) (length xs)) refl h in
-    fails_before_first p xs k d (omega arith)
 
 -- the slots have one object each
 pub object_count-slots_of : (keypos : ℕ) (objects : List Term) → object_count (slots_of keypos objects) ≡ length objects
@@ -64,31 +59,19 @@ module _ (keypos : ℕ) (key : Term) where
 
   module _ (object : Term) (its : key_in keypos object ≡ key) (os : List Term) where
     -- a new key goes last
-    pub put_new : position has_key os ≡ None → Put kinds.set (slots_of keypos os) key object (slots_of keypos (os ++ object ∷ []))
+    pub put_new : position has_key os ≡ None → Puts Set (slots_of keypos os) key object (slots_of keypos (os ++ object ∷ []))
     put_new h =
-        subst (λ o. MatchOption o (Enters (slots_of keypos os) key object (slots_of keypos (os ++ object ∷ []))) (λ objects. slots_of keypos (os ++ object ∷ []) ≡ set_value (same key) (slots_of keypos os) (add kinds.set objects object)))
+        subst (λ o. MatchOption o (Enters (slots_of keypos os) key (object ∷ []) (slots_of keypos (os ++ object ∷ []))) (λ _. slots_of keypos (os ++ object ∷ []) ≡ with_objects (slots_of keypos os) key (object ∷ [])))
         (sym (lookup-absent os h))
         (record { front = slots_of keypos os; back = []; before = sym (append-nil _); after = map-append (slot_of keypos) os (object ∷ []) ∙ ap (λ k. slots_of keypos os ++ (k, object ∷ []) ∷ []) its })
 
     -- an object takes the place of the one that has its key
-    pub put_at : (i : ℕ) → position has_key os ≡ Some i → Put kinds.set (slots_of keypos os) key object (slots_of keypos (set os i object))
+    pub put_at : (i : ℕ) → position has_key os ≡ Some i → Puts Set (slots_of keypos os) key object (slots_of keypos (set os i object))
     put_at i h =
         let at = position-Some has_key os i object h in
-        subst (λ o. MatchOption o (Enters (slots_of keypos os) key object (slots_of keypos (set os i object))) (λ objects. slots_of keypos (set os i object) ≡ set_value (same key) (slots_of keypos os) (add kinds.set objects object)))
+        subst (λ o. MatchOption o (Enters (slots_of keypos os) key (object ∷ []) (slots_of keypos (set os i object))) (λ _. slots_of keypos (set os i object) ≡ with_objects (slots_of keypos os) key (object ∷ [])))
         (sym (lookup-found os i object h))
         (sym (replaced os i object its at.0 at.2 at.1))
-
-pub chosen : (b : Bool) (P Q : Type 0) → b ≡ true → P → MatchBool b P Q
-chosen b P Q e p = rw e p
-
-pub otherwise : (b : Bool) (P Q : Type 0) → b ≡ false → Q → MatchBool b P Q
-otherwise b P Q e q = rw e q
-
-pub above : (m n : ℕ) → m < n → nat_lt m n ≡ true
-above m n h = grind (arith, nat_tests)
-
-pub at_most : (m n : ℕ) → n ≤ m → nat_lt m n ≡ false
-at_most m n h = grind (arith, nat_tests)
 
 -- the key of an object is what the list takes for it
 pub key_in-key_of : (keypos : ℕ) (object key : Term) → key_of keypos object ≡ Some key → key_in keypos object ≡ key
@@ -98,27 +81,34 @@ key_in-key_of keypos object key h = key_in_by (element_at keypos object) object 
     is_key true k e = cc
     is_key false k e = cc
 
--- An object is inserted at the place of its key, or last, and then there are more objects than the limit, or not. P holds then of the refusal, Q of the slots.
-module _ (limit keypos : ℕ) (object key : Term) (os : List Term) (its : key_of keypos object ≡ Some key) (P : Type 0) (Q : List Slot → Type 0) where
-  abbrev pub InsertsPlain : Type 0
-  InsertsPlain = (slots : List Slot) × Put kinds.set (slots_of keypos os) key object slots × MatchBool (nat_lt limit (object_count slots)) P (Q slots)
+-- the content of a set in a list of objects
+abbrev pub plain : ℕ → List Term → Content
+plain keypos objects = record { kind = Set; keypos = keypos; slots = slots_of keypos objects }
 
-  pub full_at : (i : ℕ) → position (has_key keypos key) os ≡ Some i → limit < length os → P → InsertsPlain
-  full_at i at more p =
+-- an object is inserted at the place of its key, or last, and then there are more objects than the limit, or not
+module _ (limit keypos : ℕ) (object key : Term) (os : List Term) (its : key_of keypos object ≡ Some key) where
+  abbrev Inserts : Result (Unit {0}) Refusal → List Term → Type 0
+  Inserts result after = Insert limit object (plain keypos os) result (plain keypos after)
+
+  own : key_in keypos object ≡ key
+  own = key_in-key_of keypos object key its
+
+  pub full_at : (i : ℕ) → position (has_key keypos key) os ≡ Some i → limit < length os → Inserts (Err SystemLimit) os
+  full_at i at more =
       let n = object_count-slots_of keypos (set os i object) in
-      (slots_of keypos (set os i object), put_at keypos key object (key_in-key_of keypos object key its) os i at, chosen _ _ _ (above limit _ (omega (arith, n, length-set {A = Term}))) p)
+      rw its (slots_of keypos (set os i object), put_at keypos key object own os i at, chosen _ _ _ (above limit _ (omega (arith, n, length-set {A = Term}))) (refl, refl))
 
-  pub full_new : position (has_key keypos key) os ≡ None → limit ≤ length os → P → InsertsPlain
-  full_new at more p =
+  pub full_new : position (has_key keypos key) os ≡ None → limit ≤ length os → Inserts (Err SystemLimit) os
+  full_new at more =
       let n = object_count-slots_of keypos (os ++ object ∷ []) in
-      (slots_of keypos (os ++ object ∷ []), put_new keypos key object (key_in-key_of keypos object key its) os at, chosen _ _ _ (above limit _ (omega (arith, n, length-append {A = Term}))) p)
+      rw its (slots_of keypos (os ++ object ∷ []), put_new keypos key object own os at, chosen _ _ _ (above limit _ (omega (arith, n, length-append {A = Term}))) (refl, refl))
 
-  pub inserted_at : (i : ℕ) → position (has_key keypos key) os ≡ Some i → length os ≤ limit → Q (slots_of keypos (set os i object)) → InsertsPlain
-  inserted_at i at room q =
+  pub inserted_at : (i : ℕ) → position (has_key keypos key) os ≡ Some i → length os ≤ limit → Inserts (Ok tt) (set os i object)
+  inserted_at i at room =
       let n = object_count-slots_of keypos (set os i object) in
-      (slots_of keypos (set os i object), put_at keypos key object (key_in-key_of keypos object key its) os i at, otherwise _ _ _ (at_most limit _ (omega (arith, n, length-set {A = Term}))) q)
+      rw its (slots_of keypos (set os i object), put_at keypos key object own os i at, otherwise _ _ _ (at_most limit _ (omega (arith, n, length-set {A = Term}))) (refl, refl))
 
-  pub inserted_new : position (has_key keypos key) os ≡ None → length os < limit → Q (slots_of keypos (os ++ object ∷ [])) → InsertsPlain
-  inserted_new at room q =
+  pub inserted_new : position (has_key keypos key) os ≡ None → length os < limit → Inserts (Ok tt) (os ++ object ∷ [])
+  inserted_new at room =
       let n = object_count-slots_of keypos (os ++ object ∷ []) in
-      (slots_of keypos (os ++ object ∷ []), put_new keypos key object (key_in-key_of keypos object key its) os at, otherwise _ _ _ (at_most limit _ (omega (arith, n, length-append {A = Term}))) q)
+      rw its (slots_of keypos (os ++ object ∷ []), put_new keypos key object own os at, otherwise _ _ _ (at_most limit _ (omega (arith, n, length-append {A = Term}))) (refl, refl))

@@ -7,9 +7,10 @@ use Rattle.std.proofs.lemmas.List.{get_or_past, get_or_append_left, get_or-set_s
 use Rattle.std.proofs.Math.Seq.{get_or-append_seam}
 use Rattle.std.proofs.lemmas.List.Quantifiers.{position-Some}
 use Rattle.std.proofs.lemmas.Slice.Eq.{bytes_eq-Decides}
-use Rattle.node_core.specs.Table.{Table, Tables, table_at, is_named, whereis}
+use Rattle.node_core.specs.State.{Table, Tables, table_at}
+use Rattle.node_core.specs.Access.{is_named, whereis}
 use Rattle.node_core.specs.inside.Indices.{ByName, ByOwner}
-use Rattle.node_core.proofs.PlainLaws.{position-None}
+use Rattle.node_core.proofs.Positions.{position-None}
 
 -- one place has changed
 pub record ChangesAt (place : ℕ) (now : Option Table) (old new : Tables) : Type 0 where
@@ -73,24 +74,24 @@ module _ (names : List ℕ → Option ℕ) (old new : Tables) (place : ℕ) (now
       by (inr other) = ap (is_named name) (change.there t other)
 
   -- what stands under the owners after a change
-  pub owners_kept : (owned after : ℕ → List ℕ) → ByOwner owned old → ((p t : ℕ) → Contains (owned p) t → Contains (after p) t) → ((table : Table) → now ≡ Some table → Contains (after table.owner) place) → ByOwner after new
+  pub owners_kept : (owned after : ℕ → List ℕ) → ByOwner owned old → ((p t : ℕ) → Contains (owned p) t → Contains (after p) t) → ((table : Table) → now ≡ Some table → Contains (after table.head.owner) place) → ByOwner after new
   owners_kept owned after by_owner more own t table at = by (cases_eq t place)
     where
-      by : (t ≡ place) ⊎ (t ≡ place → ⊥) → Contains (after table.owner) t
-      by (inl here) = subst (λ i. Contains (after table.owner) i) (sym here) (own table (sym change.here ∙ ap (table_at new) (sym here) ∙ at))
-      by (inr other) = more table.owner t (by_owner t table (sym (change.there t other) ∙ at))
+      by : (t ≡ place) ⊎ (t ≡ place → ⊥) → Contains (after table.head.owner) t
+      by (inl here) = subst (λ i. Contains (after table.head.owner) i) (sym here) (own table (sym change.here ∙ ap (table_at new) (sym here) ∙ at))
+      by (inr other) = more table.head.owner t (by_owner t table (sym (change.there t other) ∙ at))
 
 -- a table more with a name that none has
 module _ (names after : List ℕ → Option ℕ) (old new : Tables) (table : Table) (index : ByName names old) (change : ChangesAt (length old) (Some table) old new)
-    (named : table.named ≡ true) (free : names table.name ≡ None) (updated : (q : List ℕ) → after q ≡ cond (bytes_eq table.name q) (Some (length old)) (names q)) where
-  more_at : (q : List ℕ) (t : ℕ) (b : Bool) → bytes_eq table.name q ≡ b → (t ≡ length old) ⊎ (t ≡ length old → ⊥) → (after q ≡ Some t) ↔ (is_named q (table_at new t) ≡ true)
+    (named : table.head.named ≡ true) (free : names table.head.name ≡ None) (updated : (q : List ℕ) → after q ≡ cond (bytes_eq table.head.name q) (Some (length old)) (names q)) where
+  more_at : (q : List ℕ) (t : ℕ) (b : Bool) → bytes_eq table.head.name q ≡ b → (t ≡ length old) ⊎ (t ≡ length old → ⊥) → (after q ≡ Some t) ↔ (is_named q (table_at new t) ≡ true)
   more_at q t true same (inl here) =
-      let q_is : table.name ≡ q = (bytes_eq-Decides table.name q).0 same in (
-        (λ _. ap (λ i. is_named q (table_at new i)) here ∙ ap (is_named q) change.here ∙ ap (λ n. n && bytes_eq q table.name) named ∙ (bytes_eq-Decides q table.name).1 (sym q_is)),
+      let q_is : table.head.name ≡ q = (bytes_eq-Decides table.head.name q).0 same in (
+        (λ _. ap (λ i. is_named q (table_at new i)) here ∙ ap (is_named q) change.here ∙ ap (λ n. n && bytes_eq q table.head.name) named ∙ (bytes_eq-Decides q table.head.name).1 (sym q_is)),
         (λ _. updated q ∙ ap (λ b. cond b (Some (length old)) (names q)) same ∙ ap Some (sym here)),
       )
   more_at q t true same (inr other) =
-      let q_is : table.name ≡ q = (bytes_eq-Decides table.name q).0 same in
+      let q_is : table.head.name ≡ q = (bytes_eq-Decides table.head.name q).0 same in
       let now_is : after q ≡ Some (length old) = updated q ∙ ap (λ b. cond b (Some (length old)) (names q)) same in (
         (λ found. let e : Some t ≡ Some (length old) = sym found ∙ now_is in absurd (other (cc))),
         (λ is. let found : names q ≡ Some t = (index q t).1 (ap (is_named q) (sym (change.there t other)) ∙ is) in let none : names q ≡ None = ap names (sym q_is) ∙ free in cc),
@@ -98,8 +99,8 @@ module _ (names after : List ℕ → Option ℕ) (old new : Tables) (table : Tab
   more_at q t false differs (inl here) =
       let now_is : after q ≡ names q = updated q ∙ ap (λ b. cond b (Some (length old)) (names q)) differs in (
         (λ found. let is = (index q t).0 (sym now_is ∙ found) in absurd (true≢false (sym is ∙ ap (λ i. is_named q (table_at old i)) here ∙ ap (is_named q) (none_past old (length old) (omega arith))))),
-        (λ is. let both = at_eq q table.name table.named (sym (ap (is_named q) change.here) ∙ ap (λ i. is_named q (table_at new i)) (sym here) ∙ is) in
-            absurd (true≢false (sym ((bytes_eq-Decides table.name q).1 (sym both.1)) ∙ differs))),
+        (λ is. let both = at_eq q table.head.name table.head.named (sym (ap (is_named q) change.here) ∙ ap (λ i. is_named q (table_at new i)) (sym here) ∙ is) in
+            absurd (true≢false (sym ((bytes_eq-Decides table.head.name q).1 (sym both.1)) ∙ differs))),
       )
   more_at q t false differs (inr other) =
       let now_is : after q ≡ names q = updated q ∙ ap (λ b. cond b (Some (length old)) (names q)) differs in (
@@ -108,22 +109,22 @@ module _ (names after : List ℕ → Option ℕ) (old new : Tables) (table : Tab
       )
 
   pub named_more : ByName after new
-  named_more q t = more_at q t (bytes_eq table.name q) refl (cases_eq t (length old))
+  named_more q t = more_at q t (bytes_eq table.head.name q) refl (cases_eq t (length old))
 
 -- a named table less
 module _ (names after : List ℕ → Option ℕ) (old new : Tables) (place : ℕ) (table : Table) (index : ByName names old) (was : table_at old place ≡ Some table) (change : ChangesAt place None old new)
-    (named : table.named ≡ true) (updated : (q : List ℕ) → after q ≡ cond (bytes_eq table.name q) None (names q)) where
-  led : names table.name ≡ Some place
-  led = (index table.name place).1 (ap (is_named table.name) was ∙ ap (λ n. n && bytes_eq table.name table.name) named ∙ (bytes_eq-Decides table.name table.name).1 refl)
+    (named : table.head.named ≡ true) (updated : (q : List ℕ) → after q ≡ cond (bytes_eq table.head.name q) None (names q)) where
+  led : names table.head.name ≡ Some place
+  led = (index table.head.name place).1 (ap (is_named table.head.name) was ∙ ap (λ n. n && bytes_eq table.head.name table.head.name) named ∙ (bytes_eq-Decides table.head.name table.head.name).1 refl)
 
-  less_at : (q : List ℕ) (t : ℕ) (b : Bool) → bytes_eq table.name q ≡ b → (t ≡ place) ⊎ (t ≡ place → ⊥) → (after q ≡ Some t) ↔ (is_named q (table_at new t) ≡ true)
+  less_at : (q : List ℕ) (t : ℕ) (b : Bool) → bytes_eq table.head.name q ≡ b → (t ≡ place) ⊎ (t ≡ place → ⊥) → (after q ≡ Some t) ↔ (is_named q (table_at new t) ≡ true)
   less_at q t true same (inl here) =
       let now_is : after q ≡ None = updated q ∙ ap (λ b. cond b None (names q)) same in (
         (λ found. let e : Some t ≡ None = sym found ∙ now_is in cc),
         (λ is. absurd (true≢false (sym is ∙ ap (λ i. is_named q (table_at new i)) here ∙ ap (is_named q) change.here))),
       )
   less_at q t true same (inr other) =
-      let q_is : table.name ≡ q = (bytes_eq-Decides table.name q).0 same in
+      let q_is : table.head.name ≡ q = (bytes_eq-Decides table.head.name q).0 same in
       let now_is : after q ≡ None = updated q ∙ ap (λ b. cond b None (names q)) same in (
         (λ found. let e : Some t ≡ None = sym found ∙ now_is in cc),
         (λ is. let found : names q ≡ Some t = (index q t).1 (ap (is_named q) (sym (change.there t other)) ∙ is) in
@@ -132,8 +133,8 @@ module _ (names after : List ℕ → Option ℕ) (old new : Tables) (place : ℕ
   less_at q t false differs (inl here) =
       let now_is : after q ≡ names q = updated q ∙ ap (λ b. cond b None (names q)) differs in (
         (λ found. let is = (index q t).0 (sym now_is ∙ found) in
-            let both = at_eq q table.name table.named (sym (ap (is_named q) was) ∙ ap (λ i. is_named q (table_at old i)) (sym here) ∙ is) in
-            absurd (true≢false (sym ((bytes_eq-Decides table.name q).1 (sym both.1)) ∙ differs))),
+            let both = at_eq q table.head.name table.head.named (sym (ap (is_named q) was) ∙ ap (λ i. is_named q (table_at old i)) (sym here) ∙ is) in
+            absurd (true≢false (sym ((bytes_eq-Decides table.head.name q).1 (sym both.1)) ∙ differs))),
         (λ is. absurd (true≢false (sym is ∙ ap (λ i. is_named q (table_at new i)) here ∙ ap (is_named q) change.here))),
       )
   less_at q t false differs (inr other) =
@@ -143,4 +144,4 @@ module _ (names after : List ℕ → Option ℕ) (old new : Tables) (place : ℕ
       )
 
   pub named_less : ByName after new
-  named_less q t = less_at q t (bytes_eq table.name q) refl (cases_eq t place)
+  named_less q t = less_at q t (bytes_eq table.head.name q) refl (cases_eq t place)
