@@ -1,14 +1,10 @@
 -- A plain list of objects as slots: what is found by a key, and what an insertion leaves.
-use Rattle.std.proofs.Common.{◌≡◌, ℕ, ◌<◌, ◌≤◌, Bool, true, false, cond, List, [], ◌∷◌, ◌++◌, Option, None, Some, refl, sym, ap, subst, ◌∙◌, length, get_or, set, zero, suc, arith, position, nat_lt, unwrap_or, codes, length-append}
+use Rattle.std.proofs.Common.{◌≡◌, ℕ, ◌<◌, ◌≤◌, Bool, true, false, cond, List, [], ◌∷◌, ◌++◌, Option, None, Some, refl, sym, ap, subst, ◌∙◌, length, get_or, set, zero, suc, arith, position, unwrap_or, codes, length-append}
 use Rattle.std.proofs.Math.ListN.{length-set}
-use Rattle.std.proofs.lemmas.Bool.Decides.{nat_tests}
 use Rattle.std.proofs.lemmas.List.{append-nil, map-append}
 use Rattle.std.proofs.lemmas.List.Quantifiers.{position-Some}
 use Rattle.std.proofs.lemmas.List.Recursion.{found_at, found_nowhere}
-use Rattle.std.proofs.lemmas.List.Sums.{fails_before_first}
-use Rattle.std.specs.Bool.{MatchBool}
 use Rattle.std.specs.Prelude.{Result, Ok, Err}
-use Rattle.std.specs.List.{position_or_len}
 use Rattle.std.specs.Map.{lookup, set_value}
 use Rattle.std.specs.Option.{MatchOption, option_and_then}
 use Rattle.ets_term.specs.declared.term.Term.{Term}
@@ -19,7 +15,7 @@ use Rattle.ets_term.specs.Atoms.{is_atom}
 use Rattle.node_core.proofs.Positions.{position-None}
 use Rattle.node_core.proofs.Refusals.{chosen, otherwise, above, at_most}
 use Rattle.node_core.specs.declared.kind.Kind.TheVariants.{Set}
-use Rattle.node_core.specs.Content.{Slot, Enters, with_objects, object_count, Content, Puts, Insert, key_of}
+use Rattle.node_core.specs.Content.{Enters, with_objects, object_count, Content, Puts, Insert, key_of}
 use Rattle.node_core.specs.declared.refusal.Refusal.{Refusal}
 use Rattle.node_core.specs.declared.refusal.Refusal.TheVariants.{SystemLimit}
 use Rattle.node_core.specs.inside.PlainTable.{key_in, slot_of, slots_of}

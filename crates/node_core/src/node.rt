@@ -22,7 +22,7 @@ use indexmap::IndexMap;
 use std::alloc::{AllocError, Global};
 use std::marker::Model;
 
-/// Tables and the processes that share them.
+/// Tables and the processes that share them (stdlib manual, module ets). A contract sees the machine's state.
 #[derive(Drop)]
 pub struct Node<H: KeyHash + Copy> {
     alloc: Global,
@@ -50,7 +50,7 @@ pub struct RunFault {
 }
 
 impl<H: KeyHash + Copy> Node<H> {
-    /// A node without processes and tables. It takes no memory.
+    /// A node without processes and tables. It takes no memory. The hash spreads keys, and changes no answer.
     pub fn new(alloc: Global, limits: Limits, hash: H) -> Self
         ensures { result ≡ empty limits }
     {
@@ -77,7 +77,9 @@ impl<H: KeyHash + Copy> Node<H> {
         self.tables.resolve(term)
     }
 
-    /// Does one step. Want of memory changes nothing.
+    /// Does one step, and answers as the machine in specs/Machine.antt may: a pid for `Enrol`, `true` for `End`, the
+    /// call's answer for `Ask`, `ok` for `Grow` and `Ready`, or the first refusal of docs/calls.md that holds. Want of
+    /// memory is the `Err`, and changes nothing.
     pub fn step(&mut self, event: &Step) -> Result<Reply, AllocError>
         ensures ok { IfOk result (λ r. step self.old event.now r self.new) }
         ensures err { OnErr result (self.new ≡ self.old) }

@@ -11,141 +11,135 @@ use crate::{Call, Limits, Node, Reply, Step};
 use ets_term::{AllSame, Atom, Items, Term};
 use std::alloc::{AllocError, Global};
 
+/// A term, told.
+#[derive(Clone, Copy)]
+enum Told<'a> {
+    Int(i64),
+    Atom(&'a str),
+    Pid(u32),
+    Tid(u32),
+    /// The tuple of an atom and a number.
+    Pair(&'a str, i64),
+    /// A list of atoms.
+    Words(&'a [&'a str]),
+    /// A list of tuples of an atom and a number.
+    Pairs(&'a [(&'a str, i64)]),
+    /// A term of this depth: lists in lists.
+    Nested(usize),
+}
+
+/// A reply, told.
+#[derive(Clone, Copy)]
+enum Want<'a> {
+    Is(Told<'a>),
+    Badarg,
+    SystemLimit,
+    NoProcess,
+}
+
+const TRUE: Want<'static> = Want::Is(Told::Atom("true"));
+
 /// The atom with this text, which is known to be an atom's.
-fn name(alloc: Global, text: &str) -> Result<Atom, AllocError> {
+fn atom(alloc: Global, text: &str) -> Result<Atom, AllocError> {
     match Atom::new(alloc, text) {
         Ok(atom) => Ok(atom),
         Err(_) => Err(AllocError),
     }
 }
 
-fn atom(alloc: Global, text: &str) -> Result<Term, AllocError> {
-    Ok(Term::Atom(name(alloc, text)?))
+fn pair(alloc: Global, key: &str, number: i64) -> Result<Term, AllocError> {
+    let mut elements = Items::new(alloc);
+    elements.push(Term::Atom(atom(alloc, key)?))?;
+    elements.push(Term::Int(number))?;
+    Ok(Term::Tuple(elements))
 }
 
-fn copies(alloc: Global, terms: &[Term]) -> Result<Vec<Term>, AllocError> {
-    let mut copies = Vec::with_capacity(alloc, terms.len())?;
-    for term in terms {
-        copies.push(term.try_clone(alloc)?)?;
+fn words(alloc: Global, texts: &[&str]) -> Result<Term, AllocError> {
+    let mut atoms = Items::new(alloc);
+    for text in texts {
+        atoms.push(Term::Atom(atom(alloc, *text)?))?;
     }
-    Ok(copies)
+    Ok(Term::List(atoms))
 }
 
-fn tuple(alloc: Global, terms: &[Term]) -> Result<Term, AllocError> {
-    Ok(Term::Tuple(Items::from_vec(copies(alloc, terms)?)))
-}
-
-fn list(alloc: Global, terms: &[Term]) -> Result<Term, AllocError> {
-    Ok(Term::List(Items::from_vec(copies(alloc, terms)?)))
-}
-
-/// The tuple of an atom and a number.
-fn object(alloc: Global, key: &str, number: i64) -> Result<Term, AllocError> {
-    tuple(alloc, &[atom(alloc, key)?, Term::Int(number)])
-}
-
-/// A list of atoms.
-fn options(alloc: Global, words: &[&str]) -> Result<Term, AllocError> {
-    let mut items = Vec::new(alloc);
-    for word in words {
-        items.push(atom(alloc, *word)?)?;
+fn pairs(alloc: Global, rows: &[(&str, i64)]) -> Result<Term, AllocError> {
+    let mut objects = Items::new(alloc);
+    for (key, number) in rows {
+        objects.push(pair(alloc, *key, *number)?)?;
     }
-    Ok(Term::List(Items::from_vec(items)))
+    Ok(Term::List(objects))
 }
 
-/// A term of this depth: lists in lists.
 fn nested(alloc: Global, depth: usize) -> Result<Term, AllocError> {
     let mut term = Term::List(Items::new(alloc));
     for _ in 1..depth {
-        term = list(alloc, &[term])?;
+        let mut items = Items::new(alloc);
+        items.push(term)?;
+        term = Term::List(items);
     }
     Ok(term)
 }
 
-/// The step in which a process asks a call.
-fn ask(alloc: Global, pid: u32, call: &str, args: &[Term]) -> Result<Step, AllocError> {
-    Ok(Step::Ask(pid, Call::new(name(alloc, call)?, copies(alloc, args)?)))
+fn term(alloc: Global, told: Told) -> Result<Term, AllocError> {
+    match told {
+        Told::Int(n) => Ok(Term::Int(n)),
+        Told::Atom(text) => Ok(Term::Atom(atom(alloc, text)?)),
+        Told::Pid(pid) => Ok(Term::Pid(pid)),
+        Told::Tid(id) => Ok(Term::Tid(id)),
+        Told::Pair(key, number) => pair(alloc, key, number),
+        Told::Words(texts) => words(alloc, texts),
+        Told::Pairs(rows) => pairs(alloc, rows),
+        Told::Nested(depth) => nested(alloc, depth),
+    }
 }
 
-/// A node with the usual limits, in which process 0 lives.
+/// The step in which a process asks a call.
+fn ask(alloc: Global, pid: u32, call: &str, args: &[Told]) -> Result<Step, AllocError> {
+    let mut terms = Vec::with_capacity(alloc, args.len())?;
+    for arg in args {
+        terms.push(term(alloc, *arg)?)?;
+    }
+    Ok(Step::Ask(pid, Call::new(atom(alloc, call)?, terms)))
+}
+
+fn is(alloc: Global, reply: &Reply, want: Want) -> Result<bool, AllocError> {
+    Ok(match (reply, want) {
+        (Reply::Value(value), Want::Is(told)) => *value == term(alloc, told)?,
+        (Reply::Badarg, Want::Badarg) => true,
+        (Reply::SystemLimit, Want::SystemLimit) => true,
+        (Reply::NoProcess, Want::NoProcess) => true,
+        _ => false,
+    })
+}
+
+/// Whether a step answers so.
+fn does(
+    alloc: Global,
+    node: &mut Node<AllSame>,
+    step: &Step,
+    want: Want,
+) -> Result<bool, AllocError> {
+    let reply = node.step(step)?;
+    is(alloc, &reply, want)
+}
+
+/// Whether a call that a process asks answers so.
+fn answers(
+    alloc: Global,
+    node: &mut Node<AllSame>,
+    pid: u32,
+    call: &str,
+    args: &[Told],
+    want: Want,
+) -> Result<bool, AllocError> {
+    let step = ask(alloc, pid, call, args)?;
+    does(alloc, node, &step, want)
+}
+
+/// A node with the usual limits, in which processes 0 and 1 live.
 fn started(alloc: Global) -> Result<Node<AllSame>, AllocError> {
     let mut node = Node::new(alloc, Limits::usual(), AllSame);
-    let _pid = node.step(&Step::Enrol(0))?;
+    let _first = node.step(&Step::Enrol(0))?;
+    let _second = node.step(&Step::Enrol(1))?;
     Ok(node)
-}
-
-/// A process makes a table with this name and these options.
-fn create(
-    alloc: Global,
-    node: &mut Node<AllSame>,
-    pid: u32,
-    text: &str,
-    words: &[&str],
-) -> Result<Reply, AllocError> {
-    let arguments = [atom(alloc, text)?, options(alloc, words)?];
-    node.step(&ask(alloc, pid, "new", &arguments)?)
-}
-
-/// A process inserts the tuple of an atom and a number.
-fn store(
-    alloc: Global,
-    node: &mut Node<AllSame>,
-    pid: u32,
-    table: Term,
-    key: &str,
-    number: i64,
-) -> Result<Reply, AllocError> {
-    let arguments = [table, object(alloc, key, number)?];
-    node.step(&ask(alloc, pid, "insert", &arguments)?)
-}
-
-/// A process looks up an atom.
-fn look_up(
-    alloc: Global,
-    node: &mut Node<AllSame>,
-    pid: u32,
-    table: Term,
-    key: &str,
-) -> Result<Reply, AllocError> {
-    let arguments = [table, atom(alloc, key)?];
-    node.step(&ask(alloc, pid, "lookup", &arguments)?)
-}
-
-fn is_value(reply: &Reply, wanted: &Term) -> bool {
-    match reply {
-        Reply::Value(term) => term == wanted,
-        _ => false,
-    }
-}
-
-fn is_atom(reply: &Reply, wanted: &str) -> bool {
-    match reply {
-        Reply::Value(Term::Atom(atom)) => atom.text() == wanted,
-        _ => false,
-    }
-}
-
-fn is_true(reply: &Reply) -> bool {
-    is_atom(reply, "true")
-}
-
-fn is_badarg(reply: &Reply) -> bool {
-    match reply {
-        Reply::Badarg => true,
-        _ => false,
-    }
-}
-
-fn is_system_limit(reply: &Reply) -> bool {
-    match reply {
-        Reply::SystemLimit => true,
-        _ => false,
-    }
-}
-
-fn is_no_process(reply: &Reply) -> bool {
-    match reply {
-        Reply::NoProcess => true,
-        _ => false,
-    }
 }

@@ -1,23 +1,39 @@
-use super::{
-    ask, atom, create, is_badarg, is_system_limit, is_true, is_value, list, look_up, object,
-    started, store, tuple,
-};
+use super::{TRUE, Told, Want, answers, started};
 use crate::{Limits, Node, Step};
-use ets_term::{AllSame, Term};
+use Told::{Int, Pair, Pairs, Tid, Words};
+use Want::{Badarg, Is, SystemLimit};
+use ets_term::AllSame;
 use std::test::Fail;
 
 #[test]
 fn an_object_takes_the_place_of_its_keys(rt: HostRuntime) -> Result<(), Fail> {
     let alloc = rt.alloc();
     let mut node = started(alloc)?;
-    let _t = create(alloc, &mut node, 0, "t", &["named_table"])?;
+    let (t, a) = (Told::Atom("t"), Told::Atom("a"));
+    assert!(rt;
+        answers(
+            alloc,
+            &mut node,
+            0,
+            "new",
+            &[t, Words(&["named_table"])],
+            Is(t)
+        )?
+    );
     for number in 1..4 {
-        let done = store(alloc, &mut node, 0, atom(alloc, "t")?, "a", number)?;
-        assert!(rt; is_true(&done));
+        assert!(rt; answers(alloc, &mut node, 0, "insert", &[t, Pair("a", number)], TRUE)?);
     }
-    assert!(rt; is_true(&store(alloc, &mut node, 0, Term::Tid(0), "b", 9)?));
-    let found = look_up(alloc, &mut node, 0, Term::Tid(0), "a")?;
-    assert!(rt; is_value(&found, &list(alloc, &[object(alloc, "a", 3)?])?));
+    assert!(rt; answers(alloc, &mut node, 0, "insert", &[Tid(0), Pair("b", 9)], TRUE)?);
+    assert!(rt;
+        answers(
+            alloc,
+            &mut node,
+            0,
+            "lookup",
+            &[Tid(0), a],
+            Is(Pairs(&[("a", 3)]))
+        )?
+    );
     Ok(())
 }
 
@@ -25,17 +41,17 @@ fn an_object_takes_the_place_of_its_keys(rt: HostRuntime) -> Result<(), Fail> {
 fn refuses_what_is_no_object(rt: HostRuntime) -> Result<(), Fail> {
     let alloc = rt.alloc();
     let mut node = started(alloc)?;
-    let _t = create(alloc, &mut node, 0, "t", &[])?;
-    let end = store(alloc, &mut node, 0, Term::Tid(0), "$end_of_table", 1)?;
-    assert!(rt; is_badarg(&end), "no key");
-    let number = [Term::Tid(0), Term::Int(1)];
-    assert!(rt; is_badarg(&node.step(&ask(alloc, 0, "insert", &number)?)?));
-    let empty = [Term::Tid(0), tuple(alloc, &[])?];
-    assert!(rt; is_badarg(&node.step(&ask(alloc, 0, "insert", &empty)?)?));
-    let unnamed = store(alloc, &mut node, 0, atom(alloc, "t")?, "a", 1)?;
+    let t = Told::Atom("t");
+    assert!(rt; answers(alloc, &mut node, 0, "new", &[t, Words(&[])], Is(Tid(0)))?);
+    let end = Pair("$end_of_table", 1);
     assert!(rt;
-        is_badarg(&unnamed),
-        "the name of an unnamed table names none"
+        answers(alloc, &mut node, 0, "insert", &[Tid(0), end], Badarg)?,
+        "no key"
+    );
+    assert!(rt; answers(alloc, &mut node, 0, "insert", &[Tid(0), Int(1)], Badarg)?);
+    assert!(rt;
+        answers(alloc, &mut node, 0, "insert", &[t, Pair("a", 1)], Badarg)?,
+        "unnamed"
     );
     Ok(())
 }
@@ -44,18 +60,57 @@ fn refuses_what_is_no_object(rt: HostRuntime) -> Result<(), Fail> {
 fn only_its_owner_writes_a_protected_table(rt: HostRuntime) -> Result<(), Fail> {
     let alloc = rt.alloc();
     let mut node = started(alloc)?;
-    let _pid = node.step(&Step::Enrol(1))?;
-    let _first = create(alloc, &mut node, 0, "t", &["public"])?;
-    let _second = create(alloc, &mut node, 0, "t", &["protected"])?;
-    for (id, written) in [(0, true), (1, false)] {
-        assert!(rt; is_true(&store(alloc, &mut node, 0, Term::Tid(id), "a", 1)?));
-        let others = store(alloc, &mut node, 1, Term::Tid(id), "b", 2)?;
-        assert_eq!(rt; is_true(&others), written);
-        assert_eq!(rt; is_badarg(&others), !written);
-        let found = look_up(alloc, &mut node, 1, Term::Tid(id), "a")?;
+    let (t, a) = (Told::Atom("t"), Told::Atom("a"));
+    assert!(rt;
+        answers(
+            alloc,
+            &mut node,
+            0,
+            "new",
+            &[t, Words(&["public"])],
+            Is(Tid(0))
+        )?
+    );
+    assert!(rt;
+        answers(
+            alloc,
+            &mut node,
+            0,
+            "new",
+            &[t, Words(&["protected"])],
+            Is(Tid(1))
+        )?
+    );
+    for (id, others) in [(0, TRUE), (1, Badarg)] {
         assert!(rt;
-            is_value(&found, &list(alloc, &[object(alloc, "a", 1)?])?),
-            "others read both"
+            answers(
+                alloc,
+                &mut node,
+                0,
+                "insert",
+                &[Tid(id), Pair("a", 1)],
+                TRUE
+            )?
+        );
+        assert!(rt;
+            answers(
+                alloc,
+                &mut node,
+                1,
+                "insert",
+                &[Tid(id), Pair("b", 1)],
+                others
+            )?
+        );
+        assert!(rt;
+            answers(
+                alloc,
+                &mut node,
+                1,
+                "lookup",
+                &[Tid(id), a],
+                Is(Pairs(&[("a", 1)]))
+            )?
         );
     }
     Ok(())
@@ -71,13 +126,20 @@ fn a_table_is_full_at_its_limit(rt: HostRuntime) -> Result<(), Fail> {
     };
     let mut node = Node::new(alloc, limits, AllSame);
     let _pid = node.step(&Step::Enrol(0))?;
-    let _t = create(alloc, &mut node, 0, "t", &[])?;
-    assert!(rt; is_true(&store(alloc, &mut node, 0, Term::Tid(0), "a", 1)?));
-    assert!(rt; is_true(&store(alloc, &mut node, 0, Term::Tid(0), "b", 1)?));
-    assert!(rt; is_system_limit(&store(alloc, &mut node, 0, Term::Tid(0), "c", 1)?));
+    let t = Told::Atom("t");
+    assert!(rt; answers(alloc, &mut node, 0, "new", &[t, Words(&[])], Is(Tid(0)))?);
+    assert!(rt; answers(alloc, &mut node, 0, "insert", &[Tid(0), Pair("a", 1)], TRUE)?);
+    assert!(rt; answers(alloc, &mut node, 0, "insert", &[Tid(0), Pair("b", 1)], TRUE)?);
     assert!(rt;
-        is_true(&store(alloc, &mut node, 0, Term::Tid(0), "a", 2)?),
-        "no object more"
+        answers(
+            alloc,
+            &mut node,
+            0,
+            "insert",
+            &[Tid(0), Pair("c", 1)],
+            SystemLimit
+        )?
     );
+    assert!(rt; answers(alloc, &mut node, 0, "insert", &[Tid(0), Pair("a", 2)], TRUE)?);
     Ok(())
 }
