@@ -2,7 +2,7 @@
 use Rattle.std.specs.Prelude.{ℕ, List, refl}
 use Rattle.std.specs.Coded.{Coded, code_by, coded×, coded_ℕ, coded_list}
 use Rattle.node_core.specs.State.{State}
-use Rattle.node_core.specs.Codes.{state_code}
+use Rattle.node_core.specs.inside.Codes.{state_code}
 use Rattle.ets_script.specs.Script.{Scripted}
 
 abbrev pub scripted_code : Coded Scripted

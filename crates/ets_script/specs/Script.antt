@@ -4,7 +4,7 @@ use Rattle.std.specs.Str.{bytes_eq}
 use Rattle.ets_term.specs.declared.term.Term.{Term}
 use Rattle.node_core.specs.State.{State, next_identifier}
 use Rattle.node_core.specs.Machine.{step}
-use Rattle.node_core.specs.Table.{resolve}
+use Rattle.node_core.specs.Access.{resolve}
 use Rattle.node_core.specs.declared.step.Step.{Step}
 use Rattle.node_core.specs.declared.step.Step.TheVariants.{Enrol, End, Ask, Grow, Ready}
 use Rattle.node_core.specs.declared.step.Reply.{Reply}

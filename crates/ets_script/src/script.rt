@@ -111,7 +111,7 @@ impl<H: KeyHash + Copy> Script<H> {
     {
         match self.node.resolve(term) {
             Some(table) => table,
-            None => self.node.made(),
+            None => self.node.next_identifier(),
         }
     }
 

@@ -1,6 +1,8 @@
-pub mod PlainLaws
-pub mod IndexLaws
-pub mod OwnerLaws
-pub mod Entering
-pub mod RunLaws
-pub mod CallLaws
+pub mod Positions
+pub mod Refusals
+pub mod PlainTables
+pub mod Indices
+pub mod Owners
+pub mod Contents
+pub mod Enrolments
+pub mod Runs

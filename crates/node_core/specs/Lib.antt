@@ -1,10 +1,8 @@
-pub mod Atoms
-pub mod Slots
-pub mod Table
+pub mod Content
 pub mod State
 pub mod Options
+pub mod Access
+pub mod rules
 pub mod Calls
 pub mod Machine
-pub mod Plain
-pub mod Indices
-pub mod Codes
+pub mod inside

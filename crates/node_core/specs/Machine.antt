@@ -1,22 +1,21 @@
 -- The machine: what a step may answer and leave, and runs of steps.
-use Rattle.std.specs.Prelude.{◌≡◌, ℕ, ◌==◌, nat_le, nat_lt, not, Bool, true, false, if◌then◌else◌, List, [], ◌∷◌, ◌++◌, Option, Some, None, length, map, is_some, codes}
+use Rattle.std.specs.Prelude.{◌≡◌, ℕ, ◌==◌, nat_le, not, true, false, if◌then◌else◌, List, [], ◌∷◌, ◌++◌, Option, Some, None, length, map, is_some, codes}
 use Rattle.std.specs.List.{list_any}
 use Rattle.std.specs.Map.{set_value}
-use Rattle.ets_term.specs.declared.term.Term.{Term}
 use Rattle.ets_term.specs.declared.term.Term.TheVariants.{Atom, Pid}
-use Rattle.ets_term.specs.Depth.{depth}
+use Rattle.ets_term.specs.Depth.{is_too_deep}
 use Rattle.node_core.specs.declared.step.Step.{Step}
 use Rattle.node_core.specs.declared.step.Step.TheVariants.{Enrol, End, Ask, Grow, Ready}
 use Rattle.node_core.specs.declared.step.Reply.{Reply}
 use Rattle.node_core.specs.declared.step.Reply.TheVariants.{Value, Badarg, SystemLimit, NoProcess}
-use Rattle.node_core.specs.Table.{Table, table_at}
-use Rattle.node_core.specs.State.{State, process_at, lives}
-use Rattle.node_core.specs.Calls.{Answers, Refused, truth, Calls}
+use Rattle.node_core.specs.State.{Table, table_at, State, process_at, lives, Outcome, gives, refuse}
+use Rattle.node_core.specs.rules.Insertion.{true_reply}
+use Rattle.node_core.specs.Calls.{call}
 
 -- what the end of a process leaves of a table: nothing of its own
 abbrev pub table_after_end : ℕ → Option Table → Option Table
 table_after_end p None = None
-table_after_end p (Some table) = if table.owner == p then None else Some table
+table_after_end p (Some table) = if table.head.owner == p then None else Some table
 
 -- the end of a process: it lives no more, its messages go, and so do its tables
 abbrev pub after_end : State → ℕ → State
@@ -26,28 +25,25 @@ after_end s p = record s { processes = set_value (λ q. p == q) s.processes (rec
 abbrev pub after_enrol : State → ℕ → State
 after_enrol s p = record s { processes = s.processes ++ (p, record { lives = true; mailbox = [] }) ∷ [] }
 
-abbrev pub is_too_deep : Term → Bool
-is_too_deep term = nat_lt 128 (depth term)
-
 -- growing a table, and readying one of its buckets, change nothing that can be seen
 abbrev pub growth_reply : State → ℕ → Reply
 growth_reply s t = if is_some (table_at s.tables t) then Value (Atom (codes "ok")) else Badarg
 
--- From old, the machine may give this reply to the step and go on to new. The refusals stand in their order.
-abbrev pub step : State → Step → Reply → State → Type 0
-step old (Enrol p) reply new =
-    Refused (is_some (process_at old.processes p)) old Badarg reply new (
-    Refused (nat_le old.limits.processes (length old.processes)) old SystemLimit reply new (
-    (reply ≡ Value (Pid p)) × (new ≡ after_enrol old p)))
-step old (End p) reply new =
-    Refused (not (lives old.processes p)) old NoProcess reply new (
-    (reply ≡ truth) × (new ≡ after_end old p))
-step old (Ask p call) reply new =
-    Refused (not (lives old.processes p)) old NoProcess reply new (
-    Refused (list_any is_too_deep call.args) old SystemLimit reply new (
-    Calls old p reply new call.name call.args))
-step old (Grow t) reply new = Answers old (growth_reply old t) reply new
-step old (Ready t bucket) reply new = Answers old (growth_reply old t) reply new
+-- what the machine may answer to a step, and where it goes on; the refusals stand in their order
+abbrev pub step : State → Step → Outcome
+step old (Enrol p) =
+    refuse old (is_some (process_at old.processes p)) Badarg (
+    refuse old (nat_le old.limits.processes (length old.processes)) SystemLimit (
+    gives (Value (Pid p)) (after_enrol old p)))
+step old (End p) =
+    refuse old (not (lives old.processes p)) NoProcess (
+    gives true_reply (after_end old p))
+step old (Ask p asked) =
+    refuse old (not (lives old.processes p)) NoProcess (
+    refuse old (list_any is_too_deep asked.args) SystemLimit (
+    call old p asked.name asked.args))
+step old (Grow t) = gives (growth_reply old t) old
+step old (Ready t bucket) = gives (growth_reply old t) old
 
 -- the machine may give these replies to these steps, one after another, and end in new
 abbrev pub run : State → List Step → List Reply → State → Type 0

@@ -5,7 +5,7 @@ use Rattle.std.specs.Str.{bytes_eq}
 use Rattle.ets_term.specs.declared.term.Term.{Term, out-Term}
 use Rattle.ets_term.specs.declared.term.Term.TheOpen.{Term-F}
 use Rattle.node_core.specs.declared.options.Options.{Options}
-use Rattle.node_core.specs.declared.table.Protection.TheVariants.{Public, Protected}
+use Rattle.node_core.specs.declared.head.Protection.TheVariants.{Public, Protected}
 
 -- what holds where no option says otherwise
 abbrev pub usual : Options
@@ -20,18 +20,18 @@ word_option word options =
     else if bytes_eq word (codes "named_table") then Some (record options { named = true })
     else None
 
-abbrev pub option_step : Term-F Term → Options → Option Options
-option_step (Term-F.Atom word) options = word_option word options
-option_step _ options = None
+abbrev pub option_form : Term-F Term → Options → Option Options
+option_form (Term-F.Atom word) options = word_option word options
+option_form _ options = None
 
 abbrev pub options_from : Options → List Term → Option Options
 options_from options [] = Some options
-options_from options (option ∷ rest) = option_and_then (λ o. options_from o rest) (option_step (out-Term option) options)
+options_from options (option ∷ rest) = option_and_then (λ o. options_from o rest) (option_form (out-Term option) options)
 
-abbrev pub options_step : Term-F Term → Option Options
-options_step (Term-F.List terms) = options_from usual terms
-options_step _ = None
+abbrev pub options_form : Term-F Term → Option Options
+options_form (Term-F.List terms) = options_from usual terms
+options_form _ = None
 
 -- the options that a term tells; None where it is no list of options
 abbrev pub options_of : Term → Option Options
-options_of term = options_step (out-Term term)
+options_of term = options_form (out-Term term)

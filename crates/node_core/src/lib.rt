@@ -1,17 +1,31 @@
 //! Each step of a node is a step of the machine in specs/: its reply is one that the machine may give, and a refusal changes nothing.
+//!
+//! *Guarantee.* `Node::step` and `Node::run` have the machine of specs/Machine.antt as their contracts, word for word. Nothing
+//! panics, and want of memory leaves everything as it was.
+//!
+//! *Weakness.* Memory may be refused at any step; no contract says that it is there.
+//!
+//! *Mechanism.* A call is found by its number of arguments and its name; its method is lent the one table that the first
+//! argument names, so that all else is known to stay.
+//!
+//! *Limits.* One node is one value: sharing it between threads is for the layer above.
 #![tactic(auto)]
 
+mod head;
+mod kind;
 mod limits;
 mod node;
 mod options;
+mod plain_table;
 mod process;
+mod refusal;
 mod step;
 mod table;
 mod tables;
 #[cfg(test)]
 mod tests;
 
+pub use head::Protection;
 pub use limits::Limits;
 pub use node::{Node, RunFault};
 pub use step::{Call, Reply, Step};
-pub use table::Protection;

@@ -1,22 +1,28 @@
 ghost use Rattle.std.specs.Prelude.{◌≡◌, ◌≤◌, ℕ, IfOk, IfErr, OnErr, length, take};
-ghost use Rattle.ets_term.specs.Character.{IsAtomText};
-ghost use Rattle.node_core.specs.State.{empty, lives, next_identifier};
-ghost use Rattle.node_core.specs.Table.{resolve};
-ghost use Rattle.node_core.specs.Machine.{step, run, growth_reply};
-ghost use Rattle.node_core.specs.declared.step.Step.TheVariants.{Enrol, End, Ask};
+ghost use Rattle.node_core.specs.State.{empty, next_identifier};
+ghost use Rattle.node_core.specs.Access.{resolve};
+ghost use Rattle.node_core.specs.Machine.{step, run};
 
-mod calls;
+mod access;
+mod ask;
+mod growth;
+mod insertion;
+mod processes;
+mod reading;
+mod replies;
+mod table_of_calls;
+mod tables;
 
 use crate::limits::Limits;
 use crate::process::Process;
-use crate::step::{Call, Reply, Step};
+use crate::step::{Reply, Step};
 use crate::tables::Tables;
-use ets_term::{Atom, Items, KeyHash, Term};
+use ets_term::{Items, KeyHash, Term};
 use indexmap::IndexMap;
 use std::alloc::{AllocError, Global};
 use std::marker::Model;
 
-/// Tables and the processes that share them.
+/// Tables and the processes that share them (stdlib manual, module ets). A contract sees the machine's state.
 #[derive(Drop)]
 pub struct Node<H: KeyHash + Copy> {
     alloc: Global,
@@ -28,7 +34,7 @@ pub struct Node<H: KeyHash + Copy> {
 
 impl<H: KeyHash + Copy> Model for Node<H> {
     ghost use Rattle.node_core.specs.State.{State};
-    ghost use Rattle.node_core.specs.Codes.{state_code};
+    ghost use Rattle.node_core.specs.inside.Codes.{state_code};
 
     ghost Value = { State };
 
@@ -44,7 +50,7 @@ pub struct RunFault {
 }
 
 impl<H: KeyHash + Copy> Node<H> {
-    /// A node without processes and tables. It takes no memory.
+    /// A node without processes and tables. It takes no memory. The hash spreads keys, and changes no answer.
     pub fn new(alloc: Global, limits: Limits, hash: H) -> Self
         ensures { result ≡ empty limits }
     {
@@ -57,11 +63,11 @@ impl<H: KeyHash + Copy> Node<H> {
         }
     }
 
-    /// How many tables were ever made, which is the identifier of the next.
-    pub fn made(&self) -> u32
+    /// The identifier that the next table gets, which is how many tables were ever made.
+    pub fn next_identifier(&self) -> u32
         ensures { result ≡ next_identifier self.now }
     {
-        self.tables.made()
+        self.tables.next_identifier()
     }
 
     /// The identifier of the table that a term names: a table's identifier, or the name of a named one. It takes no memory.
@@ -71,7 +77,9 @@ impl<H: KeyHash + Copy> Node<H> {
         self.tables.resolve(term)
     }
 
-    /// Does one step. Want of memory changes nothing.
+    /// Does one step, and answers as the machine in specs/Machine.antt may: a pid for `Enrol`, `true` for `End`, the
+    /// call's answer for `Ask`, `ok` for `Grow` and `Ready`, or the first refusal of docs/calls.md that holds. Want of
+    /// memory is the `Err`, and changes nothing.
     pub fn step(&mut self, event: &Step) -> Result<Reply, AllocError>
         ensures ok { IfOk result (λ r. step self.old event.now r self.new) }
         ensures err { OnErr result (self.new ≡ self.old) }
@@ -105,55 +113,6 @@ impl<H: KeyHash + Copy> Node<H> {
         }
         Ok(replies)
     }
-
-    fn is_alive(&self, pid: u32) -> bool
-        ensures { result ≡ lives self.now.processes pid }
-    {
-        match self.processes.get(&pid) {
-            Some(process) => process.lives(),
-            None => false,
-        }
-    }
-
-    #[tactic(auto, using(crate::proofs::Entering::entering))]
-    fn enrol(&mut self, pid: u32) -> Result<Reply, AllocError>
-        ensures ok { IfOk result (λ r. step self.old (Enrol pid) r self.new) }
-        ensures err { OnErr result (self.new ≡ self.old) }
-    {
-        if self.processes.contains_key(&pid) {
-            return Ok(Reply::Badarg);
-        }
-        if self.processes.len() >= self.limits.processes as usize {
-            return Ok(Reply::SystemLimit);
-        }
-        self.processes.insert(pid, Process::new())?;
-        Ok(Reply::Value(Term::Pid(pid)))
-    }
-
-    fn end(&mut self, pid: u32) -> Result<Reply, AllocError>
-        ensures ok { IfOk result (λ r. step self.old (End pid) r self.new) }
-        ensures err { OnErr result (self.new ≡ self.old) }
-    {
-        if !self.is_alive(pid) {
-            return Ok(Reply::NoProcess);
-        }
-        let reply = word(self.alloc, b"true")?;
-        if let Some(process) = self.processes.get_mut(&pid) {
-            process.end();
-        }
-        self.tables.remove_owned(pid);
-        Ok(reply)
-    }
-
-    /// Growing and readying: the list of objects has no buckets, so nothing is to be done.
-    fn growth(&self, id: u32) -> Result<Reply, AllocError>
-        ensures { IfOk result (λ r. r ≡ growth_reply self.now id) }
-    {
-        match self.tables.get(id) {
-            Some(_) => word(self.alloc, b"ok"),
-            None => Ok(Reply::Badarg),
-        }
-    }
 }
 
 impl RunFault {
@@ -164,12 +123,4 @@ impl RunFault {
             replies: Items::from_vec(replies),
         }
     }
-}
-
-/// The atom with these characters as a reply.
-fn word(alloc: Global, text: &[u8]) -> Result<Reply, AllocError>
-    requires { IsAtomText text.now }
-    ensures { IfOk result (λ r. r ≡ Reply.Value (Term.Atom text.now)) }
-{
-    Ok(Reply::Value(Term::Atom(Atom::of_bytes(alloc, text)?)))
 }

@@ -1,7 +1,7 @@
 ghost use Rattle.std.specs.Prelude.{◌≡◌};
 ghost use Rattle.node_core.specs.Options.{word_option, options_of, options_from, usual};
 
-use crate::table::Protection;
+use crate::head::Protection;
 use ets_term::Term;
 
 /// What a process asks of a new table.

@@ -11,7 +11,7 @@ pub struct Process {
 impl Model for Process {
     ghost use Rattle.std.specs.Prelude.{[]};
     ghost use Rattle.node_core.specs.State.{Process};
-    ghost use Rattle.node_core.specs.Codes.{process_code};
+    ghost use Rattle.node_core.specs.inside.Codes.{process_code};
 
     ghost Value = { Process };
 

@@ -1,12 +1,15 @@
-ghost use Rattle.std.specs.Prelude.{◌≡◌, ℕ, ◌==◌, ◌+◌, if◌then◌else◌, ◌++◌, ◌∷◌, ◌<◌, ◌^◌, [], Some, None, IfOk, OnOk, OnErr, IsTrue, length, map, MatchOption, slice_set, option_copied, vec_len};
-ghost use Rattle.node_core.specs.Table.{table_at, whereis, resolve, is_named};
-ghost use Rattle.node_core.specs.Plain.{Inserts};
-ghost use Rattle.node_core.specs.Machine.{table_after_end};
-ghost use Rattle.node_core.specs.Indices.{owned_by, AreAmong, ByName};
+ghost use Rattle.std.specs.Prelude.{◌≡◌, ℕ, ◌==◌, ◌+◌, if◌then◌else◌, ◌++◌, ◌∷◌, ◌<◌, ◌^◌, [], Some, None, true, OnOk, OnErr, IsTrue, length, map, slice_set, option_copied, option_map, vec_len};
+ghost use Rattle.std.specs.Option.{option_copied_mut};
+ghost use Rattle.std.specs.Borrow.{sem};
 ghost use Rattle.indexmap.specs.IndexMap.{get_by_text};
-ghost use Rattle.node_core.specs.Table as model;
-ghost use Rattle.node_core.specs.Slots.{key_of};
+ghost use Rattle.node_core.specs.State.{table_at};
+ghost use Rattle.node_core.specs.Access.{whereis, resolve};
+ghost use Rattle.node_core.specs.State as model;
+ghost use Rattle.node_core.specs.Machine.{table_after_end};
+ghost use Rattle.node_core.specs.inside.Indices.{owned_by, AreAmong, AreIndexed, ByName};
 
+use crate::head::Head;
+use crate::plain_table::PlainTable;
 use crate::table::Table;
 use ets_term::Term;
 use indexmap::IndexMap;
@@ -23,9 +26,9 @@ pub struct Tables {
 
 impl Model for Tables {
     ghost use Rattle.std.specs.Coded.{coded_list, coded_option};
-    ghost use Rattle.node_core.specs.Table.{Tables};
-    ghost use Rattle.node_core.specs.Codes.{table_code};
-    ghost use Rattle.node_core.specs.Indices.{AreIndexed, owned_by};
+    ghost use Rattle.node_core.specs.State.{Tables};
+    ghost use Rattle.node_core.specs.inside.Codes.{table_code};
+    ghost use Rattle.node_core.specs.inside.Indices.{AreIndexed, owned_by};
     ghost use Rattle.indexmap.specs.IndexMap.{get_by_text};
     ghost use Rattle.std.specs.Prelude.{◌<◌, ◌^◌, length};
 
@@ -39,6 +42,8 @@ impl Model for Tables {
 }
 
 impl Tables {
+    ghost use Rattle.node_core.specs.inside.Lending.{LendsTable};
+
     pub fn new(alloc: Global) -> Tables
         ensures { result ≡ [] }
     {
@@ -49,8 +54,8 @@ impl Tables {
         }
     }
 
-    /// How many tables were ever made.
-    pub fn made(&self) -> u32
+    /// The identifier of the next table, which is how many were ever made.
+    pub fn next_identifier(&self) -> u32
         ensures { result ≡ length self.now }
     {
         self.places.len() as u32
@@ -89,43 +94,32 @@ impl Tables {
 
     /// One more table, with the next identifier. Its name, if it is a named table, must be free.
     pub fn add(&mut self, alloc: Global, table: Table) -> Result<(), AllocError>
-        requires free { IsTrue table.named → whereis self.old table.name ≡ None }
+        requires free { IsTrue table.head.named → whereis self.old table.head.name ≡ None }
         requires few { length self.old + 1 < 2 ^ 32 }
         ensures ok { OnOk result (self.new ≡ self.old ++ Some table ∷ []) }
         ensures err { OnErr result (self.new ≡ self.old) }
     {
-        let id = self.made();
-        self.places.reserve(1)?;
-        note_owned(alloc, &mut self.owned, table.owner(), id)?;
-        if table.named() {
-            self.names
-                .insert(String::from_str(alloc, table.name().text())?, id)?;
+        let id = self.next_identifier();
+        if let Err(error) = self.places.reserve(1) {
+            drop(table);
+            return Err(error);
         }
-        self.places.push(Some(table))?;
+        if let Err(error) = note(alloc, &mut self.names, &mut self.owned, table.head(), id) {
+            drop(table);
+            return Err(error);
+        }
+        self.places.push_reserved(Some(table));
         Ok(())
     }
 
-    /// Inserts an object with this key into a table; answers false where the table would then have more objects than the limit.
-    pub fn insert(
-        &mut self,
-        alloc: Global,
-        id: u32,
-        limit: u32,
-        key: &Term,
-        object: &Term,
-    ) -> Result<bool, AllocError>
-        requires { MatchOption (table_at self.old id) ⊥ (λ table. key_of table.keypos object.now ≡ Some key.now) }
-        ensures ok { IfOk result (λ done. MatchOption (table_at self.old id) ⊥ (λ table. (after : model.Table) × Inserts limit table key.now object.now done after × (self.new ≡ slice_set self.old id (Some after)))) }
-        ensures err { OnErr result (self.new ≡ self.old) }
+    /// The content of the table with this identifier, for a change of it alone.
+    pub fn content_mut(&mut self, id: u32) -> Option<&mut PlainTable>
+        ensures* lends { sem 𝓛 (LendsTable self.entry id result) }
+        ensures value { option_copied_mut result ≡ option_map (λ table. table.fixed.content) (table_at self.old id) }
     {
-        let place = id as usize;
-        if place >= self.places.len() {
-            return Ok(false);
-        }
-        let Some(table) = &mut self.places[place] else {
-            return Ok(false);
-        };
-        table.insert(alloc, limit, key, object)
+        let place = self.places.get_mut(id as usize)?;
+        let table = place.as_mut()?;
+        Some(table.content_mut())
     }
 
     /// The tables of an owner go.
@@ -136,6 +130,24 @@ impl Tables {
             remove_all(&mut self.places, &mut self.names, owner, ids.as_slice());
         }
     }
+}
+
+/// Writes the next identifier down under its owner and its name, if it is the name of a named table.
+fn note(
+    alloc: Global,
+    names: &mut IndexMap<String, u32>,
+    owned: &mut IndexMap<u32, Vec<u32>>,
+    head: &Head,
+    id: u32,
+) -> Result<(), AllocError>
+    ensures ok { OnOk result ((tables : model.Tables) (table : model.Table) → table.head ≡ head.now → length tables ≡ id → AreIndexed (get_by_text names.old) (owned_by owned.old.entries) tables → (head.now.named ≡ true → whereis tables head.now.name ≡ None) → AreIndexed (get_by_text names.new) (owned_by owned.new.entries) (tables ++ Some table ∷ [])) }
+    ensures err { OnErr result ((tables : model.Tables) → AreIndexed (get_by_text names.old) (owned_by owned.old.entries) tables → AreIndexed (get_by_text names.new) (owned_by owned.new.entries) tables) }
+{
+    note_owned(alloc, owned, head.owner, id)?;
+    if head.named {
+        names.insert(String::from_str(alloc, head.name.text())?, id)?;
+    }
+    Ok(())
 }
 
 /// Writes an identifier down under its owner.
@@ -189,11 +201,11 @@ fn remove(places: &mut Vec<Option<Table>>, names: &mut IndexMap<String, u32>, ow
     let Some(table) = &places[place] else {
         return;
     };
-    if table.owner() != owner {
+    if table.head().owner != owner {
         return;
     }
-    if table.named() {
-        let _ = names.swap_remove(table.name().text());
+    if table.head().named {
+        let _ = names.swap_remove(table.head().name.text());
     }
     places[place] = None;
 }

@@ -5,7 +5,7 @@ use Rattle.std.specs.Prelude.{if◌then◌else◌}
 use Rattle.std.specs.declared.alloc.Global.{Global}
 use Rattle.std.specs.declared.vec.Vec.{Vec}
 use Rattle.indexmap.specs.IndexMap.{IndexMap}
-use Rattle.node_core.proofs.OwnerLaws.{ids_in, noted, noted_same}
+use Rattle.node_core.proofs.Owners.{ids_in, noted, noted_same}
 use Rattle.node_core.proofs.tables.note_owned.Goals as goal
 
 pub returns-in_err-push-clause-err : goal.returns-in_err-push-clause-err

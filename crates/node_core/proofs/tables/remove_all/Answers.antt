@@ -1,7 +1,7 @@
 use Rattle.std.proofs.Common.{◌≡◌, ◌+◌, ◌<◌, ◌∷◌, sym, ap, subst, ◌∙◌, length, get_or, drop, map, add-one, drop-cons, arith}
 use Rattle.node_core.specs.Machine.{table_after_end}
-use Rattle.node_core.specs.Indices.{AreAmong}
-use Rattle.node_core.proofs.OwnerLaws.{map_after_set, none_among, among_rest, taken_out}
+use Rattle.node_core.specs.inside.Indices.{AreAmong}
+use Rattle.node_core.proofs.Owners.{map_after_set, none_among, among_rest, taken_out}
 use Rattle.node_core.proofs.tables.remove_all.Goals as goal
 
 pub loop-id-preserved : goal.loop-id-preserved

@@ -1,7 +1,7 @@
 use Rattle.std.proofs.Common.{◌≡◌, map, drop}
 use Rattle.indexmap.specs.IndexMap.{get_by_text}
 use Rattle.node_core.specs.Machine.{table_after_end}
-use Rattle.node_core.specs.Indices.{ByName, AreAmong}
+use Rattle.node_core.specs.inside.Indices.{ByName, AreAmong}
 use Rattle.node_core.proofs.tables.remove_all.Given as goal
 
 abbrev pub invariant-loop-id : goal.invariant-loop-id

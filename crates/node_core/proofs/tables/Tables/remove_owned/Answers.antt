@@ -1,10 +1,10 @@
 use Rattle.std.proofs.Common.{◌≡◌, [], sym, ap, subst, ◌∙◌, length, map, arith}
 use Rattle.std.specs.Prelude.{Contains}
 use Rattle.std.proofs.lemmas.List.{length-map}
-use Rattle.node_core.specs.Table.{Tables}
+use Rattle.node_core.specs.State.{Tables}
 use Rattle.node_core.specs.Machine.{table_after_end}
-use Rattle.node_core.specs.Indices.{owned_by, AreAmong}
-use Rattle.node_core.proofs.OwnerLaws.{ids_in, none_in, other_number, map_none, all_among, owners_less}
+use Rattle.node_core.specs.inside.Indices.{owned_by, AreAmong}
+use Rattle.node_core.proofs.Owners.{ids_in, none_in, other_number, map_none, all_among, owners_less}
 use Rattle.node_core.proofs.tables.Tables.remove_owned.Goals as goal
 
 pub remove_all-requires-clause-all : goal.remove_all-requires-clause-all

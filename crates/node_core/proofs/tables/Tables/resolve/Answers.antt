@@ -1,7 +1,7 @@
 use Rattle.std.proofs.Common.{◌≡◌, rules, ap, ◌∙◌}
 use Rattle.ets_term.specs.declared.term.Term.{the_lemmas}
 use Rattle.ets_term.specs.declared.term.Term.TheVariants.{Atom}
-use Rattle.node_core.specs.Table.{whereis, resolve}
+use Rattle.node_core.specs.Access.{whereis, resolve}
 use Rattle.node_core.proofs.tables.Tables.resolve.Goals as goal
 
 pub returns-in-Atom : goal.returns-in-Atom

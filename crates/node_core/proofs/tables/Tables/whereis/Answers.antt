@@ -1,6 +1,6 @@
 use Rattle.std.proofs.Common.{ap, ◌∙◌}
-use Rattle.node_core.specs.Table.{whereis}
-use Rattle.node_core.proofs.IndexLaws.{whereis-found}
+use Rattle.node_core.specs.Access.{whereis}
+use Rattle.node_core.proofs.Indices.{whereis-found}
 use Rattle.node_core.proofs.tables.Tables.whereis.Goals as goal
 
 pub returns : goal.returns

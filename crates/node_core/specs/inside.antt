@@ -1,0 +1,5 @@
+pub mod Codes
+pub mod Indices
+pub mod Lending
+pub mod PlainTable
+pub mod Refusals

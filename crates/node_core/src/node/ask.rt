@@ -1,0 +1,47 @@
+// What a process asks.
+ghost use Rattle.std.specs.Prelude.{◌≡◌, IfOk, OnErr};
+ghost use Rattle.std.specs.List.{list_any};
+ghost use Rattle.ets_term.specs.Depth.{is_too_deep};
+ghost use Rattle.node_core.specs.Machine.{step};
+ghost use Rattle.node_core.specs.declared.step.Step.TheVariants.{Ask};
+ghost use Rattle.node_core.specs.inside.Refusals.{Told};
+
+use super::Node;
+use crate::refusal::Refusal;
+use crate::step::{Call, Reply};
+use ets_term::{KeyHash, Term};
+use std::alloc::AllocError;
+
+impl<H: KeyHash + Copy> Node<H> {
+    pub fn ask(&mut self, pid: u32, call: &Call) -> Result<Reply, AllocError>
+        ensures ok { IfOk result (λ r. step self.old (Ask pid call.now) r self.new) }
+        ensures err { OnErr result (self.new ≡ self.old) }
+    {
+        if !self.is_alive(pid) {
+            return Ok(Reply::NoProcess);
+        }
+        let args = call.args.as_slice();
+        if any_too_deep(args) {
+            return Ok(Reply::SystemLimit);
+        }
+        told(self.call(pid, call.name.text(), args))
+    }
+}
+
+fn any_too_deep(terms: &[Term]) -> bool
+    ensures { result ≡ list_any is_too_deep terms.now }
+{
+    terms.iter().any(|term| term.is_too_deep())
+}
+
+/// The reply of a call, or of its refusal.
+fn told(call: Result<Reply, Refusal>) -> Result<Reply, AllocError>
+    ensures { Told call result }
+{
+    match call {
+        Ok(reply) => Ok(reply),
+        Err(Refusal::Badarg) => Ok(Reply::Badarg),
+        Err(Refusal::SystemLimit) => Ok(Reply::SystemLimit),
+        Err(Refusal::Memory) => Err(AllocError),
+    }
+}
