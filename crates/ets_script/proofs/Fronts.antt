@@ -9,7 +9,7 @@ use Rattle.term_text.specs.declared.fault.TextFault.{TextFault}
 use Rattle.term_text.specs.declared.fault.TextFault.TheVariants as faults
 use Rattle.ets_script.specs.Reads.{Read, read}
 use Rattle.ets_script.specs.Terms.{term, term_of, stop_at}
-use Rattle.ets_script.specs.Says as says
+use Rattle.ets_script.specs.inside.Says as says
 
 pub read_found : (text : List ℕ) (t : Term) (n m : ℕ) → m ≡ min n (length text) → reading text ≡ found t n → term text ≡ read t (take (length text - m) (drop m text))
 unfolding term

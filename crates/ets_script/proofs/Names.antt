@@ -7,7 +7,8 @@ use Rattle.std.proofs.Common.{subst, inl, inr}
 use Rattle.std.specs.Prelude.{◌⊎◌}
 use Rattle.node_core.specs.Machine.{step}
 use Rattle.node_core.specs.declared.step.Step.TheVariants.{Enrol}
-use Rattle.ets_script.specs.Script.{Scripted, Spawns, Stays, Enrols, names_after}
+use Rattle.ets_script.specs.Script.{Scripted, Spawns, Stays, names_after}
+use Rattle.ets_script.specs.inside.Enrolments.{Enrols}
 use Rattle.ets_script.specs.declared.answer.Answer.{Answer}
 use Rattle.ets_script.specs.declared.answer.Answer.TheVariants.{NoMemory}
 

@@ -1,5 +1,5 @@
 -- What a script's output is.
-use Rattle.std.specs.Prelude.{◌≡◌, ℕ, zero, suc, ◌⊎◌, Bool, true, false, List, [], ◌∷◌, ◌++◌, length, Option, Some, None, position, unwrap_or}
+use Rattle.std.specs.Prelude.{◌≡◌, ℕ, zero, suc, ◌⊎◌, Bool, true, false, List, [], ◌∷◌, ◌++◌, length, ⊤, Option, Some, None, position, unwrap_or}
 use Rattle.std.specs.Str.{bytes_eq}
 use Rattle.ets_term.specs.declared.term.Term.{Term}
 use Rattle.node_core.specs.State.{State, next_identifier}
@@ -53,12 +53,6 @@ abbrev pub Spawns : Option ℕ → Scripted → List ℕ → Answer → Scripted
 Spawns (Some p) old name answer new = Stays old (Replied Badarg) answer new
 Spawns None old name answer new = (r : Reply) × (answer ≡ Replied r) × step old.node (Enrol (length old.names)) r new.node × (new.names ≡ names_after r old.names name)
 
--- an enrolment of the next number, or no memory for it
-abbrev pub Enrols : List (List ℕ) → State → ℕ → List ℕ → Answer → List (List ℕ) → State → Type 0
-Enrols names old number name answer after new =
-    ((r : Reply) × (answer ≡ Replied r) × step old (Enrol number) r new × (after ≡ names_after r names name))
-    ⊎ ((answer ≡ NoMemory) × (after ≡ names) × (new ≡ old))
-
 abbrev pub Obeys : Command → Scripted → Answer → Scripted → Type 0
 Obeys (faulty at) old answer new = Stays old (Syntax at) answer new
 Obeys (spawn name) old answer new = Spawns (pid_of old name) old name answer new
@@ -85,15 +79,24 @@ pub record IsAnswered (old : Scripted) (bytes : List ℕ) (out : List ℕ) (new 
   pub answers : Answers old line answer new
   pub prints : out ≡ printed answer
 
--- So many lines are all of the input, and what they print is all of the output, from one state to another.
-abbrev pub ScriptText : ℕ → Scripted → List ℕ → List ℕ → Scripted → Type 0
-ScriptText zero old input out new = (input ≡ []) × (out ≡ []) × (new ≡ old)
-ScriptText (suc n) old input out new =
-    (mid : Scripted) × (bytes : List ℕ) × (rest : List ℕ) × (said : List ℕ) × (others : List ℕ)
-    × (input ≡ bytes ++ rest) × (out ≡ said ++ others) × IsAnswered old bytes said mid (rest ≡ []) × ScriptText n mid rest others new
+-- So many lines are all of the input, and what they print is all of the output, from one state to another. The last may
+-- lack its LF where `last` holds.
+abbrev pub ScriptText : ℕ → Type 0 → Scripted → List ℕ → List ℕ → Scripted → Type 0
+ScriptText zero last old input output new = (input ≡ []) × (output ≡ []) × (new ≡ old)
+ScriptText (suc n) last old input output new =
+    (mid : Scripted) × (bytes : List ℕ) × (rest : List ℕ) × (first : List ℕ) × (others : List ℕ)
+    × (input ≡ bytes ++ rest) × (output ≡ first ++ others) × IsAnswered old bytes first mid ((rest ≡ []) × last) × ScriptText n last mid rest others new
 
+abbrev pub AreLines : Type 0 → Scripted → List ℕ → List ℕ → Scripted → Type 0
+AreLines last old input output new = (count : ℕ) × ScriptText count last old input output new
+
+-- lines that all have their LF
+abbrev pub AreWholeLines : Scripted → List ℕ → List ℕ → Scripted → Type 0
+AreWholeLines = AreLines ⊥
+
+-- a script to its end, where the last line may lack its LF
 abbrev pub IsScript : Scripted → List ℕ → List ℕ → Scripted → Type 0
-IsScript old input out new = (lines : ℕ) × ScriptText lines old input out new
+IsScript = AreLines ⊤
 
 -- before the first line
 abbrev pub at_start : State → Scripted

@@ -6,7 +6,7 @@ ghost use Rattle.ets_term.specs.Character.{IsAtomText};
 ghost use Rattle.ets_script.specs.Classes.{is_digit};
 ghost use Rattle.ets_script.specs.Reads.{read};
 ghost use Rattle.ets_script.specs.Commands as said;
-ghost use Rattle.ets_script.specs.Says.{Gives, GivesExactly, said_by};
+ghost use Rattle.ets_script.specs.inside.Says.{Gives, GivesExactly, said_by};
 
 use crate::classes::{
     clean_len, digits_len, past_blanks, starts_blank, starts_digit, starts_lower, word_len,

@@ -2,7 +2,7 @@
 ghost use Rattle.std.specs.Prelude.{◌≡◌, ◌+◌, ◌-◌, ◌≤◌, ◌<◌, ℕ, List, [], ◌∷◌, ◌++◌, length, take, drop, vec_len, IfOk, OnOk, OnErr};
 ghost use Rattle.std.specs.Io.KnownBytes.{Appends};
 ghost use Rattle.term_text.specs.Printed.{printed};
-ghost use Rattle.ets_script.specs.Output.{Sends, Breaks};
+ghost use Rattle.ets_script.specs.inside.Output.{Sends, Breaks};
 
 use ets_term::Term;
 use std::alloc::{AllocError, Global};

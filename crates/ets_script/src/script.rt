@@ -4,8 +4,9 @@ ghost use Rattle.node_core.specs.State.{empty};
 ghost use Rattle.node_core.specs.declared.step.Step.TheVariants.{End, Ask};
 ghost use Rattle.ets_script.specs.Lines.{text};
 ghost use Rattle.ets_script.specs.declared.answer.Answer.TheVariants.{NoMemory};
-ghost use Rattle.ets_script.specs.Says.{said_by};
-ghost use Rattle.ets_script.specs.Script.{Scripted, pid_of, table_of, Stays, Steps, StepsOf, Spawns, Enrols, Obeys, Answers, at_start};
+ghost use Rattle.ets_script.specs.inside.Says.{said_by};
+ghost use Rattle.ets_script.specs.Script.{Scripted, pid_of, table_of, Stays, Steps, StepsOf, Spawns, Obeys, Answers, at_start};
+ghost use Rattle.ets_script.specs.inside.Enrolments.{Enrols};
 ghost use Rattle.std.specs.Str.{bytes_eq};
 ghost use Rattle.indexmap.specs.IndexSet.{spare, contains_by, index_set_len};
 
@@ -28,7 +29,7 @@ impl<H: KeyHash + Copy> Model for Script<H> {
     ghost use Rattle.std.specs.Prelude.{◌≤◌, map, vec_items};
     ghost use Rattle.indexmap.specs.IndexSet.{index_set_len};
     ghost use Rattle.ets_script.specs.Script.{Scripted};
-    ghost use Rattle.ets_script.specs.Codes.{scripted_code};
+    ghost use Rattle.ets_script.specs.inside.Codes.{scripted_code};
 
     ghost Value = { Scripted };
 
