@@ -25,8 +25,7 @@ pub text_found : (bytes : List ℕ) (skips : Bool) (place n : ℕ) → skips ≡
 text_found bytes skips place n whole found short le is skipped passed =
     let e = bytes_of bytes place found in
     let none = subst (λ (b : Bool). PassedOver b skipped) whole passed in
-    let within : n ≤ place = omega (arith, e, le) in
-    (
+    let within : n ≤ place = omega (arith, e, le) in (
       take place bytes,
       found.1,
       omega (arith, e, short),
@@ -35,17 +34,17 @@ text_found bytes skips place n whole found short le is skipped passed =
 
 -- one that is too long, and of which a part may have been passed over
 pub long_found : (bytes : List ℕ) (skips : Bool) (place : ℕ) → IsLineEnd bytes place → (skips ≡ false → 65536 < place) → EndsLine bytes skips (place + 1) too_long
-long_found bytes skips place found long skipped passed =
-    (
-      skipped ++ take place bytes,
-      All-append (λ b. b ≡ 10 → ⊥) skipped (take place bytes) (one_line skips passed) found.1,
-      enough skips passed long,
-      inl (ap (λ k. skipped ++ k) (with_line_end bytes place found) ∙ sym (append_assoc skipped (take place bytes) (10 ∷ []))),
-    )
+long_found bytes skips place found long skipped passed = (
+  skipped ++ take place bytes,
+  All-append (λ b. b ≡ 10 → ⊥) skipped (take place bytes) (one_line skips passed) found.1,
+  enough skips passed long,
+  inl (ap (λ k. skipped ++ k) (with_line_end bytes place found) ∙ sym (append_assoc skipped (take place bytes) (10 ∷ []))),
+)
   where
     one_line : (b : Bool) → PassedOver b skipped → IsOneLine skipped
     one_line false p = subst IsOneLine (sym p) no_byte
     one_line true p = p.0
+
     enough : (b : Bool) → PassedOver b skipped → (b ≡ false → 65536 < place) → 65536 < length (skipped ++ take place bytes)
     enough false p l = let lt = l refl in let e = bytes_of bytes place found in omega (arith, lt, e, length-append skipped (take place bytes))
     enough true p l = let lt = p.1 in omega (arith, lt, length-append skipped (take place bytes))

@@ -4,7 +4,7 @@ use Rattle.std.specs.Prelude.{Err}
 use Rattle.std.proofs.lemmas.List.{take_all, drop_min, length-drop}
 use Rattle.ets_term.specs.declared.term.Term.{Term}
 use Rattle.term_text.specs.Machine.{found, reading}
-use Rattle.term_text.specs.Reader.{Fails}
+use Rattle.term_text.specs.Given.{Fails}
 use Rattle.term_text.specs.declared.fault.TextFault.{TextFault}
 use Rattle.term_text.specs.declared.fault.TextFault.TheVariants as faults
 use Rattle.ets_script.specs.Reads.{Read, read}

@@ -6,8 +6,8 @@ use Rattle.std.proofs.lemmas.List.Elements.{All-append}
 use Rattle.std.proofs.lemmas.Bool.{true≢false}
 use Rattle.std.specs.Io.KnownBytes.{Appends, Consumes, Keeps, IsAtEnd, prepend_known}
 use Rattle.ets_script.specs.Lines.{Line, text, too_long, IsOneLine, IsLine}
-use Rattle.ets_script.specs.Answers.{printed}
-use Rattle.ets_script.specs.Script.{Scripted, Answers, IsAnswered, ScriptText, AreLines, AreWholeLines}
+use Rattle.ets_script.specs.Replies.{printed}
+use Rattle.ets_script.specs.Script.{Scripted, AnswersLine, IsAnswered, ScriptText, AreLines, AreWholeLines}
 use Rattle.ets_script.specs.Stops.{Stops, Completes}
 use Rattle.ets_script.specs.inside.Feeds.{Held, rest_of, Refills, PassedOver, EndsLine, Waits}
 use Rattle.ets_script.specs.inside.Output.{Sends, Breaks}
@@ -100,7 +100,7 @@ taken_front (Some x) taken held n (Some y) p =
 
 -- a line was answered, and an LF ended it
 pub answered_line : (start s1 s2 : Scripted) (before old w1 w2 : Option (List ℕ)) (h1 h2 : Held) (left : Option (List ℕ)) (p1 p2 : List ℕ) (n : ℕ) (line : Line) (answer : Answer) → Going start before old h1 left p1 w1 s1
-    → EndsLine h1.bytes h1.is_skipping n line → Answers s1 line answer s2 → Sends w1 w2 (p1 ++ printed answer) p2 → h2.bytes ≡ drop n h1.bytes → h2.is_skipping ≡ false → Going start before old h2 left p2 w2 s2
+    → EndsLine h1.bytes h1.is_skipping n line → AnswersLine s1 line answer s2 → Sends w1 w2 (p1 ++ printed answer) p2 → h2.bytes ≡ drop n h1.bytes → h2.is_skipping ≡ false → Going start before old h2 left p2 w2 s2
 answered_line start s1 s2 before old w1 w2 h1 h2 left p1 p2 n line answer g ends answers sent held whole =
     let bytes = g.skipped ++ take n h1.bytes in
     record {
@@ -122,12 +122,11 @@ unheld (Some x) (Some y) taken held p = p ∙ sym (append_assoc taken held y)
 
 -- the writer failed at the answer to a line
 pub broken_line : (start s1 s2 : Scripted) (before old w1 w2 : Option (List ℕ)) (h1 : Held) (left : Option (List ℕ)) (p1 : List ℕ) (n : ℕ) (line : Line) (answer : Answer) → Going start before old h1 left p1 w1 s1
-    → EndsLine h1.bytes h1.is_skipping n line → Answers s1 line answer s2 → Breaks w1 w2 (p1 ++ printed answer) → Stops start before left old w2 faults.Write
+    → EndsLine h1.bytes h1.is_skipping n line → AnswersLine s1 line answer s2 → Breaks w1 w2 (p1 ++ printed answer) → Stops start before left old w2 faults.Write
 broken_line start s1 s2 before old w1 w2 h1 left p1 n line answer g ends answers broken =
     let bytes = g.skipped ++ take n h1.bytes in
     let b = breaks_more old w1 w2 g.out p1 (printed answer) g.sent broken in
-    let taken = taken_front before (g.input ++ g.skipped) h1.bytes n left g.consumed in
-    (
+    let taken = taken_front before (g.input ++ g.skipped) h1.bytes n left g.consumed in (
       g.input ++ bytes,
       drop n h1.bytes,
       b.sent,
@@ -224,8 +223,7 @@ refilled start now before old w h1 h2 l1 l2 p n g r = record {
 pub flush_broken : (start now : Scripted) (before old w1 w2 : Option (List ℕ)) (h : Held) (left : Option (List ℕ)) (p : List ℕ) → Going start before old h left p w1 now → Breaks w1 w2 p → Stops start before left old w2 faults.Write
 flush_broken start now before old w1 w2 h left p g broken =
     let b = breaks_on old w1 w2 g.out p g.sent broken in
-    let M : Type 0 = (g.skipped ++ h.bytes ≡ []) × IsAtEnd left in
-    (
+    let M : Type 0 = (g.skipped ++ h.bytes ≡ []) × IsAtEnd left in (
       g.input,
       g.skipped ++ h.bytes,
       b.sent,
@@ -245,8 +243,7 @@ kept_left (Some x) (Some y) (Some z) xs p q = p ∙ ap (λ k. xs ++ k) (sym q)
 -- the reader failed after all that waited had gone out
 pub read_failed : (start now : Scripted) (before old w : Option (List ℕ)) (h : Held) (l1 l2 : Option (List ℕ)) (p : List ℕ) → Going start before old h l1 p w now → p ≡ [] → IsOneLine h.bytes → Keeps l1 l2 → Stops start before l2 old w faults.Read
 read_failed start now before old w h l1 l2 p g none one kept =
-    let all = subst (λ (k : List ℕ). Sends old w g.out k) none g.sent in
-    (
+    let all = subst (λ (k : List ℕ). Sends old w g.out k) none g.sent in (
       g.input,
       g.skipped ++ h.bytes,
       g.out,
@@ -263,7 +260,7 @@ none_or_some (b ∷ bs) = inr (omega arith)
 
 -- the input ended in a line that is too long
 last_long : (start s1 s2 : Scripted) (n : ℕ) (input out skipped bytes : List ℕ) (answer : Answer) (M : Type 0) → M → ScriptText n ⊥ start input out s1 → IsOneLine skipped → 65536 < length skipped → bytes ≡ []
-    → Answers s1 too_long answer s2 → AreLines M start (input ++ (skipped ++ bytes)) (out ++ printed answer) s2
+    → AnswersLine s1 too_long answer s2 → AreLines M start (input ++ (skipped ++ bytes)) (out ++ printed answer) s2
 last_long start s1 s2 n input out skipped bytes answer M m lines one long none answers = (
   suc n,
   subst (λ (k : List ℕ). ScriptText (suc n) M start (input ++ k) (out ++ printed answer) s2) (sym (append-nil skipped) ∙ ap (λ k. skipped ++ k) (sym none))
@@ -273,12 +270,12 @@ last_long start s1 s2 n input out skipped bytes answer M m lines one long none a
 
 -- it ended in a line that has no LF
 last_text : (start s1 s2 : Scripted) (n : ℕ) (input out bytes : List ℕ) (answer : Answer) (M : Type 0) → M → ScriptText n ⊥ start input out s1 → IsOneLine bytes → length bytes ≤ 65536 → 0 < length bytes
-    → Answers s1 (text bytes) answer s2 → AreLines M start (input ++ bytes) (out ++ printed answer) s2
+    → AnswersLine s1 (text bytes) answer s2 → AreLines M start (input ++ bytes) (out ++ printed answer) s2
 last_text start s1 s2 n input out bytes answer M m lines one short some answers =
     (suc n, then_line n start s1 s2 input out bytes (printed answer) M lines (record { line = text bytes; answer = answer; is_line = (bytes, one, short, inr (refl, some, m, refl)); answers = answers; prints = refl }))
 
 -- it ended behind an LF
-last_none : (start s1 s2 : Scripted) (n : ℕ) (input out : List ℕ) (answer : Answer) (M : Type 0) → ScriptText n ⊥ start input out s1 → Answers s1 (text []) answer s2 → AreLines M start input (out ++ printed answer) s2
+last_none : (start s1 s2 : Scripted) (n : ℕ) (input out : List ℕ) (answer : Answer) (M : Type 0) → ScriptText n ⊥ start input out s1 → AnswersLine s1 (text []) answer s2 → AreLines M start input (out ++ printed answer) s2
 last_none start s1 s2 n input out answer M lines (silent, same) = (
   n,
   subst (λ (k : List ℕ). ScriptText n M start input k s2) (sym (ap (λ (a : Answer). out ++ printed a) silent ∙ append-nil out))
@@ -293,10 +290,11 @@ last_lines false start s1 s2 n input out skipped bytes answer M m lines passed o
   where
     whole : skipped ++ bytes ≡ bytes
     whole = ap (λ k. k ++ bytes) passed
+
     ended_so : (bytes ≡ []) ⊎ (0 < length bytes) → AreLines M start (input ++ (skipped ++ bytes)) (out ++ printed answer) s2
     ended_so (inl empty) =
         subst (λ (k : List ℕ). AreLines M start k (out ++ printed answer) s2) (sym (ap (λ k. input ++ k) (whole ∙ empty) ∙ append-nil input))
-            (last_none start s1 s2 n input out answer M lines (subst (λ (k : List ℕ). Answers s1 (text k) answer s2) empty answers))
+        (last_none start s1 s2 n input out answer M lines (subst (λ (k : List ℕ). AnswersLine s1 (text k) answer s2) empty answers))
     ended_so (inr some) = subst (λ (k : List ℕ). AreLines M start (input ++ k) (out ++ printed answer) s2) (sym whole) (last_text start s1 s2 n input out bytes answer M m lines one short some answers)
 
 -- what is held when the input has ended
@@ -335,8 +333,7 @@ completed start s1 s2 before old w1 w2 h left p g e all = (
 pub end_broken : (start s1 s2 : Scripted) (before old w1 w2 : Option (List ℕ)) (h : Held) (left : Option (List ℕ)) (p : List ℕ) → Going start before old h left p w1 s1 → Ended h left → BreaksAtEnd h s1 s2 p w1 w2 → Stops start before left old w2 faults.Write
 end_broken start s1 s2 before old w1 w2 h left p g e all =
     let b = breaks_more old w1 w2 g.out p (printed all.answer) g.sent all.broken in
-    let M : Type 0 = (the_none ≡ []) × IsAtEnd left in
-    (
+    let M : Type 0 = (the_none ≡ []) × IsAtEnd left in (
       g.input ++ (g.skipped ++ h.bytes),
       [],
       b.sent,

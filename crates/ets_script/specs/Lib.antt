@@ -3,7 +3,7 @@ pub mod Reads
 pub mod Terms
 pub mod Classes
 pub mod Commands
-pub mod Answers
+pub mod Replies
 pub mod Script
 pub mod Stops
 pub mod inside

@@ -12,12 +12,7 @@ use std::process::Abort;
 use std::test::Fail;
 
 // A script that is read to its end prints this.
-fn answers(
-    rt: &impl Abort,
-    alloc: Global,
-    script: &[u8],
-    wanted: &[u8],
-) -> Result<(), Fail> {
+fn answers(rt: &impl Abort, alloc: Global, script: &[u8], wanted: &[u8]) -> Result<(), Fail> {
     answers_within(rt, alloc, Limits::usual(), script, wanted)
 }
 

@@ -2,8 +2,8 @@
 use Rattle.std.specs.Prelude.{◌≡◌, ℕ, ◌≤◌, ◌<◌, Bool, true, false, List, ◌++◌, length, Option, Some, None}
 use Rattle.std.specs.Io.KnownBytes.{Appends}
 use Rattle.ets_script.specs.Lines.{Line, text, too_long, IsOneLine}
-use Rattle.ets_script.specs.Answers.{printed}
-use Rattle.ets_script.specs.Script.{Scripted, Answers}
+use Rattle.ets_script.specs.Replies.{printed}
+use Rattle.ets_script.specs.Script.{Scripted, AnswersLine}
 use Rattle.ets_script.specs.inside.Feeds.{Held, EndsLine}
 use Rattle.ets_script.specs.inside.Output.{Breaks}
 use Rattle.ets_script.specs.declared.answer.Answer.{Answer}
@@ -15,7 +15,7 @@ pub record AnswersHeld (h : Held) (old new : Scripted) (next : AnsweredLine) : T
   pub some : 0 < next.taken
   pub within : next.taken ≤ length h.bytes
   pub ends : EndsLine h.bytes h.is_skipping next.taken line
-  pub answers : Answers old line next.answer new
+  pub answers : AnswersLine old line next.answer new
 
 -- the next line and its answer, or the bytes held have no LF
 abbrev pub AnswersNext : Held → Scripted → Scripted → Option AnsweredLine → Type 0
@@ -24,8 +24,8 @@ AnswersNext h old new None = IsOneLine h.bytes × (new ≡ old)
 
 -- what is held is answered as a line that ends with the input; an empty one prints nothing
 abbrev pub AnswersPart : Bool → Scripted → List ℕ → Answer → Scripted → Type 0
-AnswersPart true old bytes answer new = Answers old too_long answer new
-AnswersPart false old bytes answer new = Answers old (text bytes) answer new
+AnswersPart true old bytes answer new = AnswersLine old too_long answer new
+AnswersPart false old bytes answer new = AnswersLine old (text bytes) answer new
 
 -- the last answer went out behind what waited
 pub record EndsAll (h : Held) (start now : Scripted) (waiting : List ℕ) (old new : Option (List ℕ)) : Type 0 where

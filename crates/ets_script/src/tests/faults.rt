@@ -234,7 +234,11 @@ fn status_and_errors(rt: HostRuntime) -> Result<(), Fail> {
         let told = answer_input(rt.alloc(), &mut reader, &mut writer, &mut errors)?;
         assert_eq!(rt; told, status);
         assert!(rt; errors.as_slice() == words);
-        let wanted = if fails_to_write { b"".as_slice() } else { b"<0.0.0>\n" };
+        let wanted = if fails_to_write {
+            b"".as_slice()
+        } else {
+            b"<0.0.0>\n"
+        };
         assert!(rt; writer.taken.as_slice() == wanted);
     }
     Ok(())

@@ -8,7 +8,11 @@ use std::test::Fail;
 #[test]
 fn long_lines(rt: HostRuntime) -> Result<(), Fail> {
     for (letters, end, wanted) in [
-        (65_536, b"\n".as_slice(), b"** syntax 0\n<0.0.0>\n".as_slice()),
+        (
+            65_536,
+            b"\n".as_slice(),
+            b"** syntax 0\n<0.0.0>\n".as_slice(),
+        ),
         (65_537, b"\n", b"** line too long\n<0.0.0>\n"),
         (65_535, b"\r\n", b"** syntax 0\n<0.0.0>\n"),
         (65_536, b"\r\n", b"** line too long\n<0.0.0>\n"),
@@ -39,7 +43,10 @@ fn long_last_lines(rt: HostRuntime) -> Result<(), Fail> {
 // A string and a quoted atom on a line of over 60,000 bytes.
 #[test]
 fn long_texts_in_quotes(rt: HostRuntime) -> Result<(), Fail> {
-    let mut script = Vec::from_slice(rt.alloc(), b"spawn p\np new(t,[named_table])\np insert(t,{'A',<<\"")?;
+    let mut script = Vec::from_slice(
+        rt.alloc(),
+        b"spawn p\np new(t,[named_table])\np insert(t,{'A',<<\"",
+    )?;
     let mut wanted = Vec::from_slice(rt.alloc(), b"<0.0.0>\nt\ntrue\n[{'A',<<97")?;
     script.push(b'a')?;
     for _ in 0..60_000 {
@@ -69,7 +76,13 @@ fn many_names(rt: HostRuntime) -> Result<(), Fail> {
             wanted.extend_from_slice(b"** system_limit\n")?;
         }
     }
-    answers_within(&rt, rt.alloc(), limits, script.as_slice(), wanted.as_slice())
+    answers_within(
+        &rt,
+        rt.alloc(),
+        limits,
+        script.as_slice(),
+        wanted.as_slice(),
+    )
 }
 
 // The program has the usual limits: 4,096 processes, and 65,536 tables.

@@ -1,6 +1,6 @@
 use Rattle.std.proofs.Common.{List, ℕ, take, refl, subst}
 use Rattle.ets_script.specs.Lines.{text, too_long}
-use Rattle.ets_script.specs.Script.{Answers}
+use Rattle.ets_script.specs.Script.{AnswersLine}
 use Rattle.ets_script.proofs.run.answer_next.Goals as goal
 
 pub returns-in-Text : goal.returns-in-Text
@@ -9,7 +9,7 @@ returns-in-Text g c = record {
   some = c.in-Text.ensures.0;
   within = c.in-Text.ensures.1;
   ends = c.in-Text.ensures.3;
-  answers = subst (λ (l : List ℕ). Answers c.args.script.now (text (take c.in-Text.text l)) c.answer-answer.result c.answer-answer.new.self) c.held.ensures c.answer-answer.ensures;
+  answers = subst (λ (l : List ℕ). AnswersLine c.args.script.now (text (take c.in-Text.text l)) c.answer-answer.result c.answer-answer.new.self) c.held.ensures c.answer-answer.ensures;
 }
 
 pub returns-in-TooLong : goal.returns-in-TooLong
