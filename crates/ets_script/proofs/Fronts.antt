@@ -4,12 +4,12 @@ use Rattle.std.specs.Prelude.{Err}
 use Rattle.std.proofs.lemmas.List.{take_all, drop_min, length-drop}
 use Rattle.ets_term.specs.declared.term.Term.{Term}
 use Rattle.term_text.specs.Machine.{found, reading}
-use Rattle.term_text.specs.Reader.{Fails}
+use Rattle.term_text.specs.Given.{Fails}
 use Rattle.term_text.specs.declared.fault.TextFault.{TextFault}
 use Rattle.term_text.specs.declared.fault.TextFault.TheVariants as faults
 use Rattle.ets_script.specs.Reads.{Read, read}
 use Rattle.ets_script.specs.Terms.{term, term_of, stop_at}
-use Rattle.ets_script.specs.Says as says
+use Rattle.ets_script.specs.inside.Says as says
 
 pub read_found : (text : List ℕ) (t : Term) (n m : ℕ) → m ≡ min n (length text) → reading text ≡ found t n → term text ≡ read t (take (length text - m) (drop m text))
 unfolding term

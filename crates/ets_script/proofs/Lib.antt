@@ -1,7 +1,7 @@
-pub mod Known
-pub mod LineEnds
-pub mod Digits
-pub mod Arguments
-pub mod Fronts
-pub mod Names
-pub mod Runs
+mod Known
+mod Feeds
+mod Progress
+mod Names
+mod Digits
+mod Arguments
+mod Fronts

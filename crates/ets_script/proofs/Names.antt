@@ -7,7 +7,8 @@ use Rattle.std.proofs.Common.{subst, inl, inr}
 use Rattle.std.specs.Prelude.{◌⊎◌}
 use Rattle.node_core.specs.Machine.{step}
 use Rattle.node_core.specs.declared.step.Step.TheVariants.{Enrol}
-use Rattle.ets_script.specs.Script.{Scripted, Spawns, Stays, Enrols, names_after}
+use Rattle.ets_script.specs.Script.{Scripted, Spawns, Unchanged, names_after}
+use Rattle.ets_script.specs.inside.Enrolments.{Enrols}
 use Rattle.ets_script.specs.declared.answer.Answer.{Answer}
 use Rattle.ets_script.specs.declared.answer.Answer.TheVariants.{NoMemory}
 
@@ -25,7 +26,7 @@ same_state old new p q = λ i. record { names = p i; node = q i }
 
 -- an enrolment under a new name
 pub spawned : (old new : Scripted) (names : List (List ℕ)) (number : ℕ) (name copy : List ℕ) (answer : Answer) → names ≡ old.names → number ≡ length old.names → copy ≡ name
-    → Enrols names old.node number copy answer new.names new.node → Spawns None old name answer new ⊎ Stays old NoMemory answer new
+    → Enrols names old.node number copy answer new.names new.node → Spawns None old name answer new ⊎ Unchanged old NoMemory answer new
 spawned old new names number name copy answer same counted copied (inl (r, is, did, after)) =
     inl (r, is, subst (λ (n : ℕ). step old.node (Enrol n) r new.node) counted did, after ∙ ap (λ l. names_after r l copy) same ∙ ap (λ l. names_after r old.names l) copied)
 spawned old new names number name copy answer same counted copied (inr (is, after, kept)) = inr (is, same_state old new (after ∙ same) kept)

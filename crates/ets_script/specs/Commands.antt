@@ -90,8 +90,9 @@ by_word name bs =
     else if bytes_eq name (codes "ready") then readied bs
     else asked name bs
 
-abbrev pub said : List ℕ → Read Command
-said text = and_then (word (past is_blank text)) by_word
+-- what clean bytes say
+abbrev pub command_of : List ℕ → Read Command
+command_of text = and_then (word (past is_blank text)) by_word
 
 -- A line that is clean up to some byte says what its clean bytes say, if these are all. Else it has its fault where they
 -- have theirs, or at that byte, where they end too early or would make a whole line.
@@ -105,4 +106,4 @@ is_silent line = (length (past is_blank line) == 0) || starts (λ b. b == 37) (p
 
 -- what a line says that is not silent
 abbrev pub command : List ℕ → Command
-command line = up_to (prefix_len is_clean line) (length line) (said (take (prefix_len is_clean line) line))
+command line = up_to (prefix_len is_clean line) (length line) (command_of (take (prefix_len is_clean line) line))

@@ -1,15 +1,9 @@
 pub mod Lines
-pub mod Feeds
-pub mod Output
-pub mod Faults
-pub mod Found
 pub mod Reads
 pub mod Terms
 pub mod Classes
 pub mod Commands
-pub mod Says
-pub mod Answers
+pub mod Replies
 pub mod Script
 pub mod Stops
-pub mod Said
-pub mod Codes
+pub mod inside

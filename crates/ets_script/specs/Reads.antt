@@ -1,7 +1,7 @@
 -- What is read off the front of a text.
 use Rattle.std.specs.Prelude.{ℕ, List}
 
--- a value, with the rest of the text; or a fault, by the number of bytes from it on
+-- a value, with the rest of the text; or a fault, this many bytes before the end
 pub data Read (A : Type 0) : Type 0 where
   read : A → List ℕ → Read A
   fault : ℕ → Read A

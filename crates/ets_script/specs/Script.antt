@@ -1,5 +1,5 @@
 -- What a script's output is.
-use Rattle.std.specs.Prelude.{◌≡◌, ℕ, zero, suc, ◌⊎◌, Bool, true, false, List, [], ◌∷◌, ◌++◌, length, Option, Some, None, position, unwrap_or}
+use Rattle.std.specs.Prelude.{◌≡◌, ℕ, zero, suc, ◌⊎◌, Bool, true, false, List, [], ◌∷◌, ◌++◌, length, ⊤, Option, Some, None, position, unwrap_or}
 use Rattle.std.specs.Str.{bytes_eq}
 use Rattle.ets_term.specs.declared.term.Term.{Term}
 use Rattle.node_core.specs.State.{State, next_identifier}
@@ -11,7 +11,7 @@ use Rattle.node_core.specs.declared.step.Reply.{Reply}
 use Rattle.node_core.specs.declared.step.Reply.TheVariants.{Value, Badarg, SystemLimit, NoProcess}
 use Rattle.ets_script.specs.Lines.{Line, text, too_long, IsLine}
 use Rattle.ets_script.specs.Commands.{Command, faulty, spawn, exit, ask, grow, ready, command, is_silent}
-use Rattle.ets_script.specs.Answers.{printed}
+use Rattle.ets_script.specs.Replies.{printed}
 use Rattle.ets_script.specs.declared.answer.Answer.{Answer}
 use Rattle.ets_script.specs.declared.answer.Answer.TheVariants.{Silent, Replied, NoMemory, Syntax, TooLong}
 
@@ -29,8 +29,8 @@ abbrev pub table_of : Scripted → Term → ℕ
 table_of s t = unwrap_or (resolve s.node.tables t) (next_identifier s.node)
 
 -- the answer is this, and nothing changes
-abbrev pub Stays : Scripted → Answer → Answer → Scripted → Type 0
-Stays old fixed answer new = (answer ≡ fixed) × (new ≡ old)
+abbrev pub Unchanged : Scripted → Answer → Answer → Scripted → Type 0
+Unchanged old fixed answer new = (answer ≡ fixed) × (new ≡ old)
 
 -- the node makes a step, and the answer is its reply
 abbrev pub Steps : Scripted → Step → Answer → Scripted → Type 0
@@ -38,7 +38,7 @@ Steps old s answer new = (r : Reply) × (answer ≡ Replied r) × step old.node 
 
 -- a step of the process that a name stands for
 abbrev pub StepsOf : Option ℕ → (ℕ → Step) → Scripted → Answer → Scripted → Type 0
-StepsOf None s old answer new = Stays old (Replied NoProcess) answer new
+StepsOf None s old answer new = Unchanged old (Replied NoProcess) answer new
 StepsOf (Some p) s old answer new = Steps old (s p) answer new
 
 -- the names after the reply to an enrolment: a refused one takes no name
@@ -50,17 +50,11 @@ names_after NoProcess names name = names
 
 -- a name is spawned once, and takes the next number
 abbrev pub Spawns : Option ℕ → Scripted → List ℕ → Answer → Scripted → Type 0
-Spawns (Some p) old name answer new = Stays old (Replied Badarg) answer new
+Spawns (Some p) old name answer new = Unchanged old (Replied Badarg) answer new
 Spawns None old name answer new = (r : Reply) × (answer ≡ Replied r) × step old.node (Enrol (length old.names)) r new.node × (new.names ≡ names_after r old.names name)
 
--- an enrolment of the next number, or no memory for it
-abbrev pub Enrols : List (List ℕ) → State → ℕ → List ℕ → Answer → List (List ℕ) → State → Type 0
-Enrols names old number name answer after new =
-    ((r : Reply) × (answer ≡ Replied r) × step old (Enrol number) r new × (after ≡ names_after r names name))
-    ⊎ ((answer ≡ NoMemory) × (after ≡ names) × (new ≡ old))
-
 abbrev pub Obeys : Command → Scripted → Answer → Scripted → Type 0
-Obeys (faulty at) old answer new = Stays old (Syntax at) answer new
+Obeys (faulty at) old answer new = Unchanged old (Syntax at) answer new
 Obeys (spawn name) old answer new = Spawns (pid_of old name) old name answer new
 Obeys (exit name) old answer new = StepsOf (pid_of old name) (λ p. End p) old answer new
 Obeys (ask name word terms) old answer new = StepsOf (pid_of old name) (λ p. Ask p (record { name = word; args = terms })) old answer new
@@ -69,31 +63,40 @@ Obeys (ready t bucket) old answer new = Steps old (Ready (table_of old t) bucket
 
 -- a line that is silent, and one that is not: this may have the want of memory in place of its answer
 abbrev pub AnswersText : Bool → Scripted → List ℕ → Answer → Scripted → Type 0
-AnswersText true old t answer new = Stays old Silent answer new
-AnswersText false old t answer new = Obeys (command t) old answer new ⊎ Stays old NoMemory answer new
+AnswersText true old t answer new = Unchanged old Silent answer new
+AnswersText false old t answer new = Obeys (command t) old answer new ⊎ Unchanged old NoMemory answer new
 
 -- what a line is answered, and the state after it
-abbrev pub Answers : Scripted → Line → Answer → Scripted → Type 0
-Answers old (text t) answer new = AnswersText (is_silent t) old t answer new
-Answers old too_long answer new = Stays old TooLong answer new
+abbrev pub AnswersLine : Scripted → Line → Answer → Scripted → Type 0
+AnswersLine old (text t) answer new = AnswersText (is_silent t) old t answer new
+AnswersLine old too_long answer new = Unchanged old TooLong answer new
 
 -- These bytes are one line, which has this output; `last` where nothing follows it.
 pub record IsAnswered (old : Scripted) (bytes : List ℕ) (out : List ℕ) (new : Scripted) (last : Type 0) : Type 0 where
   pub line : Line
   pub answer : Answer
   pub is_line : IsLine bytes line last
-  pub answers : Answers old line answer new
+  pub answers : AnswersLine old line answer new
   pub prints : out ≡ printed answer
 
--- So many lines are all of the input, and what they print is all of the output, from one state to another.
-abbrev pub ScriptText : ℕ → Scripted → List ℕ → List ℕ → Scripted → Type 0
-ScriptText zero old input out new = (input ≡ []) × (out ≡ []) × (new ≡ old)
-ScriptText (suc n) old input out new =
-    (mid : Scripted) × (bytes : List ℕ) × (rest : List ℕ) × (said : List ℕ) × (others : List ℕ)
-    × (input ≡ bytes ++ rest) × (out ≡ said ++ others) × IsAnswered old bytes said mid (rest ≡ []) × ScriptText n mid rest others new
+-- So many lines are all of the input, and what they print is all of the output, from one state to another. The last may
+-- lack its LF where `last` holds.
+abbrev pub ScriptText : ℕ → Type 0 → Scripted → List ℕ → List ℕ → Scripted → Type 0
+ScriptText zero last old input output new = (input ≡ []) × (output ≡ []) × (new ≡ old)
+ScriptText (suc n) last old input output new =
+    (mid : Scripted) × (bytes : List ℕ) × (rest : List ℕ) × (first : List ℕ) × (others : List ℕ)
+    × (input ≡ bytes ++ rest) × (output ≡ first ++ others) × IsAnswered old bytes first mid ((rest ≡ []) × last) × ScriptText n last mid rest others new
 
+abbrev pub AreLines : Type 0 → Scripted → List ℕ → List ℕ → Scripted → Type 0
+AreLines last old input output new = (count : ℕ) × ScriptText count last old input output new
+
+-- lines that all have their LF
+abbrev pub AreWholeLines : Scripted → List ℕ → List ℕ → Scripted → Type 0
+AreWholeLines = AreLines ⊥
+
+-- a script to its end, where the last line may lack its LF
 abbrev pub IsScript : Scripted → List ℕ → List ℕ → Scripted → Type 0
-IsScript old input out new = (lines : ℕ) × ScriptText lines old input out new
+IsScript = AreLines ⊤
 
 -- before the first line
 abbrev pub at_start : State → Scripted

@@ -1,17 +1,33 @@
--- What a script that stopped has written.
-use Rattle.std.specs.Prelude.{◌≡◌, ℕ, List, [], ◌++◌, Option, IfSome}
-use Rattle.std.specs.Io.KnownBytes.{Appends, Consumes}
+-- What a script has read and written when it ends.
+use Rattle.std.specs.Prelude.{◌≡◌, ◌⊎◌, ℕ, List, [], ◌++◌, Option}
+use Rattle.std.specs.Io.KnownBytes.{Appends, Consumes, IsAtEnd}
 use Rattle.ets_script.specs.Lines.{IsOneLine}
-use Rattle.ets_script.specs.Script.{Scripted, IsScript}
+use Rattle.node_core.specs.State.{empty}
+use Rattle.ets_script.specs.Script.{Scripted, at_start, IsScript, AreWholeLines, AreLines}
 use Rattle.ets_script.specs.declared.fault.ScriptFault.{ScriptFault}
 use Rattle.ets_script.specs.declared.fault.ScriptFault.TheVariants.{Read, Write, Memory}
 
--- From the reader's bytes before and after: whole lines that were read, and part of one that has no LF; and what was
--- written: after a read fault all answers to the whole lines, after a write fault a front of them. Without memory to
--- begin with, nothing.
+-- the reader had all of a script, which was read to its end, and all that its lines print was written
+abbrev pub Completes : Scripted → Option (List ℕ) → Option (List ℕ) → Option (List ℕ) → Option (List ℕ) → Scripted → Type 0
+Completes start before after old new end = (input : List ℕ) × (output : List ℕ)
+    × Consumes before after input × IsAtEnd after × Appends old new output × IsScript start input output end
+
+-- From what the reader had to what it has left. At a read fault these were whole lines, each with its LF, all of whose
+-- answers were written, and a part of a line, which was not answered. At a write fault a front of the answers was
+-- written: answers to whole lines, and to a last one without an LF if all of the input was read; some of what was read
+-- may not have been looked at. Without memory to begin with, nothing was read or written.
 abbrev pub Stops : Scripted → Option (List ℕ) → Option (List ℕ) → Option (List ℕ) → Option (List ℕ) → ScriptFault → Type 0
-Stops start before after old new Read = (lines : List ℕ) × (part : List ℕ) × (out : List ℕ) × (s : Scripted)
-    × IsOneLine part × Consumes before after (lines ++ part) × Appends old new out × IsScript start lines out s
-Stops start before after old new Write = (lines : List ℕ) × (rest : List ℕ) × (out : List ℕ) × (unsent : List ℕ) × (s : Scripted)
-    × IfSome before (λ all. all ≡ lines ++ rest) × Appends old new out × IsScript start lines (out ++ unsent) s
+Stops start before after old new Read = (lines : List ℕ) × (part : List ℕ) × (output : List ℕ) × (end : Scripted)
+    × Consumes before after (lines ++ part) × IsOneLine part × Appends old new output × AreWholeLines start lines output end
+Stops start before after old new Write = (lines : List ℕ) × (unread : List ℕ) × (output : List ℕ) × (unsent : List ℕ) × (end : Scripted)
+    × Consumes before after (lines ++ unread) × Appends old new output × AreLines ((unread ≡ []) × IsAtEnd after) start lines (output ++ unsent) end
 Stops start before after old new Memory = Consumes before after [] × Appends old new []
+
+-- before the first line, by the usual limits
+abbrev pub usual_start : Scripted
+usual_start = at_start (empty (record { processes = 4096; tables = 65536; objects = 1000000 }))
+
+-- the program's status: 0 after a whole script, else 1
+abbrev pub ProgramEnds : Option (List ℕ) → Option (List ℕ) → Option (List ℕ) → Option (List ℕ) → ℕ → Type 0
+ProgramEnds before after old new status = ((status ≡ 0) × (end : Scripted) × Completes usual_start before after old new end)
+    ⊎ ((status ≡ 1) × (fault : ScriptFault) × Stops usual_start before after old new fault)

@@ -1,7 +1,7 @@
 //! What a line is answered, and how that is printed.
 ghost use Rattle.std.specs.Prelude.{◌≡◌, ◌∷◌, [], ◌++◌, OnOk, OnErr, codes};
-ghost use Rattle.ets_script.specs.Answers.{printed, reply_text};
-ghost use Rattle.ets_script.specs.Output.{Sends, Breaks};
+ghost use Rattle.ets_script.specs.Replies.{printed, reply_text};
+ghost use Rattle.ets_script.specs.inside.Output.{Sends, Breaks};
 
 use crate::output::{Pending, WriteFault};
 use itoa::Buffer;

@@ -5,8 +5,8 @@ ghost use Rattle.std.specs.Str.{bytes_eq};
 ghost use Rattle.ets_term.specs.Character.{IsAtomText};
 ghost use Rattle.ets_script.specs.Classes.{is_digit};
 ghost use Rattle.ets_script.specs.Reads.{read};
-ghost use Rattle.ets_script.specs.Commands as said;
-ghost use Rattle.ets_script.specs.Says.{Gives, GivesExactly, said_by};
+ghost use Rattle.ets_script.specs.Commands as spec;
+ghost use Rattle.ets_script.specs.inside.Says.{Gives, GivesExactly, command_seen};
 
 use crate::classes::{
     clean_len, digits_len, past_blanks, starts_blank, starts_digit, starts_lower, word_len,
@@ -32,7 +32,7 @@ pub enum Command<'a> {
 
 // One blank or more.
 fn gap(text: &[u8]) -> Result<&[u8], Stop>
-    ensures { GivesExactly (λ r. read tt r.now) result (said.gap text.now) }
+    ensures { GivesExactly (λ r. read tt r.now) result (spec.gap text.now) }
 {
     if !starts_blank(text) {
         return Err(Stop::Fault(text.len()));
@@ -42,7 +42,7 @@ fn gap(text: &[u8]) -> Result<&[u8], Stop>
 
 // A name, or the word of a call.
 fn word(text: &[u8]) -> Result<(&[u8], &[u8]), Stop>
-    ensures word { GivesExactly (λ r. read r.0.now r.1.now) result (said.word text.now) }
+    ensures word { GivesExactly (λ r. read r.0.now r.1.now) result (spec.word text.now) }
     ensures atom { IfOk result (λ r. IsAtomText r.0.now) }
 {
     let len = word_len(text);
@@ -54,7 +54,7 @@ fn word(text: &[u8]) -> Result<(&[u8], &[u8]), Stop>
 
 // The parenthesis before arguments.
 fn opening(text: &[u8]) -> Result<&[u8], Stop>
-    ensures { GivesExactly (λ r. read tt r.now) result (said.opening text.now) }
+    ensures { GivesExactly (λ r. read tt r.now) result (spec.opening text.now) }
 {
     match past_blanks(text) {
         [b'(', rest @ ..] => Ok(rest),
@@ -64,7 +64,7 @@ fn opening(text: &[u8]) -> Result<&[u8], Stop>
 
 // Nothing but blanks.
 fn ended(text: &[u8]) -> Result<(), Stop>
-    ensures { GivesExactly (λ _. read tt []) result (said.ended text.now) }
+    ensures { GivesExactly (λ _. read tt []) result (spec.ended text.now) }
 {
     match past_blanks(text) {
         [] => Ok(()),
@@ -74,7 +74,7 @@ fn ended(text: &[u8]) -> Result<(), Stop>
 
 // A bucket.
 fn bucket(text: &[u8]) -> Result<(u32, &[u8]), Stop>
-    ensures { GivesExactly (λ r. read r.0 r.1.now) result (said.bucket text.now) }
+    ensures { GivesExactly (λ r. read r.0 r.1.now) result (spec.bucket text.now) }
 {
     let (digits, rest) = text.split_at(digits_len(text));
     match number(digits) {
@@ -86,7 +86,7 @@ fn bucket(text: &[u8]) -> Result<(u32, &[u8]), Stop>
 // The number that digits write, where it is below 2^32.
 fn number(digits: &[u8]) -> Option<u32>
     requires { IsTrue (list_all is_digit digits.now) }
-    ensures { result ≡ (if nat_le (said.number digits.now) 4294967295 then Some (said.number digits.now) else None) }
+    ensures { result ≡ (if nat_le (spec.number digits.now) 4294967295 then Some (spec.number digits.now) else None) }
 {
     let mut value = 0;
     for digit in digits {
@@ -101,7 +101,7 @@ fn number(digits: &[u8]) -> Option<u32>
 
 // What stands behind an argument: whether one more must come, and what follows.
 fn behind(text: &[u8]) -> Result<(bool, &[u8]), Stop>
-    ensures { GivesExactly (λ r. read r.0 r.1.now) result (said.behind text.now) }
+    ensures { GivesExactly (λ r. read r.0 r.1.now) result (spec.behind text.now) }
 {
     match past_blanks(text) {
         [b',', rest @ ..] => Ok((true, rest)),
@@ -112,7 +112,7 @@ fn behind(text: &[u8]) -> Result<(bool, &[u8]), Stop>
 
 // The arguments of a call, behind the parenthesis that opens them.
 fn arguments(alloc: Global, text: &[u8]) -> Result<(Items<Term>, &[u8]), Stop>
-    ensures { Gives (λ r. read r.0 r.1.now) result (said.arguments text.now) }
+    ensures { Gives (λ r. read r.0 r.1.now) result (spec.arguments text.now) }
 {
     let mut terms = Items::new(alloc);
     let mut rest = past_blanks(text);
@@ -135,8 +135,8 @@ fn arguments(alloc: Global, text: &[u8]) -> Result<(Items<Term>, &[u8]), Stop>
 
 // The name behind `spawn` or `exit`.
 fn named(text: &[u8]) -> Result<&[u8], Stop>
-    ensures spawn { GivesExactly (λ r. read (said.spawn r.now) []) result (said.named said.spawn text.now) }
-    ensures exit { GivesExactly (λ r. read (said.exit r.now) []) result (said.named said.exit text.now) }
+    ensures spawn { GivesExactly (λ r. read (spec.spawn r.now) []) result (spec.named spec.spawn text.now) }
+    ensures exit { GivesExactly (λ r. read (spec.exit r.now) []) result (spec.named spec.exit text.now) }
 {
     let (name, after) = word(gap(text)?)?;
     ended(after)?;
@@ -145,7 +145,7 @@ fn named(text: &[u8]) -> Result<&[u8], Stop>
 
 // The table behind `grow`.
 fn grown<'a>(alloc: Global, text: &'a [u8]) -> Result<Command<'a>, Stop>
-    ensures { Gives (λ c. read (said_by c) []) result (said.grown text.now) }
+    ensures { Gives (λ c. read (command_seen c) []) result (spec.grown text.now) }
 {
     let (table, after) = read_front(alloc, gap(text)?)?;
     ended(after)?;
@@ -154,7 +154,7 @@ fn grown<'a>(alloc: Global, text: &'a [u8]) -> Result<Command<'a>, Stop>
 
 // The table and the bucket behind `ready`.
 fn readied<'a>(alloc: Global, text: &'a [u8]) -> Result<Command<'a>, Stop>
-    ensures { Gives (λ c. read (said_by c) []) result (said.readied text.now) }
+    ensures { Gives (λ c. read (command_seen c) []) result (spec.readied text.now) }
 {
     let (table, more) = read_front(alloc, gap(text)?)?;
     let (bucket, after) = bucket(gap(more)?)?;
@@ -164,7 +164,7 @@ fn readied<'a>(alloc: Global, text: &'a [u8]) -> Result<Command<'a>, Stop>
 
 // The call behind a process's name.
 fn asked<'a>(alloc: Global, name: &'a [u8], text: &'a [u8]) -> Result<Command<'a>, Stop>
-    ensures { Gives (λ c. read (said_by c) []) result (said.asked name.now text.now) }
+    ensures { Gives (λ c. read (command_seen c) []) result (spec.asked name.now text.now) }
 {
     let (call, more) = word(gap(text)?)?;
     let (terms, after) = arguments(alloc, opening(more)?)?;
@@ -176,8 +176,8 @@ fn asked<'a>(alloc: Global, name: &'a [u8], text: &'a [u8]) -> Result<Command<'a
 }
 
 // What clean bytes say.
-fn said<'a>(alloc: Global, text: &'a [u8]) -> Result<Command<'a>, Stop>
-    ensures { Gives (λ c. read (said_by c) []) result (said.said text.now) }
+fn command_of<'a>(alloc: Global, text: &'a [u8]) -> Result<Command<'a>, Stop>
+    ensures { Gives (λ c. read (command_seen c) []) result (spec.command_of text.now) }
 {
     let (name, rest) = word(past_blanks(text))?;
     if is(name, b"spawn") {
@@ -201,7 +201,7 @@ fn is(name: &[u8], text: &[u8]) -> bool
 
 /// Whether a line is blank or a comment.
 pub fn is_silent(line: &[u8]) -> bool
-    ensures { result ≡ said.is_silent line.now }
+    ensures { result ≡ spec.is_silent line.now }
 {
     match past_blanks(line) {
         [] => true,
@@ -211,10 +211,10 @@ pub fn is_silent(line: &[u8]) -> bool
 
 /// Reads what a line says that is not silent. The offset of a fault is that of the one that is noticed first.
 pub fn read_command<'a>(alloc: Global, line: &'a [u8]) -> Result<Command<'a>, AllocError>
-    ensures { IfOk result (λ c. said_by c ≡ said.command line.now) }
+    ensures { IfOk result (λ c. command_seen c ≡ spec.command line.now) }
 {
     let clean = clean_len(line);
-    match said(alloc, &line[..clean]) {
+    match command_of(alloc, &line[..clean]) {
         Ok(command) if clean == line.len() => Ok(command),
         Ok(_) => Ok(Command::Faulty(clean)),
         Err(Stop::Fault(left)) => Ok(Command::Faulty(clean.saturating_sub(left))),

@@ -1,92 +1,119 @@
-//! A reader behind a buffer.
-ghost use Rattle.std.specs.Prelude.{◌≡◌, ◌+◌, ◌-◌, ◌≤◌, ◌<◌, ℕ, List, [], ◌++◌, length, take, drop, slice_range, vec_len, IfOk, OnOk, OnErr};
+//! What was read of a script, in a buffer from which it is taken line by line.
+ghost use Rattle.std.specs.Prelude.{◌≡◌, ◌+◌, ◌-◌, ◌≤◌, ◌<◌, ℕ, List, [], false, ◌++◌, length, take, drop, slice_range, vec_len, IfOk, OnOk, OnErr};
 ghost use Rattle.std.specs.Io.KnownBytes.{Consumes, Keeps, IsAtEnd};
-ghost use Rattle.ets_script.specs.Feeds.{Input, Refills};
+ghost use Rattle.ets_script.specs.inside.Feeds.{Held, Refills, Finds, Waits};
+ghost use Rattle.ets_script.specs.Lines.{IsOneLine};
 
+use crate::lines::{MAX_LINE, NextLine, find_line};
 use std::alloc::{AllocError, Global};
 use std::io::Read;
 use std::marker::Model;
 
-/// The bytes before the LF of a line that is not too long.
-pub const MOST_LINE: usize = 65_536;
-
 // Twice a line, so that a line that is not too long always leaves room for more.
 const ROOM: usize = 131_072;
 
-const MOST_READS: u32 = 1_000_000_000;
+/// The most reads that a script takes.
+pub const MAX_READS: u32 = 1_000_000_000;
 
 /// A read failed, or there were too many.
 #[derive(Debug, Drop)]
 pub struct ReadFault;
 
-/// A reader and the bytes that were read and not yet taken.
+/// The bytes that were read and not yet taken.
 #[derive(Drop)]
-pub struct Feed<R: Read + Drop> {
-    reader: R,
+pub struct Feed {
     buffer: Vec<u8>,
     start: usize,
     end: usize,
+    // The line began before these bytes and is too long.
+    is_skipping: bool,
+    // How many reads may still be made.
     reads: u32,
 }
 
-impl<R: Read + Drop> Model for Feed<R> {
-    ghost use Rattle.std.specs.Prelude.{◌≡◌, ◌≤◌, vec_len, slice_range};
-    ghost use Rattle.ets_script.specs.Feeds.{Input};
+impl Model for Feed {
+    ghost use Rattle.std.specs.Prelude.{◌≤◌, ◌≡◌, vec_len, slice_range};
+    ghost use Rattle.ets_script.specs.inside.Feeds.{Held};
 
-    ghost Value = { Input };
+    ghost Value = { Held };
 
-    ghost view = { λ f. record { held = slice_range f.buffer.items f.start f.end; left = R.remaining f.reader; reads = f.reads } };
+    ghost view = { λ f. record { bytes = slice_range f.buffer.items f.start f.end; is_skipping = f.is_skipping; reads = f.reads } };
 
-    ghost invariant = { λ f. (f.start ≤ f.end) × (f.end ≤ 131072) × (vec_len f.buffer ≡ 131072) × (f.reads ≤ 1000000000) };
+    ghost invariant = { λ f. (f.start ≤ f.end) × (f.end ≤ 131072) × (vec_len f.buffer ≡ 131072) };
 }
 
-impl<R: Read + Drop> Feed<R> {
-    /// Nothing was read yet.
-    pub fn new(alloc: Global, reader: R) -> Result<Feed<R>, AllocError>
-        ensures { IfOk result (λ f. f ≡ record { held = []; left = R.remaining reader; reads = 0 }) }
+impl Feed {
+    /// Nothing was read yet, and so many reads may be made.
+    pub fn new(alloc: Global, reads: u32) -> Result<Feed, AllocError>
+        ensures { IfOk result (λ f. f ≡ record { bytes = []; is_skipping = false; reads = reads }) }
     {
         Ok(Feed {
-            reader,
             buffer: vec![in alloc; 0; ROOM]?,
             start: 0,
             end: 0,
-            reads: 0,
+            is_skipping: false,
+            reads,
         })
     }
 
     /// The bytes that were read and not yet taken.
     pub fn held(&self) -> &[u8]
-        ensures { result.now ≡ self.now.held }
+        ensures { result.now ≡ self.now.bytes }
     {
         &self.buffer[self.start..self.end]
     }
 
-    /// Takes the first `count` of them.
-    pub fn take(&mut self, count: usize)
-        requires { count ≤ length self.old.held }
-        ensures held { self.new.held ≡ drop count self.old.held }
-        ensures left { self.new.left ≡ self.old.left }
+    /// Whether these bytes go on with a line of which others were passed over, as it is too long.
+    pub fn is_skipping(&self) -> bool
+        ensures { result ≡ self.now.is_skipping }
+    {
+        self.is_skipping
+    }
+
+    /// Takes the first `count` bytes, which end a line.
+    pub fn consume(&mut self, count: usize)
+        requires { count ≤ length self.old.bytes }
+        ensures bytes { self.new.bytes ≡ drop count self.old.bytes }
+        ensures whole { self.new.is_skipping ≡ false }
         ensures reads { self.new.reads ≡ self.old.reads }
     {
         self.start += count;
+        self.is_skipping = false;
     }
 
-    /// Reads more, and says how many bytes came: none at the end of the input alone. The billionth read without an end
-    /// was the last.
-    pub fn refill(&mut self) -> Result<usize, ReadFault>
-        requires { length self.old.held ≤ MOST_LINE }
-        ensures ok { IfOk result (λ count. Refills self.old self.new count) }
-        ensures reads { OnOk result ((self.new.reads ≡ self.old.reads + 1) × (self.new.reads ≤ 1000000000)) }
-        ensures err { OnErr result (Keeps self.old.left self.new.left × (self.new.held ≡ self.old.held)) }
+    /// The next line. A part of one is searched anew after each read.
+    pub fn next_line(&self) -> NextLine
+        ensures { Finds self.now result }
     {
-        if self.reads == MOST_READS {
+        find_line(self.held(), self.is_skipping)
+    }
+
+    /// Passes over the bytes held, a part of a line, where there are too many of them.
+    pub fn skip_long(&mut self)
+        requires { IsOneLine self.old.bytes }
+        ensures { Waits self.old self.new }
+    {
+        if self.is_skipping || self.held().len() > MAX_LINE {
+            self.start = self.end;
+            self.is_skipping = true;
+        }
+    }
+
+    /// Reads more behind the bytes held, and says how many came: none at the end of the input alone. The 1,000,000,000th
+    /// read without an end of the input is a fault.
+    pub fn refill<R: Read>(&mut self, reader: &mut R) -> Result<usize, ReadFault>
+        requires { length self.old.bytes ≤ MAX_LINE }
+        ensures ok { IfOk result (λ count. Refills self.old self.new (R.remaining reader.old) (R.remaining reader.new) count) }
+        ensures err { OnErr result (Keeps (R.remaining reader.old) (R.remaining reader.new) × (self.new.bytes ≡ self.old.bytes)) }
+    {
+        if self.reads == 0 {
             return Err(ReadFault);
         }
         let held = self.end - self.start;
         self.start = shift(&mut self.buffer, self.start, self.end);
         self.end = self.start + held;
-        self.reads += 1;
-        let count = read_behind(&mut self.reader, &mut self.buffer, self.end)?;
+        self.reads -= 1;
+        let count = read_behind(reader, &mut self.buffer, self.end)?;
         self.end += count;
         Ok(count)
     }
@@ -103,7 +130,7 @@ fn shift(buffer: &mut Vec<u8>, start: usize, end: usize) -> usize
     ensures held { slice_range buffer.new.items result (result + (end - start)) ≡ slice_range buffer.old.items start end }
     ensures room { result + (end - start) ≤ 65536 }
 {
-    if end <= MOST_LINE {
+    if end <= MAX_LINE {
         return start;
     }
     buffer.copy_within(start..end, 0);

@@ -1,4 +1,4 @@
-//! Answers a script of calls.
+//! The program: a script's output is the text of a run's replies.
 #![tactic(auto)]
 
 mod answer;
@@ -8,6 +8,7 @@ mod fault;
 mod feed;
 mod lines;
 mod output;
+mod program;
 mod run;
 mod script;
 mod stop;
@@ -15,25 +16,16 @@ mod terms;
 #[cfg(test)]
 mod tests;
 
-use crate::run::run_script;
-use ets_term::AllSame;
-use node_core::Limits;
+use crate::program::answer_input;
 use std::io;
 use std::process::ExitCode;
 
 fn main(rt: HostRuntime) -> io::Result<ExitCode> {
-    let mut writer = io::writer(&rt);
-    match run_script(
+    let status = answer_input(
         rt.alloc(),
-        rt.reader(),
-        &mut writer,
-        Limits::usual(),
-        AllSame,
-    ) {
-        Ok(_) => Ok(ExitCode::SUCCESS),
-        Err(fault) => {
-            eprintln!(rt; "{fault}")?;
-            Ok(ExitCode::FAILURE)
-        }
-    }
+        &mut rt.reader(),
+        &mut io::writer(&rt),
+        &mut rt.stderr(),
+    )?;
+    Ok(ExitCode::from(status))
 }

@@ -2,13 +2,13 @@
 ghost use Rattle.std.specs.Prelude.{◌≡◌, ◌+◌, ◌-◌, ◌≤◌, ◌<◌, ℕ, List, [], ◌∷◌, ◌++◌, length, take, drop, vec_len, IfOk, OnOk, OnErr};
 ghost use Rattle.std.specs.Io.KnownBytes.{Appends};
 ghost use Rattle.term_text.specs.Printed.{printed};
-ghost use Rattle.ets_script.specs.Output.{Sends, Breaks};
+ghost use Rattle.ets_script.specs.inside.Output.{Sends, Breaks};
 
 use ets_term::Term;
 use std::alloc::{AllocError, Global};
 use std::io::Write;
 use std::marker::Model;
-use term_text::write_term;
+use term_text::{write_bytes, write_term};
 
 // What waits goes out once it is this long.
 const BLOCK: usize = 65_536;
@@ -112,13 +112,8 @@ fn write_whole<W: Write>(writer: &mut W, bytes: &[u8]) -> Result<(), WriteFault>
     ensures ok { OnOk result (Appends (W.contents writer.old) (W.contents writer.new) bytes.now) }
     ensures err { OnErr result (Breaks (W.contents writer.old) (W.contents writer.new) bytes.now) }
 {
-    let mut sent = 0;
-    while sent < bytes.len() {
-        match writer.write(&bytes[sent..]) {
-            Ok(0) => return Err(WriteFault),
-            Ok(n) => sent += n,
-            Err(_) => return Err(WriteFault),
-        }
+    match write_bytes(bytes, writer) {
+        Ok(()) => Ok(()),
+        Err(_) => Err(WriteFault),
     }
-    Ok(())
 }

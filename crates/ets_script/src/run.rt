@@ -1,136 +1,153 @@
 //! A script from its first line to its last.
-ghost use Rattle.std.specs.Prelude.{◌≡◌, ℕ, List, [], ◌++◌, Option, IfOk, IfErr, OnOk, OnErr, IfSome};
-ghost use Rattle.std.specs.Io.KnownBytes.{Appends, Consumes};
+ghost use Rattle.std.specs.Prelude.{◌≡◌, [], ◌++◌, false, IfOk, IfErr, OnOk, OnErr};
 ghost use Rattle.node_core.specs.State.{empty};
-ghost use Rattle.ets_script.specs.Feeds.{rest_of};
-ghost use Rattle.ets_script.specs.Script.{Scripted, IsScript, at_start};
-ghost use Rattle.ets_script.specs.Stops.{Stops};
-ghost use Rattle.ets_script.specs.Faults.{Waits};
-ghost use Rattle.ets_script.specs.Said.{Nexts};
-ghost use Rattle.ets_script.specs.Output.{Sends};
+ghost use Rattle.ets_script.specs.Replies.{printed};
+ghost use Rattle.ets_script.specs.Script.{Scripted, at_start};
+ghost use Rattle.ets_script.specs.Stops.{Stops, Completes};
+ghost use Rattle.ets_script.specs.inside.Output.{Sends, Breaks};
+ghost use Rattle.ets_script.specs.inside.Answered.{AnswersNext, AnswersPart, EndsAll, BreaksAtEnd};
 
 use crate::answer::Answer;
 use crate::fault::ScriptFault;
-use crate::feed::Feed;
-use crate::lines::{Found, next_line};
-use crate::output::Pending;
+use crate::feed::{Feed, MAX_READS};
+use crate::lines::NextLine;
+use crate::output::{Pending, WriteFault};
 use crate::script::Script;
 use ets_term::KeyHash;
 use node_core::{Limits, Node};
 use std::alloc::Global;
 use std::io::{Read, Write};
 
-/// Answers each line of a script.
-pub fn run_script<R: Read + Drop, W: Write, H: KeyHash + Copy>(
+/// AnswersLine each line of a script, from the first state of a node with these limits to that of the node answered. What was
+/// answered has gone out before each read, and at the end.
+pub fn run_script<R: Read, W: Write, H: KeyHash + Copy>(
     alloc: Global,
-    reader: R,
+    reader: &mut R,
     writer: &mut W,
     limits: Limits,
     hash: H,
 ) -> Result<Node<H>, ScriptFault>
-    ensures ok { IfOk result (λ node. (input : List ℕ) × (output : List ℕ) × (s : Scripted) × (s.node ≡ node) × IfSome (R.remaining reader) (λ all. all ≡ input)
-        × Appends (W.contents writer.old) (W.contents writer.new) output × IsScript (at_start (empty limits)) input output s) }
-    ensures err { IfErr result (λ fault. (after : Option (List ℕ)) × Stops (at_start (empty limits)) (R.remaining reader) after (W.contents writer.old) (W.contents writer.new) fault) }
+    ensures ok { IfOk result (λ node. (end : Scripted) × (end.node ≡ node) × Completes (at_start (empty limits)) (R.remaining reader.old) (R.remaining reader.new) (W.contents writer.old) (W.contents writer.new) end) }
+    ensures err { IfErr result (Stops (at_start (empty limits)) (R.remaining reader.old) (R.remaining reader.new) (W.contents writer.old) (W.contents writer.new)) }
 {
-    let Ok(mut feed) = Feed::new(alloc, reader) else {
+    run_within(alloc, reader, writer, limits, hash, MAX_READS)
+}
+
+/// As `run_script`, with at most this many reads.
+pub fn run_within<R: Read, W: Write, H: KeyHash + Copy>(
+    alloc: Global,
+    reader: &mut R,
+    writer: &mut W,
+    limits: Limits,
+    hash: H,
+    reads: u32,
+) -> Result<Node<H>, ScriptFault>
+    ensures ok { IfOk result (λ node. (end : Scripted) × (end.node ≡ node) × Completes (at_start (empty limits)) (R.remaining reader.old) (R.remaining reader.new) (W.contents writer.old) (W.contents writer.new) end) }
+    ensures err { IfErr result (Stops (at_start (empty limits)) (R.remaining reader.old) (R.remaining reader.new) (W.contents writer.old) (W.contents writer.new)) }
+{
+    let Ok(mut feed) = Feed::new(alloc, reads) else {
         return Err(ScriptFault::Memory);
     };
     let Ok(mut pending) = Pending::new(alloc) else {
         return Err(ScriptFault::Memory);
     };
     let mut script = Script::new(alloc, limits, hash);
-    answer_all(alloc, &mut feed, &mut pending, writer, &mut script)?;
+    answer_all(alloc, reader, &mut feed, &mut pending, writer, &mut script)?;
     Ok(script.into_node())
 }
 
-/// A line's answer, how many of the bytes held the line takes, and whether it ends with the input.
-#[derive(Drop)]
-struct Said {
-    answer: Answer,
-    taken: usize,
-    last: bool,
-}
-
-// Answers all lines, and sends all answers.
-fn answer_all<R: Read + Drop, W: Write, H: KeyHash + Copy>(
+// AnswersLine all lines, and sends all answers.
+fn answer_all<R: Read, W: Write, H: KeyHash + Copy>(
     alloc: Global,
-    feed: &mut Feed<R>,
+    reader: &mut R,
+    feed: &mut Feed,
     pending: &mut Pending,
     writer: &mut W,
     script: &mut Script<H>,
 ) -> Result<(), ScriptFault>
-    requires { pending.old ≡ [] }
-    ensures ok { OnOk result ((input : List ℕ) × (output : List ℕ) × IfSome (rest_of feed.old) (λ all. all ≡ input)
-        × Appends (W.contents writer.old) (W.contents writer.new) output × IsScript script.old input output script.new) }
-    ensures err { IfErr result (λ fault. Stops script.old (rest_of feed.old) feed.new.left (W.contents writer.old) (W.contents writer.new) fault) }
+    requires waiting { pending.old ≡ [] }
+    requires held { (feed.old.bytes ≡ []) × (feed.old.is_skipping ≡ false) }
+    ensures ok { OnOk result (Completes script.old (R.remaining reader.old) (R.remaining reader.new) (W.contents writer.old) (W.contents writer.new) script.new) }
+    ensures err { IfErr result (Stops script.old (R.remaining reader.old) (R.remaining reader.new) (W.contents writer.old) (W.contents writer.new)) }
 {
-    for _ in 0..u64::MAX {
-        let Some(said) = next_said(alloc, feed, pending, writer, script)? else {
+    loop {
+        let Some(next) = answer_next(alloc, feed, script) else {
             pending.flush(writer)?;
-            return Ok(());
+            feed.skip_long();
+            if feed.refill(reader)? == 0 {
+                answer_last(alloc, feed, pending, writer, script)?;
+                return Ok(());
+            }
+            continue;
         };
-        said.answer.print(pending, writer)?;
-        feed.take(said.taken);
-        if said.last {
-            pending.flush(writer)?;
-            return Ok(());
-        }
+        feed.consume(print_line(next, pending, writer)?);
     }
-    // A billion reads do not give so many lines.
-    Err(ScriptFault::Write)
 }
 
-// Answers the next line.
-fn next_said<R: Read + Drop, W: Write, H: KeyHash + Copy>(
+/// A line's answer, and how many of the bytes held the line takes.
+#[derive(Drop)]
+struct AnsweredLine {
+    answer: Answer,
+    taken: usize,
+}
+
+// Prints a line's answer, and says how many of the bytes held the line takes.
+fn print_line<W: Write>(
+    line: AnsweredLine,
+    pending: &mut Pending,
+    writer: &mut W,
+) -> Result<usize, WriteFault>
+    ensures taken { IfOk result (λ taken. taken ≡ line.taken) }
+    ensures ok { OnOk result (Sends (W.contents writer.old) (W.contents writer.new) (pending.old ++ printed line.answer) pending.new) }
+    ensures err { OnErr result (Breaks (W.contents writer.old) (W.contents writer.new) (pending.old ++ printed line.answer)) }
+{
+    line.answer.print(pending, writer)?;
+    Ok(line.taken)
+}
+
+// AnswersLine the next line, if its end is held.
+fn answer_next<H: KeyHash + Copy>(
     alloc: Global,
-    feed: &mut Feed<R>,
+    feed: &Feed,
+    script: &mut Script<H>,
+) -> Option<AnsweredLine>
+    ensures { AnswersNext feed.now script.old script.new result }
+{
+    match feed.next_line() {
+        NextLine::Text { text, taken } => {
+            let answer = script.answer(alloc, &feed.held()[..text]);
+            Some(AnsweredLine { answer, taken })
+        }
+        NextLine::TooLong { taken } => {
+            let answer = Answer::TooLong;
+            Some(AnsweredLine { answer, taken })
+        }
+        NextLine::NeedsMore => None,
+    }
+}
+
+// AnswersLine the last line, which has no LF, and sends all answers.
+fn answer_last<W: Write, H: KeyHash + Copy>(
+    alloc: Global,
+    feed: &Feed,
     pending: &mut Pending,
     writer: &mut W,
     script: &mut Script<H>,
-) -> Result<Option<Said>, ScriptFault>
-    ensures said { IfOk result (Nexts feed.old feed.new script.old script.new) }
-    ensures sent { OnOk result (Sends (W.contents writer.old) (W.contents writer.new) pending.old pending.new) }
-    ensures err { IfErr result (Waits feed.old feed.new (W.contents writer.old) (W.contents writer.new) pending.old) }
-    ensures kept { OnErr result (script.new ≡ script.old) }
+) -> Result<(), WriteFault>
+    ensures ok { OnOk result (EndsAll feed.now script.old script.new pending.old (W.contents writer.old) (W.contents writer.new)) }
+    ensures err { OnErr result (BreaksAtEnd feed.now script.old script.new pending.old (W.contents writer.old) (W.contents writer.new)) }
 {
-    match next_line(feed, pending, writer)? {
-        Found::End => Ok(None),
-        Found::Text(text, taken) => {
-            let answer = script.answer(alloc, &feed.held()[..text]);
-            let last = false;
-            Ok(Some(Said {
-                answer,
-                taken,
-                last,
-            }))
-        }
-        Found::LastText => {
-            let answer = script.answer(alloc, feed.held());
-            let taken = feed.held().len();
-            let last = true;
-            Ok(Some(Said {
-                answer,
-                taken,
-                last,
-            }))
-        }
-        Found::TooLong(taken) => {
-            let answer = Answer::TooLong;
-            let last = false;
-            Ok(Some(Said {
-                answer,
-                taken,
-                last,
-            }))
-        }
-        Found::LastTooLong => {
-            let answer = Answer::TooLong;
-            let last = true;
-            Ok(Some(Said {
-                answer,
-                taken: 0,
-                last,
-            }))
-        }
+    let answer = answer_part(alloc, feed, script);
+    answer.print(pending, writer)?;
+    pending.flush(writer)
+}
+
+// AnswersLine a part of a line as a line. An empty one is silent.
+fn answer_part<H: KeyHash + Copy>(alloc: Global, feed: &Feed, script: &mut Script<H>) -> Answer
+    ensures { AnswersPart feed.now.is_skipping script.old feed.now.bytes result script.new }
+{
+    if feed.is_skipping() {
+        return Answer::TooLong;
     }
+    script.answer(alloc, feed.held())
 }

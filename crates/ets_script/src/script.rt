@@ -4,8 +4,9 @@ ghost use Rattle.node_core.specs.State.{empty};
 ghost use Rattle.node_core.specs.declared.step.Step.TheVariants.{End, Ask};
 ghost use Rattle.ets_script.specs.Lines.{text};
 ghost use Rattle.ets_script.specs.declared.answer.Answer.TheVariants.{NoMemory};
-ghost use Rattle.ets_script.specs.Says.{said_by};
-ghost use Rattle.ets_script.specs.Script.{Scripted, pid_of, table_of, Stays, Steps, StepsOf, Spawns, Enrols, Obeys, Answers, at_start};
+ghost use Rattle.ets_script.specs.inside.Says.{command_seen};
+ghost use Rattle.ets_script.specs.Script.{Scripted, pid_of, table_of, Unchanged, Steps, StepsOf, Spawns, Obeys, AnswersLine, at_start};
+ghost use Rattle.ets_script.specs.inside.Enrolments.{Enrols};
 ghost use Rattle.std.specs.Str.{bytes_eq};
 ghost use Rattle.indexmap.specs.IndexSet.{spare, contains_by, index_set_len};
 
@@ -28,7 +29,7 @@ impl<H: KeyHash + Copy> Model for Script<H> {
     ghost use Rattle.std.specs.Prelude.{◌≤◌, map, vec_items};
     ghost use Rattle.indexmap.specs.IndexSet.{index_set_len};
     ghost use Rattle.ets_script.specs.Script.{Scripted};
-    ghost use Rattle.ets_script.specs.Codes.{scripted_code};
+    ghost use Rattle.ets_script.specs.inside.Codes.{scripted_code};
 
     ghost Value = { Scripted };
 
@@ -58,7 +59,7 @@ impl<H: KeyHash + Copy> Script<H> {
 
     /// Does what a line says.
     pub fn answer(&mut self, alloc: Global, line: &[u8]) -> Answer
-        ensures { Answers self.old (text line.now) result self.new }
+        ensures { AnswersLine self.old (text line.now) result self.new }
     {
         if is_silent(line) {
             return Answer::Silent;
@@ -71,7 +72,7 @@ impl<H: KeyHash + Copy> Script<H> {
 
     // Does what a command says.
     fn obey(&mut self, alloc: Global, command: Command<'_>) -> Answer
-        ensures { Obeys (said_by command.entry) self.old result self.new ⊎ Stays self.old NoMemory result self.new }
+        ensures { Obeys (command_seen command.entry) self.old result self.new ⊎ Unchanged self.old NoMemory result self.new }
     {
         match command {
             Command::Faulty(at) => Answer::Syntax(at),
@@ -117,7 +118,7 @@ impl<H: KeyHash + Copy> Script<H> {
 
     // A step of the node.
     fn step(&mut self, step: &Step) -> Answer
-        ensures { Steps self.old step.now result self.new ⊎ Stays self.old NoMemory result self.new }
+        ensures { Steps self.old step.now result self.new ⊎ Unchanged self.old NoMemory result self.new }
     {
         match self.node.step(step) {
             Ok(reply) => Answer::Replied(reply),
@@ -127,7 +128,7 @@ impl<H: KeyHash + Copy> Script<H> {
 
     // Enrols the next number for a name. Room for the name is made first.
     fn spawn(&mut self, alloc: Global, name: &[u8]) -> Answer
-        ensures { Spawns (pid_of self.old name.now) self.old name.now result self.new ⊎ Stays self.old NoMemory result self.new }
+        ensures { Spawns (pid_of self.old name.now) self.old name.now result self.new ⊎ Unchanged self.old NoMemory result self.new }
     {
         match self.names.get_index_of(name) {
             Some(_) => return Answer::Replied(Reply::Badarg),

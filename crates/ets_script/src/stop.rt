@@ -3,7 +3,7 @@
 /// Why the reading of a line stops.
 #[derive(Debug, Drop)]
 pub enum Stop {
-    /// At a fault, which has so many bytes of the line from it on.
+    /// At a fault, this many bytes before the end of the line.
     Fault(usize),
     /// For want of memory.
     Memory,

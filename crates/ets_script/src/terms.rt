@@ -1,7 +1,7 @@
 //! Terms on a line.
 ghost use Rattle.std.specs.Prelude.{◌≡◌};
 ghost use Rattle.ets_script.specs.Reads.{read};
-ghost use Rattle.ets_script.specs.Says.{Gives};
+ghost use Rattle.ets_script.specs.inside.Says.{Gives};
 ghost use Rattle.ets_script.specs.Terms.{term, stop_at};
 
 use crate::stop::Stop;

@@ -7,7 +7,7 @@ use Rattle.term_text.specs.declared.fault.TextFault.{TextFault}
 use Rattle.term_text.specs.declared.fault.TextFault.TheVariants.{Unexpected, Unclosed, TooDeep}
 use Rattle.term_text.specs.declared.quotes.Quotes.TheVariants as form
 use Rattle.term_text.specs.Machine.{Open, integer, identifier, digits, wants, digit, number, name, quoted, signs, angle, after, Step, goes, fails, opening, bracket, put, begin, run}
-use Rattle.term_text.specs.Reader.{Comes, Reads}
+use Rattle.term_text.specs.inside.Reader.{Comes, Reads}
 use Rattle.term_text.specs.Text.{is_blank, is_digit, is_small, begins, begins_term, closes}
 use Rattle.term_text.proofs.Runs.{if_true, if_false, run_fails, run_at, fails_at, ends_at, begins_at, nat_le_true}
 

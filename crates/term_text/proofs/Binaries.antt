@@ -3,7 +3,7 @@ use Rattle.std.proofs.Common.{◌≡◌, refl, ap, sym, ◌∙◌, ◌+◌, ◌<
 use Rattle.ets_term.specs.declared.term.Term.TheVariants.{Binary}
 use Rattle.term_text.specs.declared.quotes.Quotes.TheVariants as form
 use Rattle.term_text.specs.Machine.{Open, byte, whole, digit, quoted, behind_byte, behind_string, opened_binary, wants_byte, Step, goes, arrive, run}
-use Rattle.term_text.specs.Reader.{Comes}
+use Rattle.term_text.specs.inside.Reader.{Comes}
 use Rattle.term_text.specs.Text.{is_blank, is_digit, begins}
 use Rattle.term_text.proofs.Runs.{if_true, if_false, run_at, begins_at, begins_in}
 

@@ -2,7 +2,7 @@
 use Rattle.std.proofs.Common.{◌≡◌, ap, ◌∙◌, ◌+◌, ◌<◌, ◌≤◌, ℕ, List, ◌∷◌, length, drop, get_or, arith, Bool, true, false}
 use Rattle.std.proofs.lemmas.List.{drop_all}
 use Rattle.term_text.specs.Machine.{Open, Step, goes, wants, opened_binary, wants_byte, behind_byte, behind_string, after}
-use Rattle.term_text.specs.Reader.{Comes, IgnoresBlanks}
+use Rattle.term_text.specs.inside.Reader.{Comes, IgnoresBlanks}
 use Rattle.term_text.specs.Text.{is_blank, begins, closes}
 use Rattle.term_text.proofs.Runs.{run_at, begins_at, if_true, if_false}
 

@@ -5,7 +5,8 @@ use Rattle.term_text.specs.declared.fault.TextFault.{TextFault}
 use Rattle.term_text.specs.declared.fault.TextFault.TheVariants.{Unexpected, Memory}
 use Rattle.term_text.specs.declared.quotes.Quotes.{Quotes}
 use Rattle.term_text.specs.Machine.{Open, quoted, escaped, Step, goes, fails, quote, admits, run}
-use Rattle.term_text.specs.Reader.{Fails, Refuses, Extends}
+use Rattle.term_text.specs.Given.{Fails}
+use Rattle.term_text.specs.inside.Reader.{Refuses, ReadsCharacter}
 use Rattle.term_text.proofs.Runs.{by_test, fails_at, if_true, if_false}
 
 either_false : (a b : Bool) → a ≡ false → b ≡ false → (a || b) ≡ false
@@ -25,7 +26,7 @@ pub no_character : (text : List ℕ) (at : ℕ) (q : Quotes) (cs : List ℕ) (os
 no_character text at q cs os h a b d = fails_at text at (goes (quoted q cs) os) (Unexpected at) h (if_false _ _ _ a ∙ if_false _ _ _ b ∙ if_false _ _ _ d)
 
 pub refused : (text : List ℕ) (at : ℕ) (q : Quotes) (deep : Bool) (n : ℕ) (f : TextFault) → at < length text → (get_or text at 0 == quote q) ≡ false → ((get_or text at 0 == 92) ≡ false → is_character (get_or text at 0) ≡ true)
-    → Refuses at q n deep (Some f) → Extends text at q deep n (Err f)
+    → Refuses at q n deep (Some f) → ReadsCharacter text at q deep n (Err f)
 refused text at q deep n f h a d r = λ cs os len level.
     let s : Step = goes (quoted q cs) os in
     let failed : (z : Step) → admits at q (length cs) os z ≡ fails f = λ z. ap (λ (k : ℕ). admits at q k os z) len ∙ r os z level in

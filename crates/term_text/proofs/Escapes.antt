@@ -10,7 +10,7 @@ use Rattle.std.specs.List.{list_all, flat_map}
 use Rattle.std.specs.Str.{IsAscii, IsCharBoundary}
 use Rattle.ets_term.specs.Character.{is_character}
 use Rattle.term_text.specs.Printed.{escaped}
-use Rattle.term_text.specs.Sent.{AppendsFront, Sends}
+use Rattle.term_text.specs.Sent.{AppendsFront, AppendsOrFront}
 use Rattle.term_text.proofs.Pieces.{appends_then, front_first, front_then, front_as, sends_as, sends_then, appends_nothing}
 use Rattle.term_text.proofs.Runs.{if_true, if_false}
 
@@ -104,7 +104,7 @@ piece_fails a b z start i bs (sent, e, h, k) l special f =
     ∙ ap (λ (w : List ℕ). w ++ ((92 ∷ []) ++ rest)) e ∙ ap (λ (w : List ℕ). flat_map escaped (take i bs) ++ w) (sym (special_rest i bs l special)) ∙ escaped_parts i bs)
     (front_then a b z sent ((slice ++ 92 ∷ []) ++ rest) h (front_first b z (slice ++ 92 ∷ []) rest f))
 
-pub escaped_ends : {A E : Type 0} (a b z : Option (List ℕ)) (start i : ℕ) (bs : List ℕ) (r : Result A E) → Escaped a b start i bs → length bs ≤ i → Sends b z (take (length bs - start) (drop start bs)) r → Sends a z (flat_map escaped bs) r
+pub escaped_ends : {A E : Type 0} (a b z : Option (List ℕ)) (start i : ℕ) (bs : List ℕ) (r : Result A E) → Escaped a b start i bs → length bs ≤ i → AppendsOrFront b z (take (length bs - start) (drop start bs)) r → AppendsOrFront a z (flat_map escaped bs) r
 escaped_ends a b z start i bs r (sent, e, h, k) l s =
     let whole : take (length bs - start) (drop start bs) ≡ drop start bs = take_all (length bs - start) (drop start bs) (omega (arith, length-drop start bs)) in
     sends_as a z (sent ++ drop start bs) (flat_map escaped bs) r

@@ -7,7 +7,7 @@ use Rattle.term_text.specs.declared.quotes.Quotes.{Quotes}
 use Rattle.term_text.specs.declared.quotes.Quotes.TheVariants as form
 use Rattle.term_text.specs.Text.{is_blank, is_digit, is_small, is_name, closes}
 use Rattle.term_text.specs.Machine.{Open, Number, integer, pid, identifier, byte, Goal, whole, digits, Mode, wants, digit, number, name, quoted, escaped, signs, angle, opened_binary, wants_byte, behind_byte, behind_string, after, Step, goes, found, fails, signed, with_term, bracket, put, arrive, next_sign, begin, next_after, next_behind, next_opened, next_behind_byte, next_behind_number, next_digit, quote, unquoted, admits, next, step, run, reading}
-use Rattle.term_text.specs.Going.{state, so_far, Stands, GoesOn}
+use Rattle.term_text.specs.Going.{state, so_far, HasNoFault, GoesOn}
 use Rattle.term_text.proofs.Runs.{if_true, if_false, run_fails}
 use Rattle.term_text.proofs.Begins.{begin_digit}
 
@@ -229,7 +229,7 @@ mode_ends at (behind_string bs) os h = string_ends at bs os
 mode_ends at after [] h = absurd (omega (arith, h.0))
 mode_ends at after (o ∷ os) h = ends_by at (goes after (o ∷ os)) (put os (bracket o) (at + 1)) (closer o.square) (if_true _ _ _ (closes_closer o.square)) (finish os (bracket o) (at + 1) (at + 1))
 
-pub can_end : (at : ℕ) (s : Step) → InLevels s → Stands s → CanEnd at s
+pub can_end : (at : ℕ) (s : Step) → InLevels s → HasNoFault s → CanEnd at s
 can_end at (goes mode os) h k = mode_ends at mode os h
 can_end at (found t n) h k = ([], t, n, refl)
 can_end at (fails f) h k = absurd k
@@ -240,7 +240,7 @@ run_append at s [] more = ap (λ (k : ℕ). run k s more) (omega arith)
 run_append at s (b ∷ bs) more = run_append (at + 1) (step at s b) bs more ∙ ap (λ (k : ℕ). run k (state (at + 1) (step at s b) bs) more) (omega arith)
 
 -- Up to a fault the text can go on to a whole term.
-pub goes_on : (bs : List ℕ) → Stands (so_far bs) → GoesOn bs
+pub goes_on : (bs : List ℕ) → HasNoFault (so_far bs) → GoesOn bs
 goes_on bs h = let r = can_end (0 + length bs) (so_far bs) (state_in 0 (goes (wants false) []) bs (omega arith)) h in (r.0, r.1, r.2, run_append 0 (goes (wants false) []) bs r.0 ∙ r.3)
 
 -- From the fault on it can't.

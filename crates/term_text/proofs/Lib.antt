@@ -12,3 +12,5 @@ pub mod Going
 pub mod Sound
 pub mod Spelled
 pub mod RoundTrip
+pub mod Faulted
+pub mod Told

@@ -8,7 +8,7 @@ use Rattle.ets_term.specs.Character.{is_character, IsAtomText}
 use Rattle.ets_term.specs.declared.term.Term.TheVariants.{Atom}
 use Rattle.term_text.specs.declared.fault.TextFault.TheVariants.{AtomTooLong}
 use Rattle.term_text.specs.Machine.{Open, name, Step, goes, fails, put, run}
-use Rattle.term_text.specs.Reader.{Comes}
+use Rattle.term_text.specs.inside.Reader.{Comes}
 use Rattle.term_text.specs.Text.{is_digit, is_small, is_name, count, begins}
 use Rattle.term_text.proofs.Runs.{by_test, if_true, if_false, run_fails, count_true, count_false, count_ends, drop_past}
 

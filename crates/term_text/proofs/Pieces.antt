@@ -8,7 +8,7 @@ use Rattle.std.specs.Str.{IsUtf8}
 use Rattle.std.specs.String.Boundary.{IsSplitPoint}
 use Rattle.std.proofs.lemmas.Str.{IsCharBoundary-from_take}
 use Rattle.term_text.specs.Printed.{row_text, comma_if}
-use Rattle.term_text.specs.Sent.{AppendsFront, Sends}
+use Rattle.term_text.specs.Sent.{AppendsFront, AppendsOrFront}
 
 pub appends_then : (a b c : Option (List ℕ)) (x y : List ℕ) → Appends a b x → Appends b c y → Appends a c (x ++ y)
 appends_then None b c x y h k = tt
@@ -24,11 +24,11 @@ front_first a b x y (sent, rest, e, h) = (sent, rest ++ y, ap (λ (w : List ℕ)
 pub front_then : (a b c : Option (List ℕ)) (x y : List ℕ) → Appends a b x → AppendsFront b c y → AppendsFront a c (x ++ y)
 front_then a b c x y h (sent, rest, e, k) = (x ++ sent, rest, ap (λ (w : List ℕ). x ++ w) e ∙ sym (append_assoc x sent rest), appends_then a b c x sent h k)
 
-pub sends_fault : {A E : Type 0} (a b : Option (List ℕ)) (x : List ℕ) (r : Result A E) → IsErr r → AppendsFront a b x → Sends a b x r
+pub sends_fault : {A E : Type 0} (a b : Option (List ℕ)) (x : List ℕ) (r : Result A E) → IsErr r → AppendsFront a b x → AppendsOrFront a b x r
 sends_fault a b x (Ok v) e h = absurd (false≢true e)
 sends_fault a b x (Err f) e h = h
 
-pub sends_then : {A E : Type 0} (a b c : Option (List ℕ)) (x y : List ℕ) (r : Result A E) → Appends a b x → Sends b c y r → Sends a c (x ++ y) r
+pub sends_then : {A E : Type 0} (a b c : Option (List ℕ)) (x y : List ℕ) (r : Result A E) → Appends a b x → AppendsOrFront b c y r → AppendsOrFront a c (x ++ y) r
 sends_then a b c x y (Ok v) h k = appends_then a b c x y h k
 sends_then a b c x y (Err f) h k = front_then a b c x y h k
 
@@ -80,8 +80,8 @@ pub rows_at : {X : Type 0} (a b : Option (List ℕ)) (f : X → List ℕ) (later
     → Rows a b f later (drop i xs) whole → Rows a b f later (x ∷ drop (i + 1) xs) whole
 rows_at a b f later xs i x whole h e rows = let P : List _ → Type 0 = λ ys. Rows a b f later ys whole in subst P (drop_more xs i x h ∙ ap (λ (y : _). y ∷ drop (i + 1) xs) e) rows
 
-pub sends_as : {A E : Type 0} (a b : Option (List ℕ)) (x y : List ℕ) (r : Result A E) → x ≡ y → Sends a b x r → Sends a b y r
-sends_as a b x y r e h = let P : List ℕ → Type 0 = λ w. Sends a b w r in subst P e h
+pub sends_as : {A E : Type 0} (a b : Option (List ℕ)) (x y : List ℕ) (r : Result A E) → x ≡ y → AppendsOrFront a b x r → AppendsOrFront a b y r
+sends_as a b x y r e h = let P : List ℕ → Type 0 = λ w. AppendsOrFront a b w r in subst P e h
 
 pub appends_keeps : (a b c : Option (List ℕ)) (x : List ℕ) → Appends a b x → Keeps b c → Appends a c x
 appends_keeps None b c x h k = tt
@@ -98,6 +98,6 @@ front_boundary old new text u v (sent, rest, e, h) =
     let b = IsCharBoundary-from_take new (length old) v le (subst P front u) in
     (le, λ _. b.1)
 
-pub sends_front : {A E : Type 0} (a b : Option (List ℕ)) (x : List ℕ) (r : Result A E) → is_err r ≡ true → Sends a b x r → AppendsFront a b x
+pub sends_front : {A E : Type 0} (a b : Option (List ℕ)) (x : List ℕ) (r : Result A E) → is_err r ≡ true → AppendsOrFront a b x r → AppendsFront a b x
 sends_front a b x (Ok v) e h = absurd (false≢true e)
 sends_front a b x (Err f) e h = h

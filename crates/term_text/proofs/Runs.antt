@@ -6,7 +6,8 @@ use Rattle.ets_term.specs.declared.term.Term.{Term}
 use Rattle.term_text.specs.declared.fault.TextFault.{TextFault}
 use Rattle.term_text.specs.declared.fault.TextFault.TheVariants.{Unexpected, Unclosed, OutOfRange}
 use Rattle.term_text.specs.Machine.{Open, Number, integer, pid, identifier, byte, Goal, wants, digit, number, Step, goes, found, fails, top, step, end, run, reading, arrive}
-use Rattle.term_text.specs.Reader.{Fails, Comes, Gives, Reads, counted}
+use Rattle.term_text.specs.Given.{Fails, GivesTerm}
+use Rattle.term_text.specs.inside.Reader.{Comes, Reads, counted}
 use Rattle.term_text.specs.Text.{is_digit, count, spelled, begins}
 use Rattle.term_text.proofs.Numbers.{spelled_grows, digit_small}
 
@@ -136,7 +137,7 @@ number_here at start kind os (b ∷ bs) d h =
     ∙ number_same start kind os (at + 1 + count is_digit bs) (at + count is_digit (b ∷ bs)) (spelled (b - 48) bs) (spelled 0 (b ∷ bs)) _ _ (omega (arith, c)) (sym v) (sym (ap (λ (k : ℕ). drop k (b ∷ bs)) c ∙ drop_past (count is_digit bs) b bs))
     ∙ number_behind _ start _ kind os _ (count_ends is_digit (b ∷ bs))
 
-number_past : (at start : ℕ) (kind : Number) (os : List Open) (bs : List ℕ) → begins is_digit bs ≡ true → 9 ≤ top kind → top kind < spelled 0 bs
+pub number_past : (at start : ℕ) (kind : Number) (os : List Open) (bs : List ℕ) → begins is_digit bs ≡ true → 9 ≤ top kind → top kind < spelled 0 bs
     → run at (goes (digit kind start) os) bs ≡ fails (OutOfRange start)
 number_past at start kind os [] d nine h = absurd (false≢true d)
 number_past at start kind os (b ∷ bs) d nine h =
@@ -188,6 +189,6 @@ reads_along text at n s z os (Ok x) e h = e ∙ h
 reads_along text at n s z os (Err f) e h = fails_along f _ _ e h
 
 -- What is read in no bracket is what the text gives.
-pub reads_gives : (text : List ℕ) (r : Result (Term × ℕ) TextFault) → Reads text 0 (goes (wants false) []) [] r → Gives (reading text) r
+pub reads_gives : (text : List ℕ) (r : Result (Term × ℕ) TextFault) → Reads text 0 (goes (wants false) []) [] r → GivesTerm (reading text) r
 reads_gives text (Ok x) h = h ∙ run_found x.1 x.0 x.1 (drop x.1 text)
 reads_gives text (Err f) h = h

@@ -8,25 +8,17 @@ use Rattle.ets_term.specs.Character.{is_character}
 use Rattle.ets_term.specs.declared.term.Term.{Term}
 use Rattle.ets_term.specs.declared.term.Term.TheVariants.{Int, Atom, Pid, Tid, Binary, List as ListOf}
 use Rattle.term_text.specs.declared.fault.TextFault.{TextFault}
+use Rattle.term_text.specs.declared.fault.TextFault.TheVariants.{Unexpected, OutOfRange, TooDeep, AtomTooLong}
 use Rattle.term_text.specs.declared.quotes.Quotes.{Quotes}
 use Rattle.term_text.specs.declared.quotes.Quotes.TheVariants as form
 use Rattle.term_text.specs.Text.{is_blank, is_digit, is_small, is_name, closes, begins_term, begins, spelled}
 use Rattle.term_text.specs.Machine.{Open, Number, integer, pid, identifier, byte, Goal, whole, digits, Mode, wants, digit, number, name, quoted, escaped, signs, angle, opened_binary, wants_byte, behind_byte, behind_string, after, Step, goes, found, fails, signed, top, code, with_term, bracket, opening, put, arrive, next_sign, begin, next_after, next_behind, next_opened, next_behind_byte, next_behind_number, next_digit, quote, unquoted, admits, next_quoted, next, step, end, run, reading}
+use Rattle.term_text.specs.Faults.{Inside, fresh, further, Here, Bytes, opened, comma, Before, number_start, PastRange, PastAtom, plain_form, quoted_form, PastDepth, a_term, a_character, Says}
 use Rattle.term_text.specs.Grammar.{AreBlanks, SpellsNumber, SpellsQuoted, SpellsBytes, opening_sign, closing_sign, Spells, SpellsRow, Ends, Front, none, plain, escaped as escaped_form, first, more, positive, negative, plain_atom, quoted_atom, pid_form, identifier_form, no_bytes, bytes, byte_string, empty_string, string, empty_bracket, full_bracket, first_term, more_terms}
 use Rattle.term_text.proofs.Begins.{begins_small}
 use Rattle.term_text.proofs.Names.{small_is_name}
 use Rattle.term_text.proofs.Numbers.{digit_small}
-use Rattle.term_text.proofs.Runs.{if_true}
-
--- the text in a bracket up to where a term is wanted
-pub data Inside (k : ℕ) : List Term → List ℕ → Type 0 where
-  fresh : (blanks : List ℕ) → AreBlanks blanks → Inside k [] blanks
-  further : (ts : List Term) (row before behind : List ℕ) → SpellsRow k row ts → AreBlanks before → AreBlanks behind → Inside k ts (row ++ (before ++ 44 ∷ behind))
-
--- the text up to where a term of at most k levels is wanted
-abbrev pub Here : ℕ → List Open → List ℕ → Type 0
-Here k [] pre = AreBlanks pre × (k ≡ 128)
-Here k (o ∷ os) pre = (outer inner : List ℕ) × (pre ≡ outer ++ (opening_sign o.square ∷ inner)) × Here (suc k) os outer × Inside k o.terms inner
+use Rattle.term_text.proofs.Runs.{if_true, run_fails}
 
 -- the text up to where a term is wanted, and s of that term
 pub record At (os : List Open) (pre s : List ℕ) : Type 0 where
@@ -46,19 +38,6 @@ pub record Behind (o : Open) (os : List Open) (pre : List ℕ) : Type 0 where
   pub spells : SpellsRow k row o.terms
   pub are_blanks : AreBlanks blanks
 
--- the bytes of a binary up to where a further one is wanted
-pub data Bytes : List ℕ → List ℕ → Type 0 where
-  opened : (blanks : List ℕ) → AreBlanks blanks → Bytes [] blanks
-  comma : (bs row before behind : List ℕ) → SpellsBytes row bs → AreBlanks before → AreBlanks behind → Bytes bs (row ++ (before ++ 44 ∷ behind))
-
--- what stands before the digits of a number
-abbrev pub Before : Number → List ℕ → Type 0
-Before (integer true) s = s ≡ 45 ∷ []
-Before (integer false) s = s ≡ []
-Before pid s = s ≡ 60 ∷ 48 ∷ 46 ∷ []
-Before identifier s = s ≡ 35 ∷ 84 ∷ 105 ∷ 100 ∷ 60 ∷ []
-Before (byte bs) s = (inner : List ℕ) × (s ≡ (60 ∷ 60 ∷ []) ++ inner) × Bytes bs inner
-
 -- what stands before an opening quote
 abbrev pub Lead : Quotes → List ℕ → Type 0
 Lead form.Binary s = (blanks : List ℕ) × (s ≡ (60 ∷ 60 ∷ []) ++ blanks) × AreBlanks blanks
@@ -70,10 +49,20 @@ Admitted (form.Atom start) n os = n ≤ 255
 Admitted form.String n os = 0 < n → length os ≤ 126
 Admitted form.Binary n os = Unit {0}
 
+-- a number behind signs, which is told to begin with its first digit
+abbrev pub IsFramed : Number → Type 0
+IsFramed (integer below) = ⊥
+IsFramed kind = Unit {0}
+
+-- where an atom in quotes began
+abbrev pub QuoteStarts : Quotes → List ℕ → Type 0
+QuoteStarts (form.Atom start) lead = start ≡ length lead
+QuoteStarts q lead = Unit {0}
+
 -- what signs lead to
 abbrev pub Leads : List ℕ → Goal → Type 0
 Leads s (whole t) = (k : ℕ) → Spells (suc k) s t
-Leads s (digits kind) = Before kind s
+Leads s (digits kind) = Before kind s × IsFramed kind
 
 -- a text that no further byte can belong to
 pub record Closed (s : List ℕ) : Type 0 where
@@ -85,11 +74,11 @@ abbrev pub SaidIn : List ℕ → Mode → List Open → Type 0
 SaidIn pre (wants true) [] = ⊥
 SaidIn pre (wants true) (o ∷ os) = (k : ℕ) × Here k (o ∷ os) pre × (o.terms ≡ [])
 SaidIn pre (wants false) os = (k : ℕ) × Here k os pre
-SaidIn pre (digit kind start) os = (s : List ℕ) × Before kind s × At os pre s
-SaidIn pre (number kind start n) os = (s ds : List ℕ) × Before kind s × At os pre (s ++ ds) × SpellsNumber kind ds n
-SaidIn pre (name start cs) os = At os pre cs × IsTrue (begins is_small cs) × IsTrue (list_all is_name cs) × (length cs ≤ 255)
-SaidIn pre (quoted q cs) os = (s body : List ℕ) × Lead q s × At os pre (s ++ (quote q ∷ body)) × SpellsQuoted (quote q) body cs × Admitted q (length cs) os
-SaidIn pre (escaped q cs) os = (s body : List ℕ) × Lead q s × At os pre (s ++ (quote q ∷ (body ++ 92 ∷ []))) × SpellsQuoted (quote q) body cs × Admitted q (length cs + 1) os
+SaidIn pre (digit kind start) os = (s : List ℕ) × Before kind s × (a : At os pre s) × (start ≡ number_start kind (length a.p) (length a.p + length s))
+SaidIn pre (number kind start n) os = (s ds : List ℕ) × Before kind s × (a : At os pre (s ++ ds)) × SpellsNumber kind ds n × (start ≡ number_start kind (length a.p) (length a.p + length s))
+SaidIn pre (name start cs) os = (a : At os pre cs) × IsTrue (begins is_small cs) × IsTrue (list_all is_name cs) × (length cs ≤ 255) × (start ≡ length a.p)
+SaidIn pre (quoted q cs) os = (s body : List ℕ) × Lead q s × (a : At os pre (s ++ (quote q ∷ body))) × SpellsQuoted (quote q) body cs × Admitted q (length cs) os × QuoteStarts q a.p
+SaidIn pre (escaped q cs) os = (s body : List ℕ) × Lead q s × (a : At os pre (s ++ (quote q ∷ (body ++ 92 ∷ [])))) × SpellsQuoted (quote q) body cs × Admitted q (length cs + 1) os × QuoteStarts q a.p
 SaidIn pre (signs cs goal) os = (s : List ℕ) × At os pre s × Leads (s ++ cs) goal × Closed s
 SaidIn pre angle os = At os pre (60 ∷ [])
 SaidIn pre opened_binary os = (blanks : List ℕ) × At os pre ((60 ∷ 60 ∷ []) ++ blanks) × AreBlanks blanks
@@ -102,7 +91,7 @@ SaidIn pre after (o ∷ os) = Behind o os pre
 abbrev pub Said : List ℕ → Step → Type 0
 Said pre (goes mode os) = SaidIn pre mode os
 Said pre (found t n) = (rest : List ℕ) → Front (pre ++ rest) t n
-Said pre (fails f) = Unit {0}
+Said pre (fails f) = (p : List ℕ) × (b : ℕ) × (pre ≡ p ++ b ∷ []) × Says p b f
 
 pub record Holds (pre : List ℕ) (s : Step) : Type 0 where
   pub said : Said pre s
@@ -111,8 +100,8 @@ holds_if : {pre : List ℕ} (b : Bool) (x y : Step) → (b ≡ true → Holds pr
 holds_if true x y p q = p refl
 holds_if false x y p q = q refl
 
-fault : {pre : List ℕ} (f : TextFault) → Holds pre (fails f)
-fault f = record { said = tt }
+noticed : (pre : List ℕ) (b : ℕ) (f : TextFault) → Says pre b f → Holds (pre ++ b ∷ []) (fails f)
+noticed pre b f h = record { said = (pre, b, refl, h) }
 
 both : (a b : Bool) → a ≡ true → b ≡ true → (a && b) ≡ true
 both true b h k = k
@@ -130,13 +119,13 @@ pub begins_more : (p : ℕ → Bool) (s t : List ℕ) → begins p s ≡ true �
 begins_more p [] t h = absurd (false≢true h)
 begins_more p (c ∷ s) t h = h
 
-at_more : (os : List Open) (pre s z : List ℕ) (b : ℕ) → At os pre s → s ++ b ∷ [] ≡ z → At os (pre ++ b ∷ []) z
+abbrev at_more : (os : List Open) (pre s z : List ℕ) (b : ℕ) → At os pre s → s ++ b ∷ [] ≡ z → At os (pre ++ b ∷ []) z
 at_more os pre s z b a e = record { k = a.k; p = a.p; cut = ap (λ (w : List ℕ). w ++ b ∷ []) a.cut ∙ append_assoc a.p s (b ∷ []) ∙ ap (λ (w : List ℕ). a.p ++ w) e; here = a.here }
 
 blank_more : (s : List ℕ) (b : ℕ) → AreBlanks s → is_blank b ≡ true → AreBlanks (s ++ b ∷ [])
 blank_more s b h k = all_more is_blank s b h k
 
-here_len : (k : ℕ) (os : List Open) (p : List ℕ) → Here k os p → length os + k ≡ 128
+pub here_len : (k : ℕ) (os : List Open) (p : List ℕ) → Here k os p → length os + k ≡ 128
 here_len k [] p h = omega (arith, h.1)
 here_len k (o ∷ os) p (outer, inner, e, h, i) = let r = here_len (suc k) os outer h in omega (arith, r)
 
@@ -236,7 +225,7 @@ after_holds at o os pre b len h =
     (λ e.
     let comma : pre ++ b ∷ [] ≡ h.outer ++ (sign ∷ (h.row ++ (h.blanks ++ 44 ∷ []))) = grown ∙ ap (λ (x : ℕ). h.outer ++ (sign ∷ (h.row ++ (h.blanks ++ x ∷ [])))) (is_byte b 44 e) in
     record { said = (h.k, (h.outer, h.row ++ (h.blanks ++ 44 ∷ []), comma, h.here, further o.terms h.row h.blanks [] h.spells h.are_blanks refl)) })
-    (λ e. fault _)))
+    (λ e. noticed pre b (Unexpected at) len)))
 
 -- the byte behind an integer or a name
 behind_holds : (at : ℕ) (os : List Open) (pre s : List ℕ) (t : Term) (b : ℕ) (a : At os pre s) → at ≡ length pre → Spells (suc a.k) s t → ((rest : List ℕ) → Ends s (b ∷ rest))
@@ -264,21 +253,31 @@ hash_text : (s : List ℕ) → Closed (35 ∷ s)
 unfolding is_digit is_small
 hash_text s = record { some = omega arith; no_number = refl; no_name = refl }
 
+-- the place behind what stands of a form
+behind_form : (os : List Open) (pre s : List ℕ) (at : ℕ) (a : At os pre s) → at ≡ length pre → at ≡ length a.p + length s
+behind_form os pre s at a len = omega (arith, len, ap length a.cut, length-append a.p s)
+
+framed_start : (kind : Number) (m n at : ℕ) → IsFramed kind → at ≡ n → at ≡ number_start kind m n
+framed_start (integer below) m n at h e = absurd h
+framed_start pid m n at h e = e
+framed_start identifier m n at h e = e
+framed_start (byte bs) m n at h e = e
+
 -- signs that must come
 arrive_holds : (at : ℕ) (cs : List ℕ) (goal : Goal) (os : List Open) (pre s : List ℕ) → at ≡ length pre → At os pre s → Leads (s ++ cs) goal → Closed s → Holds pre (arrive at cs goal os)
 arrive_holds at [] (whole t) os pre s len a l c = put_holds os pre s t at a (let P : List ℕ → Type 0 = λ w. Spells (suc a.k) w t in subst P (append-nil s) (l a.k)) len (λ rest. closed_ends s rest c)
-arrive_holds at [] (digits kind) os pre s len a l c = record { said = (s, (let P : List ℕ → Type 0 = λ w. Before kind w in subst P (append-nil s) l), a) }
+arrive_holds at [] (digits kind) os pre s len a l c = record { said = (s, (let P : List ℕ → Type 0 = λ w. Before kind w in subst P (append-nil s) l.0), a, framed_start kind (length a.p) (length a.p + length s) at l.1 (behind_form os pre s at a len)) }
 arrive_holds at (b ∷ cs) goal os pre s len a l c = record { said = (s, a, l, c) }
 
 pub sign_holds : (at : ℕ) (cs : List ℕ) (goal : Goal) (os : List Open) (pre s : List ℕ) (b : ℕ) → at ≡ length pre → At os pre s → Leads (s ++ cs) goal → Closed s
     → Holds (pre ++ b ∷ []) (next_sign at cs goal os b)
-sign_holds at [] goal os pre s b len a l closed = fault _
+sign_holds at [] goal os pre s b len a l closed = noticed pre b (Unexpected at) len
 sign_holds at (c ∷ cs) goal os pre s b len a l closed = holds_if (b == c) _ _
     (λ e. let same : b ≡ c = is_byte b c e in
     let P : List ℕ → Type 0 = λ w. Leads w goal in
     arrive_holds (at + 1) cs goal os (pre ++ b ∷ []) (s ++ b ∷ []) (more_len at pre b len) (at_more os pre s (s ++ b ∷ []) b a refl)
     (subst P (ap (λ (x : ℕ). s ++ x ∷ cs) (sym same) ∙ sym (append_assoc s (b ∷ []) cs)) l) (closed_more s (b ∷ []) closed))
-    (λ e. fault _)
+    (λ e. noticed pre b (Unexpected at) len)
 
 -- digits
 spelled_more : (m : ℕ) (ds : List ℕ) (b : ℕ) → list_all is_digit ds ≡ true → is_digit b ≡ true → spelled m (ds ++ b ∷ []) ≡ spelled m ds * 10 + (b - 48)
@@ -291,7 +290,7 @@ spelled_more m (c ∷ ds) b h d =
     both_of true b h = (refl, h)
     both_of false b h = absurd (false≢true h)
 
-nine_fits : (kind : Number) (n : ℕ) → n ≤ 9 → n ≤ top kind
+pub nine_fits : (kind : Number) (n : ℕ) → n ≤ 9 → n ≤ top kind
 nine_fits (integer true) n h = omega (arith, h)
 nine_fits (integer false) n h = omega (arith, h)
 nine_fits pid n h = omega (arith, h)
@@ -304,8 +303,8 @@ one_digit kind b d = record { some = d; each = both (is_digit b) true d refl; va
 more_digits : (kind : Number) (ds : List ℕ) (n b : ℕ) → SpellsNumber kind ds n → is_digit b ≡ true → n * 10 + (b - 48) ≤ top kind → SpellsNumber kind (ds ++ b ∷ []) (n * 10 + (b - 48))
 more_digits kind ds n b h d fits = record { some = begins_more is_digit ds (b ∷ []) h.some; each = all_more is_digit ds b h.each d; value = spelled_more 0 ds b h.each d ∙ ap (λ (m : ℕ). m * 10 + (b - 48)) h.value; fits = fits }
 
-digit_holds : (at : ℕ) (kind : Number) (start : ℕ) (os : List Open) (pre s : List ℕ) (b : ℕ) → Before kind s → At os pre s → Holds (pre ++ b ∷ []) (next_digit at kind start os b)
-digit_holds at kind start os pre s b bef a = holds_if (is_digit b) _ _ (λ d. record { said = (s, b ∷ [], bef, at_more os pre s (s ++ b ∷ []) b a refl, one_digit kind b d) }) (λ d. fault _)
+digit_holds : (at : ℕ) (kind : Number) (start : ℕ) (os : List Open) (pre s : List ℕ) (b : ℕ) → at ≡ length pre → Before kind s → (a : At os pre s) → start ≡ number_start kind (length a.p) (length a.p + length s) → Holds (pre ++ b ∷ []) (next_digit at kind start os b)
+digit_holds at kind start os pre s b len bef a st = holds_if (is_digit b) _ _ (λ d. record { said = (s, b ∷ [], bef, at_more os pre s (s ++ b ∷ []) b a refl, one_digit kind b d, st) }) (λ d. noticed pre b (Unexpected at) len)
 
 -- bytes
 bytes_with : (bs inner ds : List ℕ) (n : ℕ) → Bytes bs inner → SpellsNumber (byte bs) ds n → SpellsBytes (inner ++ ds) (bs ++ n ∷ [])
@@ -406,20 +405,44 @@ unquoted_holds n form.Binary cs os pre s body len (blanks, e, bl) a sp ok =
 escape_more : (q : Quotes) (body cs : List ℕ) (b : ℕ) → SpellsQuoted (quote q) body cs → ((b == quote q) || (b == 92)) ≡ true → SpellsQuoted (quote q) ((body ++ 92 ∷ []) ++ b ∷ []) (cs ++ b ∷ [])
 escape_more q body cs b sp h = let P : List ℕ → Type 0 = λ w. SpellsQuoted (quote q) w (cs ++ b ∷ []) in subst P (sym (append_assoc body (92 ∷ []) (b ∷ []))) (escaped_form body cs b sp h)
 
-quoted_at : (os : List Open) (pre s body z : List ℕ) (q : Quotes) (b : ℕ) → At os pre (s ++ (quote q ∷ body)) → body ++ b ∷ [] ≡ z → At os (pre ++ b ∷ []) (s ++ (quote q ∷ z))
+abbrev quoted_at : (os : List Open) (pre s body z : List ℕ) (q : Quotes) (b : ℕ) → At os pre (s ++ (quote q ∷ body)) → body ++ b ∷ [] ≡ z → At os (pre ++ b ∷ []) (s ++ (quote q ∷ z))
 quoted_at os pre s body z q b a e = at_more os pre (s ++ (quote q ∷ body)) (s ++ (quote q ∷ z)) b a (append_assoc s (quote q ∷ body) (b ∷ []) ∙ ap (λ (w : List ℕ). s ++ (quote q ∷ w)) e)
 
+-- why one more character is refused
+abbrev RefusedBy : Quotes → ℕ → List ℕ → ℕ → ℕ → List Open → Type 0
+RefusedBy (form.Atom start) at pre b n os = n ≡ 255 → PastAtom pre b start
+RefusedBy form.String at pre b n os = 127 ≤ length os → (at ≡ length pre) × PastDepth pre b
+RefusedBy form.Binary at pre b n os = Unit {0}
+
+refused : (q : Quotes) (at : ℕ) (pre : List ℕ) (b : ℕ) (cs : List ℕ) (os : List Open) (s body : List ℕ) (a : At os pre (s ++ (quote q ∷ body))) → at ≡ length pre → Lead q s → SpellsQuoted (quote q) body cs → Admitted q (length cs) os → QuoteStarts q a.p
+    → is_character b ≡ true → (b == quote q) ≡ false → RefusedBy q at pre b (length cs) os
+refused (form.Atom start) at pre b cs os s body a len lead sp ok starts char other =
+    λ full. quoted_form os a.k a.p body cs (a.cut ∙ ap (λ (w : List ℕ). a.p ++ (w ++ (39 ∷ body))) lead) a.here starts sp full char other
+refused form.String at pre b cs os s body a len lead sp ok starts char other = λ deep.
+    let none : length cs ≡ 0 = nothing (length cs) (length os) deep ok in
+    let empty = nothing_quoted 34 body cs sp none in
+    let P : ℕ → Type 0 = λ k. Here k os a.p in
+    (len, a_character os a.p (a.cut ∙ ap (λ (w : List ℕ). a.p ++ (w ++ (34 ∷ body))) lead ∙ ap (λ (w : List ℕ). a.p ++ 34 ∷ w) empty) (subst P (last_level (suc a.k) (length os) (here_len (suc a.k) os a.p a.here) deep (omega arith)) a.here) char other)
+  where
+    nothing : (n m : ℕ) → 127 ≤ m → (0 < n → m ≤ 126) → n ≡ 0
+    nothing zero m deep ok = refl
+    nothing (suc n) m deep ok = let few = ok (omega arith) in absurd (omega (arith, deep, few))
+
+    last_level : (k m : ℕ) → m + k ≡ 128 → 127 ≤ m → 0 < k → k ≡ 1
+    last_level k m e deep some = omega (arith, e, deep, some)
+refused form.Binary at pre b cs os s body a len lead sp ok starts char other = tt
+
 -- where one more character is admitted
-admits_holds : (at : ℕ) (q : Quotes) (n : ℕ) (os : List Open) (pre : List ℕ) (s : Step) → Admitted q n os → (Admitted q (n + 1) os → Holds pre s) → Holds pre (admits at q n os s)
-admits_holds at (form.Atom start) n os pre s ok h = holds_if (n == 255) _ _ (λ e. fault _) (λ e. h (less n ok e))
+admits_holds : (at : ℕ) (q : Quotes) (n : ℕ) (os : List Open) (pre : List ℕ) (b : ℕ) (s : Step) → Admitted q n os → RefusedBy q at pre b n os → (Admitted q (n + 1) os → Holds (pre ++ b ∷ []) s) → Holds (pre ++ b ∷ []) (admits at q n os s)
+admits_holds at (form.Atom start) n os pre b s ok why h = holds_if (n == 255) _ _ (λ e. noticed pre b (AtomTooLong start) (why (is_byte n 255 e))) (λ e. h (less n ok e))
   where
     less : (n : ℕ) → n ≤ 255 → (n == 255) ≡ false → n + 1 ≤ 255
     less n h e = search (arith, rules)
-admits_holds at form.String n os pre s ok h = holds_if (nat_le 127 (length os)) _ _ (λ e. fault _) (λ e. h (λ _. few (length os) e))
+admits_holds at form.String n os pre b s ok why h = holds_if (nat_le 127 (length os)) _ _ (λ e. noticed pre b (TooDeep at) (why (leb-true _ _ e))) (λ e. h (λ _. few (length os) e))
   where
     few : (n : ℕ) → nat_le 127 n ≡ false → n ≤ 126
     few n e = search (arith, rules)
-admits_holds at form.Binary n os pre s ok h = h tt
+admits_holds at form.Binary n os pre b s ok why h = h tt
 
 length_one : (cs : List ℕ) (b : ℕ) → length cs + 1 ≡ length (cs ++ b ∷ [])
 length_one cs b = omega (arith, length-append cs (b ∷ []))
@@ -427,36 +450,41 @@ length_one cs b = omega (arith, length-append cs (b ∷ []))
 admitted_as : (q : Quotes) (m n : ℕ) (os : List Open) → m ≡ n → Admitted q m os → Admitted q n os
 admitted_as q m n os e h = let P : ℕ → Type 0 = λ k. Admitted q k os in subst P e h
 
-quoted_holds : (at : ℕ) (q : Quotes) (cs : List ℕ) (os : List Open) (pre s body : List ℕ) (b : ℕ) → at ≡ length pre → Lead q s → At os pre (s ++ (quote q ∷ body)) → SpellsQuoted (quote q) body cs → Admitted q (length cs) os
+sign_is_character : is_character 92 ≡ true
+sign_is_character = refl
+
+quoted_holds : (at : ℕ) (q : Quotes) (cs : List ℕ) (os : List Open) (pre s body : List ℕ) (b : ℕ) → at ≡ length pre → Lead q s → (a : At os pre (s ++ (quote q ∷ body))) → SpellsQuoted (quote q) body cs → Admitted q (length cs) os → QuoteStarts q a.p
     → Holds (pre ++ b ∷ []) (next_quoted at q cs os b)
-quoted_holds at q cs os pre s body b len lead a sp ok = holds_if (b == quote q) _ _
+quoted_holds at q cs os pre s body b len lead a sp ok starts = holds_if (b == quote q) _ _
     (λ e. unquoted_holds (at + 1) q cs os (pre ++ b ∷ []) s body (more_len at pre b len) lead (quoted_at os pre s body (body ++ quote q ∷ []) q b a (ap (λ (x : ℕ). body ++ x ∷ []) (is_byte b (quote q) e))) sp ok)
     (λ e. holds_if (b == 92) _ _
-    (λ f. admits_holds at q (length cs) os (pre ++ b ∷ []) (goes (escaped q cs) os) ok (λ room. record { said = (s, body, lead, quoted_at os pre s body (body ++ 92 ∷ []) q b a (ap (λ (x : ℕ). body ++ x ∷ []) (is_byte b 92 f)), sp, room) }))
+    (λ f. let P : ℕ → Type 0 = λ c. is_character c ≡ true in
+    admits_holds at q (length cs) os pre b (goes (escaped q cs) os) ok (refused q at pre b cs os s body a len lead sp ok starts (subst P (sym (is_byte b 92 f)) sign_is_character) e)
+    (λ room. record { said = (s, body, lead, quoted_at os pre s body (body ++ 92 ∷ []) q b a (ap (λ (x : ℕ). body ++ x ∷ []) (is_byte b 92 f)), sp, room, starts) }))
     (λ f. holds_if (is_character b) _ _
-    (λ c. admits_holds at q (length cs) os (pre ++ b ∷ []) (goes (quoted q (cs ++ b ∷ [])) os) ok (λ room.
-    record { said = (s, body ++ b ∷ [], lead, quoted_at os pre s body (body ++ b ∷ []) q b a refl, plain body cs b sp c e f, admitted_as q (length cs + 1) (length (cs ++ b ∷ [])) os (length_one cs b) room) }))
-    (λ c. fault _)))
+    (λ c. admits_holds at q (length cs) os pre b (goes (quoted q (cs ++ b ∷ [])) os) ok (refused q at pre b cs os s body a len lead sp ok starts c e) (λ room.
+    record { said = (s, body ++ b ∷ [], lead, quoted_at os pre s body (body ++ b ∷ []) q b a refl, plain body cs b sp c e f, admitted_as q (length cs + 1) (length (cs ++ b ∷ [])) os (length_one cs b) room, starts) }))
+    (λ c. noticed pre b (Unexpected at) len)))
 
-escaped_holds : (at : ℕ) (q : Quotes) (cs : List ℕ) (os : List Open) (pre s body : List ℕ) (b : ℕ) → Lead q s → At os pre (s ++ (quote q ∷ (body ++ 92 ∷ []))) → SpellsQuoted (quote q) body cs → Admitted q (length cs + 1) os
+escaped_holds : (at : ℕ) (q : Quotes) (cs : List ℕ) (os : List Open) (pre s body : List ℕ) (b : ℕ) → at ≡ length pre → Lead q s → (a : At os pre (s ++ (quote q ∷ (body ++ 92 ∷ [])))) → SpellsQuoted (quote q) body cs → Admitted q (length cs + 1) os → QuoteStarts q a.p
     → Holds (pre ++ b ∷ []) (next at (escaped q cs) os b)
-escaped_holds at q cs os pre s body b lead a sp ok = holds_if ((b == quote q) || (b == 92)) _ _
-    (λ e. record { said = (s, (body ++ 92 ∷ []) ++ b ∷ [], lead, quoted_at os pre s (body ++ 92 ∷ []) ((body ++ 92 ∷ []) ++ b ∷ []) q b a refl, escape_more q body cs b sp e, admitted_as q (length cs + 1) (length (cs ++ b ∷ [])) os (length_one cs b) ok) })
-    (λ e. fault _)
+escaped_holds at q cs os pre s body b len lead a sp ok starts = holds_if ((b == quote q) || (b == 92)) _ _
+    (λ e. record { said = (s, (body ++ 92 ∷ []) ++ b ∷ [], lead, quoted_at os pre s (body ++ 92 ∷ []) ((body ++ 92 ∷ []) ++ b ∷ []) q b a refl, escape_more q body cs b sp e, admitted_as q (length cs + 1) (length (cs ++ b ∷ [])) os (length_one cs b) ok, starts) })
+    (λ e. noticed pre b (Unexpected at) len)
 
 -- the first byte of a term
 none_left : (k : ℕ) (os : List Open) (pre : List ℕ) → Here k os pre → length os ≤ 127 → (j : ℕ) × (k ≡ suc j)
 none_left zero os pre h few = let e = here_len zero os pre h in absurd (omega (arith, e, few))
 none_left (suc j) os pre h few = (j, refl)
 
-at_here : (j : ℕ) (os : List Open) (pre : List ℕ) (b : ℕ) → Here (suc j) os pre → At os (pre ++ b ∷ []) (b ∷ [])
+abbrev at_here : (j : ℕ) (os : List Open) (pre : List ℕ) (b : ℕ) → Here (suc j) os pre → At os (pre ++ b ∷ []) (b ∷ [])
 at_here j os pre b h = record { k = j; p = pre; cut = refl; here = h }
 
 opens : (j : ℕ) (square : Bool) (os : List Open) (pre : List ℕ) (b : ℕ) → Here (suc j) os pre → b ≡ opening_sign square → Holds (pre ++ b ∷ []) (goes (wants true) (opening square ∷ os))
 opens j square os pre b h e = record { said = (j, (pre, [], ap (λ (x : ℕ). pre ++ x ∷ []) e, h, fresh [] refl), refl) }
 
-at_as : (os : List Open) (pre : List ℕ) (b c : ℕ) → b ≡ c → At os pre (b ∷ []) → At os pre (c ∷ [])
-at_as os pre b c e a = let P : ℕ → Type 0 = λ x. At os pre (x ∷ []) in subst P e a
+abbrev at_as : (os : List Open) (pre : List ℕ) (b c : ℕ) → b ≡ c → At os pre (b ∷ []) → At os pre (c ∷ [])
+at_as os pre b c e a = record { k = a.k; p = a.p; cut = a.cut ∙ ap (λ (x : ℕ). a.p ++ x ∷ []) e; here = a.here }
 
 at_empty : (j : ℕ) (os : List Open) (pre : List ℕ) → Here (suc j) os pre → At os pre []
 at_empty j os pre h = record { k = j; p = pre; cut = sym (append-nil pre); here = h }
@@ -464,23 +492,26 @@ at_empty j os pre h = record { k = j; p = pre; cut = sym (append-nil pre); here 
 pub begin_holds : (at : ℕ) (os : List Open) (pre : List ℕ) (b k : ℕ) → at ≡ length pre → Here k os pre → Holds (pre ++ b ∷ []) (begin at os b)
 unfolding begin
 begin_holds at os pre b k len h = holds_if (begins_term b) _ _
-    (λ starts. holds_if (nat_le 128 (length os)) _ _ (λ e. fault _) (λ room.
+    (λ starts. holds_if (nat_le 128 (length os)) _ _ (λ e. let Z : ℕ → Type 0 = λ j. Here j os pre in noticed pre b (TooDeep at) (len, a_term os (subst Z (no_level k (length os) (here_len k os pre h) (leb-true _ _ e)) h) starts)) (λ room.
     let left = none_left k os pre h (few (length os) room) in
     let P : ℕ → Type 0 = λ x. Here x os pre in
     let here : Here (suc left.0) os pre = subst P left.1 h in
     let a : At os (pre ++ b ∷ []) (b ∷ []) = at_here left.0 os pre b here in
     holds_if (b == 123) _ _ (λ e. opens left.0 false os pre b here (is_byte b 123 e)) (λ b1.
     holds_if (b == 91) _ _ (λ e. opens left.0 true os pre b here (is_byte b 91 e)) (λ b2.
-    holds_if (b == 45) _ _ (λ e. record { said = (45 ∷ [], refl, at_as os (pre ++ b ∷ []) b 45 (is_byte b 45 e) a) }) (λ b3.
-    holds_if (b == 39) _ _ (λ e. record { said = ([], [], refl, at_as os (pre ++ b ∷ []) b 39 (is_byte b 39 e) a, none, omega arith) }) (λ b4.
-    holds_if (b == 34) _ _ (λ e. record { said = ([], [], refl, at_as os (pre ++ b ∷ []) b 34 (is_byte b 34 e) a, none, λ z. absurd (omega (arith, z))) }) (λ b5.
+    holds_if (b == 45) _ _ (λ e. record { said = (45 ∷ [], refl, at_as os (pre ++ b ∷ []) b 45 (is_byte b 45 e) a, len) }) (λ b3.
+    holds_if (b == 39) _ _ (λ e. record { said = ([], [], refl, at_as os (pre ++ b ∷ []) b 39 (is_byte b 39 e) a, none, omega arith, len) }) (λ b4.
+    holds_if (b == 34) _ _ (λ e. record { said = ([], [], refl, at_as os (pre ++ b ∷ []) b 34 (is_byte b 34 e) a, none, (λ z. absurd (omega (arith, z))), tt) }) (λ b5.
     holds_if (b == 60) _ _ (λ e. record { said = at_as os (pre ++ b ∷ []) b 60 (is_byte b 60 e) a }) (λ b6.
-    holds_if (b == 35) _ _ (λ e. record { said = (35 ∷ [], at_as os (pre ++ b ∷ []) b 35 (is_byte b 35 e) a, refl, hash_text []) }) (λ b7.
-    holds_if (is_digit b) _ _ (λ d. record { said = ([], b ∷ [], refl, a, one_digit (integer false) b d) }) (λ d.
+    holds_if (b == 35) _ _ (λ e. record { said = (35 ∷ [], at_as os (pre ++ b ∷ []) b 35 (is_byte b 35 e) a, (refl, tt), hash_text []) }) (λ b7.
+    holds_if (is_digit b) _ _ (λ d. record { said = ([], b ∷ [], refl, a, one_digit (integer false) b d, len) }) (λ d.
     let small = begins_small b starts b1 b2 b3 b4 b5 b6 b7 d in
-    record { said = (a, small, both (is_name b) true (small_is_name b small) refl, omega arith) }))))))))))
-    (λ e. fault _)
+    record { said = (a, small, both (is_name b) true (small_is_name b small) refl, omega arith, len) }))))))))))
+    (λ e. noticed pre b (Unexpected at) len)
   where
+    no_level : (k m : ℕ) → m + k ≡ 128 → 128 ≤ m → k ≡ 0
+    no_level k m e deep = omega (arith, e, deep)
+
     few : (n : ℕ) → nat_le 128 n ≡ false → n ≤ 127
     few n e = search (arith, rules)
 
@@ -531,20 +562,20 @@ name_ends : (cs : List ℕ) (b : ℕ) (rest : List ℕ) → begins is_small cs �
 name_ends [] b rest h n = absurd (false≢true h)
 name_ends (c ∷ cs) b rest h n = (λ e. absurd (false≢true (sym (small_no_number c h) ∙ e)), λ e. n)
 
-angle_second : (at : ℕ) (os : List Open) (pre : List ℕ) (b : ℕ) → At os pre (60 ∷ []) → Holds (pre ++ b ∷ []) (next at angle os b)
-angle_second at os pre b a = holds_if (b == 60) _ _
+angle_second : (at : ℕ) (os : List Open) (pre : List ℕ) (b : ℕ) → at ≡ length pre → At os pre (60 ∷ []) → Holds (pre ++ b ∷ []) (next at angle os b)
+angle_second at os pre b len a = holds_if (b == 60) _ _
     (λ e. record { said = ([], at_more os pre (60 ∷ []) ((60 ∷ 60 ∷ []) ++ []) b a (ap (λ (x : ℕ). 60 ∷ x ∷ []) (is_byte b 60 e)), refl) })
     (λ e. holds_if (b == 48) _ _
-    (λ f. record { said = (60 ∷ 48 ∷ [], at_more os pre (60 ∷ []) (60 ∷ 48 ∷ []) b a (ap (λ (x : ℕ). 60 ∷ x ∷ []) (is_byte b 48 f)), refl, angle_text (48 ∷ [])) })
-    (λ f. fault _))
+    (λ f. record { said = (60 ∷ 48 ∷ [], at_more os pre (60 ∷ []) (60 ∷ 48 ∷ []) b a (ap (λ (x : ℕ). 60 ∷ x ∷ []) (is_byte b 48 f)), (refl, tt), angle_text (48 ∷ [])) })
+    (λ f. noticed pre b (Unexpected at) len))
 
 first_byte : (at : ℕ) (os : List Open) (pre blanks : List ℕ) (b : ℕ) → at ≡ length pre → At os pre ((60 ∷ 60 ∷ []) ++ blanks) → AreBlanks blanks → Holds (pre ++ b ∷ []) (next at opened_binary os b)
 first_byte at os pre blanks b len a bl = holds_if (is_blank b) _ _
     (λ d. record { said = (blanks ++ b ∷ [], at_more os pre ((60 ∷ 60 ∷ []) ++ blanks) ((60 ∷ 60 ∷ []) ++ (blanks ++ b ∷ [])) b a refl, blank_more blanks b bl d) })
     (λ d. holds_if (b == 34) _ _
-    (λ e. record { said = ((60 ∷ 60 ∷ []) ++ blanks, [], (blanks, refl, bl), at_more os pre ((60 ∷ 60 ∷ []) ++ blanks) (((60 ∷ 60 ∷ []) ++ blanks) ++ 34 ∷ []) b a (ap (λ (x : ℕ). ((60 ∷ 60 ∷ []) ++ blanks) ++ x ∷ []) (is_byte b 34 e)), none, tt) })
+    (λ e. record { said = ((60 ∷ 60 ∷ []) ++ blanks, [], (blanks, refl, bl), at_more os pre ((60 ∷ 60 ∷ []) ++ blanks) (((60 ∷ 60 ∷ []) ++ blanks) ++ 34 ∷ []) b a (ap (λ (x : ℕ). ((60 ∷ 60 ∷ []) ++ blanks) ++ x ∷ []) (is_byte b 34 e)), none, tt, tt) })
     (λ e. holds_if (is_digit b) _ _
-    (λ f. record { said = ((60 ∷ 60 ∷ []) ++ blanks, b ∷ [], (blanks, refl, opened blanks bl), at_more os pre ((60 ∷ 60 ∷ []) ++ blanks) (((60 ∷ 60 ∷ []) ++ blanks) ++ b ∷ []) b a refl, one_digit (byte []) b f) })
+    (λ f. record { said = ((60 ∷ 60 ∷ []) ++ blanks, b ∷ [], (blanks, refl, opened blanks bl), at_more os pre ((60 ∷ 60 ∷ []) ++ blanks) (((60 ∷ 60 ∷ []) ++ blanks) ++ b ∷ []) b a refl, one_digit (byte []) b f, behind_form os pre ((60 ∷ 60 ∷ []) ++ blanks) at a len) })
     (λ f. sign_holds at (62 ∷ 62 ∷ []) (whole (Binary [])) os pre ((60 ∷ 60 ∷ []) ++ blanks) b len a (λ k. no_bytes k blanks bl) (angle_text (60 ∷ blanks)))))
 
 string_grown : (before body behind : List ℕ) (z : List ℕ) → (before ++ (34 ∷ (body ++ (34 ∷ behind)))) ++ z ≡ before ++ (34 ∷ (body ++ (34 ∷ (behind ++ z))))
@@ -564,28 +595,31 @@ room_255 n h e = search (arith, rules)
 name_room : (cs : List ℕ) (b : ℕ) → length cs ≤ 255 → (length cs == 255) ≡ false → length (cs ++ b ∷ []) ≤ 255
 name_room cs b h e = let r = room_255 (length cs) h e in omega (arith, r, length-append cs (b ∷ []))
 
-next_holds : (at : ℕ) (mode : Mode) (os : List Open) (pre : List ℕ) (b : ℕ) → at ≡ length pre → SaidIn pre mode os → Holds (pre ++ b ∷ []) (next at mode os b)
+past_top : (m n : ℕ) → nat_le m n ≡ false → n < m
+past_top m n e = search (arith, rules)
+
+pub next_holds : (at : ℕ) (mode : Mode) (os : List Open) (pre : List ℕ) (b : ℕ) → at ≡ length pre → SaidIn pre mode os → Holds (pre ++ b ∷ []) (next at mode os b)
 next_holds at (wants true) [] pre b len h = absurd h
 next_holds at (wants true) (o ∷ os) pre b len (k, h, e) = holds_if (is_blank b) _ _ (λ d. record { said = (k, here_blank k (o ∷ os) pre b h d, e) }) (λ d. opened_holds at o os pre b k len h e)
 next_holds at (wants false) os pre b len (k, h) = holds_if (is_blank b) _ _ (λ d. record { said = (k, here_blank k os pre b h d) }) (λ d. begin_holds at os pre b k len h)
-next_holds at (digit kind start) os pre b len (s, bef, a) = digit_holds at kind start os pre s b bef a
-next_holds at (number kind start n) os pre b len (s, ds, bef, a, num) = holds_if (is_digit b) _ _
+next_holds at (digit kind start) os pre b len (s, bef, a, st) = digit_holds at kind start os pre s b len bef a st
+next_holds at (number kind start n) os pre b len (s, ds, bef, a, num, st) = holds_if (is_digit b) _ _
     (λ d. holds_if (nat_le (n * 10 + (b - 48)) (top kind)) _ _
-    (λ e. record { said = (s, ds ++ b ∷ [], bef, at_more os pre (s ++ ds) (s ++ (ds ++ b ∷ [])) b a (append_assoc s ds (b ∷ [])), more_digits kind ds n b num d (leb-true _ _ e)) })
-    (λ e. fault _))
+    (λ e. record { said = (s, ds ++ b ∷ [], bef, at_more os pre (s ++ ds) (s ++ (ds ++ b ∷ [])) b a (append_assoc s ds (b ∷ [])), more_digits kind ds n b num d (leb-true _ _ e), st) })
+    (λ e. noticed pre b (OutOfRange start) (record { os = os; k = a.k; kind = kind; value = n; lead = a.p; before = s; digits = ds; cut = a.cut; here = a.here; is_before = bef; spells = num; begins = st; digit = d; past = past_top (n * 10 + (b - 48)) (top kind) e })))
     (λ d. number_holds at kind n os pre s ds b len bef a num d)
-next_holds at (name start cs) os pre b len (a, small, names, few) = holds_if (is_name b) _ _
-    (λ d. holds_if (length cs == 255) _ _ (λ e. fault _)
-    (λ e. record { said = (at_more os pre cs (cs ++ b ∷ []) b a refl, begins_more is_small cs (b ∷ []) small, all_more is_name cs b names d, name_room cs b few e) }))
+next_holds at (name start cs) os pre b len (a, small, names, few, st) = holds_if (is_name b) _ _
+    (λ d. holds_if (length cs == 255) _ _ (λ e. noticed pre b (AtomTooLong start) (plain_form os a.k a.p cs a.cut a.here st small names (is_byte (length cs) 255 e) d))
+    (λ e. record { said = (at_more os pre cs (cs ++ b ∷ []) b a refl, begins_more is_small cs (b ∷ []) small, all_more is_name cs b names d, name_room cs b few e, st) }))
     (λ d. behind_holds at os pre cs (Atom cs) b a len (plain_atom a.k cs small names few) (λ rest. name_ends cs b rest small d))
-next_holds at (quoted q cs) os pre b len (s, body, lead, a, sp, ok) = quoted_holds at q cs os pre s body b len lead a sp ok
-next_holds at (escaped q cs) os pre b len (s, body, lead, a, sp, ok) = escaped_holds at q cs os pre s body b lead a sp ok
+next_holds at (quoted q cs) os pre b len (s, body, lead, a, sp, ok, starts) = quoted_holds at q cs os pre s body b len lead a sp ok starts
+next_holds at (escaped q cs) os pre b len (s, body, lead, a, sp, ok, starts) = escaped_holds at q cs os pre s body b len lead a sp ok starts
 next_holds at (signs cs goal) os pre b len (s, a, l, c) = sign_holds at cs goal os pre s b len a l c
-next_holds at angle os pre b len a = angle_second at os pre b a
+next_holds at angle os pre b len a = angle_second at os pre b len a
 next_holds at opened_binary os pre b len (blanks, a, bl) = first_byte at os pre blanks b len a bl
 next_holds at (wants_byte bs) os pre b len (inner, a, in_bytes) = holds_if (is_blank b) _ _
     (λ d. record { said = (inner ++ b ∷ [], at_more os pre ((60 ∷ 60 ∷ []) ++ inner) ((60 ∷ 60 ∷ []) ++ (inner ++ b ∷ [])) b a refl, bytes_blank bs inner b in_bytes d) })
-    (λ d. digit_holds at (byte bs) at os pre ((60 ∷ 60 ∷ []) ++ inner) b (inner, refl, in_bytes) a)
+    (λ d. digit_holds at (byte bs) at os pre ((60 ∷ 60 ∷ []) ++ inner) b len (inner, refl, in_bytes) a (behind_form os pre ((60 ∷ 60 ∷ []) ++ inner) at a len))
 next_holds at (behind_byte bs) os pre b len (row, blanks, a, sp, bl) = byte_holds at bs os pre row blanks b len a sp bl
 next_holds at (behind_string bs) os pre b len (before, body, behind, a, h, sp, i) = string_holds at bs os pre before body behind b len a h sp i
 next_holds at after [] pre b len h = absurd h
@@ -614,18 +648,16 @@ no_fault f t n e = cc
 
 -- the end of the text
 end_sound : (at : ℕ) (mode : Mode) (os : List Open) (pre : List ℕ) (t : Term) (n : ℕ) → at ≡ length pre → SaidIn pre mode os → end at (goes mode os) ≡ found t n → Front pre t n
-end_sound at (number (integer below) start v) [] pre t n len (s, ds, bef, a, num) e =
+end_sound at (number (integer below) start v) [] pre t n len (s, ds, bef, a, num, st) e =
     front_end pre (s ++ ds) (Int (signed below v)) t at n a (integer_spelled below a.k s ds v bef num) len (same_term _ t at n e) (same_count (Int (signed below v)) t at n e)
 end_sound at (number (integer below) start v) (o ∷ os) pre t n len h e = absurd (no_fault _ t n e)
-end_sound at (name start cs) [] pre t n len (a, small, names, few) e =
+end_sound at (name start cs) [] pre t n len (a, small, names, few, st) e =
     front_end pre cs (Atom cs) t at n a (plain_atom a.k cs small names few) len (same_term _ t at n e) (same_count (Atom cs) t at n e)
 end_sound at (name start cs) (o ∷ os) pre t n len h e = absurd (no_fault _ t n e)
 end_sound at mode os pre t n len h e = absurd (no_fault _ t n e)
 
-pub step_holds : (at : ℕ) (s : Step) (pre : List ℕ) (b : ℕ) → at ≡ length pre → Said pre s → Holds (pre ++ b ∷ []) (step at s b)
-step_holds at (goes mode os) pre b len h = next_holds at mode os pre b len h
-step_holds at (found t n) pre b len h = record { said = λ rest. let P : List ℕ → Type 0 = λ w. Front w t n in subst P (sym (append_assoc pre (b ∷ []) rest)) (h (b ∷ rest)) }
-step_holds at (fails f) pre b len h = fault f
+found_on : (pre : List ℕ) (b : ℕ) (t : Term) (n : ℕ) → Said pre (found t n) → Said (pre ++ b ∷ []) (found t n)
+found_on pre b t n h = λ rest. let P : List ℕ → Type 0 = λ w. Front w t n in subst P (sym (append_assoc pre (b ∷ []) rest)) (h (b ∷ rest))
 
 -- What a state comes to over the rest of the text is in front of the whole.
 pub run_sound : (bs : List ℕ) (at : ℕ) (s : Step) (pre : List ℕ) (t : Term) (n : ℕ) → at ≡ length pre → Said pre s → run at s bs ≡ found t n → Front (pre ++ bs) t n
@@ -635,9 +667,13 @@ run_sound [] at (found u m) pre t n len h e =
     let R : ℕ → Type 0 = λ x. Front (pre ++ []) t x in
     subst R (same_count u t m n e) (subst Q (same_term u t m n e) (h []))
 run_sound [] at (fails f) pre t n len h e = absurd (no_fault f t n e)
-run_sound (b ∷ bs) at s pre t n len h e =
+run_sound (b ∷ bs) at (goes mode os) pre t n len h e =
     let P : List ℕ → Type 0 = λ w. Front w t n in
-    subst P (append_assoc pre (b ∷ []) bs) (run_sound bs (at + 1) (step at s b) (pre ++ b ∷ []) t n (more_len at pre b len) (step_holds at s pre b len h).said e)
+    subst P (append_assoc pre (b ∷ []) bs) (run_sound bs (at + 1) (next at mode os b) (pre ++ b ∷ []) t n (more_len at pre b len) (next_holds at mode os pre b len h).said e)
+run_sound (b ∷ bs) at (found u m) pre t n len h e =
+    let P : List ℕ → Type 0 = λ w. Front w t n in
+    subst P (append_assoc pre (b ∷ []) bs) (run_sound bs (at + 1) (found u m) (pre ++ b ∷ []) t n (more_len at pre b len) (found_on pre b u m h) e)
+run_sound (b ∷ bs) at (fails f) pre t n len h e = absurd (no_fault f t n (sym (run_fails (at + 1) f bs) ∙ e))
 
 pub sound : (text : List ℕ) (t : Term) (n : ℕ) → reading text ≡ found t n → Front text t n
 sound text t n e = run_sound text 0 (goes (wants false) []) [] t n refl (128, (refl, refl)) e

@@ -8,7 +8,7 @@ use Rattle.ets_term.specs.declared.term.Term.{Term}
 use Rattle.ets_term.specs.declared.term.Term.TheVariants.{Atom, Pid, Tid, Binary, List as ListOf}
 use Rattle.term_text.specs.declared.quotes.Quotes.{Quotes}
 use Rattle.term_text.specs.declared.quotes.Quotes.TheVariants as form
-use Rattle.term_text.specs.Reader.{IgnoresBlanks, counted}
+use Rattle.term_text.specs.inside.Reader.{IgnoresBlanks, counted}
 use Rattle.term_text.specs.Text.{is_blank, is_digit, is_small, is_name, closes, begins_term, begins, spelled, count}
 use Rattle.term_text.specs.Machine.{Open, Number, integer, pid, identifier, byte, Goal, whole, digits, wants, digit, number, name, quoted, escaped, signs, angle, opened_binary, wants_byte, behind_byte, behind_string, after, Step, goes, found, code, bracket, opening, put, arrive, begin, quote, admits, step, run, reading}
 use Rattle.term_text.specs.Grammar.{AreBlanks, SpellsNumber, SpellsQuoted, SpellsBytes, opening_sign, closing_sign, Spells, SpellsRow, Ends, Front, none, plain, escaped as escaped_form, first, more, positive, negative, plain_atom, quoted_atom, pid_form, identifier_form, no_bytes, bytes, byte_string, empty_string, string, empty_bracket, full_bracket, first_term, more_terms}
@@ -19,7 +19,7 @@ use Rattle.term_text.proofs.Names.{run_name, name_behind}
 use Rattle.term_text.proofs.Runs.{if_true, if_false, run_found, number_here, count_true}
 use Rattle.term_text.proofs.Sound.{Admitted, begins_more}
 
-parts : (a b : Bool) → (a && b) ≡ true → (a ≡ true) × (b ≡ true)
+pub parts : (a b : Bool) → (a && b) ≡ true → (a ≡ true) × (b ≡ true)
 parts true b h = (refl, h)
 parts false b h = absurd (false≢true h)
 
@@ -33,7 +33,7 @@ spelled_all m [] [] h k = refl
 spelled_all m [] (b ∷ rest) h k = if_false _ _ _ k
 spelled_all m (c ∷ s) rest h k = let q = parts (is_digit c) (list_all is_digit s) h in if_true _ _ _ q.0 ∙ spelled_all (m * 10 + (c - 48)) s rest q.1 k ∙ sym (if_true _ _ _ q.0)
 
-stepped : (at : ℕ) (s z : Step) (b : ℕ) (bs : List ℕ) → step at s b ≡ z → run at s (b ∷ bs) ≡ run (at + 1) z bs
+pub stepped : (at : ℕ) (s z : Step) (b : ℕ) (bs : List ℕ) → step at s b ≡ z → run at s (b ∷ bs) ≡ run (at + 1) z bs
 stepped at s z b bs h = ap (λ (x : Step). run (at + 1) x bs) h
 
 counted_same : (kind : Number) (os : List Open) (m n v w : ℕ) (xs ys : List ℕ) → m ≡ n → v ≡ w → xs ≡ ys → run m (counted m kind v os) xs ≡ run n (counted n kind w os) ys
@@ -47,7 +47,7 @@ number_text at start kind os s rest n fin h k e =
     number_here at start kind os (s ++ rest) (begins_more is_digit s rest h.some) (omega (arith, v, h.fits))
     ∙ counted_same kind os _ fin _ n _ rest (omega (arith, c, e)) v (ap (λ (m : ℕ). drop m (s ++ rest)) c ∙ drop-append_seam s rest)
 
-blanks_stay : (at : ℕ) (s : Step) (bs rest : List ℕ) → IgnoresBlanks s → AreBlanks bs → run at s (bs ++ rest) ≡ run (at + length bs) s rest
+pub blanks_stay : (at : ℕ) (s : Step) (bs rest : List ℕ) → IgnoresBlanks s → AreBlanks bs → run at s (bs ++ rest) ≡ run (at + length bs) s rest
 blanks_stay at s [] rest i h = ap (λ (m : ℕ). run m s rest) (omega arith)
 blanks_stay at s (b ∷ bs) rest i h =
     let q = parts (is_blank b) (list_all is_blank bs) h in
@@ -56,7 +56,7 @@ blanks_stay at s (b ∷ bs) rest i h =
 same : (n : ℕ) → (n == n) ≡ true
 same n = search (arith, rules)
 
-signs_text : (at : ℕ) (cs : List ℕ) (goal : Goal) (os : List Open) (rest : List ℕ) (fin : ℕ) → fin ≡ at + length cs → run at (arrive at cs goal os) (cs ++ rest) ≡ run fin (arrive fin [] goal os) rest
+pub signs_text : (at : ℕ) (cs : List ℕ) (goal : Goal) (os : List Open) (rest : List ℕ) (fin : ℕ) → fin ≡ at + length cs → run at (arrive at cs goal os) (cs ++ rest) ≡ run fin (arrive fin [] goal os) rest
 signs_text at [] goal os rest fin e = ap (λ (m : ℕ). run m (arrive m [] goal os) rest) (omega (arith, e))
 signs_text at (c ∷ cs) goal os rest fin e = stepped at (goes (signs (c ∷ cs) goal) os) (arrive (at + 1) cs goal os) c (cs ++ rest) (if_true _ _ _ (same c)) ∙ signs_text (at + 1) cs goal os rest fin (omega (arith, e))
 
@@ -97,19 +97,19 @@ quoted_text at q os s cs rest fin (escaped_form t ds c sp h) ok e =
     ∙ ap (λ (m : ℕ). run m (goes (quoted q (ds ++ c ∷ [])) os) rest) (omega (arith, e, length-append t (92 ∷ c ∷ [])))
 
 -- what the next byte is not
-begins_other : (p q : ℕ → Bool) (s rest : List ℕ) → begins p s ≡ true → ((b : ℕ) → p b ≡ true → q b ≡ false) → begins q (s ++ rest) ≡ false
+pub begins_other : (p q : ℕ → Bool) (s rest : List ℕ) → begins p s ≡ true → ((b : ℕ) → p b ≡ true → q b ≡ false) → begins q (s ++ rest) ≡ false
 begins_other p q [] rest h k = absurd (false≢true h)
 begins_other p q (b ∷ s) rest h k = k b h
 
-blanks_then : (q : ℕ → Bool) (bs : List ℕ) (x : ℕ) (tail : List ℕ) → AreBlanks bs → ((b : ℕ) → is_blank b ≡ true → q b ≡ false) → q x ≡ false → begins q (bs ++ x ∷ tail) ≡ false
+pub blanks_then : (q : ℕ → Bool) (bs : List ℕ) (x : ℕ) (tail : List ℕ) → AreBlanks bs → ((b : ℕ) → is_blank b ≡ true → q b ≡ false) → q x ≡ false → begins q (bs ++ x ∷ tail) ≡ false
 blanks_then q [] x tail h k e = e
 blanks_then q (b ∷ bs) x tail h k e = k b (parts (is_blank b) (list_all is_blank bs) h).0
 
-digit_no_blank : (b : ℕ) → is_digit b ≡ true → is_blank b ≡ false
+pub digit_no_blank : (b : ℕ) → is_digit b ≡ true → is_blank b ≡ false
 unfolding is_digit is_blank
 digit_no_blank b h = grind (arith, nat_tests)
 
-digit_no_quote : (b : ℕ) → is_digit b ≡ true → (b == 34) ≡ false
+pub digit_no_quote : (b : ℕ) → is_digit b ≡ true → (b == 34) ≡ false
 unfolding is_digit
 digit_no_quote b h = grind (arith, nat_tests)
 
@@ -121,25 +121,25 @@ low_no_name : (b : ℕ) → b ≤ 32 → is_name b ≡ false
 unfolding is_name is_small is_digit
 low_no_name b h = grind arith
 
-blank_no_name : (b : ℕ) → is_blank b ≡ true → is_name b ≡ false
+pub blank_no_name : (b : ℕ) → is_blank b ≡ true → is_name b ≡ false
 blank_no_name b h = low_no_name b (blank_low b h)
 
 no_name_no_digit : (b : ℕ) → is_name b ≡ false → is_digit b ≡ false
 unfolding is_name is_small is_digit
 no_name_no_digit b h = grind arith
 
-blank_no_digit : (b : ℕ) → is_blank b ≡ true → is_digit b ≡ false
+pub blank_no_digit : (b : ℕ) → is_blank b ≡ true → is_digit b ≡ false
 blank_no_digit b h = no_name_no_digit b (blank_no_name b h)
 
-comma_no_digit : is_digit 44 ≡ false
+pub comma_no_digit : is_digit 44 ≡ false
 unfolding is_digit
 comma_no_digit = refl
 
-comma_no_blank : is_blank 44 ≡ false
+pub comma_no_blank : is_blank 44 ≡ false
 unfolding is_blank
 comma_no_blank = refl
 
-comma_no_name : is_name 44 ≡ false
+pub comma_no_name : is_name 44 ≡ false
 unfolding is_name is_small is_digit
 comma_no_name = refl
 
@@ -201,7 +201,7 @@ digit_begins : (b : ℕ) → is_digit b ≡ true → begins_term b ≡ true
 unfolding begins_term is_small is_digit
 digit_begins b h = grind arith
 
-small_begins : (b : ℕ) → is_small b ≡ true → begins_term b ≡ true
+pub small_begins : (b : ℕ) → is_small b ≡ true → begins_term b ≡ true
 unfolding begins_term is_small is_digit
 small_begins b h = grind arith
 
@@ -213,27 +213,27 @@ square_begins : begins_term 91 ≡ true
 unfolding begins_term is_digit is_small
 square_begins = refl
 
-minus_begins : begins_term 45 ≡ true
+pub minus_begins : begins_term 45 ≡ true
 unfolding begins_term is_digit is_small
 minus_begins = refl
 
-quote_begins : begins_term 39 ≡ true
+pub quote_begins : begins_term 39 ≡ true
 unfolding begins_term is_digit is_small
 quote_begins = refl
 
-string_begins : begins_term 34 ≡ true
+pub string_begins : begins_term 34 ≡ true
 unfolding begins_term is_digit is_small
 string_begins = refl
 
-angle_begins : begins_term 60 ≡ true
+pub angle_begins : begins_term 60 ≡ true
 unfolding begins_term is_digit is_small
 angle_begins = refl
 
-hash_begins : begins_term 35 ≡ true
+pub hash_begins : begins_term 35 ≡ true
 unfolding begins_term is_digit is_small
 hash_begins = refl
 
-digits_wanted : (at : ℕ) (opened : Bool) (os : List Open) (s rest : List ℕ) → length os < 128 → begins is_digit s ≡ true → run at (goes (wants opened) os) (s ++ rest) ≡ run at (goes (digit (integer false) at) os) (s ++ rest)
+pub digits_wanted : (at : ℕ) (opened : Bool) (os : List Open) (s rest : List ℕ) → length os < 128 → begins is_digit s ≡ true → run at (goes (wants opened) os) (s ++ rest) ≡ run at (goes (digit (integer false) at) os) (s ++ rest)
 digits_wanted at opened os [] rest room h = absurd (false≢true h)
 digits_wanted at opened os (b ∷ s) rest room h =
     wants_first at opened os b (goes (number (integer false) at (b - 48)) os) (s ++ rest) (digit_begins b h) (begin_digit at os b room h)
@@ -335,16 +335,16 @@ unfolding closes
 closes_so true = refl
 closes_so false = refl
 
-comma_no_close : (square : Bool) → closes square 44 ≡ false
+pub comma_no_close : (square : Bool) → closes square 44 ≡ false
 unfolding closes
 comma_no_close true = refl
 comma_no_close false = refl
 
-opens_wanted : (at : ℕ) (opened square : Bool) (os : List Open) (rest : List ℕ) → length os < 128 → run at (goes (wants opened) os) (opening_sign square ∷ rest) ≡ run (at + 1) (goes (wants true) (opening square ∷ os)) rest
+pub opens_wanted : (at : ℕ) (opened square : Bool) (os : List Open) (rest : List ℕ) → length os < 128 → run at (goes (wants opened) os) (opening_sign square ∷ rest) ≡ run (at + 1) (goes (wants true) (opening square ∷ os)) rest
 opens_wanted at opened true os rest room = wants_first at opened os 91 (goes (wants true) (opening true ∷ os)) rest square_begins (begin_square at os room)
 opens_wanted at opened false os rest room = wants_first at opened os 123 (goes (wants true) (opening false ∷ os)) rest brace_begins (begin_brace at os room)
 
-abbrev holding : Bool → List Term → Open
+abbrev pub holding : Bool → List Term → Open
 holding square ts = record { square = square; terms = ts }
 
 empty_text : (at : ℕ) (square : Bool) (os : List Open) (blanks rest : List ℕ) (fin : ℕ) → AreBlanks blanks → fin ≡ at + length (blanks ++ closing_sign square ∷ [])
@@ -421,7 +421,7 @@ mutual
       ∙ row_text j row ts sp (at + 1) square os (behind ++ closing_sign square ∷ rest) (at + 1 + length row) (omega (arith, room)) (blanks_then is_name behind (closing_sign square) rest h blank_no_name (close_no_name square)) refl
       ∙ close_text (at + 1 + length row) square ts os behind rest fin h (omega (arith, e, length-append row (behind ++ closing_sign square ∷ [])))
 
-  row_text : (k : ℕ) (row : List ℕ) (ts : List Term) → SpellsRow k row ts → (at : ℕ) (square : Bool) (os : List Open) (rest : List ℕ) (fin : ℕ) → length os + 1 + k ≤ 128 → begins is_name rest ≡ false → fin ≡ at + length row
+  pub row_text : (k : ℕ) (row : List ℕ) (ts : List Term) → SpellsRow k row ts → (at : ℕ) (square : Bool) (os : List Open) (rest : List ℕ) (fin : ℕ) → length os + 1 + k ≤ 128 → begins is_name rest ≡ false → fin ≡ at + length row
       → run at (goes (wants true) (opening square ∷ os)) (row ++ rest) ≡ run fin (goes after (holding square ts ∷ os)) rest
   row_text k row ts (first_term j before s t h sp) at square os rest fin room stop e =
       ap (λ (w : List ℕ). run at (goes (wants true) (opening square ∷ os)) w) (append_assoc before s rest)

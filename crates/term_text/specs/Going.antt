@@ -13,10 +13,10 @@ abbrev pub so_far : List ℕ → Step
 so_far bs = state 0 (goes (wants false) []) bs
 
 -- a state with no fault
-abbrev pub Stands : Step → Type 0
-Stands (goes mode os) = Unit {0}
-Stands (found t n) = Unit {0}
-Stands (fails f) = ⊥
+abbrev pub HasNoFault : Step → Type 0
+HasNoFault (goes mode os) = Unit {0}
+HasNoFault (found t n) = Unit {0}
+HasNoFault (fails f) = ⊥
 
 -- some text that begins so is read as a term
 abbrev pub GoesOn : List ℕ → Type 0

@@ -1,10 +1,10 @@
 -- The text of terms: what spells a term, by cases on the term.
-use Rattle.std.specs.Prelude.{◌≡◌, ℕ, suc, ◌<◌, ◌≤◌, List, [], ◌∷◌, ◌++◌, length, map, Bool, true, false, ◌||◌, ◌==◌, if◌then◌else◌, IsTrue}
+use Rattle.std.specs.Prelude.{◌≡◌, ℕ, suc, ◌<◌, ◌≤◌, List, [], ◌∷◌, ◌++◌, length, map, Bool, true, false, ◌||◌, ◌==◌, if◌then◌else◌, IsTrue, codes}
 use Rattle.std.specs.List.{list_all}
 use Rattle.ets_term.specs.Character.{is_character}
 use Rattle.ets_term.specs.declared.term.Term.{Term}
 use Rattle.ets_term.specs.declared.term.Term.TheVariants.{Int, Atom, Pid, Tid, Binary, List as ListOf}
-use Rattle.term_text.specs.Machine.{Number, integer, pid, identifier, byte, signed, top, code, bracket}
+use Rattle.term_text.specs.Forms.{Number, integer, pid, identifier, byte, signed, top, code, bracket}
 use Rattle.term_text.specs.Text.{is_blank, is_digit, is_small, is_name, begins, spelled}
 
 abbrev pub AreBlanks : List ℕ → Type 0
@@ -43,12 +43,12 @@ mutual
     negative : (k : ℕ) (s : List ℕ) (n : ℕ) → SpellsNumber (integer true) s n → Spells (suc k) (45 ∷ s) (Int (signed true n))
     plain_atom : (k : ℕ) (s : List ℕ) → IsTrue (begins is_small s) → IsTrue (list_all is_name s) → length s ≤ 255 → Spells (suc k) s (Atom s)
     quoted_atom : (k : ℕ) (s cs : List ℕ) → SpellsQuoted 39 s cs → length cs ≤ 255 → Spells (suc k) (39 ∷ (s ++ 39 ∷ [])) (Atom cs)
-    pid_form : (k : ℕ) (s : List ℕ) (n : ℕ) → SpellsNumber pid s n → Spells (suc k) ((60 ∷ 48 ∷ 46 ∷ []) ++ (s ++ 46 ∷ 48 ∷ 62 ∷ [])) (Pid n)
-    identifier_form : (k : ℕ) (s : List ℕ) (n : ℕ) → SpellsNumber identifier s n → Spells (suc k) ((35 ∷ 84 ∷ 105 ∷ 100 ∷ 60 ∷ []) ++ (s ++ 62 ∷ [])) (Tid n)
-    no_bytes : (k : ℕ) (blanks : List ℕ) → AreBlanks blanks → Spells (suc k) ((60 ∷ 60 ∷ []) ++ (blanks ++ 62 ∷ 62 ∷ [])) (Binary [])
-    bytes : (k : ℕ) (row behind bs : List ℕ) → SpellsBytes row bs → AreBlanks behind → Spells (suc k) ((60 ∷ 60 ∷ []) ++ (row ++ (behind ++ 62 ∷ 62 ∷ []))) (Binary bs)
+    pid_form : (k : ℕ) (s : List ℕ) (n : ℕ) → SpellsNumber pid s n → Spells (suc k) (codes "<0." ++ (s ++ codes ".0>")) (Pid n)
+    identifier_form : (k : ℕ) (s : List ℕ) (n : ℕ) → SpellsNumber identifier s n → Spells (suc k) (codes "#Tid<" ++ (s ++ codes ">")) (Tid n)
+    no_bytes : (k : ℕ) (blanks : List ℕ) → AreBlanks blanks → Spells (suc k) (codes "<<" ++ (blanks ++ codes ">>")) (Binary [])
+    bytes : (k : ℕ) (row behind bs : List ℕ) → SpellsBytes row bs → AreBlanks behind → Spells (suc k) (codes "<<" ++ (row ++ (behind ++ codes ">>"))) (Binary bs)
     byte_string : (k : ℕ) (before s behind bs : List ℕ) → AreBlanks before → SpellsQuoted 34 s bs → AreBlanks behind
-        → Spells (suc k) ((60 ∷ 60 ∷ []) ++ (before ++ 34 ∷ (s ++ 34 ∷ (behind ++ 62 ∷ 62 ∷ [])))) (Binary bs)
+        → Spells (suc k) (codes "<<" ++ (before ++ 34 ∷ (s ++ 34 ∷ (behind ++ codes ">>")))) (Binary bs)
     empty_string : (k : ℕ) → Spells (suc k) (34 ∷ 34 ∷ []) (ListOf [])
     string : (k : ℕ) (s cs : List ℕ) → SpellsQuoted 34 s cs → 0 < length cs → Spells (suc (suc k)) (34 ∷ (s ++ 34 ∷ [])) (ListOf (map code cs))
     empty_bracket : (k : ℕ) (square : Bool) (blanks : List ℕ) → AreBlanks blanks

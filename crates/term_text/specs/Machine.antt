@@ -2,26 +2,14 @@
 -- where the machine has no next state.
 use Rattle.std.specs.Prelude.{ℕ, zero, suc, ◌+◌, ◌-◌, ◌*◌, ◌^◌, ℤ, pos, negsuc, List, [], ◌∷◌, ◌++◌, length, map, Bool, true, false, ◌||◌, ◌==◌, nat_le, if◌then◌else◌}
 use Rattle.ets_term.specs.Character.{is_character}
-use Rattle.ets_term.specs.Integers.{least, greatest}
 use Rattle.ets_term.specs.declared.term.Term.{Term}
-use Rattle.ets_term.specs.declared.term.Term.TheVariants.{Int, Atom, Pid, Tid, Tuple, List as ListOf, Binary}
+use Rattle.ets_term.specs.declared.term.Term.TheVariants.{Int, Atom, Pid, Tid, List as ListOf, Binary}
 use Rattle.term_text.specs.declared.fault.TextFault.{TextFault}
 use Rattle.term_text.specs.declared.fault.TextFault.TheVariants.{Unexpected, Unclosed, OutOfRange, TooDeep, AtomTooLong}
 use Rattle.term_text.specs.declared.quotes.Quotes.{Quotes}
 use Rattle.term_text.specs.declared.quotes.Quotes.TheVariants as form
+pub use Rattle.term_text.specs.Forms.{Open, Number, integer, pid, identifier, byte, signed, size, top, bracket, code}
 use Rattle.term_text.specs.Text.{is_blank, is_digit, is_name, closes, begins_term}
-
--- A bracket that is open, square or a brace, and the terms that stand in it so far.
-pub record Open : Type 0 where
-  pub square : Bool
-  pub terms : List Term
-
--- The numbers that a text may have.
-pub data Number : Type 0 where
-  integer : Bool → Number  -- an integer, below zero if true
-  pid : Number
-  identifier : Number
-  byte : List ℕ → Number  -- a byte of a binary, behind these
 
 -- What stands behind signs that must come.
 pub data Goal : Type 0 where
@@ -49,28 +37,6 @@ pub data Step : Type 0 where
   goes : Mode → List Open → Step
   found : Term → ℕ → Step  -- the term that the text begins with, and how many bytes it takes
   fails : TextFault → Step
-
--- the integer of this size, below zero if true
-abbrev pub signed : Bool → ℕ → ℤ
-signed true zero = pos 0
-signed true (suc n) = negsuc n
-signed false n = pos n
-
--- the size of an integer, without its sign
-abbrev pub size : ℤ → ℕ
-size (pos n) = n
-size (negsuc n) = n + 1
-
--- the greatest size of a number
-abbrev pub top : Number → ℕ
-top (integer true) = size least
-top (integer false) = size greatest
-top pid = 2 ^ 32 - 1
-top identifier = 2 ^ 32 - 1
-top (byte bs) = 255
-
-abbrev pub bracket : Open → Term
-bracket o = if o.square then ListOf o.terms else Tuple o.terms
 
 abbrev pub opening : Bool → Open
 opening square = record { square = square; terms = [] }
@@ -156,10 +122,6 @@ abbrev pub quote : Quotes → ℕ
 quote (form.Atom start) = 39
 quote form.String = 34
 quote form.Binary = 34
-
--- the integer of a character
-abbrev pub code : ℕ → Term
-code c = Int (pos c)
 
 -- behind the closing quote, n bytes being taken; a string stands for the list of its characters' codes
 abbrev pub unquoted : ℕ → Quotes → List ℕ → List Open → Step

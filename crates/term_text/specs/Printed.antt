@@ -1,5 +1,5 @@
 -- The printed text of terms: without blanks, a string as a list, numbers without superfluous zeros.
-use Rattle.std.specs.Prelude.{ℕ, List, [], ◌∷◌, ◌++◌, map, Bool, true, false, ◌&&◌, ◌||◌, ◌==◌, if◌then◌else◌, decimal}
+use Rattle.std.specs.Prelude.{ℕ, List, [], ◌∷◌, ◌++◌, map, Bool, true, false, ◌&&◌, ◌||◌, ◌==◌, if◌then◌else◌, decimal, codes}
 use Rattle.std.specs.Fmt.{signed_decimal}
 use Rattle.std.specs.List.{list_all, flat_map}
 use Rattle.ets_term.specs.declared.term.Term.{Term, fold-Term}
@@ -19,7 +19,7 @@ atom_text s = if is_plain s then s else (39 ∷ []) ++ (flat_map escaped s ++ 39
 
 -- a comma, where something stands before
 abbrev pub comma_if : Bool → List ℕ
-comma_if later = if later then 44 ∷ [] else []
+comma_if later = if later then codes "," else []
 
 -- texts parted by commas
 abbrev pub row_text : Bool → List (List ℕ) → List ℕ
@@ -27,14 +27,14 @@ row_text later [] = []
 row_text later (s ∷ ss) = comma_if later ++ (s ++ row_text true ss)
 
 -- `<0.7.0>`, `#Tid<7>`, `{a,b}`, `[1,2]` and `<<97,98>>`
-abbrev pub printed_step : Term-F (List ℕ) → List ℕ
-printed_step (Term-F.Int n) = signed_decimal n
-printed_step (Term-F.Atom s) = atom_text s
-printed_step (Term-F.Pid n) = (60 ∷ 48 ∷ 46 ∷ []) ++ (decimal n ++ 46 ∷ 48 ∷ 62 ∷ [])
-printed_step (Term-F.Tid n) = (35 ∷ 84 ∷ 105 ∷ 100 ∷ 60 ∷ []) ++ (decimal n ++ 62 ∷ [])
-printed_step (Term-F.Tuple ss) = (123 ∷ []) ++ (row_text false ss ++ 125 ∷ [])
-printed_step (Term-F.List ss) = (91 ∷ []) ++ (row_text false ss ++ 93 ∷ [])
-printed_step (Term-F.Binary bs) = (60 ∷ 60 ∷ []) ++ (row_text false (map decimal bs) ++ 62 ∷ 62 ∷ [])
+abbrev pub printed_form : Term-F (List ℕ) → List ℕ
+printed_form (Term-F.Int n) = signed_decimal n
+printed_form (Term-F.Atom s) = atom_text s
+printed_form (Term-F.Pid n) = codes "<0." ++ (decimal n ++ codes ".0>")
+printed_form (Term-F.Tid n) = codes "#Tid<" ++ (decimal n ++ codes ">")
+printed_form (Term-F.Tuple ss) = codes "{" ++ (row_text false ss ++ codes "}")
+printed_form (Term-F.List ss) = codes "[" ++ (row_text false ss ++ codes "]")
+printed_form (Term-F.Binary bs) = codes "<<" ++ (row_text false (map decimal bs) ++ codes ">>")
 
 abbrev pub printed : Term → List ℕ
-printed = fold-Term (List ℕ) printed_step
+printed = fold-Term (List ℕ) printed_form

@@ -7,6 +7,6 @@ abbrev pub AppendsFront : Option (List ℕ) → Option (List ℕ) → List ℕ �
 AppendsFront old new text = (sent rest : List ℕ) × (text ≡ sent ++ rest) × Appends old new sent
 
 -- the text was appended, or after a fault a front of it
-abbrev pub Sends : {A E : Type 0} → Option (List ℕ) → Option (List ℕ) → List ℕ → Result A E → Type 0
-Sends old new text (Ok x) = Appends old new text
-Sends old new text (Err e) = AppendsFront old new text
+abbrev pub AppendsOrFront : {A E : Type 0} → Option (List ℕ) → Option (List ℕ) → List ℕ → Result A E → Type 0
+AppendsOrFront old new text (Ok x) = Appends old new text
+AppendsOrFront old new text (Err e) = AppendsFront old new text

@@ -1,7 +1,7 @@
 //! Binaries, pids and table identifiers.
 ghost use Rattle.std.specs.Prelude.{◌≡◌, ◌+◌, ◌≤◌, ◌<◌, ◌∷◌, [], List, true, length, IfOk, slice_index};
 ghost use Rattle.term_text.specs.Machine.{Open, byte, digit, quoted, goes, opened_binary, angle, arrive, digits, pid, identifier};
-ghost use Rattle.term_text.specs.Reader.{Reads, Gathers};
+ghost use Rattle.term_text.specs.inside.Reader.{Reads, ReadsBytes};
 ghost use Rattle.term_text.specs.declared.quotes.Quotes.TheVariants as form;
 
 use crate::bytes::{digit_stands, past_blanks, stands};
@@ -17,7 +17,7 @@ use std::alloc::Global;
 fn bytes_at(alloc: Global, text: &[u8], at: usize) -> Result<(Items<u8>, usize), TextFault>
     requires { at ≤ length text.now }
     ensures within { IfOk result (λ x. (at ≤ x.1) × (x.1 ≤ length text.now)) }
-    ensures reads { Gathers text.now at result }
+    ensures reads { ReadsBytes text.now at result }
 {
     let mut bytes = Vec::new(alloc);
     let mut place = at;

@@ -2,7 +2,7 @@
 ghost use Rattle.std.specs.Prelude.{◌≡◌, ◌+◌, ◌≤◌, ◌==◌, length, drop, false};
 ghost use Rattle.ets_term.specs.Character.{is_character};
 ghost use Rattle.term_text.specs.Machine.{Step};
-ghost use Rattle.term_text.specs.Reader.{IgnoresBlanks, Comes};
+ghost use Rattle.term_text.specs.inside.Reader.{IgnoresBlanks, Comes};
 ghost use Rattle.term_text.specs.Text.{is_blank, is_digit, is_small, is_name, closes, begins_term, begins, count};
 
 #[tactic(auto, unfolding(crate::specs::Text::is_blank))]

@@ -1,6 +1,7 @@
 //! What the exact reading means in the words of the grammar.
 ghost use Rattle.std.specs.Prelude.{◌≡◌, ◌++◌, ℕ, List};
-ghost use Rattle.term_text.specs.Going.{GoesOn, Stands, so_far};
+ghost use Rattle.term_text.specs.Faults.{IsFault};
+ghost use Rattle.term_text.specs.Going.{GoesOn, HasNoFault, so_far};
 ghost use Rattle.term_text.specs.Machine.{fails, found, reading};
 ghost use Rattle.term_text.specs.Grammar.{Front};
 ghost use Rattle.term_text.specs.RoundTrip.{ReadsBack};
@@ -9,7 +10,7 @@ ghost use Rattle.term_text.specs.declared.fault.TextFault.{TextFault};
 
 /// A fault is noticed at the earliest byte: up to it the text can go on to a whole term, and from it on it can't.
 pub fn faults_are_noticed_first()
-    ensures before { (bs : List ℕ) → Stands (so_far bs) → GoesOn bs }
+    ensures before { (bs : List ℕ) → HasNoFault (so_far bs) → GoesOn bs }
     ensures from { (bs : List ℕ) (f : TextFault) (more : List ℕ) → so_far bs ≡ fails f → reading (bs ++ more) ≡ fails f }
 {}
 
@@ -23,4 +24,11 @@ pub fn found_exactly_where_spelled()
 /// what stands behind it doesn't go on with its integer or its atom without quotes.
 pub fn printed_text_reads_as_itself()
     ensures same { (t : Term) (rest : List ℕ) → ReadsBack t rest }
+{}
+
+/// A fault is told exactly where its row of the table stands in the text, with the offset that the row says: at the end of
+/// a text that could go on, or at the first byte with which it can't.
+pub fn faults_say_why()
+    ensures noticed { (text : List ℕ) (f : TextFault) → reading text ≡ fails f → IsFault text f }
+    ensures told { (text : List ℕ) (f : TextFault) → IsFault text f → reading text ≡ fails f }
 {}

@@ -1,6 +1,6 @@
 //! Numbers and fixed signs.
 ghost use Rattle.std.specs.Prelude.{◌≡◌, ◌+◌, ◌-◌, ◌*◌, ◌≤◌, ◌<◌, ℕ, List, true, false, get_or, length, drop, IfOk, OnErr, MatchOption};
-ghost use Rattle.term_text.specs.Reader.{Counts, Passes};
+ghost use Rattle.term_text.specs.inside.Reader.{ReadsNumber, ReadsSigns};
 ghost use Rattle.term_text.specs.Text.{is_digit, count, spelled};
 
 use crate::bytes::is_digit_byte;
@@ -59,7 +59,7 @@ pub(crate) fn number_at(
     requires within { at ≤ length text.now }
     requires limit_in { 9 ≤ limit }
     ensures within { IfOk result (λ x. (x.0 ≤ limit) × (at ≤ x.1) × (x.1 ≤ length text.now)) }
-    ensures reads { Counts text.now at start limit result }
+    ensures reads { ReadsNumber text.now at start limit result }
 {
     if at >= text.len() {
         return Err(TextFault::Unclosed(at));
@@ -77,7 +77,7 @@ pub(crate) fn number_at(
 pub(crate) fn signs_at(text: &[u8], at: usize, signs: &[u8]) -> Result<usize, TextFault>
     requires { at ≤ length text.now }
     ensures within { IfOk result (λ n. (at ≤ n) × (n ≤ length text.now)) }
-    ensures reads { Passes text.now at signs.now result }
+    ensures reads { ReadsSigns text.now at signs.now result }
 {
     let mut place = at;
     for sign in signs {

@@ -2,7 +2,7 @@
 ghost use Rattle.std.specs.Prelude.{◌≡◌, ◌+◌, ◌-◌, ◌≤◌, ◌<◌, ◌∷◌, [], List, true, length, drop, take, IfOk, slice_index};
 ghost use Rattle.ets_term.specs.Character.{IsAtomText};
 ghost use Rattle.term_text.specs.Machine.{Open, integer, digit, name, goes, signed, top};
-ghost use Rattle.term_text.specs.Reader.{Reads};
+ghost use Rattle.term_text.specs.inside.Reader.{Reads};
 ghost use Rattle.term_text.specs.Text.{is_small};
 
 use crate::bytes::past_name;

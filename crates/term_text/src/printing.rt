@@ -4,7 +4,7 @@ ghost use Rattle.std.specs.Fmt.{signed_decimal};
 ghost use Rattle.std.specs.List.{list_all, flat_map};
 ghost use Rattle.ets_term.specs.Character.{is_character};
 ghost use Rattle.term_text.specs.Printed.{printed, row_text, is_plain, escaped, atom_text, comma_if};
-ghost use Rattle.term_text.specs.Sent.{Sends};
+ghost use Rattle.term_text.specs.Sent.{AppendsOrFront};
 ghost use Rattle.term_text.specs.Text.{is_name};
 
 use crate::bytes::{is_name_byte, is_small_byte};
@@ -15,7 +15,7 @@ use itoa::Buffer;
 /// Appends the term's text.
 #[cycle(append)]
 pub(crate) fn append<S: Sink>(term: &Term, out: &mut S) -> Result<(), S::Fault>
-    ensures { Sends (S.contents out.old) (S.contents out.new) (printed term.now) result }
+    ensures { AppendsOrFront (S.contents out.old) (S.contents out.new) (printed term.now) result }
 {
     match term {
         Term::Int(n) => append_integer(*n, out),
@@ -36,7 +36,7 @@ fn append_items<S: Sink>(
     back: &str,
     out: &mut S,
 ) -> Result<(), S::Fault>
-    ensures { Sends (S.contents out.old) (S.contents out.new) (front.now ++ (row_text false (map printed items.now) ++ back.now)) result }
+    ensures { AppendsOrFront (S.contents out.old) (S.contents out.new) (front.now ++ (row_text false (map printed items.now) ++ back.now)) result }
 {
     out.put(front)?;
     let mut later = false;
@@ -50,7 +50,7 @@ fn append_items<S: Sink>(
 
 /// Bytes between two signs.
 fn append_bytes<S: Sink>(front: &str, bytes: &[u8], back: &str, out: &mut S) -> Result<(), S::Fault>
-    ensures { Sends (S.contents out.old) (S.contents out.new) (front.now ++ (row_text false (map decimal bytes.now) ++ back.now)) result }
+    ensures { AppendsOrFront (S.contents out.old) (S.contents out.new) (front.now ++ (row_text false (map decimal bytes.now) ++ back.now)) result }
 {
     out.put(front)?;
     let mut later = false;
@@ -64,14 +64,14 @@ fn append_bytes<S: Sink>(front: &str, bytes: &[u8], back: &str, out: &mut S) -> 
 
 /// A comma, where something stands before.
 fn append_comma<S: Sink>(later: bool, out: &mut S) -> Result<(), S::Fault>
-    ensures { Sends (S.contents out.old) (S.contents out.new) (comma_if later) result }
+    ensures { AppendsOrFront (S.contents out.old) (S.contents out.new) (comma_if later) result }
 {
     if later { out.put(",") } else { Ok(()) }
 }
 
 /// A number between two signs.
 fn append_number<S: Sink>(front: &str, n: u32, back: &str, out: &mut S) -> Result<(), S::Fault>
-    ensures { Sends (S.contents out.old) (S.contents out.new) (front.now ++ (decimal n ++ back.now)) result }
+    ensures { AppendsOrFront (S.contents out.old) (S.contents out.new) (front.now ++ (decimal n ++ back.now)) result }
 {
     out.put(front)?;
     append_decimal(n, out)?;
@@ -79,21 +79,21 @@ fn append_number<S: Sink>(front: &str, n: u32, back: &str, out: &mut S) -> Resul
 }
 
 fn append_decimal<S: Sink>(n: u32, out: &mut S) -> Result<(), S::Fault>
-    ensures { Sends (S.contents out.old) (S.contents out.new) (decimal n) result }
+    ensures { AppendsOrFront (S.contents out.old) (S.contents out.new) (decimal n) result }
 {
     let mut buffer = Buffer::new();
     out.put(buffer.format(n))
 }
 
 fn append_integer<S: Sink>(n: Integer, out: &mut S) -> Result<(), S::Fault>
-    ensures { Sends (S.contents out.old) (S.contents out.new) (signed_decimal n) result }
+    ensures { AppendsOrFront (S.contents out.old) (S.contents out.new) (signed_decimal n) result }
 {
     let mut buffer = Buffer::new();
     out.put(buffer.format(n))
 }
 
 fn append_atom<S: Sink>(name: &Atom, out: &mut S) -> Result<(), S::Fault>
-    ensures { Sends (S.contents out.old) (S.contents out.new) (atom_text name.now) result }
+    ensures { AppendsOrFront (S.contents out.old) (S.contents out.new) (atom_text name.now) result }
 {
     let text = name.text();
     if is_plain_text(text.as_bytes()) {
@@ -120,7 +120,7 @@ fn all_names(bytes: &[u8]) -> bool
 /// Characters between single quotes.
 fn append_quoted<S: Sink>(text: &str, out: &mut S) -> Result<(), S::Fault>
     requires { list_all is_character text.now ≡ true }
-    ensures { Sends (S.contents out.old) (S.contents out.new) ((39 ∷ []) ++ (flat_map escaped text.now ++ 39 ∷ [])) result }
+    ensures { AppendsOrFront (S.contents out.old) (S.contents out.new) ((39 ∷ []) ++ (flat_map escaped text.now ++ 39 ∷ [])) result }
 {
     out.put("'")?;
     append_escaped(text, out)?;
@@ -129,7 +129,7 @@ fn append_quoted<S: Sink>(text: &str, out: &mut S) -> Result<(), S::Fault>
 
 fn append_escaped<S: Sink>(text: &str, out: &mut S) -> Result<(), S::Fault>
     requires { list_all is_character text.now ≡ true }
-    ensures { Sends (S.contents out.old) (S.contents out.new) (flat_map escaped text.now) result }
+    ensures { AppendsOrFront (S.contents out.old) (S.contents out.new) (flat_map escaped text.now) result }
 {
     let mut start = 0;
     for (i, b) in text.as_bytes().iter().enumerate() {
@@ -151,7 +151,7 @@ fn is_escaped(b: u8) -> bool
 fn append_piece<S: Sink>(text: &str, start: usize, end: usize, out: &mut S) -> Result<(), S::Fault>
     requires ascii { list_all is_character text.now ≡ true }
     requires within { (start ≤ end) × (end ≤ length text.now) }
-    ensures { Sends (S.contents out.old) (S.contents out.new) (take (end - start) (drop start text.now) ++ 92 ∷ []) result }
+    ensures { AppendsOrFront (S.contents out.old) (S.contents out.new) (take (end - start) (drop start text.now) ++ 92 ∷ []) result }
 {
     append_slice(text, start, end, out)?;
     out.put("\\")
@@ -161,7 +161,7 @@ fn append_piece<S: Sink>(text: &str, start: usize, end: usize, out: &mut S) -> R
 fn append_slice<S: Sink>(text: &str, start: usize, end: usize, out: &mut S) -> Result<(), S::Fault>
     requires ascii { list_all is_character text.now ≡ true }
     requires within { (start ≤ end) × (end ≤ length text.now) }
-    ensures { Sends (S.contents out.old) (S.contents out.new) (take (end - start) (drop start text.now)) result }
+    ensures { AppendsOrFront (S.contents out.old) (S.contents out.new) (take (end - start) (drop start text.now)) result }
 {
     out.put(&text[start..end])
 }

@@ -3,7 +3,7 @@ ghost use Rattle.std.specs.Prelude.{◌≡◌, ◌+◌, ◌≤◌, ◌<◌, ◌=
 ghost use Rattle.std.specs.List.{list_all};
 ghost use Rattle.ets_term.specs.Character.{is_character};
 ghost use Rattle.term_text.specs.Machine.{code, quote, Open, quoted, goes};
-ghost use Rattle.term_text.specs.Reader.{Escapes, Extends, IsShort, Unquotes, Reads, IsDeep};
+ghost use Rattle.term_text.specs.inside.Reader.{ReadsEscaped, ReadsCharacter, IsShort, ReadsQuoted, Reads, IsDeep};
 ghost use Rattle.term_text.specs.declared.quotes.Quotes.TheVariants as form;
 
 use crate::bytes::is_character_byte;
@@ -17,7 +17,7 @@ fn escape_at(text: &[u8], at: usize, quotes: Quotes) -> Result<(u8, usize), Text
     requires { at ≤ length text.now }
     ensures within { IfOk result (λ x. (at < x.1) × (x.1 ≤ length text.now)) }
     ensures character { IfOk result (λ x. is_character x.0 ≡ true) }
-    ensures reads { Escapes text.now at quotes result }
+    ensures reads { ReadsEscaped text.now at quotes result }
 {
     if at >= text.len() {
         return Err(TextFault::Unclosed(at));
@@ -42,7 +42,7 @@ fn character_at(
     ensures within { IfOk result (λ x. (at < x.1) × (x.1 ≤ length text.now)) }
     ensures character { IfOk result (λ x. is_character x.0 ≡ true) }
     ensures short { IfOk result (λ x. IsShort quotes n → IsShort quotes (n + 1)) }
-    ensures reads { Extends text.now at quotes deep n result }
+    ensures reads { ReadsCharacter text.now at quotes deep n result }
 {
     let b = text[at];
     if b != b'\\' && !is_character_byte(b) {
@@ -69,7 +69,7 @@ pub(crate) fn quoted_at(
     ensures within { IfOk result (λ x. (at ≤ x.1) × (x.1 ≤ length text.now)) }
     ensures characters { IfOk result (λ x. IsTrue (list_all is_character x.0)) }
     ensures short { IfOk result (λ x. IsShort quotes (length x.0)) }
-    ensures reads { Unquotes text.now at quotes deep result }
+    ensures reads { ReadsQuoted text.now at quotes deep result }
 {
     let mut chars = Vec::new(alloc);
     let mut place = at;

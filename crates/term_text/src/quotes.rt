@@ -1,6 +1,6 @@
 ghost use Rattle.std.specs.Prelude.{◌≡◌, ◌+◌, None};
 ghost use Rattle.term_text.specs.Machine.{quote};
-ghost use Rattle.term_text.specs.Reader.{IsShort, Refuses};
+ghost use Rattle.term_text.specs.inside.Reader.{IsShort, Refuses};
 
 use crate::fault::TextFault;
 

@@ -1,23 +1,21 @@
 //! The reader: one pass over the bytes, with the levels that are left.
 ghost use Rattle.std.specs.Prelude.{◌≡◌, ◌+◌, ◌≤◌, ◌<◌, ◌∷◌, List, true, false, length, IfOk, slice_index};
 ghost use Rattle.term_text.specs.Machine.{Open, wants, goes, opening, bracket, begin, reading};
-ghost use Rattle.term_text.specs.Reader.{Gives, Reads};
+ghost use Rattle.term_text.specs.Given.{GivesTerm};
+ghost use Rattle.term_text.specs.inside.Reader.{Reads};
 
 use crate::binary::{angle_at, identifier_at};
 use crate::bytes::{begins_byte, closes_byte, is_digit_byte, past_blanks};
 use crate::fault::TextFault;
 use crate::plain::{integer_at, name_at};
 use crate::quoted::{quoted_atom_at, string_at};
-use ets_term::{Items, Term};
+use ets_term::{Items, MAX_DEPTH, Term};
 use std::alloc::Global;
-
-/// How deep a term may be.
-const MAX_DEPTH: usize = 128;
 
 /// Reads the term at the front of the text, and how many bytes it takes with the blanks before it. A fault is the one
 /// that is noticed first.
 pub fn read_term(alloc: Global, text: &str) -> Result<(Term, usize), TextFault>
-    ensures { Gives (reading text.now) result }
+    ensures { GivesTerm (reading text.now) result }
 {
     let bytes = text.as_bytes();
     read_term_bytes(alloc, bytes)
@@ -25,7 +23,7 @@ pub fn read_term(alloc: Global, text: &str) -> Result<(Term, usize), TextFault>
 
 /// Reads the term at the front of a text that is given by its bytes, as `read_term` does.
 pub fn read_term_bytes(alloc: Global, text: &[u8]) -> Result<(Term, usize), TextFault>
-    ensures { Gives (reading text.now) result }
+    ensures { GivesTerm (reading text.now) result }
 {
     term_at(alloc, text, 0, MAX_DEPTH)
 }

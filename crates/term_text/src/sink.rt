@@ -1,6 +1,6 @@
 //! Where a text goes piece by piece: a string or a writer.
 ghost use Rattle.std.specs.Prelude.{◌≡◌, Option, List, ℕ};
-ghost use Rattle.term_text.specs.Sent.{Sends};
+ghost use Rattle.term_text.specs.Sent.{AppendsOrFront};
 
 use std::alloc::AllocError;
 use std::io::{Error, Write};
@@ -13,7 +13,7 @@ pub(crate) trait Sink {
 
     /// Appends a piece. After a fault a front of it has been appended.
     fn put(&mut self, piece: &str) -> Result<(), Self::Fault>
-        ensures { Sends (contents self.old) (contents self.new) piece.now result };
+        ensures { AppendsOrFront (contents self.old) (contents self.new) piece.now result };
 }
 
 /// A string that grows.
@@ -54,8 +54,8 @@ impl<W: Write> Sink for W {
 }
 
 /// Writes the bytes. After a fault a front of them has gone out.
-fn write_bytes<W: Write>(bytes: &[u8], out: &mut W) -> Result<(), WriteFault>
-    ensures { Sends (W.contents out.old) (W.contents out.new) bytes.now result }
+pub fn write_bytes<W: Write>(bytes: &[u8], out: &mut W) -> Result<(), WriteFault>
+    ensures { AppendsOrFront (W.contents out.old) (W.contents out.new) bytes.now result }
 {
     let mut done = 0;
     while done < bytes.len() {

@@ -1,5 +1,6 @@
 // Values from outside: the rules of the text, row by row, and a writer that fails at its k-th write.
 mod fronts;
+mod long;
 mod pieces;
 mod rules;
 

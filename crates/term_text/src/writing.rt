@@ -1,7 +1,7 @@
 //! The text of terms into strings and writers.
 ghost use Rattle.std.specs.Prelude.{◌≡◌, ◌++◌, OnOk, OnErr, string_bytes};
 ghost use Rattle.term_text.specs.Printed.{printed};
-ghost use Rattle.term_text.specs.Sent.{Sends};
+ghost use Rattle.term_text.specs.Sent.{AppendsOrFront};
 
 use crate::printing::append;
 use crate::sink::{Buffer, WriteFault};
@@ -30,7 +30,7 @@ pub fn print_term(alloc: Global, term: &Term, out: &mut String) -> Result<(), Al
 
 /// Writes the term's text, and takes no memory for it. After a fault a front of the text has gone out.
 pub fn write_term<W: Write>(term: &Term, out: &mut W) -> Result<(), WriteFault>
-    ensures { Sends (W.contents out.old) (W.contents out.new) (printed term.now) result }
+    ensures { AppendsOrFront (W.contents out.old) (W.contents out.new) (printed term.now) result }
 {
     append(term, out)
 }

@@ -1,7 +1,7 @@
 use Rattle.std.proofs.lemmas.Result.{err_from_is_err_and}
 use Rattle.std.proofs.Common.{List, ℕ, [], ◌∷◌, ◌++◌, subst, ◌∙◌}
 use Rattle.std.specs.Prelude.{codes, decimal}
-use Rattle.ets_script.specs.Output.{Sends, Breaks}
+use Rattle.ets_script.specs.inside.Output.{Sends, Breaks}
 use Rattle.ets_script.proofs.Known.{on_ok, on_err, sends_two, breaks_first, breaks_two}
 use Rattle.ets_script.proofs.answer.print_syntax.Goals as goal
 

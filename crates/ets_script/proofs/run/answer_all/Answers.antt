@@ -1,67 +1,72 @@
-use Rattle.std.proofs.Common.{List, ℕ, subst}
+use Rattle.std.proofs.Common.{◌≡◌, ℕ, drop, sym, subst}
 use Rattle.std.proofs.lemmas.Result.{err_from_is_err_and}
-use Rattle.ets_script.specs.Feeds.{rest_of}
-use Rattle.ets_script.specs.Output.{Sends}
-use Rattle.ets_script.specs.Said.{Nexts}
-use Rattle.ets_script.proofs.Runs.{going_none, stopped, print_broken, going_on, going_broken, done_on, done_none, finished, finish_broken}
+use Rattle.ets_script.specs.Script.{Scripted}
+use Rattle.ets_script.proofs.Progress.{Going, going_none, answered_line, broken_line, flush_broken, read_on, read_broken, ended, completed, end_broken}
 use Rattle.ets_script.proofs.run.answer_all.Goals as goal
 
-pub loop-init : goal.loop-init
-loop-init g c = going_none c.args.script.now c.args.feed.now c.args.pending.now (g.W.Write.contents c.args.writer.now) c.requires
-
-pub returns-in_err-said-clause-err : goal.returns-in_err-said-clause-err
-returns-in_err-said-clause-err g c =
-    let p = err_from_is_err_and c.from_residual.result c.from_residual.ensures.1 in
-    rw (p.1, p.2) (stopped c.args.script.now c.loop.script (rest_of c.args.feed.now) (g.W.Write.contents c.args.writer.now) (g.W.Write.contents c.loop.writer) (g.W.Write.contents c.next_said.new.writer)
-    c.loop.feed c.next_said.new.feed c.loop.pending c.in_err-said.field-0.0 c.loop.invariant c.in_err-said.ensures.err)
+pub loop-next-init : goal.loop-next-init
+loop-next-init g c = going_none c.args.script.now c.args.feed.now (g.R.Read.remaining c.args.reader.now) c.args.pending.now (g.W.Write.contents c.args.writer.now) c.requires.waiting c.requires.held.0 c.requires.held.1
 
 pub returns-in_err-flush-clause-err : goal.returns-in_err-flush-clause-err
 returns-in_err-flush-clause-err g c =
-    let p = err_from_is_err_and c.from_residual-in_err-flush.result c.from_residual-in_err-flush.ensures.1 in
-    let none = subst (Nexts c.loop.feed c.next_said.new.feed c.loop.script c.next_said.new.script) c.in_default.is c.in_ok-said.ensures.said in
-    let done = done_none c.args.script.now c.loop.script c.next_said.new.script (rest_of c.args.feed.now) (g.W.Write.contents c.args.writer.now) (g.W.Write.contents c.loop.writer) (g.W.Write.contents c.next_said.new.writer)
-    c.loop.feed c.next_said.new.feed c.loop.pending c.next_said.new.pending c.loop.invariant none c.in_ok-said.ensures.sent in
-    rw (p.1, p.2) (finish_broken c.args.script.now c.next_said.new.script (rest_of c.args.feed.now) (g.W.Write.contents c.args.writer.now) (g.W.Write.contents c.next_said.new.writer) (g.W.Write.contents c.flush.new.writer)
-    c.next_said.new.pending c.next_said.new.feed.left done c.in_err-flush.ensures.err)
+    let p = err_from_is_err_and c.from_residual.result c.from_residual.ensures.1 in
+    let l = c.loop-next in
+    rw (p.1, p.2) (flush_broken c.args.script.now l.script (g.R.Read.remaining c.args.reader.now) (g.W.Write.contents c.args.writer.now) (g.W.Write.contents l.writer) (g.W.Write.contents c.flush.new.writer) l.feed (g.R.Read.remaining l.reader) l.pending l.invariant c.in_err-flush.ensures.err)
 
-pub returns-in_default-clause-ok : goal.returns-in_default-clause-ok
-returns-in_default-clause-ok g c =
-    let none = subst (Nexts c.loop.feed c.next_said.new.feed c.loop.script c.next_said.new.script) c.in_default.is c.in_ok-said.ensures.said in
-    let done = done_none c.args.script.now c.loop.script c.next_said.new.script (rest_of c.args.feed.now) (g.W.Write.contents c.args.writer.now) (g.W.Write.contents c.loop.writer) (g.W.Write.contents c.next_said.new.writer)
-    c.loop.feed c.next_said.new.feed c.loop.pending c.next_said.new.pending c.loop.invariant none c.in_ok-said.ensures.sent in
-    finished c.args.script.now c.next_said.new.script (rest_of c.args.feed.now) (g.W.Write.contents c.args.writer.now) (g.W.Write.contents c.next_said.new.writer) (g.W.Write.contents c.flush.new.writer) c.next_said.new.pending done
-    (subst (λ (l : List ℕ). Sends (g.W.Write.contents c.next_said.new.writer) (g.W.Write.contents c.flush.new.writer) c.next_said.new.pending l) c.in_ok-flush.ensures.empty c.in_ok-flush.ensures.ok)
+pub returns-in_err-refill-clause-err : goal.returns-in_err-refill-clause-err
+returns-in_err-refill-clause-err g c =
+    let p = err_from_is_err_and c.from_residual-in_err-refill.result c.from_residual-in_err-refill.ensures.1 in
+    let l = c.loop-next in
+    rw (p.1, p.2) (read_broken c.args.script.now l.script (g.R.Read.remaining c.args.reader.now) (g.W.Write.contents c.args.writer.now) (g.W.Write.contents l.writer) (g.W.Write.contents c.flush.new.writer) l.feed c.skip_long.new.self (g.R.Read.remaining l.reader) (g.R.Read.remaining c.refill.new.reader) l.pending c.flush.new.self
+    l.invariant c.in_default.ensures.0 c.in_ok-flush.ensures.ok c.in_ok-flush.ensures.empty c.skip_long.ensures c.in_err-refill.ensures.err.0)
 
-pub returns-in_err-print-clause-err : goal.returns-in_err-print-clause-err
-returns-in_err-print-clause-err g c =
-    let p = err_from_is_err_and c.from_residual-in_err-print.result c.from_residual-in_err-print.ensures.1 in
-    let said = subst (Nexts c.loop.feed c.next_said.new.feed c.loop.script c.next_said.new.script) c.in-Some.is c.in_ok-said.ensures.said in
-    rw (p.1, p.2) (print_broken c.args.script.now c.loop.script c.next_said.new.script (rest_of c.args.feed.now) (g.W.Write.contents c.args.writer.now) (g.W.Write.contents c.loop.writer) (g.W.Write.contents c.next_said.new.writer) (g.W.Write.contents c.print.new.writer)
-    c.loop.feed c.next_said.new.feed c.loop.pending c.next_said.new.pending c.in-Some.said c.next_said.new.feed.left c.loop.invariant said c.in_ok-said.ensures.sent c.in_err-print.ensures.err)
+pub returns-in_err-answer_last-clause-err : goal.returns-in_err-answer_last-clause-err
+returns-in_err-answer_last-clause-err g c =
+    let p = err_from_is_err_and c.from_residual-in_err-answer_last.result c.from_residual-in_err-answer_last.ensures.1 in
+    let l = c.loop-next in
+    let before = g.R.Read.remaining c.args.reader.now in
+    let left = g.R.Read.remaining c.refill.new.reader in
+    let old = g.W.Write.contents c.args.writer.now in
+    let w = g.W.Write.contents c.flush.new.writer in
+    let going = read_on c.args.script.now l.script before old (g.W.Write.contents l.writer) w l.feed c.skip_long.new.self c.refill.new.self (g.R.Read.remaining l.reader) left l.pending c.flush.new.self c.in_ok-refill.field-0 l.invariant c.in_default.ensures.0 c.in_ok-flush.ensures.ok c.skip_long.ensures c.in_ok-refill.ensures.ok in
+    let now = subst (λ (s : Scripted). Going c.args.script.now before old c.refill.new.self left c.flush.new.self w s) (sym c.in_default.ensures.1) going in
+    rw (p.1, p.2) (end_broken c.args.script.now c.answer_next.new.script c.answer_last.new.script before old w (g.W.Write.contents c.answer_last.new.writer) c.refill.new.self left c.flush.new.self now
+    (ended l.feed c.skip_long.new.self c.refill.new.self (g.R.Read.remaining l.reader) left c.in_ok-refill.field-0 c.in_default.ensures.0 c.skip_long.ensures c.in_ok-refill.ensures.ok c.if-branch-eq0.true) c.in_err-answer_last.ensures.err)
 
-pub returns-in_err-flush-2-clause-err : goal.returns-in_err-flush-2-clause-err
-returns-in_err-flush-2-clause-err g c =
-    let p = err_from_is_err_and c.from_residual-in_err-flush-2.result c.from_residual-in_err-flush-2.ensures.1 in
-    let said = subst (Nexts c.loop.feed c.next_said.new.feed c.loop.script c.next_said.new.script) c.in-Some.is c.in_ok-said.ensures.said in
-    let done = done_on c.args.script.now c.loop.script c.next_said.new.script (rest_of c.args.feed.now) (g.W.Write.contents c.args.writer.now) (g.W.Write.contents c.loop.writer) (g.W.Write.contents c.next_said.new.writer) (g.W.Write.contents c.print.new.writer)
-    c.loop.feed c.next_said.new.feed c.loop.pending c.next_said.new.pending c.print.new.pending c.in-Some.said c.loop.invariant said c.in_ok-said.ensures.sent c.in_ok-print.ensures.ok c.if-said.true in
-    rw (p.1, p.2) (finish_broken c.args.script.now c.next_said.new.script (rest_of c.args.feed.now) (g.W.Write.contents c.args.writer.now) (g.W.Write.contents c.print.new.writer) (g.W.Write.contents c.flush-then-said.new.writer)
-    c.print.new.pending c.take.new.self.left done c.in_err-flush-2.ensures.err)
+pub returns-then-branch-eq0-clause-ok : goal.returns-then-branch-eq0-clause-ok
+returns-then-branch-eq0-clause-ok g c =
+    let l = c.loop-next in
+    let before = g.R.Read.remaining c.args.reader.now in
+    let left = g.R.Read.remaining c.refill.new.reader in
+    let old = g.W.Write.contents c.args.writer.now in
+    let w = g.W.Write.contents c.flush.new.writer in
+    let going = read_on c.args.script.now l.script before old (g.W.Write.contents l.writer) w l.feed c.skip_long.new.self c.refill.new.self (g.R.Read.remaining l.reader) left l.pending c.flush.new.self c.in_ok-refill.field-0 l.invariant c.in_default.ensures.0 c.in_ok-flush.ensures.ok c.skip_long.ensures c.in_ok-refill.ensures.ok in
+    let now = subst (λ (s : Scripted). Going c.args.script.now before old c.refill.new.self left c.flush.new.self w s) (sym c.in_default.ensures.1) going in
+    completed c.args.script.now c.answer_next.new.script c.answer_last.new.script before old w (g.W.Write.contents c.answer_last.new.writer) c.refill.new.self left c.flush.new.self now
+    (ended l.feed c.skip_long.new.self c.refill.new.self (g.R.Read.remaining l.reader) left c.in_ok-refill.field-0 c.in_default.ensures.0 c.skip_long.ensures c.in_ok-refill.ensures.ok c.if-branch-eq0.true) c.in_ok-answer_last.ensures.ok
 
-pub returns-then-said-clause-ok : goal.returns-then-said-clause-ok
-returns-then-said-clause-ok g c =
-    let said = subst (Nexts c.loop.feed c.next_said.new.feed c.loop.script c.next_said.new.script) c.in-Some.is c.in_ok-said.ensures.said in
-    let done = done_on c.args.script.now c.loop.script c.next_said.new.script (rest_of c.args.feed.now) (g.W.Write.contents c.args.writer.now) (g.W.Write.contents c.loop.writer) (g.W.Write.contents c.next_said.new.writer) (g.W.Write.contents c.print.new.writer)
-    c.loop.feed c.next_said.new.feed c.loop.pending c.next_said.new.pending c.print.new.pending c.in-Some.said c.loop.invariant said c.in_ok-said.ensures.sent c.in_ok-print.ensures.ok c.if-said.true in
-    finished c.args.script.now c.next_said.new.script (rest_of c.args.feed.now) (g.W.Write.contents c.args.writer.now) (g.W.Write.contents c.print.new.writer) (g.W.Write.contents c.flush-then-said.new.writer) c.print.new.pending done
-    (subst (λ (l : List ℕ). Sends (g.W.Write.contents c.print.new.writer) (g.W.Write.contents c.flush-then-said.new.writer) c.print.new.pending l) c.in_ok-flush-2.ensures.empty c.in_ok-flush-2.ensures.ok)
+pub loop-next-preserved-in_default : goal.loop-next-preserved-in_default
+loop-next-preserved-in_default g c =
+    let l = c.loop-next in
+    let before = g.R.Read.remaining c.args.reader.now in
+    let left = g.R.Read.remaining c.refill.new.reader in
+    let old = g.W.Write.contents c.args.writer.now in
+    let w = g.W.Write.contents c.flush.new.writer in
+    let going = read_on c.args.script.now l.script before old (g.W.Write.contents l.writer) w l.feed c.skip_long.new.self c.refill.new.self (g.R.Read.remaining l.reader) left l.pending c.flush.new.self c.in_ok-refill.field-0 l.invariant c.in_default.ensures.0 c.in_ok-flush.ensures.ok c.skip_long.ensures c.in_ok-refill.ensures.ok in
+    subst (λ (s : Scripted). Going c.args.script.now before old c.refill.new.self left c.flush.new.self w s) (sym c.in_default.ensures.1) going
 
-pub returns-clause-err : goal.returns-clause-err
-returns-clause-err g c =
-    going_broken c.args.script.now c.loop.script (rest_of c.args.feed.now) (g.W.Write.contents c.args.writer.now) (g.W.Write.contents c.loop.writer) c.loop.feed c.loop.pending c.loop.feed.left c.loop.invariant
+pub returns-in_err-print_line-clause-err : goal.returns-in_err-print_line-clause-err
+returns-in_err-print_line-clause-err g c =
+    let p = err_from_is_err_and c.from_residual-in_err-print_line.result c.from_residual-in_err-print_line.ensures.1 in
+    let l = c.loop-next in
+    let n = c.in-Some.ensures in
+    rw (p.1, p.2) (broken_line c.args.script.now l.script c.answer_next.new.script (g.R.Read.remaining c.args.reader.now) (g.W.Write.contents c.args.writer.now) (g.W.Write.contents l.writer) (g.W.Write.contents c.print_line.new.writer) l.feed (g.R.Read.remaining l.reader) l.pending c.in-Some.next.taken n.line c.in-Some.next.answer
+    l.invariant n.ends n.answers c.in_err-print_line.ensures.err)
 
-pub loop-preserved : goal.loop-preserved
-loop-preserved g c =
-    let said = subst (Nexts c.loop.feed c.next_said.new.feed c.loop.script c.next_said.new.script) c.in-Some.is c.in_ok-said.ensures.said in
-    going_on c.args.script.now c.loop.script c.next_said.new.script (rest_of c.args.feed.now) (g.W.Write.contents c.args.writer.now) (g.W.Write.contents c.loop.writer) (g.W.Write.contents c.next_said.new.writer) (g.W.Write.contents c.print.new.writer)
-    c.loop.feed c.next_said.new.feed c.take.new.self c.loop.pending c.next_said.new.pending c.print.new.pending c.in-Some.said c.loop.invariant said c.in_ok-said.ensures.sent c.in_ok-print.ensures.ok c.take.ensures.held c.take.ensures.left c.if-said.false
+pub loop-next-preserved : goal.loop-next-preserved
+loop-next-preserved g c =
+    let l = c.loop-next in
+    let n = c.in-Some.ensures in
+    let held = subst (λ (k : ℕ). c.consume.new.self.bytes ≡ drop k l.feed.bytes) c.in_ok-print_line.ensures.taken c.consume.ensures.bytes in
+    answered_line c.args.script.now l.script c.answer_next.new.script (g.R.Read.remaining c.args.reader.now) (g.W.Write.contents c.args.writer.now) (g.W.Write.contents l.writer) (g.W.Write.contents c.print_line.new.writer) l.feed c.consume.new.self (g.R.Read.remaining l.reader) l.pending c.print_line.new.pending c.in-Some.next.taken n.line c.in-Some.next.answer
+    l.invariant n.ends n.answers c.in_ok-print_line.ensures.ok held c.consume.ensures.whole

@@ -1,6 +1,6 @@
 use Rattle.std.proofs.Common.{◌≤◌, ◌-◌, length}
 use Rattle.term_text.specs.Machine.{Step}
-use Rattle.term_text.specs.Reader.{IgnoresBlanks, Comes}
+use Rattle.term_text.specs.inside.Reader.{IgnoresBlanks, Comes}
 use Rattle.term_text.proofs.bytes.past_blanks.Given as goal
 
 abbrev pub invariant-loop-place : goal.invariant-loop-place

@@ -1,6 +1,6 @@
 use Rattle.std.proofs.Common.{◌≡◌, ◌≤◌, ◌+◌, ◌-◌, ◌*◌, ◌∷◌, List, length, true, false}
 use Rattle.term_text.specs.Machine.{Open, wants, goes, opening}
-use Rattle.term_text.specs.Reader.{Comes}
+use Rattle.term_text.specs.inside.Reader.{Comes}
 use Rattle.term_text.proofs.reading.+term.Given as goal
 
 abbrev pub decreases-term_at : goal.decreases-term_at

@@ -3,7 +3,7 @@ use Rattle.std.proofs.lemmas.List.{take_at}
 use Rattle.std.proofs.lemmas.Result.{err_from_is_err_and}
 use Rattle.std.specs.Io.KnownBytes.{Appends}
 use Rattle.term_text.specs.Printed.{printed}
-use Rattle.ets_script.specs.Output.{Breaks}
+use Rattle.ets_script.specs.inside.Output.{Breaks}
 use Rattle.ets_script.proofs.Known.{breaks_longer, sends_behind, breaks_behind}
 use Rattle.ets_script.proofs.output.Pending.put_term.Goals as goal
 

@@ -3,7 +3,8 @@ use Rattle.std.specs.Prelude.{vec_items}
 use Rattle.std.specs.Str.{bytes_eq}
 use Rattle.std.proofs.lemmas.List.{length-map}
 use Rattle.node_core.specs.State.{State}
-use Rattle.ets_script.specs.Script.{Scripted, pid_of, Enrols}
+use Rattle.ets_script.specs.Script.{Scripted, pid_of}
+use Rattle.ets_script.specs.inside.Enrolments.{Enrols}
 use Rattle.ets_script.proofs.Names.{position_map, spawned}
 use Rattle.ets_script.proofs.script.Script.spawn.Goals as goal
 

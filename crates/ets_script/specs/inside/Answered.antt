@@ -1,0 +1,40 @@
+-- What private contracts say of one line of a script and its answer.
+use Rattle.std.specs.Prelude.{◌≡◌, ℕ, ◌≤◌, ◌<◌, Bool, true, false, List, ◌++◌, length, Option, Some, None}
+use Rattle.std.specs.Io.KnownBytes.{Appends}
+use Rattle.ets_script.specs.Lines.{Line, text, too_long, IsOneLine}
+use Rattle.ets_script.specs.Replies.{printed}
+use Rattle.ets_script.specs.Script.{Scripted, AnswersLine}
+use Rattle.ets_script.specs.inside.Feeds.{Held, EndsLine}
+use Rattle.ets_script.specs.inside.Output.{Breaks}
+use Rattle.ets_script.specs.declared.answer.Answer.{Answer}
+use Rattle.ets_script.specs.declared.run.AnsweredLine.{AnsweredLine}
+
+-- the bytes held begin with a line, and this is its answer
+pub record AnswersHeld (h : Held) (old new : Scripted) (next : AnsweredLine) : Type 0 where
+  pub line : Line
+  pub some : 0 < next.taken
+  pub within : next.taken ≤ length h.bytes
+  pub ends : EndsLine h.bytes h.is_skipping next.taken line
+  pub answers : AnswersLine old line next.answer new
+
+-- the next line and its answer, or the bytes held have no LF
+abbrev pub AnswersNext : Held → Scripted → Scripted → Option AnsweredLine → Type 0
+AnswersNext h old new (Some next) = AnswersHeld h old new next
+AnswersNext h old new None = IsOneLine h.bytes × (new ≡ old)
+
+-- what is held is answered as a line that ends with the input; an empty one prints nothing
+abbrev pub AnswersPart : Bool → Scripted → List ℕ → Answer → Scripted → Type 0
+AnswersPart true old bytes answer new = AnswersLine old too_long answer new
+AnswersPart false old bytes answer new = AnswersLine old (text bytes) answer new
+
+-- the last answer went out behind what waited
+pub record EndsAll (h : Held) (start now : Scripted) (waiting : List ℕ) (old new : Option (List ℕ)) : Type 0 where
+  pub answer : Answer
+  pub answers : AnswersPart h.is_skipping start h.bytes answer now
+  pub written : Appends old new (waiting ++ printed answer)
+
+-- the last answer was known, and the writer failed
+pub record BreaksAtEnd (h : Held) (start now : Scripted) (waiting : List ℕ) (old new : Option (List ℕ)) : Type 0 where
+  pub answer : Answer
+  pub answers : AnswersPart h.is_skipping start h.bytes answer now
+  pub broken : Breaks old new (waiting ++ printed answer)

@@ -1,0 +1,56 @@
+-- What private contracts say of the bytes that were read and not yet taken.
+use Rattle.std.specs.Prelude.{◌≡◌, ℕ, ◌+◌, ◌≤◌, ◌<◌, ◌⊎◌, Bool, true, false, List, [], ◌++◌, length, take, Option, slice_index}
+use Rattle.std.specs.Io.KnownBytes.{prepend_known, Consumes, IsAtEnd}
+use Rattle.ets_script.specs.Lines.{Line, text, too_long, IsOneLine, IsLine}
+use Rattle.ets_script.specs.declared.lines.NextLine.{NextLine}
+use Rattle.ets_script.specs.declared.lines.NextLine.TheVariants.{Text, TooLong, NeedsMore}
+
+-- the bytes held, whether others of their line were passed over, and how many reads may still be made
+pub record Held : Type 0 where
+  pub bytes : List ℕ
+  pub is_skipping : Bool
+  pub reads : ℕ
+
+-- all that is to come, where it is known that the reader has this left
+abbrev pub rest_of : Held → Option (List ℕ) → Option (List ℕ)
+rest_of h left = prepend_known h.bytes left
+
+-- one read brought so many bytes, none at the end of the input alone, and they are held behind the others
+pub record Refills (old new : Held) (before after : Option (List ℕ)) (count : ℕ) : Type 0 where
+  pub more : List ℕ
+  pub counted : length more ≡ count
+  pub added : new.bytes ≡ old.bytes ++ more
+  pub consumed : Consumes before after more
+  pub end : count ≡ 0 → IsAtEnd after
+  pub skipping : new.is_skipping ≡ old.is_skipping
+  pub reads : new.reads + 1 ≡ old.reads
+  pub fits : length new.bytes ≤ 131072
+
+-- the place is that of the first LF
+abbrev pub IsLineEnd : List ℕ → ℕ → Type 0
+IsLineEnd bytes n = (n < length bytes) × IsOneLine (take n bytes) × (slice_index bytes n ≡ 10)
+
+-- these bytes of a line were passed over: none, or more than a line may have
+abbrev pub PassedOver : Bool → List ℕ → Type 0
+PassedOver false skipped = skipped ≡ []
+PassedOver true skipped = IsOneLine skipped × (65536 < length skipped)
+
+-- the first n bytes, and those before them that were passed over, are this line, with its LF
+abbrev pub EndsLine : List ℕ → Bool → ℕ → Line → Type 0
+EndsLine bytes is_skipping n line = (skipped : List ℕ) → PassedOver is_skipping skipped → IsLine (skipped ++ take n bytes) line ⊥
+
+-- the bytes begin with a line, or have no LF
+abbrev pub FindsIn : List ℕ → Bool → NextLine → Type 0
+FindsIn bytes is_skipping (Text n taken) = (0 < taken) × (taken ≤ length bytes) × (n ≤ length bytes) × EndsLine bytes is_skipping taken (text (take n bytes))
+FindsIn bytes is_skipping (TooLong taken) = (0 < taken) × (taken ≤ length bytes) × EndsLine bytes is_skipping taken too_long
+FindsIn bytes is_skipping NeedsMore = IsOneLine bytes
+
+abbrev pub Finds : Held → NextLine → Type 0
+Finds h next = FindsIn h.bytes h.is_skipping next
+
+-- Bytes without an LF stay, or are passed over with those before them, where they are too many for a line.
+pub record Waits (old new : Held) : Type 0 where
+  pub short : length new.bytes ≤ 65536
+  pub reads : new.reads ≡ old.reads
+  pub kept : ((new.bytes ≡ old.bytes) × (old.is_skipping ≡ false) × (new.is_skipping ≡ false))
+      ⊎ ((new.bytes ≡ []) × (new.is_skipping ≡ true) × ((old.is_skipping ≡ true) ⊎ (65536 < length old.bytes)))

@@ -1,0 +1,5 @@
+use Rattle.term_text.proofs.Faulted.{faulted, told}
+use Rattle.term_text.proofs.laws.faults_say_why.Goals as goal
+
+pub returns : goal.returns
+returns c = record { noticed = faulted; told = told }

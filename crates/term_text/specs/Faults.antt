@@ -1,0 +1,106 @@
+-- Which fault a text has, by the grammar: one row a fault. `pre` is the text before the byte b at which it is noticed.
+use Rattle.std.specs.Prelude.{◌≡◌, ℕ, suc, ◌+◌, ◌-◌, ◌*◌, ◌<◌, List, [], ◌∷◌, ◌++◌, length, Bool, true, false, ◌==◌, IsTrue, codes}
+use Rattle.std.specs.List.{list_all}
+use Rattle.ets_term.specs.Character.{is_character}
+use Rattle.ets_term.specs.declared.term.Term.{Term}
+use Rattle.term_text.specs.declared.fault.TextFault.{TextFault}
+use Rattle.term_text.specs.declared.fault.TextFault.TheVariants.{Unexpected, Unclosed, OutOfRange, TooDeep, AtomTooLong, Memory}
+use Rattle.term_text.specs.Forms.{Open, Number, integer, pid, identifier, byte, top}
+use Rattle.term_text.specs.Grammar.{AreBlanks, SpellsNumber, SpellsQuoted, SpellsBytes, SpellsRow, opening_sign, Front}
+use Rattle.term_text.specs.Text.{is_digit, is_small, is_name, begins, begins_term}
+
+-- the text in a bracket up to where a term is wanted, behind these
+pub data Inside (k : ℕ) : List Term → List ℕ → Type 0 where
+  fresh : (blanks : List ℕ) → AreBlanks blanks → Inside k [] blanks
+  further : (ts : List Term) (row before behind : List ℕ) → SpellsRow k row ts → AreBlanks before → AreBlanks behind → Inside k ts (row ++ (before ++ 44 ∷ behind))
+
+-- the text up to where a term of at most k levels is wanted, in these open brackets
+abbrev pub Here : ℕ → List Open → List ℕ → Type 0
+Here k [] pre = AreBlanks pre × (k ≡ 128)
+Here k (o ∷ os) pre = (outer inner : List ℕ) × (pre ≡ outer ++ (opening_sign o.square ∷ inner)) × Here (suc k) os outer × Inside k o.terms inner
+
+-- the bytes of a binary up to where a further one is wanted
+pub data Bytes : List ℕ → List ℕ → Type 0 where
+  opened : (blanks : List ℕ) → AreBlanks blanks → Bytes [] blanks
+  comma : (bs row before behind : List ℕ) → SpellsBytes row bs → AreBlanks before → AreBlanks behind → Bytes bs (row ++ (before ++ 44 ∷ behind))
+
+-- what stands before the digits of a number
+abbrev pub Before : Number → List ℕ → Type 0
+Before (integer true) s = s ≡ codes "-"
+Before (integer false) s = s ≡ []
+Before pid s = s ≡ codes "<0."
+Before identifier s = s ≡ codes "#Tid<"
+Before (byte bs) s = (inner : List ℕ) × (s ≡ codes "<<" ++ inner) × Bytes bs inner
+
+-- where a number is told to begin: with its sign, or its first digit
+abbrev pub number_start : Number → ℕ → ℕ → ℕ
+number_start (integer below) form digits = form
+number_start kind form digits = digits
+
+-- out of range: the digit b takes the number that begins at `start` past its range
+pub record PastRange (pre : List ℕ) (b start : ℕ) : Type 0 where
+  pub os : List Open
+  pub k : ℕ
+  pub kind : Number
+  pub value : ℕ
+  pub lead : List ℕ
+  pub before : List ℕ
+  pub digits : List ℕ
+  pub cut : pre ≡ lead ++ (before ++ digits)
+  pub here : Here (suc k) os lead
+  pub is_before : Before kind before
+  pub spells : SpellsNumber kind digits value
+  pub begins : start ≡ number_start kind (length lead) (length lead + length before)
+  pub digit : is_digit b ≡ true
+  pub past : top kind < value * 10 + (b - 48)
+
+-- an atom too long: b begins the 256th character of an atom that begins at `start`
+pub data PastAtom (pre : List ℕ) (b start : ℕ) : Type 0 where
+  plain_form : (os : List Open) (k : ℕ) (lead s : List ℕ) → pre ≡ lead ++ s → Here (suc k) os lead → start ≡ length lead
+      → IsTrue (begins is_small s) → IsTrue (list_all is_name s) → length s ≡ 255 → is_name b ≡ true → PastAtom pre b start
+  quoted_form : (os : List Open) (k : ℕ) (lead s cs : List ℕ) → pre ≡ lead ++ (39 ∷ s) → Here (suc k) os lead → start ≡ length lead
+      → SpellsQuoted 39 s cs → length cs ≡ 255 → is_character b ≡ true → (b == 39) ≡ false → PastAtom pre b start
+
+-- too deep: b can begin a term at level 129, or a character of a string that stands at level 128
+pub data PastDepth (pre : List ℕ) (b : ℕ) : Type 0 where
+  a_term : (os : List Open) → Here 0 os pre → begins_term b ≡ true → PastDepth pre b
+  a_character : (os : List Open) (lead : List ℕ) → pre ≡ lead ++ 34 ∷ [] → Here 1 os lead → is_character b ≡ true → (b == 34) ≡ false → PastDepth pre b
+
+-- what a fault at the byte b says of the text before it
+abbrev pub Says : List ℕ → ℕ → TextFault → Type 0
+Says pre b (Unexpected at) = at ≡ length pre
+Says pre b (OutOfRange at) = PastRange pre b at
+Says pre b (TooDeep at) = (at ≡ length pre) × PastDepth pre b
+Says pre b (AtomTooLong at) = PastAtom pre b at
+Says pre b (Unclosed at) = ⊥
+Says pre b Memory = ⊥
+
+-- a row for its own reason; any other byte with which no text can go on is unexpected
+abbrev pub IsTold : List ℕ → ℕ → TextFault → Type 0
+IsTold pre b (Unexpected at) = (at ≡ length pre) × ((start : ℕ) → PastRange pre b start → ⊥) × (PastDepth pre b → ⊥) × ((start : ℕ) → PastAtom pre b start → ⊥)
+IsTold pre b f = Says pre b f
+
+-- some text that begins so has a term at its front
+abbrev pub Continues : List ℕ → Type 0
+Continues bs = (more : List ℕ) × (t : Term) × (n : ℕ) × Front (bs ++ more) t n
+
+-- up to the byte b, and not with it, the text can go on
+pub record IsNoticed (text : List ℕ) (f : TextFault) : Type 0 where
+  pub pre : List ℕ
+  pub b : ℕ
+  pub rest : List ℕ
+  pub whole : text ≡ pre ++ b ∷ rest
+  pub before : Continues pre
+  pub behind : Continues (pre ++ b ∷ []) → ⊥
+  pub told : IsTold pre b f
+
+-- the text can go on, and ends before it has a term
+pub record EndsEarly (text : List ℕ) (at : ℕ) : Type 0 where
+  pub length_is : at ≡ length text
+  pub before : Continues text
+  pub none : (t : Term) (n : ℕ) → Front text t n → ⊥
+
+-- the fault of a text
+abbrev pub IsFault : List ℕ → TextFault → Type 0
+IsFault text (Unclosed at) = EndsEarly text at
+IsFault text f = IsNoticed text f

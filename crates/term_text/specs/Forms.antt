@@ -1,0 +1,43 @@
+-- The forms of numbers, characters and brackets in a text, and the terms that they stand for.
+use Rattle.std.specs.Prelude.{ℕ, zero, suc, ◌+◌, ◌-◌, ◌^◌, ℤ, pos, negsuc, List, Bool, true, false, if◌then◌else◌}
+use Rattle.ets_term.specs.Integers.{least, greatest}
+use Rattle.ets_term.specs.declared.term.Term.{Term}
+use Rattle.ets_term.specs.declared.term.Term.TheVariants.{Int, Tuple, List as ListOf}
+
+-- The numbers that a text may have.
+pub data Number : Type 0 where
+  integer : Bool → Number  -- an integer, below zero if true
+  pid : Number
+  identifier : Number
+  byte : List ℕ → Number  -- a byte of a binary, behind these
+
+-- A bracket that is open, square or a brace, and the terms that stand in it so far.
+pub record Open : Type 0 where
+  pub square : Bool
+  pub terms : List Term
+
+-- the integer of this size, below zero if true
+abbrev pub signed : Bool → ℕ → ℤ
+signed true zero = pos 0
+signed true (suc n) = negsuc n
+signed false n = pos n
+
+-- the size of an integer, without its sign
+abbrev pub size : ℤ → ℕ
+size (pos n) = n
+size (negsuc n) = n + 1
+
+-- the greatest size of a number
+abbrev pub top : Number → ℕ
+top (integer true) = size least
+top (integer false) = size greatest
+top pid = 2 ^ 32 - 1
+top identifier = 2 ^ 32 - 1
+top (byte bs) = 255
+
+abbrev pub bracket : Open → Term
+bracket o = if o.square then ListOf o.terms else Tuple o.terms
+
+-- the integer of a character
+abbrev pub code : ℕ → Term
+code c = Int (pos c)
