@@ -5,9 +5,8 @@ ghost use Rattle.std.specs.Slice.Iter.{iter_rest, iter_steps};
 
 use std::alloc::{AllocError, Global};
 use std::marker::Model;
-use std::mem;
 use std::ops::DerefSlice;
-use std::slice;
+use std::{mem, slice};
 
 /// A `Vec` that contracts see as the list of its elements, so that a copy equals what it copies. Made from a `Vec` and
 /// given back as one without taking memory.

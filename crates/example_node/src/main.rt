@@ -35,8 +35,18 @@ fn price_of_tea(alloc: Global) -> Result<Option<i64>, AllocError> {
     let options = Term::List(Items::from_vec(vec![in alloc; atom(alloc, "named_table")?]?));
     let _name = ask(alloc, &mut node, "new", vec![in alloc; prices, options]?)?;
     let row = Term::Tuple(Items::from_vec(vec![in alloc; atom(alloc, "tea")?, Term::Int(3)]?));
-    let _true = ask(alloc, &mut node, "insert", vec![in alloc; atom(alloc, "prices")?, row]?)?;
-    let found = ask(alloc, &mut node, "lookup", vec![in alloc; atom(alloc, "prices")?, atom(alloc, "tea")?]?)?;
+    let _true = ask(
+        alloc,
+        &mut node,
+        "insert",
+        vec![in alloc; atom(alloc, "prices")?, row]?,
+    )?;
+    let found = ask(
+        alloc,
+        &mut node,
+        "lookup",
+        vec![in alloc; atom(alloc, "prices")?, atom(alloc, "tea")?]?,
+    )?;
     Ok(price_in(&found))
 }
 
