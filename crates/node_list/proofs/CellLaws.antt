@@ -8,7 +8,7 @@ use Rattle.node_list.specs.Cells.{Cell, Sorted, StartsFrom}
 use Rattle.node_list.specs.Places.{from}
 use Rattle.node_list.specs.Search.{is_it, holds, place_of, passed}
 use Rattle.node_list.specs.Changes.{put_cell, without}
-use Rattle.node_list.specs.Walks.{last_up_to_in, HasPlace}
+use Rattle.node_list.specs.inside.Walks.{last_up_to_in, HasPlace}
 
 -- ---- one step of each word
 pub last_up_to_in-past : (key last : ℕ) (c : Cell) (cs : List Cell) → key < c.key → last_up_to_in key last (c ∷ cs) ≡ last

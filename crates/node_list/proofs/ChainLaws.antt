@@ -1,5 +1,5 @@
 -- What a lent list of objects does to the list.
-use Rattle.std.proofs.Common.{◌≡◌, ◌≢◌, ℕ, suc, ◌≤◌, inl, inr, List, [], ◌∷◌, length, Option, Some, None, IsSome, true, false, nat_eq, refl, sym, ◌∙◌, ap, subst, arith, if◌then◌else◌}
+use Rattle.std.proofs.Common.{◌≡◌, ◌≢◌, ℕ, suc, ◌≤◌, inl, inr, List, [], ◌∷◌, length, Option, Some, None, IsSome, true, false, nat_eq, refl, sym, ◌∙◌, ap, subst, arith, if◌then◌else◌, slice_set, option_map}
 use Rattle.std.proofs.lemmas.Bool.{cases_eq}
 use Rattle.std.proofs.lemmas.Bool.Decides.{nat_tests}
 use Rattle.slab.specs.Slab.{Slab, get, slab_len, with_value}
@@ -7,9 +7,9 @@ use Rattle.slab.proofs.SlabLemmas.{Updates-with_value}
 use Rattle.ets_term.specs.declared.term.Term.{Term}
 use Rattle.node_list.specs.declared.node.Node.{Node}
 use Rattle.node_list.specs.Cells.{Cell, Sorted, StartsFrom, StartsWithDummy}
-use Rattle.node_list.specs.Walks.{Links, rest, node_of, IsList}
-use Rattle.node_list.specs.Lending.{item_with, node_with}
-use Rattle.node_list.specs.ListLending.{cells_with}
+use Rattle.node_list.specs.inside.Walks.{Links, rest, node_of, IsList}
+use Rattle.node_list.specs.inside.NodeLending.{node_with, nodes_with}
+use Rattle.node_list.specs.Changes.{item_with, cells_with}
 use Rattle.node_list.proofs.WalkLaws.{walk-is, walk-length}
 use Rattle.node_list.proofs.PlaceLaws.{with_value-len}
 
@@ -87,3 +87,10 @@ lent s at w n l was =
       };
       cells = is;
     }
+
+-- the same, as the nodes lend it
+pub lent-in : (s : Slab Node) (at : ℕ) (w : List Term) (n : Node) → IsList s → get s at ≡ Some n → Lent s (nodes_with at w s) at w
+lent-in s at w n l was =
+    let P : Slab Node → Type 0 = λ t. Lent s t at w in
+    let is : nodes_with at w s ≡ with_value s at (node_with n w) = ap (λ (o : Option Node). let z : Slab Node = record s { slots = slice_set s.slots at (option_map (λ (m : Node). node_with m w) o) } in z) was in
+    subst P (sym is) (lent s at w n l was)

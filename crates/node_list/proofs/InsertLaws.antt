@@ -7,7 +7,7 @@ use Rattle.node_list.specs.declared.node.Node.{Node}
 use Rattle.node_list.specs.Cells.{Cell, Sorted}
 use Rattle.node_list.specs.Places.{from, StandsUpTo, IsFresh}
 use Rattle.node_list.specs.Changes.{put_cell}
-use Rattle.node_list.specs.Walks.{Links, Linked, rest, cell_of, node_of, IsKeyUpTo, last_up_to_in}
+use Rattle.node_list.specs.inside.Walks.{Links, Linked, rest, cell_of, node_of, IsKeyUpTo, last_up_to_in}
 use Rattle.node_list.proofs.WalkLaws.{walk-is, walk-length, walk-none, rest-step_at}
 use Rattle.node_list.proofs.CellLaws.{last_up_to_in-past, last_up_to_in-on, put-past, put-on, from-here, from-on, length-put, length-from, at-most-from}
 use Rattle.node_list.proofs.PlaceLaws.{away, apart-vacant, links-frame, links-from}

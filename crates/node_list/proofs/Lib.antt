@@ -1,3 +1,5 @@
+pub mod KeptLaws
+pub mod SlotLaws
 pub mod WalkLaws
 pub mod TickLaws
 pub mod CellLaws

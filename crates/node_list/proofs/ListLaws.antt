@@ -7,7 +7,7 @@ use Rattle.node_list.specs.declared.node.Node.{Node}
 use Rattle.node_list.specs.Cells.{Cell, Sorted, StartsWithDummy}
 use Rattle.node_list.specs.Places.{from}
 use Rattle.node_list.specs.Changes.{put_cell, without}
-use Rattle.node_list.specs.Walks.{rest, Linked, IsList}
+use Rattle.node_list.specs.inside.Walks.{rest, Linked, IsList}
 use Rattle.node_list.proofs.CellLaws.{put-on, from-here, without-on, sorted-put, length-put, sorted-without, length-without}
 use Rattle.node_list.proofs.PlaceLaws.{from-has}
 

@@ -6,7 +6,7 @@ use Rattle.slab.specs.Slab.{Slab, get, slab_len, with_value}
 use Rattle.node_list.specs.declared.node.Node.{Node}
 use Rattle.node_list.specs.Cells.{Cell}
 use Rattle.node_list.specs.Places.{from, behind, all_but_first, first_place, IsFresh, AreApart}
-use Rattle.node_list.specs.Walks.{Links, Linked, rest, node_of, HasPlace}
+use Rattle.node_list.specs.inside.Walks.{Links, Linked, rest, node_of, HasPlace}
 use Rattle.node_list.proofs.WalkLaws.{walk-is, walk-length}
 use Rattle.node_list.proofs.CellLaws.{from-here, from-on, length-from}
 
@@ -70,6 +70,7 @@ links-first g link (c ∷ cs) l = l.0
 pub record PlaceNode (s : Slab Node) (at : ℕ) (d : Cell) (ds : List Cell) : Type 0 where
   pub node : Node
   pub is : get s at ≡ Some node
+  pub key : node.key ≡ d.key
   pub item : node.item ≡ d.item
   pub next : node.next ≡ first_place ds
 
@@ -79,6 +80,7 @@ place-node s at d ds l e =
     record {
       node = node_of d f.1.1.0;
       is = ap (get s) (sym f.0) ∙ f.1.1.1;
+      key = refl;
       item = refl;
       next = links-first (get s) f.1.1.0 ds f.1.1.2;
     }

@@ -7,7 +7,7 @@ use Rattle.node_list.specs.declared.node.Node.{Node}
 use Rattle.node_list.specs.Cells.{Cell}
 use Rattle.node_list.specs.Places.{from, behind, all_but_first, Stands, IsFresh}
 use Rattle.node_list.specs.Changes.{without}
-use Rattle.node_list.specs.Walks.{Links, Linked, rest, cell_of, node_of, HasPlace, StartsAt, StandsBefore}
+use Rattle.node_list.specs.inside.Walks.{Links, Linked, rest, cell_of, node_of, HasPlace, StartsAt, StandsBefore}
 use Rattle.node_list.proofs.WalkLaws.{walk-is, walk-length, walk-none, rest-step_at}
 use Rattle.node_list.proofs.CellLaws.{without-here, without-on, from-here, from-on, length-without}
 use Rattle.node_list.proofs.PlaceLaws.{away, links-frame}

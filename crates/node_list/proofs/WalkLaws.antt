@@ -3,7 +3,7 @@ use Rattle.std.proofs.Common.{◌≡◌, ℕ, zero, suc, ◌≤◌, List, [], �
 use Rattle.slab.specs.Slab.{Slab, get, slab_len}
 use Rattle.node_list.specs.declared.node.Node.{Node}
 use Rattle.node_list.specs.Cells.{Cell}
-use Rattle.node_list.specs.Walks.{walk, Links, Linked, rest, cell_of, node_of}
+use Rattle.node_list.specs.inside.Walks.{walk, Links, Linked, rest, cell_of, node_of}
 
 pub walk-some : (n : ℕ) (g : ℕ → Option Node) (at : ℕ) (node : Node) → g at ≡ Some node → walk (suc n) g (Some at) ≡ cell_of at node ∷ walk n g node.next
 unfolding walk

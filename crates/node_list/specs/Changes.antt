@@ -1,5 +1,7 @@
--- What an insertion and a removal make of a list.
-use Rattle.std.specs.Prelude.{ℕ, nat_lt, nat_eq, if◌then◌else◌, List, [], ◌∷◌}
+-- What an insertion, a removal and a written chain make of a list.
+use Rattle.std.specs.Prelude.{ℕ, nat_lt, nat_eq, if◌then◌else◌, List, [], ◌∷◌, Option, None, Some}
+use Rattle.ets_term.specs.declared.term.Term.{Term}
+use Rattle.node_list.specs.declared.node.Item.{Item}
 use Rattle.node_list.specs.Cells.{Cell}
 
 -- one node more, behind those whose keys are at most its own
@@ -11,3 +13,13 @@ put_cell x (c ∷ cs) = if nat_lt x.key c.key then x ∷ c ∷ cs else c ∷ put
 abbrev pub without : ℕ → List Cell → List Cell
 without at [] = []
 without at (c ∷ cs) = if nat_eq c.at at then cs else c ∷ without at cs
+
+-- the item with this chain
+abbrev pub item_with : Option Item → List Term → Option Item
+item_with None w = None
+item_with (Some item) w = Some (record item { chain = w })
+
+-- the list with this chain in the item at a place
+abbrev pub cells_with : ℕ → List Term → List Cell → List Cell
+cells_with at w [] = []
+cells_with at w (c ∷ cs) = (if nat_eq c.at at then record c { item = item_with c.item w } else c) ∷ cells_with at w cs

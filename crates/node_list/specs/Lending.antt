@@ -1,19 +1,12 @@
--- What a lent chain leaves behind, in a node.
-use Rattle.std.specs.Prelude.{List, Option, Some, None}
+-- What a lent chain leaves behind.
+use Rattle.std.specs.Prelude.{ℕ, List}
 use Rattle.std.specs.Borrow.{Lends, MutBor, Fml}
 use Rattle.ets_term.specs.declared.term.Term.{Term}
-use Rattle.node_list.specs.declared.node.Item.{Item}
-use Rattle.node_list.specs.declared.node.Node.{Node}
-use Rattle.node_list.specs.contracts.node.Node.{the_row}
+use Rattle.node_list.specs.Changes.{cells_with}
+use Rattle.node_list.specs.Listed.{Listed}
+use Rattle.node_list.specs.contracts.list.NodeList.{the_row}
 use Rattle.node_list.specs.contracts.chain.Chain as chain
 
--- the item with this chain
-abbrev pub item_with : Option Item → List Term → Option Item
-item_with None w = None
-item_with (Some item) w = Some (record item { chain = w })
-
-abbrev pub node_with : Node → List Term → Node
-node_with n w = record n { item = item_with n.item w }
-
-abbrev pub LendsChain : MutBor Node → MutBor (List Term) → Fml
-LendsChain s r = Lends the_row chain.the_row s r (node_with s.now)
+-- once the borrow ends, the item at a place has the last chain written through it, and nothing else has changed
+abbrev pub LendsChainAt : ℕ → MutBor Listed → MutBor (List Term) → Fml
+LendsChainAt at s r = Lends the_row chain.the_row s r (λ w. record s.now { cells = cells_with at w s.now.cells })

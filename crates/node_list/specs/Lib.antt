@@ -1,10 +1,10 @@
 pub mod Cells
+pub mod Chains
 pub mod Changes
 pub mod Lending
-pub mod Links
 pub mod Listed
-pub mod ListLending
 pub mod Places
 pub mod Search
 pub mod Ticks
-pub mod Walks
+pub mod inside
+pub mod laws

@@ -58,6 +58,14 @@ abbrev pub first_item : List Cell → Option Item
 first_item [] = None
 first_item (c ∷ cs) = c.item
 
+abbrev pub first_key : List Cell → Option ℕ
+first_key [] = None
+first_key (c ∷ cs) = Some c.key
+
+-- the key of the node at a place
+abbrev pub key_at : ℕ → List Cell → Option ℕ
+key_at at cells = first_key (from at cells)
+
 -- the item at a place, if there is a node and it is no dummy
 abbrev pub item_at : ℕ → List Cell → Option Item
 item_at at cells = first_item (from at cells)

@@ -1,9 +1,11 @@
-ghost use Rattle.std.specs.Prelude.{◌≡◌, [], ◌∷◌, ◌++◌, length, OnOk, OnErr, MatchOption};
+ghost use Rattle.std.specs.Prelude.{◌≡◌, ◌+◌, ◌<◌, [], ◌∷◌, ◌++◌, length, take, slice_get, slice_set, Some, IsOk, OnOk, OnErr, MatchOption};
+ghost use Rattle.node_list.specs.Chains.{all_but};
 
 use ets_term::Term;
 use smallvec::SmallVec;
 use std::alloc::{AllocError, Global};
 use std::marker::Model;
+use std::mem;
 
 /// The terms of one item, in their order. The first of them has its place in the value itself, so that a chain of
 /// one term takes no memory of its own.
@@ -56,13 +58,24 @@ impl Chain {
         self.terms.len()
     }
 
-    /// Appends a term; where memory is wanting the term is dropped.
+    /// Appends a term; where memory is wanting the term is dropped. An empty chain has room for one.
     pub fn push(&mut self, term: Term) -> Result<(), AllocError>
         ensures ok { OnOk result (self.new ≡ self.old ++ term ∷ []) }
         ensures err { OnErr result (self.new ≡ self.old) }
+        ensures succeeds { self.old ≡ [] → IsOk result }
     {
+        let _room = self.terms.capacity();
         self.terms.push(term)?;
         Ok(())
+    }
+
+    /// Puts a term in the place of another, and hands that one back.
+    pub fn replace(&mut self, index: usize, term: Term) -> Term
+        requires { index < length self.old }
+        ensures old { slice_get self.old index ≡ Some result }
+        ensures new { self.new ≡ slice_set self.old index term }
+    {
+        mem::replace(&mut self.terms.as_mut_slice()[index], term)
     }
 
     /// Takes the last term off.
@@ -70,5 +83,22 @@ impl Chain {
         ensures { MatchOption result ((self.old ≡ []) × (self.new ≡ [])) (λ last. self.old ≡ self.new ++ last ∷ []) }
     {
         self.terms.pop()
+    }
+
+    /// Keeps the first `len` terms, or all if there are fewer.
+    pub fn truncate(&mut self, len: usize)
+        ensures { self.new ≡ take len self.old }
+    {
+        self.terms.truncate(len);
+    }
+
+    /// Takes out every term that equals this one, and tells how many. The others keep their order.
+    pub fn remove_all(&mut self, term: &Term) -> usize
+        ensures rest { self.new ≡ all_but term.now self.old }
+        ensures count { length self.new + result ≡ length self.old }
+    {
+        let had = self.len();
+        self.terms.retain(|t| *t != *term);
+        had - self.len()
     }
 }

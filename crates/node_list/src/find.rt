@@ -2,7 +2,7 @@ ghost use Rattle.std.specs.Prelude.{◌≡◌, Some, length};
 ghost use Rattle.node_list.specs.Cells.{Sorted};
 ghost use Rattle.node_list.specs.Search.{place_of, passed};
 ghost use Rattle.node_list.specs.Ticks.{ticks};
-ghost use Rattle.node_list.specs.Walks.{rest, Linked};
+ghost use Rattle.node_list.specs.inside.Walks.{rest, Linked};
 
 use crate::reader::Reader;
 use crate::steps::Steps;
@@ -24,13 +24,13 @@ pub fn find_from(
     let mut at = Some(start);
     while let Some(place) = at {
         let node = nodes.read(place, steps);
-        if key < node.key {
+        if key < node.front.key {
             return None;
         }
-        if node.key == key && node.holds(term) {
+        if node.front.key == key && node.slot.holds(term) {
             return Some(place);
         }
-        at = node.next.get();
+        at = node.front.next.get();
     }
     None
 }

@@ -1,4 +1,4 @@
-//! One sorted list of nodes in one slab, of which each call states its exact effect.
+//! One sorted list of nodes under place numbers, of which each call states its exact effect.
 //!
 //! *Guarantee.* The nodes stand by rising key, and after nodes with an equal key where they were put later.
 //! A node keeps its place number for as long as it stands in the list, whatever is put in or taken out beside
@@ -8,22 +8,28 @@
 //! *Weakness.* A search and an insertion take a step for each node that they pass, so a caller starts them near
 //! the end: at the dummy of a bucket. A place that was given back is given out again.
 //!
-//! *Mechanism.* The nodes are linked one way, by the numbers of their slots in a slab. A node that a search
-//! passes costs the line of memory with its key and its link: terms are looked at where keys are equal.
+//! *Mechanism.* The nodes are linked one way, by the numbers of their places. A slab holds the key and the link of each,
+//! in 24 bytes, and gives out the places; beside it stand the items, of 88 bytes. A search that passes a node reads the
+//! slab alone: terms are looked at where keys are equal. Where the slab has to grow, a copy of it grows, so that a refusal
+//! changes nothing.
 //!
 //! *Limits.* What a place number stands for is the caller's to remember; calls ask that it stands in the list.
 #![tactic(auto)]
 
 mod chain;
 mod find;
+mod front;
 mod insert;
 mod link;
 mod list;
 mod node;
+mod nodes;
 mod reader;
+mod slot;
 mod steps;
 mod unlink;
 
 pub use chain::Chain;
+pub use link::Link;
 pub use list::{At, NodeList};
 pub use steps::Steps;

@@ -2,7 +2,7 @@ ghost use Rattle.std.specs.Prelude.{◌≡◌, ◌<◌, ◌-◌, ◌^◌, Some, 
 
 use std::marker::Model;
 
-/// The place of the next node, or none, in one word: an `Option<usize>` takes two.
+/// A place, or none, in one word: an `Option<usize>` takes two. A contract sees it as an option.
 #[derive(Clone, Copy)]
 pub struct Link {
     place: usize,
@@ -10,26 +10,29 @@ pub struct Link {
 
 impl Model for Link {
     ghost use Rattle.std.specs.Prelude.{Option, ℕ, ◌<◌, ◌^◌};
-    ghost use Rattle.node_list.specs.Links.{link_to, place_of, link_back};
+    ghost use Rattle.node_list.specs.inside.Words.{link_in, word_of};
+    ghost use Rattle.node_list.specs.laws.Words.{link_back};
 
     ghost Value = { Option ℕ };
 
-    ghost view = { λ l. link_to l.place };
+    ghost view = { λ l. link_in l.place };
 
     ghost invariant = { λ l. l.place < 2 ^ 64 };
 
-    ghost inverse = { λ o. record { place = place_of o } };
+    ghost inverse = { λ o. record { place = word_of o } };
 
     ghost inverse_ok = { λ a h. link_back a h };
 }
 
 impl Link {
+    /// No place.
     pub fn none() -> Link
         ensures { result ≡ None }
     {
         Link { place: usize::MAX }
     }
 
+    /// A place. The greatest number stands for none, so it is no place.
     pub fn to(place: usize) -> Link
         requires { place < 2 ^ 64 - 1 }
         ensures { result ≡ Some place }
@@ -37,6 +40,7 @@ impl Link {
         Link { place }
     }
 
+    /// The place, if there is one.
     pub fn get(self) -> Option<usize>
         ensures { result ≡ self }
     {

@@ -1,4 +1,4 @@
-ghost use Rattle.std.specs.Prelude.{◌≡◌, ◌+◌, ◌≤◌, Some, None, [], ◌∷◌, length, IfOk, OnOk, IsOk, MatchOption, option_map};
+ghost use Rattle.std.specs.Prelude.{◌≡◌, ◌+◌, ◌-◌, ◌^◌, ◌<◌, ◌≤◌, Some, None, [], ◌∷◌, length, IfOk, OnOk, IsOk, MatchOption, option_map};
 ghost use Rattle.std.specs.Borrow.{sem};
 
 use crate::chain::Chain;
@@ -6,11 +6,11 @@ use crate::find::find_from;
 use crate::insert::insert_from;
 use crate::link::Link;
 use crate::node::{Item, Node};
+use crate::nodes::Nodes;
 use crate::reader::Reader;
 use crate::steps::Steps;
 use crate::unlink::unlink_from;
 use ets_term::Term;
-use slab::Slab;
 use std::alloc::{AllocError, Global};
 use std::marker::Model;
 
@@ -27,7 +27,7 @@ const HEAD: At = 0;
 /// nodes fit with no allocation.
 #[derive(Drop)]
 pub struct NodeList {
-    nodes: Slab<Node>,
+    nodes: Nodes,
 }
 
 impl Model for NodeList {
@@ -38,7 +38,7 @@ impl Model for NodeList {
 
     ghost coded = { listed_code };
 
-    ghost use Rattle.node_list.specs.Walks.{rest, IsList};
+    ghost use Rattle.node_list.specs.inside.Walks.{rest, IsList};
 
     ghost view = { λ s. record { cells = rest s.nodes (Some 0); capacity = s.nodes.capacity } };
 
@@ -47,35 +47,56 @@ impl Model for NodeList {
 
 impl NodeList {
     ghost use Rattle.node_list.specs.Cells.{new_cell, new_item, Sorted, StartsWithDummy};
-    ghost use Rattle.node_list.specs.Places.{first_place, AreApart, from, behind, item_at, place_after, IsFresh, Stands, StandsUpTo, HasItem};
+    ghost use Rattle.node_list.specs.Places.{first_place, AreApart, from, behind, item_at, key_at, place_after, IsFresh, Stands, StandsUpTo, HasItem};
     ghost use Rattle.node_list.specs.Search.{place_of, passed};
     ghost use Rattle.node_list.specs.Changes.{put_cell, without};
     ghost use Rattle.node_list.specs.Listed.{HasRoom};
-    ghost use Rattle.node_list.specs.ListLending.{LendsChainAt};
+    ghost use Rattle.node_list.specs.Lending.{LendsChainAt};
     ghost use Rattle.node_list.specs.Ticks.{ticks};
 
     /// A list of one node, the dummy of key 0.
     pub fn new(alloc: Global) -> Result<NodeList, AllocError>
         ensures { IfOk result (λ l. l.cells ≡ new_cell 0 0 None ∷ []) }
     {
-        let mut nodes = Slab::new(alloc);
-        nodes.insert(Node {
+        let mut nodes = Nodes::new(alloc);
+        nodes.reserve(1)?;
+        nodes.insert_reserved(Node {
             key: 0,
             next: Link::none(),
             item: None,
-        })?;
+        });
         Ok(NodeList { nodes })
     }
 
     /// The place of the first node, a dummy of key 0. The list is sorted, and no place is in it twice.
     pub fn head(&self) -> At
         ensures first { first_place self.now.cells ≡ Some result }
+        ensures place { result < 2 ^ 64 - 1 }
         ensures dummy { StartsWithDummy self.now.cells }
         ensures sorted { Sorted self.now.cells }
         ensures apart { AreApart self.now.cells }
     {
-        prove!(self.nodes.contains(HEAD));
+        let _nodes = &self.nodes;
         HEAD
+    }
+
+    /// What holds of every list, for a caller's proof: it does nothing.
+    pub fn known(&self)
+        ensures dummy { StartsWithDummy self.now.cells }
+        ensures sorted { Sorted self.now.cells }
+        ensures apart { AreApart self.now.cells }
+        ensures few { length self.now.cells < 2 ^ 64 - 1 }
+    {
+        let _head = self.head();
+        let _len = self.len();
+    }
+
+    /// How many nodes there are, dummies and items.
+    pub fn len(&self) -> usize
+        ensures value { result ≡ length self.now.cells }
+        ensures few { result < 2 ^ 64 - 1 }
+    {
+        self.nodes.len()
     }
 
     /// Makes room for so many insertions, which then take no memory.
@@ -94,6 +115,7 @@ impl NodeList {
         requires stands { StandsUpTo key start self.old.cells }
         ensures cells { self.new.cells ≡ put_cell (new_cell result key None) self.old.cells }
         ensures fresh { IsFresh result self.old.cells }
+        ensures place { result < 2 ^ 64 - 1 }
         ensures len { length self.new.cells ≡ length self.old.cells + 1 }
         ensures capacity { self.new.capacity ≡ self.old.capacity }
     {
@@ -106,6 +128,7 @@ impl NodeList {
         requires stands { StandsUpTo key start self.old.cells }
         ensures cells { self.new.cells ≡ put_cell (new_cell result key (Some (new_item term chain))) self.old.cells }
         ensures fresh { IsFresh result self.old.cells }
+        ensures place { result < 2 ^ 64 - 1 }
         ensures len { length self.new.cells ≡ length self.old.cells + 1 }
         ensures capacity { self.new.capacity ≡ self.old.capacity }
     {
@@ -146,7 +169,15 @@ impl NodeList {
         requires { Stands at self.now.cells }
         ensures { result ≡ place_after at self.now.cells }
     {
-        self.nodes[at].next.get()
+        self.nodes.front(at).next.get()
+    }
+
+    /// The key of the node at this place.
+    pub fn key(&self, at: At) -> u64
+        requires { Stands at self.now.cells }
+        ensures { key_at at self.now.cells ≡ Some result }
+    {
+        self.nodes.front(at).key
     }
 
     /// The term and the chain of an item, or `None` for a dummy.
@@ -154,7 +185,7 @@ impl NodeList {
         requires { Stands at self.now.cells }
         ensures { MatchOption result (item_at at self.now.cells ≡ None) (λ found. item_at at self.now.cells ≡ Some (new_item found.0.now found.1.now)) }
     {
-        match &self.nodes[at].item {
+        match self.nodes.see(at).slot.item() {
             Some(item) => Some((&item.term, &item.chain)),
             None => None,
         }
@@ -166,6 +197,6 @@ impl NodeList {
         ensures* lends { sem 𝓛 (LendsChainAt at self.entry result) }
         ensures value { option_map (λ item. item.chain) (item_at at self.old.cells) ≡ Some result.now }
     {
-        self.nodes[at].chain_mut()
+        self.nodes.chain_mut(at)
     }
 }

@@ -7,7 +7,8 @@ ghost use Rattle.node_list.specs.Changes.{put_cell};
 
 use super::{At, NodeList};
 use crate::chain::Chain;
-use crate::node::Node;
+use crate::front::Front;
+use crate::slot::Slot;
 use crate::steps::Steps;
 use ets_term::Term;
 use std::alloc::{AllocError, Global};
@@ -18,9 +19,9 @@ fn keys(list: &NodeList, alloc: Global) -> Result<Vec<u64>, AllocError> {
     let mut keys = Vec::new(alloc);
     let mut at = Some(list.head());
     for _ in 0..list.nodes.len() {
-        if let Some(node) = at.and_then(|place| list.nodes.get(place)) {
-            keys.push(node.key)?;
-            at = node.next.get();
+        if let Some(front) = at.and_then(|place| list.nodes.front_at(place)) {
+            keys.push(front.key)?;
+            at = front.next.get();
         }
     }
     Ok(keys)
@@ -135,10 +136,10 @@ fn want_of_memory_changes_nothing(rt: HostRuntime) -> Result<(), Fail> {
     Ok(())
 }
 
-// A slot of the slab has a tag of 8 bytes beside its node.
 #[test]
-fn an_item_takes_two_lines_of_memory(rt: HostRuntime) {
-    assert!(rt; size_of::<Node>() + 8 <= 128);
+fn a_search_passes_no_items(rt: HostRuntime) {
+    assert_eq!(rt; size_of::<Front>(), 16);
+    assert_eq!(rt; size_of::<Slot>(), 88);
 }
 
 #[test]

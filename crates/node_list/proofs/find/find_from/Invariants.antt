@@ -2,7 +2,7 @@ use Rattle.std.proofs.Common.{◌≡◌, ◌^◌, ◌<◌, Some, None, length}
 use Rattle.node_list.specs.Cells.{Sorted}
 use Rattle.node_list.specs.Search.{place_of, passed}
 use Rattle.node_list.specs.Ticks.{ticks}
-use Rattle.node_list.specs.Walks.{rest, Linked}
+use Rattle.node_list.specs.inside.Walks.{rest, Linked}
 use Rattle.node_list.proofs.find.find_from.Given as goal
 
 abbrev pub invariant-loop-at : goal.invariant-loop-at

@@ -1,8 +1,8 @@
-use Rattle.std.proofs.Common.{◌≡◌, ℕ, Some, Option, IsSome, subst, refl, sym, ◌∙◌, ap}
-use Rattle.slab.specs.Slab.{get, with_value}
+use Rattle.std.proofs.Common.{◌≡◌, ◌≢◌, ℕ, Some, Option, IsSome, subst, refl, sym, ◌∙◌, ap}
+use Rattle.slab.specs.Slab.{Slab, get, slab_len, with_value, Updates}
 use Rattle.node_list.specs.Cells.{new_cell}
 use Rattle.node_list.specs.Changes.{put_cell}
-use Rattle.node_list.specs.Walks.{rest, Linked, last_up_to_in}
+use Rattle.node_list.specs.inside.Walks.{rest, Linked, node_of, last_up_to_in}
 use Rattle.node_list.specs.declared.node.Node.{Node}
 use Rattle.node_list.proofs.InsertLaws.{begun, inserted, spot-node}
 use Rattle.node_list.proofs.PlaceLaws.{with_value-len, apart-vacant}
@@ -14,8 +14,8 @@ last_up_to-last-requires-clause-linked c = (begun c.args.nodes.now c.args.key c.
 pub last_up_to-last-requires-clause-up_to : goal.last_up_to-last-requires-clause-up_to
 last_up_to-last-requires-clause-up_to c = (begun c.args.nodes.now c.args.key c.args.start c.requires.linked c.requires.sorted c.requires.stands).up_to
 
-pub index-requires : goal.index-requires
-index-requires c =
+pub front-next-requires : goal.front-next-requires
+front-next-requires c =
     let spot = (begun c.args.nodes.now c.args.key c.args.start c.requires.linked c.requires.sorted c.requires.stands).spot in
     let found = spot-node (get c.args.nodes.now) c.args.key (last_up_to_in c.args.key c.args.start (rest c.args.nodes.now (Some c.args.start))) (Some 0) (rest c.args.nodes.now (Some 0)) c.requires.linked.links spot in
     let P : Option Node → Type 0 = λ o. IsSome o in
@@ -24,29 +24,47 @@ index-requires c =
 pub returns-clause-linked : goal.returns-clause-linked
 returns-clause-linked c =
     let m = c.insert_reserved-place.new.self in
-    let n = c.index_mut.result.now in
+    let n = c.set_next.ensures.node in
     let x = new_cell c.insert_reserved-place.result c.args.key c.args.item in
-    let len = with_value-len m c.last_up_to-last.result n (record n { next = Some c.insert_reserved-place.result }) c.index_mut.ensures.value in
-    let i = inserted c.args.nodes.now m x c.args.start c.last_up_to-last.result c.index.result.now n
+    let U : Option ℕ → Type 0 = λ o. Updates c.args.nodes.now c.insert_reserved-place.new.self c.insert_reserved-place.result (Some (node_of (new_cell c.insert_reserved-place.result c.args.key c.args.item) o)) in
+    let len = with_value-len m c.last_up_to-last.result n (record n { next = Some c.insert_reserved-place.result }) c.set_next.ensures.was in
+    let i = inserted c.args.nodes.now m x c.args.start c.last_up_to-last.result c.front-next.ensures.node n
     (begun c.args.nodes.now c.args.key c.args.start c.requires.linked c.requires.sorted c.requires.stands)
-    c.requires.linked c.last_up_to-last.ensures c.index.ensures c.insert_reserved-place.ensures.was_vacant c.insert_reserved-place.ensures.updates
-    c.insert_reserved-place.ensures.len c.index_mut.ensures.value (len ∙ c.insert_reserved-place.ensures.len) in
+    c.requires.linked c.last_up_to-last.ensures c.front-next.ensures.is c.insert_reserved-place.ensures.was_vacant (subst U (sym c.front-next.ensures.next) c.insert_reserved-place.ensures.updates)
+    c.insert_reserved-place.ensures.len c.set_next.ensures.was (len ∙ c.insert_reserved-place.ensures.len) in
     let P : Option ℕ → Type 0 = λ o. Linked (with_value m c.last_up_to-last.result (record n { next = o })) (Some 0) in
-    subst P (sym c.to.ensures) i.linked
+    let L : Slab Node → Type 0 = λ v. Linked v (Some 0) in
+    subst L (sym c.set_next.ensures.now) (subst P (sym c.to.ensures) i.linked)
 
 pub returns-clause-cells : goal.returns-clause-cells
 returns-clause-cells c =
     let m = c.insert_reserved-place.new.self in
-    let n = c.index_mut.result.now in
+    let n = c.set_next.ensures.node in
     let x = new_cell c.insert_reserved-place.result c.args.key c.args.item in
-    let len = with_value-len m c.last_up_to-last.result n (record n { next = Some c.insert_reserved-place.result }) c.index_mut.ensures.value in
-    let i = inserted c.args.nodes.now m x c.args.start c.last_up_to-last.result c.index.result.now n
+    let U : Option ℕ → Type 0 = λ o. Updates c.args.nodes.now c.insert_reserved-place.new.self c.insert_reserved-place.result (Some (node_of (new_cell c.insert_reserved-place.result c.args.key c.args.item) o)) in
+    let len = with_value-len m c.last_up_to-last.result n (record n { next = Some c.insert_reserved-place.result }) c.set_next.ensures.was in
+    let i = inserted c.args.nodes.now m x c.args.start c.last_up_to-last.result c.front-next.ensures.node n
     (begun c.args.nodes.now c.args.key c.args.start c.requires.linked c.requires.sorted c.requires.stands)
-    c.requires.linked c.last_up_to-last.ensures c.index.ensures c.insert_reserved-place.ensures.was_vacant c.insert_reserved-place.ensures.updates
-    c.insert_reserved-place.ensures.len c.index_mut.ensures.value (len ∙ c.insert_reserved-place.ensures.len) in
+    c.requires.linked c.last_up_to-last.ensures c.front-next.ensures.is c.insert_reserved-place.ensures.was_vacant (subst U (sym c.front-next.ensures.next) c.insert_reserved-place.ensures.updates)
+    c.insert_reserved-place.ensures.len c.set_next.ensures.was (len ∙ c.insert_reserved-place.ensures.len) in
     let P : Option ℕ → Type 0 = λ o. rest (with_value m c.last_up_to-last.result (record n { next = o })) (Some 0) ≡ put_cell x (rest c.args.nodes.now (Some 0)) in
-    subst P (sym c.to.ensures) i.cells
+    ap (λ (v : Slab Node). rest v (Some 0)) c.set_next.ensures.now ∙ subst P (sym c.to.ensures) i.cells
 
 pub returns-clause-fresh : goal.returns-clause-fresh
 returns-clause-fresh c =
     apart-vacant (get c.args.nodes.now) c.insert_reserved-place.result c.insert_reserved-place.ensures.was_vacant (Some 0) (rest c.args.nodes.now (Some 0)) c.requires.linked.links
+
+pub set_next-requires : goal.set_next-requires
+set_next-requires c =
+    let was : get c.args.nodes.now c.last_up_to-last.result ≡ Some c.front-next.ensures.node = c.front-next.ensures.is in
+    let apart : c.last_up_to-last.result ≢ c.insert_reserved-place.result = λ same. let f = ap (get c.args.nodes.now) same ∙ c.insert_reserved-place.ensures.was_vacant in absurd (cc (f, was)) in
+    let O : Option Node → Type 0 = λ o. IsSome o in
+    subst O (sym (c.insert_reserved-place.ensures.updates.others c.last_up_to-last.result apart ∙ was)) refl
+
+pub returns-clause-capacity : goal.returns-clause-capacity
+returns-clause-capacity c = ap (λ (v : Slab Node). v.capacity) c.set_next.ensures.now ∙ c.insert_reserved-place.ensures.capacity
+
+pub returns-clause-len : goal.returns-clause-len
+returns-clause-len c =
+    ap (λ (v : Slab Node). slab_len v) c.set_next.ensures.now
+    ∙ (with_value-len c.insert_reserved-place.new.self c.last_up_to-last.result c.set_next.ensures.node (record c.set_next.ensures.node { next = c.to.result }) c.set_next.ensures.was ∙ c.insert_reserved-place.ensures.len)

@@ -1,6 +1,6 @@
 use Rattle.std.proofs.Common.{◌≡◌, Some, length}
-use Rattle.node_list.specs.Walks.{last_up_to_in}
-use Rattle.node_list.specs.Walks.{rest, Linked, IsKeyUpTo}
+use Rattle.node_list.specs.inside.Walks.{last_up_to_in}
+use Rattle.node_list.specs.inside.Walks.{rest, Linked, IsKeyUpTo}
 use Rattle.node_list.proofs.insert.last_up_to.Given as goal
 
 abbrev pub invariant-loop-place : goal.invariant-loop-place

@@ -5,25 +5,25 @@ use Rattle.node_list.proofs.unlink.last_before.Goals as goal
 
 pub returns-then-place-at : goal.returns-then-place-at
 returns-then-place-at c =
-    let next = sym c.get.ensures ∙ c.in-Some.is in
-    let st = rest-step_at c.args.nodes.now c.loop-place.before c.index.result.now c.loop-place.invariant.linked c.index.ensures in
+    let next = c.front.ensures.next ∙ (sym c.get.ensures ∙ c.in-Some.is) in
+    let st = rest-step_at c.args.nodes.now c.loop-place.before c.front.ensures.node c.loop-place.invariant.linked c.front.ensures.is in
     let there = rest-step c.args.nodes.now c.in-Some.place (rw next at st.onward) in
-    let w = way c.args.nodes.now c.loop-place.before c.in-Some.place c.args.at c.index.result.now there.0 c.loop-place.invariant.linked c.loop-place.invariant.ahead c.index.ensures next there.1.at in
+    let w = way c.args.nodes.now c.loop-place.before c.in-Some.place c.args.at c.front.ensures.node there.0 c.loop-place.invariant.linked c.loop-place.invariant.ahead c.front.ensures.is next there.1.at in
     c.loop-place.invariant.up_to c.loop-place.before (w.here c.if-place-at.true)
 
 pub loop-place-smaller : goal.loop-place-smaller
 loop-place-smaller c =
-    let next = sym c.get.ensures ∙ c.in-Some.is in
-    let st = rest-step_at c.args.nodes.now c.loop-place.before c.index.result.now c.loop-place.invariant.linked c.index.ensures in
+    let next = c.front.ensures.next ∙ (sym c.get.ensures ∙ c.in-Some.is) in
+    let st = rest-step_at c.args.nodes.now c.loop-place.before c.front.ensures.node c.loop-place.invariant.linked c.front.ensures.is in
     let there = rest-step c.args.nodes.now c.in-Some.place (rw next at st.onward) in
-    (way c.args.nodes.now c.loop-place.before c.in-Some.place c.args.at c.index.result.now there.0 c.loop-place.invariant.linked c.loop-place.invariant.ahead c.index.ensures next there.1.at).smaller
+    (way c.args.nodes.now c.loop-place.before c.in-Some.place c.args.at c.front.ensures.node there.0 c.loop-place.invariant.linked c.loop-place.invariant.ahead c.front.ensures.is next there.1.at).smaller
 
 pub loop-place-preserved : goal.loop-place-preserved
 loop-place-preserved c =
-    let next = sym c.get.ensures ∙ c.in-Some.is in
-    let st = rest-step_at c.args.nodes.now c.loop-place.before c.index.result.now c.loop-place.invariant.linked c.index.ensures in
+    let next = c.front.ensures.next ∙ (sym c.get.ensures ∙ c.in-Some.is) in
+    let st = rest-step_at c.args.nodes.now c.loop-place.before c.front.ensures.node c.loop-place.invariant.linked c.front.ensures.is in
     let there = rest-step c.args.nodes.now c.in-Some.place (rw next at st.onward) in
-    let w = way c.args.nodes.now c.loop-place.before c.in-Some.place c.args.at c.index.result.now there.0 c.loop-place.invariant.linked c.loop-place.invariant.ahead c.index.ensures next there.1.at in
+    let w = way c.args.nodes.now c.loop-place.before c.in-Some.place c.args.at c.front.ensures.node there.0 c.loop-place.invariant.linked c.loop-place.invariant.ahead c.front.ensures.is next there.1.at in
     record {
       linked = w.linked;
       ahead = w.ahead c.if-place-at.false;
@@ -32,4 +32,4 @@ loop-place-preserved c =
 
 pub unreachable-requires : goal.unreachable-requires
 unreachable-requires c =
-    absurd (nothing-behind c.args.nodes.now c.loop-place.before c.args.at c.index.result.now c.loop-place.invariant.linked c.loop-place.invariant.ahead c.index.ensures (sym c.get.ensures ∙ c.in_default.is))
+    absurd (nothing-behind c.args.nodes.now c.loop-place.before c.args.at c.front.ensures.node c.loop-place.invariant.linked c.loop-place.invariant.ahead c.front.ensures.is (c.front.ensures.next ∙ (sym c.get.ensures ∙ c.in_default.is)))

@@ -1,6 +1,6 @@
 use Rattle.std.proofs.Common.{ℕ, Some, length}
 use Rattle.node_list.specs.Places.{all_but_first}
-use Rattle.node_list.specs.Walks.{rest, Linked, HasPlace, StandsBefore}
+use Rattle.node_list.specs.inside.Walks.{rest, Linked, HasPlace, StandsBefore}
 use Rattle.node_list.proofs.unlink.last_before.Given as goal
 
 abbrev pub invariant-loop-place : goal.invariant-loop-place

@@ -1,8 +1,8 @@
-use Rattle.std.proofs.Common.{Some, Option, List, IsSome, subst, refl, sym, ◌∙◌}
-use Rattle.slab.specs.Slab.{get}
+use Rattle.std.proofs.Common.{ℕ, ◌+◌, ap, Some, Option, List, IsSome, subst, refl, sym, ◌∙◌}
+use Rattle.slab.specs.Slab.{Slab, get, slab_len}
 use Rattle.node_list.specs.Cells.{Cell}
 use Rattle.node_list.specs.Places.{all_but_first}
-use Rattle.node_list.specs.Walks.{rest, HasPlace, StandsBefore}
+use Rattle.node_list.specs.inside.Walks.{rest, Linked, HasPlace, StandsBefore}
 use Rattle.node_list.specs.declared.node.Node.{Node}
 use Rattle.node_list.proofs.PlaceLaws.{rest-from, with_value-len}
 use Rattle.node_list.proofs.UnlinkLaws.{stands-behind, before-whole, before-has, before-node, before-differs, has-node, unlinked}
@@ -28,8 +28,8 @@ remove-node-requires c =
     let O : Option Node → Type 0 = λ o. IsSome o in
     subst O (sym n.1) refl
 
-pub index_mut-requires : goal.index_mut-requires
-index_mut-requires c =
+pub set_next-requires : goal.set_next-requires
+set_next-requires c =
     let s = stands-behind c.args.start c.args.at (rest c.args.nodes.now (Some 0)) c.requires.behind in
     let P : List Cell → Type 0 = λ zs. StandsBefore c.last_before-before.result c.args.at zs in
     let b = before-whole c.last_before-before.result c.args.at c.args.start (rest c.args.nodes.now (Some 0)) (subst P (rest-from c.args.nodes.now c.args.start s.cell s.later c.requires.linked s.is).1 c.last_before-before.ensures) in
@@ -43,17 +43,27 @@ returns-clause-linked c =
     let s = stands-behind c.args.start c.args.at (rest c.args.nodes.now (Some 0)) c.requires.behind in
     let P : List Cell → Type 0 = λ zs. StandsBefore c.last_before-before.result c.args.at zs in
     let b = before-whole c.last_before-before.result c.args.at c.args.start (rest c.args.nodes.now (Some 0)) (subst P (rest-from c.args.nodes.now c.args.start s.cell s.later c.requires.linked s.is).1 c.last_before-before.ensures) in
-    let n = c.index_mut.result.now in
-    (unlinked c.args.nodes.now c.remove-node.new.self c.last_before-before.result c.args.at n c.remove-node.result c.requires.linked b
-    c.remove-node.ensures.value c.remove-node.ensures.updates c.remove-node.ensures.len c.index_mut.ensures.value
-    (with_value-len c.remove-node.new.self c.last_before-before.result n (record n { next = c.remove-node.result.next }) c.index_mut.ensures.value)).linked
+    let n = c.set_next.ensures.node in
+    let L : Slab Node → Type 0 = λ v. Linked v (Some 0) in
+    subst L (sym c.set_next.ensures.now)
+    ((unlinked c.args.nodes.now c.remove-node.new.self c.last_before-before.result c.args.at n c.remove-node.result c.requires.linked b
+    c.remove-node.ensures.value c.remove-node.ensures.updates c.remove-node.ensures.len c.set_next.ensures.was
+    (with_value-len c.remove-node.new.self c.last_before-before.result n (record n { next = c.remove-node.result.next }) c.set_next.ensures.was)).linked)
 
 pub returns-clause-cells : goal.returns-clause-cells
 returns-clause-cells c =
     let s = stands-behind c.args.start c.args.at (rest c.args.nodes.now (Some 0)) c.requires.behind in
     let P : List Cell → Type 0 = λ zs. StandsBefore c.last_before-before.result c.args.at zs in
     let b = before-whole c.last_before-before.result c.args.at c.args.start (rest c.args.nodes.now (Some 0)) (subst P (rest-from c.args.nodes.now c.args.start s.cell s.later c.requires.linked s.is).1 c.last_before-before.ensures) in
-    let n = c.index_mut.result.now in
-    (unlinked c.args.nodes.now c.remove-node.new.self c.last_before-before.result c.args.at n c.remove-node.result c.requires.linked b
-    c.remove-node.ensures.value c.remove-node.ensures.updates c.remove-node.ensures.len c.index_mut.ensures.value
-    (with_value-len c.remove-node.new.self c.last_before-before.result n (record n { next = c.remove-node.result.next }) c.index_mut.ensures.value)).cells
+    let n = c.set_next.ensures.node in
+    ap (λ (v : Slab Node). rest v (Some 0)) c.set_next.ensures.now ∙ (unlinked c.args.nodes.now c.remove-node.new.self c.last_before-before.result c.args.at n c.remove-node.result c.requires.linked b
+    c.remove-node.ensures.value c.remove-node.ensures.updates c.remove-node.ensures.len c.set_next.ensures.was
+    (with_value-len c.remove-node.new.self c.last_before-before.result n (record n { next = c.remove-node.result.next }) c.set_next.ensures.was)).cells
+
+pub returns-clause-capacity : goal.returns-clause-capacity
+returns-clause-capacity c = ap (λ (v : Slab Node). v.capacity) c.set_next.ensures.now ∙ c.remove-node.ensures.capacity
+
+pub returns-clause-len : goal.returns-clause-len
+returns-clause-len c =
+    ap (λ (v : Slab Node). slab_len v + 1) c.set_next.ensures.now
+    ∙ (ap (λ (n : ℕ). n + 1) (with_value-len c.remove-node.new.self c.last_before-before.result c.set_next.ensures.node (record c.set_next.ensures.node { next = c.remove-node.result.next }) c.set_next.ensures.was) ∙ c.remove-node.ensures.len)

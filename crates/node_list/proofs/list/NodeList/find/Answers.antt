@@ -5,7 +5,7 @@ use Rattle.node_list.specs.Cells.{Cell, Sorted}
 use Rattle.node_list.specs.Places.{from}
 use Rattle.node_list.specs.Search.{place_of, passed}
 use Rattle.node_list.specs.Ticks.{ticks}
-use Rattle.node_list.specs.Walks.{rest, Linked}
+use Rattle.node_list.specs.inside.Walks.{rest, Linked}
 use Rattle.node_list.specs.Listed.{Listed}
 use Rattle.node_list.proofs.CellLaws.{sorted-from}
 use Rattle.node_list.proofs.PlaceLaws.{rest-from}

@@ -1,6 +1,6 @@
 use Rattle.std.proofs.Common.{◌+◌, None, Some, length, ◌∙◌, ap}
 use Rattle.node_list.specs.Cells.{new_cell}
-use Rattle.node_list.specs.Walks.{rest}
+use Rattle.node_list.specs.inside.Walks.{rest}
 use Rattle.node_list.specs.Listed.{Listed}
 use Rattle.node_list.proofs.CellLaws.{length-put}
 use Rattle.node_list.proofs.ListLaws.{put-list}

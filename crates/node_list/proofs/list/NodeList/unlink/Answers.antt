@@ -3,7 +3,7 @@ use Rattle.slab.specs.Slab.{get}
 use Rattle.node_list.specs.Cells.{Cell}
 use Rattle.node_list.specs.Places.{from, behind, first_item}
 use Rattle.node_list.specs.declared.node.Node.{Node}
-use Rattle.node_list.specs.Walks.{rest}
+use Rattle.node_list.specs.inside.Walks.{rest}
 use Rattle.node_list.specs.Listed.{Listed}
 use Rattle.node_list.proofs.PlaceLaws.{place-node, apart-links, from-has, from-behind}
 use Rattle.node_list.proofs.CellLaws.{length-without}

@@ -1,0 +1,7 @@
+use Rattle.std.proofs.Common.{sym, ◌∙◌, ap, is_some}
+use Rattle.bucket_table.proofs.PlainLaws.{key-at}
+use Rattle.bucket_table.proofs.plain.PlainRowsRows.entry.Goals as goal
+
+pub returns-in-Some : goal.returns-in-Some
+returns-in-Some c =
+    (key-at c.args.self.now.slots.entries c.args.key.now c.in-Some.place (sym c.in-Some.ensures.index), sym c.in-Some.ensures.found)

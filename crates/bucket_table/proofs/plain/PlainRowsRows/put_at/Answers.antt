@@ -1,0 +1,13 @@
+use Rattle.std.proofs.Common.{◌≡◌, ◌++◌, ◌∷◌, [], List, Result, Ok, Err, subst, sym}
+use Rattle.std.specs.Result.{OnOk}
+use Rattle.ets_term.specs.declared.term.Term.{Term}
+use Rattle.bucket_table.specs.Slots.{Slot, Enters}
+use Rattle.bucket_table.proofs.PlainLaws.{enters-last}
+use Rattle.bucket_table.proofs.plain.PlainRowsRows.put_at.Goals as goal
+
+entered : {E : Type 0} (r : Result (Unit {0}) E) (old new : List Slot) (row : Slot) → OnOk r (new ≡ old ++ row ∷ []) → OnOk r (Enters old row.0 row.1 new)
+entered (Ok x) old new row e = subst (Enters old row.0 row.1) (sym e) (enters-last old row)
+entered (Err x) old new row e = tt
+
+pub returns-clause-ok : goal.returns-clause-ok
+returns-clause-ok c = entered c.push.result c.args.self.now.slots.entries c.push.new.self.slots.entries (c.args.key, c.args.objects) c.push.ensures.ok

@@ -1,0 +1,11 @@
+use Rattle.std.proofs.Common.{sym, ◌∙◌}
+use Rattle.bucket_table.proofs.PlainLaws.{at-place}
+use Rattle.bucket_table.proofs.plain.PlainRowsRows.remove_at.Goals as goal
+
+pub returns-clause-was : goal.returns-clause-was
+returns-clause-was c = (at-place c.args.self.now.slots.entries c.args.place c.in-Some.slot.0 c.in-Some.slot.1 c.known.ensures (sym c.in-Some.ensures.entry)).found
+
+pub returns-clause-now : goal.returns-clause-now
+returns-clause-now c =
+    let at = at-place c.args.self.now.slots.entries c.args.place c.in-Some.slot.0 c.in-Some.slot.1 c.known.ensures (sym c.in-Some.ensures.entry) in
+    c.in-Some.ensures.entries ∙ at.removed

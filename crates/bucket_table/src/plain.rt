@@ -1,0 +1,196 @@
+ghost use Rattle.std.specs.Prelude.{◌≡◌, ◌<◌, ◌≤◌, ◌+◌, true, not, [], ◌∷◌, ◌++◌, None, IsOk, OnOk, OnErr, option_map, slice_get};
+ghost use Rattle.indexmap.specs.IndexMap.{spare};
+ghost use Rattle.bucket_table.specs.Slots.{has_objects, objects_of};
+
+use crate::entry::{Entry, Place};
+use crate::growth::{Growth, Readying};
+use crate::rows::Rows;
+use ets_term::Term;
+use indexmap::IndexMap;
+use node_list::Chain;
+use std::alloc::{AllocError, Global};
+use std::mem;
+
+/// Rows in the order in which their keys came, in one bucket that is always ready: a new key goes last. Taking a slot
+/// away moves those behind it, so that it costs the slots.
+#[derive(Drop)]
+pub struct PlainRows {
+    slots: IndexMap<Term, Chain>,
+}
+
+impl PlainRows {
+    /// Rows without slots.
+    pub fn new(alloc: Global) -> PlainRows
+        ensures { ⟦<PlainRows as Rows>⟧.content result ≡ [] }
+    {
+        PlainRows {
+            slots: IndexMap::new(alloc),
+        }
+    }
+
+    fn push(&mut self, key: Term, objects: Chain) -> Result<(), AllocError>
+        requires { objects_of self.old.slots.entries key ≡ None }
+        ensures ok { OnOk result (self.new.slots.entries ≡ self.old.slots.entries ++ (key, objects) ∷ []) }
+        ensures err { OnErr result (self.new.slots.entries ≡ self.old.slots.entries) }
+        ensures succeeds { 0 < spare self.old.slots → IsOk result }
+        ensures room { spare self.old.slots ≤ spare self.new.slots + 1 }
+    {
+        self.slots.insert(key, objects)?;
+        Ok(())
+    }
+}
+
+impl Rows for PlainRows {
+    ghost content = { λ s. s.slots.entries };
+
+    ghost key_at = { λ s place. option_map (λ slot. slot.0) (slice_get s.slots.entries place) };
+
+    ghost room = { λ s. spare s.slots };
+
+    ghost number = { λ s key. 0 };
+
+    ghost readiness = { λ s. true ∷ [] };
+
+    ghost most_buckets = { 1 };
+
+    fn get(&self, key: &Term) -> Option<&[Term]> {
+        let objects = self.slots.get(key)?;
+        Some(objects.as_slice())
+    }
+
+    fn put(&mut self, rows: Vec<(Term, Chain)>) -> Result<(), AllocError> {
+        self.slots.reserve(rows.len())?;
+        for (key, objects) in rows {
+            self.push(key, objects)?;
+        }
+        Ok(())
+    }
+
+    fn replace(&mut self, key: &Term, objects: Chain) -> Option<Chain> {
+        let place = self.slots.get_mut(key)?;
+        Some(mem::replace(place, objects))
+    }
+
+    fn remove(&mut self, key: &Term) -> Option<Chain> {
+        self.slots.shift_remove(key)
+    }
+
+    fn clear(&mut self, hold: bool) {
+        let alloc = *self.slots.allocator();
+        if hold {
+            self.slots.retain(
+                |_key: &Term, objects: &mut Chain| -> bool
+                    ensures { (result ≡ true) × (objects.new ≡ []) }
+                {
+                    *objects = Chain::new(alloc);
+                    true
+                },
+            );
+        } else {
+            self.slots.retain(
+                |_key: &Term, objects: &mut Chain| -> bool
+                    ensures { (result ≡ not (has_objects objects.old)) × (objects.new ≡ objects.old) }
+                { objects.len() == 0 },
+            );
+        }
+    }
+
+    fn purge(&mut self) {
+        self.slots.retain(
+            |_key: &Term, objects: &mut Chain| -> bool
+                ensures { (result ≡ has_objects objects.old) × (objects.new ≡ objects.old) }
+            { objects.len() > 0 },
+        );
+    }
+
+    fn len(&self) -> usize {
+        self.slots.len()
+    }
+
+    fn known(&self) {
+        let _ = self.slots.len();
+    }
+
+    fn first_at(&self) -> Option<(&Term, &[Term])> {
+        let (key, objects) = self.slots.get_index(0)?;
+        Some((key, objects.as_slice()))
+    }
+
+    fn next_at(&self, key: &Term) -> Option<Option<(&Term, &[Term])>> {
+        let Some(place) = self.slots.get_index_of(key) else {
+            return None;
+        };
+        match self.slots.as_slice().get_index(place + 1) {
+            Some((key, objects)) => Some(Some((key, objects.as_slice()))),
+            None => Some(None),
+        }
+    }
+
+    fn find(&self, key: &Term) -> Option<Place> {
+        match self.slots.get_index_of(key) {
+            Some(place) => Some(place),
+            None => None,
+        }
+    }
+
+    fn entry(&self, key: &Term) -> Entry {
+        match self.slots.get_index_of(key) {
+            Some(place) => Entry::Occupied(place),
+            None => Entry::Vacant(0),
+        }
+    }
+
+    fn objects_at(&self, place: Place) -> &[Term] {
+        match self.slots.get_index(place) {
+            Some((_, objects)) => objects.as_slice(),
+            None => unreachable!(),
+        }
+    }
+
+    fn replace_at(&mut self, place: Place, objects: Chain) -> Chain {
+        match self.slots.get_index_mut(place) {
+            Some(own) => mem::replace(own, objects),
+            None => unreachable!(),
+        }
+    }
+
+    fn remove_at(&mut self, place: Place) -> (Term, Chain) {
+        self.known();
+        match self.slots.shift_remove_index(place) {
+            Some(slot) => slot,
+            None => unreachable!(),
+        }
+    }
+
+    fn reserve(&mut self, additional: usize) -> Result<(), AllocError> {
+        self.slots.reserve(additional)
+    }
+
+    fn put_at(&mut self, _hash: u32, key: Term, objects: Chain) -> Result<(), AllocError> {
+        self.push(key, objects)
+    }
+
+    fn grow(&mut self) -> Result<Growth, AllocError> {
+        Ok(Growth::AtMost)
+    }
+
+    fn ready(&mut self, bucket: u32) -> Result<Readying, AllocError> {
+        if bucket == 0 {
+            Ok(Readying::AlreadyReady)
+        } else {
+            Ok(Readying::NotABucket)
+        }
+    }
+
+    fn buckets(&self) -> u32 {
+        1
+    }
+
+    fn is_ready(&self, bucket: u32) -> bool {
+        bucket == 0
+    }
+
+    fn least(&self) -> Option<u32> {
+        None
+    }
+}

@@ -1,0 +1,57 @@
+use Rattle.std.proofs.Common.{◌≡◌, ◌<◌, List, length, Some, Option, IsSome, option_map, set, refl, sym, ◌∙◌, ap, subst, arith}
+use Rattle.node_list.specs.declared.node.Node.{Node}
+use Rattle.node_list.specs.declared.front.Front.{Front}
+use Rattle.slab.specs.Slab.{Slab, get}
+use Rattle.node_list.specs.declared.node.Item.{Item}
+use Rattle.node_list.specs.inside.Slots.{whole, node_in, nodes_of}
+use Rattle.node_list.specs.inside.NodeLending.{node_with, nodes_with}
+use Rattle.node_list.specs.inside.SlotLending.{slot_with}
+use Rattle.node_list.proofs.SlotLaws.{has-front, front-at, node-is, read, nodes-slot, whole-with}
+use Rattle.node_list.proofs.nodes.Nodes.chain_mut.Goals as goal
+
+pub index_mut-requires : goal.index_mut-requires
+index_mut-requires c =
+    let O : Option Node → Type 0 = λ o. IsSome o in
+    let get_is = ap (λ (v : Slab Node). get v c.args.at) c.self.view_is ∙ c.requires.is in
+    let some = subst O (sym get_is) refl in
+    omega (arith, c.self.invariant.within c.args.at (has-front c.self.inside.nodes c.self.inside.items.items c.args.at some), c.self.inside.items.ok.0)
+
+pub chain_mut-requires : goal.chain_mut-requires
+chain_mut-requires c =
+    let O : Option Node → Type 0 = λ o. IsSome o in
+    let get_is = ap (λ (v : Slab Node). get v c.args.at) c.self.view_is ∙ c.requires.is in
+    let some = subst O (sym get_is) refl in
+    let f = front-at c.self.inside.nodes c.self.inside.items.items c.args.at some in
+    let inside : c.args.at < length c.self.inside.items.items = c.self.invariant.within c.args.at (has-front c.self.inside.nodes c.self.inside.items.items c.args.at some) in
+    let p = node-is c.self.inside.nodes c.self.inside.items.items c.args.at f.0 c.index_mut.result.now f.1 (read c.self.inside.items.items c.args.at c.index_mut.result.now inside c.index_mut.ensures.value) in
+    let I : Option Item → Type 0 = λ o. IsSome o in
+    let same : whole f.0 c.index_mut.result.now ≡ c.requires.node = cc (p, get_is) in
+    subst I (sym (ap (λ (n : Node). n.item) same)) c.requires.has
+
+pub returns : goal.returns
+returns c =
+    let O : Option Node → Type 0 = λ o. IsSome o in
+    let get_is = ap (λ (v : Slab Node). get v c.args.at) c.self.view_is ∙ c.requires.is in
+    let some = subst O (sym get_is) refl in
+    let f = front-at c.self.inside.nodes c.self.inside.items.items c.args.at some in
+    let inside : c.args.at < length c.self.inside.items.items = c.self.invariant.within c.args.at (has-front c.self.inside.nodes c.self.inside.items.items c.args.at some) in
+    let p = node-is c.self.inside.nodes c.self.inside.items.items c.args.at f.0 c.index_mut.result.now f.1 (read c.self.inside.items.items c.args.at c.index_mut.result.now inside c.index_mut.ensures.value) in (
+      (
+        refl,
+        λ w.
+            ap (λ (zs : List (Option Node)). let z : Slab Node = record { slots = zs; vacant_key = c.self.inside.nodes.vacant_key; capacity = c.self.inside.nodes.capacity } in z)
+            (nodes-slot c.self.inside.nodes.slots c.self.inside.items.items c.args.at (slot_with c.index_mut.result.now w) inside
+            ∙ (ap (λ (o : Option Front). set (nodes_of c.self.inside.nodes.slots c.self.inside.items.items) c.args.at (node_in o (slot_with c.index_mut.result.now w))) f.1
+            ∙ (ap (λ (n : Node). set (nodes_of c.self.inside.nodes.slots c.self.inside.items.items) c.args.at (Some n)) (whole-with f.0 c.index_mut.result.now w)
+            ∙ ap (λ (o : Option Node). set (nodes_of c.self.inside.nodes.slots c.self.inside.items.items) c.args.at (option_map (λ (n : Node). node_with n w) o)) (sym p))))
+            ∙ ap (λ (v : Slab Node). nodes_with c.args.at w v) c.self.view_is,
+      ),
+      record {
+        lends = tt;
+        value = record {
+          node = whole f.0 c.index_mut.result.now;
+          is = sym (ap (λ (v : Slab Node). get v c.args.at) c.self.view_is) ∙ p;
+          chain = c.chain_mut.ensures.value;
+        };
+      },
+    )

@@ -1,0 +1,63 @@
+-- How nodes lie in two arrays: their fronts in a slab, and what else they have beside it.
+use Rattle.std.specs.Prelude.{◌≡◌, ◌≤◌, ◌<◌, ℕ, List, [], ◌∷◌, length, Option, Some, None, IsSome, option_map}
+use Rattle.slab.specs.Slab.{Slab, get, with_value}
+use Rattle.ets_term.specs.declared.term.Term.{Term}
+use Rattle.node_list.specs.declared.node.Item.{Item}
+use Rattle.node_list.specs.declared.node.Node.{Node}
+use Rattle.node_list.specs.declared.front.Front.{Front}
+use Rattle.node_list.specs.declared.slot.Slot.{Slot}
+use Rattle.node_list.specs.declared.slot.Slot.TheVariants.{Dummy, Full}
+
+-- the item of a slot, if it has one
+abbrev pub item_in : Slot → Option Item
+item_in Dummy = None
+item_in (Full item) = Some item
+
+abbrev pub slot_of : Option Item → Slot
+slot_of None = Dummy
+slot_of (Some item) = Full item
+
+-- the node of a front and what stands beside it
+abbrev pub whole : Front → Slot → Node
+whole f s = record { key = f.key; next = f.next; item = item_in s }
+
+-- a place has a node where the slab has a front
+abbrev pub node_in : Option Front → Slot → Option Node
+node_in None s = None
+node_in (Some f) s = Some (whole f s)
+
+-- the slab's places with what stands beside them
+abbrev pub nodes_of : List (Option Front) → List Slot → List (Option Node)
+nodes_of [] ss = []
+nodes_of (o ∷ os) [] = node_in o Dummy ∷ nodes_of os []
+nodes_of (o ∷ os) (s ∷ ss) = node_in o s ∷ nodes_of os ss
+
+-- whatever place the slab gives out has a slot, and so has every place with a node
+pub record AreNodes (nodes : Slab Front) (ss : List Slot) : Type 0 where
+  pub room : nodes.capacity ≤ length ss
+  pub within : (k : ℕ) → IsSome (get nodes k) → k < length ss
+
+-- the node at a place has this key and this link
+pub record ShowsFront (s : Slab Node) (at : ℕ) (f : Front) : Type 0 where
+  pub node : Node
+  pub is : get s at ≡ Some node
+  pub key : node.key ≡ f.key
+  pub next : node.next ≡ f.next
+
+-- the node at a place has another link, and nothing else has changed
+pub record Relinks (old new : Slab Node) (at : ℕ) (next : Option ℕ) : Type 0 where
+  pub node : Node
+  pub was : get old at ≡ Some node
+  pub now : new ≡ with_value old at (record node { next = next })
+
+-- the node at a place is an item
+pub record HasItemIn (s : Slab Node) (at : ℕ) : Type 0 where
+  pub node : Node
+  pub is : get s at ≡ Some node
+  pub has : IsSome node.item
+
+-- the node at a place is an item with this chain
+pub record ShowsChain (s : Slab Node) (at : ℕ) (w : List Term) : Type 0 where
+  pub node : Node
+  pub is : get s at ≡ Some node
+  pub chain : option_map (λ (i : Item). i.chain) node.item ≡ Some w

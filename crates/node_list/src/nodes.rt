@@ -1,0 +1,175 @@
+ghost use Rattle.std.specs.Prelude.{◌≡◌, ◌+◌, ◌<◌, ◌≤◌, ◌-◌, ◌^◌, [], Some, None, IsOk, OnOk};
+ghost use Rattle.std.specs.Borrow.{sem};
+ghost use Rattle.slab.specs.Slab.{get, slab_len, ContainsKey, HasRoomFor, Updates};
+ghost use Rattle.node_list.specs.inside.Slots.{ShowsFront, ShowsChain, Relinks, HasItemIn};
+ghost use Rattle.node_list.specs.inside.Seen.{seen_node};
+ghost use Rattle.node_list.specs.inside.NodeLending.{LendsChainIn};
+
+use crate::chain::Chain;
+use crate::front::Front;
+use crate::link::Link;
+use crate::node::{Item, Node};
+use crate::slot::Slot;
+use slab::Slab;
+use std::alloc::{AllocError, Global};
+use std::marker::Model;
+use std::mem;
+
+/// A node as a search sees it.
+#[derive(Clone, Copy)]
+pub struct Seen<'a> {
+    pub front: Front,
+    pub slot: &'a Slot,
+}
+
+/// Nodes by place, in a slab of fronts with the items beside it: a search that passes a node touches its front alone. A
+/// contract sees them as a slab of whole nodes.
+#[derive(Drop)]
+pub struct Nodes {
+    nodes: Slab<Front>,
+    // As many as the slab can hold, or more. A place with no node has a dummy.
+    items: Vec<Slot>,
+}
+
+impl Model for Nodes {
+    ghost use Rattle.slab.specs.Slab.{Slab as Slots, slab_code};
+    ghost use Rattle.node_list.specs.declared.node.Node.{Node};
+    ghost use Rattle.node_list.specs.contracts.node.Node as node;
+
+    ghost Value = { Slots Node };
+
+    ghost coded = { slab_code node.the_row.coded };
+
+    ghost use Rattle.node_list.specs.inside.Slots.{nodes_of, AreNodes};
+
+    ghost view = { λ s. record {
+      slots = nodes_of s.nodes.slots s.items.items;
+      vacant_key = s.nodes.vacant_key;
+      capacity = s.nodes.capacity;
+    } };
+
+    ghost invariant = { λ s. AreNodes s.nodes s.items.items };
+}
+
+impl Nodes {
+    pub fn new(alloc: Global) -> Nodes
+        ensures empty { result.slots ≡ [] }
+        ensures first { result.vacant_key ≡ 0 }
+    {
+        Nodes {
+            nodes: Slab::new(alloc),
+            items: Vec::new(alloc),
+        }
+    }
+
+    /// Makes room for so many nodes more.
+    pub fn reserve(&mut self, additional: usize) -> Result<(), AllocError>
+        ensures room { OnOk result (HasRoomFor self.new additional) }
+        ensures succeeds { HasRoomFor self.old additional → IsOk result }
+        ensures capacity { self.old.capacity ≤ self.new.capacity }
+        ensures rest_kept { self.new ≡ record self.old { capacity = self.new.capacity } }
+    {
+        let len = self.nodes.len();
+        if self.nodes.capacity() - len >= additional {
+            return Ok(());
+        }
+        // The items have to be as many as the slab can hold, and may fail to be: so it is a copy that grows.
+        let mut nodes = self.nodes.clone()?;
+        let quarter = len / 4;
+        let more = if additional < quarter {
+            quarter
+        } else {
+            additional
+        };
+        nodes.reserve_exact(more)?;
+        let places = nodes.capacity();
+        let had = self.items.len();
+        if had < places {
+            self.items.reserve_exact(places - had)?;
+            self.items.resize_with(places, || Slot::Dummy)?;
+        }
+        self.nodes = nodes;
+        Ok(())
+    }
+
+    /// Puts a node at a vacant place.
+    pub fn insert_reserved(&mut self, node: Node) -> usize
+        requires { HasRoomFor self.old 1 }
+        ensures key { result ≡ self.old.vacant_key }
+        ensures was_vacant { get self.old result ≡ None }
+        ensures updates { Updates self.old self.new result (Some node) }
+        ensures len { slab_len self.new ≡ slab_len self.old + 1 }
+        ensures in_range { result < 2 ^ 64 - 1 }
+        ensures capacity { self.new.capacity ≡ self.old.capacity }
+    {
+        let Node { key, next, item } = node;
+        let at = self.nodes.insert_reserved(Front { key, next });
+        self.items[at] = Slot::new(item);
+        at
+    }
+
+    /// Takes the node at a place out, and gives the place back.
+    pub fn remove(&mut self, at: usize) -> Node
+        requires { ContainsKey self.old at }
+        ensures value { get self.old at ≡ Some result }
+        ensures updates { Updates self.old self.new at None }
+        ensures len { slab_len self.new + 1 ≡ slab_len self.old }
+        ensures capacity { self.new.capacity ≡ self.old.capacity }
+    {
+        let Front { key, next } = self.nodes.remove(at);
+        let slot = mem::replace(&mut self.items[at], Slot::Dummy);
+        Node {
+            key,
+            next,
+            item: slot.into_item(),
+        }
+    }
+
+    pub fn front(&self, at: usize) -> Front
+        requires { ContainsKey self.now at }
+        ensures { ShowsFront self.now at result }
+    {
+        self.nodes[at]
+    }
+
+    /// A node for a search, which looks at the item where it has to.
+    pub fn see(&self, at: usize) -> Seen<'_>
+        requires { ContainsKey self.now at }
+        ensures { get self.now at ≡ Some (seen_node result) }
+    {
+        Seen {
+            front: self.nodes[at],
+            slot: &self.items[at],
+        }
+    }
+
+    pub fn len(&self) -> usize
+        ensures value { result ≡ slab_len self.now }
+        ensures few { result < 2 ^ 64 - 1 }
+    {
+        let _capacity = self.nodes.capacity();
+        let _places = self.items.capacity();
+        self.nodes.len()
+    }
+
+    #[cfg(test)]
+    pub fn front_at(&self, at: usize) -> Option<Front> {
+        self.nodes.get(at).copied()
+    }
+
+    /// Changes the link of the node at a place.
+    pub fn set_next(&mut self, at: usize, next: Link)
+        requires { ContainsKey self.old at }
+        ensures { Relinks self.old self.new at next }
+    {
+        self.nodes[at].next = next;
+    }
+
+    pub fn chain_mut(&mut self, at: usize) -> &mut Chain
+        requires { HasItemIn self.old at }
+        ensures* lends { sem 𝓛 (LendsChainIn at self.entry result) }
+        ensures value { ShowsChain self.old at result.now }
+    {
+        self.items[at].chain_mut()
+    }
+}

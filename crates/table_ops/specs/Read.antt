@@ -1,0 +1,26 @@
+-- What the calls that change nothing answer (stdlib manual, module ets, lookup_element/3 and tab2list/1).
+use Rattle.std.specs.Prelude.{ℕ, List, [], ◌∷◌, ◌++◌, Option, Some, None, option_map}
+use Rattle.std.specs.Option.{option_and_then}
+use Rattle.ets_term.specs.declared.term.Term.{Term}
+use Rattle.ets_term.specs.declared.term.Term.TheVariants.{List as list_term}
+use Rattle.ets_term.specs.Depth.{element_at}
+use Rattle.bucket_table.specs.Slots.{Slot}
+use Rattle.table_ops.specs.declared.kind.Kind.{Kind}
+use Rattle.table_ops.specs.declared.kind.Kind.TheVariants.{Set, Bag, DuplicateBag}
+
+-- all objects, in the order of the slots, and of a slot oldest first
+abbrev pub all_objects : List Slot → List Term
+all_objects [] = []
+all_objects (slot ∷ slots) = slot.1 ++ all_objects slots
+
+-- the elements at a position of tuples; None where one of them has none there
+abbrev pub elements_at : ℕ → List Term → Option (List Term)
+elements_at position [] = Some []
+elements_at position (object ∷ objects) = option_and_then (λ element. option_map (λ others. element ∷ others) (elements_at position objects)) (element_at position object)
+
+-- lookup_element(Table, Key, Position), by the objects of the key: of a set the element, of a bag the list of them; None is badarg
+abbrev pub element_told : Kind → ℕ → List Term → Option Term
+element_told kind position [] = None
+element_told Set position (object ∷ objects) = element_at position object
+element_told Bag position (object ∷ objects) = option_map list_term (elements_at position (object ∷ objects))
+element_told DuplicateBag position (object ∷ objects) = option_map list_term (elements_at position (object ∷ objects))

@@ -1,0 +1,4 @@
+pub mod Codes
+pub mod Counted
+pub mod Thinned
+pub mod Undo

@@ -1,0 +1,52 @@
+ghost use Rattle.std.specs.Prelude.{◌≡◌, option_copied};
+ghost use Rattle.std.specs.List.{list_any, list_all};
+ghost use Rattle.ets_term.specs.Depth.{is_too_deep};
+ghost use Rattle.ets_term.specs.Order.{same};
+ghost use Rattle.table_ops.specs.Content.{key_of, is_object};
+
+use ets_term::Term;
+
+
+/// The key of an object of a table with this keypos: a tuple's element at keypos, if that is not the atom
+/// `'$end_of_table'`. None where the term is no object.
+pub fn key_of(keypos: u32, object: &Term) -> Option<&Term>
+    ensures { option_copied result ≡ key_of keypos object.now }
+{
+    let key = object.element(keypos as usize)?;
+    if key.is_atom("$end_of_table") {
+        None
+    } else {
+        Some(key)
+    }
+}
+
+/// Whether a term is an object of a table with this keypos.
+fn is_object(keypos: u32, term: &Term) -> bool
+    ensures { result ≡ is_object keypos term.now }
+{
+    match key_of(keypos, term) {
+        Some(_) => true,
+        None => false,
+    }
+}
+
+/// Whether each of these terms is an object of a table with this keypos.
+pub fn are_objects(keypos: u32, terms: &[Term]) -> bool
+    ensures { result ≡ list_all (is_object keypos) terms.now }
+{
+    terms.iter().all(|term| is_object(keypos, term))
+}
+
+/// Whether one of these terms is too deep to be stored.
+pub fn any_too_deep(terms: &[Term]) -> bool
+    ensures { result ≡ list_any is_too_deep terms.now }
+{
+    terms.iter().any(|term| term.is_too_deep())
+}
+
+/// Whether an object is among others.
+pub fn has(objects: &[Term], object: &Term) -> bool
+    ensures { result ≡ list_any (same object.now) objects.now }
+{
+    objects.iter().any(|other| object == other)
+}

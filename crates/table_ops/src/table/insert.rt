@@ -1,0 +1,82 @@
+ghost use Rattle.std.specs.Prelude.{◌≡◌, true};
+ghost use Rattle.std.specs.List.{list_all, list_any};
+ghost use Rattle.table_ops.specs.Content.{is_object};
+ghost use Rattle.table_ops.specs.Put.{is_taken, Inserts, InsertsNew, Stores};
+ghost use Rattle.table_ops.specs.Refusals.{Comes};
+
+use super::Table;
+use crate::object::{any_too_deep, are_objects, key_of};
+use crate::put_all::put_list;
+use crate::refusal::Refusal;
+use bucket_table::Rows;
+use ets_term::Term;
+
+impl<R: Rows> Table<R> {
+    /// Inserts objects one after another, or none of them where one is refused (stdlib manual, ets:insert/2). `Badarg`
+    /// where one is no object; `SystemLimit` where one is too deep, or where the table would have more objects than
+    /// it may.
+    pub fn insert(&mut self, objects: &[Term]) -> Result<(), Refusal>
+        ensures content { Comes (Inserts objects.now self.old.content) self.old.content result self.new.content }
+        ensures buckets { self.new.buckets ≡ self.old.buckets }
+    {
+        if !are_objects(self.keypos, objects) {
+            return Err(Refusal::Badarg);
+        }
+        self.store(objects, ())
+    }
+
+    /// Inserts objects if none of their keys has an object; answers whether it did (stdlib manual, ets:insert_new/2).
+    /// It refuses what `insert` does, a limit only where it would insert.
+    pub fn insert_new(&mut self, objects: &[Term]) -> Result<bool, Refusal>
+        ensures content { Comes (InsertsNew objects.now self.old.content) self.old.content result self.new.content }
+        ensures buckets { self.new.buckets ≡ self.old.buckets }
+    {
+        if !are_objects(self.keypos, objects) {
+            return Err(Refusal::Badarg);
+        }
+        if self.any_taken(objects) {
+            return Ok(false);
+        }
+        self.store(objects, true)
+    }
+
+    /// Whether the key of an object has objects.
+    fn is_taken(&self, object: &Term) -> bool
+        ensures { result ≡ is_taken self.now.content.keypos self.now.content.slots object.now }
+    {
+        match key_of(self.keypos, object) {
+            Some(key) => self.member(key),
+            None => false,
+        }
+    }
+
+    /// Whether the key of one of these objects has objects.
+    fn any_taken(&self, objects: &[Term]) -> bool
+        ensures { result ≡ list_any (is_taken self.now.content.keypos self.now.content.slots) objects.now }
+    {
+        objects.iter().any(|object| self.is_taken(object))
+    }
+
+    /// Stores objects one after another, or none of them; answers `done` once they are stored.
+    fn store<X: Copy>(&mut self, objects: &[Term], done: X) -> Result<X, Refusal>
+        requires { list_all (is_object self.old.content.keypos) objects.now ≡ true }
+        ensures content { Comes (Stores done objects.now self.old.content) self.old.content result self.new.content }
+        ensures buckets { self.new.buckets ≡ self.old.buckets }
+    {
+        if any_too_deep(objects) {
+            return Err(Refusal::SystemLimit);
+        }
+        let limit = self.limit as usize;
+        let count = put_list(
+            self.alloc,
+            &mut self.rows,
+            self.kind,
+            self.keypos,
+            limit,
+            self.count,
+            objects,
+        )?;
+        self.count = count;
+        Ok(done)
+    }
+}

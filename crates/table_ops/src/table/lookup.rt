@@ -1,0 +1,96 @@
+ghost use Rattle.std.specs.Prelude.{◌≡◌, ◌++◌, IfOk, OnOk};
+ghost use Rattle.table_ops.specs.declared.kind.Kind.TheVariants.{Set, Bag};
+ghost use Rattle.table_ops.specs.Content.{objects_under, is_present};
+ghost use Rattle.table_ops.specs.Read.{all_objects, element_told};
+ghost use Rattle.table_ops.specs.Refusals.{Tells};
+
+use super::Table;
+use crate::kind::Kind;
+use crate::refusal::Refusal;
+use bucket_table::Rows;
+use ets_term::{Items, Term};
+use std::alloc::{AllocError, Global};
+
+impl<R: Rows> Table<R> {
+    /// The objects of a key, oldest first (stdlib manual, ets:lookup/2).
+    pub fn lookup(&self, key: &Term) -> &[Term]
+        ensures { result.now ≡ objects_under self.now.content.slots key.now }
+    {
+        match self.rows.get(key) {
+            Some(objects) => objects,
+            None => &[],
+        }
+    }
+
+    /// Whether a key has an object (stdlib manual, ets:member/2).
+    pub fn member(&self, key: &Term) -> bool
+        ensures { result ≡ is_present self.now.content.slots key.now }
+    {
+        !self.lookup(key).is_empty()
+    }
+
+    /// The element at a position of a key's object, or in a bag the list of these of all its objects, copied. `Badarg`
+    /// where the key has no object, or one of them no such element (stdlib manual, ets:lookup_element/3).
+    pub fn lookup_element(&self, key: &Term, position: usize) -> Result<Term, Refusal>
+        ensures { Tells (element_told self.now.content.kind position (objects_under self.now.content.slots key.now)) result }
+    {
+        let objects = self.lookup(key);
+        match self.kind {
+            Kind::Set => first_element(self.alloc, objects, position),
+            _ => elements(self.alloc, objects, position),
+        }
+    }
+
+    /// All objects, copied, in the order of the slots (stdlib manual, ets:tab2list/1).
+    pub fn objects(&self) -> Result<Items<Term>, AllocError>
+        ensures { IfOk result (λ objects. objects ≡ all_objects self.now.content.slots) }
+    {
+        let mut copies = Vec::with_capacity(self.alloc, self.count)?;
+        self.rows.known();
+        let mut at = self.rows.first_at();
+        for _ in 0..self.rows.len() {
+            let Some((key, objects)) = at else {
+                unreachable!()
+            };
+            copy_behind(self.alloc, &mut copies, objects)?;
+            at = self.rows.next_at(key).flatten();
+        }
+        Ok(Items::from_vec(copies))
+    }
+}
+
+/// The element at a position of the first object.
+fn first_element(alloc: Global, objects: &[Term], position: usize) -> Result<Term, Refusal>
+    ensures { Tells (element_told Set position objects.now) result }
+{
+    let object = objects.first().ok_or(Refusal::Badarg)?;
+    let element = object.element(position).ok_or(Refusal::Badarg)?;
+    Ok(element.try_clone(alloc)?)
+}
+
+/// The elements at a position of all objects, of which there is one at least.
+fn elements(alloc: Global, objects: &[Term], position: usize) -> Result<Term, Refusal>
+    ensures { Tells (element_told Bag position objects.now) result }
+{
+    if objects.is_empty() {
+        return Err(Refusal::Badarg);
+    }
+    let mut copies = Vec::with_capacity(alloc, objects.len())?;
+    for object in objects {
+        let Some(element) = object.element(position) else {
+            return Err(Refusal::Badarg);
+        };
+        copies.push_reserved(element.try_clone(alloc)?);
+    }
+    Ok(Term::List(Items::from_vec(copies)))
+}
+
+/// Copies objects behind others.
+fn copy_behind(alloc: Global, copies: &mut Vec<Term>, objects: &[Term]) -> Result<(), AllocError>
+    ensures { OnOk result (copies.new.items ≡ copies.old.items ++ objects.now) }
+{
+    for object in objects {
+        copies.push(object.try_clone(alloc)?)?;
+    }
+    Ok(())
+}

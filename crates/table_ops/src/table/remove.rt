@@ -1,0 +1,93 @@
+ghost use Rattle.std.specs.Prelude.{◌≡◌, ◌≤◌, [], length, vec_capacity, IfOk, OnOk, OnErr};
+ghost use Rattle.bucket_table.specs.Slots.{purged};
+ghost use Rattle.table_ops.specs.Content.{objects_under};
+ghost use Rattle.table_ops.specs.Drop.{without_those, of_key, each, DeletesObject};
+
+use super::Table;
+use crate::object::key_of;
+use crate::refusal::Refusal;
+use crate::take::{take_at, take_object};
+use bucket_table::Rows;
+use ets_term::{Items, Term};
+use node_list::Chain;
+use std::alloc::{AllocError, Global};
+
+impl<R: Rows> Table<R> {
+    /// Deletes the objects of a key (stdlib manual, ets:delete/2). The slot stays, held, where slots are held.
+    pub fn delete_key(&mut self, key: &Term, hold: bool)
+        ensures content { self.new.content ≡ without_those hold (of_key key.now) self.old.content }
+        ensures buckets { self.new.buckets ≡ self.old.buckets }
+    {
+        self.rows.known();
+        let Some(place) = self.rows.find(key) else {
+            return;
+        };
+        let objects = take_at(self.alloc, &mut self.rows, hold, place);
+        self.count -= objects.len();
+    }
+
+    /// Takes the objects of a key out, oldest first (stdlib manual, ets:take/2).
+    pub fn take(&mut self, key: &Term, hold: bool) -> Result<Items<Term>, AllocError>
+        ensures taken { IfOk result (λ objects. objects ≡ objects_under self.old.content.slots key.now) }
+        ensures content { OnOk result (self.new.content ≡ without_those hold (of_key key.now) self.old.content) }
+        ensures err { OnErr result (self.new.content ≡ self.old.content) }
+        ensures buckets { self.new.buckets ≡ self.old.buckets }
+    {
+        self.rows.known();
+        let Some(place) = self.rows.find(key) else {
+            return Ok(Items::new(self.alloc));
+        };
+        let count = self.rows.objects_at(place).len();
+        let room = Vec::with_capacity(self.alloc, count)?;
+        let objects = take_at(self.alloc, &mut self.rows, hold, place);
+        self.count -= count;
+        Ok(unchained(room, objects))
+    }
+
+    /// Deletes every instance of an object (stdlib manual, ets:delete_object/2). `Badarg` where the term is no object.
+    pub fn delete_object(&mut self, object: &Term, hold: bool) -> Result<(), Refusal>
+        ensures content { DeletesObject hold object.now self.old.content result self.new.content }
+        ensures buckets { self.new.buckets ≡ self.old.buckets }
+    {
+        let Some(key) = key_of(self.keypos, object) else {
+            return Err(Refusal::Badarg);
+        };
+        self.rows.known();
+        let Some(place) = self.rows.find(key) else {
+            return Ok(());
+        };
+        let count = take_object(self.alloc, &mut self.rows, hold, place, object);
+        self.count -= count;
+        Ok(())
+    }
+
+    /// Deletes all objects (stdlib manual, ets:delete_all_objects/1).
+    pub fn delete_all(&mut self, hold: bool)
+        ensures content { self.new.content ≡ without_those hold each self.old.content }
+        ensures buckets { self.new.buckets ≡ self.old.buckets }
+    {
+        self.rows.clear(hold);
+        self.count = 0;
+    }
+
+    /// Drops the held slots.
+    pub fn purge(&mut self)
+        ensures content { self.new.content ≡ record self.old.content { slots = purged self.old.content.slots } }
+        ensures buckets { self.new.buckets ≡ self.old.buckets }
+    {
+        self.rows.purge();
+    }
+}
+
+/// The objects of a chain, moved into the room that was made for them.
+fn unchained(mut room: Vec<Term>, mut chain: Chain) -> Items<Term>
+    requires empty { room.items ≡ [] }
+    requires fits { length chain ≤ vec_capacity room }
+    ensures { result ≡ chain }
+{
+    while let Some(object) = chain.pop() {
+        room.push_reserved(object);
+    }
+    room.reverse();
+    Items::from_vec(room)
+}
