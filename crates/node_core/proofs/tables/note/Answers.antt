@@ -1,4 +1,4 @@
-use Rattle.std.proofs.Common.{◌≡◌, Some, refl, sym, ap, ◌∙◌, true, None}
+use Rattle.std.proofs.Common.{◌≡◌, Some, sym, ap, ◌∙◌, true}
 use Rattle.std.specs.String.{string_bytes}
 use Rattle.std.proofs.lemmas.Result.{err_from_is_err_and}
 use Rattle.std.proofs.lemmas.Map.Text.{hash_map_updates_text}

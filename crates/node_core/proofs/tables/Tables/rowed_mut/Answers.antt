@@ -1,4 +1,4 @@
-use Rattle.std.proofs.Common.{◌≡◌, ◌<◌, Option, None, Some, inl, option_map, sym, ap, subst, ◌∙◌, length, arith, set}
+use Rattle.std.proofs.Common.{◌≡◌, ◌<◌, Option, None, Some, inl, option_map, sym, ap, subst, ◌∙◌, length, arith}
 use Rattle.std.specs.Prelude.{Contains}
 use Rattle.std.proofs.Math.ListN.{length-set}
 use Rattle.std.proofs.lemmas.Option.{same_Some}
