@@ -1,6 +1,5 @@
+pub mod Arguments
 pub mod Positions
-pub mod Refusals
-pub mod PlainTables
 pub mod Indices
 pub mod Owners
 pub mod Contents

@@ -9,11 +9,12 @@ use Rattle.node_core.specs.declared.head.Protection.TheVariants.{Public, Protect
 use Rattle.node_core.specs.declared.head.Head.{Head}
 use Rattle.node_core.specs.declared.node.access.Access.{Access}
 use Rattle.node_core.specs.declared.node.access.Access.TheVariants.{Read, Write}
-use Rattle.node_core.specs.declared.refusal.Refusal.{Refusal}
-use Rattle.node_core.specs.declared.refusal.Refusal.TheVariants as refusal
+use Rattle.table_ops.specs.declared.refusal.Refusal.{Refusal}
+use Rattle.table_ops.specs.declared.refusal.Refusal.TheVariants as refusal
+use Rattle.table_ops.specs.Content.{Content}
+use Rattle.table_ops.specs.Refusals.{Change}
 use Rattle.node_core.specs.declared.step.Reply.{Reply}
 use Rattle.node_core.specs.declared.step.Reply.TheVariants.{Badarg, SystemLimit}
-use Rattle.node_core.specs.Content.{Content, Change}
 use Rattle.node_core.specs.State.{Table, Tables, table_at, State, Outcome, gives}
 
 -- whether a table is there and is named so
@@ -86,7 +87,7 @@ abbrev pub Rule : Type 1
 Rule = Content → Reply → Content → Type 0
 
 -- the change, with its answer as a reply
-abbrev pub replies : {X : Type 0} → (X → Reply) → (Content → Change X) → Rule
+abbrev pub replies : {X : Type 0} → (X → Reply) → (Content → Change X Content) → Rule
 replies {X = X} answer change old reply new = (result : Result X Refusal) × change old result new × IsReply answer result reply
 
 module _ (old : State) (p : ℕ) where

@@ -6,8 +6,9 @@ use Rattle.ets_term.specs.declared.term.Term.{Term}
 use Rattle.node_core.specs.declared.step.Reply.TheVariants.{Badarg}
 use Rattle.node_core.specs.State.{State, Outcome, gives}
 use Rattle.node_core.specs.Access.{reads, writes}
-use Rattle.node_core.specs.rules.Insertion.{Insert}
-use Rattle.node_core.specs.rules.Reading.{Lookup}
+use Rattle.node_core.specs.rules.Insertion.{Insert, InsertNew}
+use Rattle.node_core.specs.rules.Reading.{Lookup, Member, LookupElement, Tab2list}
+use Rattle.node_core.specs.rules.Removal.{Take, Delete, DeleteObject, DeleteAllObjects}
 use Rattle.node_core.specs.rules.Tables.{New}
 
 -- where the call has this name, this rule; else what follows
@@ -15,6 +16,12 @@ abbrev pub called : List ℕ → List ℕ → Outcome → Outcome → Outcome
 called name own rule otherwise reply new = MatchBool (bytes_eq name own) (rule reply new) (otherwise reply new)
 
 module _ (old : State) (p : ℕ) where
+  abbrev pub calls_of_one : List ℕ → Term → Outcome
+  calls_of_one name x =
+      called name (codes "tab2list") (reads old p x Tab2list) (
+      called name (codes "delete_all_objects") (writes old p x DeleteAllObjects) (
+      gives Badarg old))
+
   -- calls of two arguments on tables
   abbrev pub table_calls_of_two : List ℕ → Term → Term → Outcome
   table_calls_of_two name x y =
@@ -24,11 +31,23 @@ module _ (old : State) (p : ℕ) where
   -- calls of two arguments on objects
   abbrev pub object_calls_of_two : List ℕ → Term → Term → Outcome → Outcome
   object_calls_of_two name x y others =
-      called name (codes "insert") (writes old p x (Insert old.limits.objects y)) (
+      called name (codes "insert") (writes old p x (Insert y)) (
+      called name (codes "insert_new") (writes old p x (InsertNew y)) (
       called name (codes "lookup") (reads old p x (Lookup y)) (
-      others))
+      called name (codes "member") (reads old p x (Member y)) (
+      called name (codes "take") (writes old p x (Take y)) (
+      called name (codes "delete") (writes old p x (Delete y)) (
+      called name (codes "delete_object") (writes old p x (DeleteObject y)) (
+      others)))))))
+
+  abbrev pub calls_of_three : List ℕ → Term → Term → Term → Outcome
+  calls_of_three name x y z =
+      called name (codes "lookup_element") (reads old p x (LookupElement y z)) (
+      gives Badarg old)
 
   -- any call; what is in no table is badarg
   abbrev pub call : List ℕ → List Term → Outcome
+  call name (x ∷ []) = calls_of_one name x
   call name (x ∷ y ∷ []) = object_calls_of_two name x y (table_calls_of_two name x y)
+  call name (x ∷ y ∷ z ∷ []) = calls_of_three name x y z
   call name _ = gives Badarg old

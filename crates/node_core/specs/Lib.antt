@@ -1,5 +1,5 @@
-pub mod Content
 pub mod State
+pub mod Positions
 pub mod Options
 pub mod Access
 pub mod rules

@@ -9,7 +9,7 @@ use Rattle.node_core.specs.declared.step.Step.TheVariants.{Enrol, End, Ask, Grow
 use Rattle.node_core.specs.declared.step.Reply.{Reply}
 use Rattle.node_core.specs.declared.step.Reply.TheVariants.{Value, Badarg, SystemLimit, NoProcess}
 use Rattle.node_core.specs.State.{Table, table_at, State, process_at, lives, Outcome, gives, refuse}
-use Rattle.node_core.specs.rules.Insertion.{true_reply}
+use Rattle.node_core.specs.rules.Replies.{true_reply}
 use Rattle.node_core.specs.Calls.{call}
 
 -- what the end of a process leaves of a table: nothing of its own

@@ -9,7 +9,7 @@ use Rattle.ets_term.specs.declared.term.Term.{Term}
 use Rattle.node_core.specs.declared.head.Head.{Head}
 use Rattle.node_core.specs.declared.limits.Limits.{Limits}
 use Rattle.node_core.specs.declared.step.Reply.{Reply}
-use Rattle.node_core.specs.Content.{Content}
+use Rattle.table_ops.specs.Content.{Content}
 
 -- a content with how often each process has fixed it; a process that is not among the fixes has none
 pub record Fixed : Type 0 where

@@ -1,5 +1,4 @@
 pub mod Codes
 pub mod Indices
 pub mod Lending
-pub mod PlainTable
 pub mod Refusals

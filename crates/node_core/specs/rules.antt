@@ -1,3 +1,5 @@
 pub mod Insertion
 pub mod Reading
+pub mod Removal
+pub mod Replies
 pub mod Tables

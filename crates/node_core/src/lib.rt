@@ -12,13 +12,11 @@
 #![tactic(auto)]
 
 mod head;
-mod kind;
 mod limits;
 mod node;
 mod options;
-mod plain_table;
+mod position;
 mod process;
-mod refusal;
 mod step;
 mod table;
 mod tables;

@@ -9,6 +9,7 @@ mod growth;
 mod insertion;
 mod processes;
 mod reading;
+mod removal;
 mod replies;
 mod table_of_calls;
 mod tables;
@@ -88,7 +89,7 @@ impl<H: KeyHash + Copy> Node<H> {
             Step::Enrol(pid) => self.enrol(*pid),
             Step::End(pid) => self.end(*pid),
             Step::Ask(pid, call) => self.ask(*pid, call),
-            Step::Grow(id) | Step::Ready(id, _) => self.growth(*id),
+            Step::Grow(id) | Step::Ready(id, _) => Ok(self.growth(*id)),
         }
     }
 

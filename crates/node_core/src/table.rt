@@ -3,14 +3,17 @@ ghost use Rattle.std.specs.Borrow.{sem};
 ghost use Rattle.std.specs.FinMap as map;
 
 use crate::head::Head;
-use crate::plain_table::PlainTable;
+use bucket_table::{PlainRows, Rows};
 use std::marker::Model;
+
+/// The objects of one table.
+pub type Rowed = table_ops::Table<PlainRows>;
 
 /// A table and what stands over it. No process has fixed it.
 #[derive(Drop)]
 pub struct Table {
     head: Head,
-    content: PlainTable,
+    rowed: Rowed,
 }
 
 impl Model for Table {
@@ -22,16 +25,16 @@ impl Model for Table {
 
     ghost coded = { table_code };
 
-    ghost view = { λ t. record { head = t.head; fixed = record { content = t.content; fixes = map.empty } } };
+    ghost view = { λ t. record { head = t.head; fixed = record { content = t.rowed.content; fixes = map.empty } } };
 }
 
 impl Table {
     ghost use Rattle.node_core.specs.inside.Lending.{LendsContent};
 
-    pub fn new(head: Head, content: PlainTable) -> Table
-        ensures { result ≡ record { head = head; fixed = record { content = content; fixes = map.empty } } }
+    pub fn new(head: Head, rowed: Rowed) -> Table
+        ensures { result ≡ record { head = head; fixed = record { content = rowed.content; fixes = map.empty } } }
     {
-        Table { head, content }
+        Table { head, rowed }
     }
 
     pub fn head(&self) -> &Head
@@ -40,16 +43,16 @@ impl Table {
         &self.head
     }
 
-    pub fn content(&self) -> &PlainTable
-        ensures { result.now ≡ self.now.fixed.content }
+    pub fn rowed(&self) -> &Rowed
+        ensures { result.now.content ≡ self.now.fixed.content }
     {
-        &self.content
+        &self.rowed
     }
 
-    pub fn content_mut(&mut self) -> &mut PlainTable
-        ensures* lends { sem 𝓛 (LendsContent self.entry result) }
-        ensures value { result.now ≡ self.old.fixed.content }
+    pub fn rowed_mut(&mut self) -> &mut Rowed
+        ensures* lends { sem 𝓛 (LendsContent ⟦<PlainRows as Rows>⟧ self.entry result) }
+        ensures value { result.now.content ≡ self.old.fixed.content }
     {
-        &mut self.content
+        &mut self.rowed
     }
 }

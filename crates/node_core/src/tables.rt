@@ -9,8 +9,8 @@ ghost use Rattle.node_core.specs.Machine.{table_after_end};
 ghost use Rattle.node_core.specs.inside.Indices.{owned_by, AreAmong, AreIndexed, ByName};
 
 use crate::head::Head;
-use crate::plain_table::PlainTable;
-use crate::table::Table;
+use crate::table::{Rowed, Table};
+use bucket_table::{PlainRows, Rows};
 use ets_term::Term;
 use indexmap::IndexMap;
 use std::alloc::{AllocError, Global};
@@ -112,14 +112,14 @@ impl Tables {
         Ok(())
     }
 
-    /// The content of the table with this identifier, for a change of it alone.
-    pub fn content_mut(&mut self, id: u32) -> Option<&mut PlainTable>
-        ensures* lends { sem 𝓛 (LendsTable self.entry id result) }
-        ensures value { option_copied_mut result ≡ option_map (λ table. table.fixed.content) (table_at self.old id) }
+    /// The objects of the table with this identifier, for a change of them alone.
+    pub fn rowed_mut(&mut self, id: u32) -> Option<&mut Rowed>
+        ensures* lends { sem 𝓛 (LendsTable ⟦<PlainRows as Rows>⟧ self.entry id result) }
+        ensures value { option_map (λ t. t.content) (option_copied_mut result) ≡ option_map (λ table. table.fixed.content) (table_at self.old id) }
     {
         let place = self.places.get_mut(id as usize)?;
         let table = place.as_mut()?;
-        Some(table.content_mut())
+        Some(table.rowed_mut())
     }
 
     /// The tables of an owner go.

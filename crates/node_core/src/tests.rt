@@ -4,6 +4,7 @@ mod insertion;
 mod processes;
 mod reading;
 mod refused;
+mod removal;
 mod runs;
 mod tables;
 

@@ -5,20 +5,13 @@ use Rattle.std.specs.Ordering.{nat_cmp}
 use Rattle.std.specs.FinMap as map
 use Rattle.ets_term.specs.declared.term.Term.{Term}
 use Rattle.ets_term.specs.contracts.term.Term as term
-use Rattle.node_core.specs.declared.kind.Kind.{Kind}
-use Rattle.node_core.specs.contracts.kind.Kind as kind
+use Rattle.table_ops.specs.Content.{Content}
+use Rattle.table_ops.specs.inside.Codes.{content_code}
 use Rattle.node_core.specs.declared.head.Head.{Head}
 use Rattle.node_core.specs.contracts.head.Head as head
 use Rattle.node_core.specs.declared.limits.Limits.{Limits}
 use Rattle.node_core.specs.contracts.limits.Limits as limits
-use Rattle.node_core.specs.Content.{Slot, Content}
 use Rattle.node_core.specs.State.{Fixed, Table, Process, State}
-
-abbrev pub slots_code : Coded (List Slot)
-slots_code = coded_list (coded× term.the_row.coded (coded_list term.the_row.coded))
-
-abbrev pub content_code : Coded Content
-content_code = code_by (Kind × (ℕ × List Slot)) (coded× kind.the_row.coded (coded× coded_ℕ slots_code)) (λ c. (c.kind, (c.keypos, c.slots))) (λ p. record { kind = p.0; keypos = p.1.0; slots = p.1.1 }) (λ _. refl)
 
 abbrev pub fixed_code : Coded Fixed
 fixed_code = code_by (Content × map.FinMap nat_cmp ℕ) (coded× content_code (map.code coded_ℕ coded_ℕ)) (λ f. (f.content, f.fixes)) (λ p. record { content = p.0; fixes = p.1 }) (λ _. refl)

@@ -3,9 +3,8 @@ use Rattle.std.specs.Prelude.{◌≡◌, Result, Ok, Err}
 use Rattle.std.specs.declared.alloc.AllocError.{AllocError}
 use Rattle.node_core.specs.declared.step.Reply.{Reply}
 use Rattle.node_core.specs.declared.step.Reply.TheVariants.{Badarg, SystemLimit}
-use Rattle.node_core.specs.declared.refusal.Refusal.{Refusal}
-use Rattle.node_core.specs.declared.refusal.Refusal.TheVariants as refusal
-use Rattle.node_core.specs.Content.{Content, Change}
+use Rattle.table_ops.specs.declared.refusal.Refusal.{Refusal}
+use Rattle.table_ops.specs.declared.refusal.Refusal.TheVariants as refusal
 use Rattle.node_core.specs.State.{State, Outcome}
 
 -- an answer of the outcome, or a refusal of it; or no memory, and nothing has changed
@@ -14,13 +13,6 @@ Comes outcome old (Ok reply) new = outcome reply new
 Comes outcome old (Err refusal.Badarg) new = outcome Badarg new
 Comes outcome old (Err refusal.SystemLimit) new = outcome SystemLimit new
 Comes outcome old (Err refusal.Memory) new = new ≡ old
-
--- the same of a change of a content
-abbrev pub Changes : {X : Type 0} → (Content → Change X) → Content → Result X Refusal → Content → Type 0
-Changes change old (Ok x) new = change old (Ok x) new
-Changes change old (Err refusal.Badarg) new = change old (Err refusal.Badarg) new
-Changes change old (Err refusal.SystemLimit) new = change old (Err refusal.SystemLimit) new
-Changes change old (Err refusal.Memory) new = new ≡ old
 
 -- a refusal is told as its reply; want of memory stays an error
 abbrev pub Told : Result Reply Refusal → Result Reply AllocError → Type 0

@@ -1,16 +1,23 @@
--- Insertion (stdlib manual, module ets, insert/2).
-use Rattle.std.specs.Prelude.{ℕ, codes}
-use Rattle.ets_term.specs.declared.term.Term.{Term}
-use Rattle.ets_term.specs.declared.term.Term.TheVariants.{Atom}
-use Rattle.node_core.specs.declared.step.Reply.{Reply}
-use Rattle.node_core.specs.declared.step.Reply.TheVariants.{Value}
-use Rattle.node_core.specs.Content as content
+-- Insertion (stdlib manual, module ets, insert/2 and insert_new/2).
+use Rattle.std.specs.Prelude.{List, [], ◌∷◌}
+use Rattle.ets_term.specs.declared.term.Term.{Term, out-Term}
+use Rattle.ets_term.specs.declared.term.Term.TheOpen.{Term-F}
+use Rattle.table_ops.specs.Put.{Inserts, InsertsNew}
 use Rattle.node_core.specs.Access.{Rule, replies}
+use Rattle.node_core.specs.rules.Replies.{true_reply, truth_reply}
 
--- the atom `true` as a reply
-abbrev pub true_reply : Reply
-true_reply = Value (Atom (codes "true"))
+-- the objects of an argument: a list has many, and any other term is the only one
+abbrev pub objects_form : Term → Term-F Term → List Term
+objects_form argument (Term-F.List terms) = terms
+objects_form argument _ = argument ∷ []
 
--- insert(Table, Object): true
-abbrev pub Insert : ℕ → Term → Rule
-Insert limit object = replies (λ _. true_reply) (content.Insert limit object)
+abbrev pub objects_in : Term → List Term
+objects_in argument = objects_form argument (out-Term argument)
+
+-- insert(Table, Objects): true; all are inserted, one after another, or none
+abbrev pub Insert : Term → Rule
+Insert argument = replies (λ _. true_reply) (Inserts (objects_in argument))
+
+-- insert_new(Table, Objects): whether they are inserted; false where the key of one has objects
+abbrev pub InsertNew : Term → Rule
+InsertNew argument = replies truth_reply (InsertsNew (objects_in argument))

@@ -7,10 +7,10 @@ ghost use Rattle.node_core.specs.declared.step.Step.TheVariants.{Ask};
 ghost use Rattle.node_core.specs.inside.Refusals.{Told};
 
 use super::Node;
-use crate::refusal::Refusal;
 use crate::step::{Call, Reply};
 use ets_term::{KeyHash, Term};
 use std::alloc::AllocError;
+use table_ops::Refusal;
 
 impl<H: KeyHash + Copy> Node<H> {
     pub fn ask(&mut self, pid: u32, call: &Call) -> Result<Reply, AllocError>

@@ -1,27 +1,47 @@
 // Calls that insert objects.
+ghost use Rattle.std.specs.Prelude.{◌≡◌};
 ghost use Rattle.node_core.specs.Access.{writes};
-ghost use Rattle.node_core.specs.rules.Insertion.{Insert};
+ghost use Rattle.node_core.specs.rules.Insertion.{objects_in, Insert, InsertNew};
 ghost use Rattle.node_core.specs.inside.Refusals.{Comes};
 
 use super::Node;
 use super::access::Access;
-use super::replies::true_reply;
-use crate::refusal::Refusal;
+use super::replies::{true_reply, truth_reply};
 use crate::step::Reply;
 use ets_term::{KeyHash, Term};
+use std::slice;
+use table_ops::Refusal;
 
 impl<H: KeyHash + Copy> Node<H> {
-    pub fn insert(&mut self, pid: u32, table: &Term, object: &Term) -> Result<Reply, Refusal>
-        ensures { Comes (writes self.old pid table.now (Insert self.old.limits.objects object.now)) self.old result self.new }
+    pub fn insert(&mut self, pid: u32, table: &Term, objects: &Term) -> Result<Reply, Refusal>
+        ensures { Comes (writes self.old pid table.now (Insert objects.now)) self.old result self.new }
     {
-        // The reply comes first, so that memory is refused before anything changes.
-        let done = true_reply(self.alloc)?;
         let alloc = self.alloc;
-        let limit = self.limits.objects;
         let Some(table) = self.usable_mut(Access::Write, pid, table) else {
             return Err(Refusal::Badarg);
         };
-        table.insert(alloc, limit, object)?;
-        Ok(done)
+        table.insert(objects_in(objects))?;
+        Ok(true_reply(alloc))
+    }
+
+    pub fn insert_new(&mut self, pid: u32, table: &Term, objects: &Term) -> Result<Reply, Refusal>
+        ensures { Comes (writes self.old pid table.now (InsertNew objects.now)) self.old result self.new }
+    {
+        let alloc = self.alloc;
+        let Some(table) = self.usable_mut(Access::Write, pid, table) else {
+            return Err(Refusal::Badarg);
+        };
+        let inserted = table.insert_new(objects_in(objects))?;
+        Ok(truth_reply(alloc, inserted))
+    }
+}
+
+/// The objects of an argument: a list has many, and any other term is the only one.
+fn objects_in(argument: &Term) -> &[Term]
+    ensures { result.now ≡ objects_in argument.now }
+{
+    match argument {
+        Term::List(terms) => terms.as_slice(),
+        _ => slice::from_ref(argument),
     }
 }

@@ -43,11 +43,10 @@ impl<H: KeyHash + Copy> Node<H> {
         if !self.is_alive(pid) {
             return Ok(Reply::NoProcess);
         }
-        let reply = true_reply(self.alloc)?;
         if let Some(process) = self.processes.get_mut(&pid) {
             process.end();
         }
         self.tables.remove_owned(pid);
-        Ok(reply)
+        Ok(true_reply(self.alloc))
     }
 }

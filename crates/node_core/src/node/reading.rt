@@ -1,18 +1,49 @@
 // Calls that read a table.
 ghost use Rattle.node_core.specs.Access.{reads};
-ghost use Rattle.node_core.specs.rules.Reading.{Lookup};
+ghost use Rattle.node_core.specs.rules.Reading.{Lookup, Member, LookupElement, Tab2list};
 ghost use Rattle.node_core.specs.inside.Refusals.{Comes};
 
 use super::Node;
-use crate::refusal::Refusal;
+use super::replies::{list_reply, truth_reply};
+use crate::position::position_of;
 use crate::step::Reply;
 use ets_term::{KeyHash, Term};
+use table_ops::Refusal;
 
 impl<H: KeyHash + Copy> Node<H> {
     pub fn lookup(&self, pid: u32, table: &Term, key: &Term) -> Result<Reply, Refusal>
         ensures { Comes (reads self.now pid table.now (Lookup key.now)) self.now result self.now }
     {
         let table = self.readable(pid, table).ok_or(Refusal::Badarg)?;
-        Ok(Reply::Value(Term::List(table.lookup(self.alloc, key)?)))
+        Ok(list_reply(self.alloc, table.lookup(key))?)
+    }
+
+    pub fn member(&self, pid: u32, table: &Term, key: &Term) -> Result<Reply, Refusal>
+        ensures { Comes (reads self.now pid table.now (Member key.now)) self.now result self.now }
+    {
+        let table = self.readable(pid, table).ok_or(Refusal::Badarg)?;
+        Ok(truth_reply(self.alloc, table.member(key)))
+    }
+
+    pub fn lookup_element(
+        &self,
+        pid: u32,
+        table: &Term,
+        key: &Term,
+        position: &Term,
+    ) -> Result<Reply, Refusal>
+        ensures { Comes (reads self.now pid table.now (LookupElement key.now position.now)) self.now result self.now }
+    {
+        let table = self.readable(pid, table).ok_or(Refusal::Badarg)?;
+        let position = position_of(position).ok_or(Refusal::Badarg)?;
+        let element = table.lookup_element(key, position)?;
+        Ok(Reply::Value(element))
+    }
+
+    pub fn tab2list(&self, pid: u32, table: &Term) -> Result<Reply, Refusal>
+        ensures { Comes (reads self.now pid table.now Tab2list) self.now result self.now }
+    {
+        let table = self.readable(pid, table).ok_or(Refusal::Badarg)?;
+        Ok(Reply::Value(Term::List(table.objects()?)))
     }
 }

@@ -1,25 +1,51 @@
-// Replies that take memory.
-ghost use Rattle.std.specs.Prelude.{◌≡◌, IfOk};
+// Replies. Short atoms take no memory.
+ghost use Rattle.std.specs.Prelude.{◌≡◌, ◌≤◌, length, IfOk};
 ghost use Rattle.ets_term.specs.Character.{IsAtomText};
-ghost use Rattle.ets_term.specs.declared.term.Term.TheVariants.{Atom};
+ghost use Rattle.ets_term.specs.declared.term.Term.TheVariants as term;
 ghost use Rattle.node_core.specs.declared.step.Reply.TheVariants.{Value};
-ghost use Rattle.node_core.specs.rules.Insertion.{true_reply};
+ghost use Rattle.node_core.specs.rules.Replies.{true_reply, truth_reply, list_reply};
 
 use crate::step::Reply;
-use ets_term::Term;
+use ets_term::{Atom, Items, Term};
 use std::alloc::{AllocError, Global};
 
 /// The atom `true`.
-pub fn true_reply(alloc: Global) -> Result<Reply, AllocError>
-    ensures { IfOk result (λ r. r ≡ true_reply) }
+pub fn true_reply(alloc: Global) -> Reply
+    ensures { result ≡ true_reply }
 {
     atom_reply(alloc, b"true")
 }
 
-/// The atom with this text, which is known to be an atom's.
-pub fn atom_reply(alloc: Global, text: &[u8]) -> Result<Reply, AllocError>
-    requires { IsAtomText text.now }
-    ensures { IfOk result (λ r. r ≡ Value (Atom text.now)) }
+/// The atom `true` or `false`.
+pub fn truth_reply(alloc: Global, truth: bool) -> Reply
+    ensures { result ≡ truth_reply truth }
 {
-    Ok(Reply::Value(Term::Atom(ets_term::Atom::of_bytes(alloc, text)?)))
+    if truth {
+        true_reply(alloc)
+    } else {
+        atom_reply(alloc, b"false")
+    }
+}
+
+/// The atom with this text, which is a short atom's.
+pub fn atom_reply(alloc: Global, text: &[u8]) -> Reply
+    requires text { IsAtomText text.now }
+    requires short { length text.now ≤ 22 }
+    ensures { result ≡ Value (term.Atom text.now) }
+{
+    let Ok(atom) = Atom::of_bytes(alloc, text) else {
+        unreachable!()
+    };
+    Reply::Value(Term::Atom(atom))
+}
+
+/// A list of copies of these objects.
+pub fn list_reply(alloc: Global, objects: &[Term]) -> Result<Reply, AllocError>
+    ensures { IfOk result (λ r. r ≡ list_reply objects.now) }
+{
+    let mut copies = Vec::with_capacity(alloc, objects.len())?;
+    for object in objects {
+        copies.push_reserved(object.try_clone(alloc)?);
+    }
+    Ok(Reply::Value(Term::List(Items::from_vec(copies))))
 }

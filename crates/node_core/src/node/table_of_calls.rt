@@ -1,19 +1,33 @@
 // The table of calls: a name and its method, at most eight names a function, by number of arguments.
-ghost use Rattle.node_core.specs.Calls.{call, object_calls_of_two, table_calls_of_two};
+ghost use Rattle.node_core.specs.Calls.{call, calls_of_one, object_calls_of_two, table_calls_of_two, calls_of_three};
 ghost use Rattle.node_core.specs.inside.Refusals.{Comes};
 
 use super::Node;
-use crate::refusal::Refusal;
 use crate::step::Reply;
 use ets_term::{KeyHash, Term};
+use table_ops::Refusal;
 
 impl<H: KeyHash + Copy> Node<H> {
     pub fn call(&mut self, pid: u32, name: &str, args: &[Term]) -> Result<Reply, Refusal>
         ensures { Comes (call self.old pid name.now args.now) self.old result self.new }
     {
         match args {
+            [x] => self.calls_of_one(pid, name, x),
             [x, y] => self.object_calls_of_two(pid, name, x, y),
+            [x, y, z] => self.calls_of_three(pid, name, x, y, z),
             _ => Err(Refusal::Badarg),
+        }
+    }
+
+    fn calls_of_one(&mut self, pid: u32, name: &str, x: &Term) -> Result<Reply, Refusal>
+        ensures { Comes (calls_of_one self.old pid name.now x.now) self.old result self.new }
+    {
+        if name == "tab2list" {
+            self.tab2list(pid, x)
+        } else if name == "delete_all_objects" {
+            self.delete_all_objects(pid, x)
+        } else {
+            Err(Refusal::Badarg)
         }
     }
 
@@ -28,8 +42,18 @@ impl<H: KeyHash + Copy> Node<H> {
     {
         if name == "insert" {
             self.insert(pid, x, y)
+        } else if name == "insert_new" {
+            self.insert_new(pid, x, y)
         } else if name == "lookup" {
             self.lookup(pid, x, y)
+        } else if name == "member" {
+            self.member(pid, x, y)
+        } else if name == "take" {
+            self.take(pid, x, y)
+        } else if name == "delete" {
+            self.delete(pid, x, y)
+        } else if name == "delete_object" {
+            self.delete_object(pid, x, y)
         } else {
             self.table_calls_of_two(pid, name, x, y)
         }
@@ -46,6 +70,23 @@ impl<H: KeyHash + Copy> Node<H> {
     {
         if name == "new" {
             self.new_call(pid, x, y)
+        } else {
+            Err(Refusal::Badarg)
+        }
+    }
+
+    fn calls_of_three(
+        &mut self,
+        pid: u32,
+        name: &str,
+        x: &Term,
+        y: &Term,
+        z: &Term,
+    ) -> Result<Reply, Refusal>
+        ensures { Comes (calls_of_three self.old pid name.now x.now y.now z.now) self.old result self.new }
+    {
+        if name == "lookup_element" {
+            self.lookup_element(pid, x, y, z)
         } else {
             Err(Refusal::Badarg)
         }

@@ -1,5 +1,5 @@
 // Calls that make tables.
-ghost use Rattle.std.specs.Prelude.{◌≡◌, ◌&&◌, if◌then◌else◌, is_some, IfOk};
+ghost use Rattle.std.specs.Prelude.{◌≡◌, ◌≤◌, ◌&&◌, if◌then◌else◌, is_some, IfOk};
 ghost use Rattle.ets_term.specs.declared.term.Term.TheVariants as term;
 ghost use Rattle.node_core.specs.declared.step.Reply.TheVariants.{Value};
 ghost use Rattle.node_core.specs.Access.{whereis};
@@ -9,12 +9,12 @@ ghost use Rattle.node_core.specs.inside.Refusals.{Comes};
 use super::Node;
 use crate::head::Head;
 use crate::options::Options;
-use crate::plain_table::PlainTable;
-use crate::refusal::Refusal;
 use crate::step::Reply;
 use crate::table::Table;
+use bucket_table::PlainRows;
 use ets_term::{Atom, KeyHash, Term};
 use std::alloc::{AllocError, Global};
+use table_ops::Refusal;
 
 impl<H: KeyHash + Copy> Node<H> {
     pub fn new_call(&mut self, pid: u32, name: &Term, options: &Term) -> Result<Reply, Refusal>
@@ -28,6 +28,7 @@ impl<H: KeyHash + Copy> Node<H> {
     }
 
     fn new_table(&mut self, pid: u32, name: &Atom, options: Options) -> Result<Reply, Refusal>
+        requires { 1 ≤ options.keypos }
         ensures { Comes (new_table self.old pid name.now options) self.old result self.new }
     {
         if self.name_is_taken(options, name.text()) {
@@ -45,8 +46,14 @@ impl<H: KeyHash + Copy> Node<H> {
             heir: None,
             protection: options.protection,
         };
-        let table = Table::new(head, PlainTable::new(self.alloc));
-        self.tables.add(self.alloc, table)?;
+        let rowed = table_ops::Table::new(
+            self.alloc,
+            PlainRows::new(self.alloc),
+            options.kind,
+            options.keypos,
+            self.limits.objects,
+        );
+        self.tables.add(self.alloc, Table::new(head, rowed))?;
         Ok(reply)
     }
 

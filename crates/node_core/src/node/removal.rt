@@ -1,0 +1,56 @@
+// Calls that remove objects. No call fixes a table yet, so no slot is held.
+ghost use Rattle.node_core.specs.Access.{writes};
+ghost use Rattle.node_core.specs.rules.Removal.{Take, Delete, DeleteObject, DeleteAllObjects};
+ghost use Rattle.node_core.specs.inside.Refusals.{Comes};
+
+use super::Node;
+use super::access::Access;
+use super::replies::true_reply;
+use crate::step::Reply;
+use ets_term::{KeyHash, Term};
+use table_ops::Refusal;
+
+impl<H: KeyHash + Copy> Node<H> {
+    pub fn take(&mut self, pid: u32, table: &Term, key: &Term) -> Result<Reply, Refusal>
+        ensures { Comes (writes self.old pid table.now (Take key.now)) self.old result self.new }
+    {
+        let Some(table) = self.usable_mut(Access::Write, pid, table) else {
+            return Err(Refusal::Badarg);
+        };
+        let objects = table.take(key, false)?;
+        Ok(Reply::Value(Term::List(objects)))
+    }
+
+    pub fn delete(&mut self, pid: u32, table: &Term, key: &Term) -> Result<Reply, Refusal>
+        ensures { Comes (writes self.old pid table.now (Delete key.now)) self.old result self.new }
+    {
+        let alloc = self.alloc;
+        let Some(table) = self.usable_mut(Access::Write, pid, table) else {
+            return Err(Refusal::Badarg);
+        };
+        table.delete_key(key, false);
+        Ok(true_reply(alloc))
+    }
+
+    pub fn delete_object(&mut self, pid: u32, table: &Term, object: &Term) -> Result<Reply, Refusal>
+        ensures { Comes (writes self.old pid table.now (DeleteObject object.now)) self.old result self.new }
+    {
+        let alloc = self.alloc;
+        let Some(table) = self.usable_mut(Access::Write, pid, table) else {
+            return Err(Refusal::Badarg);
+        };
+        table.delete_object(object, false)?;
+        Ok(true_reply(alloc))
+    }
+
+    pub fn delete_all_objects(&mut self, pid: u32, table: &Term) -> Result<Reply, Refusal>
+        ensures { Comes (writes self.old pid table.now DeleteAllObjects) self.old result self.new }
+    {
+        let alloc = self.alloc;
+        let Some(table) = self.usable_mut(Access::Write, pid, table) else {
+            return Err(Refusal::Badarg);
+        };
+        table.delete_all(false);
+        Ok(true_reply(alloc))
+    }
+}

@@ -1,0 +1,14 @@
+ghost use Rattle.std.specs.Prelude.{◌≡◌};
+ghost use Rattle.node_core.specs.Positions.{position_of};
+
+use ets_term::Term;
+
+/// The position that a term says, counted from 1; no tuple has an element 0.
+pub fn position_of(term: &Term) -> Option<usize>
+    ensures { result ≡ position_of term.now }
+{
+    match term {
+        Term::Int(n) if *n >= 0 => Some(*n as usize),
+        _ => None,
+    }
+}
