@@ -25,6 +25,3 @@ pub use growth::{Growth, Readying};
 pub use plain::PlainRows;
 pub use rows::Rows;
 pub use split::SplitRows;
-
-#[cfg(test)]
-mod tests;

@@ -21,8 +21,6 @@ mod put_all;
 mod refusal;
 mod table;
 mod take;
-#[cfg(test)]
-mod tests;
 mod undo;
 
 pub use kind::Kind;

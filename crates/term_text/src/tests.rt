@@ -1,6 +1,5 @@
 // Values from outside: the rules of the text, row by row, and a writer that fails at its k-th write.
 mod fronts;
-mod long;
 mod pieces;
 mod rules;
 
