@@ -156,7 +156,7 @@ fn insert(map: &mut Map, k: u64) -> bool {
 }
 
 fn hit(map: &mut Map, k: u64) -> bool {
-    map.get(&key(k)).is_some_and(|object| matches!(object, Term::Tuple(row) if row.len() == 2))
+    map.get(&key(k)).is_some_and(|object| matches!(object, Term::Tuple(row) if matches!(row.get(1), Some(Term::Int(1..)))))
 }
 
 fn count_up(map: &mut Map, k: u64) -> bool {

@@ -20,3 +20,7 @@ pub mod SweepLaws
 pub mod LeastLaws
 pub mod EnterLaws
 pub mod PlainLaws
+pub mod WalkLaws
+pub mod StepLaws
+pub mod NoteLaws
+pub mod RunLaws

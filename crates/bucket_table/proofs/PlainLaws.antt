@@ -1,13 +1,13 @@
 -- Slots at a place, among slots with distinct keys.
-use Rattle.std.proofs.Common.{◌≡◌, ℕ, zero, suc, ◌+◌, ◌<◌, Bool, true, false, not, cond, List, [], ◌∷◌, ◌++◌, Option, None, Some, is_some, refl, sym, ap, subst, ◌∙◌, length, take, drop, remove, slice_get, position, map, filter, true≢false, add-one, append_assoc, arith}
+use Rattle.std.proofs.Common.{◌≡◌, ℕ, zero, suc, ◌<◌, Bool, true, false, cond, List, [], ◌∷◌, ◌++◌, Option, None, Some, is_some, refl, sym, ap, subst, ◌∙◌, length, drop, remove, slice_get, position, map, true≢false, append_assoc, arith}
 use Rattle.std.proofs.lemmas.List.{append-nil}
 use Rattle.std.proofs.lemmas.Map.Made.{lookup_key_passes}
 use Rattle.std.specs.List.{IsDistinct, AllByRecursion}
-use Rattle.std.specs.Map.{lookup, lookup_key, set_value, remove_entry, keys_of, values_of}
+use Rattle.std.specs.Map.{lookup_key, keys_of, values_of}
 use Rattle.std.specs.Map.Calls.{RetainsPairs}
 use Rattle.std.specs.Option.{option_map}
 use Rattle.indexmap.specs.IndexMap.{set_value_at}
-use Rattle.indexmap.proofs.MapLemmas.{Found-position, Missing-position}
+use Rattle.indexmap.proofs.MapLemmas.{Found-position}
 use Rattle.ets_term.specs.declared.term.Term.{Term}
 use Rattle.ets_term.specs.Order.{same}
 use Rattle.ets_term.specs.laws.Same.{same-exact, same-refl}
@@ -55,7 +55,7 @@ keys-get [] (suc i) = refl
 keys-get (s ∷ ss) zero = refl
 keys-get (s ∷ ss) (suc i) = keys-get ss i
 
-entry-within : (slots : List Slot) (i : ℕ) → i < length slots → (s : Slot) × (slice_get slots i ≡ Some s)
+pub entry-within : (slots : List Slot) (i : ℕ) → i < length slots → (s : Slot) × (slice_get slots i ≡ Some s)
 entry-within [] i h = absurd (omega (arith, h))
 entry-within (s ∷ ss) zero h = (s, refl)
 entry-within (s ∷ ss) (suc i) h = entry-within ss i (omega (arith, h))

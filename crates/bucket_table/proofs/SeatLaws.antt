@@ -32,7 +32,7 @@ pub record Seat (key : Term) (at : ℕ) (cs : List Cell) : Type 0 where
   pub has : cell.item ≡ Some item
   pub same_term : item.term ≡ key
 
-passes-by : (at own : ℕ) (o : Option Item) (ps : List (ℕ × Term)) → own ≢ at → lookup (nat_eq at) (with_place own o ps) ≡ lookup (nat_eq at) ps
+pub passes-by : (at own : ℕ) (o : Option Item) (ps : List (ℕ × Term)) → own ≢ at → lookup (nat_eq at) (with_place own o ps) ≡ lookup (nat_eq at) ps
 passes-by at own None ps n = refl
 passes-by at own (Some item) ps n = grind (arith, nat_tests)
 

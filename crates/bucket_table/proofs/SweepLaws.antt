@@ -30,7 +30,7 @@ to-here at c cs e = grind (arith, nat_tests)
 pub to-on : (at : ℕ) (c : Cell) (cs : List Cell) → c.at ≢ at → up_to at (c ∷ cs) ≡ c ∷ up_to at cs
 to-on at c cs e = grind (arith, nat_tests)
 
-slots-append : (xs ys : List Cell) → slots_of (xs ++ ys) ≡ slots_of xs ++ slots_of ys
+pub slots-append : (xs ys : List Cell) → slots_of (xs ++ ys) ≡ slots_of xs ++ slots_of ys
 slots-append [] ys = refl
 slots-append (x ∷ xs) ys = ap (with_slot x.item) (slots-append xs ys) ∙ with-append x.item (slots_of xs) (slots_of ys)
   where
@@ -139,6 +139,7 @@ module _ (how : Sweep) (at next : ℕ) (cs : List Cell) (n : Neighbour at next c
             ∙ (ap (λ (zs : List Cell). (slots_of (up_to at cs) ++ with_slot n.other.item []) ++ swept how (slots_of zs)) behind-next
             ∙ (sym (swept-append how n.other.item (slots_of (up_to at cs)) (slots_of n.later) h')
             ∙ ap (λ (zs : List Cell). slots_of (up_to at cs) ++ swept how (slots_of zs)) (sym behind-at))));
+        rest = behind-next ∙ ap all_but_first (sym behind-at);
         shorter = omega (arith, l, m);
       })
 
@@ -158,6 +159,7 @@ module _ (how : Sweep) (at next : ℕ) (cs : List Cell) (n : Neighbour at next c
             ∙ (ap (λ (zs : List Cell). slots_of (up_to at cs) ++ swept how (slots_of zs)) b
             ∙ (ap (λ (zs : List Slot). slots_of (up_to at cs) ++ zs) (sym (h' (slots_of n.later)))
             ∙ ap (λ (zs : List Cell). slots_of (up_to at cs) ++ swept how (slots_of zs)) (sym behind-at)));
+        rest = b ∙ ap all_but_first (sym behind-at);
         shorter = omega (arith, l, ap length b);
       }
 
@@ -273,6 +275,7 @@ empties at next cs n a =
           ∙ (ap (λ (zs : List Cell). (slots_of (up_to at cs) ++ with_slot (item_with n.other.item []) []) ++ swept Hold (slots_of zs)) b
           ∙ (sym (held-slot n.other.item (slots_of (up_to at cs)) (slots_of n.later))
           ∙ ap (λ (zs : List Cell). slots_of (up_to at cs) ++ swept Hold (slots_of zs)) (sym was))));
+      rest = b ∙ ap all_but_first (sym was);
       shorter = omega (arith, ap length b, ap length was);
     })
 

@@ -1,8 +1,7 @@
 -- A walk over the nodes from a place on.
-use Rattle.std.proofs.Common.{◌≡◌, ℕ, ◌<◌, List, [], ◌∷◌, length, Option, Some, None, slice_get, sym, ◌∙◌, ap, arith}
-use Rattle.ets_term.specs.declared.term.Term.{Term}
+use Rattle.std.proofs.Common.{◌≡◌, ℕ, ◌<◌, List, [], ◌∷◌, length, Option, Some, None, sym, ◌∙◌, ap, arith}
 use Rattle.node_list.specs.declared.node.Item.{Item}
-use Rattle.node_list.specs.Cells.{Cell, StartsWithDummy, new_item}
+use Rattle.node_list.specs.Cells.{Cell, StartsWithDummy}
 use Rattle.node_list.specs.Places.{from, first_place, place_after, AreApart, Stands, item_at, first_item}
 use Rattle.node_list.proofs.CellLaws.{from-here}
 use Rattle.bucket_table.specs.inside.Nodes.{slots_of, with_slot}
@@ -42,19 +41,13 @@ pub head-is-all : (head : ℕ) (cs : List Cell) → first_place cs ≡ Some head
 head-is-all head [] e d = absurd d
 head-is-all head (c ∷ cs) e d = from-here head c cs (let s : c.at ≡ head = cc in s)
 
--- the item at the place is the first slot
-pub first-slot : (place : ℕ) (at : Option ℕ) (cs : List Cell) (h : Here place at cs) (term : Term) (chain : List Term) → item_at place cs ≡ Some (new_item term chain) → slice_get (slots_of (tail_from at cs)) 0 ≡ Some (term, chain)
-first-slot place at cs h term chain e =
-    let has : h.cell.item ≡ Some (new_item term chain) = sym (ap first_item h.is) ∙ e in
-    ap (λ (zs : List Cell). slice_get (slots_of zs) 0) h.tail ∙ ap (λ (o : Option Item). slice_get (with_slot o (slots_of h.later)) 0) has
-
 pub skip-dummy : (place : ℕ) (at : Option ℕ) (cs : List Cell) (h : Here place at cs) → item_at place cs ≡ None → slots_of (tail_from at cs) ≡ slots_of h.later
 skip-dummy place at cs h e =
     let none : h.cell.item ≡ None = sym (ap first_item h.is) ∙ e in
     ap slots_of h.tail ∙ ap (λ (o : Option Item). with_slot o (slots_of h.later)) none
 
-pub no-slot : (at : Option ℕ) (cs : List Cell) → at ≡ None → slice_get (slots_of (tail_from at cs)) 0 ≡ None
-no-slot at cs e = ap (λ (z : Option ℕ). slice_get (slots_of (tail_from z cs)) 0) e
+pub no-slot : (at : Option ℕ) (cs : List Cell) → at ≡ None → slots_of (tail_from at cs) ≡ []
+no-slot at cs e = ap (λ (z : Option ℕ). slots_of (tail_from z cs)) e
 
 pub smaller : (place : ℕ) (at : Option ℕ) (cs : List Cell) (h : Here place at cs) → AreApart cs → length (tail_from (place_after place cs) cs) < length (tail_from at cs)
 smaller place at cs h a = let l = next-is place cs h.cell h.later a h.is in omega (arith, ap length l, ap length h.tail)

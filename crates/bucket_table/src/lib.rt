@@ -4,8 +4,8 @@
 //! growth leaves it as it is, and a refusal of memory changes nothing. A search in a ready bucket looks at no more nodes
 //! than the bucket has keys, and two.
 //!
-//! *Weakness.* Keys of one hash stand in one bucket at every size, so a bad hash makes searches long. A `purge` or
-//! `clear` walks over all nodes.
+//! *Weakness.* Keys of one hash stand in one bucket at every size, so a bad hash makes searches long. A `clear`
+//! walks over all nodes, and so does a `purge` after more slots became held than there was room to note.
 //!
 //! *Mechanism.* The nodes stand in one list, in the order of their split keys; a bucket is a stretch of it, behind its
 //! dummy. For each eighth of a bucket the place of its first item is known, or that it has none, or nothing: a search
@@ -19,6 +19,8 @@ mod growth;
 mod plain;
 mod rows;
 mod split;
+#[cfg(test)]
+mod tests;
 
 pub use entry::{Entry, Place};
 pub use growth::{Growth, Readying};

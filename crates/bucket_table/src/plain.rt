@@ -140,6 +140,24 @@ impl Rows for PlainRows {
         }
     }
 
+    fn first_place(&self) -> Option<Place> {
+        if self.slots.len() > 0 { Some(0) } else { None }
+    }
+
+    fn place_behind(&self, place: Place) -> Option<Place> {
+        let slots = self.slots.len();
+        let next = place + 1;
+        if next < slots { Some(next) } else { None }
+    }
+
+    fn slot_at(&self, place: Place) -> (&Term, &[Term]) {
+        self.known();
+        match self.slots.get_index(place) {
+            Some((key, objects)) => (key, objects.as_slice()),
+            None => unreachable!(),
+        }
+    }
+
     fn objects_at(&self, place: Place) -> &[Term] {
         match self.slots.get_index(place) {
             Some((_, objects)) => objects.as_slice(),

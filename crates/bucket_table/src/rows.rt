@@ -3,6 +3,7 @@ ghost use Rattle.std.specs.Map.Iter.{deref_pair};
 ghost use Rattle.ets_term.specs.declared.term.Term.{Term};
 ghost use Rattle.bucket_table.specs.Slots.{Slot, HasDistinctKeys, objects_of, with_objects, without, Enters, EnterAll, AreNew, purged, cleared, slots_behind};
 ghost use Rattle.bucket_table.specs.Entries.{IsEntry, objects_in, with_objects_in};
+ghost use Rattle.bucket_table.specs.Walks.{IsFirstPlace, IsNextPlace, StandsBefore};
 ghost use Rattle.bucket_table.specs.Buckets.{IsGrown, IsReadied};
 
 use crate::entry::{Entry, Place};
@@ -65,7 +66,8 @@ pub trait Rows: Drop {
         ensures hash { number self.new ≡ number self.old }
         ensures buckets { readiness self.new ≡ readiness self.old };
 
-    /// Takes the held slots away.
+    /// Takes the held slots away. Split rows look for those that became held since the last purge, by their hashes,
+    /// and walk over all where they were more than a sixteenth of the nodes, or after a `clear`.
     fn purge(&mut self)
         ensures now { content self.new ≡ purged (content self.old) }
         ensures hash { number self.new ≡ number self.old }
@@ -95,6 +97,21 @@ pub trait Rows: Drop {
     fn entry(&self, key: &Term) -> Entry
         ensures { IsEntry (content self.now) (number self.now) (key_at self.now) key.now result };
 
+    /// The place of the first slot.
+    fn first_place(&self) -> Option<Place>
+        ensures { IsFirstPlace (key_at self.now) (content self.now) result };
+
+    /// The place of the slot behind the one at a place, in a few steps at most.
+    fn place_behind(&self, place: Place) -> Option<Place>
+        requires { IsSome (key_at self.now place) }
+        ensures { IsNextPlace (key_at self.now) (content self.now) (key_at self.now place) result };
+
+    /// The slot at a place.
+    fn slot_at(&self, place: Place) -> (&Term, &[Term])
+        requires { IsSome (key_at self.now place) }
+        ensures key { key_at self.now place ≡ Some result.0.now }
+        ensures objects { objects_of (content self.now) result.0.now ≡ Some result.1.now };
+
     /// The objects of the slot at a place.
     fn objects_at(&self, place: Place) -> &[Term]
         requires { IsSome (key_at self.now place) }
@@ -106,16 +123,18 @@ pub trait Rows: Drop {
         ensures was { objects_in (content self.old) (key_at self.old place) ≡ Some result }
         ensures now { content self.new ≡ with_objects_in (content self.old) (key_at self.old place) objects }
         ensures place { key_at self.new place ≡ key_at self.old place }
+        ensures places { (other : ℕ) → key_at self.new other ≡ key_at self.old other }
         ensures room { room self.old ≤ room self.new }
         ensures hash { number self.new ≡ number self.old }
         ensures buckets { readiness self.new ≡ readiness self.old };
 
-    /// Takes the slot at a place away.
+    /// Takes the slot at a place away. The slots before it stay at their places.
     fn remove_at(&mut self, place: Place) -> (Term, Chain)
         requires { IsSome (key_at self.old place) }
         ensures key { key_at self.old place ≡ Some result.0 }
         ensures was { objects_of (content self.old) result.0 ≡ Some result.1 }
         ensures now { content self.new ≡ without (content self.old) result.0 }
+        ensures before { (other : ℕ) (key : Term) → key_at self.old other ≡ Some key → StandsBefore (content self.old) key result.0 → key_at self.new other ≡ Some key }
         ensures hash { number self.new ≡ number self.old }
         ensures buckets { readiness self.new ≡ readiness self.old };
 

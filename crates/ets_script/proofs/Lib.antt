@@ -1,7 +1,9 @@
-mod Known
+mod KnownBytes
 mod Feeds
+mod AnsweredLines
 mod Progress
-mod Names
-mod Digits
+mod ScriptEnds
+mod Enrolments
+mod Words
 mod Arguments
 mod Fronts

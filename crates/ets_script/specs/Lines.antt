@@ -1,6 +1,7 @@
 -- How the bytes of a script are cut into lines.
 use Rattle.std.specs.Prelude.{◌≡◌, ◌≢◌, ℕ, ◌≤◌, ◌<◌, ◌⊎◌, List, [], ◌∷◌, ◌++◌, length, All}
 use Rattle.std.specs.Io.BufRead.{strip_last}
+use Rattle.ets_script.specs.declared.lines.TheConstants.{MAX_LINE}
 
 -- no byte is an LF
 abbrev pub IsOneLine : List ℕ → Type 0
@@ -16,9 +17,9 @@ pub data Line : Type 0 where
 abbrev pub Ends : List ℕ → List ℕ → Type 0 → Type 0
 Ends before bytes last = (bytes ≡ before ++ 10 ∷ []) ⊎ ((bytes ≡ before) × (0 < length before) × last)
 
--- These bytes are one line, `last` where nothing follows them. Past 65,536 bytes before the LF it is too long, a CR
+-- These bytes are one line, `last` where nothing follows them. Past MAX_LINE bytes before the LF it is too long, a CR
 -- counted. One CR before the LF is no part of the text; where no LF follows it, it is.
 abbrev pub IsLine : List ℕ → Line → Type 0 → Type 0
-IsLine bytes (text t) last = (before : List ℕ) × IsOneLine before × (length before ≤ 65536)
+IsLine bytes (text t) last = (before : List ℕ) × IsOneLine before × (length before ≤ MAX_LINE)
     × (((bytes ≡ before ++ 10 ∷ []) × (t ≡ strip_last 13 before)) ⊎ ((bytes ≡ before) × (0 < length before) × last × (t ≡ before)))
-IsLine bytes too_long last = (before : List ℕ) × IsOneLine before × (65536 < length before) × Ends before bytes last
+IsLine bytes too_long last = (before : List ℕ) × IsOneLine before × (MAX_LINE < length before) × Ends before bytes last

@@ -1,5 +1,5 @@
 //! What a line is answered, and how that is printed.
-ghost use Rattle.std.specs.Prelude.{◌≡◌, ◌∷◌, [], ◌++◌, OnOk, OnErr, codes};
+ghost use Rattle.std.specs.Prelude.{◌≡◌, ◌++◌, OnOk, OnErr, codes};
 ghost use Rattle.ets_script.specs.Replies.{printed, reply_text};
 ghost use Rattle.ets_script.specs.inside.Output.{Sends, Breaks};
 
@@ -43,8 +43,8 @@ fn print_reply<W: Write>(
     pending: &mut Pending,
     writer: &mut W,
 ) -> Result<(), WriteFault>
-    ensures ok { OnOk result (Sends (W.contents writer.old) (W.contents writer.new) (pending.old ++ (reply_text reply.now ++ 10 ∷ [])) pending.new) }
-    ensures err { OnErr result (Breaks (W.contents writer.old) (W.contents writer.new) (pending.old ++ (reply_text reply.now ++ 10 ∷ []))) }
+    ensures ok { OnOk result (Sends (W.contents writer.old) (W.contents writer.new) (pending.old ++ (reply_text reply.now ++ codes "\n")) pending.new) }
+    ensures err { OnErr result (Breaks (W.contents writer.old) (W.contents writer.new) (pending.old ++ (reply_text reply.now ++ codes "\n"))) }
 {
     match reply {
         Reply::Value(term) => pending.add_term(writer, term),

@@ -1,20 +1,17 @@
 //! What a line says.
-ghost use Rattle.std.specs.Prelude.{◌≡◌, ◌≤◌, [], length, IfOk, IsTrue, nat_le, if◌then◌else◌};
-ghost use Rattle.std.specs.List.{list_all};
+ghost use Rattle.std.specs.Prelude.{◌≡◌, [], IfOk};
 ghost use Rattle.std.specs.Str.{bytes_eq};
 ghost use Rattle.ets_term.specs.Character.{IsAtomText};
-ghost use Rattle.ets_script.specs.Classes.{is_digit};
 ghost use Rattle.ets_script.specs.Reads.{read};
 ghost use Rattle.ets_script.specs.Commands as spec;
 ghost use Rattle.ets_script.specs.inside.Says.{Gives, GivesExactly, command_seen};
 
-use crate::classes::{
-    clean_len, digits_len, past_blanks, starts_blank, starts_digit, starts_lower, word_len,
-};
+use crate::classes::{clean_len, name_len, past_blanks, starts_blank, starts_digit, starts_small};
 use crate::stop::Stop;
 use crate::terms::read_front;
 use ets_term::{Atom, Items, Term};
 use std::alloc::{AllocError, Global};
+use term_text::{MAX_CHARACTERS, Magnitude, digits_at};
 
 /// What a line says, with the bytes of its names as they stand on it.
 #[derive(Drop)]
@@ -31,87 +28,73 @@ pub enum Command<'a> {
 }
 
 // One blank or more.
-fn gap(text: &[u8]) -> Result<&[u8], Stop>
+fn gap(text: &[u8]) -> Result<&[u8], Stop<'_>>
     ensures { GivesExactly (λ r. read tt r.now) result (spec.gap text.now) }
 {
     if !starts_blank(text) {
-        return Err(Stop::Fault(text.len()));
+        return Err(Stop::Fault(text));
     }
     Ok(past_blanks(text))
 }
 
 // A name, or the word of a call.
-fn word(text: &[u8]) -> Result<(&[u8], &[u8]), Stop>
+fn word(text: &[u8]) -> Result<(&[u8], &[u8]), Stop<'_>>
     ensures word { GivesExactly (λ r. read r.0.now r.1.now) result (spec.word text.now) }
     ensures atom { IfOk result (λ r. IsAtomText r.0.now) }
 {
-    let len = word_len(text);
-    if !starts_lower(text) || len > 255 {
-        return Err(Stop::Fault(text.len()));
+    let len = name_len(text);
+    if !starts_small(text) || len > MAX_CHARACTERS {
+        return Err(Stop::Fault(text));
     }
     Ok(text.split_at(len))
 }
 
 // The parenthesis before arguments.
-fn opening(text: &[u8]) -> Result<&[u8], Stop>
+fn opening(text: &[u8]) -> Result<&[u8], Stop<'_>>
     ensures { GivesExactly (λ r. read tt r.now) result (spec.opening text.now) }
 {
     match past_blanks(text) {
         [b'(', rest @ ..] => Ok(rest),
-        rest => Err(Stop::Fault(rest.len())),
+        rest => Err(Stop::Fault(rest)),
     }
 }
 
 // Nothing but blanks.
-fn ended(text: &[u8]) -> Result<(), Stop>
+fn ended(text: &[u8]) -> Result<(), Stop<'_>>
     ensures { GivesExactly (λ _. read tt []) result (spec.ended text.now) }
 {
     match past_blanks(text) {
         [] => Ok(()),
-        rest => Err(Stop::Fault(rest.len())),
+        rest => Err(Stop::Fault(rest)),
     }
 }
 
 // A bucket.
-fn bucket(text: &[u8]) -> Result<(u32, &[u8]), Stop>
+fn bucket(text: &[u8]) -> Result<(u32, &[u8]), Stop<'_>>
     ensures { GivesExactly (λ r. read r.0 r.1.now) result (spec.bucket text.now) }
 {
-    let (digits, rest) = text.split_at(digits_len(text));
-    match number(digits) {
-        Some(bucket) if starts_digit(text) => Ok((bucket, rest)),
-        _ => Err(Stop::Fault(text.len())),
-    }
-}
-
-// The number that digits write, where it is below 2^32.
-fn number(digits: &[u8]) -> Option<u32>
-    requires { IsTrue (list_all is_digit digits.now) }
-    ensures { result ≡ (if nat_le (spec.number digits.now) 4294967295 then Some (spec.number digits.now) else None) }
-{
-    let mut value = 0;
-    for digit in digits {
-        let digit = (*digit - b'0') as u32;
-        if value > (u32::MAX - digit) / 10 {
-            return None;
+    match digits_at(text, 0, u32::MAX as Magnitude) {
+        Some((bucket, end)) if starts_digit(text) => {
+            let (_, rest) = text.split_at(end);
+            Ok((bucket as u32, rest))
         }
-        value = 10 * value + digit;
+        _ => Err(Stop::Fault(text)),
     }
-    Some(value)
 }
 
 // What stands behind an argument: whether one more must come, and what follows.
-fn behind(text: &[u8]) -> Result<(bool, &[u8]), Stop>
+fn behind(text: &[u8]) -> Result<(bool, &[u8]), Stop<'_>>
     ensures { GivesExactly (λ r. read r.0 r.1.now) result (spec.behind text.now) }
 {
     match past_blanks(text) {
         [b',', rest @ ..] => Ok((true, rest)),
         [b')', rest @ ..] => Ok((false, rest)),
-        rest => Err(Stop::Fault(rest.len())),
+        rest => Err(Stop::Fault(rest)),
     }
 }
 
 // The arguments of a call, behind the parenthesis that opens them.
-fn arguments(alloc: Global, text: &[u8]) -> Result<(Items<Term>, &[u8]), Stop>
+fn arguments(alloc: Global, text: &[u8]) -> Result<(Items<Term>, &[u8]), Stop<'_>>
     ensures { Gives (λ r. read r.0 r.1.now) result (spec.arguments text.now) }
 {
     let mut terms = Items::new(alloc);
@@ -130,11 +113,11 @@ fn arguments(alloc: Global, text: &[u8]) -> Result<(Items<Term>, &[u8]), Stop>
         }
         rest = tail;
     }
-    Err(Stop::Fault(rest.len()))
+    Err(Stop::Fault(rest))
 }
 
 // The name behind `spawn` or `exit`.
-fn named(text: &[u8]) -> Result<&[u8], Stop>
+fn named(text: &[u8]) -> Result<&[u8], Stop<'_>>
     ensures spawn { GivesExactly (λ r. read (spec.spawn r.now) []) result (spec.named spec.spawn text.now) }
     ensures exit { GivesExactly (λ r. read (spec.exit r.now) []) result (spec.named spec.exit text.now) }
 {
@@ -144,7 +127,7 @@ fn named(text: &[u8]) -> Result<&[u8], Stop>
 }
 
 // The table behind `grow`.
-fn grown<'a>(alloc: Global, text: &'a [u8]) -> Result<Command<'a>, Stop>
+fn grown<'a>(alloc: Global, text: &'a [u8]) -> Result<Command<'a>, Stop<'a>>
     ensures { Gives (λ c. read (command_seen c) []) result (spec.grown text.now) }
 {
     let (table, after) = read_front(alloc, gap(text)?)?;
@@ -153,7 +136,7 @@ fn grown<'a>(alloc: Global, text: &'a [u8]) -> Result<Command<'a>, Stop>
 }
 
 // The table and the bucket behind `ready`.
-fn readied<'a>(alloc: Global, text: &'a [u8]) -> Result<Command<'a>, Stop>
+fn readied<'a>(alloc: Global, text: &'a [u8]) -> Result<Command<'a>, Stop<'a>>
     ensures { Gives (λ c. read (command_seen c) []) result (spec.readied text.now) }
 {
     let (table, more) = read_front(alloc, gap(text)?)?;
@@ -163,7 +146,7 @@ fn readied<'a>(alloc: Global, text: &'a [u8]) -> Result<Command<'a>, Stop>
 }
 
 // The call behind a process's name.
-fn asked<'a>(alloc: Global, name: &'a [u8], text: &'a [u8]) -> Result<Command<'a>, Stop>
+fn asked<'a>(alloc: Global, name: &'a [u8], text: &'a [u8]) -> Result<Command<'a>, Stop<'a>>
     ensures { Gives (λ c. read (command_seen c) []) result (spec.asked name.now text.now) }
 {
     let (call, more) = word(gap(text)?)?;
@@ -176,7 +159,7 @@ fn asked<'a>(alloc: Global, name: &'a [u8], text: &'a [u8]) -> Result<Command<'a
 }
 
 // What clean bytes say.
-fn command_of<'a>(alloc: Global, text: &'a [u8]) -> Result<Command<'a>, Stop>
+fn command_of<'a>(alloc: Global, text: &'a [u8]) -> Result<Command<'a>, Stop<'a>>
     ensures { Gives (λ c. read (command_seen c) []) result (spec.command_of text.now) }
 {
     let (name, rest) = word(past_blanks(text))?;
@@ -217,7 +200,7 @@ pub fn read_command<'a>(alloc: Global, line: &'a [u8]) -> Result<Command<'a>, Al
     match command_of(alloc, &line[..clean]) {
         Ok(command) if clean == line.len() => Ok(command),
         Ok(_) => Ok(Command::Faulty(clean)),
-        Err(Stop::Fault(left)) => Ok(Command::Faulty(clean.saturating_sub(left))),
+        Err(Stop::Fault(rest)) => Ok(Command::Faulty(clean.saturating_sub(rest.len()))),
         Err(Stop::Memory) => Err(AllocError),
     }
 }

@@ -124,11 +124,11 @@ impl Feed {
 fn shift(buffer: &mut Vec<u8>, start: usize, end: usize) -> usize
     requires part { start ≤ end }
     requires within { end ≤ vec_len buffer.old }
-    requires room { vec_len buffer.old ≡ 131072 }
-    requires short { end ≤ start + 65536 }
+    requires room { vec_len buffer.old ≡ ROOM }
+    requires short { end ≤ start + MAX_LINE }
     ensures len { vec_len buffer.new ≡ vec_len buffer.old }
     ensures held { slice_range buffer.new.items result (result + (end - start)) ≡ slice_range buffer.old.items start end }
-    ensures room { result + (end - start) ≤ 65536 }
+    ensures room { result + (end - start) ≤ MAX_LINE }
 {
     if end <= MAX_LINE {
         return start;

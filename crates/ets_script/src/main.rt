@@ -13,6 +13,8 @@ mod run;
 mod script;
 mod stop;
 mod terms;
+#[cfg(test)]
+mod tests;
 
 use crate::program::answer_input;
 use std::io;

@@ -18,7 +18,7 @@ use node_core::{Limits, Node};
 use std::alloc::Global;
 use std::io::{Read, Write};
 
-/// AnswersLine each line of a script, from the first state of a node with these limits to that of the node answered. What was
+/// Answers each line of a script, from the first state of a node with these limits to that of the node answered. What was
 /// answered has gone out before each read, and at the end.
 pub fn run_script<R: Read, W: Write, H: KeyHash + Copy>(
     alloc: Global,
@@ -56,7 +56,7 @@ pub fn run_within<R: Read, W: Write, H: KeyHash + Copy>(
     Ok(script.into_node())
 }
 
-// AnswersLine all lines, and sends all answers.
+// Answers all lines, and sends all answers.
 fn answer_all<R: Read, W: Write, H: KeyHash + Copy>(
     alloc: Global,
     reader: &mut R,
@@ -105,7 +105,7 @@ fn print_line<W: Write>(
     Ok(line.taken)
 }
 
-// AnswersLine the next line, if its end is held.
+// Answers the next line, if its end is held.
 fn answer_next<H: KeyHash + Copy>(
     alloc: Global,
     feed: &Feed,
@@ -126,7 +126,7 @@ fn answer_next<H: KeyHash + Copy>(
     }
 }
 
-// AnswersLine the last line, which has no LF, and sends all answers.
+// Answers the last line, which has no LF, and sends all answers.
 fn answer_last<W: Write, H: KeyHash + Copy>(
     alloc: Global,
     feed: &Feed,
@@ -142,7 +142,7 @@ fn answer_last<W: Write, H: KeyHash + Copy>(
     pending.flush(writer)
 }
 
-// AnswersLine a part of a line as a line. An empty one is silent.
+// Answers a part of a line as a line. An empty one is silent.
 fn answer_part<H: KeyHash + Copy>(alloc: Global, feed: &Feed, script: &mut Script<H>) -> Answer
     ensures { AnswersPart feed.now.is_skipping script.old feed.now.bytes result script.new }
 {

@@ -1,5 +1,5 @@
 -- An object fits a compiled pattern exactly where it matches the pattern by what stands at the first places.
-use Rattle.std.proofs.Common.{◌≡◌, ℕ, suc, ◌+◌, ◌&&◌, ◌||◌, Bool, true, false, if◌then◌else◌, List, [], ◌∷◌, ◌++◌, Option, Some, None, map, codes, rules, refl, sym, ap, subst, ◌∙◌, arith, add-zero, zero-add}
+use Rattle.std.proofs.Common.{◌≡◌, ℕ, suc, ◌+◌, ◌&&◌, ◌||◌, Bool, true, false, if◌then◌else◌, List, [], ◌∷◌, ◌++◌, Option, Some, None, is_some, map, codes, rules, refl, sym, ap, subst, ◌∙◌, arith, add-zero, zero-add}
 use Rattle.std.proofs.lemmas.Slice.Eq.{bytes_eq-Decides}
 use Rattle.std.specs.Option.{option_map}
 use Rattle.std.specs.Str.{bytes_eq}
@@ -9,7 +9,7 @@ use Rattle.ets_term.specs.laws.Exact.{term_of}
 use Rattle.match_spec.specs.declared.pattern.part.Part.{Part, the_lemmas}
 use Rattle.match_spec.specs.declared.pattern.part.Part.TheOpen.{Part-F}
 use Rattle.match_spec.specs.declared.pattern.part.Part.TheVariants.{Anything, Again, Tuple, List as Terms, Constant}
-use Rattle.match_spec.specs.Patterns.{alike, matches, row_matches, name_matches, values, candidates, bindings_of}
+use Rattle.match_spec.specs.Patterns.{Bindings, alike, matches, row_matches, name_matches, values, candidates, bindings_of}
 use Rattle.match_spec.specs.inside.CompiledExpressions.{parts_at}
 use Rattle.match_spec.specs.inside.CompiledPatterns.{part_fits, part_step, all_fit, part_of, parts_from, name_part, IsCompiled}
 use Rattle.match_spec.specs.inside.FirstPlaces.{FirstPlaces, way_in, places_of, first_of}
@@ -40,6 +40,10 @@ at-snoc (j ∷ place) i t = at-snoc place i (element_or (parts t) j t)
 -- the same constant, whatever kind
 fits-constant : (d object t : Data) → part_fits (Constant (term_of d)) object t ≡ alike d t
 fits-constant d object t = ap (λ f. f object t) (fits-Constant (term_of d)) ∙ ap (λ e. alike e t) (data_of-term_of d)
+
+is_some-if : (b : Bool) (x : Bindings) → is_some (if b then Some x else None) ≡ b
+is_some-if true x = refl
+is_some-if false x = refl
 
 module _ (pattern object : Data) where
   abbrev b : ℕ → Option Data
@@ -115,3 +119,9 @@ module _ (pattern object : Data) where
 
     pub bindings_of-fit : (ds : List Data) → part_fits part object object ≡ true → ds ≡ parts_at places object → Some ds ≡ option_map values (bindings_of pattern object)
     bindings_of-fit ds h e = rw (matches-part, h) (ap Some (e ∙ ap (λ (ps : List Place). parts_at ps object) compiled.its_places ∙ parts_at-first))
+
+    pub fits-bindings : part_fits part object object ≡ is_some (bindings_of pattern object)
+    fits-bindings = sym matches-part ∙ sym (is_some-if (matches (λ n. Some (value_at pattern object n)) pattern object) (candidates pattern object))
+
+    pub values-fit : is_some (bindings_of pattern object) ≡ true → (ds : List Data) → ds ≡ parts_at places object → Some ds ≡ option_map values (bindings_of pattern object)
+    values-fit h ds e = bindings_of-fit ds (fits-bindings ∙ h) e

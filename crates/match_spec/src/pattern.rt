@@ -1,4 +1,4 @@
-ghost use Rattle.std.specs.Prelude.{◌≡◌, ◌↔◌, false, map, option_copied, IfOk, IfSome, IsErrOf};
+ghost use Rattle.std.specs.Prelude.{◌≡◌, ◌↔◌, true, false, Some, is_some, map, option_copied, IfOk, IfSome, IsErrOf};
 ghost use Rattle.std.specs.Option.{option_map};
 ghost use Rattle.ets_term.specs.Data.{data_of};
 ghost use Rattle.match_spec.specs.BoundKeys.{bound_key, IsKeyOfMatches};
@@ -67,13 +67,28 @@ impl Pattern {
         self.found(alloc, term)
     }
 
+    /// Whether the term matches it, without memory.
+    pub fn fits(&self, term: &Term) -> bool
+        ensures { result ≡ is_some (bindings_of (data_of self.now) (data_of term.now)) }
+    {
+        fits(&self.part, term, term)
+    }
+
+    /// The values of its variables, in order of their numbers, by which a term matches it that does.
+    pub fn values_in(&self, alloc: Global, term: &Term) -> Result<Vec<Term>, AllocError>
+        requires { is_some (bindings_of (data_of self.now) (data_of term.now)) ≡ true }
+        ensures { IfOk result (λ v. Some (map data_of v.items) ≡ option_map values (bindings_of (data_of self.now) (data_of term.now))) }
+    {
+        copies_at(alloc, self.places.as_slice(), term)
+    }
+
     fn found(&self, alloc: Global, term: &Term) -> Result<Option<Vec<Term>>, AllocError>
         ensures { IfOk result (λ found. option_map (λ v. map data_of v.items) found ≡ option_map values (bindings_of (data_of self.now) (data_of term.now))) }
     {
-        if !fits(&self.part, term, term) {
+        if !self.fits(term) {
             return Ok(None);
         }
-        Ok(Some(copies_at(alloc, self.places.as_slice(), term)?))
+        Ok(Some(self.values_in(alloc, term)?))
     }
 
     /// The key of every object that matches it, where its element at `keypos`, counted from 1, has neither a variable

@@ -5,3 +5,5 @@ pub mod Owners
 pub mod Contents
 pub mod Enrolments
 pub mod Runs
+pub mod Trees
+pub mod Counts

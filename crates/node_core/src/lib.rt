@@ -20,6 +20,8 @@ mod process;
 mod step;
 mod table;
 mod tables;
+#[cfg(test)]
+mod tests;
 
 pub use head::Protection;
 pub use limits::Limits;

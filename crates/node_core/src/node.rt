@@ -11,8 +11,10 @@ mod processes;
 mod reading;
 mod removal;
 mod replies;
+mod searching;
 mod table_of_calls;
 mod tables;
+mod updates;
 
 use crate::limits::Limits;
 use crate::process::Process;

@@ -169,7 +169,7 @@ impl Nodes {
     }
 
     #[cfg(test)]
-    pub fn front_at(&self, at: usize) -> Option<Front> {
+    pub(crate) fn front_at(&self, at: usize) -> Option<Front> {
         self.nodes.get(at).copied()
     }
 

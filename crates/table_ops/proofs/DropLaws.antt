@@ -1,5 +1,5 @@
 -- What deletion makes of the slots is what one call on the rows makes of them.
-use Rattle.std.proofs.Common.{◌≡◌, ℕ, suc, ◌+◌, ◌-◌, ◌≤◌, ◌==◌, Bool, true, false, not, ◌||◌, cond, List, [], ◌∷◌, ◌++◌, Option, None, Some, Ok, filter, map, refl, sym, ap, subst, ◌∙◌, length, true≢false, if◌then◌else◌, arith}
+use Rattle.std.proofs.Common.{◌≡◌, ℕ, suc, ◌+◌, ◌-◌, ◌≤◌, ◌==◌, Bool, true, false, not, ◌||◌, cond, List, [], ◌∷◌, Option, None, Some, Ok, filter, refl, sym, ap, subst, ◌∙◌, length, true≢false, arith}
 use Rattle.std.specs.Prelude.{MatchOption}
 use Rattle.std.proofs.lemmas.Bool.Decides.{nat_tests}
 use Rattle.std.specs.List.{AllByRecursion, IsDistinct}
@@ -19,7 +19,6 @@ use Rattle.table_ops.specs.inside.Thinned.{thinned, Thins}
 use Rattle.table_ops.specs.inside.Undo.{AtKey}
 use Rattle.table_ops.proofs.PutLaws.{of-key, own-in}
 use Rattle.table_ops.proofs.Counts.{count-set, count-gone}
-use Rattle.table_ops.proofs.KeptLaws.{slots-set, slot-of}
 
 or-not : (b : Bool) → (b || not b) ≡ true
 or-not true = refl
@@ -30,7 +29,7 @@ or-either true b = refl
 or-either false b = or-not b
 
 -- a slot of which nothing goes stays
-stays : (hold : Bool) (s : Slot) (l : List Term) (D : List Slot) → l ≡ s.1 → cond (hold || has_objects l || not (has_objects s.1)) ((s.0, l) ∷ D) D ≡ s ∷ D
+pub stays : (hold : Bool) (s : Slot) (l : List Term) (D : List Slot) → l ≡ s.1 → cond (hold || has_objects l || not (has_objects s.1)) ((s.0, l) ∷ D) D ≡ s ∷ D
 stays hold s l D e =
     subst (λ (w : List Term). cond (hold || has_objects w || not (has_objects s.1)) ((s.0, w) ∷ D) D ≡ s ∷ D) (sym e)
     (ap (λ (b : Bool). cond b (s ∷ D) D) (or-either hold (has_objects s.1)))

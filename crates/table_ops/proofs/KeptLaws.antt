@@ -1,5 +1,5 @@
 -- What holds of each slot of a table goes on holding.
-use Rattle.std.proofs.Common.{◌≡◌, ℕ, ◌+◌, ◌≤◌, Bool, true, false, ◌||◌, cond, List, [], ◌∷◌, ◌++◌, Option, None, Some, unwrap_or, refl, sym, ap, subst, ◌∙◌, length, true≢false, if◌then◌else◌, codes, arith, length-append}
+use Rattle.std.proofs.Common.{◌≡◌, ℕ, ◌≤◌, Bool, true, false, ◌||◌, cond, List, [], ◌∷◌, ◌++◌, Option, None, Some, unwrap_or, refl, sym, ap, subst, ◌∙◌, length, true≢false, if◌then◌else◌, codes, arith, length-append}
 use Rattle.std.specs.Prelude.{MatchOption}
 use Rattle.std.specs.List.{list_any, AllByRecursion, IsDistinct}
 use Rattle.std.specs.Option.{option_and_then}
@@ -8,11 +8,11 @@ use Rattle.ets_term.specs.Atoms.{is_atom}
 use Rattle.ets_term.specs.Depth.{is_too_deep, element_at}
 use Rattle.ets_term.specs.Order.{same}
 use Rattle.ets_term.specs.laws.Same.{same-exact, same-refl}
-use Rattle.bucket_table.specs.Slots.{Slot, objects_of, with_objects, Enters, object_count}
+use Rattle.bucket_table.specs.Slots.{Slot, objects_of, with_objects, Enters}
 use Rattle.table_ops.specs.declared.kind.Kind.{Kind}
 use Rattle.table_ops.specs.declared.kind.Kind.TheVariants.{Set, Bag, DuplicateBag}
 use Rattle.table_ops.specs.Content.{key_of, objects_under, IsStored, IsKept, IsSlot, AreSlots}
-use Rattle.table_ops.specs.Put.{add, Writes, Puts, PutsAll}
+use Rattle.table_ops.specs.Put.{add, Puts, PutsAll}
 
 -- the tests of a list go apart
 pub neither : (a b : Bool) → (a || b) ≡ false → (a ≡ false) × (b ≡ false)

@@ -1,7 +1,13 @@
+pub mod BoundLaws
 pub mod Counts
 pub mod DropLaws
 pub mod KeptLaws
+pub mod MarkLaws
 pub mod PutLaws
+pub mod QueryLaws
 pub mod ReadLaws
 pub mod SlotLaws
 pub mod StoreLaws
+pub mod TupleLaws
+pub mod UpdateLaws
+pub mod UpdatedLaws

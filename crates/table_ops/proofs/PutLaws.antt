@@ -1,9 +1,8 @@
 -- An insertion of one object, and how it is taken back.
-use Rattle.std.proofs.Common.{◌≡◌, ℕ, ◌+◌, ◌-◌, ◌≤◌, ◌<◌, Bool, true, false, List, [], ◌∷◌, ◌++◌, Option, None, Some, is_some, unwrap_or, Result, Ok, Err, refl, sym, ap, subst, ◌∙◌, length, take, true≢false, ◌||◌, if◌then◌else◌, arith, length-append}
+use Rattle.std.proofs.Common.{◌≡◌, ℕ, ◌+◌, ◌≤◌, Bool, true, false, List, [], ◌∷◌, ◌++◌, Option, None, Some, is_some, unwrap_or, Result, Ok, Err, refl, sym, ap, subst, ◌∙◌, length, true≢false, ◌||◌, if◌then◌else◌, arith, length-append}
 use Rattle.std.proofs.lemmas.Grind.{common_steps}
-use Rattle.std.specs.Prelude.{MatchOption, nat_lt}
+use Rattle.std.specs.Prelude.{MatchOption}
 use Rattle.std.specs.List.{list_any}
-use Rattle.std.proofs.lemmas.Bool.Decides.{nat_tests}
 use Rattle.ets_term.specs.declared.term.Term.{Term}
 use Rattle.ets_term.specs.Order.{same}
 use Rattle.bucket_table.specs.Slots.{Slot, objects_of, with_objects, without, has_objects, object_count, Enters}
@@ -14,10 +13,10 @@ use Rattle.table_ops.specs.declared.refusal.Refusal.{Refusal}
 use Rattle.table_ops.specs.declared.refusal.Refusal.TheVariants.{Badarg, SystemLimit, Memory}
 use Rattle.table_ops.specs.declared.undo.Undo.{Undo}
 use Rattle.table_ops.specs.declared.undo.Undo.TheVariants.{NewSlot, Objects, LastObject, Nothing}
-use Rattle.table_ops.specs.Content.{key_of, objects_under, IsKept}
-use Rattle.table_ops.specs.Put.{add, Writes, Puts, PutsAll}
-use Rattle.table_ops.specs.inside.Undo.{AtKey, but_last, undone, gain, gain_of, PutsOne, PutsObject, PutsEach}
-use Rattle.table_ops.proofs.Counts.{count-enters, count-set, count-writes, written}
+use Rattle.table_ops.specs.Content.{objects_under}
+use Rattle.table_ops.specs.Put.{add, Writes}
+use Rattle.table_ops.specs.inside.Undo.{AtKey, but_last, gain_of, PutsOne}
+use Rattle.table_ops.proofs.Counts.{count-enters, count-set}
 use Rattle.table_ops.proofs.SlotLaws.{set_value-twice, set_value-same, lookup-set_value, remove_entry-set_value, without-Enters}
 
 -- what holds at a place's key, once the place has one
@@ -44,7 +43,7 @@ to-key (Some own) P key e h = let is : own ≡ key = cc in subst P (sym is) h
 pub under-some : (slots : List Slot) (key : Term) (c : List Term) → objects_of slots key ≡ Some c → objects_under slots key ≡ c
 under-some slots key c h = ap (λ o. unwrap_or o []) h
 
-add-none : (kind : Kind) (object : Term) → add kind [] object ≡ object ∷ []
+pub add-none : (kind : Kind) (object : Term) → add kind [] object ≡ object ∷ []
 add-none Set object = refl
 add-none Bag object = refl
 add-none DuplicateBag object = refl

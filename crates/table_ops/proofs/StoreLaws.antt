@@ -1,7 +1,7 @@
 -- Insertions of lists, all or none.
-use Rattle.std.proofs.Common.{◌≡◌, ℕ, zero, suc, ◌+◌, ◌-◌, ◌≤◌, ◌<◌, Bool, true, false, ◌&&◌, ◌||◌, List, [], ◌∷◌, ◌++◌, Option, None, Some, is_some, unwrap_or, Result, Ok, Err, refl, sym, ap, subst, ◌∙◌, length, take, drop, slice_get, true≢false, append_assoc, arith}
+use Rattle.std.proofs.Common.{◌≡◌, ℕ, zero, suc, ◌+◌, ◌≤◌, ◌<◌, Bool, true, false, ◌&&◌, ◌||◌, List, [], ◌∷◌, ◌++◌, Option, None, Some, is_some, unwrap_or, Result, Ok, Err, refl, sym, ap, subst, ◌∙◌, length, take, drop, slice_get, true≢false, arith}
 use Rattle.std.proofs.lemmas.Bool.Decides.{nat_tests}
-use Rattle.std.specs.Prelude.{MatchOption, nat_lt}
+use Rattle.std.specs.Prelude.{nat_lt}
 use Rattle.std.specs.Bool.{MatchBool}
 use Rattle.std.specs.List.{list_any, list_all}
 use Rattle.ets_term.specs.declared.term.Term.{Term}
@@ -13,13 +13,13 @@ use Rattle.table_ops.specs.declared.refusal.Refusal.TheVariants.{Badarg, SystemL
 use Rattle.table_ops.specs.declared.undo.Undo.{Undo}
 use Rattle.table_ops.specs.declared.undo.Undo.TheVariants.{NewSlot, Objects, LastObject, Nothing}
 use Rattle.table_ops.specs.Content.{Content, key_of, is_object, objects_under, AreSlots}
-use Rattle.table_ops.specs.Put.{add, Writes, Puts, PutsAll, Stores, Inserts, InsertsNew, is_taken}
+use Rattle.table_ops.specs.Put.{add, Puts, PutsAll, Stores, Inserts, InsertsNew, is_taken}
 use Rattle.table_ops.specs.Refusals.{Comes}
 use Rattle.table_ops.specs.inside.Undo.{AtKey, undone, undone_all, gain, gain_of, PutsOne, PutsObject, PutsEach}
 use Rattle.table_ops.proofs.Counts.{count-writes, written}
 use Rattle.table_ops.proofs.KeptLaws.{neither, slot-under, slots-puts, slots-puts-all, not-shorter}
 
-both : (a b : Bool) → (a && b) ≡ true → (a ≡ true) × (b ≡ true)
+pub both : (a b : Bool) → (a && b) ≡ true → (a ≡ true) × (b ≡ true)
 both true b h = (refl, h)
 both false b h = absurd (true≢false (sym h))
 
@@ -27,10 +27,10 @@ pub object-key : (o : Option Term) → is_some o ≡ true → (key : Term) × (o
 object-key None h = absurd (true≢false (sym h))
 object-key (Some key) h = (key, refl)
 
-is-below : (a c : ℕ) → nat_lt a c ≡ true → a < c
+pub is-below : (a c : ℕ) → nat_lt a c ≡ true → a < c
 is-below a c e = grind (arith, nat_tests)
 
-is-not-below : (a c : ℕ) → nat_lt a c ≡ false → c ≤ a
+pub is-not-below : (a c : ℕ) → nat_lt a c ≡ false → c ≤ a
 is-not-below a c e = grind (arith, nat_tests)
 
 -- objects one after another
@@ -196,18 +196,18 @@ all-refused limit before kind keypos old mid objects i object a are shallow at d
     (same, (rest.0, subst (λ l. PutsAll kind keypos old l rest.0) (take-with objects i object at) whole, omega (arith, w.2, rest.2)))
 all-refused limit before kind keypos old mid objects i object a are shallow at done counted Memory new back p same = same
 
-full_at : (b : Bool) (P Q : Type 0) → b ≡ true → P → MatchBool b P Q
+pub full_at : (b : Bool) (P Q : Type 0) → b ≡ true → P → MatchBool b P Q
 full_at true P Q e p = p
 full_at false P Q e p = absurd (true≢false (sym e))
 
-room_at : (b : Bool) (P Q : Type 0) → b ≡ false → Q → MatchBool b P Q
+pub room_at : (b : Bool) (P Q : Type 0) → b ≡ false → Q → MatchBool b P Q
 room_at false P Q e q = q
 room_at true P Q e q = absurd (true≢false e)
 
-above : (limit n : ℕ) → limit < n → nat_lt limit n ≡ true
+pub above : (limit n : ℕ) → limit < n → nat_lt limit n ≡ true
 above limit n h = grind (arith, nat_tests)
 
-not-above : (limit n : ℕ) → n ≤ limit → nat_lt limit n ≡ false
+pub not-above : (limit n : ℕ) → n ≤ limit → nat_lt limit n ≡ false
 not-above limit n h = grind (arith, nat_tests)
 
 module _ {X : Type 0} (done : X) (objects : List Term) (old : Content) where

@@ -1,5 +1,5 @@
 -- What deletion does to slots (stdlib manual, module ets, delete/2, delete_object/2, delete_all_objects/1).
-use Rattle.std.specs.Prelude.{◌≡◌, ℕ, Bool, true, not, ◌||◌, if◌then◌else◌, List, [], ◌∷◌, filter, MatchOption, Ok, Err}
+use Rattle.std.specs.Prelude.{Bool, true, not, ◌||◌, if◌then◌else◌, List, [], ◌∷◌, filter, MatchOption, Ok, Err}
 use Rattle.ets_term.specs.declared.term.Term.{Term}
 use Rattle.ets_term.specs.Order.{same}
 use Rattle.bucket_table.specs.Slots.{Slot, has_objects}

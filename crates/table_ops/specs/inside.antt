@@ -1,4 +1,6 @@
 pub mod Codes
 pub mod Counted
+pub mod Marked
 pub mod Thinned
 pub mod Undo
+pub mod Updated

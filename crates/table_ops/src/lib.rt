@@ -14,16 +14,25 @@
 //! *Limits.* Whether a slot that loses its last object is held is for the caller to say, at each call.
 #![tactic(auto)]
 
+mod count;
+mod gather;
 mod kind;
+mod looks;
+mod marks;
 mod object;
 mod put;
 mod put_all;
 mod refusal;
 mod table;
 mod take;
+#[cfg(test)]
+mod tests;
+mod trial;
 mod undo;
+mod update;
 
 pub use kind::Kind;
+pub use looks::Looks;
 pub use object::key_of;
 pub use refusal::Refusal;
 pub use table::Table;

@@ -10,7 +10,9 @@ use std::marker::Model;
 
 mod insert;
 mod lookup;
+mod query;
 mod remove;
+mod update;
 
 /// One table over its rows (stdlib manual, module ets). A contract sees its `content` and the readiness of its
 /// `buckets`.

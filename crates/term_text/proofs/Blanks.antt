@@ -1,10 +1,10 @@
 -- Where blanks end, and what they leave as it is.
 use Rattle.std.proofs.Common.{◌≡◌, ap, ◌∙◌, ◌+◌, ◌<◌, ◌≤◌, ℕ, List, ◌∷◌, length, drop, get_or, arith, Bool, true, false}
 use Rattle.std.proofs.lemmas.List.{drop_all}
-use Rattle.term_text.specs.Machine.{Open, Step, goes, wants, opened_binary, wants_byte, behind_byte, behind_string, after}
-use Rattle.term_text.specs.inside.Reader.{Comes, IgnoresBlanks}
+use Rattle.term_text.specs.Reader.{Open, Reading, goes, wants, opened_binary, wants_byte, behind_byte, behind_string, after}
+use Rattle.term_text.specs.inside.Parts.{Comes, IgnoresBlanks}
 use Rattle.term_text.specs.Text.{is_blank, begins, closes}
-use Rattle.term_text.proofs.Runs.{run_at, begins_at, if_true, if_false}
+use Rattle.term_text.proofs.Places.{read_at, begins_at, if_true, if_false}
 
 -- a place that no blank stands at
 pub stops_here : (text : List ℕ) (place : ℕ) → place < length text → is_blank (get_or text place 0) ≡ false → begins is_blank (drop place text) ≡ false
@@ -13,8 +13,8 @@ stops_here text place h e = begins_at is_blank text place h ∙ e
 pub stops_end : (text : List ℕ) (place : ℕ) → length text ≤ place → begins is_blank (drop place text) ≡ false
 stops_end text place h = ap (begins is_blank) (drop_all place text h)
 
-pub stays_more : (text : List ℕ) (at place : ℕ) (s : Step) → IgnoresBlanks s → Comes text at s place s → place < length text → is_blank (get_or text place 0) ≡ true → Comes text at s (place + 1) s
-stays_more text at place s h so_far k b = so_far ∙ run_at text place s s k (h place (get_or text place 0) b)
+pub stays_more : (text : List ℕ) (at place : ℕ) (s : Reading) → IgnoresBlanks s → Comes text at s place s → place < length text → is_blank (get_or text place 0) ≡ true → Comes text at s (place + 1) s
+stays_more text at place s h so_far k b = so_far ∙ read_at text place s s k (h place (get_or text place 0) b)
 
 no_close : (square : Bool) (b : ℕ) → is_blank b ≡ true → closes square b ≡ false
 unfolding is_blank closes

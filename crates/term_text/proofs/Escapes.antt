@@ -1,7 +1,7 @@
 -- Characters between single quotes, as the pieces that go out.
-use Rattle.std.proofs.Common.{◌≡◌, refl, ap, sym, subst, ◌∙◌, ◌+◌, ◌-◌, ◌<◌, ◌≤◌, ◌++◌, ◌==◌, ◌||◌, ◌&&◌, ℕ, zero, suc, List, [], ◌∷◌, length, take, drop, get_or, arith, add-one, Bool, true, false, append_assoc, Option, Result}
+use Rattle.std.proofs.Common.{◌≡◌, refl, ap, sym, subst, ◌∙◌, ◌+◌, ◌-◌, ◌<◌, ◌≤◌, ◌++◌, ◌==◌, ◌||◌, ℕ, zero, suc, List, [], ◌∷◌, length, take, drop, get_or, arith, add-one, true, false, append_assoc, Option, Result}
 use Rattle.std.proofs.lemmas.List.{append-nil, take_more, take_all, get_or-drop, length-drop, drop_more, at_drop_more}
-use Rattle.std.proofs.lemmas.Bool.{false≢true}
+use Rattle.std.proofs.lemmas.Bool.{and_parts}
 use Rattle.std.proofs.lemmas.Bool.Decides.{nat_tests}
 use Rattle.std.proofs.lemmas.Str.{IsCharBoundary-from_ascii}
 use Rattle.std.proofs.lemmas.Str.Ascii.{IsAscii-nil, IsAscii-cons}
@@ -12,18 +12,14 @@ use Rattle.ets_term.specs.Character.{is_character}
 use Rattle.term_text.specs.Printed.{escaped}
 use Rattle.term_text.specs.Sent.{AppendsFront, AppendsOrFront}
 use Rattle.term_text.proofs.Pieces.{appends_then, front_first, front_then, front_as, sends_as, sends_then, appends_nothing}
-use Rattle.term_text.proofs.Runs.{if_true, if_false}
-
-both : (a b : Bool) → (a && b) ≡ true → (a ≡ true) × (b ≡ true)
-both true b h = (refl, h)
-both false b h = absurd (false≢true h)
+use Rattle.term_text.proofs.Places.{if_true, if_false}
 
 small : (b : ℕ) → is_character b ≡ true → b < 128
 small b h = grind (arith, nat_tests)
 
 pub ascii : (bs : List ℕ) → list_all is_character bs ≡ true → IsAscii bs
 ascii [] h = IsAscii-nil
-ascii (b ∷ bs) h = let p = both (is_character b) (list_all is_character bs) h in IsAscii-cons b bs (small b p.0) (ascii bs p.1)
+ascii (b ∷ bs) h = let p = and_parts (is_character b) (list_all is_character bs) h in IsAscii-cons b bs (small b p.0) (ascii bs p.1)
 
 pub boundary : (bs : List ℕ) (i : ℕ) → list_all is_character bs ≡ true → i ≤ length bs → IsCharBoundary bs i
 boundary bs i h k = IsCharBoundary-from_ascii bs i (ascii bs h) k

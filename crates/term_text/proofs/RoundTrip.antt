@@ -1,7 +1,7 @@
 -- The printed text of a term is a spelling of it.
-use Rattle.std.proofs.Common.{◌≡◌, refl, ap, sym, subst, ◌∙◌, ◌+◌, ◌-◌, ◌*◌, ◌^◌, ◌<◌, ◌≤◌, ◌++◌, ◌==◌, ◌||◌, ◌&&◌, max, ℕ, suc, zero, ℤ, pos, negsuc, ◌≤ℤ◌, List, [], ◌∷◌, length, map, arith, rules, Bool, true, false, decimal, append_assoc}
+use Rattle.std.proofs.Common.{◌≡◌, refl, ap, sym, subst, ◌∙◌, ◌+◌, ◌-◌, ◌*◌, ◌^◌, ◌<◌, ◌≤◌, ◌++◌, ◌==◌, ◌||◌, max, ℕ, suc, zero, ℤ, pos, negsuc, ◌≤ℤ◌, List, [], ◌∷◌, length, map, arith, rules, true, false, decimal, append_assoc}
 use Rattle.std.proofs.lemmas.List.{append-nil}
-use Rattle.std.proofs.lemmas.Bool.{false≢true, true≢false}
+use Rattle.std.proofs.lemmas.Bool.{and_parts, or_parts}
 use Rattle.std.proofs.lemmas.Bool.Decides.{nat_tests}
 use Rattle.std.proofs.lemmas.Fmt.{decimal_is_IsNumeral}
 use Rattle.std.proofs.lemmas.Int.{ints}
@@ -22,13 +22,13 @@ use Rattle.ets_term.specs.declared.term.Term.TheFolds.{map-Term}
 use Rattle.ets_term.specs.declared.term.Term.TheOpen.{Term-F}
 use Rattle.ets_term.specs.declared.term.Term.TheVariants.{Int, Atom, Pid, Tid, Tuple, List as ListOf, Binary, rolls-Int, rolls-Atom, rolls-Pid, rolls-Tid, rolls-Tuple, rolls-List, rolls-Binary}
 use Rattle.term_text.specs.Grammar.{SpellsNumber, SpellsQuoted, SpellsBytes, Spells, SpellsRow, none, plain, escaped as escaped_form, first, more, positive, negative, plain_atom, quoted_atom, pid_form, identifier_form, no_bytes, bytes, empty_bracket, full_bracket, first_term, more_terms}
-use Rattle.term_text.specs.Machine.{Number, integer, pid, identifier, byte, top}
+use Rattle.term_text.specs.Reader.{Number, integer, pid, identifier, byte, top}
 use Rattle.term_text.specs.Printed.{is_plain, escaped, atom_text, row_text, printed}
 use Rattle.term_text.specs.RoundTrip.{ReadsBack}
 use Rattle.term_text.specs.Text.{is_digit, is_small, is_name, begins, spelled}
-use Rattle.term_text.proofs.Runs.{by_test, if_true, if_false}
+use Rattle.term_text.proofs.Places.{by_test, if_true, if_false}
+use Rattle.term_text.proofs.Printed.{printed-Int, printed-Atom, printed-Pid, printed-Tid, printed-Tuple, printed-List, printed-Binary}
 use Rattle.term_text.proofs.Spelled.{front_read}
-use Rattle.term_text.proofs.Texts.{printed-Int, printed-Atom, printed-Pid, printed-Tid, printed-Tuple, printed-List, printed-Binary}
 
 -- numbers
 digit_in : (c : ℕ) → 48 ≤ c → c ≤ 57 → is_digit c ≡ true
@@ -62,34 +62,26 @@ integer_spelled k (pos n) low high = positive k (decimal n) n (let r : n ≤ 2 ^
 integer_spelled k (negsuc n) low high = negative k (decimal (suc n)) (suc n) (let r : n ≤ 2 ^ 63 - 1 = omega (arith, ints, low) in number_spelled (integer true) (suc n) (omega (arith, r)) (omega (arith, r)))
 
 -- atoms
-parts : (a b : Bool) → (a && b) ≡ true → (a ≡ true) × (b ≡ true)
-parts true b h = (refl, h)
-parts false b h = absurd (false≢true h)
-
-neither : (a b : Bool) → (a || b) ≡ false → (a ≡ false) × (b ≡ false)
-neither true b h = absurd (true≢false h)
-neither false b h = (refl, h)
-
 quoted_along : (s t cs ds : List ℕ) → s ≡ t → cs ≡ ds → SpellsQuoted 39 s cs → SpellsQuoted 39 t ds
 quoted_along s t cs ds e f h = subst (λ (w : List ℕ). SpellsQuoted 39 w ds) e (subst (λ (w : List ℕ). SpellsQuoted 39 s w) f h)
 
 quoted_on : (t ds s : List ℕ) → SpellsQuoted 39 t ds → list_all is_character s ≡ true → SpellsQuoted 39 (t ++ flat_map escaped s) (ds ++ s)
 quoted_on t ds [] sp h = quoted_along t (t ++ []) ds (ds ++ []) (sym (append-nil t)) (sym (append-nil ds)) sp
 quoted_on t ds (c ∷ s) sp h =
-    let q = parts (is_character c) (list_all is_character s) h in
+    let q = and_parts (is_character c) (list_all is_character s) h in
     let tail : List ℕ = flat_map escaped s in
     by_test ((c == 39) || (c == 92))
     (λ e. quoted_along _ (t ++ (escaped c ++ tail)) _ (ds ++ c ∷ s)
     (append_assoc t (92 ∷ c ∷ []) tail ∙ ap (λ (w : List ℕ). t ++ (w ++ tail)) (sym (if_true _ _ _ e))) (append_assoc ds (c ∷ []) s)
     (quoted_on (t ++ 92 ∷ c ∷ []) (ds ++ c ∷ []) s (escaped_form t ds c sp e) q.1))
-    (λ e. let z = neither (c == 39) (c == 92) e in
+    (λ e. let z = or_parts (c == 39) (c == 92) e in
     quoted_along _ (t ++ (escaped c ++ tail)) _ (ds ++ c ∷ s)
     (append_assoc t (c ∷ []) tail ∙ ap (λ (w : List ℕ). t ++ (w ++ tail)) (sym (if_false _ _ _ e))) (append_assoc ds (c ∷ []) s)
     (quoted_on (t ++ c ∷ []) (ds ++ c ∷ []) s (plain t ds c sp q.0 z.0 z.1) q.1))
 
 atom_spelled : (k : ℕ) (s : List ℕ) → IsAtomText s → Spells (suc k) (atom_text s) (Atom s)
 atom_spelled k s h = by_test (is_plain s)
-    (λ e. let q = parts (begins is_small s) (list_all is_name s) e in
+    (λ e. let q = and_parts (begins is_small s) (list_all is_name s) e in
     subst (λ (w : List ℕ). Spells (suc k) w (Atom s)) (sym (if_true _ _ _ e)) (plain_atom k s q.0 q.1 h.short))
     (λ e. subst (λ (w : List ℕ). Spells (suc k) w (Atom s)) (sym (if_false _ _ _ e)) (quoted_atom k (flat_map escaped s) s (quoted_on [] [] s none h.each) h.short))
 

@@ -1,8 +1,10 @@
 -- Which fault a text has, by the grammar: one row a fault. `pre` is the text before the byte b at which it is noticed.
-use Rattle.std.specs.Prelude.{◌≡◌, ℕ, suc, ◌+◌, ◌-◌, ◌*◌, ◌<◌, List, [], ◌∷◌, ◌++◌, length, Bool, true, false, ◌==◌, IsTrue, codes}
+use Rattle.std.specs.Prelude.{◌≡◌, ℕ, suc, ◌+◌, ◌-◌, ◌*◌, ◌<◌, List, [], ◌∷◌, ◌++◌, length, true, false, ◌==◌, IsTrue, codes}
 use Rattle.std.specs.List.{list_all}
 use Rattle.ets_term.specs.Character.{is_character}
 use Rattle.ets_term.specs.declared.term.Term.{Term}
+use Rattle.ets_term.specs.declared.term.TheConstants.{MAX_DEPTH}
+use Rattle.term_text.specs.declared.quote_form.TheConstants.{MAX_CHARACTERS}
 use Rattle.term_text.specs.declared.fault.TextFault.{TextFault}
 use Rattle.term_text.specs.declared.fault.TextFault.TheVariants.{Unexpected, Unclosed, OutOfRange, TooDeep, AtomTooLong, Memory}
 use Rattle.term_text.specs.Forms.{Open, Number, integer, pid, identifier, byte, top}
@@ -12,17 +14,17 @@ use Rattle.term_text.specs.Text.{is_digit, is_small, is_name, begins, begins_ter
 -- the text in a bracket up to where a term is wanted, behind these
 pub data Inside (k : ℕ) : List Term → List ℕ → Type 0 where
   fresh : (blanks : List ℕ) → AreBlanks blanks → Inside k [] blanks
-  further : (ts : List Term) (row before behind : List ℕ) → SpellsRow k row ts → AreBlanks before → AreBlanks behind → Inside k ts (row ++ (before ++ 44 ∷ behind))
+  further : (ts : List Term) (row before behind : List ℕ) → SpellsRow k row ts → AreBlanks before → AreBlanks behind → Inside k ts (row ++ (before ++ (codes "," ++ behind)))
 
 -- the text up to where a term of at most k levels is wanted, in these open brackets
 abbrev pub Here : ℕ → List Open → List ℕ → Type 0
-Here k [] pre = AreBlanks pre × (k ≡ 128)
+Here k [] pre = AreBlanks pre × (k ≡ MAX_DEPTH)
 Here k (o ∷ os) pre = (outer inner : List ℕ) × (pre ≡ outer ++ (opening_sign o.square ∷ inner)) × Here (suc k) os outer × Inside k o.terms inner
 
 -- the bytes of a binary up to where a further one is wanted
 pub data Bytes : List ℕ → List ℕ → Type 0 where
   opened : (blanks : List ℕ) → AreBlanks blanks → Bytes [] blanks
-  comma : (bs row before behind : List ℕ) → SpellsBytes row bs → AreBlanks before → AreBlanks behind → Bytes bs (row ++ (before ++ 44 ∷ behind))
+  comma : (bs row before behind : List ℕ) → SpellsBytes row bs → AreBlanks before → AreBlanks behind → Bytes bs (row ++ (before ++ (codes "," ++ behind)))
 
 -- what stands before the digits of a number
 abbrev pub Before : Number → List ℕ → Type 0
@@ -54,17 +56,17 @@ pub record PastRange (pre : List ℕ) (b start : ℕ) : Type 0 where
   pub digit : is_digit b ≡ true
   pub past : top kind < value * 10 + (b - 48)
 
--- an atom too long: b begins the 256th character of an atom that begins at `start`
+-- an atom too long: b begins one character more than an atom has, of one that begins at `start`
 pub data PastAtom (pre : List ℕ) (b start : ℕ) : Type 0 where
   plain_form : (os : List Open) (k : ℕ) (lead s : List ℕ) → pre ≡ lead ++ s → Here (suc k) os lead → start ≡ length lead
-      → IsTrue (begins is_small s) → IsTrue (list_all is_name s) → length s ≡ 255 → is_name b ≡ true → PastAtom pre b start
-  quoted_form : (os : List Open) (k : ℕ) (lead s cs : List ℕ) → pre ≡ lead ++ (39 ∷ s) → Here (suc k) os lead → start ≡ length lead
-      → SpellsQuoted 39 s cs → length cs ≡ 255 → is_character b ≡ true → (b == 39) ≡ false → PastAtom pre b start
+      → IsTrue (begins is_small s) → IsTrue (list_all is_name s) → length s ≡ MAX_CHARACTERS → is_name b ≡ true → PastAtom pre b start
+  quoted_form : (os : List Open) (k : ℕ) (lead s cs : List ℕ) → pre ≡ lead ++ (codes "'" ++ s) → Here (suc k) os lead → start ≡ length lead
+      → SpellsQuoted 39 s cs → length cs ≡ MAX_CHARACTERS → is_character b ≡ true → (b == 39) ≡ false → PastAtom pre b start
 
--- too deep: b can begin a term at level 129, or a character of a string that stands at level 128
+-- too deep: b can begin a term one level past the last, or a character of a string that stands at the last
 pub data PastDepth (pre : List ℕ) (b : ℕ) : Type 0 where
   a_term : (os : List Open) → Here 0 os pre → begins_term b ≡ true → PastDepth pre b
-  a_character : (os : List Open) (lead : List ℕ) → pre ≡ lead ++ 34 ∷ [] → Here 1 os lead → is_character b ≡ true → (b == 34) ≡ false → PastDepth pre b
+  a_character : (os : List Open) (lead : List ℕ) → pre ≡ lead ++ codes "\"" → Here 1 os lead → is_character b ≡ true → (b == 34) ≡ false → PastDepth pre b
 
 -- what a fault at the byte b says of the text before it
 abbrev pub Says : List ℕ → ℕ → TextFault → Type 0

@@ -33,7 +33,7 @@ top (integer true) = size least
 top (integer false) = size greatest
 top pid = 2 ^ 32 - 1
 top identifier = 2 ^ 32 - 1
-top (byte bs) = 255
+top (byte bs) = 2 ^ 8 - 1
 
 abbrev pub bracket : Open → Term
 bracket o = if o.square then ListOf o.terms else Tuple o.terms

@@ -1,11 +1,11 @@
 pub mod Text
 pub mod Forms
-pub mod Machine
+pub mod Reader
 pub mod Given
 pub mod Printed
 pub mod Sent
 pub mod Grammar
 pub mod Faults
-pub mod Going
+pub mod Prefixes
 pub mod RoundTrip
 pub mod inside

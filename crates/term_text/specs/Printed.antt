@@ -12,10 +12,10 @@ is_plain s = begins is_small s && list_all is_name s
 
 -- a character between single quotes: a quote and a `\` have a `\` before them
 abbrev pub escaped : ℕ → List ℕ
-escaped c = if (c == 39) || (c == 92) then 92 ∷ c ∷ [] else c ∷ []
+escaped c = if (c == 39) || (c == 92) then codes "\\" ++ c ∷ [] else c ∷ []
 
 abbrev pub atom_text : List ℕ → List ℕ
-atom_text s = if is_plain s then s else (39 ∷ []) ++ (flat_map escaped s ++ 39 ∷ [])
+atom_text s = if is_plain s then s else codes "'" ++ (flat_map escaped s ++ codes "'")
 
 -- a comma, where something stands before
 abbrev pub comma_if : Bool → List ℕ

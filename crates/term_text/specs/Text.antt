@@ -23,11 +23,6 @@ closes square b = if square then b == 93 else b == 125
 unfoldable pub begins_term : ℕ → Bool
 begins_term b = (b == 123) || (b == 91) || (b == 45) || (b == 39) || (b == 34) || (b == 60) || (b == 35) || is_digit b || is_small b
 
--- how many bytes at the front pass
-abbrev pub count : (ℕ → Bool) → List ℕ → ℕ
-count p [] = 0
-count p (b ∷ bs) = if p b then count p bs + 1 else 0
-
 -- the number n with the digits at the front written behind it
 abbrev pub spelled : ℕ → List ℕ → ℕ
 spelled n [] = n

@@ -1,19 +1,19 @@
 //! Binaries, pids and table identifiers.
-ghost use Rattle.std.specs.Prelude.{◌≡◌, ◌+◌, ◌≤◌, ◌<◌, ◌∷◌, [], List, true, length, IfOk, slice_index};
-ghost use Rattle.term_text.specs.Machine.{Open, byte, digit, quoted, goes, opened_binary, angle, arrive, digits, pid, identifier};
-ghost use Rattle.term_text.specs.inside.Reader.{Reads, ReadsBytes};
-ghost use Rattle.term_text.specs.declared.quotes.Quotes.TheVariants as form;
+ghost use Rattle.std.specs.Prelude.{◌≡◌, ◌+◌, ◌≤◌, ◌<◌, ◌∷◌, [], List, true, length, IfOk, codes};
+ghost use Rattle.term_text.specs.Reader.{Open, byte, digit, quoted, goes, opened_binary, angle, arrive, digits, pid, identifier};
+ghost use Rattle.term_text.specs.inside.Parts.{Reads, ReadsBytes};
+ghost use Rattle.term_text.specs.declared.quote_form.QuoteForm.TheVariants as form;
 
 use crate::bytes::{digit_stands, past_blanks, stands};
 use crate::fault::TextFault;
-use crate::number::{Size, number_at, signs_at};
+use crate::number::{Magnitude, literal_at, number_at};
+use crate::quote_form::QuoteForm;
 use crate::quoted::quoted_at;
-use crate::quotes::Quotes;
 use ets_term::{Items, Term};
 use std::alloc::Global;
 
 /// The bytes of a binary, of which there is one here, and where the sign behind them must stand.
-#[tactic(auto, using(crate::proofs::Binaries::bytes_end, crate::proofs::Binaries::comma_byte, crate::proofs::Binaries::wants_digit, crate::proofs::Blanks::behind_byte_ignores, crate::proofs::Blanks::wants_byte_ignores, crate::proofs::Runs::begins_in))]
+#[tactic(auto, using(crate::proofs::Binaries::bytes_end, crate::proofs::Binaries::comma_byte, crate::proofs::Binaries::wants_digit, crate::proofs::Blanks::behind_byte_ignores, crate::proofs::Blanks::wants_byte_ignores, crate::proofs::Places::begins_in))]
 fn bytes_at(alloc: Global, text: &[u8], at: usize) -> Result<(Items<u8>, usize), TextFault>
     requires { at ≤ length text.now }
     ensures within { IfOk result (λ x. (at ≤ x.1) × (x.1 ≤ length text.now)) }
@@ -22,7 +22,7 @@ fn bytes_at(alloc: Global, text: &[u8], at: usize) -> Result<(Items<u8>, usize),
     let mut bytes = Vec::new(alloc);
     let mut place = at;
     loop {
-        let (n, end) = number_at(text, place, place, u8::MAX as Size)?;
+        let (n, end) = number_at(text, place, place, u8::MAX as Magnitude)?;
         bytes.push(n as u8)?;
         let behind = past_blanks(text, end);
         if !stands(text, behind, b',') {
@@ -39,7 +39,7 @@ fn byte_binary_at(alloc: Global, text: &[u8], at: usize) -> Result<(Term, usize)
     ensures reads { (os : List Open) → Reads text.now at (goes (digit (byte []) at) os) os result }
 {
     let (bytes, place) = bytes_at(alloc, text, at)?;
-    let end = signs_at(text, place, b">>")?;
+    let end = literal_at(text, place, b">>")?;
     Ok((Term::Binary(bytes), end))
 }
 
@@ -50,14 +50,14 @@ fn string_binary_at(alloc: Global, text: &[u8], at: usize) -> Result<(Term, usiz
     ensures within { IfOk result (λ x. (at ≤ x.1) × (x.1 ≤ length text.now)) }
     ensures reads { (os : List Open) → Reads text.now at (goes (quoted form.Binary []) os) os result }
 {
-    let (bytes, behind) = quoted_at(alloc, text, at, Quotes::Binary, false)?;
+    let (bytes, behind) = quoted_at(alloc, text, at, QuoteForm::Binary, false)?;
     let place = past_blanks(text, behind);
-    let end = signs_at(text, place, b">>")?;
+    let end = literal_at(text, place, b">>")?;
     Ok((Term::Binary(bytes), end))
 }
 
 /// A binary, behind its `<<`.
-#[tactic(auto, using(crate::proofs::Binaries::opened_quote, crate::proofs::Binaries::opened_digit, crate::proofs::Binaries::opened_ends, crate::proofs::Blanks::opened_binary_ignores, crate::proofs::Runs::reads_along, crate::proofs::Runs::begins_in))]
+#[tactic(auto, using(crate::proofs::Binaries::opened_quote, crate::proofs::Binaries::opened_digit, crate::proofs::Binaries::opened_ends, crate::proofs::Blanks::opened_binary_ignores, crate::proofs::Places::reads_along, crate::proofs::Places::begins_in))]
 fn binary_at(alloc: Global, text: &[u8], at: usize) -> Result<(Term, usize), TextFault>
     requires { at ≤ length text.now }
     ensures within { IfOk result (λ x. (at ≤ x.1) × (x.1 ≤ length text.now)) }
@@ -70,7 +70,7 @@ fn binary_at(alloc: Global, text: &[u8], at: usize) -> Result<(Term, usize), Tex
     if digit_stands(text, start) {
         return byte_binary_at(alloc, text, start);
     }
-    let end = signs_at(text, start, b">>")?;
+    let end = literal_at(text, start, b">>")?;
     Ok((Term::Binary(Items::new(alloc)), end))
 }
 
@@ -78,11 +78,11 @@ fn binary_at(alloc: Global, text: &[u8], at: usize) -> Result<(Term, usize), Tex
 fn pid_at(text: &[u8], at: usize) -> Result<(Term, usize), TextFault>
     requires { at ≤ length text.now }
     ensures within { IfOk result (λ x. (at ≤ x.1) × (x.1 ≤ length text.now)) }
-    ensures reads { (os : List Open) → Reads text.now at (arrive at (46 ∷ []) (digits pid) os) os result }
+    ensures reads { (os : List Open) → Reads text.now at (arrive at (codes ".") (digits pid) os) os result }
 {
-    let first = signs_at(text, at, b".")?;
-    let (n, behind) = number_at(text, first, first, u32::MAX as Size)?;
-    let end = signs_at(text, behind, b".0>")?;
+    let first = literal_at(text, at, b".")?;
+    let (n, behind) = number_at(text, first, first, u32::MAX as Magnitude)?;
+    let end = literal_at(text, behind, b".0>")?;
     Ok((Term::Pid(n as u32), end))
 }
 
@@ -90,11 +90,11 @@ fn pid_at(text: &[u8], at: usize) -> Result<(Term, usize), TextFault>
 pub(crate) fn identifier_at(text: &[u8], at: usize) -> Result<(Term, usize), TextFault>
     requires { at ≤ length text.now }
     ensures within { IfOk result (λ x. (at ≤ x.1) × (x.1 ≤ length text.now)) }
-    ensures reads { (os : List Open) → Reads text.now at (arrive at (84 ∷ 105 ∷ 100 ∷ 60 ∷ []) (digits identifier) os) os result }
+    ensures reads { (os : List Open) → Reads text.now at (arrive at (codes "Tid<") (digits identifier) os) os result }
 {
-    let first = signs_at(text, at, b"Tid<")?;
-    let (n, behind) = number_at(text, first, first, u32::MAX as Size)?;
-    let end = signs_at(text, behind, b">")?;
+    let first = literal_at(text, at, b"Tid<")?;
+    let (n, behind) = number_at(text, first, first, u32::MAX as Magnitude)?;
+    let end = literal_at(text, behind, b">")?;
     Ok((Term::Tid(n as u32), end))
 }
 

@@ -1,3 +1,6 @@
+ghost use Rattle.std.specs.Prelude.{◌≡◌};
+ghost use Rattle.term_text.specs.Given.{offset};
+
 use std::alloc::{AllocError, AllocFailed};
 
 /// Why a text is no term, and at which byte, counted from 0.
@@ -15,6 +18,22 @@ pub enum TextFault {
     AtomTooLong(usize),
     /// Memory ran out.
     Memory,
+}
+
+impl TextFault {
+    /// The byte at which the fault is told; none where memory ran out.
+    pub fn at(&self) -> Option<usize>
+        ensures { result ≡ offset self.now }
+    {
+        match self {
+            TextFault::Unexpected(at)
+            | TextFault::Unclosed(at)
+            | TextFault::OutOfRange(at)
+            | TextFault::TooDeep(at)
+            | TextFault::AtomTooLong(at) => Some(*at),
+            TextFault::Memory => None,
+        }
+    }
 }
 
 impl From<AllocError> for TextFault {

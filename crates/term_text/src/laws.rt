@@ -1,8 +1,8 @@
 //! What the exact reading means in the words of the grammar.
 ghost use Rattle.std.specs.Prelude.{◌≡◌, ◌++◌, ℕ, List};
 ghost use Rattle.term_text.specs.Faults.{IsFault};
-ghost use Rattle.term_text.specs.Going.{GoesOn, HasNoFault, so_far};
-ghost use Rattle.term_text.specs.Machine.{fails, found, reading};
+ghost use Rattle.term_text.specs.Prefixes.{GoesOn, HasNoFault, so_far};
+ghost use Rattle.term_text.specs.Reader.{fails, found, reading};
 ghost use Rattle.term_text.specs.Grammar.{Front};
 ghost use Rattle.term_text.specs.RoundTrip.{ReadsBack};
 ghost use Rattle.ets_term.specs.declared.term.Term.{Term};

@@ -1,25 +1,26 @@
 //! Numbers and fixed signs.
 ghost use Rattle.std.specs.Prelude.{◌≡◌, ◌+◌, ◌-◌, ◌*◌, ◌≤◌, ◌<◌, ℕ, List, true, false, get_or, length, drop, IfOk, OnErr, MatchOption};
-ghost use Rattle.term_text.specs.inside.Reader.{ReadsNumber, ReadsSigns};
-ghost use Rattle.term_text.specs.Text.{is_digit, count, spelled};
+ghost use Rattle.std.specs.List.{prefix_len};
+ghost use Rattle.term_text.specs.inside.Parts.{ReadsNumber, ReadsSigns};
+ghost use Rattle.term_text.specs.Text.{is_digit, spelled};
 
 use crate::bytes::is_digit_byte;
 use crate::fault::TextFault;
 
 /// The size of a number, without its sign.
-pub(crate) type Size = u64;
+pub type Magnitude = u64;
 
 #[tactic(auto, unfolding(crate::specs::Text::is_digit))]
-fn digit_of(b: u8) -> Size
+fn digit_of(b: u8) -> Magnitude
     requires { is_digit b ≡ true }
     ensures digit { result ≡ b - 48 }
     ensures small { result ≤ 9 }
 {
-    (b - b'0') as Size
+    (b - b'0') as Magnitude
 }
 
 /// The number with one more digit, where it is within the limit.
-fn with_digit(n: Size, digit: Size, limit: Size) -> Option<Size>
+fn with_digit(n: Magnitude, digit: Magnitude, limit: Magnitude) -> Option<Magnitude>
     requires digit_in { digit ≤ 9 }
     requires limit_in { 9 ≤ limit }
     ensures { MatchOption result (limit < n * 10 + digit) (λ m. (m ≡ n * 10 + digit) × (m ≤ limit)) }
@@ -30,14 +31,14 @@ fn with_digit(n: Size, digit: Size, limit: Size) -> Option<Size>
     Some(n * 10 + digit)
 }
 
-/// The number that the digits from this byte on spell, and where they end. None where it passes the limit.
+/// The number that the digits from this byte on spell, 0 of none, and where they end. None where it passes the limit.
 #[tactic(auto, using(crate::proofs::Numbers::spelled_grows))]
-pub(crate) fn digits_at(text: &[u8], at: usize, limit: Size) -> Option<(Size, usize)>
+pub fn digits_at(text: &[u8], at: usize, limit: Magnitude) -> Option<(Magnitude, usize)>
     requires within { at ≤ length text.now }
     requires limit_in { 9 ≤ limit }
-    ensures { MatchOption result (limit < spelled 0 (drop at text.now)) (λ x. (x.0 ≡ spelled 0 (drop at text.now)) × (x.0 ≤ limit) × (x.1 ≡ at + count is_digit (drop at text.now)) × (x.1 ≤ length text.now)) }
+    ensures { MatchOption result (limit < spelled 0 (drop at text.now)) (λ x. (x.0 ≡ spelled 0 (drop at text.now)) × (x.0 ≤ limit) × (x.1 ≡ at + prefix_len is_digit (drop at text.now)) × (x.1 ≤ length text.now)) }
 {
-    let mut n: Size = 0;
+    let mut n: Magnitude = 0;
     let mut place = at;
     while place < text.len() && is_digit_byte(text[place]) {
         match with_digit(n, digit_of(text[place]), limit) {
@@ -54,8 +55,8 @@ pub(crate) fn number_at(
     text: &[u8],
     at: usize,
     start: usize,
-    limit: Size,
-) -> Result<(Size, usize), TextFault>
+    limit: Magnitude,
+) -> Result<(Magnitude, usize), TextFault>
     requires within { at ≤ length text.now }
     requires limit_in { 9 ≤ limit }
     ensures within { IfOk result (λ x. (x.0 ≤ limit) × (at ≤ x.1) × (x.1 ≤ length text.now)) }
@@ -74,7 +75,7 @@ pub(crate) fn number_at(
 }
 
 /// Where signs that must stand here end.
-pub(crate) fn signs_at(text: &[u8], at: usize, signs: &[u8]) -> Result<usize, TextFault>
+pub(crate) fn literal_at(text: &[u8], at: usize, signs: &[u8]) -> Result<usize, TextFault>
     requires { at ≤ length text.now }
     ensures within { IfOk result (λ n. (at ≤ n) × (n ≤ length text.now)) }
     ensures reads { ReadsSigns text.now at signs.now result }

@@ -2,18 +2,18 @@
 ghost use Rattle.std.specs.Prelude.{◌≡◌, ◌+◌, ◌≤◌, ◌<◌, ◌==◌, ◌∷◌, [], List, map, true, false, length, IfOk, IsTrue, slice_index};
 ghost use Rattle.std.specs.List.{list_all};
 ghost use Rattle.ets_term.specs.Character.{is_character};
-ghost use Rattle.term_text.specs.Machine.{code, quote, Open, quoted, goes};
-ghost use Rattle.term_text.specs.inside.Reader.{ReadsEscaped, ReadsCharacter, IsShort, ReadsQuoted, Reads, IsDeep};
-ghost use Rattle.term_text.specs.declared.quotes.Quotes.TheVariants as form;
+ghost use Rattle.term_text.specs.Reader.{code, quote, Open, quoted, goes};
+ghost use Rattle.term_text.specs.inside.Parts.{ReadsEscaped, ReadsCharacter, IsShort, ReadsQuoted, Reads, IsDeep};
+ghost use Rattle.term_text.specs.declared.quote_form.QuoteForm.TheVariants as form;
 
 use crate::bytes::is_character_byte;
 use crate::fault::TextFault;
-use crate::quotes::Quotes;
+use crate::quote_form::QuoteForm;
 use ets_term::{Atom, Integer, Items, Term};
 use std::alloc::{AllocError, Global};
 
 /// The character behind a `\`, and where it ends.
-fn escape_at(text: &[u8], at: usize, quotes: Quotes) -> Result<(u8, usize), TextFault>
+fn escape_at(text: &[u8], at: usize, quotes: QuoteForm) -> Result<(u8, usize), TextFault>
     requires { at ≤ length text.now }
     ensures within { IfOk result (λ x. (at < x.1) × (x.1 ≤ length text.now)) }
     ensures character { IfOk result (λ x. is_character x.0 ≡ true) }
@@ -33,7 +33,7 @@ fn escape_at(text: &[u8], at: usize, quotes: Quotes) -> Result<(u8, usize), Text
 fn character_at(
     text: &[u8],
     at: usize,
-    quotes: Quotes,
+    quotes: QuoteForm,
     deep: bool,
     n: usize,
 ) -> Result<(u8, usize), TextFault>
@@ -62,7 +62,7 @@ pub(crate) fn quoted_at(
     alloc: Global,
     text: &[u8],
     at: usize,
-    quotes: Quotes,
+    quotes: QuoteForm,
     deep: bool,
 ) -> Result<(Items<u8>, usize), TextFault>
     requires { at ≤ length text.now }
@@ -94,7 +94,7 @@ pub(crate) fn quoted_atom_at(
     ensures within { IfOk result (λ x. (at ≤ x.1) × (x.1 ≤ length text.now)) }
     ensures reads { (os : List Open) → Reads text.now (at + 1) (goes (quoted (form.Atom at) []) os) os result }
 {
-    let (chars, end) = quoted_at(alloc, text, at + 1, Quotes::Atom(at), false)?;
+    let (chars, end) = quoted_at(alloc, text, at + 1, QuoteForm::Atom(at), false)?;
     let name = Atom::of_bytes(alloc, chars.as_slice())?;
     Ok((Term::Atom(name), end))
 }
@@ -110,7 +110,7 @@ pub(crate) fn string_at(
     ensures within { IfOk result (λ x. (at ≤ x.1) × (x.1 ≤ length text.now)) }
     ensures reads { (os : List Open) → IsDeep form.String deep os → Reads text.now at (goes (quoted form.String []) os) os result }
 {
-    let (chars, end) = quoted_at(alloc, text, at, Quotes::String, deep)?;
+    let (chars, end) = quoted_at(alloc, text, at, QuoteForm::String, deep)?;
     let codes = codes_of(alloc, chars.as_slice())?;
     Ok((Term::List(codes), end))
 }

@@ -1,13 +1,14 @@
 //! The reader: one pass over the bytes, with the levels that are left.
 ghost use Rattle.std.specs.Prelude.{◌≡◌, ◌+◌, ◌≤◌, ◌<◌, ◌∷◌, List, true, false, length, IfOk, slice_index};
-ghost use Rattle.term_text.specs.Machine.{Open, wants, goes, opening, bracket, begin, reading};
+ghost use Rattle.term_text.specs.Reader.{Open, wants, goes, opening, bracket, begin, reading};
 ghost use Rattle.term_text.specs.Given.{GivesTerm};
-ghost use Rattle.term_text.specs.inside.Reader.{Reads};
+ghost use Rattle.term_text.specs.inside.Parts.{Reads};
 
 use crate::binary::{angle_at, identifier_at};
 use crate::bytes::{begins_byte, closes_byte, is_digit_byte, past_blanks};
 use crate::fault::TextFault;
-use crate::plain::{integer_at, name_at};
+use crate::integer::integer_at;
+use crate::name::name_at;
 use crate::quoted::{quoted_atom_at, string_at};
 use ets_term::{Items, MAX_DEPTH, Term};
 use std::alloc::Global;
@@ -33,7 +34,7 @@ pub fn read_term_bytes(alloc: Global, text: &[u8]) -> Result<(Term, usize), Text
 fn term_at(alloc: Global, text: &[u8], at: usize, room: usize) -> Result<(Term, usize), TextFault>
     requires { at ≤ length text.now }
     ensures within { IfOk result (λ x. (at ≤ x.1) × (x.1 ≤ length text.now)) }
-    ensures reads { (os : List Open) → length os + room ≡ 128 → Reads text.now at (goes (wants false) os) os result }
+    ensures reads { (os : List Open) → length os + room ≡ MAX_DEPTH → Reads text.now at (goes (wants false) os) os result }
 {
     let start = past_blanks(text, at);
     if start >= text.len() {
@@ -47,7 +48,7 @@ fn term_at(alloc: Global, text: &[u8], at: usize, room: usize) -> Result<(Term, 
 fn form_at(alloc: Global, text: &[u8], at: usize, room: usize) -> Result<(Term, usize), TextFault>
     requires { at < length text.now }
     ensures within { IfOk result (λ x. (at ≤ x.1) × (x.1 ≤ length text.now)) }
-    ensures reads { (os : List Open) → length os + room ≡ 128 → Reads text.now (at + 1) (begin at os (slice_index text.now at)) os result }
+    ensures reads { (os : List Open) → length os + room ≡ MAX_DEPTH → Reads text.now (at + 1) (begin at os (slice_index text.now at)) os result }
 {
     let b = text[at];
     if !begins_byte(b) {
@@ -85,7 +86,7 @@ fn bracket_at(
 ) -> Result<(Term, usize), TextFault>
     requires { at ≤ length text.now }
     ensures within { IfOk result (λ x. (at ≤ x.1) × (x.1 ≤ length text.now)) }
-    ensures reads { (os : List Open) → length os + room ≡ 127 → Reads text.now at (goes (wants true) (opening square ∷ os)) os result }
+    ensures reads { (os : List Open) → length os + 1 + room ≡ MAX_DEPTH → Reads text.now at (goes (wants true) (opening square ∷ os)) os result }
 {
     let mut items = Items::new(alloc);
     let mut place = past_blanks(text, at);

@@ -1,7 +1,7 @@
 // Values from outside: the rules of the text, row by row, and a writer that fails at its k-th write.
-mod fronts;
-mod pieces;
-mod rules;
+mod against_reference;
+mod long;
+mod reference;
 
 use crate::{WriteFault, print_term, read_term, read_term_bytes, write_term};
 use std::alloc::Global;

@@ -7,6 +7,7 @@ use Rattle.node_list.specs.Changes.{put_cell}
 use Rattle.node_list.specs.Places.{from, behind}
 use Rattle.bucket_table.specs.inside.Nodes.{slots_of}
 use Rattle.bucket_table.specs.inside.Layout.{IsSplit, IsLeast}
+use Rattle.bucket_table.specs.inside.Notes.{AreNoted}
 
 -- an item with a key in interval `f` of those that are so wide
 abbrev pub is_in : ℕ → ℕ → Cell → Bool
@@ -59,11 +60,12 @@ pub record IsItemIn (wide f at : ℕ) (cells : List Cell) : Type 0 where
   pub has : cell.item ≡ Some item
   pub inside : cell.key / wide ≡ f
 
--- rows, how many slots they have, and their least bucket that is not ready
-pub record IsTable (number : Term → ℕ) (dummies : List (Option ℕ)) (shift : ℕ) (firsts : List (Option (Option ℕ))) (slots least : ℕ) (cells : List Cell) : Type 0 where
+-- rows, how many slots they have, their least bucket that is not ready, and what is noted of held slots
+pub record IsTable (number : Term → ℕ) (dummies : List (Option ℕ)) (shift : ℕ) (firsts : List (Option (Option ℕ))) (slots least : ℕ) (is_lost : Bool) (held : List ℕ) (cells : List Cell) : Type 0 where
   pub rows : IsRows number dummies shift firsts cells
   pub counted : slots ≡ length (slots_of cells)
   pub due : IsLeast dummies least
+  pub noted : AreNoted number is_lost held (slots_of cells)
 
 -- what will be known of an interval when the item at a place, its first, is gone
 abbrev pub IsNextHint : ℕ → ℕ → ℕ → List Cell → Option (Option ℕ) → Type 0

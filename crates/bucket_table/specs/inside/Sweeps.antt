@@ -1,7 +1,7 @@
 -- A walk over all slots, node by node.
 use Rattle.std.specs.Prelude.{◌≡◌, ℕ, ◌<◌, true, false, if◌then◌else◌, nat_eq, List, [], ◌∷◌, ◌++◌, length}
 use Rattle.node_list.specs.Cells.{Cell}
-use Rattle.node_list.specs.Places.{Stands, HasItem, behind, item_at}
+use Rattle.node_list.specs.Places.{Stands, HasItem, behind, all_but_first, item_at}
 use Rattle.bucket_table.specs.declared.split.sweep.Sweep.{Sweep}
 use Rattle.bucket_table.specs.declared.split.sweep.Sweep.TheVariants.{Purge, Drop, Hold}
 use Rattle.bucket_table.specs.declared.split.sweep.Fate.{Fate}
@@ -28,6 +28,7 @@ slots_then how at cs = slots_of (up_to at cs) ++ swept how (slots_of (behind at 
 pub record IsSweptOn (how : Sweep) (at : ℕ) (old : List Cell) (last : ℕ) (new : List Cell) : Type 0 where
   pub stands : Stands last new
   pub same_end : slots_then how last new ≡ slots_then how at old
+  pub rest : behind last new ≡ all_but_first (behind at old)
   pub shorter : length (behind last new) < length (behind at old)
 
 -- what becomes of the node at a place: a dummy stays

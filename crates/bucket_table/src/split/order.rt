@@ -1,22 +1,21 @@
-ghost use Rattle.std.specs.Prelude.{◌≡◌, option_map, slice_get};
-ghost use Rattle.std.specs.Map.Iter.{deref_pair};
-ghost use Rattle.bucket_table.specs.inside.Nodes.{slots_of};
+ghost use Rattle.bucket_table.specs.Split.{key_of_place};
+ghost use Rattle.bucket_table.specs.Walks.{IsFirstPlace};
+ghost use Rattle.bucket_table.specs.inside.Nodes.{slots_of, places_of};
 ghost use Rattle.bucket_table.specs.inside.Surveys.{tail_from};
 ghost use Rattle.bucket_table.specs.inside.Walks.{IsTail};
 
-use ets_term::Term;
 use node_list::{At, NodeList};
 
-/// The first item from a place on.
-pub fn item_from(list: &NodeList, start: Option<At>) -> Option<(&Term, &[Term])>
+/// The place of the first item from a place on.
+pub fn item_from(list: &NodeList, start: Option<At>) -> Option<At>
     requires { IsTail start list.now.cells }
-    ensures { option_map deref_pair result ≡ slice_get (slots_of (tail_from start list.now.cells)) 0 }
+    ensures { IsFirstPlace (key_of_place (places_of list.now.cells)) (slots_of (tail_from start list.now.cells)) result }
 {
     let _head = list.head();
     let mut at = start;
     while let Some(place) = at {
-        if let Some((term, chain)) = list.item(place) {
-            return Some((term, chain.as_slice()));
+        if let Some((_term, _chain)) = list.item(place) {
+            return Some(place);
         }
         at = list.after(place);
     }

@@ -1,13 +1,17 @@
-ghost use Rattle.std.specs.Prelude.{◌≡◌, ◌+◌, ◌≤◌, Some, length};
+ghost use Rattle.std.specs.Prelude.{◌≡◌, ℕ, ◌+◌, ◌≤◌, List, ◌∷◌, Some, length};
 ghost use Rattle.node_list.specs.Places.{Stands, place_after};
 ghost use Rattle.bucket_table.specs.inside.Nodes.{slots_of};
 ghost use Rattle.bucket_table.specs.inside.Firsts.{IsRows};
 ghost use Rattle.bucket_table.specs.inside.Sweeps.{swept, IsSweptOn, IsFateOf};
+ghost use Rattle.bucket_table.specs.inside.Notes.{AreAmong};
+ghost use Rattle.bucket_table.specs.Slots.{purged};
 
+use super::directory::start_of;
 use super::firsts::take_out;
 use super::hint::Hint;
 use ets_term::KeyHash;
 use node_list::{At, Link, NodeList};
+use split_key::item_key;
 
 /// What a walk over all slots makes of them: held slots go, or those with objects go, or all become held.
 #[derive(Clone, Copy, PartialEq, Eq)]
@@ -78,6 +82,57 @@ fn sweep_one<H: KeyHash + Copy + Drop>(
             list.chain_mut(next).truncate(0);
             next
         }
+    }
+}
+
+/// Purges the slots from the start of a hash up to the last that has it.
+fn purge_run<H: KeyHash + Copy + Drop>(
+    hash: H,
+    list: &mut NodeList,
+    dummies: &[Link],
+    firsts: &mut Vec<Hint>,
+    shift: u32,
+    number: u32,
+)
+    requires rows { IsRows (H.number hash) dummies.now shift firsts.old.items list.old.cells }
+    ensures rows { IsRows (H.number hash) dummies.now shift firsts.new.items list.new.cells }
+    ensures purged { purged (slots_of list.new.cells) ≡ purged (slots_of list.old.cells) }
+    ensures gone { (others : List ℕ) → AreAmong (H.number hash) (number ∷ others) (slots_of list.old.cells) → AreAmong (H.number hash) others (slots_of list.new.cells) }
+    ensures len { length list.new.cells + length (slots_of list.old.cells) ≡ length list.old.cells + length (slots_of list.new.cells) }
+    ensures fewer { length list.new.cells ≤ length list.old.cells }
+    ensures capacity { list.new.capacity ≡ list.old.capacity }
+{
+    list.known();
+    let key = item_key(number);
+    let mut at = start_of(dummies, number);
+    while let Some(next) = list.after(at) {
+        list.known();
+        if key < list.key(next) {
+            return;
+        }
+        at = sweep_one(hash, list, dummies, firsts, shift, Sweep::Purge, at, next);
+    }
+}
+
+/// Purges the slots of these hashes, which all held slots have.
+pub fn purge_noted<H: KeyHash + Copy + Drop>(
+    hash: H,
+    list: &mut NodeList,
+    dummies: &[Link],
+    firsts: &mut Vec<Hint>,
+    shift: u32,
+    hashes: &mut Vec<u32>,
+)
+    requires rows { IsRows (H.number hash) dummies.now shift firsts.old.items list.old.cells }
+    requires noted { AreAmong (H.number hash) hashes.old.items (slots_of list.old.cells) }
+    ensures rows { IsRows (H.number hash) dummies.now shift firsts.new.items list.new.cells }
+    ensures slots { slots_of list.new.cells ≡ purged (slots_of list.old.cells) }
+    ensures len { length list.new.cells + length (slots_of list.old.cells) ≡ length list.old.cells + length (slots_of list.new.cells) }
+    ensures fewer { length list.new.cells ≤ length list.old.cells }
+    ensures capacity { list.new.capacity ≡ list.old.capacity }
+{
+    while let Some(number) = hashes.pop() {
+        purge_run(hash, list, dummies, firsts, shift, number);
     }
 }
 

@@ -2,6 +2,7 @@
 use Rattle.std.specs.Prelude.{◌≡◌, ℕ, ◌+◌, ◌≤◌, ◌<◌, ◌⊎◌, Bool, true, false, List, [], ◌++◌, length, take, Option, slice_index}
 use Rattle.std.specs.Io.KnownBytes.{prepend_known, Consumes, IsAtEnd}
 use Rattle.ets_script.specs.Lines.{Line, text, too_long, IsOneLine, IsLine}
+use Rattle.ets_script.specs.declared.lines.TheConstants.{MAX_LINE}
 use Rattle.ets_script.specs.declared.lines.NextLine.{NextLine}
 use Rattle.ets_script.specs.declared.lines.NextLine.TheVariants.{Text, TooLong, NeedsMore}
 
@@ -33,7 +34,7 @@ IsLineEnd bytes n = (n < length bytes) × IsOneLine (take n bytes) × (slice_ind
 -- these bytes of a line were passed over: none, or more than a line may have
 abbrev pub PassedOver : Bool → List ℕ → Type 0
 PassedOver false skipped = skipped ≡ []
-PassedOver true skipped = IsOneLine skipped × (65536 < length skipped)
+PassedOver true skipped = IsOneLine skipped × (MAX_LINE < length skipped)
 
 -- the first n bytes, and those before them that were passed over, are this line, with its LF
 abbrev pub EndsLine : List ℕ → Bool → ℕ → Line → Type 0
@@ -50,7 +51,7 @@ Finds h next = FindsIn h.bytes h.is_skipping next
 
 -- Bytes without an LF stay, or are passed over with those before them, where they are too many for a line.
 pub record Waits (old new : Held) : Type 0 where
-  pub short : length new.bytes ≤ 65536
+  pub short : length new.bytes ≤ MAX_LINE
   pub reads : new.reads ≡ old.reads
   pub kept : ((new.bytes ≡ old.bytes) × (old.is_skipping ≡ false) × (new.is_skipping ≡ false))
-      ⊎ ((new.bytes ≡ []) × (new.is_skipping ≡ true) × ((old.is_skipping ≡ true) ⊎ (65536 < length old.bytes)))
+      ⊎ ((new.bytes ≡ []) × (new.is_skipping ≡ true) × ((old.is_skipping ≡ true) ⊎ (MAX_LINE < length old.bytes)))

@@ -1,5 +1,5 @@
 // The table of calls: a name and its method, at most eight names a function, by number of arguments.
-ghost use Rattle.node_core.specs.Calls.{call, calls_of_one, object_calls_of_two, table_calls_of_two, calls_of_three};
+ghost use Rattle.node_core.specs.Calls.{call, calls_of_one, object_calls_of_two, search_calls_of_two, table_calls_of_two, calls_of_three, calls_of_four};
 ghost use Rattle.node_core.specs.inside.Refusals.{Comes};
 
 use super::Node;
@@ -15,6 +15,7 @@ impl<H: KeyHash + Copy> Node<H> {
             [x] => self.calls_of_one(pid, name, x),
             [x, y] => self.object_calls_of_two(pid, name, x, y),
             [x, y, z] => self.calls_of_three(pid, name, x, y, z),
+            [x, y, z, default] => self.calls_of_four(pid, name, x, y, z, default),
             _ => Err(Refusal::Badarg),
         }
     }
@@ -38,7 +39,7 @@ impl<H: KeyHash + Copy> Node<H> {
         x: &Term,
         y: &Term,
     ) -> Result<Reply, Refusal>
-        ensures { Comes (object_calls_of_two self.old pid name.now x.now y.now (table_calls_of_two self.old pid name.now x.now y.now)) self.old result self.new }
+        ensures { Comes (object_calls_of_two self.old pid name.now x.now y.now (search_calls_of_two self.old pid name.now x.now y.now (table_calls_of_two self.old pid name.now x.now y.now))) self.old result self.new }
     {
         if name == "insert" {
             self.insert(pid, x, y)
@@ -54,6 +55,32 @@ impl<H: KeyHash + Copy> Node<H> {
             self.delete(pid, x, y)
         } else if name == "delete_object" {
             self.delete_object(pid, x, y)
+        } else {
+            self.search_calls_of_two(pid, name, x, y)
+        }
+    }
+
+    fn search_calls_of_two(
+        &mut self,
+        pid: u32,
+        name: &str,
+        x: &Term,
+        y: &Term,
+    ) -> Result<Reply, Refusal>
+        ensures { Comes (search_calls_of_two self.old pid name.now x.now y.now (table_calls_of_two self.old pid name.now x.now y.now)) self.old result self.new }
+    {
+        if name == "match" {
+            self.match_bindings(pid, x, y)
+        } else if name == "match_object" {
+            self.match_object(pid, x, y)
+        } else if name == "match_delete" {
+            self.match_delete(pid, x, y)
+        } else if name == "select" {
+            self.select(pid, x, y)
+        } else if name == "select_count" {
+            self.select_count(pid, x, y)
+        } else if name == "select_delete" {
+            self.select_delete(pid, x, y)
         } else {
             self.table_calls_of_two(pid, name, x, y)
         }
@@ -87,6 +114,28 @@ impl<H: KeyHash + Copy> Node<H> {
     {
         if name == "lookup_element" {
             self.lookup_element(pid, x, y, z)
+        } else if name == "update_counter" {
+            self.update_counter(pid, x, y, z, None)
+        } else if name == "update_element" {
+            self.update_element(pid, x, y, z)
+        } else {
+            Err(Refusal::Badarg)
+        }
+    }
+
+    fn calls_of_four(
+        &mut self,
+        pid: u32,
+        name: &str,
+        x: &Term,
+        y: &Term,
+        z: &Term,
+        default: &Term,
+    ) -> Result<Reply, Refusal>
+        ensures { Comes (calls_of_four self.old pid name.now x.now y.now z.now default.now) self.old result self.new }
+    {
+        if name == "update_counter" {
+            self.update_counter(pid, x, y, z, Some(default))
         } else {
             Err(Refusal::Badarg)
         }

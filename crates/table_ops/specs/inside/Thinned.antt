@@ -1,5 +1,5 @@
 -- What the inner calls of a deletion do to the slot of a key.
-use Rattle.std.specs.Prelude.{◌≡◌, ℕ, ◌+◌, Bool, not, ◌||◌, if◌then◌else◌, List, Option, Some, length}
+use Rattle.std.specs.Prelude.{◌≡◌, ℕ, ◌+◌, Bool, not, ◌||◌, if◌then◌else◌, List, Some, length}
 use Rattle.ets_term.specs.declared.term.Term.{Term}
 use Rattle.node_list.specs.Chains.{all_but}
 use Rattle.bucket_table.specs.Slots.{Slot, objects_of, with_objects, without, has_objects}

@@ -1,11 +1,12 @@
 use Rattle.std.proofs.Common.{◌≡◌, ℕ, drop, sym, subst}
 use Rattle.std.proofs.lemmas.Result.{err_from_is_err_and}
 use Rattle.ets_script.specs.Script.{Scripted}
-use Rattle.ets_script.proofs.Progress.{Going, going_none, answered_line, broken_line, flush_broken, read_on, read_broken, ended, completed, end_broken}
+use Rattle.ets_script.proofs.Progress.{Progress, nothing_yet, answered_line, read_on}
+use Rattle.ets_script.proofs.ScriptEnds.{broken_line, flush_broken, read_broken, ended, completed, end_broken}
 use Rattle.ets_script.proofs.run.answer_all.Goals as goal
 
 pub loop-next-init : goal.loop-next-init
-loop-next-init g c = going_none c.args.script.now c.args.feed.now (g.R.Read.remaining c.args.reader.now) c.args.pending.now (g.W.Write.contents c.args.writer.now) c.requires.waiting c.requires.held.0 c.requires.held.1
+loop-next-init g c = nothing_yet c.args.script.now c.args.feed.now (g.R.Read.remaining c.args.reader.now) c.args.pending.now (g.W.Write.contents c.args.writer.now) c.requires.waiting c.requires.held.0 c.requires.held.1
 
 pub returns-in_err-flush-clause-err : goal.returns-in_err-flush-clause-err
 returns-in_err-flush-clause-err g c =
@@ -29,7 +30,7 @@ returns-in_err-answer_last-clause-err g c =
     let old = g.W.Write.contents c.args.writer.now in
     let w = g.W.Write.contents c.flush.new.writer in
     let going = read_on c.args.script.now l.script before old (g.W.Write.contents l.writer) w l.feed c.skip_long.new.self c.refill.new.self (g.R.Read.remaining l.reader) left l.pending c.flush.new.self c.in_ok-refill.field-0 l.invariant c.in_default.ensures.0 c.in_ok-flush.ensures.ok c.skip_long.ensures c.in_ok-refill.ensures.ok in
-    let now = subst (λ (s : Scripted). Going c.args.script.now before old c.refill.new.self left c.flush.new.self w s) (sym c.in_default.ensures.1) going in
+    let now = subst (λ (s : Scripted). Progress c.args.script.now before old c.refill.new.self left c.flush.new.self w s) (sym c.in_default.ensures.1) going in
     rw (p.1, p.2) (end_broken c.args.script.now c.answer_next.new.script c.answer_last.new.script before old w (g.W.Write.contents c.answer_last.new.writer) c.refill.new.self left c.flush.new.self now
     (ended l.feed c.skip_long.new.self c.refill.new.self (g.R.Read.remaining l.reader) left c.in_ok-refill.field-0 c.in_default.ensures.0 c.skip_long.ensures c.in_ok-refill.ensures.ok c.if-branch-eq0.true) c.in_err-answer_last.ensures.err)
 
@@ -41,7 +42,7 @@ returns-then-branch-eq0-clause-ok g c =
     let old = g.W.Write.contents c.args.writer.now in
     let w = g.W.Write.contents c.flush.new.writer in
     let going = read_on c.args.script.now l.script before old (g.W.Write.contents l.writer) w l.feed c.skip_long.new.self c.refill.new.self (g.R.Read.remaining l.reader) left l.pending c.flush.new.self c.in_ok-refill.field-0 l.invariant c.in_default.ensures.0 c.in_ok-flush.ensures.ok c.skip_long.ensures c.in_ok-refill.ensures.ok in
-    let now = subst (λ (s : Scripted). Going c.args.script.now before old c.refill.new.self left c.flush.new.self w s) (sym c.in_default.ensures.1) going in
+    let now = subst (λ (s : Scripted). Progress c.args.script.now before old c.refill.new.self left c.flush.new.self w s) (sym c.in_default.ensures.1) going in
     completed c.args.script.now c.answer_next.new.script c.answer_last.new.script before old w (g.W.Write.contents c.answer_last.new.writer) c.refill.new.self left c.flush.new.self now
     (ended l.feed c.skip_long.new.self c.refill.new.self (g.R.Read.remaining l.reader) left c.in_ok-refill.field-0 c.in_default.ensures.0 c.skip_long.ensures c.in_ok-refill.ensures.ok c.if-branch-eq0.true) c.in_ok-answer_last.ensures.ok
 
@@ -53,7 +54,7 @@ loop-next-preserved-in_default g c =
     let old = g.W.Write.contents c.args.writer.now in
     let w = g.W.Write.contents c.flush.new.writer in
     let going = read_on c.args.script.now l.script before old (g.W.Write.contents l.writer) w l.feed c.skip_long.new.self c.refill.new.self (g.R.Read.remaining l.reader) left l.pending c.flush.new.self c.in_ok-refill.field-0 l.invariant c.in_default.ensures.0 c.in_ok-flush.ensures.ok c.skip_long.ensures c.in_ok-refill.ensures.ok in
-    subst (λ (s : Scripted). Going c.args.script.now before old c.refill.new.self left c.flush.new.self w s) (sym c.in_default.ensures.1) going
+    subst (λ (s : Scripted). Progress c.args.script.now before old c.refill.new.self left c.flush.new.self w s) (sym c.in_default.ensures.1) going
 
 pub returns-in_err-print_line-clause-err : goal.returns-in_err-print_line-clause-err
 returns-in_err-print_line-clause-err g c =

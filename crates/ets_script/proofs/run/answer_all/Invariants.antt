@@ -1,9 +1,9 @@
 use Rattle.std.proofs.Common.{◌+◌, ◌*◌, length}
-use Rattle.ets_script.proofs.Progress.{Going}
+use Rattle.ets_script.proofs.Progress.{Progress}
 use Rattle.ets_script.proofs.run.answer_all.Given as goal
 
 abbrev pub invariant-loop-next : goal.invariant-loop-next
-invariant-loop-next g l = Going l.initial.script (g.R.Read.remaining l.initial.reader) (g.W.Write.contents l.initial.writer) l.feed (g.R.Read.remaining l.reader) l.pending (g.W.Write.contents l.writer) l.script
+invariant-loop-next g l = Progress l.initial.script (g.R.Read.remaining l.initial.reader) (g.W.Write.contents l.initial.writer) l.feed (g.R.Read.remaining l.reader) l.pending (g.W.Write.contents l.writer) l.script
 
 abbrev pub decreases-loop-next : goal.decreases-loop-next
 decreases-loop-next g l = l.feed.reads * 131073 + length l.feed.bytes

@@ -1,4 +1,4 @@
-use Rattle.ets_script.proofs.Progress.{end_ok, end_err}
+use Rattle.ets_script.proofs.ScriptEnds.{end_ok, end_err}
 use Rattle.ets_script.proofs.run.answer_last.Goals as goal
 
 pub returns-clause-ok : goal.returns-clause-ok

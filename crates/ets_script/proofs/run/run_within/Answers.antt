@@ -1,6 +1,6 @@
 use Rattle.node_core.specs.State.{empty}
 use Rattle.ets_script.specs.Script.{at_start}
-use Rattle.ets_script.proofs.Progress.{not_begun}
+use Rattle.ets_script.proofs.ScriptEnds.{not_begun}
 use Rattle.ets_script.proofs.run.run_within.Goals as goal
 
 pub returns-in_default-clause-err : goal.returns-in_default-clause-err

@@ -1,7 +1,7 @@
-use Rattle.std.proofs.Common.{◌≡◌, ◌≤◌, List, [], ◌∷◌, Some, true, ◌||◌, unwrap_or, sym, ap, subst, ◌∙◌, length}
+use Rattle.std.proofs.Common.{◌≡◌, ◌≤◌, List, [], ◌∷◌, true, ◌||◌, sym, ap, subst, ◌∙◌, length}
 use Rattle.std.proofs.lemmas.Option.{same_Some}
 use Rattle.ets_term.specs.declared.term.Term.{Term}
-use Rattle.bucket_table.specs.Slots.{objects_of, has_objects}
+use Rattle.bucket_table.specs.Slots.{has_objects}
 use Rattle.bucket_table.specs.Entries.{with_objects_in}
 use Rattle.table_ops.proofs.PutLaws.{map-key, own-in, set-in, set-put, fills, under-some}
 use Rattle.table_ops.proofs.put.put_in_set.Goals as goal

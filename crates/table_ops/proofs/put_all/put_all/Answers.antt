@@ -1,11 +1,10 @@
-use Rattle.std.proofs.Common.{◌≡◌, ◌<◌, ◌≤◌, ◌+◌, Some, List, [], ◌∷◌, ◌++◌, length, refl, sym, ap, subst, ◌∙◌, slice_get, take, arith, length-append}
+use Rattle.std.proofs.Common.{◌≡◌, ◌<◌, ◌≤◌, ◌+◌, Some, [], ◌∷◌, length, refl, sym, ap, subst, ◌∙◌, slice_get, take, arith, length-append}
 use Rattle.std.proofs.lemmas.List.{take_all}
 use Rattle.std.proofs.lemmas.Option.{slice_get_read}
-use Rattle.ets_term.specs.declared.term.Term.{Term}
 use Rattle.ets_term.specs.Depth.{is_too_deep}
 use Rattle.table_ops.specs.Content.{is_object}
 use Rattle.table_ops.specs.Put.{PutsAll}
-use Rattle.table_ops.specs.inside.Undo.{gain, undone_all}
+use Rattle.table_ops.specs.inside.Undo.{undone_all}
 use Rattle.table_ops.proofs.KeptLaws.{slots-puts-all}
 use Rattle.table_ops.proofs.StoreLaws.{any-take, all-at, Steps, next-step, refused-same, all-refused}
 use Rattle.table_ops.proofs.put_all.put_all.Goals as goal

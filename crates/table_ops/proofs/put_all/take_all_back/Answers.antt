@@ -1,4 +1,4 @@
-use Rattle.std.proofs.Common.{◌≡◌, ◌<◌, Some, List, [], ◌∷◌, ◌++◌, length, refl, sym, ap, ◌∙◌, slice_get, unwrap_or, arith, length-append}
+use Rattle.std.proofs.Common.{◌≡◌, ◌<◌, Some, [], ◌∷◌, ◌++◌, length, refl, sym, ap, ◌∙◌, slice_get, unwrap_or, arith, length-append}
 use Rattle.std.proofs.lemmas.Option.{slice_get_read}
 use Rattle.table_ops.specs.Content.{key_of}
 use Rattle.table_ops.specs.inside.Undo.{undone, undone_all}

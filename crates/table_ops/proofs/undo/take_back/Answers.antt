@@ -1,6 +1,6 @@
-use Rattle.std.proofs.Common.{◌≡◌, sym, ap, ◌∙◌}
+use Rattle.std.proofs.Common.{sym, ap, ◌∙◌}
 use Rattle.bucket_table.specs.Slots.{with_objects}
-use Rattle.table_ops.specs.inside.Undo.{but_last, undone}
+use Rattle.table_ops.specs.inside.Undo.{but_last}
 use Rattle.table_ops.proofs.PutLaws.{own-in, twice-in, popped, under-some}
 use Rattle.table_ops.proofs.undo.take_back.Goals as goal
 

@@ -1,9 +1,9 @@
 use Rattle.std.proofs.Common.{rules, ◌∙◌, ◌+◌, []}
-use Rattle.term_text.specs.Machine.{goes, opened_binary, digit, byte, quoted}
-use Rattle.term_text.specs.declared.quotes.Quotes.TheVariants as form
+use Rattle.term_text.specs.Reader.{goes, opened_binary, digit, byte, quoted}
+use Rattle.term_text.specs.declared.quote_form.QuoteForm.TheVariants as form
 use Rattle.term_text.proofs.Binaries.{opened_quote, opened_digit}
 use Rattle.term_text.proofs.Blanks.{opened_binary_ignores}
-use Rattle.term_text.proofs.Runs.{reads_along}
+use Rattle.term_text.proofs.Places.{reads_along}
 use Rattle.term_text.proofs.binary.binary_at.Goals as goal
 
 pub returns-then-stands-clause-reads : goal.returns-then-stands-clause-reads

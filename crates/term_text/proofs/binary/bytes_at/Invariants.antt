@@ -1,6 +1,6 @@
 use Rattle.std.proofs.Common.{◌≤◌, ◌-◌, List, [], length}
-use Rattle.term_text.specs.Machine.{Open, byte, digit, goes}
-use Rattle.term_text.specs.inside.Reader.{Comes}
+use Rattle.term_text.specs.Reader.{Open, byte, digit, goes}
+use Rattle.term_text.specs.inside.Parts.{Comes}
 use Rattle.term_text.proofs.binary.bytes_at.Given as goal
 
 abbrev pub invariant-loop-bytes : goal.invariant-loop-bytes

@@ -1,10 +1,11 @@
 use Rattle.std.proofs.Common.{◌≡◌, ◌≤◌, ◌+◌, ◌-◌, length, drop}
-use Rattle.term_text.specs.Text.{is_name, count}
+use Rattle.std.specs.List.{prefix_len}
+use Rattle.term_text.specs.Text.{is_name}
 use Rattle.term_text.proofs.bytes.past_name.Given as goal
 
 abbrev pub invariant-loop-place : goal.invariant-loop-place
 invariant-loop-place l = record {
-  end : l.place + count is_name (drop l.place l.text) ≡ l.at + count is_name (drop l.at l.text);
+  end : l.place + prefix_len is_name (drop l.place l.text) ≡ l.at + prefix_len is_name (drop l.at l.text);
   behind : l.at ≤ l.place;
   within : l.place ≤ length l.text;
 }

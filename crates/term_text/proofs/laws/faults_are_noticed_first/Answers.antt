@@ -1,4 +1,4 @@
-use Rattle.term_text.proofs.Going.{goes_on, stuck}
+use Rattle.term_text.proofs.Prefixes.{goes_on, stuck}
 use Rattle.term_text.proofs.laws.faults_are_noticed_first.Goals as goal
 
 pub returns : goal.returns

@@ -1,4 +1,4 @@
-use Rattle.term_text.proofs.Faulted.{faulted, told}
+use Rattle.term_text.proofs.FaultsTold.{faulted, told}
 use Rattle.term_text.proofs.laws.faults_say_why.Goals as goal
 
 pub returns : goal.returns

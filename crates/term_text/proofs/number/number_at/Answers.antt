@@ -1,8 +1,8 @@
 use Rattle.std.proofs.Common.{rules, arith, get_or}
 use Rattle.term_text.specs.Text.{is_digit}
-use Rattle.term_text.specs.Machine.{goes, digit}
+use Rattle.term_text.specs.Reader.{goes, digit}
 use Rattle.term_text.specs.declared.fault.TextFault.TheVariants.{Unexpected}
-use Rattle.term_text.proofs.Runs.{ends_at, fails_at, if_false, number_comes, number_fails}
+use Rattle.term_text.proofs.Places.{ends_at, fails_at, if_false, number_comes, number_fails}
 use Rattle.term_text.proofs.number.number_at.Goals as goal
 
 pub returns-then-at-text-clause-reads : goal.returns-then-at-text-clause-reads

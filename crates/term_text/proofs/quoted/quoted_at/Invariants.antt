@@ -1,8 +1,8 @@
 use Rattle.std.proofs.Common.{◌≤◌, ◌-◌, List, [], length, IsTrue}
 use Rattle.std.specs.List.{list_all}
 use Rattle.ets_term.specs.Character.{is_character}
-use Rattle.term_text.specs.Machine.{Open, quoted, goes}
-use Rattle.term_text.specs.inside.Reader.{Comes, IsDeep, IsShort}
+use Rattle.term_text.specs.Reader.{Open, quoted, goes}
+use Rattle.term_text.specs.inside.Parts.{Comes, IsDeep, IsShort}
 use Rattle.term_text.proofs.quoted.quoted_at.Given as goal
 
 abbrev pub invariant-loop-place : goal.invariant-loop-place

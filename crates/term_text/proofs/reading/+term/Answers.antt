@@ -1,11 +1,11 @@
 use Rattle.std.proofs.Common.{◌≡◌, rules, arith, ap, sym, ◌∙◌, ◌+◌, ◌-◌, ◌∷◌, [], get_or, length, drop, false}
 use Rattle.ets_term.specs.declared.term.Term.{Term}
-use Rattle.term_text.specs.Machine.{Open, integer, wants, digit, number, name, after, goes, bracket, with_term, put, begin, run}
+use Rattle.term_text.specs.Reader.{Open, integer, wants, digit, number, name, after, goes, bracket, with_term, put, begin, read_from}
 use Rattle.term_text.specs.Text.{is_digit}
 use Rattle.term_text.specs.declared.fault.TextFault.TheVariants.{Unexpected, TooDeep}
-use Rattle.term_text.proofs.Begins as begins
+use Rattle.term_text.proofs.FirstBytes as begins
 use Rattle.term_text.proofs.Blanks.{after_ignores}
-use Rattle.term_text.proofs.Runs.{run_at, reads_along, if_true}
+use Rattle.term_text.proofs.Places.{read_at, reads_along, if_true}
 use Rattle.term_text.proofs.reading.+term.Goals as goal
 
 pub form_at-returns-then-not-begins_byte-clause-reads :
@@ -74,7 +74,7 @@ bracket_at-returns-then-closes_byte-2-clause-reads t c = λ os e.
     ∙ c.in-Ok.ensures.reads (o ∷ os) (omega (arith, e))
     ∙ c.past_blanks-behind.ensures.stays (goes after (p ∷ os)) (after_ignores p os)
     ∙ begins.after_closes c.args.text.now behind p os (omega arith) (search rules)
-    ∙ ap (λ (u : Term). run (behind + 1) (put os u (behind + 1)) (drop (behind + 1) c.args.text.now)) term
+    ∙ ap (λ (u : Term). read_from (behind + 1) (put os u (behind + 1)) (drop (behind + 1) c.args.text.now)) term
 
 pub bracket_at-returns-then-text-behind-ne44-clause-reads :
     goal.bracket_at-returns-then-text-behind-ne44-clause-reads
@@ -99,7 +99,7 @@ bracket_at-loop-found-preserved t c = record {
       ∙ c.in-Ok.ensures.reads (o ∷ os) (omega (arith, e))
       ∙ c.past_blanks-behind.ensures.stays (goes after (p ∷ os)) (after_ignores p os)
       ∙ begins.after_comma c.args.text.now behind p os (omega arith) (search rules) (search rules) (search rules)
-      ∙ ap (λ (x : Open). run (behind + 1) (goes (wants false) (x ∷ os)) (drop (behind + 1) c.args.text.now)) same;
+      ∙ ap (λ (x : Open). read_from (behind + 1) (goes (wants false) (x ∷ os)) (drop (behind + 1) c.args.text.now)) same;
   behind = omega (arith, c.in-Ok.ensures.within);
   within = omega arith;
 }
@@ -111,7 +111,7 @@ form_at-returns-then-is_digit_byte-clause-reads t c = λ os e.
     let b = get_or text at 0 in
     let r = c.integer_at-then-is_digit_byte.result in
     begins.begun text at os b (goes (number (integer false) at (b - 48)) os) r (begins.begin_digit at os b (omega (arith, e)) (search rules))
-    (reads_along text (at + 1) at _ (goes (digit (integer false) at) os) os r (sym (run_at text at (goes (digit (integer false) at) os) (goes (number (integer false) at (b - 48)) os) c.requires (if_true (is_digit b) _ _ (search rules)))) (c.integer_at-then-is_digit_byte.ensures.reads os))
+    (reads_along text (at + 1) at _ (goes (digit (integer false) at) os) os r (sym (read_at text at (goes (digit (integer false) at) os) (goes (number (integer false) at (b - 48)) os) c.requires (if_true (is_digit b) _ _ (search rules)))) (c.integer_at-then-is_digit_byte.ensures.reads os))
 
 pub form_at-name_at-requires-clause-small : goal.form_at-name_at-requires-clause-small
 form_at-name_at-requires-clause-small t c =

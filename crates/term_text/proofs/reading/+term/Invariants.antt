@@ -1,6 +1,6 @@
 use Rattle.std.proofs.Common.{◌≡◌, ◌≤◌, ◌+◌, ◌-◌, ◌*◌, ◌∷◌, List, length, true, false}
-use Rattle.term_text.specs.Machine.{Open, wants, goes, opening}
-use Rattle.term_text.specs.inside.Reader.{Comes}
+use Rattle.term_text.specs.Reader.{Open, wants, goes, opening}
+use Rattle.term_text.specs.inside.Parts.{Comes}
 use Rattle.term_text.proofs.reading.+term.Given as goal
 
 abbrev pub decreases-term_at : goal.decreases-term_at
@@ -14,7 +14,7 @@ decreases-bracket_at l = 3 * l.room + 2
 
 abbrev pub invariant-bracket_at-loop-found : goal.invariant-bracket_at-loop-found
 invariant-bracket_at-loop-found l = record {
-  reads : (os : List Open) → length os + l.room ≡ 127 → Comes l.text l.at (goes (wants true) (opening l.square ∷ os)) l.place (goes (wants false) (record { square = l.square; terms = l.items } ∷ os));
+  reads : (os : List Open) → length os + 1 + l.room ≡ 128 → Comes l.text l.at (goes (wants true) (opening l.square ∷ os)) l.place (goes (wants false) (record { square = l.square; terms = l.items } ∷ os));
   behind : l.at ≤ l.place;
   within : l.place ≤ length l.text;
 }

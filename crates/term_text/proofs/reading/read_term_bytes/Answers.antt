@@ -1,5 +1,5 @@
 use Rattle.std.proofs.Common.{arith, []}
-use Rattle.term_text.proofs.Runs.{reads_gives}
+use Rattle.term_text.proofs.Places.{reads_gives}
 use Rattle.term_text.proofs.reading.read_term_bytes.Goals as goal
 
 pub returns : goal.returns

@@ -1,4 +1,4 @@
-use Rattle.std.proofs.Common.{sym, ◌∙◌, ap, is_some}
+use Rattle.std.proofs.Common.{sym}
 use Rattle.bucket_table.proofs.PlainLaws.{key-at}
 use Rattle.bucket_table.proofs.plain.PlainRowsRows.find.Goals as goal
 

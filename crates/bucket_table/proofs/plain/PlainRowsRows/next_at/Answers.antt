@@ -1,5 +1,4 @@
-use Rattle.std.proofs.Common.{◌≡◌, ℕ, ◌+◌, suc, sym, ◌∙◌, ap, add-one, slice_get, Option, Some, None, arith}
-use Rattle.bucket_table.specs.Slots.{Slot}
+use Rattle.std.proofs.Common.{◌≡◌, ◌+◌, suc, sym, ◌∙◌, ap, slice_get, Some, arith}
 use Rattle.bucket_table.proofs.PlainLaws.{own-entry, at-place, none-behind, none-of, first-of-drop}
 use Rattle.bucket_table.proofs.plain.PlainRowsRows.next_at.Goals as goal
 

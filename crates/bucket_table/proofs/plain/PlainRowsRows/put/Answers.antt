@@ -1,8 +1,8 @@
-use Rattle.std.proofs.Common.{◌≡◌, ℕ, ◌<◌, ◌≤◌, ◌++◌, ◌∷◌, [], List, length, refl, sym, ap, subst, ◌∙◌, append_assoc, true≢false, arith, rules}
+use Rattle.std.proofs.Common.{◌≡◌, ◌<◌, ◌++◌, ◌∷◌, [], List, length, refl, sym, ap, subst, ◌∙◌, append_assoc, true≢false, arith, rules}
 use Rattle.std.proofs.lemmas.List.{append-nil}
-use Rattle.std.specs.Vec.Iter.{into_iter_items, into_iter_len}
+use Rattle.std.specs.Vec.Iter.{into_iter_items}
 use Rattle.indexmap.specs.IndexMap.{spare}
-use Rattle.bucket_table.specs.Slots.{Slot, EnterAll, objects_of}
+use Rattle.bucket_table.specs.Slots.{Slot, EnterAll}
 use Rattle.bucket_table.proofs.PlainLaws.{still-new, enter-all}
 use Rattle.bucket_table.proofs.plain.PlainRowsRows.put.Goals as goal
 

@@ -1,6 +1,5 @@
 use Rattle.std.proofs.Common.{◌≡◌, ◌++◌, ◌∷◌, [], List, Result, Ok, Err, subst, sym}
 use Rattle.std.specs.Result.{OnOk}
-use Rattle.ets_term.specs.declared.term.Term.{Term}
 use Rattle.bucket_table.specs.Slots.{Slot, Enters}
 use Rattle.bucket_table.proofs.PlainLaws.{enters-last}
 use Rattle.bucket_table.proofs.plain.PlainRowsRows.put_at.Goals as goal

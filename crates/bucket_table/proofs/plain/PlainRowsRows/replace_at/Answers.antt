@@ -1,5 +1,6 @@
 use Rattle.std.proofs.Common.{◌≡◌, sym, ◌∙◌, ap, Some}
-use Rattle.std.specs.Option.{option_map, option_copied_mut}
+use Rattle.bucket_table.proofs.StepLaws.{keys-kept}
+use Rattle.std.specs.Option.{option_map}
 use Rattle.std.proofs.lemmas.Option.{same_Some}
 use Rattle.bucket_table.specs.Slots.{with_objects}
 use Rattle.bucket_table.proofs.PlainLaws.{at-place, place-entry, values-get, key-kept}
@@ -23,3 +24,6 @@ returns-clause-now c =
 
 pub returns-clause-place : goal.returns-clause-place
 returns-clause-place c = key-kept c.args.self.now.slots.entries c.args.place c.replace.new.dest
+
+pub returns-clause-places : goal.returns-clause-places
+returns-clause-places c = λ other. keys-kept c.args.self.now.slots.entries c.args.place other c.replace.new.dest

@@ -16,7 +16,7 @@ returns-then-buckets-ge-MAX_BUCKETS-clause-ok g c =
 pub invariant_of-self : goal.invariant_of-self
 invariant_of-self g c =
     let rows = rows-unknown (g.H.KeyHash.number c.self.inside.hash) c.self.inside.dummies.items c.self.inside.shift c.self.inside.firsts.items c.self.inside.list.cells c.self.invariant.rows 0 c.resize.new.self.items (c.in_err-resize.ensures.items ∙ c.clear.ensures.items) in
-    record { rows = rows; counted = c.self.invariant.counted; due = c.self.invariant.due }
+    record { rows = rows; counted = c.self.invariant.counted; due = c.self.invariant.due; noted = c.self.invariant.noted }
 
 pub invariant_of-self-2 : goal.invariant_of-self-2
 invariant_of-self-2 g c =
@@ -26,7 +26,7 @@ invariant_of-self-2 g c =
     let after = (grown-items items c.resize-2.new.self.items c.len-buckets.result (vec_len c.self.inside.dummies) (c.len-buckets.ensures ∙ c.self.inside.dummies.ok.0) c.self.inside.dummies.ok.0 (c.in_ok-resize-2.ensures.items ∙ ap (λ (z : Option ℕ). take (2 * c.len-buckets.result) items ++ replicate (2 * c.len-buckets.result - vec_len c.self.inside.dummies) z) c.none.ensures)) in
     let rows = rows-grown (g.H.KeyHash.number c.self.inside.hash) items c.self.inside.shift c.self.inside.firsts.items c.self.inside.list.cells c.self.invariant.rows fewer c.resize-2.new.self.items c.resize.new.self.items (16 * c.len-buckets.result)
     after hints in
-    record { rows = rows; counted = c.self.invariant.counted; due = least-grown items c.resize-2.new.self.items (length items) c.self.inside.least after c.self.invariant.due }
+    record { rows = rows; counted = c.self.invariant.counted; due = least-grown items c.resize-2.new.self.items (length items) c.self.inside.least after c.self.invariant.due; noted = c.self.invariant.noted }
 
 pub returns-clause-ok : goal.returns-clause-ok
 returns-clause-ok g c =

@@ -1,3 +1,5 @@
+use Rattle.bucket_table.specs.inside.Notes.{IsAmong}
+use Rattle.bucket_table.proofs.NoteLaws.{among-entered, among-more, held-told}
 use Rattle.std.proofs.Common.{◌≡◌, ◌+◌, ◌-◌, ◌/◌, ◌^◌, ◌≤◌, false, get_or, refl, ℕ, List, length, None, Option, sym, ◌∙◌, ap, subst, arith}
 use Rattle.std.specs.Map.{lookup}
 use Rattle.ets_term.specs.Order.{same}
@@ -39,7 +41,18 @@ invariant_of-self g c =
     c.insert_item-at.ensures.fresh (c.item_key-key_of_split.ensures ∙ ap key_of_item hash) none c.insert_item-at.ensures.cells
     c.note.ensures c.becomes_first-moves.ensures.new (subst K c.deref-2.ensures.value c.becomes_first-moves.ensures.old) in
     let one = length-added (slots_of c.self.inside.list.cells) (slots_of c.insert_item-at.new.self.cells) c.args.key c.args.objects (put-added number c.self.inside.dummies.items c.self.inside.list.cells c.self.invariant.rows.split c.insert_item-at.result c.item_key-key_of_split.result c.args.key c.args.objects c.insert_item-at.new.self.cells c.insert_item-at.ensures.cells) in
-    record { rows = rows; counted = omega (arith, one, c.self.invariant.counted); due = c.self.invariant.due }
+    let ss = slots_of c.self.inside.list.cells in
+    let enters = put-added number c.self.inside.dummies.items c.self.inside.list.cells c.self.invariant.rows.split c.insert_item-at.result c.item_key-key_of_split.result c.args.key c.args.objects c.insert_item-at.new.self.cells c.insert_item-at.ensures.cells in
+    let hs = c.mark.new.self.hashes.items in
+    let H : ℕ → Type 0 = λ h. IsAmong h hs in
+    record {
+      rows = rows;
+      counted = omega (arith, one, c.self.invariant.counted);
+      due = c.self.invariant.due;
+      noted = λ kept. among-entered number hs ss (slots_of c.insert_item-at.new.self.cells) c.args.key c.args.objects enters
+          (λ e. subst H hash ((c.mark.ensures kept).2 (held-told c.args.objects c.len.result c.len.ensures e)))
+          (among-more number c.self.inside.held.hashes.items hs (c.mark.ensures kept).1 ss (c.self.invariant.noted (c.mark.ensures kept).0));
+    }
 
 pub returns-clause-now : goal.returns-clause-now
 returns-clause-now g c =

@@ -1,3 +1,5 @@
+use Rattle.bucket_table.specs.Slots.{Slot}
+use Rattle.bucket_table.specs.inside.Notes.{AreAmong}
 use Rattle.std.proofs.Common.{Option, ◌≤◌}
 use Rattle.std.proofs.lemmas.List.{length-set}
 use Rattle.bucket_table.specs.inside.Layout.{AreReady, IsLeast}
@@ -84,4 +86,4 @@ invariant_of-self-2 g c =
     record { split = base.split; hinted = record { doublings = base.hinted.doublings; size = base.hinted.size; narrow = base.hinted.narrow; hints = c.survey_both.ensures.1.hinted.hints } } in
     let same = ap slots_of (c.insert_dummy-at.ensures.cells ∙ ap (put_cell (new_cell c.insert_dummy-at.result c.dummy_key.result None)) c.in_ok-reserve.ensures.cells)
     ∙ slots-put-dummy c.insert_dummy-at.result c.dummy_key.result cells in
-    record { rows = subst D (sym now) rows; counted = c.self.invariant.counted ∙ sym (ap length same); due = subst L c.deref-3.ensures.value c.next_unready-self-inside.ensures }
+    record { rows = subst D (sym now) rows; counted = c.self.invariant.counted ∙ sym (ap length same); due = subst L c.deref-3.ensures.value c.next_unready-self-inside.ensures; noted = λ kept. (let N : List Slot → Type 0 = λ ss. AreAmong number c.self.inside.held.hashes.items ss in subst N (sym same) (c.self.invariant.noted kept)) }

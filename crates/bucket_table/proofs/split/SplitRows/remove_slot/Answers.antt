@@ -1,10 +1,16 @@
-use Rattle.std.proofs.Common.{◌≡◌, ◌%◌, ℕ, refl, Some, IsSome, length, sym, ◌∙◌, ap, subst, arith}
+use Rattle.bucket_table.specs.inside.Notes.{AreAmong}
+use Rattle.bucket_table.proofs.NoteLaws.{among-without}
+use Rattle.std.proofs.Common.{◌≡◌, ◌≢◌, ◌%◌, ℕ, List, Option, refl, Some, IsSome, length, sym, ◌∙◌, ap, subst, arith}
+use Rattle.ets_term.specs.declared.term.Term.{Term}
+use Rattle.bucket_table.specs.Walks.{StandsBefore}
+use Rattle.bucket_table.proofs.WalkLaws.{before-other}
+use Rattle.bucket_table.proofs.StepLaws.{place-stays}
 use Rattle.ets_term.specs.Order.{same}
 use Rattle.node_list.specs.declared.node.Item.{Item}
-use Rattle.node_list.specs.Cells.{new_item}
-use Rattle.bucket_table.specs.Slots.{objects_of, without}
+use Rattle.node_list.specs.Cells.{Cell, new_item}
+use Rattle.bucket_table.specs.Slots.{Slot, objects_of, without}
 use Rattle.bucket_table.specs.Split.{Split, key_of_place}
-use Rattle.bucket_table.specs.inside.Nodes.{slots_of}
+use Rattle.bucket_table.specs.inside.Nodes.{slots_of, places_of}
 use Rattle.bucket_table.proofs.ContentLaws.{found-item}
 use Rattle.bucket_table.proofs.CountedLaws.{length-removed}
 use Rattle.bucket_table.proofs.PlacedLaws.{placed-parity}
@@ -60,7 +66,7 @@ invariant_of-self g c =
     let rows = rows-out (g.H.KeyHash.number c.self.inside.hash) c.self.inside.dummies.items c.self.inside.shift c.self.inside.firsts.items c.take_out-slot.new.firsts.items c.args.place c.self.inside.list.cells c.take_out-slot.new.list.cells c.self.invariant.rows c.known.ensures.apart (found-item p.key c.args.place c.self.inside.list.cells p.found) c.take_out-slot.ensures.cells c.take_out-slot.ensures.hints in
     let l = length-removed (same p.key) (slots_of c.self.inside.list.cells) p.found.item.chain p.found.objects in
     let is = ap slots_of c.take_out-slot.ensures.cells ∙ p.found.removed in
-    record { rows = rows; counted = omega (arith, l, ap length is, c.self.invariant.counted); due = c.self.invariant.due }
+    record { rows = rows; counted = omega (arith, l, ap length is, c.self.invariant.counted); due = c.self.invariant.due; noted = λ kept. (let N : List Slot → Type 0 = λ ss. AreAmong (g.H.KeyHash.number c.self.inside.hash) c.self.inside.held.hashes.items ss in subst N (sym is) (among-without (g.H.KeyHash.number c.self.inside.hash) c.self.inside.held.hashes.items p.key (slots_of c.self.inside.list.cells) (c.self.invariant.noted kept))) }
 
 pub returns-clause-key : goal.returns-clause-key
 returns-clause-key g c =
@@ -88,3 +94,19 @@ returns-clause-now g c =
     let same_key : p.key ≡ c.take_out-slot.result.0 = sym p.found.same_term ∙ ap (λ (i : Item). i.term) item in
     let Q : Split g.row.H.Denot → Type 0 = λ v. slots_of c.take_out-slot.new.list.cells ≡ without v.slots c.take_out-slot.result.0 in
     subst Q c.self.view_is (ap slots_of c.take_out-slot.ensures.cells ∙ (p.found.removed ∙ ap (without (slots_of c.self.inside.list.cells)) same_key))
+
+pub returns-clause-before : goal.returns-clause-before
+returns-clause-before g c =
+    let P : Split g.row.H.Denot → Type 0 = λ v. IsSome (key_of_place v.places c.args.place) in
+    let p = at-place c.args.place c.self.inside.list.cells c.known.ensures.apart c.self.invariant.rows.split.distinct (subst P (sym c.self.view_is) c.requires) in
+    let item = read-item c.args.place c.self.inside.list.cells p (new_item c.take_out-slot.result.0 c.take_out-slot.result.1) c.take_out-slot.ensures.item in
+    let same_key : p.key ≡ c.take_out-slot.result.0 = sym p.found.same_term ∙ ap (λ (i : Item). i.term) item in
+    let Q : Split g.row.H.Denot → Type 0 =
+    λ v. (other : ℕ) (key : Term) → key_of_place v.places other ≡ Some key → StandsBefore v.slots key c.take_out-slot.result.0 → key_of_place (places_of c.take_out-slot.new.list.cells) other ≡ Some key in
+    subst Q c.self.view_is (λ other key e b.
+    let apart = before-other (slots_of c.self.inside.list.cells) key c.take_out-slot.result.0 c.self.invariant.rows.split.distinct b in
+    let away : c.args.place ≢ other = λ here. apart (some-key key c.take_out-slot.result.0 (key_of_place (places_of c.self.inside.list.cells) other) e (ap (key_of_place (places_of c.self.inside.list.cells)) (sym here) ∙ (p.is ∙ ap Some same_key))) in
+    ap (λ (cs : List Cell). key_of_place (places_of cs) other) c.take_out-slot.ensures.cells ∙ (place-stays c.args.place other c.self.inside.list.cells away ∙ e))
+  where
+    some-key : (a b : Term) (o : Option Term) → o ≡ Some a → o ≡ Some b → a ≡ b
+    some-key a b o x y = cc

@@ -1,4 +1,9 @@
-use Rattle.std.proofs.Common.{◌≡◌, ◌-◌, ℕ, length, IsSome, Some, sym, ◌∙◌, ap, subst}
+use Rattle.std.proofs.Math.Nat.{mod-eq_of_lt}
+use Rattle.bucket_table.specs.Slots.{Slot, has_objects}
+use Rattle.bucket_table.specs.inside.Notes.{IsAmong, AreAmong}
+use Rattle.bucket_table.proofs.NoteLaws.{among-with, among-more, held-told}
+use Rattle.bucket_table.proofs.SurveyLaws.{item-small}
+use Rattle.std.proofs.Common.{◌≡◌, ◌-◌, ℕ, List, arith, length, IsSome, Some, sym, ◌∙◌, ap, subst}
 use Rattle.bucket_table.specs.Entries.{objects_in, with_objects_in}
 use Rattle.bucket_table.specs.Split.{Split, key_of_place}
 use Rattle.bucket_table.specs.inside.Nodes.{slots_of, places_of}
@@ -6,7 +11,7 @@ use Rattle.node_list.specs.Changes.{cells_with}
 use Rattle.bucket_table.proofs.ContentLaws.{found-item}
 use Rattle.bucket_table.proofs.CountedLaws.{length-set_value}
 use Rattle.bucket_table.proofs.RowsLaws.{rows-with}
-use Rattle.bucket_table.proofs.SeatLaws.{at-place, objects-read, objects-written, length-with, places-with}
+use Rattle.bucket_table.proofs.SeatLaws.{at-place, place-stands, place-key, objects-read, objects-written, length-with, places-with}
 use Rattle.ets_term.specs.Order.{same}
 use Rattle.bucket_table.proofs.split.SplitRows.replace_objects.Goals as goal
 
@@ -16,13 +21,41 @@ chain_mut-chain-requires g c =
     let p = at-place c.args.place c.self.inside.list.cells c.known.ensures.apart c.self.invariant.rows.split.distinct (subst P (sym c.self.view_is) c.requires) in
     found-item p.key c.args.place c.self.inside.list.cells p.found
 
+pub key-requires : goal.key-requires
+key-requires g c =
+    let P : Split g.row.H.Denot → Type 0 = λ v. IsSome (key_of_place v.places c.args.place) in
+    let p = at-place c.args.place c.self.inside.list.cells c.known.ensures.apart c.self.invariant.rows.split.distinct (subst P (sym c.self.view_is) c.requires) in
+    place-stands c.args.place c.self.inside.list.cells p
+
+pub hash_of-number-requires : goal.hash_of-number-requires
+hash_of-number-requires g c =
+    let P : Split g.row.H.Denot → Type 0 = λ v. IsSome (key_of_place v.places c.args.place) in
+    let p = at-place c.args.place c.self.inside.list.cells c.known.ensures.apart c.self.invariant.rows.split.distinct (subst P (sym c.self.view_is) c.requires) in
+    let key = place-key (g.H.KeyHash.number c.self.inside.hash) c.self.inside.dummies.items c.args.place c.self.inside.list.cells c.self.invariant.rows.split.placed p c.key.result c.key.ensures in
+    let small = item-small ((g.H.KeyHash.number c.self.inside.hash) p.key) in
+    omega (arith, key, small)
+
 pub invariant_of-self : goal.invariant_of-self
 invariant_of-self g c =
     let P : Split g.row.H.Denot → Type 0 = λ v. IsSome (key_of_place v.places c.args.place) in
     let p = at-place c.args.place c.self.inside.list.cells c.known.ensures.apart c.self.invariant.rows.split.distinct (subst P (sym c.self.view_is) c.requires) in
     let h = p.found in
     let rows = rows-with (g.H.KeyHash.number c.self.inside.hash) c.self.inside.dummies.items c.self.inside.shift c.self.inside.firsts.items c.self.inside.list.cells c.self.invariant.rows p.key c.args.place c.replace.new.dest h in
-    record { rows = rows; counted = c.self.invariant.counted ∙ sym (ap length (h.replaced c.replace.new.dest) ∙ length-set_value (same p.key) (slots_of c.self.inside.list.cells) c.replace.new.dest); due = c.self.invariant.due }
+    let number = g.H.KeyHash.number c.self.inside.hash in
+    let ss = slots_of c.self.inside.list.cells in
+    let hs = c.mark.new.self.hashes.items in
+    let H : ℕ → Type 0 = λ n. IsAmong n hs in
+    let N : List Slot → Type 0 = λ zs. AreAmong number hs zs in
+    let key = place-key number c.self.inside.dummies.items c.args.place c.self.inside.list.cells c.self.invariant.rows.split.placed p c.key.result c.key.ensures in
+    let hash : c.hash_of-number.result ≡ number p.key = c.hash_of-number.ensures (number p.key) key ∙ mod-eq_of_lt (g.met.H.KeyHash.below c.self.inside.hash p.key) in
+    record {
+      rows = rows;
+      counted = c.self.invariant.counted ∙ sym (ap length (h.replaced c.replace.new.dest) ∙ length-set_value (same p.key) ss c.replace.new.dest);
+      due = c.self.invariant.due;
+      noted = λ kept. subst N (sym (h.replaced c.replace.new.dest)) (among-with number hs p.key c.replace.new.dest ss
+          (λ e. subst H hash ((c.mark.ensures kept).2 (held-told c.args.objects c.len.result c.len.ensures (ap has_objects (sym c.replace.ensures.after) ∙ e))))
+          (among-more number c.self.inside.held.hashes.items hs (c.mark.ensures kept).1 ss (c.self.invariant.noted (c.mark.ensures kept).0)));
+    }
 
 pub returns-clause-was : goal.returns-clause-was
 returns-clause-was g c =

@@ -1,4 +1,8 @@
-use Rattle.std.proofs.Common.{ℕ, List, Option, subst, arith}
+use Rattle.std.proofs.Common.{ℕ, List, Option, sym, subst, arith}
+use Rattle.bucket_table.specs.Slots.{Slot}
+use Rattle.bucket_table.specs.inside.Nodes.{slots_of}
+use Rattle.bucket_table.specs.inside.Notes.{AreAmong}
+use Rattle.bucket_table.proofs.NoteLaws.{among-swept}
 use Rattle.bucket_table.specs.inside.Firsts.{IsRows}
 use Rattle.bucket_table.proofs.split.SplitRows.sweep_slots.Goals as goal
 
@@ -12,4 +16,5 @@ invariant_of-self g c =
       rows = subst D c.deref.ensures.value c.sweep_all.ensures.rows;
       counted = omega (arith, c.sweep_all.ensures.len, c.sweep_all.ensures.fewer, c.self.invariant.counted, c.len.ensures.value, c.len-before.ensures.value);
       due = c.self.invariant.due;
+      noted = λ kept. (let N : List Slot → Type 0 = λ ss. AreAmong (g.H.KeyHash.number c.self.inside.hash) c.sweep.new.self.hashes.items ss in subst N (sym c.sweep_all.ensures.slots) (among-swept (g.H.KeyHash.number c.self.inside.hash) c.sweep.new.self.hashes.items c.args.how (slots_of c.self.inside.list.cells) (c.sweep.ensures kept)));
     }

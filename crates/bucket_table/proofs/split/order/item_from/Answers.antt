@@ -1,11 +1,11 @@
-use Rattle.std.proofs.Common.{Option, ℕ, Some, refl, sym, ◌∙◌, ap, subst, slice_get, length, ◌<◌}
-use Rattle.bucket_table.specs.Slots.{Slot}
+use Rattle.std.proofs.Common.{Option, ℕ, refl, sym, ◌∙◌, ap, subst, length, ◌<◌}
 use Rattle.bucket_table.specs.inside.Nodes.{slots_of}
 use Rattle.bucket_table.specs.inside.Surveys.{tail_from}
 use Rattle.bucket_table.specs.inside.Walks.{IsTail}
-use Rattle.ets_term.specs.declared.term.Term.{Term}
-use Rattle.std.specs.Prelude.{List}
-use Rattle.bucket_table.proofs.TailLaws.{here, here-stands, next-tail, next-is, first-slot, skip-dummy, no-slot, smaller}
+use Rattle.bucket_table.specs.inside.Nodes.{places_of}
+use Rattle.bucket_table.specs.Split.{key_of_place}
+use Rattle.bucket_table.proofs.StepLaws.{item-leads, leads-same}
+use Rattle.bucket_table.proofs.TailLaws.{here, here-stands, next-tail, next-is, skip-dummy, no-slot, smaller}
 use Rattle.bucket_table.proofs.split.order.item_from.Goals as goal
 
 pub loop-at-init : goal.loop-at-init
@@ -19,8 +19,8 @@ pub returns-in-Some-item : goal.returns-in-Some-item
 returns-in-Some-item c =
     let cells = c.args.list.now.cells in
     let h = here c.in-Some.place c.loop-at.at cells c.in-Some.is c.loop-at.invariant.tail in
-    ap (λ (objects : List Term). Some (c.in-Some-item.term.now, objects)) c.as_slice.ensures
-    ∙ (sym (first-slot c.in-Some.place c.loop-at.at cells h c.in-Some-item.term.now c.in-Some-item.chain.now c.in-Some-item.ensures) ∙ ap (λ (ss : List Slot). slice_get ss 0) c.loop-at.invariant.same)
+    leads-same (key_of_place (places_of cells)) (slots_of (tail_from c.loop-at.at cells)) (slots_of (tail_from c.args.start cells)) c.in-Some.place c.loop-at.invariant.same
+    (item-leads c.in-Some.place c.loop-at.at cells h c.in-Some-item._term.now c.in-Some-item._chain.now c.in-Some-item.ensures)
 
 pub after-at-requires : goal.after-at-requires
 after-at-requires c =
@@ -44,4 +44,4 @@ loop-at-preserved c =
     }
 
 pub returns : goal.returns
-returns c = sym (no-slot c.loop-at.at c.args.list.now.cells c.in_default.is) ∙ ap (λ (ss : List Slot). slice_get ss 0) c.loop-at.invariant.same
+returns c = sym c.loop-at.invariant.same ∙ no-slot c.loop-at.at c.args.list.now.cells c.in_default.is

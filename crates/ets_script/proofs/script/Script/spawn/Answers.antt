@@ -5,7 +5,7 @@ use Rattle.std.proofs.lemmas.List.{length-map}
 use Rattle.node_core.specs.State.{State}
 use Rattle.ets_script.specs.Script.{Scripted, pid_of}
 use Rattle.ets_script.specs.inside.Enrolments.{Enrols}
-use Rattle.ets_script.proofs.Names.{position_map, spawned}
+use Rattle.ets_script.proofs.Enrolments.{position_map, spawned}
 use Rattle.ets_script.proofs.script.Script.spawn.Goals as goal
 
 pub returns-in-Some : goal.returns-in-Some

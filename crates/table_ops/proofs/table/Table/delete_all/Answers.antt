@@ -1,5 +1,5 @@
 use Rattle.std.proofs.Common.{◌≡◌, List, sym, ap, subst, ◌∙◌, arith}
-use Rattle.bucket_table.specs.Slots.{Slot, object_count, cleared}
+use Rattle.bucket_table.specs.Slots.{Slot, object_count}
 use Rattle.table_ops.specs.Content.{AreSlots, Content}
 use Rattle.table_ops.specs.Drop.{each, dropped}
 use Rattle.table_ops.proofs.DropLaws.{slots-dropped, dropped-each, nothing-left}

@@ -1,7 +1,6 @@
-use Rattle.std.proofs.Common.{◌≡◌, ◌+◌, ◌≤◌, List, Some, sym, ap, subst, ◌∙◌, length, arith}
-use Rattle.bucket_table.specs.Slots.{Slot, object_count}
+use Rattle.std.proofs.Common.{sym, arith}
 use Rattle.table_ops.specs.Content.{Content}
-use Rattle.table_ops.specs.Drop.{dropped, equal_to}
+use Rattle.table_ops.specs.Drop.{equal_to}
 use Rattle.table_ops.proofs.DropLaws.{object-taken, object-count, counted-less, none-dropped, spares-object, deletes}
 use Rattle.table_ops.proofs.table.Table.delete_object.Goals as goal
 

@@ -1,4 +1,4 @@
-use Rattle.std.proofs.Common.{◌≡◌, sym, ap, subst, ◌∙◌}
+use Rattle.std.proofs.Common.{sym, ap, subst, ◌∙◌}
 use Rattle.bucket_table.specs.Slots.{object_count}
 use Rattle.table_ops.specs.Content.{AreSlots}
 use Rattle.table_ops.proofs.Counts.{count-purged}

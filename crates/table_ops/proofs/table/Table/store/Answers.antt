@@ -1,7 +1,6 @@
 use Rattle.std.proofs.Common.{◌≡◌, ◌≤◌, false, sym, subst, ◌∙◌}
 use Rattle.std.specs.List.{list_any}
 use Rattle.ets_term.specs.Depth.{is_too_deep}
-use Rattle.bucket_table.specs.Slots.{object_count}
 use Rattle.table_ops.specs.Content.{Content}
 use Rattle.table_ops.proofs.KeptLaws.{slots-puts-all}
 use Rattle.table_ops.proofs.StoreLaws.{stores-done}

@@ -1,9 +1,9 @@
-use Rattle.std.proofs.Common.{◌≡◌, ◌+◌, ◌≤◌, List, Some, sym, ap, subst, ◌∙◌, length, arith}
+use Rattle.std.proofs.Common.{◌≡◌, List, sym, ap, ◌∙◌, length, arith}
 use Rattle.std.proofs.lemmas.Option.{same_Some}
-use Rattle.bucket_table.specs.Slots.{Slot, object_count}
+use Rattle.bucket_table.specs.Slots.{Slot}
 use Rattle.table_ops.specs.Content.{Content}
-use Rattle.table_ops.specs.Drop.{dropped, of_key, equal_to}
-use Rattle.table_ops.proofs.DropLaws.{key-taken, taken-count, object-taken, object-count, counted-less, none-dropped, spares-key, spares-object}
+use Rattle.table_ops.specs.Drop.{of_key}
+use Rattle.table_ops.proofs.DropLaws.{key-taken, taken-count, counted-less, none-dropped, spares-key}
 use Rattle.table_ops.proofs.table.Table.take.Goals as goal
 
 pub returns-in_default-clause-content : goal.returns-in_default-clause-content

@@ -1,4 +1,4 @@
-use Rattle.std.proofs.Common.{◌≡◌, ◌≤◌, ◌+◌, Some, take, length, vec_len, vec_capacity}
+use Rattle.std.proofs.Common.{◌≡◌, ◌≤◌, Some, take, length, vec_len, vec_capacity}
 use Rattle.table_ops.specs.Read.{elements_at}
 use Rattle.table_ops.proofs.table.lookup.elements.Given as goal
 

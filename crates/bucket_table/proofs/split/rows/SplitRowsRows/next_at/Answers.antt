@@ -1,0 +1,23 @@
+use Rattle.std.proofs.Common.{◌≡◌, ◌∷◌, List, Some, option_map, slice_get, sym, ◌∙◌, ap}
+use Rattle.bucket_table.specs.Slots.{Slot, slots_behind}
+use Rattle.bucket_table.specs.Walks.{behind_in}
+use Rattle.bucket_table.specs.Split.{key_of_place}
+use Rattle.bucket_table.proofs.ContentLaws.{behind-absent}
+use Rattle.bucket_table.proofs.WalkLaws.{next-one}
+use Rattle.bucket_table.proofs.StepLaws.{read-one}
+use Rattle.bucket_table.proofs.split.rows.SplitRowsRows.next_at.Goals as goal
+
+pub returns-in_err-place : goal.returns-in_err-place
+returns-in_err-place g c =
+    let none = behind-absent c.args.key.now c.args.self.now.slots c.in_err-place.ensures in
+    rw (c.from_residual.ensures, none)
+
+pub returns-in-Some : goal.returns-in-Some
+returns-in-Some g c =
+    let slots = c.args.self.now.slots in
+    let n = c.in-Some.ensures in
+    let f = n.first in
+    let behind : slots_behind slots c.args.key.now ≡ Some (f.slot ∷ f.rest) = sym (ap (behind_in slots) c.in_ok-place.ensures.0) ∙ (n.is ∙ ap Some f.is) in
+    let one = next-one c.args.key.now slots f.slot f.rest c.known.ensures behind in
+    ap (λ (s : Slot). Some (Some s)) (read-one slots f.slot c.slot_at.result.0.now c.slot_at.result.1.now (key_of_place c.args.self.now.places c.in-Some.next) f.key c.slot_at.ensures.key c.slot_at.ensures.objects one.objects)
+    ∙ sym (ap (option_map (λ (ss : List Slot). slice_get ss 0)) behind)

@@ -1,0 +1,72 @@
+use Rattle.std.proofs.Common.{◌%◌, List, None, refl, length, sym, ◌∙◌, subst, arith}
+use Rattle.split_key.specs.Keys.{key_of_dummy}
+use Rattle.node_list.specs.Cells.{Cell, new_cell}
+use Rattle.node_list.specs.Places.{behind}
+use Rattle.bucket_table.specs.inside.Nodes.{slots_of}
+use Rattle.bucket_table.specs.inside.Notes.{AreAmong}
+use Rattle.bucket_table.proofs.StartLaws.{start-is}
+use Rattle.bucket_table.proofs.RunLaws.{start-below, next-there, beyond-next, nothing-behind, run-purged, run-gone, among-rest}
+use Rattle.bucket_table.proofs.split.sweep.purge_run.Goals as goal
+
+pub loop-next-init : goal.loop-next-init
+loop-next-init g c = record {
+  rows = c.requires.rows;
+  stands = start-is c.args.dummies.now (c.args.number % length c.args.dummies.now) c.start_of-at.result c.args.list.now.cells c.requires.rows.split.stand c.start_of-at.ensures;
+  slots = refl;
+  rest = λ hs a. a;
+  len = refl;
+  fewer = omega arith;
+  capacity = refl;
+}
+
+pub key-requires : goal.key-requires
+key-requires g c = next-there c.loop-next.at c.in-Some.next c.loop-next.list.cells c.known-in-Some.ensures.apart c.loop-next.invariant.stands (sym c.in-Some.ensures)
+
+pub returns-then-key-clause-purged : goal.returns-then-key-clause-purged
+returns-then-key-clause-purged g c =
+    let s = c.requires.rows.split in
+    let d = s.stand c.start_of-at.ensures.nearest c.start_of-at.result c.start_of-at.ensures.entry in
+    let below = start-below c.args.dummies.now s.doublings c.args.number c.start_of-at.result s.size s.few c.start_of-at.ensures in
+    run-purged (g.H.KeyHash.number c.args.hash) c.args.dummies.now c.item_key-key.result c.args.number c.item_key-key.ensures c.start_of-at.result c.loop-next.at c.args.list.now.cells c.loop-next.list.cells
+    (new_cell c.start_of-at.result (key_of_dummy c.start_of-at.ensures.nearest) None) d.later d.is (omega (arith, below, c.item_key-key.ensures)) c.known.ensures.sorted s.placed c.loop-next.invariant.stands c.loop-next.invariant.slots
+
+pub returns-then-key-clause-gone : goal.returns-then-key-clause-gone
+returns-then-key-clause-gone g c =
+    let s = c.requires.rows.split in
+    let d = s.stand c.start_of-at.ensures.nearest c.start_of-at.result c.start_of-at.ensures.entry in
+    let below = start-below c.args.dummies.now s.doublings c.args.number c.start_of-at.result s.size s.few c.start_of-at.ensures in
+    let none = beyond-next (g.H.KeyHash.number c.args.hash) c.args.dummies.now c.item_key-key.result c.args.number c.item_key-key.ensures c.loop-next.at c.in-Some.next c.key.result c.loop-next.list.cells c.known-in-Some.ensures.apart c.known-in-Some.ensures.sorted c.loop-next.invariant.rows.split.placed c.loop-next.invariant.stands (sym c.in-Some.ensures) c.key.ensures c.if-key.true in
+    run-gone (g.H.KeyHash.number c.args.hash) c.args.dummies.now c.item_key-key.result c.args.number c.item_key-key.ensures c.start_of-at.result c.loop-next.at c.args.list.now.cells c.loop-next.list.cells
+    (new_cell c.start_of-at.result (key_of_dummy c.start_of-at.ensures.nearest) None) d.later d.is (omega (arith, below, c.item_key-key.ensures)) c.known.ensures.sorted s.placed c.loop-next.invariant.stands c.loop-next.invariant.slots none c.loop-next.invariant.rest
+
+pub loop-next-preserved : goal.loop-next-preserved
+loop-next-preserved g c =
+    let i = c.loop-next.invariant in
+    let e = c.sweep_one-at.ensures in
+    let number = g.H.KeyHash.number c.args.hash in
+    record {
+      rows = e.rows;
+      stands = e.swept.stands;
+      slots = e.swept.same_end ∙ i.slots;
+      rest = λ hs a. (let P : List Cell → Type 0 = λ zs. AreAmong number hs (slots_of zs) in subst P (sym e.swept.rest) (among-rest number hs (behind c.loop-next.at c.loop-next.list.cells) (i.rest hs a)));
+      len = omega (arith, i.len, e.len);
+      fewer = omega (arith, i.fewer, e.fewer);
+      capacity = e.capacity ∙ i.capacity;
+    }
+
+pub returns-clause-purged : goal.returns-clause-purged
+returns-clause-purged g c =
+    let s = c.requires.rows.split in
+    let d = s.stand c.start_of-at.ensures.nearest c.start_of-at.result c.start_of-at.ensures.entry in
+    let below = start-below c.args.dummies.now s.doublings c.args.number c.start_of-at.result s.size s.few c.start_of-at.ensures in
+    run-purged (g.H.KeyHash.number c.args.hash) c.args.dummies.now c.item_key-key.result c.args.number c.item_key-key.ensures c.start_of-at.result c.loop-next.at c.args.list.now.cells c.loop-next.list.cells
+    (new_cell c.start_of-at.result (key_of_dummy c.start_of-at.ensures.nearest) None) d.later d.is (omega (arith, below, c.item_key-key.ensures)) c.known.ensures.sorted s.placed c.loop-next.invariant.stands c.loop-next.invariant.slots
+
+pub returns-clause-gone : goal.returns-clause-gone
+returns-clause-gone g c =
+    let s = c.requires.rows.split in
+    let d = s.stand c.start_of-at.ensures.nearest c.start_of-at.result c.start_of-at.ensures.entry in
+    let below = start-below c.args.dummies.now s.doublings c.args.number c.start_of-at.result s.size s.few c.start_of-at.ensures in
+    let none = nothing-behind (g.H.KeyHash.number c.args.hash) c.args.number c.loop-next.at c.loop-next.list.cells (sym c.after.ensures ∙ c.in_default.is) in
+    run-gone (g.H.KeyHash.number c.args.hash) c.args.dummies.now c.item_key-key.result c.args.number c.item_key-key.ensures c.start_of-at.result c.loop-next.at c.args.list.now.cells c.loop-next.list.cells
+    (new_cell c.start_of-at.result (key_of_dummy c.start_of-at.ensures.nearest) None) d.later d.is (omega (arith, below, c.item_key-key.ensures)) c.known.ensures.sorted s.placed c.loop-next.invariant.stands c.loop-next.invariant.slots none c.loop-next.invariant.rest

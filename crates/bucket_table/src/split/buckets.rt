@@ -1,0 +1,90 @@
+ghost use Rattle.std.specs.Prelude.{◌≡◌, ◌^◌, false, IfOk, OnErr, length, get_or, position, not};
+ghost use Rattle.bucket_table.specs.Buckets.{IsGrown, IsReadied};
+
+use super::SplitRows;
+use super::directory::{nearest, next_unready};
+use super::hint::Hint;
+use super::survey::survey_both;
+use crate::growth::{Growth, Readying};
+use ets_term::KeyHash;
+use node_list::Link;
+use split_key::dummy_key;
+use std::alloc::AllocError;
+
+/// The greatest number of buckets.
+const MAX_BUCKETS: usize = 1048576;
+
+impl<H: KeyHash + Copy + Drop> SplitRows<H> {
+    /// Makes a bucket ready.
+    pub(super) fn make_ready(&mut self, bucket: u32) -> Result<Readying, AllocError>
+        ensures slots { self.new.slots ≡ self.old.slots }
+        ensures hash { self.new.hash ≡ self.old.hash }
+        ensures ok { IfOk result (λ readying. IsReadied bucket self.old.ready readying self.new.ready) }
+        ensures err { OnErr result (self.new.ready ≡ self.old.ready) }
+    {
+        let index = bucket as usize;
+        if index >= self.dummies.len() {
+            return Ok(Readying::NotABucket);
+        }
+        if self.dummies[index].get().is_some() {
+            return Ok(Readying::AlreadyReady);
+        }
+        self.list.reserve(1)?;
+        let start = nearest(&self.dummies, bucket);
+        let at = self.list.insert_dummy(start, dummy_key(bucket));
+        self.dummies[index] = Link::to(at);
+        survey_both(
+            &self.list,
+            &self.dummies,
+            &mut self.firsts,
+            self.shift,
+            bucket,
+        );
+        self.least = next_unready(&self.dummies, self.least);
+        Ok(Readying::Ready)
+    }
+
+    /// Doubles the buckets.
+    pub(super) fn double(&mut self) -> Result<Growth, AllocError>
+        ensures slots { self.new.slots ≡ self.old.slots }
+        ensures hash { self.new.hash ≡ self.old.hash }
+        ensures ok { IfOk result (λ growth. IsGrown (2 ^ 20) self.old.ready growth self.new.ready) }
+        ensures err { OnErr result (self.new.ready ≡ self.old.ready) }
+    {
+        let buckets = self.dummies.len();
+        if buckets >= MAX_BUCKETS {
+            return Ok(Growth::AtMost);
+        }
+        self.firsts.clear();
+        self.firsts.resize(16 * buckets, Hint::unknown())?;
+        self.dummies.resize(2 * buckets, Link::none())?;
+        self.shift -= 1;
+        Ok(Growth::Grown)
+    }
+
+    /// The least bucket that is not ready.
+    pub(super) fn least_unready(&self) -> Option<u32>
+        ensures { result ≡ position not self.now.ready }
+    {
+        if self.least < self.dummies.len() {
+            Some(self.least as u32)
+        } else {
+            None
+        }
+    }
+
+    /// How many buckets there are.
+    pub(super) fn size(&self) -> u32
+        ensures { result ≡ length self.now.ready }
+    {
+        self.dummies.len() as u32
+    }
+
+    /// Whether a bucket is ready.
+    pub(super) fn has_ready(&self, bucket: u32) -> bool
+        ensures { result ≡ get_or self.now.ready bucket false }
+    {
+        let index = bucket as usize;
+        index < self.dummies.len() && self.dummies[index].get().is_some()
+    }
+}

@@ -1,0 +1,152 @@
+ghost use Rattle.std.specs.Prelude.{◌≡◌, ℕ, ◌+◌, ◌<◌, ◌≤◌, None, Some, IsSome, IsOk, OnOk, OnErr};
+ghost use Rattle.bucket_table.specs.Slots.{Enters, EnterAll, AreNew, HasDistinctKeys, objects_of, without, purged};
+ghost use Rattle.bucket_table.specs.Entries.{objects_in, with_objects_in};
+ghost use Rattle.bucket_table.specs.Walks.{StandsBefore};
+ghost use Rattle.bucket_table.specs.Split.{key_of_place};
+ghost use Rattle.bucket_table.specs.inside.Sweeps.{swept};
+
+use super::SplitRows;
+use super::directory::{hash_of, start_of};
+use super::firsts::{becomes_first, note, take_out};
+use super::sweep::{Sweep, purge_noted, sweep_all};
+use crate::entry::Place;
+use ets_term::{KeyHash, Term};
+use node_list::Chain;
+use split_key::item_key;
+use std::alloc::AllocError;
+use std::mem;
+
+impl<H: KeyHash + Copy + Drop> SplitRows<H> {
+    /// Makes room for so many slots more.
+    pub(super) fn make_room(&mut self, additional: usize) -> Result<(), AllocError>
+        ensures room { OnOk result (additional ≤ self.new.room) }
+        ensures succeeds { 0 < additional → additional ≤ self.old.room → IsOk result }
+        ensures grows { self.old.room ≤ self.new.room }
+        ensures slots { self.new.slots ≡ self.old.slots }
+        ensures places { self.new.places ≡ self.old.places }
+        ensures hash { self.new.hash ≡ self.old.hash }
+        ensures buckets { self.new.ready ≡ self.old.ready }
+    {
+        self.list.known();
+        self.list.reserve(additional)?;
+        let nodes = self.list.len().saturating_add(additional);
+        self.held.widen(nodes);
+        Ok(())
+    }
+
+    /// Gives a key that has no slot one, where there is room. The number is its hash.
+    pub(super) fn insert_slot(&mut self, number: u32, key: Term, objects: Chain)
+        requires room { 1 ≤ self.old.room }
+        requires new { objects_of self.old.slots key ≡ None }
+        requires number { number ≡ H.number self.old.hash key }
+        ensures now { Enters self.old.slots key objects self.new.slots }
+        ensures room { self.old.room ≤ self.new.room + 1 }
+        ensures hash { self.new.hash ≡ self.old.hash }
+        ensures buckets { self.new.ready ≡ self.old.ready }
+    {
+        self.list.known();
+        let start = start_of(&self.dummies, number);
+        let key_of_split = item_key(number);
+        let moves = becomes_first(&self.list, &self.firsts, self.shift, key_of_split);
+        let index = (key_of_split >> self.shift) as usize;
+        self.held.mark(objects.len() == 0, number);
+        let at = self.list.insert_item(start, key_of_split, key, objects);
+        note(&mut self.firsts, moves, index, at);
+        self.slots += 1;
+    }
+
+    /// Gives each of these keys, which differ and have no slot, one.
+    pub(super) fn put_rows(&mut self, rows: Vec<(Term, Chain)>) -> Result<(), AllocError>
+        requires distinct { HasDistinctKeys rows.items }
+        requires new { AreNew self.old.slots rows.items }
+        ensures ok { OnOk result (EnterAll self.old.slots rows.items self.new.slots) }
+        ensures err { OnErr result (self.new.slots ≡ self.old.slots) }
+        ensures hash { self.new.hash ≡ self.old.hash }
+        ensures buckets { self.new.ready ≡ self.old.ready }
+    {
+        self.make_room(rows.len())?;
+        for (key, objects) in rows {
+            let number = self.hash.hash32(&key);
+            self.insert_slot(number, key, objects);
+        }
+        Ok(())
+    }
+
+    /// Other objects for the slot at a place, the old ones handed back.
+    pub(super) fn replace_objects(&mut self, place: Place, objects: Chain) -> Chain
+        requires { IsSome (key_of_place self.old.places place) }
+        ensures was { objects_in self.old.slots (key_of_place self.old.places place) ≡ Some result }
+        ensures now { self.new.slots ≡ with_objects_in self.old.slots (key_of_place self.old.places place) objects }
+        ensures places { self.new.places ≡ self.old.places }
+        ensures room { self.new.room ≡ self.old.room }
+        ensures hash { self.new.hash ≡ self.old.hash }
+        ensures buckets { self.new.ready ≡ self.old.ready }
+    {
+        self.list.known();
+        let number = hash_of(self.list.key(place));
+        self.held.mark(objects.len() == 0, number);
+        let chain = self.list.chain_mut(place);
+        mem::replace(chain, objects)
+    }
+
+    /// Takes the slot at a place away.
+    pub(super) fn remove_slot(&mut self, place: Place) -> (Term, Chain)
+        requires { IsSome (key_of_place self.old.places place) }
+        ensures key { key_of_place self.old.places place ≡ Some result.0 }
+        ensures was { objects_of self.old.slots result.0 ≡ Some result.1 }
+        ensures now { self.new.slots ≡ without self.old.slots result.0 }
+        ensures before { (other : ℕ) (key : Term) → key_of_place self.old.places other ≡ Some key → StandsBefore self.old.slots key result.0 → key_of_place self.new.places other ≡ Some key }
+        ensures hash { self.new.hash ≡ self.old.hash }
+        ensures buckets { self.new.ready ≡ self.old.ready }
+    {
+        self.list.known();
+        let key = self.list.key(place);
+        let start = start_of(&self.dummies, hash_of(key));
+        let slot = take_out(&mut self.list, &mut self.firsts, self.shift, start, place);
+        self.slots -= 1;
+        slot
+    }
+
+    /// Walks over all slots once.
+    pub(super) fn sweep_slots(&mut self, how: Sweep)
+        ensures slots { self.new.slots ≡ swept how self.old.slots }
+        ensures hash { self.new.hash ≡ self.old.hash }
+        ensures buckets { self.new.ready ≡ self.old.ready }
+    {
+        self.list.known();
+        let before = self.list.len();
+        sweep_all(
+            self.hash,
+            &mut self.list,
+            &self.dummies,
+            &mut self.firsts,
+            self.shift,
+            how,
+        );
+        self.slots -= before - self.list.len();
+        self.held.sweep(how);
+    }
+
+    /// Takes the held slots away, by their notes.
+    pub(super) fn purge_notes(&mut self)
+        ensures slots { self.new.slots ≡ purged self.old.slots }
+        ensures hash { self.new.hash ≡ self.old.hash }
+        ensures buckets { self.new.ready ≡ self.old.ready }
+    {
+        if self.held.is_lost {
+            self.sweep_slots(Sweep::Purge);
+            return;
+        }
+        self.list.known();
+        let before = self.list.len();
+        purge_noted(
+            self.hash,
+            &mut self.list,
+            &self.dummies,
+            &mut self.firsts,
+            self.shift,
+            &mut self.held.hashes,
+        );
+        self.slots -= before - self.list.len();
+    }
+}

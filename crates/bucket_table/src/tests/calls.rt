@@ -1,0 +1,241 @@
+use super::*;
+
+/// How many keys there are to be called with.
+const KEYS: u32 = 150;
+
+/// A call on one key.
+#[derive(Clone, Copy)]
+enum Call {
+    Insert(i64),
+    Put(i64),
+    Hold,
+    Remove,
+    RemoveAtPlace,
+}
+
+fn drawn(draws: &mut Draws) -> Call {
+    let value = i64::from(draws.below(1000));
+    match draws.below(8) {
+        0 => Call::Hold,
+        1 => Call::Remove,
+        2 => Call::RemoveAtPlace,
+        3 | 4 => Call::Put(value),
+        _ => Call::Insert(value),
+    }
+}
+
+/// What a key has after a call.
+fn after(call: Call, had: Kept) -> Kept {
+    match (call, had) {
+        (Call::Insert(value), _) => Kept::Object(value),
+        (Call::Put(value), Kept::Nothing) => Kept::Object(value),
+        (Call::Put(_), had) => had,
+        (Call::Hold, Kept::Nothing) => Kept::Nothing,
+        (Call::Hold, _) => Kept::Held,
+        (Call::Remove, _) => Kept::Nothing,
+        (Call::RemoveAtPlace, _) => Kept::Nothing,
+    }
+}
+
+fn put<R: Rows>(rows: &mut R, alloc: Global, key: i64, value: i64) -> Result<Kept, AllocError> {
+    let term = Term::Int(key);
+    if let Some(objects) = rows.get(&term) {
+        return Ok(kept_in(objects));
+    }
+    rows.put(vec![in alloc; (term, Chain::one(alloc, Term::Int(value)))]?)?;
+    Ok(Kept::Nothing)
+}
+
+fn hold<R: Rows>(rows: &mut R, alloc: Global, key: i64) -> Kept {
+    match rows.replace(&Term::Int(key), Chain::new(alloc)) {
+        Some(objects) => kept_in(objects.as_slice()),
+        None => Kept::Nothing,
+    }
+}
+
+fn remove_at_place<R: Rows>(rows: &mut R, key: i64) -> Kept {
+    match rows.find(&Term::Int(key)) {
+        Some(place) => kept_in(rows.remove_at(place).1.as_slice()),
+        None => Kept::Nothing,
+    }
+}
+
+/// Does a call, and answers what the key had.
+fn done<R: Rows>(rows: &mut R, alloc: Global, key: i64, call: Call) -> Result<Kept, AllocError> {
+    match call {
+        Call::Insert(value) => insert(rows, alloc, key, value),
+        Call::Put(value) => put(rows, alloc, key, value),
+        Call::Hold => Ok(hold(rows, alloc, key)),
+        Call::Remove => Ok(remove(rows, key)),
+        Call::RemoveAtPlace => Ok(remove_at_place(rows, key)),
+    }
+}
+
+/// Whether a call on one key answers what the list says.
+fn agrees<R: Rows>(
+    rows: &mut R,
+    alloc: Global,
+    list: &mut [Kept],
+    draws: &mut Draws,
+) -> Result<bool, AllocError> {
+    let key = draws.below(KEYS);
+    let call = drawn(draws);
+    let was = done(rows, alloc, i64::from(key), call)?;
+    match list.get_mut(key as usize) {
+        Some(own) => {
+            let had = *own;
+            *own = after(call, had);
+            Ok(was == had)
+        }
+        None => Ok(false),
+    }
+}
+
+/// What a key has when all slots were cleared or purged.
+fn swept(hold: Option<bool>, had: Kept) -> Kept {
+    match (hold, had) {
+        (Some(true), Kept::Object(_)) => Kept::Held,
+        (Some(false), Kept::Object(_)) => Kept::Nothing,
+        (None, Kept::Held) => Kept::Nothing,
+        (_, had) => had,
+    }
+}
+
+/// Purges now and then, and clears less often.
+fn sweep<R: Rows>(rows: &mut R, list: &mut [Kept], draws: &mut Draws) {
+    let hold = match draws.below(6) {
+        0 => Some(true),
+        1 => Some(false),
+        _ => None,
+    };
+    match hold {
+        Some(hold) => rows.clear(hold),
+        None => rows.purge(),
+    }
+    for own in list.iter_mut() {
+        let had = *own;
+        *own = swept(hold, had);
+    }
+}
+
+/// Whether each key has what the list says, and no other has a slot.
+fn agree<R: Rows>(rows: &R, list: &[Kept]) -> bool {
+    let mut slots = 0usize;
+    let mut all = true;
+    for number in 0..KEYS {
+        let wanted = list.get(number as usize).copied().unwrap_or(Kept::Nothing);
+        all = kept_at(rows, i64::from(number)) == wanted && all;
+        if wanted != Kept::Nothing {
+            slots = slots.wrapping_add(1);
+        }
+    }
+    all && rows.len() == slots && walks(rows)
+}
+
+fn number_of(key: &Term) -> i64 {
+    match key {
+        Term::Int(number) => *number as i64,
+        _ => -1,
+    }
+}
+
+fn first_of<R: Rows>(rows: &R) -> Option<i64> {
+    let place = rows.first_place()?;
+    let (key, _objects) = rows.slot_at(place);
+    Some(number_of(key))
+}
+
+/// The key behind another, by places.
+fn behind<R: Rows>(rows: &R, key: i64) -> Option<i64> {
+    let place = rows.find(&Term::Int(key))?;
+    let next = rows.place_behind(place)?;
+    let (key, _objects) = rows.slot_at(next);
+    Some(number_of(key))
+}
+
+/// Whether the slot behind a key's own has this key.
+fn is_behind<R: Rows>(rows: &R, key: i64, next: Option<i64>) -> bool {
+    match rows.next_at(&Term::Int(key)) {
+        Some(Some((key, _objects))) => next == Some(number_of(key)),
+        Some(None) => next == None,
+        None => false,
+    }
+}
+
+/// Whether a walk from the first slot on comes to each slot and ends there.
+fn walks<R: Rows>(rows: &R) -> bool {
+    let mut all = true;
+    let mut at = first_of(rows);
+    for _ in 0..rows.len() {
+        if let Some(key) = at {
+            at = behind(rows, key);
+            all = is_behind(rows, key, at) && all;
+        } else {
+            all = false;
+        }
+    }
+    all && at == None
+}
+
+fn listed(alloc: Global) -> Result<Vec<Kept>, AllocError> {
+    let mut list = Vec::new(alloc);
+    list.resize(KEYS as usize, Kept::Nothing)?;
+    Ok(list)
+}
+
+/// A few calls on keys, growth, and sometimes one on all slots.
+fn round<R: Rows>(
+    rows: &mut R,
+    alloc: Global,
+    list: &mut [Kept],
+    draws: &mut Draws,
+) -> Result<bool, AllocError> {
+    let mut all = true;
+    for _ in 0..25 {
+        all = agrees(rows, alloc, list, draws)? && all;
+    }
+    ready_some(rows, draws)?;
+    if draws.below(4) == 0 {
+        sweep(rows, list, draws);
+    }
+    Ok(agree(rows, list) && all)
+}
+
+/// Whether some thousands of calls give what a list gives.
+fn thousands<R: Rows>(rows: &mut R, alloc: Global) -> Result<bool, AllocError> {
+    let mut list = listed(alloc)?;
+    let mut draws = Draws::new();
+    let mut all = true;
+    for _ in 0..200 {
+        all = round(rows, alloc, list.as_mut_slice(), &mut draws)? && all;
+    }
+    Ok(all)
+}
+
+#[test]
+fn plain_rows_are_a_list(rt: HostRuntime) -> Result<(), Fail> {
+    let alloc = rt.alloc();
+    assert!(rt; thousands(&mut PlainRows::new(alloc), alloc)?);
+    Ok(())
+}
+
+#[test]
+fn split_rows_are_a_list(rt: HostRuntime) -> Result<(), Fail> {
+    let alloc = rt.alloc();
+    assert!(rt; thousands(&mut SplitRows::new(alloc, Fnv)?, alloc)?);
+    Ok(())
+}
+
+#[test]
+fn split_rows_of_even_hashes_are_a_list(rt: HostRuntime) -> Result<(), Fail> {
+    let alloc = rt.alloc();
+    assert!(rt; thousands(&mut SplitRows::new(alloc, Even)?, alloc)?);
+    Ok(())
+}
+
+#[test]
+fn split_rows_of_one_hash_are_a_list(rt: HostRuntime) -> Result<(), Fail> {
+    let alloc = rt.alloc();
+    assert!(rt; thousands(&mut SplitRows::new(alloc, AllSame)?, alloc)?);
+    Ok(())
+}

@@ -1,0 +1,174 @@
+use super::*;
+
+/// At how many moments of growth there are searches, with each of three hashes.
+const MOMENTS: usize = 1_000;
+
+/// How many searches there are at each, so that there are a million in all.
+const AT_ONCE: usize = 334;
+
+/// How many keys of slots each bucket has.
+fn counted<H: KeyHash + Drop>(
+    alloc: Global,
+    hash: H,
+    buckets: u32,
+    slots: u32,
+) -> Result<Vec<u64>, AllocError> {
+    let mut counts: Vec<u64> = Vec::new(alloc);
+    counts.resize(buckets as usize, 0)?;
+    for number in 0..slots {
+        let bucket = hash
+            .hash32(&Term::Int(i64::from(number)))
+            .checked_rem(buckets)
+            .unwrap_or(0);
+        if let Some(count) = counts.get_mut(bucket as usize) {
+            *count = count.wrapping_add(1);
+        }
+    }
+    Ok(counts)
+}
+
+/// Whether a search finds the numbers below that of the slots alone, and looks at one node at least for them, and in a
+/// ready bucket at no more than its keys and two.
+fn is_right<H: KeyHash + Copy + Drop>(
+    rows: &SplitRows<H>,
+    hash: H,
+    counts: &[u64],
+    slots: u32,
+    number: u32,
+) -> bool {
+    let key = Term::Int(i64::from(number));
+    let mut steps = Steps::new();
+    let found = rows.get_counted(&key, &mut steps).is_some();
+    let bucket = hash.hash32(&key).checked_rem(rows.buckets()).unwrap_or(0);
+    let most = counts
+        .get(bucket as usize)
+        .copied()
+        .unwrap_or(0)
+        .wrapping_add(2);
+    let within = steps.count() <= most || !rows.is_ready(bucket);
+    found == (number < slots) && within && (steps.count() >= 1 || !found)
+}
+
+fn are_right<H: KeyHash + Copy + Drop>(
+    rows: &SplitRows<H>,
+    hash: H,
+    counts: &[u64],
+    slots: u32,
+    draws: &mut Draws,
+) -> bool {
+    let mut all = true;
+    for _ in 0..AT_ONCE {
+        let number = draws.below(slots.wrapping_mul(2).max(1));
+        all = is_right(rows, hash, counts, slots, number) && all;
+    }
+    all
+}
+
+/// Puts a few slots more, up to so many in all, each number after the other, and answers how many there are now.
+fn put_some<R: Rows>(
+    rows: &mut R,
+    alloc: Global,
+    slots: u32,
+    most: u32,
+    draws: &mut Draws,
+) -> Result<u32, AllocError> {
+    let now = slots.saturating_add(draws.below(20)).min(most);
+    for number in slots..now {
+        insert(rows, alloc, i64::from(number), 1)?;
+    }
+    Ok(now)
+}
+
+/// Whether all searches are right, at moments of growth up to so many slots.
+fn searches<H: KeyHash + Copy + Drop>(
+    alloc: Global,
+    hash: H,
+    most: u32,
+) -> Result<bool, AllocError> {
+    let mut rows = SplitRows::new(alloc, hash)?;
+    let mut draws = Draws::new();
+    let mut slots = 0;
+    let mut all = true;
+    for _ in 0..MOMENTS {
+        slots = put_some(&mut rows, alloc, slots, most, &mut draws)?;
+        ready_some(&mut rows, &mut draws)?;
+        let counts = counted(alloc, hash, rows.buckets(), slots)?;
+        all = are_right(&rows, hash, counts.as_slice(), slots, &mut draws) && all;
+    }
+    Ok(all)
+}
+
+#[test]
+fn by_fnv(rt: HostRuntime) -> Result<(), Fail> {
+    assert!(rt; searches(rt.alloc(), Fnv, 10_000)?);
+    Ok(())
+}
+
+#[test]
+fn by_even_hashes(rt: HostRuntime) -> Result<(), Fail> {
+    assert!(rt; searches(rt.alloc(), Even, 10_000)?);
+    Ok(())
+}
+
+#[test]
+fn by_one_hash(rt: HostRuntime) -> Result<(), Fail> {
+    assert!(rt; searches(rt.alloc(), AllSame, 50)?);
+    Ok(())
+}
+
+/// How many nodes a search looks at.
+fn steps_for<H: KeyHash + Copy + Drop>(rows: &SplitRows<H>, key: &Term) -> u64 {
+    let mut steps = Steps::new();
+    let _found = rows.get_counted(key, &mut steps);
+    steps.count()
+}
+
+fn put_process<R: Rows>(rows: &mut R, alloc: Global, number: u32) -> Result<(), AllocError> {
+    let key = Term::Pid(number);
+    if let Entry::Vacant(hash) = rows.entry(&key) {
+        rows.put_at(hash, key, Chain::new(alloc))?;
+    }
+    Ok(())
+}
+
+/// Whether searches for the keys 0 to 7 in 8 ready buckets, and for others, are short.
+fn eight_in_eight(alloc: Global) -> Result<bool, AllocError> {
+    let mut rows = SplitRows::new(alloc, Plain)?;
+    rows.grow()?;
+    rows.grow()?;
+    for number in 0..8u32 {
+        rows.ready(number)?;
+        put_process(&mut rows, alloc, number)?;
+    }
+    let mut all = true;
+    for number in 0..64u32 {
+        all = steps_for(&rows, &Term::Pid(number)) <= 3 && all;
+    }
+    Ok(all)
+}
+
+#[test]
+fn few_steps_in_ready_buckets(rt: HostRuntime) -> Result<(), Fail> {
+    assert!(rt; eight_in_eight(rt.alloc())?);
+    Ok(())
+}
+
+/// Whether searches among a thousand keys of one hash pass all of them, and no more.
+fn thousand_in_one(alloc: Global) -> Result<bool, AllocError> {
+    let mut rows = SplitRows::new(alloc, AllSame)?;
+    for number in 0..1000i64 {
+        insert(&mut rows, alloc, number, 1)?;
+    }
+    let mut all = true;
+    for number in 0..1000i64 {
+        all = steps_for(&rows, &Term::Int(number)) <= 1002 && all;
+    }
+    let missed = steps_for(&rows, &Term::Int(1000));
+    Ok(all && 1000 <= missed && missed <= 1002)
+}
+
+#[test]
+fn a_thousand_keys_of_one_hash(rt: HostRuntime) -> Result<(), Fail> {
+    assert!(rt; thousand_in_one(rt.alloc())?);
+    Ok(())
+}

@@ -1,0 +1,92 @@
+use super::*;
+
+/// Past the last power of two but one that a table of a hundred thousand slots would reach.
+const SLOTS: i64 = 70_000;
+
+/// Whether each key from none on goes in as a new one, the buckets doubled and readied as they fill.
+fn fills<R: Rows>(rows: &mut R, alloc: Global) -> Result<bool, AllocError> {
+    let mut all = true;
+    for key in 0..SLOTS {
+        all = insert(rows, alloc, key, key)? == Kept::Nothing && all;
+        keep_up(rows)?;
+    }
+    Ok(all && rows.len() == SLOTS as usize)
+}
+
+/// Doubles the buckets where there are four slots for each, and readies the next two.
+fn keep_up<R: Rows>(rows: &mut R) -> Result<(), AllocError> {
+    if rows.len() / 4 > rows.buckets() as usize {
+        rows.grow()?;
+    }
+    for _ in 0..2 {
+        if let Some(bucket) = rows.least() {
+            rows.ready(bucket)?;
+        }
+    }
+    Ok(())
+}
+
+/// Whether each key has its own number, and can be given another object.
+fn changes<R: Rows>(rows: &mut R, alloc: Global) -> Result<bool, AllocError> {
+    let mut all = true;
+    for key in 0..SLOTS {
+        all = kept_at(rows, key) == Kept::Object(key) && all;
+        all = insert(rows, alloc, key, key.wrapping_add(1))? == Kept::Object(key) && all;
+    }
+    Ok(all && kept_at(rows, SLOTS) == Kept::Nothing)
+}
+
+/// Whether each key goes, the last first.
+fn empties<R: Rows>(rows: &mut R) -> bool {
+    let mut all = true;
+    for back in 0..SLOTS {
+        let key = SLOTS.wrapping_sub(back).wrapping_sub(1);
+        all = remove(rows, key) == Kept::Object(key.wrapping_add(1)) && all;
+    }
+    all && rows.len() == 0 && rows.first_at().is_none()
+}
+
+fn serves<R: Rows>(rows: &mut R, alloc: Global) -> Result<bool, AllocError> {
+    rows.reserve(3)?;
+    Ok(fills(rows, alloc)? && changes(rows, alloc)? && empties(rows))
+}
+
+/// Whether all slots become held and are purged then, and go at once where they are not held.
+fn sweeps<R: Rows>(rows: &mut R, alloc: Global) -> Result<bool, AllocError> {
+    let filled = fills(rows, alloc)?;
+    rows.clear(true);
+    let held = rows.len() == SLOTS as usize && kept_at(rows, 0) == Kept::Held;
+    rows.purge();
+    let purged = rows.len() == 0;
+    let again = fills(rows, alloc)?;
+    rows.clear(false);
+    Ok(filled && held && purged && again && rows.len() == 0)
+}
+
+#[test]
+fn split_rows_serve(rt: HostRuntime) -> Result<(), Fail> {
+    let alloc = rt.alloc();
+    assert!(rt; serves(&mut SplitRows::new(alloc, Fnv)?, alloc)?);
+    Ok(())
+}
+
+#[test]
+fn plain_rows_serve(rt: HostRuntime) -> Result<(), Fail> {
+    let alloc = rt.alloc();
+    assert!(rt; serves(&mut PlainRows::new(alloc), alloc)?);
+    Ok(())
+}
+
+#[test]
+fn split_rows_are_swept(rt: HostRuntime) -> Result<(), Fail> {
+    let alloc = rt.alloc();
+    assert!(rt; sweeps(&mut SplitRows::new(alloc, Fnv)?, alloc)?);
+    Ok(())
+}
+
+#[test]
+fn plain_rows_are_swept(rt: HostRuntime) -> Result<(), Fail> {
+    let alloc = rt.alloc();
+    assert!(rt; sweeps(&mut PlainRows::new(alloc), alloc)?);
+    Ok(())
+}

@@ -1,0 +1,91 @@
+// Scripts and their answers, as docs/script.md has them.
+mod devices;
+mod faults;
+mod limits;
+mod long;
+mod program;
+mod rows;
+mod syntax;
+
+use crate::fault::ScriptFault;
+use crate::feed::MAX_READS;
+use crate::run::run_within;
+use devices::{Devices, Seen, Source, Target};
+use ets_term::AllSame;
+use node_core::{Limits, Node};
+use std::alloc::Global;
+
+/// How a script ends.
+#[derive(Clone, Copy, PartialEq, Eq)]
+enum End {
+    Whole,
+    Read,
+    Write,
+    Memory,
+}
+
+/// How a script is run.
+#[derive(Clone, Copy)]
+struct Run {
+    devices: Devices,
+    limits: Limits,
+    /// The most reads.
+    reads: u32,
+}
+
+/// With good devices, by the usual limits.
+fn usual() -> Run {
+    Run {
+        devices: devices::GOOD,
+        limits: Limits::usual(),
+        reads: MAX_READS,
+    }
+}
+
+fn end_of(done: Result<Node<AllSame>, ScriptFault>) -> End {
+    match done {
+        Ok(_) => End::Whole,
+        Err(ScriptFault::Read) => End::Read,
+        Err(ScriptFault::Write) => End::Write,
+        Err(ScriptFault::Memory) => End::Memory,
+    }
+}
+
+/// Whether a script ends so, and these answers went out, flushed before each read; at a write fault they need not be.
+fn is_run(alloc: Global, run: &Run, script: &[u8], answers: &[u8], end: End) -> bool {
+    let seen = Seen::new();
+    let mut source = Source {
+        left: script,
+        most: run.devices.most_read,
+        good: run.devices.good_reads,
+        seen: &seen,
+    };
+    let mut target = Target {
+        taken: Vec::new(alloc),
+        most: run.devices.most_written,
+        good: run.devices.good_writes,
+        fails_to_flush: run.devices.fails_to_flush,
+        seen: &seen,
+    };
+    let done = run_within(
+        alloc,
+        &mut source,
+        &mut target,
+        run.limits,
+        AllSame,
+        run.reads,
+    );
+    target.taken.as_slice() == answers
+        && end_of(done) == end
+        && (end == End::Write || seen.is_all_flushed(answers.len()))
+}
+
+/// How many of the scripts, from the first on, are answered so to their end.
+fn answered(alloc: Global, run: &Run, rows: &[(&[u8], &[u8])]) -> usize {
+    for (count, (script, answers)) in rows.iter().enumerate() {
+        if !is_run(alloc, run, *script, *answers, End::Whole) {
+            return count;
+        }
+    }
+    rows.len()
+}

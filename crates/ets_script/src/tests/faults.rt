@@ -1,0 +1,118 @@
+// What has gone out when a reader or a writer is slow, or fails.
+use super::devices::{Devices, GOOD};
+use super::{End, Run, is_run, usual};
+use std::alloc::Global;
+
+const SCRIPT: &[u8] = b"spawn p\nspawn q\nspawn r\nspawn s\n";
+
+const ANSWERS: &[u8] = b"<0.0.0>\n<0.1.0>\n<0.2.0>\n<0.3.0>\n";
+
+/// The script by these devices, of which lines and answers both have eight bytes.
+fn by(devices: Devices) -> Run {
+    Run { devices, ..usual() }
+}
+
+/// Whether the whole script is answered, however few bytes a read gives and a write takes.
+fn is_answered_slowly(alloc: Global) -> bool {
+    for most_read in [1, 3, 8, 31] {
+        for most_written in [1, 3, 8, 31] {
+            let run = by(Devices {
+                most_read,
+                most_written,
+                ..GOOD
+            });
+            if !is_run(alloc, &run, SCRIPT, ANSWERS, End::Whole) {
+                return false;
+            }
+        }
+    }
+    true
+}
+
+#[test]
+fn slow_devices(rt: HostRuntime) {
+    assert!(rt; is_answered_slowly(rt.alloc()));
+}
+
+/// Whether the lines that came whole before a failing read are answered, and nothing else, when reads give so many bytes.
+fn answers_whole_lines(alloc: Global, most_read: usize) -> bool {
+    for good_reads in 0..=10 {
+        let lines = most_read.saturating_mul(good_reads as usize) / 8;
+        let run = by(Devices {
+            most_read,
+            good_reads,
+            ..GOOD
+        });
+        let front = &ANSWERS[..ANSWERS.len().min(lines.saturating_mul(8))];
+        if !is_run(alloc, &run, SCRIPT, front, End::Read) {
+            return false;
+        }
+    }
+    true
+}
+
+#[test]
+fn failing_reads(rt: HostRuntime) {
+    assert!(rt; answers_whole_lines(rt.alloc(), 1));
+    assert!(rt; answers_whole_lines(rt.alloc(), 3));
+}
+
+/// Whether a front of the answers went out before a failing write, when writes take so many bytes, of lines that come one
+/// a read.
+fn answers_a_front(alloc: Global, most_written: usize) -> bool {
+    for good_writes in 0..4 {
+        let run = by(Devices {
+            most_read: 8,
+            most_written,
+            good_writes,
+            ..GOOD
+        });
+        let written = most_written.saturating_mul(good_writes as usize);
+        let front = &ANSWERS[..ANSWERS.len().min(written)];
+        if !is_run(alloc, &run, SCRIPT, front, End::Write) {
+            return false;
+        }
+    }
+    true
+}
+
+#[test]
+fn failing_writes(rt: HostRuntime) {
+    assert!(rt; answers_a_front(rt.alloc(), 8));
+    assert!(rt; answers_a_front(rt.alloc(), 1));
+}
+
+// A writer that takes no byte, and one that fails to flush.
+#[test]
+fn stuck_writers(rt: HostRuntime) {
+    let stuck = by(Devices {
+        most_written: 0,
+        ..GOOD
+    });
+    assert!(rt; is_run(rt.alloc(), &stuck, SCRIPT, b"", End::Write));
+    let unflushed = by(Devices {
+        fails_to_flush: true,
+        ..GOOD
+    });
+    assert!(rt; is_run(rt.alloc(), &unflushed, SCRIPT, b"", End::Write));
+}
+
+/// How a script ends that may make so many reads, of a line each.
+fn ends_within(alloc: Global, reads: u32, end: End) -> bool {
+    let devices = Devices {
+        most_read: 8,
+        ..GOOD
+    };
+    let run = Run {
+        reads,
+        ..by(devices)
+    };
+    is_run(alloc, &run, SCRIPT, ANSWERS, end)
+}
+
+// Four lines that come one a read, and the read that finds the end.
+#[test]
+fn the_last_read_must_find_the_end(rt: HostRuntime) {
+    assert!(rt; ends_within(rt.alloc(), 4, End::Read));
+    assert!(rt; ends_within(rt.alloc(), 5, End::Whole));
+}

@@ -1,0 +1,31 @@
+// Limits, and that the script goes on behind a refusal.
+use super::{Run, answered, usual};
+use node_core::Limits;
+
+/// By these limits.
+fn within(processes: u32, tables: u32, objects: u32) -> Run {
+    let limits = Limits {
+        processes,
+        tables,
+        objects,
+    };
+    Run { limits, ..usual() }
+}
+
+#[test]
+fn limits_of_nothing(rt: HostRuntime) {
+    let rows: [(&[u8], &[u8]); 1] = [(
+        b"spawn p\np new(t,[])\nspawn q\nspawn p\nexit p\n",
+        b"<0.0.0>\n** system_limit\n** system_limit\n** badarg\ntrue\n",
+    )];
+    assert_eq!(rt; answered(rt.alloc(), &within(1, 0, 0), &rows), rows.len());
+}
+
+#[test]
+fn three_objects(rt: HostRuntime) {
+    let rows: [(&[u8], &[u8]); 1] = [(
+        b"spawn p\np new(t,[named_table])\np insert(t,[{a,1},{b,1}])\np insert(t,[{c,1},{d,1}])\np lookup(t,c)\np insert(t,[{c,1},{a,2}])\np lookup(t,a)\np insert(t,{d,1})\n",
+        b"<0.0.0>\nt\ntrue\n** system_limit\n[]\ntrue\n[{a,2}]\n** system_limit\n",
+    )];
+    assert_eq!(rt; answered(rt.alloc(), &within(1, 1, 3), &rows), rows.len());
+}

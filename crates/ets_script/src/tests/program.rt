@@ -1,0 +1,59 @@
+// The program's status, and its line of errors.
+use super::devices::{Devices, GOOD, Seen, Source, Target};
+use crate::fault::ScriptFault;
+use crate::program::answer_input;
+use std::alloc::{AllocError, Global};
+use std::io;
+use std::test::Fail;
+
+/// The status with which the program answers one line by these devices, and whether this is its line of errors.
+fn status(alloc: Global, devices: &Devices, words: &[u8]) -> io::Result<(u8, bool)> {
+    let seen = Seen::new();
+    let mut source = Source {
+        left: b"spawn p\n",
+        most: devices.most_read,
+        good: devices.good_reads,
+        seen: &seen,
+    };
+    let mut target = Target {
+        taken: Vec::new(alloc),
+        most: devices.most_written,
+        good: devices.good_writes,
+        fails_to_flush: devices.fails_to_flush,
+        seen: &seen,
+    };
+    let mut errors = Vec::new(alloc);
+    let status = answer_input(alloc, &mut source, &mut target, &mut errors)?;
+    Ok((status, errors.as_slice() == words))
+}
+
+/// Whether a fault is told in these words.
+fn is_told(alloc: Global, fault: &ScriptFault, words: &str) -> Result<bool, AllocError> {
+    Ok(format!(in alloc; "{fault}")?.as_str() == words)
+}
+
+#[test]
+fn faults_in_words(rt: HostRuntime) -> Result<(), Fail> {
+    let alloc = rt.alloc();
+    assert!(rt; is_told(alloc, &ScriptFault::Read, "read fault")?);
+    assert!(rt; is_told(alloc, &ScriptFault::Write, "write fault")?);
+    assert!(rt; is_told(alloc, &ScriptFault::Memory, "** nomem")?);
+    Ok(())
+}
+
+#[test]
+fn status_and_errors(rt: HostRuntime) -> Result<(), Fail> {
+    let alloc = rt.alloc();
+    let unread = Devices {
+        good_reads: 1,
+        ..GOOD
+    };
+    let unwritten = Devices {
+        good_writes: 0,
+        ..GOOD
+    };
+    assert!(rt; status(alloc, &GOOD, b"")? == (0, true));
+    assert!(rt; status(alloc, &unread, b"read fault\n")? == (1, true));
+    assert!(rt; status(alloc, &unwritten, b"write fault\n")? == (1, true));
+    Ok(())
+}

@@ -1,0 +1,46 @@
+// Lines that are no command, and how lines end.
+use super::{answered, usual};
+
+#[test]
+fn first_faults(rt: HostRuntime) {
+    let rows: [(&[u8], &[u8]); 10] = [
+        (b"p f([a,\n", b"** syntax 7\n"),
+        (b"p insert(t,{a,1|2})\n", b"** syntax 15\n"),
+        (b"p insert(t,{a,1.5})\n", b"** syntax 15\n"),
+        (b"p insert(t,9223372036854775808)\n", b"** syntax 11\n"),
+        (b"nobody f(\n", b"** syntax 9\n"),
+        (b"grow(t)\n", b"** syntax 4\n"),
+        (
+            b"ready t -1\nready t 4294967296\n",
+            b"** syntax 8\n** syntax 8\n",
+        ),
+        (
+            b"spawn\nspawn \nspawn P\nspawn p q\n",
+            b"** syntax 5\n** syntax 6\n** syntax 6\n** syntax 8\n",
+        ),
+        (
+            b"p f(a b)\np f(a,)\np f(a) b\n",
+            b"** syntax 6\n** syntax 6\n** syntax 7\n",
+        ),
+        (
+            b"p f(\xc3\xa9)\np f('\x7f')\n",
+            b"** syntax 4\n** syntax 5\n",
+        ),
+    ];
+    assert_eq!(rt; answered(rt.alloc(), &usual(), &rows), rows.len());
+}
+
+#[test]
+fn ends_of_lines(rt: HostRuntime) {
+    let rows: [(&[u8], &[u8]); 5] = [
+        (b"spawn p", b"<0.0.0>\n"),
+        (
+            b"spawn p\r\n  \t\n% \xff\nspawn q\r",
+            b"<0.0.0>\n** syntax 7\n",
+        ),
+        (b"spawn p\r\r\n\r", b"** syntax 7\n** syntax 0\n"),
+        (b"p lookup(t,\ra)\n", b"** syntax 11\n"),
+        (b"\n\n \t spawn \t p \t\n\n%spawn q\n", b"<0.0.0>\n"),
+    ];
+    assert_eq!(rt; answered(rt.alloc(), &usual(), &rows), rows.len());
+}

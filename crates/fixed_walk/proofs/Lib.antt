@@ -1,0 +1,8 @@
+pub mod ChangeLaws
+pub mod CountLaws
+mod Examples
+pub mod FromLaws
+pub mod HeldLaws
+pub mod KeptLaws
+pub mod Subsequences
+pub mod WalkLaws

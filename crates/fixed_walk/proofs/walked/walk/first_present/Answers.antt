@@ -1,0 +1,35 @@
+use Rattle.std.proofs.Common.{◌≡◌, ◌∷◌, refl, sym, ap, ◌∙◌, length, arith}
+use Rattle.fixed_walk.specs.Walk.{first_key}
+use Rattle.fixed_walk.specs.inside.From.{slots_from}
+use Rattle.fixed_walk.proofs.FromLaws.{from-step, from-here-first, slots-short, stands-next, none-left, some-left, first-of}
+use Rattle.fixed_walk.proofs.walked.walk.first_present.Goals as goal
+
+pub loop-init : goal.loop-init
+loop-init g c =
+    let short = slots-short (g.R.Rows.key_at c.args.rows.now) (g.R.Rows.content c.args.rows.now) c.args.start in
+    record { stands = c.requires; same = refl; few = omega (arith, short) }
+
+pub returns-then-not-is_empty : goal.returns-then-not-is_empty
+returns-then-not-is_empty g c =
+    let key_at = g.R.Rows.key_at c.args.rows.now in
+    let slots = g.R.Rows.content c.args.rows.now in
+    let some = some-left c.slot_at.result.1.now (sym c.is_empty.ensures ∙ c.if-not-is_empty.true) in
+    sym (from-here-first key_at slots c.in_ok-place.place c.slot_at.result.0.now c.slot_at.result.1.now c.slot_at.ensures.key c.slot_at.ensures.objects some)
+    ∙ ap (λ at. first_key (slots_from key_at slots at)) (sym c.in_ok-place.was) ∙ c.loop.invariant.same
+
+pub loop-preserved : goal.loop-preserved
+loop-preserved g c =
+    let key_at = g.R.Rows.key_at c.args.rows.now in
+    let slots = g.R.Rows.content c.args.rows.now in
+    let key = c.slot_at.result.0.now in
+    let objects = c.slot_at.result.1.now in
+    let next = c.place_behind-at.result in
+    let step = from-step key_at slots c.in_ok-place.place key objects next c.known.ensures c.slot_at.ensures.key c.slot_at.ensures.objects c.place_behind-at.ensures in
+    let here : slots_from key_at slots c.loop.at ≡ (key, objects) ∷ slots_from key_at slots next = ap (slots_from key_at slots) c.in_ok-place.was ∙ step in
+    let none = none-left objects (sym c.is_empty.ensures ∙ c.if-not-is_empty.false) in
+    let long = ap length here in
+    record {
+      stands = stands-next key_at slots (key_at c.in_ok-place.place) next c.place_behind-at.ensures;
+      same = sym (first-of key objects (slots_from key_at slots next) none) ∙ ap first_key (sym here) ∙ c.loop.invariant.same;
+      few = omega (arith, c.loop.invariant.few, long);
+    }

@@ -1,0 +1,13 @@
+-- The keys of a walk (stdlib manual, module ets, first/1 and next/2).
+use Rattle.std.specs.Prelude.{List, [], ◌∷◌, Option, Some, None, option_map, if◌then◌else◌}
+use Rattle.ets_term.specs.declared.term.Term.{Term}
+use Rattle.bucket_table.specs.Slots.{Slot, has_objects, slots_behind}
+
+-- the first key that has objects; None at the end
+abbrev pub first_key : List Slot → Option Term
+first_key [] = None
+first_key (slot ∷ slots) = if has_objects slot.1 then Some slot.0 else first_key slots
+
+-- the first key that has objects behind the slot of this one; the outer None where it has no slot
+abbrev pub next_key : List Slot → Term → Option (Option Term)
+next_key slots key = option_map first_key (slots_behind slots key)

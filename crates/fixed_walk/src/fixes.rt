@@ -1,0 +1,102 @@
+ghost use Rattle.std.specs.Prelude.{◌≡◌, ◌+◌, ◌-◌, ◌<◌, OnOk, OnErr};
+ghost use Rattle.std.specs.FinMap as map;
+ghost use Rattle.fixed_walk.specs.Fixes.{most_fixes, fix_count, is_fixed, with_count, IsFixedBySome};
+
+use indexmap::IndexMap;
+use std::alloc::{AllocError, Global};
+use std::marker::Model;
+
+/// How many fixes each process has. A process without fixes is not among them.
+#[derive(Drop)]
+pub struct Fixes {
+    counts: IndexMap<u32, u32>,
+}
+
+impl Model for Fixes {
+    ghost use Rattle.std.specs.Coded.{coded_ℕ};
+    ghost use Rattle.std.specs.FinMap as map;
+    ghost use Rattle.fixed_walk.specs.Fixes.{FixCounts, AreCounted};
+
+    ghost Value = { FixCounts };
+
+    ghost coded = { map.code coded_ℕ coded_ℕ };
+
+    ghost view = { λ f. map.from_entries f.counts.entries };
+
+    ghost invariant = { λ f. AreCounted (map.from_entries f.counts.entries) };
+}
+
+impl Fixes {
+    pub fn new(alloc: Global) -> Fixes
+        ensures { result ≡ map.empty }
+    {
+        Fixes {
+            counts: IndexMap::new(alloc),
+        }
+    }
+
+    pub fn count(&self, pid: u32) -> u32
+        ensures { result ≡ fix_count self.now pid }
+    {
+        self.counts.get(&pid).copied().unwrap_or(0)
+    }
+
+    /// Whether some process has a fix.
+    #[tactic(auto, using(crate::proofs::CountLaws::first_entries))]
+    pub fn any(&self) -> bool
+        ensures { result ≡ is_fixed self.now }
+    {
+        match self.counts.get_index(0) {
+            Some(_) => true,
+            None => false,
+        }
+    }
+
+    /// Tells a proof what a fixed table is; it does nothing when it runs.
+    pub fn known(&self)
+        ensures { IsFixedBySome self.now }
+    {
+        let _ = self.counts.len();
+    }
+
+    /// One fix more.
+    pub fn add(&mut self, pid: u32) -> Result<(), AllocError>
+        requires { fix_count self.old pid < most_fixes }
+        ensures ok { OnOk result (self.new ≡ with_count self.old pid (fix_count self.old pid + 1)) }
+        ensures err { OnErr result (self.new ≡ self.old) }
+    {
+        let count = self.count(pid);
+        self.set(pid, count + 1)
+    }
+
+    /// A process has so many fixes.
+    pub fn set(&mut self, pid: u32, count: u32) -> Result<(), AllocError>
+        requires { 0 < count }
+        ensures ok { OnOk result (self.new ≡ with_count self.old pid count) }
+        ensures err { OnErr result (self.new ≡ self.old) }
+    {
+        self.counts.insert(pid, count)?;
+        Ok(())
+    }
+
+    /// The fixes of a process go.
+    pub fn clear(&mut self, pid: u32)
+        ensures { self.new ≡ with_count self.old pid 0 }
+    {
+        let _ = self.counts.swap_remove(&pid);
+    }
+
+    /// One fix less, or none where there was none.
+    pub fn take(&mut self, pid: u32)
+        ensures { self.new ≡ with_count self.old pid (fix_count self.old pid - 1) }
+    {
+        let count = self.count(pid);
+        if count > 1 {
+            if let Some(own) = self.counts.get_mut(&pid) {
+                *own = count - 1;
+            }
+        } else {
+            let _ = self.counts.swap_remove(&pid);
+        }
+    }
+}

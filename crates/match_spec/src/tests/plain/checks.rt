@@ -1,0 +1,131 @@
+// Which terms are specifications.
+use super::*;
+use crate::tests::plain::clauses::elements;
+use crate::tests::plain::functions::{is_kind_test, is_operation};
+use crate::tests::plain::matching::{Binding, bound, number};
+
+fn is_one_of(name: &Term, names: &[&str]) -> bool {
+    for own in names {
+        if name.is_atom(own) {
+            return true;
+        }
+    }
+    false
+}
+
+fn is_function(name: &Term, count: usize) -> bool {
+    if is_one_of(name, &["and", "or", "andalso", "orelse"]) {
+        return count > 0;
+    }
+    if is_kind_test(name)
+        || is_one_of(
+            name,
+            &["is_number", "not", "abs", "hd", "tl", "length", "size"],
+        )
+    {
+        return count == 1;
+    }
+    if is_operation(name)
+        || is_one_of(
+            name,
+            &[
+                "xor", "element", ">", ">=", "<", "=<", "=:=", "==", "=/=", "/=",
+            ],
+        )
+    {
+        return count == 2;
+    }
+    false
+}
+
+#[cycle(plain_check)]
+fn is_expression(term: &Term, bindings: &[Binding]) -> bool {
+    match term {
+        Term::Atom(_) => match number(term) {
+            Some(n) => bound(n, bindings).is_some(),
+            None => true,
+        },
+        Term::List(items) => are_expressions(items.as_slice(), 0, bindings),
+        Term::Tuple(items) => is_tuple_expression(items.as_slice(), bindings),
+        _ => true,
+    }
+}
+
+#[cycle(plain_check)]
+fn are_expressions(terms: &[Term], start: usize, bindings: &[Binding]) -> bool {
+    for i in start..terms.len() {
+        if !is_expression(&terms[i], bindings) {
+            return false;
+        }
+    }
+    true
+}
+
+#[cycle(plain_check)]
+fn is_tuple_expression(items: &[Term], bindings: &[Binding]) -> bool {
+    if items.is_empty() {
+        return false;
+    }
+    match &items[0] {
+        Term::Tuple(parts) => {
+            let inside = are_expressions(parts.as_slice(), 0, bindings);
+            items.len() == 1 && inside
+        }
+        name => {
+            let count = items.len() - 1;
+            let inside = are_expressions(items, 1, bindings);
+            (name.is_atom("const") && count == 1) || (is_function(name, count) && inside)
+        }
+    }
+}
+
+// The variables of a pattern, each bound to itself.
+#[cycle(plain_variables)]
+fn collect(alloc: Global, pattern: &Term, found: &mut Vec<Binding>) -> Result<(), Fail> {
+    match pattern {
+        Term::Tuple(items) => collect_all(alloc, items.as_slice(), found),
+        Term::List(items) => collect_all(alloc, items.as_slice(), found),
+        _ => {
+            if let Some(n) = number(pattern) {
+                found.push(Binding {
+                    number: n,
+                    value: pattern.try_clone(alloc)?,
+                })?;
+            }
+            Ok(())
+        }
+    }
+}
+
+#[cycle(plain_variables)]
+fn collect_all(alloc: Global, parts: &[Term], found: &mut Vec<Binding>) -> Result<(), Fail> {
+    for part in parts {
+        collect(alloc, part, found)?;
+    }
+    Ok(())
+}
+
+fn is_clause(alloc: Global, clause: &Term) -> Result<bool, Fail> {
+    let [head, conditions, body] = elements(clause) else {
+        return Ok(false);
+    };
+    let mut found = Vec::new(alloc);
+    collect(alloc, head, &mut found)?;
+    let variables = found.as_slice();
+    Ok(
+        matches!(head, Term::Atom(_) | Term::Tuple(_))
+            && are_expressions(elements(conditions), 0, variables)
+            && are_expressions(elements(body), 0, variables)
+            && !elements(body).is_empty(),
+    )
+}
+
+/// Whether a list of tuples with lists behind the head is a specification.
+pub(crate) fn is_spec(alloc: Global, spec: &Term) -> Result<bool, Fail> {
+    for clause in elements(spec) {
+        if !is_clause(alloc, clause)? {
+            return Ok(false);
+        }
+    }
+    Ok(!elements(spec).is_empty())
+}

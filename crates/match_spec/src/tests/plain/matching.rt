@@ -1,0 +1,105 @@
+// What a pattern matches and binds.
+use super::*;
+
+/// What stands for a variable.
+#[derive(Drop)]
+pub(crate) struct Binding {
+    pub(crate) number: u32,
+    pub(crate) value: Term,
+}
+
+pub(crate) fn number(term: &Term) -> Option<u32> {
+    for (n, name) in [(0, "$0"), (1, "$1"), (2, "$2")] {
+        if term.is_atom(name) {
+            return Some(n);
+        }
+    }
+    None
+}
+
+pub(crate) fn bound(n: u32, bindings: &[Binding]) -> Option<&Term> {
+    for binding in bindings {
+        if binding.number == n {
+            return Some(&binding.value);
+        }
+    }
+    None
+}
+
+#[cycle(plain_match)]
+pub(crate) fn matches(
+    alloc: Global,
+    pattern: &Term,
+    term: &Term,
+    bindings: &mut Vec<Binding>,
+) -> Result<bool, Fail> {
+    if pattern.is_atom("_") {
+        return Ok(true);
+    }
+    if let Some(n) = number(pattern) {
+        return bind(alloc, n, term, bindings);
+    }
+    match (pattern, term) {
+        (Term::Tuple(parts), Term::Tuple(items)) => all_match(
+            alloc,
+            parts.as_slice(),
+            items.as_slice(),
+            bindings,
+        ),
+        (Term::List(parts), Term::List(items)) => all_match(
+            alloc,
+            parts.as_slice(),
+            items.as_slice(),
+            bindings,
+        ),
+        _ => Ok(*pattern == *term),
+    }
+}
+
+#[cycle(plain_match)]
+fn all_match(
+    alloc: Global,
+    parts: &[Term],
+    items: &[Term],
+    bindings: &mut Vec<Binding>,
+) -> Result<bool, Fail> {
+    if parts.len() != items.len() {
+        return Ok(false);
+    }
+    for i in 0..parts.len() {
+        if !matches(alloc, &parts[i], &items[i], bindings)? {
+            return Ok(false);
+        }
+    }
+    Ok(true)
+}
+
+fn bind(alloc: Global, n: u32, term: &Term, bindings: &mut Vec<Binding>) -> Result<bool, Fail> {
+    if let Some(value) = bound(n, bindings.as_slice()) {
+        return Ok(*value == *term);
+    }
+    bindings.push(Binding {
+        number: n,
+        value: term.try_clone(alloc)?,
+    })?;
+    Ok(true)
+}
+
+// The values in order of number.
+pub(crate) fn in_order(alloc: Global, bindings: &[Binding]) -> Result<Term, Fail> {
+    let mut values = Items::new(alloc);
+    for n in 0..3 {
+        if let Some(value) = bound(n, bindings) {
+            values.push(value.try_clone(alloc)?)?;
+        }
+    }
+    Ok(Term::List(values))
+}
+
+pub(crate) fn bindings(alloc: Global, pattern: &Term, object: &Term) -> Result<Option<Term>, Fail> {
+    let mut bindings = Vec::new(alloc);
+    if !matches(alloc, pattern, object, &mut bindings)? {
+        return Ok(None);
+    }
+    Ok(Some(in_order(alloc, bindings.as_slice())?))
+}

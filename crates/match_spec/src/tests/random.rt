@@ -1,0 +1,222 @@
+// Random objects, patterns and specifications, made from pools of terms that grow by tuples and lists of what is there.
+use super::*;
+use crate::tests::forms::{atom, list, tuple};
+
+/// Numbers that are the same in each run.
+#[derive(Drop)]
+pub(crate) struct Random {
+    state: u64,
+}
+
+impl Random {
+    pub(crate) fn new(seed: u64) -> Random {
+        Random { state: seed }
+    }
+
+    fn below(&mut self, n: u64) -> u64 {
+        self.state = self
+            .state
+            .wrapping_mul(6364136223846793005)
+            .wrapping_add(1442695040888963407);
+        (self.state >> 33).checked_rem(n).unwrap_or(0)
+    }
+
+    // One of the terms, again.
+    fn one_of(&mut self, alloc: Global, terms: &[Term]) -> Result<Term, Fail> {
+        let at = self.below(terms.len() as u64) as usize;
+        match terms.get(at) {
+            Some(term) => Ok(term.try_clone(alloc)?),
+            None => atom(alloc, "a"),
+        }
+    }
+
+    fn some_of(&mut self, alloc: Global, terms: &[Term], most: u64) -> Result<Items<Term>, Fail> {
+        let mut some = Items::new(alloc);
+        for _ in 0..self.below(most.saturating_add(1)) {
+            some.push(self.one_of(alloc, terms)?)?;
+        }
+        Ok(some)
+    }
+
+    fn plain_term(&mut self, alloc: Global) -> Result<Term, Fail> {
+        match self.below(9) {
+            0 => atom(alloc, "true"),
+            1 => atom(alloc, "false"),
+            2 => Ok(Term::Int(self.below(3).cast_signed())),
+            3 => Ok(Term::Int(i64::MIN)),
+            4 => Ok(Term::Int(-2)),
+            5 => Ok(Term::Pid(7)),
+            6 => Ok(Term::Tid(7)),
+            7 => Ok(Term::Binary(Items::from_vec(b"ab".to_vec(alloc)?))),
+            _ => atom(alloc, "a"),
+        }
+    }
+
+    /// A tuple of up to three elements, some of them tuples and lists.
+    pub(crate) fn object(&mut self, alloc: Global) -> Result<Term, Fail> {
+        let mut pool = Vec::new(alloc);
+        for _ in 0..4 {
+            pool.push(self.plain_term(alloc)?)?;
+        }
+        for _ in 0..2 {
+            let inner = self.some_of(alloc, pool.as_slice(), 2)?;
+            pool.push(if self.below(2) == 0 {
+                Term::Tuple(inner)
+            } else {
+                Term::List(inner)
+            })?;
+        }
+        Ok(Term::Tuple(self.some_of(alloc, pool.as_slice(), 3)?))
+    }
+
+    fn hole(&mut self, alloc: Global, term: &Term) -> Result<Term, Fail> {
+        match self.below(8) {
+            0 => atom(alloc, "_"),
+            1 => atom(alloc, "$0"),
+            2 => atom(alloc, "$1"),
+            3 => atom(alloc, "$2"),
+            4 => self.plain_term(alloc),
+            5 => atom(alloc, "$01"),
+            _ => Ok(term.try_clone(alloc)?),
+        }
+    }
+
+    fn holes(&mut self, alloc: Global, terms: &[Term]) -> Result<Items<Term>, Fail> {
+        let mut parts = Items::new(alloc);
+        for term in terms {
+            parts.push(match term {
+                Term::Tuple(inner) if self.below(2) == 0 => Term::Tuple(self.inner_holes(
+                    alloc,
+                    inner.as_slice(),
+                )?),
+                Term::List(inner) if self.below(2) == 0 => Term::List(self.inner_holes(
+                    alloc,
+                    inner.as_slice(),
+                )?),
+                _ => self.hole(alloc, term)?,
+            })?;
+        }
+        Ok(parts)
+    }
+
+    fn inner_holes(&mut self, alloc: Global, terms: &[Term]) -> Result<Items<Term>, Fail> {
+        let mut parts = Items::new(alloc);
+        for term in terms {
+            parts.push(self.hole(alloc, term)?)?;
+        }
+        Ok(parts)
+    }
+
+    /// The object with variables and other terms in place of some of its parts.
+    pub(crate) fn pattern(&mut self, alloc: Global, object: &Term) -> Result<Term, Fail> {
+        match object {
+            Term::Tuple(items) if self.below(10) > 0 => Ok(Term::Tuple(self.holes(
+                alloc,
+                items.as_slice(),
+            )?)),
+            _ => atom(alloc, "_"),
+        }
+    }
+
+    fn leaf(&mut self, alloc: Global) -> Result<Term, Fail> {
+        match self.below(12) {
+            0 => atom(alloc, "$0"),
+            1 => atom(alloc, "$1"),
+            2 => atom(alloc, "$_"),
+            3 => atom(alloc, "$$"),
+            4 => atom(alloc, "_"),
+            5 => list(alloc, []),
+            _ => self.plain_term(alloc),
+        }
+    }
+
+    fn function(&mut self) -> (&'static str, u64) {
+        match self.below(34) {
+            0 => ("is_atom", 1),
+            1 => ("is_integer", 1),
+            2 => ("is_number", 1),
+            3 => ("is_list", 1),
+            4 => ("is_tuple", 1),
+            5 => ("is_binary", 1),
+            6 => ("is_pid", 1),
+            7 => ("is_reference", 1),
+            8 => ("not", 1),
+            9 => ("abs", 1),
+            10 => ("hd", 1),
+            11 => ("tl", 1),
+            12 => ("length", 1),
+            13 => ("size", 1),
+            14 => ("xor", 2),
+            15 => ("element", 2),
+            16 => ("+", 2),
+            17 => ("-", 2),
+            18 => ("*", 2),
+            19 => ("div", 2),
+            20 => ("rem", 2),
+            21 => (">", 2),
+            22 => (">=", 2),
+            23 => ("<", 2),
+            24 => ("=<", 2),
+            25 => ("=:=", 2),
+            26 => ("==", 2),
+            27 => ("=/=", 2),
+            28 => ("/=", 2),
+            29 => ("and", 3),
+            30 => ("or", 2),
+            31 => ("andalso", 3),
+            32 => ("orelse", 2),
+            _ => ("const", 1),
+        }
+    }
+
+    // A function, mostly with its number of arguments.
+    fn application(&mut self, alloc: Global, pool: &[Term]) -> Result<Term, Fail> {
+        let (name, count) = self.function();
+        let count = if self.below(40) == 0 {
+            self.below(4)
+        } else {
+            count
+        };
+        let mut parts = Items::new(alloc);
+        parts.push(atom(alloc, name)?)?;
+        for _ in 0..count {
+            parts.push(self.one_of(alloc, pool)?)?;
+        }
+        Ok(Term::Tuple(parts))
+    }
+
+    fn expressions(&mut self, alloc: Global, most: u64) -> Result<Term, Fail> {
+        let mut pool = Vec::new(alloc);
+        for _ in 0..4 {
+            pool.push(self.leaf(alloc)?)?;
+        }
+        for _ in 0..4 {
+            let next = match self.below(8) {
+                0 => Term::List(self.some_of(alloc, pool.as_slice(), 2)?),
+                1 => list(
+                    alloc,
+                    [Term::Tuple(self.some_of(alloc, pool.as_slice(), 1)?)],
+                )?,
+                2 => tuple(
+                    alloc,
+                    [Term::Tuple(self.some_of(alloc, pool.as_slice(), 2)?)],
+                )?,
+                _ => self.application(alloc, pool.as_slice())?,
+            };
+            pool.push(next)?;
+        }
+        Ok(Term::List(self.some_of(alloc, pool.as_slice(), most)?))
+    }
+
+    /// One or two clauses whose heads are made from the object.
+    pub(crate) fn spec(&mut self, alloc: Global, object: &Term) -> Result<Term, Fail> {
+        let mut clauses = Items::new(alloc);
+        for _ in 0..self.below(2).saturating_add(1) {
+            let head = self.pattern(alloc, object)?;
+            let conditions = self.expressions(alloc, 1)?;
+            let body = self.expressions(alloc, 2)?;
+            clauses.push(tuple(alloc, [head, conditions, body])?)?;
+        }
+        Ok(Term::List(clauses))
+    }
+}

@@ -1,0 +1,145 @@
+// Calls that search a table by a pattern or a specification. No call fixes a table yet, so no slot is held.
+ghost use Rattle.std.specs.Prelude.{◌≡◌, ◌<◌, ◌^◌, true, false, map, IfOk, OnOk, IsErrOf};
+ghost use Rattle.bucket_table.specs.Slots.{object_count};
+ghost use Rattle.ets_term.specs.Data.{data_of};
+ghost use Rattle.match_spec.specs.Specifications.{is_pattern, is_spec};
+ghost use Rattle.table_ops.specs.Refusals as table_refusals;
+ghost use Rattle.node_core.specs.Access.{reads, writes};
+ghost use Rattle.node_core.specs.rules.Searching.{answers_reply, count_reply, DeletesMatching, DeletesChosen, Match, MatchObject, MatchDelete, Select, SelectCount, SelectDelete};
+ghost use Rattle.node_core.specs.inside.Refusals.{Comes};
+
+use super::Node;
+use super::access::Access;
+use super::replies::true_reply;
+use crate::step::Reply;
+use crate::table::Rowed;
+use ets_term::{Integer, Items, KeyHash, Term};
+use match_spec::{Pattern, Spec, SpecFault};
+use std::alloc::{AllocError, Global};
+use table_ops::Refusal;
+
+impl<H: KeyHash + Copy> Node<H> {
+    pub fn match_bindings(&self, pid: u32, table: &Term, pattern: &Term) -> Result<Reply, Refusal>
+        ensures { Comes (reads self.now pid table.now (Match pattern.now)) self.now result self.now }
+    {
+        let table = self.readable(pid, table).ok_or(Refusal::Badarg)?;
+        let pattern = pattern_of(self.alloc, pattern)?;
+        Ok(answers_reply(table.matches(&pattern)?))
+    }
+
+    pub fn match_object(&self, pid: u32, table: &Term, pattern: &Term) -> Result<Reply, Refusal>
+        ensures { Comes (reads self.now pid table.now (MatchObject pattern.now)) self.now result self.now }
+    {
+        let table = self.readable(pid, table).ok_or(Refusal::Badarg)?;
+        let pattern = pattern_of(self.alloc, pattern)?;
+        Ok(Reply::Value(Term::List(table.match_objects(&pattern)?)))
+    }
+
+    pub fn match_delete(&mut self, pid: u32, table: &Term, pattern: &Term) -> Result<Reply, Refusal>
+        ensures { Comes (writes self.old pid table.now (MatchDelete pattern.now)) self.old result self.new }
+    {
+        let alloc = self.alloc;
+        let Some(table) = self.usable_mut(Access::Write, pid, table) else {
+            return Err(Refusal::Badarg);
+        };
+        delete_matching(alloc, table, pattern)?;
+        Ok(true_reply(alloc))
+    }
+
+    pub fn select(&self, pid: u32, table: &Term, spec: &Term) -> Result<Reply, Refusal>
+        ensures { Comes (reads self.now pid table.now (Select spec.now)) self.now result self.now }
+    {
+        let table = self.readable(pid, table).ok_or(Refusal::Badarg)?;
+        let spec = spec_of(self.alloc, spec)?;
+        Ok(answers_reply(table.select(&spec)?))
+    }
+
+    pub fn select_count(&self, pid: u32, table: &Term, spec: &Term) -> Result<Reply, Refusal>
+        ensures { Comes (reads self.now pid table.now (SelectCount spec.now)) self.now result self.now }
+    {
+        let table = self.readable(pid, table).ok_or(Refusal::Badarg)?;
+        let spec = spec_of(self.alloc, spec)?;
+        may_be_counted(table)?;
+        Ok(count_reply(table.select_count(&spec)?))
+    }
+
+    pub fn select_delete(&mut self, pid: u32, table: &Term, spec: &Term) -> Result<Reply, Refusal>
+        ensures { Comes (writes self.old pid table.now (SelectDelete spec.now)) self.old result self.new }
+    {
+        let alloc = self.alloc;
+        let Some(table) = self.usable_mut(Access::Write, pid, table) else {
+            return Err(Refusal::Badarg);
+        };
+        let deleted = delete_chosen(alloc, table, spec)?;
+        Ok(count_reply(deleted))
+    }
+}
+
+/// The pattern that an argument is.
+fn pattern_of(alloc: Global, argument: &Term) -> Result<Pattern, Refusal>
+    ensures same { IfOk result (λ pattern. pattern ≡ argument.now) }
+    ensures good { OnOk result (is_pattern (data_of argument.now) ≡ true) }
+    ensures badarg { IsErrOf result Refusal.Badarg → is_pattern (data_of argument.now) ≡ false }
+    ensures limit { ¬ IsErrOf result Refusal.SystemLimit }
+{
+    match Pattern::compile(alloc, argument) {
+        Ok(pattern) => Ok(pattern),
+        Err(SpecFault::Badarg) => Err(Refusal::Badarg),
+        Err(SpecFault::Memory) => Err(Refusal::Memory),
+    }
+}
+
+/// The specification that an argument is.
+fn spec_of(alloc: Global, argument: &Term) -> Result<Spec, Refusal>
+    ensures same { IfOk result (λ spec. spec ≡ argument.now) }
+    ensures good { OnOk result (is_spec (data_of argument.now) ≡ true) }
+    ensures badarg { IsErrOf result Refusal.Badarg → is_spec (data_of argument.now) ≡ false }
+    ensures limit { ¬ IsErrOf result Refusal.SystemLimit }
+{
+    match Spec::compile(alloc, argument) {
+        Ok(spec) => Ok(spec),
+        Err(SpecFault::Badarg) => Err(Refusal::Badarg),
+        Err(SpecFault::Memory) => Err(Refusal::Memory),
+    }
+}
+
+/// Deletes the objects that a pattern matches.
+fn delete_matching(alloc: Global, table: &mut Rowed, pattern: &Term) -> Result<(), Refusal>
+    ensures { table_refusals.Comes (DeletesMatching pattern.now table.old.content) table.old.content result table.new.content }
+{
+    let pattern = pattern_of(alloc, pattern)?;
+    Ok(table.match_delete(&pattern, false)?)
+}
+
+/// Deletes the objects for which a specification gives `true`, and answers how many they were.
+fn delete_chosen(alloc: Global, table: &mut Rowed, spec: &Term) -> Result<usize, Refusal>
+    ensures content { table_refusals.Comes (DeletesChosen spec.now table.old.content) table.old.content result table.new.content }
+    ensures few { IfOk result (λ count. count < 2 ^ 63) }
+{
+    let spec = spec_of(alloc, spec)?;
+    may_be_counted(table)?;
+    Ok(table.select_delete(&spec, false)?)
+}
+
+/// Whether an integer says how many objects there are; no memory has more.
+fn may_be_counted(table: &Rowed) -> Result<(), AllocError>
+    ensures { OnOk result (object_count table.now.content.slots < 2 ^ 63) }
+{
+    if table.size() > Integer::MAX as usize {
+        return Err(AllocError);
+    }
+    Ok(())
+}
+
+fn answers_reply(found: Items<Term>) -> Reply
+    ensures { result ≡ answers_reply (map data_of found) }
+{
+    Reply::Value(Term::List(found))
+}
+
+fn count_reply(count: usize) -> Reply
+    requires { count < 2 ^ 63 }
+    ensures { result ≡ count_reply count }
+{
+    Reply::Value(Term::Int(count as Integer))
+}

@@ -1,0 +1,75 @@
+// Calls that update counters and elements.
+ghost use Rattle.std.specs.Prelude.{option_copied};
+ghost use Rattle.table_ops.specs.Refusals as table_refusals;
+ghost use Rattle.node_core.specs.Access.{writes};
+ghost use Rattle.node_core.specs.rules.Updates.{Counts, WritesTold, UpdateCounter, UpdateElement};
+ghost use Rattle.node_core.specs.inside.Refusals.{Comes};
+
+use super::Node;
+use super::access::Access;
+use super::replies::truth_reply;
+use crate::step::Reply;
+use crate::table::Rowed;
+use counters::{read_element_specs, read_ops};
+use ets_term::{KeyHash, Term};
+use std::alloc::Global;
+use table_ops::Refusal;
+
+impl<H: KeyHash + Copy> Node<H> {
+    pub fn update_counter(
+        &mut self,
+        pid: u32,
+        table: &Term,
+        key: &Term,
+        updates: &Term,
+        default: Option<&Term>,
+    ) -> Result<Reply, Refusal>
+        ensures { Comes (writes self.old pid table.now (UpdateCounter key.now updates.now (option_copied default.entry))) self.old result self.new }
+    {
+        let alloc = self.alloc;
+        let Some(table) = self.usable_mut(Access::Write, pid, table) else {
+            return Err(Refusal::Badarg);
+        };
+        let answer = count(alloc, table, key, updates, default)?;
+        Ok(Reply::Value(answer))
+    }
+
+    pub fn update_element(
+        &mut self,
+        pid: u32,
+        table: &Term,
+        key: &Term,
+        updates: &Term,
+    ) -> Result<Reply, Refusal>
+        ensures { Comes (writes self.old pid table.now (UpdateElement key.now updates.now)) self.old result self.new }
+    {
+        let alloc = self.alloc;
+        let Some(table) = self.usable_mut(Access::Write, pid, table) else {
+            return Err(Refusal::Badarg);
+        };
+        let is_there = write(alloc, table, key, updates)?;
+        Ok(truth_reply(alloc, is_there))
+    }
+}
+
+/// Does the operations that a term tells on the counters of a key's object.
+fn count(
+    alloc: Global,
+    table: &mut Rowed,
+    key: &Term,
+    updates: &Term,
+    default: Option<&Term>,
+) -> Result<Term, Refusal>
+    ensures { table_refusals.Comes (Counts key.now updates.now (option_copied default.entry) table.old.content) table.old.content result table.new.content }
+{
+    let ops = read_ops(alloc, updates, table.keypos())?;
+    table.update_counter(key, &ops, default)
+}
+
+/// Writes the elements that a term tells into a key's object; whether the key has one.
+fn write(alloc: Global, table: &mut Rowed, key: &Term, updates: &Term) -> Result<bool, Refusal>
+    ensures { table_refusals.Comes (WritesTold key.now updates.now table.old.content) table.old.content result table.new.content }
+{
+    let specs = read_element_specs(alloc, updates, table.keypos())?;
+    table.update_element(key, specs)
+}

@@ -1,0 +1,101 @@
+// Values from outside: each test is a table of rows, a step and the reply that the rules want of it. A row that is answered
+// otherwise is named by its place.
+use crate::{Call, Limits, Node, Reply, Step};
+use ets_term::{Fnv, Term};
+use std::alloc::{AllocError, Global};
+use text::{term, terms};
+
+mod growth;
+mod insertion;
+mod long;
+mod processes;
+mod reading;
+mod refused;
+mod removal;
+mod searching;
+mod tables;
+mod text;
+mod updates;
+
+/// A step, told.
+#[derive(Clone, Copy)]
+enum Event<'a> {
+    Enrol(u32),
+    End(u32),
+    /// The process asks this call, as `lookup(t,a)`.
+    Ask(u32, &'a str),
+    Grow(u32),
+    Ready(u32, u32),
+}
+
+/// A step, and its reply: a term, or `** badarg` and its like.
+type Row = (Event<'static>, &'static str);
+
+/// The step in which a process asks a call.
+fn ask(alloc: Global, pid: u32, call: &str) -> Result<Step, AllocError> {
+    let mut told = terms(alloc, call)?;
+    let Some(Term::List(arguments)) = told.pop() else {
+        return Err(AllocError);
+    };
+    let Some(Term::Atom(name)) = told.pop() else {
+        return Err(AllocError);
+    };
+    Ok(Step::Ask(pid, Call::new(name, arguments.into_vec())))
+}
+
+fn step(alloc: Global, event: Event) -> Result<Step, AllocError> {
+    match event {
+        Event::Enrol(pid) => Ok(Step::Enrol(pid)),
+        Event::End(pid) => Ok(Step::End(pid)),
+        Event::Ask(pid, call) => ask(alloc, pid, call),
+        Event::Grow(id) => Ok(Step::Grow(id)),
+        Event::Ready(id, bucket) => Ok(Step::Ready(id, bucket)),
+    }
+}
+
+/// Whether this is the reply that is wanted.
+fn is(alloc: Global, reply: &Reply, wanted: &str) -> Result<bool, AllocError> {
+    match reply {
+        Reply::Value(value) => Ok(*value == term(alloc, wanted)?),
+        Reply::Badarg => Ok(wanted == "** badarg"),
+        Reply::SystemLimit => Ok(wanted == "** system_limit"),
+        Reply::NoProcess => Ok(wanted == "** noproc"),
+    }
+}
+
+/// Whether the step is answered so.
+fn does(
+    alloc: Global,
+    node: &mut Node<Fnv>,
+    event: Event,
+    wanted: &str,
+) -> Result<bool, AllocError> {
+    let step = step(alloc, event)?;
+    let reply = node.step(&step)?;
+    is(alloc, &reply, wanted)
+}
+
+/// The place of the first row that a node answers otherwise.
+fn wrong_in(
+    alloc: Global,
+    node: &mut Node<Fnv>,
+    rows: &[Row],
+) -> Result<Option<usize>, AllocError> {
+    for (place, (event, wanted)) in rows.iter().enumerate() {
+        if !does(alloc, node, *event, *wanted)? {
+            return Ok(Some(place));
+        }
+    }
+    Ok(None)
+}
+
+/// The place of the first row that a new node with these limits answers otherwise.
+fn wrong_within(alloc: Global, limits: Limits, rows: &[Row]) -> Result<Option<usize>, AllocError> {
+    let mut node = Node::new(alloc, limits, Fnv);
+    wrong_in(alloc, &mut node, rows)
+}
+
+/// The place of the first row that a new node answers otherwise.
+fn wrong(alloc: Global, rows: &[Row]) -> Result<Option<usize>, AllocError> {
+    wrong_within(alloc, Limits::usual(), rows)
+}

@@ -1,0 +1,76 @@
+// Want of memory. Run with each allocation refused in turn: `rt try --test --fail-alloc N`. A step that was refused
+// memory has changed nothing, so it answers when it is done again as if it had been done once. Where the refused
+// allocation is one of a test's own, it is made again.
+use super::Event::{Ask, Enrol};
+use super::{Event, Row, is, step};
+use crate::{Limits, Node, Reply, Step};
+use ets_term::Fnv;
+use std::alloc::{AllocError, Global};
+use std::test::Fail;
+
+fn step_again(alloc: Global, event: Event) -> Result<Step, AllocError> {
+    match step(alloc, event) {
+        Ok(step) => Ok(step),
+        Err(_) => step(alloc, event),
+    }
+}
+
+fn reply_again(node: &mut Node<Fnv>, step: &Step) -> Result<Reply, AllocError> {
+    match node.step(step) {
+        Ok(reply) => Ok(reply),
+        Err(_) => node.step(step),
+    }
+}
+
+fn is_again(alloc: Global, reply: &Reply, wanted: &str) -> Result<bool, AllocError> {
+    match is(alloc, reply, wanted) {
+        Ok(same) => Ok(same),
+        Err(_) => is(alloc, reply, wanted),
+    }
+}
+
+fn does_again(
+    alloc: Global,
+    node: &mut Node<Fnv>,
+    event: Event,
+    wanted: &str,
+) -> Result<bool, AllocError> {
+    let step = step_again(alloc, event)?;
+    let reply = reply_again(node, &step)?;
+    is_again(alloc, &reply, wanted)
+}
+
+const LIFE: [Row; 12] = [
+    (Enrol(0), "<0"),
+    (
+        Ask(0, "new(a_name_that_is_longer_than_its_place,[named_table])"),
+        "a_name_that_is_longer_than_its_place",
+    ),
+    (Ask(0, "new(u,[bag])"), "#1"),
+    (Ask(0, "insert(#0,[{k,1},{l,1}])"), "true"),
+    (Ask(0, "insert(#0,{k,2})"), "true"),
+    (Ask(0, "insert_new(#0,{k,3})"), "false"),
+    (Ask(0, "lookup(#0,k)"), "[{k,2}]"),
+    (Ask(0, "insert(#1,[{k,1},{k,2}])"), "true"),
+    (Ask(0, "insert(#1,{k,2})"), "true"),
+    (Ask(0, "lookup_element(#1,k,2)"), "[1,2]"),
+    (Ask(0, "take(#1,k)"), "[{k,1},{k,2}]"),
+    (Ask(0, "tab2list(#0)"), "[{k,2},{l,1}]"),
+];
+
+/// The place of the first row that a node answers otherwise, where each want of memory is met again.
+fn wrong_again(alloc: Global) -> Result<Option<usize>, AllocError> {
+    let mut node = Node::new(alloc, Limits::usual(), Fnv);
+    for (place, (event, wanted)) in LIFE.iter().enumerate() {
+        if !does_again(alloc, &mut node, *event, *wanted)? {
+            return Ok(Some(place));
+        }
+    }
+    Ok(None)
+}
+
+#[test]
+fn a_refused_step_is_done_again(rt: HostRuntime) -> Result<(), Fail> {
+    assert_eq!(rt; wrong_again(rt.alloc())?, None);
+    Ok(())
+}

@@ -1,0 +1,109 @@
+use crate::order::shuffled;
+use crate::store::Store;
+use std::alloc::{AllocError, Global};
+
+/// A phase of the life of a table: one call for each key, in an order of its own.
+#[derive(Clone, Copy)]
+pub enum Phase {
+    Insert,
+    Hit,
+    Miss,
+    Counter,
+    Delete,
+}
+
+/// All phases, in the order in which a table goes through them.
+pub const PHASES: [Phase; 5] = [
+    Phase::Insert,
+    Phase::Hit,
+    Phase::Miss,
+    Phase::Counter,
+    Phase::Delete,
+];
+
+impl Phase {
+    pub(crate) fn name(self) -> &'static str {
+        match self {
+            Phase::Insert => "insert",
+            Phase::Hit => "hit",
+            Phase::Miss => "miss",
+            Phase::Counter => "counter",
+            Phase::Delete => "delete",
+        }
+    }
+
+    /// The keys, in this phase's order. Those of a miss are not in the table.
+    pub(crate) fn keys(self, alloc: Global, count: u64) -> Result<Vec<u64>, AllocError> {
+        match self {
+            Phase::Insert => shuffled(alloc, count, 1),
+            Phase::Hit => shuffled(alloc, count, 2),
+            Phase::Miss => absent(alloc, count),
+            Phase::Counter => shuffled(alloc, count, 4),
+            Phase::Delete => shuffled(alloc, count, 5),
+        }
+    }
+
+    /// Does the phase, and answers how many of its calls did what they should.
+    pub(crate) fn run<S: Store>(
+        self,
+        alloc: Global,
+        store: &mut S,
+        keys: &[u64],
+    ) -> Result<u64, AllocError> {
+        match self {
+            Phase::Insert => insert_all(alloc, store, keys),
+            Phase::Hit => Ok(hits(store, keys)),
+            Phase::Miss => Ok(misses(store, keys)),
+            Phase::Counter => count_all(alloc, store, keys),
+            Phase::Delete => Ok(delete_all(store, keys)),
+        }
+    }
+}
+
+fn absent(alloc: Global, count: u64) -> Result<Vec<u64>, AllocError> {
+    let mut keys = shuffled(alloc, count, 3)?;
+    for key in &mut keys {
+        *key = key.wrapping_add(count);
+    }
+    Ok(keys)
+}
+
+fn insert_all<S: Store>(alloc: Global, store: &mut S, keys: &[u64]) -> Result<u64, AllocError> {
+    let mut done: u64 = 0;
+    for key in keys {
+        done = done.wrapping_add(u64::from(store.insert(alloc, *key)?));
+    }
+    Ok(done)
+}
+
+fn hits<S: Store>(store: &S, keys: &[u64]) -> u64 {
+    let mut done: u64 = 0;
+    for key in keys {
+        done = done.wrapping_add(u64::from(store.hit(*key)));
+    }
+    done
+}
+
+fn misses<S: Store>(store: &S, keys: &[u64]) -> u64 {
+    let mut done: u64 = 0;
+    for key in keys {
+        done = done.wrapping_add(u64::from(store.miss(*key)));
+    }
+    done
+}
+
+fn count_all<S: Store>(alloc: Global, store: &mut S, keys: &[u64]) -> Result<u64, AllocError> {
+    let mut done: u64 = 0;
+    for key in keys {
+        done = done.wrapping_add(u64::from(store.count_up(alloc, *key)?));
+    }
+    Ok(done)
+}
+
+fn delete_all<S: Store>(store: &mut S, keys: &[u64]) -> u64 {
+    let mut done: u64 = 0;
+    for key in keys {
+        done = done.wrapping_add(u64::from(store.delete(*key)));
+    }
+    done
+}

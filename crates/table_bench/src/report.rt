@@ -1,0 +1,153 @@
+use crate::phases::{PHASES, Phase};
+use crate::store::Store;
+use std::alloc::{AllocError, Global};
+use std::rt::{Clock, Files};
+use std::time::{Duration, Instant};
+use std::{fs, io};
+
+/// Small tables are made again and again, and each figure is the least.
+const CALLS: u64 = 300_000;
+
+fn repeats(count: u64) -> u64 {
+    (CALLS / count.max(1)).max(1)
+}
+
+/// A phase with its keys, and the least time that it has taken, in nanoseconds.
+#[derive(Drop)]
+struct Timed {
+    phase: Phase,
+    keys: Vec<u64>,
+    best: u64,
+}
+
+impl Timed {
+    /// Does the phase once more.
+    fn turn<S: Store>(
+        &mut self,
+        rt: &(impl Print + Alloc<A = Global> + Clock),
+        store: &mut S,
+    ) -> io::Result<()> {
+        let keys = self.keys.as_slice();
+        let start = Instant::now(rt)?;
+        let done = self.phase.run(rt.alloc(), store, keys)?;
+        self.best = self.best.min(nanoseconds(start.elapsed(rt)?));
+        if done != keys.len() as u64 {
+            println!(rt; "{} {} went wrong", S::name(), self.phase.name())?;
+        }
+        Ok(())
+    }
+
+    /// Prints the nanoseconds of one call.
+    fn show(&self, rt: &impl Print, who: &str) -> io::Result<()> {
+        let tenths = self.best.saturating_mul(10) / (self.keys.len() as u64).max(1);
+        println!(rt;
+            "{} {} {}.{}",
+            who,
+            self.phase.name(),
+            tenths / 10,
+            tenths % 10
+        )
+    }
+}
+
+fn all_phases(alloc: Global, count: u64) -> Result<Vec<Timed>, AllocError> {
+    let mut all = Vec::new(alloc);
+    for phase in PHASES {
+        all.push(Timed {
+            phase,
+            keys: phase.keys(alloc, count)?,
+            best: u64::MAX,
+        })?;
+    }
+    Ok(all)
+}
+
+/// Takes a table through all phases.
+fn one_life<S: Store>(
+    rt: &(impl Print + Alloc<A = Global> + Clock),
+    phases: &mut [Timed],
+) -> io::Result<()> {
+    let mut store = S::empty(rt.alloc())?;
+    for timed in phases {
+        timed.turn(rt, &mut store)?;
+    }
+    Ok(())
+}
+
+/// How long one doubling of the buckets of a full table takes, in nanoseconds.
+fn doubling<S: Store>(rt: &(impl Alloc<A = Global> + Clock), keys: &[u64]) -> io::Result<u64> {
+    let mut store: S = filled(rt.alloc(), keys)?;
+    let start = Instant::now(rt)?;
+    store.double()?;
+    Ok(nanoseconds(start.elapsed(rt)?))
+}
+
+/// Prints nanoseconds a call for each phase, and the nanoseconds of one doubling of the full table's buckets.
+pub(crate) fn times<S: Store>(
+    rt: &(impl Print + Alloc<A = Global> + Clock),
+    count: u64,
+) -> io::Result<()> {
+    let mut phases = all_phases(rt.alloc(), count)?;
+    for _turn in 0..repeats(count) {
+        one_life::<S>(rt, phases.as_mut_slice())?;
+    }
+    for timed in phases.as_slice() {
+        timed.show(rt, S::name())?;
+    }
+    let keys = Phase::Insert.keys(rt.alloc(), count)?;
+    println!(rt;
+        "{} doubling {}",
+        S::name(),
+        doubling::<S>(rt, keys.as_slice())?
+    )
+}
+
+fn nanoseconds(spent: Duration) -> u64 {
+    u64::try_from(spent.as_nanos()).unwrap_or(u64::MAX)
+}
+
+/// A table with the objects of these keys.
+fn filled<S: Store>(alloc: Global, keys: &[u64]) -> Result<S, AllocError> {
+    let mut store = S::empty(alloc)?;
+    Phase::Insert.run(alloc, &mut store, keys)?;
+    Ok(store)
+}
+
+/// Prints bytes an object, of as many tables as make some 300,000 objects, so that the pages of a small one do not blur it.
+pub(crate) fn measure<S: Store>(
+    rt: &(impl Print + Alloc<A = Global> + Files),
+    count: u64,
+) -> io::Result<()> {
+    let alloc = rt.alloc();
+    let keys = Phase::Insert.keys(alloc, count)?;
+    let before = resident(rt)?;
+    let mut tables: Vec<S> = Vec::new(alloc);
+    for _table in 0..repeats(count) {
+        tables.push(filled(alloc, keys.as_slice())?)?;
+    }
+    let bytes = resident(rt)?.saturating_sub(before);
+    let objects = count.saturating_mul(repeats(count));
+    println!(rt; "{} bytes {}", S::name(), bytes / objects.max(1))
+}
+
+/// The bytes that this process has in memory now, on Linux.
+fn resident(rt: &(impl Alloc<A = Global> + Files)) -> io::Result<u64> {
+    let text = fs::read_to_string(rt, "/proc/self/statm")?;
+    let pages: u64 = match text.split(' ').nth(1) {
+        Some(word) => word.parse().unwrap_or(0),
+        None => 0,
+    };
+    Ok(pages.saturating_mul(4096))
+}
+
+/// Prints how many calls of each phase did what they should.
+pub(crate) fn check<S: Store>(rt: &(impl Print + Alloc<A = Global>), count: u64) -> io::Result<()> {
+    let alloc = rt.alloc();
+    let mut store = S::empty(alloc)?;
+    for phase in PHASES {
+        let keys = phase.keys(alloc, count)?;
+        let done = phase.run(alloc, &mut store, keys.as_slice())?;
+        println!(rt; "{} {} {}", S::name(), phase.name(), done)?;
+    }
+    Ok(())
+}

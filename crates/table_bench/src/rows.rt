@@ -1,0 +1,83 @@
+//! The rows alone, as a table uses them.
+use crate::store::{Store, has_value, is_full, number, object};
+use bucket_table::{Entry, Rows, SplitRows};
+use ets_term::{Fnv, Items, Term};
+use node_list::Chain;
+use std::alloc::{AllocError, Global};
+
+impl Store for SplitRows<Fnv> {
+    fn empty(alloc: Global) -> Result<SplitRows<Fnv>, AllocError> {
+        SplitRows::new(alloc, Fnv)
+    }
+
+    fn name() -> &'static str {
+        "rows"
+    }
+
+    fn insert(&mut self, alloc: Global, k: u64) -> Result<bool, AllocError> {
+        let key = number(k);
+        let Entry::Vacant(hash) = self.entry(&key) else {
+            return Ok(false);
+        };
+        let objects = Chain::one(alloc, object(alloc, k)?);
+        self.put_at(hash, key, objects)?;
+        if grow_if_due(self)? {
+            grow_if_due(self)?;
+        }
+        Ok(true)
+    }
+
+    fn hit(&self, k: u64) -> bool {
+        match self.get(&number(k)) {
+            Some(objects) => has_value(objects),
+            None => false,
+        }
+    }
+
+    fn miss(&self, k: u64) -> bool {
+        self.get(&number(k)).is_none()
+    }
+
+    fn count_up(&mut self, alloc: Global, k: u64) -> Result<bool, AllocError> {
+        let Some(place) = self.find(&number(k)) else {
+            return Ok(false);
+        };
+        let mut objects = self.replace_at(place, Chain::new(alloc));
+        let Some(Term::Tuple(fields)) = objects.pop() else {
+            return Ok(false);
+        };
+        let mut fields = fields.into_vec();
+        let counted = match fields.get_mut(1) {
+            Some(Term::Int(value)) => {
+                *value = value.wrapping_add(1);
+                true
+            }
+            _ => false,
+        };
+        objects.push(Term::Tuple(Items::from_vec(fields)))?;
+        self.replace_at(place, objects);
+        Ok(counted)
+    }
+
+    fn delete(&mut self, k: u64) -> bool {
+        self.remove(&number(k)).is_some()
+    }
+
+    fn double(&mut self) -> Result<(), AllocError> {
+        self.grow()?;
+        Ok(())
+    }
+}
+
+/// Makes the least bucket ready that is not, or doubles the buckets where they are full; answers whether either was due.
+fn grow_if_due(rows: &mut SplitRows<Fnv>) -> Result<bool, AllocError> {
+    if let Some(bucket) = rows.least() {
+        rows.ready(bucket)?;
+        return Ok(true);
+    }
+    let full = is_full(rows.len(), rows.buckets());
+    if full {
+        rows.grow()?;
+    }
+    Ok(full)
+}

@@ -1,0 +1,83 @@
+//! A whole table: the calls of ets, without a node's names and access.
+use crate::store::{Store, has_value, is_full, number, object};
+use bucket_table::SplitRows;
+use counters::{Op, Ops};
+use ets_term::Fnv;
+use std::alloc::{AllocError, Global};
+use table_ops::{Kind, Refusal, Table};
+
+/// One more in the second element.
+const ONE_MORE: Ops = Ops::One(Op {
+    position: 2,
+    increment: 1,
+    bound: None,
+});
+
+/// Want of memory, and of another refusal that nothing was done.
+fn memory(refusal: Refusal) -> Result<bool, AllocError> {
+    match refusal {
+        Refusal::Memory => Err(AllocError),
+        _ => Ok(false),
+    }
+}
+
+impl Store for Table<SplitRows<Fnv>> {
+    fn empty(alloc: Global) -> Result<Table<SplitRows<Fnv>>, AllocError> {
+        let rows = SplitRows::new(alloc, Fnv)?;
+        Ok(Table::new(alloc, rows, Kind::Set, 1, u32::MAX))
+    }
+
+    fn name() -> &'static str {
+        "table"
+    }
+
+    fn insert(&mut self, alloc: Global, k: u64) -> Result<bool, AllocError> {
+        let objects = [object(alloc, k)?];
+        if let Err(refusal) = Table::insert(self, &objects) {
+            return memory(refusal);
+        }
+        if grow_if_due(self)? {
+            grow_if_due(self)?;
+        }
+        Ok(true)
+    }
+
+    fn hit(&self, k: u64) -> bool {
+        has_value(self.lookup(&number(k)))
+    }
+
+    fn miss(&self, k: u64) -> bool {
+        !self.member(&number(k))
+    }
+
+    fn count_up(&mut self, _alloc: Global, k: u64) -> Result<bool, AllocError> {
+        match self.update_counter(&number(k), &ONE_MORE, None) {
+            Ok(_) => Ok(true),
+            Err(refusal) => memory(refusal),
+        }
+    }
+
+    fn delete(&mut self, k: u64) -> bool {
+        let before = self.size();
+        self.delete_key(&number(k), false);
+        self.size() < before
+    }
+
+    fn double(&mut self) -> Result<(), AllocError> {
+        self.grow()?;
+        Ok(())
+    }
+}
+
+/// Makes the least bucket ready that is not, or doubles the buckets where they are full; answers whether either was due.
+fn grow_if_due(table: &mut Table<SplitRows<Fnv>>) -> Result<bool, AllocError> {
+    if let Some(bucket) = table.least() {
+        table.ready(bucket)?;
+        return Ok(true);
+    }
+    let full = is_full(table.slots(), table.buckets());
+    if full {
+        table.grow()?;
+    }
+    Ok(full)
+}

@@ -1,0 +1,167 @@
+-- The one object at a place, taken out, updated and put back.
+use Rattle.std.proofs.Common.{◌≡◌, ◌⊎◌, inl, inr, ℕ, ◌+◌, ◌≤◌, true, false, ◌&&◌, List, [], ◌∷◌, ◌++◌, Option, None, Some, unwrap_or, Result, Ok, Err, refl, sym, ap, subst, ◌∙◌, length, true≢false, arith}
+use Rattle.std.specs.Prelude.{IfOk, OnOk, OnErr, IfErr, IsErrOf, nat_lt}
+use Rattle.ets_term.specs.declared.term.Term.{Term}
+use Rattle.ets_term.specs.Order.{same}
+use Rattle.bucket_table.specs.Slots.{Slot, objects_of, with_objects, has_objects, object_count}
+use Rattle.bucket_table.specs.Entries.{objects_in, with_objects_in}
+use Rattle.counters.specs.Counters.{updated_counters}
+use Rattle.counters.specs.Defaults.{keyed, counted_from}
+use Rattle.counters.specs.Elements.{updated_elements}
+use Rattle.counters.specs.declared.elements.ElementSpecs.{ElementSpecs}
+use Rattle.counters.specs.declared.fault.CounterFault.{CounterFault}
+use Rattle.counters.specs.declared.fault.CounterFault.TheVariants as fault
+use Rattle.counters.specs.declared.ops.Ops.{Ops}
+use Rattle.ets_term.specs.Depth.{is_too_deep}
+use Rattle.table_ops.specs.declared.kind.Kind.{Kind}
+use Rattle.table_ops.specs.declared.kind.Kind.TheVariants.{Set, Bag, DuplicateBag}
+use Rattle.table_ops.specs.Content.{Content, key_of, objects_under, AreSlots, IsSlot, IsStored, IsKept}
+use Rattle.table_ops.specs.Put.{add, Writes, Puts}
+use Rattle.table_ops.specs.declared.refusal.Refusal.{Refusal}
+use Rattle.table_ops.specs.declared.refusal.Refusal.TheVariants.{Badarg, SystemLimit, Memory}
+use Rattle.table_ops.specs.Refusals.{Comes}
+use Rattle.table_ops.specs.Update.{is_set, ops_open, specs_open, is_good, Starts, CountsUnder, UpdatesCounter}
+use Rattle.table_ops.specs.inside.Counted.{IsCounted}
+use Rattle.table_ops.specs.inside.Updated.{HasOne, CountsAt, WritesAt, StartsAt}
+use Rattle.table_ops.proofs.Counts.{count-set, count-writes, written}
+use Rattle.table_ops.proofs.KeptLaws.{slot-of, slots-set, slots-puts}
+use Rattle.table_ops.proofs.PutLaws.{add-none, own-in, set-in}
+use Rattle.table_ops.proofs.SlotLaws.{set_value-twice, set_value-same}
+use Rattle.table_ops.proofs.StoreLaws.{is-below, is-not-below, above, not-above, full_at, room_at}
+use Rattle.table_ops.proofs.UpdatedLaws.{Keeps, counted-keeps, written-keeps}
+
+-- the last of one is the one
+pub popped-one : (own rest : List Term) (object last : Term) → own ≡ object ∷ [] → own ≡ rest ++ last ∷ [] → last ≡ object
+popped-one own [] object last one h = let e : object ∷ [] ≡ last ∷ [] = sym one ∙ h in cc
+popped-one own (x ∷ []) object last one h = let e : object ∷ [] ≡ x ∷ last ∷ [] = sym one ∙ h in cc
+popped-one own (x ∷ y ∷ ys) object last one h = let e : object ∷ [] ≡ x ∷ y ∷ (ys ++ last ∷ []) = sym one ∙ h in cc
+
+put-back-at : (old mid new : List Slot) (at : Option Term) (v w : List Term) → mid ≡ with_objects_in old at v → new ≡ with_objects_in mid at w → new ≡ with_objects_in old at w
+put-back-at old mid new None v w first second = second ∙ first
+put-back-at old mid new (Some key) v w first second = second ∙ ap (λ l. with_objects l key w) first ∙ set_value-twice (same key) old v w
+
+-- what is put in the place of what was taken out
+pub put-back : (old mid new : List Slot) (at own : Option Term) (v w : List Term) → mid ≡ with_objects_in old at v → own ≡ at → new ≡ with_objects_in mid own w → new ≡ with_objects_in old at w
+put-back old mid new at own v w first same_place second = put-back-at old mid new at v w first (second ∙ ap (λ o. with_objects_in mid o w) same_place)
+
+-- the same is put in its place
+pub same-in : (old : List Slot) (at : Option Term) (c : List Term) → objects_in old at ≡ Some c → with_objects_in old at c ≡ old
+same-in old None c h = cc
+same-in old (Some key) c h = set_value-same (same key) old c h
+
+module _ (ops : Ops) (at : Option Term) (old new : List Slot) (was object : Term) (own : objects_in old at ≡ Some (was ∷ [])) (now : new ≡ with_objects_in old at (object ∷ [])) where
+  pub counts-at : (r : Result Term CounterFault) → IfOk r (λ answer. updated_counters ops was ≡ Ok (object, answer)) → (IsErrOf r fault.Badarg → updated_counters ops was ≡ Err fault.Badarg)
+      → (IsErrOf r fault.SystemLimit → updated_counters ops was ≡ Err fault.SystemLimit) → OnErr r (object ≡ was) → CountsAt ops at old r new
+  counts-at (Ok answer) done badarg limit kept = (was, own, (object, done, now))
+  counts-at (Err fault.Badarg) done badarg limit kept = (was, own, (badarg refl, now ∙ ap (λ t. with_objects_in old at (t ∷ [])) kept ∙ same-in old at (was ∷ []) own))
+  counts-at (Err fault.SystemLimit) done badarg limit kept = (was, own, (limit refl, now ∙ ap (λ t. with_objects_in old at (t ∷ [])) kept ∙ same-in old at (was ∷ []) own))
+  counts-at (Err fault.Memory) done badarg limit kept = now ∙ ap (λ t. with_objects_in old at (t ∷ [])) kept ∙ same-in old at (was ∷ []) own
+
+module _ (specs : ElementSpecs) (at : Option Term) (old new : List Slot) (was object : Term) (own : objects_in old at ≡ Some (was ∷ [])) (now : new ≡ with_objects_in old at (object ∷ [])) where
+  pub writes-at : (r : Result (Unit {0}) CounterFault) → OnOk r (updated_elements specs was ≡ Ok object) → IfErr r (λ f. updated_elements specs was ≡ Err f) → OnErr r (object ≡ was) → WritesAt specs at old r new
+  writes-at (Ok tt) done refused kept = (was, own, (object, done, now))
+  writes-at (Err f) done refused kept = (was, own, (refused, now ∙ ap (λ t. with_objects_in old at (t ∷ [])) kept ∙ same-in old at (was ∷ []) own))
+
+-- of the one object of a key in a set
+module _ (kind : Kind) (keypos limit count : ℕ) (old new : List Slot) (key : Term) (at : Option Term) (is : at ≡ Some key) (set : is_set kind ≡ true) (i : IsCounted kind keypos limit count old) where
+  pub one-there : has_objects (objects_under old key) ≡ true → HasOne old at
+  one-there h = by (objects_of old key) refl h
+    where
+      of-one : (c : List Term) → length c ≤ 1 → has_objects c ≡ true → (object : Term) × (c ≡ object ∷ [])
+      of-one [] few some = absurd (true≢false (sym some))
+      of-one (x ∷ []) few some = (x, refl)
+      of-one (x ∷ y ∷ ys) few some = absurd (omega (arith, few))
+
+      few-of : (k : Kind) (c : List Term) → is_set k ≡ true → IsSlot k keypos (key, c) → length c ≤ 1
+      few-of Set c e s = s.kept
+      few-of Bag c e s = absurd (true≢false (sym e))
+      few-of DuplicateBag c e s = absurd (true≢false (sym e))
+
+      by : (o : Option (List Term)) → objects_of old key ≡ o → has_objects (unwrap_or o []) ≡ true → HasOne old at
+      by None e g = absurd (true≢false (sym g))
+      by (Some c) e g =
+          let one = of-one c (few-of kind c set (slot-of kind keypos old key c i.slots_are e)) g in
+          (one.0, ap (objects_in old) is ∙ e ∙ ap Some one.1)
+
+  kept-one : (k : Kind) (object : Term) → is_set k ≡ true → IsKept k (object ∷ [])
+  kept-one Set object e = omega arith
+  kept-one Bag object e = absurd (true≢false (sym e))
+  kept-one DuplicateBag object e = absurd (true≢false (sym e))
+
+  -- another object in its place
+  pub one-counted : (was object : Term) → objects_in old at ≡ Some (was ∷ []) → Keeps keypos was object → new ≡ with_objects_in old at (object ∷ []) → IsCounted kind keypos limit count new
+  one-counted was object own keeps now =
+      let had = own-in old at key (was ∷ []) is own in
+      let slots = set-in old new at key (object ∷ []) is now in
+      let slot = slot-of kind keypos old key (was ∷ []) i.slots_are had in
+      let stored : IsStored keypos key object = record { its_key = keeps.key ∙ slot.stored.0.its_key; shallow = keeps.shallow slot.stored.0.shallow } in
+      let here : IsSlot kind keypos (key, object ∷ []) = record { key = slot.key; stored = (stored, tt); kept = kept-one kind object set } in
+      record {
+        counted = omega (arith, i.counted, ap object_count slots, count-set (same key) old (was ∷ []) (object ∷ []) had);
+        within = i.within;
+        few = i.few;
+        slots_are = subst (AreSlots kind keypos) (sym slots) (slots-set kind keypos old key (object ∷ []) i.slots_are here);
+      }
+
+  pub counted-at : (ops : Ops) (r : Result Term CounterFault) → ops_open keypos ops ≡ true → CountsAt ops at old r new → IsCounted kind keypos limit count new
+  counted-at ops (Ok answer) may c = one-counted c.0 c.2.0 c.1 (counted-keeps keypos ops c.0 c.2.0 answer may c.2.1) c.2.2
+  counted-at ops (Err fault.Badarg) may c = subst (IsCounted kind keypos limit count) (sym c.2.1) i
+  counted-at ops (Err fault.SystemLimit) may c = subst (IsCounted kind keypos limit count) (sym c.2.1) i
+  counted-at ops (Err fault.Memory) may c = subst (IsCounted kind keypos limit count) (sym c) i
+
+  pub written-at : (specs : ElementSpecs) (r : Result (Unit {0}) CounterFault) → specs_open keypos specs ≡ true → WritesAt specs at old r new → IsCounted kind keypos limit count new
+  written-at specs (Ok tt) may c = one-counted c.0 c.2.0 c.1 (written-keeps keypos specs c.0 c.2.0 may c.2.1) c.2.2
+  written-at specs (Err f) may c = subst (IsCounted kind keypos limit count) (sym c.2.1) i
+
+first-put-at : (kind : Kind) (old new : List Slot) (key object : Term) (c : List Term) → objects_under old key ≡ c → c ≡ [] → Writes old key (object ∷ []) new → Puts kind old key object new
+first-put-at kind old new key object c e none w = subst (λ (l : List Term). Writes old key l new) (sym (ap (λ l. add kind l object) (e ∙ none) ∙ add-none kind object)) w
+
+-- an object is stored under a key that has none
+pub started-counted : (kind : Kind) (keypos limit count : ℕ) (old new : List Slot) (key object : Term) → IsCounted kind keypos limit count old → objects_under old key ≡ [] → nat_lt count limit ≡ true
+    → (key_of keypos object ≡ Some key) × (is_too_deep object ≡ false) → Writes old key (object ∷ []) new → IsCounted kind keypos limit (count + 1) new
+started-counted kind keypos limit count old new key object i none room its w =
+    let more = count-writes old new key (object ∷ []) w in
+    record {
+      counted = omega (arith, i.counted, more, ap length none);
+      within = let below = is-below count limit room in omega (arith, below);
+      few = i.few;
+      slots_are = slots-puts kind keypos old new key object i.slots_are its.0 its.1 (first-put-at kind old new key object (objects_under old key) refl none w);
+    }
+
+module _ (key : Term) (ops : Ops) (d : Term) (old : Content) (count : ℕ) (none : objects_under old.slots key ≡ []) (counted : count ≡ object_count old.slots) where
+  none-under : (r : Result Term Refusal) (new : Content) (objects : List Term) → objects ≡ [] → Starts key old (counted_from ops (keyed old.keypos key d)) r new → CountsUnder key ops (Some d) old objects r new
+  none-under r new [] e h = h
+  none-under r new (x ∷ xs) e h = cc
+
+  counted-by : (c : Result (Term × Term) CounterFault) (m : Result (Term × Term) CounterFault) (r : Result Term Refusal) (new : Content) → c ≡ m → Starts key old m r new → Starts key old c r new
+  counted-by c m r new e h = subst (λ (x : Result (Term × Term) CounterFault). Starts key old x r new) (sym e) h
+
+  module _ (given : Option Term) (is : given ≡ Some d) (may : (is_set old.kind && (ops_open old.keypos ops && is_good old.keypos key given)) ≡ true) where
+    lifted : (r : Result Term Refusal) (new : Content) → Starts key old (counted_from ops (keyed old.keypos key d)) r new → UpdatesCounter key ops given old r new
+    lifted r new h = full_at (is_set old.kind && (ops_open old.keypos ops && is_good old.keypos key given)) _ _ may
+        (subst (λ (o : Option Term). CountsUnder key ops o old (objects_under old.slots key) r new) (sym is) (none-under r new (objects_under old.slots key) none h))
+
+    full : (r : Result (Term × Term) CounterFault) (made : Term × Term) → r ≡ Ok made → nat_lt count old.limit ≡ false → Starts key old r (Err SystemLimit) old
+    full r made e no_room =
+        let w = written old.slots key (made.0 ∷ []) in
+        let more = count-writes old.slots w.0 key (made.0 ∷ []) w.1 in
+        let over = is-not-below count old.limit no_room in
+        counted-by r (Ok made) (Err SystemLimit) old e (w.0, w.1, full_at (nat_lt old.limit (object_count w.0)) _ _ (above old.limit (object_count w.0) (omega (arith, more, over, counted, ap length none))) (refl, refl))
+
+    -- the update of a key that has no object, from a Default
+    pub started-comes : (r : Result Term Refusal) (slots : List Slot) → StartsAt (nat_lt count old.limit) key (counted_from ops (keyed old.keypos key d)) old.slots r slots → Comes (UpdatesCounter key ops given old) old r (record old { slots = slots })
+    started-comes (Ok answer) slots s =
+        let more = count-writes old.slots slots key (s.0 ∷ []) s.3 in
+        let below = is-below count old.limit s.2 in
+        lifted (Ok answer) (record old { slots = slots }) (counted-by _ (Ok (s.0, answer)) (Ok answer) (record old { slots = slots }) s.1
+        (slots, s.3, room_at (nat_lt old.limit (object_count slots)) _ _ (not-above old.limit (object_count slots) (omega (arith, more, below, counted, ap length none))) (refl, refl)))
+    started-comes (Err Badarg) slots s =
+        subst (λ (l : List Slot). UpdatesCounter key ops given old (Err Badarg) (record old { slots = l })) (sym s.1)
+        (lifted (Err Badarg) old (counted-by _ (Err fault.Badarg) (Err Badarg) old s.0 (refl, refl)))
+    started-comes (Err SystemLimit) slots s =
+        subst (λ (l : List Slot). UpdatesCounter key ops given old (Err SystemLimit) (record old { slots = l })) (sym s.0) (lifted (Err SystemLimit) old (by s.1))
+      where
+        by : (counted_from ops (keyed old.keypos key d) ≡ Err fault.SystemLimit) ⊎ ((made : Term × Term) × (counted_from ops (keyed old.keypos key d) ≡ Ok made) × (nat_lt count old.limit ≡ false)) → Starts key old (counted_from ops (keyed old.keypos key d)) (Err SystemLimit) old
+        by (inl e) = counted-by _ (Err fault.SystemLimit) (Err SystemLimit) old e (refl, refl)
+        by (inr m) = full (counted_from ops (keyed old.keypos key d)) m.0 m.1 m.2
+    started-comes (Err Memory) slots s = ap (λ (l : List Slot). let c : Content = record old { slots = l } in c) s

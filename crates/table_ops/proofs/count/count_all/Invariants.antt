@@ -1,0 +1,14 @@
+use Rattle.std.proofs.Common.{◌≡◌, take, drop}
+use Rattle.bucket_table.specs.Slots.{object_count}
+use Rattle.bucket_table.specs.Walks.{IsFirstPlace}
+use Rattle.node_list.specs.Ticks.{ticks}
+use Rattle.table_ops.specs.Queries.{chosen_count}
+use Rattle.table_ops.specs.Read.{all_objects}
+use Rattle.table_ops.proofs.count.count_all.Given as goal
+
+abbrev pub invariant-loop : goal.invariant-loop
+invariant-loop g l = record {
+  here : IsFirstPlace (g.R.Rows.key_at l.rows) (drop l.counter (g.R.Rows.content l.rows)) l.at;
+  done : l.total ≡ chosen_count (g.C.Choose.chooses l.chooser) (all_objects (take l.counter (g.R.Rows.content l.rows)));
+  looked : l.looks ≡ ticks (object_count (take l.counter (g.R.Rows.content l.rows))) l.initial.looks;
+}

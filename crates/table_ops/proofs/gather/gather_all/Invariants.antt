@@ -1,0 +1,15 @@
+use Rattle.std.proofs.Common.{◌≡◌, ◌++◌, map, take, drop}
+use Rattle.ets_term.specs.Data.{data_of}
+use Rattle.bucket_table.specs.Slots.{object_count}
+use Rattle.bucket_table.specs.Walks.{IsFirstPlace}
+use Rattle.node_list.specs.Ticks.{ticks}
+use Rattle.table_ops.specs.Queries.{answers}
+use Rattle.table_ops.specs.Read.{all_objects}
+use Rattle.table_ops.proofs.gather.gather_all.Given as goal
+
+abbrev pub invariant-loop : goal.invariant-loop
+invariant-loop g l = record {
+  here : IsFirstPlace (g.R.Rows.key_at l.rows) (drop l.counter (g.R.Rows.content l.rows)) l.at;
+  done : map data_of l.found.items ≡ map data_of l.initial.found.items ++ answers (g.G.Give.gives l.asked) (all_objects (take l.counter (g.R.Rows.content l.rows)));
+  looked : l.looks ≡ ticks (object_count (take l.counter (g.R.Rows.content l.rows))) l.initial.looks;
+}

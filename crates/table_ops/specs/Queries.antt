@@ -1,0 +1,44 @@
+-- What patterns and specifications give for the objects of a table, and how many objects are tried (stdlib manual, module ets, match/2, match_object/2, match_delete/2, select/2, select_count/2 and select_delete/2).
+use Rattle.std.specs.Prelude.{ℕ, Bool, false, List, [], ◌∷◌, Option, Some, None, is_some, length, filter}
+use Rattle.std.specs.Option.{option_map, option_map_or}
+use Rattle.ets_term.specs.declared.term.Term.{Term}
+use Rattle.ets_term.specs.Data.{Data, list, row_of, data_of}
+use Rattle.ets_term.specs.laws.Exact.{term_of}
+use Rattle.bucket_table.specs.Slots.{Slot, object_count}
+use Rattle.match_spec.specs.Patterns.{values, bindings_of}
+use Rattle.match_spec.specs.Specifications.{is_true, result_of}
+use Rattle.table_ops.specs.Content.{objects_under}
+
+-- match: the list of what is bound, in order of the variables' numbers, for an object that matches
+abbrev pub bound_in : Term → Term → Option Data
+bound_in pattern object = option_map (λ b. list (row_of (values b))) (bindings_of (data_of pattern) (data_of object))
+
+-- match_object, match_delete: whether an object matches
+abbrev pub matches : Term → Term → Bool
+matches pattern object = is_some (bindings_of (data_of pattern) (data_of object))
+
+-- select: what the specification gives for an object
+abbrev pub given_by : Term → Term → Option Data
+given_by spec object = result_of (data_of spec) (data_of object)
+
+-- select_count, select_delete: whether it gives true
+abbrev pub is_chosen : Term → Term → Bool
+is_chosen spec object = option_map_or is_true (given_by spec object) false
+
+abbrev pub also : Option Data → List Data → List Data
+also None answers = answers
+also (Some answer) answers = answer ∷ answers
+
+-- the answers of the objects that give one, in their order
+abbrev pub answers : (Term → Option Data) → List Term → List Data
+answers give [] = []
+answers give (object ∷ objects) = also (give object) (answers give objects)
+
+-- how many objects are chosen
+abbrev pub chosen_count : (Term → Bool) → List Term → ℕ
+chosen_count choose objects = length (filter choose objects)
+
+-- how many objects are tried: those of the bound key, else all
+abbrev pub tried : Option Data → List Slot → ℕ
+tried (Some key) slots = length (objects_under slots (term_of key))
+tried None slots = object_count slots

@@ -1,0 +1,218 @@
+ghost use Rattle.std.specs.Prelude.{◌≡◌, ◌≤◌, map, filter, is_some, IfOk, OnOk, OnErr, option_copied};
+ghost use Rattle.std.specs.Option.{option_map};
+ghost use Rattle.ets_term.specs.Data.{data_of};
+ghost use Rattle.match_spec.specs.BoundKeys.{bound_key, spec_key};
+ghost use Rattle.node_list.specs.Ticks.{ticks};
+ghost use Rattle.table_ops.specs.Drop.{without_those};
+ghost use Rattle.table_ops.specs.Queries.{bound_in, matches, given_by, is_chosen, answers, chosen_count, tried};
+ghost use Rattle.table_ops.specs.Read.{all_objects};
+ghost use Rattle.table_ops.specs.inside.Marked.{OnlyUnder};
+
+use super::Table;
+use crate::count::count_asked;
+use crate::gather::gather_asked;
+use crate::looks::Looks;
+use crate::marks::{note_asked, thin_out_all};
+use crate::trial::{Choose, Give, Matching};
+use bucket_table::Rows;
+use ets_term::{Items, Term};
+use match_spec::{Pattern, Spec};
+use std::alloc::AllocError;
+
+impl<R: Rows> Table<R> {
+    /// For each object that matches, in the order of the slots, the list of what is bound, in order of the variables'
+    /// numbers (stdlib manual, ets:match/2).
+    pub fn matches(&self, pattern: &Pattern) -> Result<Items<Term>, AllocError>
+        ensures { IfOk result (λ found. map data_of found ≡ answers (bound_in pattern.now) (all_objects self.now.content.slots)) }
+    {
+        let mut looks = Looks::new();
+        self.matches_counted(pattern, &mut looks)
+    }
+
+    /// `matches`, counting the objects that are tried: those of the key, where the pattern binds it, else all.
+    pub fn matches_counted(
+        &self,
+        pattern: &Pattern,
+        looks: &mut Looks,
+    ) -> Result<Items<Term>, AllocError>
+        ensures answers { IfOk result (λ found. map data_of found ≡ answers (bound_in pattern.now) (all_objects self.now.content.slots)) }
+        ensures looks { OnOk result (looks.new ≡ ticks (tried (bound_key self.now.content.keypos (data_of pattern.now)) self.now.content.slots) looks.old) }
+        ensures at_most { looks.new ≤ ticks (tried (bound_key self.now.content.keypos (data_of pattern.now)) self.now.content.slots) looks.old }
+    {
+        self.found(pattern, pattern.bound_key(self.keypos as usize), looks)
+    }
+
+    /// The objects that match, copied, in the order of the slots (stdlib manual, ets:match_object/2).
+    pub fn match_objects(&self, pattern: &Pattern) -> Result<Items<Term>, AllocError>
+        ensures { IfOk result (λ found. found ≡ filter (matches pattern.now) (all_objects self.now.content.slots)) }
+    {
+        let mut looks = Looks::new();
+        self.match_objects_counted(pattern, &mut looks)
+    }
+
+    /// `match_objects`, counting the objects that are tried, as `matches_counted` does.
+    pub fn match_objects_counted(
+        &self,
+        pattern: &Pattern,
+        looks: &mut Looks,
+    ) -> Result<Items<Term>, AllocError>
+        ensures objects { IfOk result (λ found. found ≡ filter (matches pattern.now) (all_objects self.now.content.slots)) }
+        ensures looks { OnOk result (looks.new ≡ ticks (tried (bound_key self.now.content.keypos (data_of pattern.now)) self.now.content.slots) looks.old) }
+        ensures at_most { looks.new ≤ ticks (tried (bound_key self.now.content.keypos (data_of pattern.now)) self.now.content.slots) looks.old }
+    {
+        let matching = Matching { pattern };
+        self.found(&matching, pattern.bound_key(self.keypos as usize), looks)
+    }
+
+    /// What the specification gives, for each object for which it gives something, in the order of the slots (stdlib
+    /// manual, ets:select/2).
+    pub fn select(&self, spec: &Spec) -> Result<Items<Term>, AllocError>
+        ensures { IfOk result (λ found. map data_of found ≡ answers (given_by spec.now) (all_objects self.now.content.slots)) }
+    {
+        let mut looks = Looks::new();
+        self.select_counted(spec, &mut looks)
+    }
+
+    /// `select`, counting the objects that are tried: those of the key, where all clauses bind the same one, else all.
+    pub fn select_counted(&self, spec: &Spec, looks: &mut Looks) -> Result<Items<Term>, AllocError>
+        ensures answers { IfOk result (λ found. map data_of found ≡ answers (given_by spec.now) (all_objects self.now.content.slots)) }
+        ensures looks { OnOk result (looks.new ≡ ticks (tried (spec_key self.now.content.keypos (data_of spec.now)) self.now.content.slots) looks.old) }
+        ensures at_most { looks.new ≤ ticks (tried (spec_key self.now.content.keypos (data_of spec.now)) self.now.content.slots) looks.old }
+    {
+        self.found(spec, spec.bound_key(self.keypos as usize), looks)
+    }
+
+    /// How many objects there are for which the specification gives `true` (stdlib manual, ets:select_count/2).
+    pub fn select_count(&self, spec: &Spec) -> Result<usize, AllocError>
+        ensures { IfOk result (λ count. count ≡ chosen_count (is_chosen spec.now) (all_objects self.now.content.slots)) }
+    {
+        let mut looks = Looks::new();
+        self.select_count_counted(spec, &mut looks)
+    }
+
+    /// `select_count`, counting the objects that are tried, as `select_counted` does.
+    pub fn select_count_counted(&self, spec: &Spec, looks: &mut Looks) -> Result<usize, AllocError>
+        ensures count { IfOk result (λ count. count ≡ chosen_count (is_chosen spec.now) (all_objects self.now.content.slots)) }
+        ensures looks { OnOk result (looks.new ≡ ticks (tried (spec_key self.now.content.keypos (data_of spec.now)) self.now.content.slots) looks.old) }
+        ensures at_most { looks.new ≤ ticks (tried (spec_key self.now.content.keypos (data_of spec.now)) self.now.content.slots) looks.old }
+    {
+        self.chosen(spec, spec.bound_key(self.keypos as usize), looks)
+    }
+
+    /// Deletes the objects that match (stdlib manual, ets:match_delete/2). Want of memory changes nothing.
+    pub fn match_delete(&mut self, pattern: &Pattern, hold: bool) -> Result<(), AllocError>
+        ensures content { OnOk result (self.new.content ≡ without_those hold (λ own. matches pattern.now) self.old.content) }
+        ensures err { OnErr result (self.new.content ≡ self.old.content) }
+        ensures buckets { self.new.buckets ≡ self.old.buckets }
+    {
+        let mut looks = Looks::new();
+        self.match_delete_counted(pattern, hold, &mut looks)
+    }
+
+    /// `match_delete`, counting the objects that are tried, as `matches_counted` does.
+    pub fn match_delete_counted(
+        &mut self,
+        pattern: &Pattern,
+        hold: bool,
+        looks: &mut Looks,
+    ) -> Result<(), AllocError>
+        ensures content { OnOk result (self.new.content ≡ without_those hold (λ own. matches pattern.now) self.old.content) }
+        ensures err { OnErr result (self.new.content ≡ self.old.content) }
+        ensures looks { OnOk result (looks.new ≡ ticks (tried (bound_key self.old.content.keypos (data_of pattern.now)) self.old.content.slots) looks.old) }
+        ensures at_most { looks.new ≤ ticks (tried (bound_key self.old.content.keypos (data_of pattern.now)) self.old.content.slots) looks.old }
+        ensures buckets { self.new.buckets ≡ self.old.buckets }
+    {
+        let key = pattern.bound_key(self.keypos as usize);
+        let _gone = self.delete_chosen(pattern, key, hold, looks)?;
+        Ok(())
+    }
+
+    /// Deletes the objects for which the specification gives `true`; answers how many (stdlib manual,
+    /// ets:select_delete/2). Want of memory changes nothing.
+    pub fn select_delete(&mut self, spec: &Spec, hold: bool) -> Result<usize, AllocError>
+        ensures count { IfOk result (λ count. count ≡ chosen_count (is_chosen spec.now) (all_objects self.old.content.slots)) }
+        ensures content { OnOk result (self.new.content ≡ without_those hold (λ own. is_chosen spec.now) self.old.content) }
+        ensures err { OnErr result (self.new.content ≡ self.old.content) }
+        ensures buckets { self.new.buckets ≡ self.old.buckets }
+    {
+        let mut looks = Looks::new();
+        self.select_delete_counted(spec, hold, &mut looks)
+    }
+
+    /// `select_delete`, counting the objects that are tried, as `select_counted` does.
+    pub fn select_delete_counted(
+        &mut self,
+        spec: &Spec,
+        hold: bool,
+        looks: &mut Looks,
+    ) -> Result<usize, AllocError>
+        ensures count { IfOk result (λ count. count ≡ chosen_count (is_chosen spec.now) (all_objects self.old.content.slots)) }
+        ensures content { OnOk result (self.new.content ≡ without_those hold (λ own. is_chosen spec.now) self.old.content) }
+        ensures err { OnErr result (self.new.content ≡ self.old.content) }
+        ensures looks { OnOk result (looks.new ≡ ticks (tried (spec_key self.old.content.keypos (data_of spec.now)) self.old.content.slots) looks.old) }
+        ensures at_most { looks.new ≤ ticks (tried (spec_key self.old.content.keypos (data_of spec.now)) self.old.content.slots) looks.old }
+        ensures buckets { self.new.buckets ≡ self.old.buckets }
+    {
+        let key = spec.bound_key(self.keypos as usize);
+        self.delete_chosen(spec, key, hold, looks)
+    }
+
+    /// What is given for the objects, of which only those of the bound key give something, if one is bound.
+    fn found<G: Give>(
+        &self,
+        asked: &G,
+        key: Option<&Term>,
+        looks: &mut Looks,
+    ) -> Result<Items<Term>, AllocError>
+        requires { OnlyUnder self.now.content.keypos (option_copied key) (λ object. is_some (G.gives asked.now object)) }
+        ensures answers { IfOk result (λ found. map data_of found ≡ answers (G.gives asked.now) (all_objects self.now.content.slots)) }
+        ensures looks { OnOk result (looks.new ≡ ticks (tried (option_map data_of (option_copied key.entry)) self.now.content.slots) looks.old) }
+        ensures at_most { looks.new ≤ ticks (tried (option_map data_of (option_copied key.entry)) self.now.content.slots) looks.old }
+    {
+        self.rows.known();
+        let mut found = Vec::new(self.alloc);
+        gather_asked(self.alloc, &self.rows, asked, key, &mut found, looks)?;
+        Ok(Items::from_vec(found))
+    }
+
+    /// How many objects are chosen, only some of the bound key's, if one is bound.
+    fn chosen<C: Choose>(
+        &self,
+        chooser: &C,
+        key: Option<&Term>,
+        looks: &mut Looks,
+    ) -> Result<usize, AllocError>
+        requires { OnlyUnder self.now.content.keypos (option_copied key) (C.chooses chooser.now) }
+        ensures count { IfOk result (λ count. count ≡ chosen_count (C.chooses chooser.now) (all_objects self.now.content.slots)) }
+        ensures looks { OnOk result (looks.new ≡ ticks (tried (option_map data_of (option_copied key.entry)) self.now.content.slots) looks.old) }
+        ensures at_most { looks.new ≤ ticks (tried (option_map data_of (option_copied key.entry)) self.now.content.slots) looks.old }
+    {
+        self.rows.known();
+        count_asked(self.alloc, &self.rows, chooser, key, looks)
+    }
+
+    /// Deletes the objects that are chosen, of which there are only some of the bound key, if one is bound; answers how
+    /// many.
+    fn delete_chosen<C: Choose>(
+        &mut self,
+        chooser: &C,
+        key: Option<&Term>,
+        hold: bool,
+        looks: &mut Looks,
+    ) -> Result<usize, AllocError>
+        requires { OnlyUnder self.old.content.keypos (option_copied key) (C.chooses chooser.now) }
+        ensures count { IfOk result (λ count. count ≡ chosen_count (C.chooses chooser.now) (all_objects self.old.content.slots)) }
+        ensures content { OnOk result (self.new.content ≡ without_those hold (λ own. C.chooses chooser.now) self.old.content) }
+        ensures err { OnErr result (self.new.content ≡ self.old.content) }
+        ensures looks { OnOk result (looks.new ≡ ticks (tried (option_map data_of (option_copied key.entry)) self.old.content.slots) looks.old) }
+        ensures at_most { looks.new ≤ ticks (tried (option_map data_of (option_copied key.entry)) self.old.content.slots) looks.old }
+        ensures buckets { self.new.buckets ≡ self.old.buckets }
+    {
+        self.rows.known();
+        let mut marks = Vec::new(self.alloc);
+        let gone = note_asked(self.alloc, &self.rows, chooser, key, &mut marks, looks)?;
+        thin_out_all(&mut self.rows, hold, marks);
+        self.count -= gone;
+        Ok(gone)
+    }
+}

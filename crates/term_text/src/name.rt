@@ -1,0 +1,26 @@
+//! Atoms without quotes.
+ghost use Rattle.std.specs.Prelude.{◌≡◌, ◌+◌, ◌≤◌, ◌<◌, ◌∷◌, [], List, true, length, IfOk, slice_index};
+ghost use Rattle.term_text.specs.Reader.{Open, name, goes};
+ghost use Rattle.term_text.specs.inside.Parts.{Reads};
+ghost use Rattle.term_text.specs.Text.{is_small};
+
+use crate::bytes::past_name;
+use crate::fault::TextFault;
+use crate::quote_form::MAX_CHARACTERS;
+use ets_term::{Atom, Term};
+use std::alloc::Global;
+
+/// The atom that begins with a small letter at this byte.
+pub(crate) fn name_at(alloc: Global, text: &[u8], at: usize) -> Result<(Term, usize), TextFault>
+    requires within { at < length text.now }
+    requires small { is_small (slice_index text.now at) ≡ true }
+    ensures within { IfOk result (λ x. (at ≤ x.1) × (x.1 ≤ length text.now)) }
+    ensures reads { (os : List Open) → Reads text.now (at + 1) (goes (name at (slice_index text.now at ∷ [])) os) os result }
+{
+    let end = past_name(text, at);
+    if end - at > MAX_CHARACTERS {
+        return Err(TextFault::AtomTooLong(at));
+    }
+    let name = Atom::of_bytes(alloc, &text[at..end])?;
+    Ok((Term::Atom(name), end))
+}

@@ -1,0 +1,36 @@
+//! The text of terms into strings and writers.
+ghost use Rattle.std.specs.Prelude.{◌≡◌, ◌++◌, OnOk, OnErr, string_bytes};
+ghost use Rattle.term_text.specs.Printed.{printed};
+ghost use Rattle.term_text.specs.Sent.{AppendsOrFront};
+
+use crate::printer::append;
+use crate::sink::{Buffer, WriteFault};
+use ets_term::Term;
+use std::alloc::{AllocError, Global};
+use std::io::Write;
+use std::mem;
+
+/// Appends the term's text. After want of memory the string is as before.
+pub fn print_term(alloc: Global, term: &Term, out: &mut String) -> Result<(), AllocError>
+    ensures ok { OnOk result (string_bytes out.new ≡ string_bytes out.old ++ printed term.now) }
+    ensures err { OnErr result (string_bytes out.new ≡ string_bytes out.old) }
+{
+    let len = out.len();
+    let mut buffer = Buffer {
+        text: mem::replace(out, String::new(alloc)),
+    };
+    let result = append(term, &mut buffer);
+    let Buffer { mut text } = buffer;
+    if result.is_err() {
+        text.truncate(len);
+    }
+    *out = text;
+    result
+}
+
+/// Writes the term's text, and takes no memory for it. After a fault a front of the text has gone out.
+pub fn write_term<W: Write>(term: &Term, out: &mut W) -> Result<(), WriteFault>
+    ensures { AppendsOrFront (W.contents out.old) (W.contents out.new) (printed term.now) result }
+{
+    append(term, out)
+}

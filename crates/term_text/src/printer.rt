@@ -1,0 +1,167 @@
+//! The printer, for any sink.
+ghost use Rattle.std.specs.Prelude.{◌≡◌, ◌++◌, ◌-◌, ◌≤◌, ◌==◌, ◌||◌, length, take, drop, ◌∷◌, [], List, ℕ, map, decimal, codes, true, false};
+ghost use Rattle.std.specs.Fmt.{signed_decimal};
+ghost use Rattle.std.specs.List.{list_all, flat_map};
+ghost use Rattle.ets_term.specs.Character.{is_character};
+ghost use Rattle.term_text.specs.Printed.{printed, row_text, is_plain, escaped, atom_text, comma_if};
+ghost use Rattle.term_text.specs.Sent.{AppendsOrFront};
+ghost use Rattle.term_text.specs.Text.{is_name};
+
+use crate::bytes::{is_name_byte, is_small_byte};
+use crate::sink::Sink;
+use ets_term::{Atom, Integer, Term};
+use itoa::Buffer;
+
+/// Appends the term's text.
+#[cycle(append)]
+pub(crate) fn append<S: Sink>(term: &Term, out: &mut S) -> Result<(), S::Fault>
+    ensures { AppendsOrFront (S.contents out.old) (S.contents out.new) (printed term.now) result }
+{
+    match term {
+        Term::Int(n) => append_integer(*n, out),
+        Term::Atom(name) => append_atom(name, out),
+        Term::Pid(n) => append_number("<0.", *n, ".0>", out),
+        Term::Tid(n) => append_number("#Tid<", *n, ">", out),
+        Term::Tuple(items) => append_items("{", items.as_slice(), "}", out),
+        Term::List(items) => append_items("[", items.as_slice(), "]", out),
+        Term::Binary(bytes) => append_bytes("<<", bytes.as_slice(), ">>", out),
+    }
+}
+
+/// Terms between two signs.
+#[cycle(append)]
+fn append_items<S: Sink>(
+    front: &str,
+    items: &[Term],
+    back: &str,
+    out: &mut S,
+) -> Result<(), S::Fault>
+    ensures { AppendsOrFront (S.contents out.old) (S.contents out.new) (front.now ++ (row_text false (map printed items.now) ++ back.now)) result }
+{
+    out.put(front)?;
+    let mut later = false;
+    for item in items {
+        append_comma(later, out)?;
+        append(item, out)?;
+        later = true;
+    }
+    out.put(back)
+}
+
+/// Bytes between two signs.
+fn append_bytes<S: Sink>(front: &str, bytes: &[u8], back: &str, out: &mut S) -> Result<(), S::Fault>
+    ensures { AppendsOrFront (S.contents out.old) (S.contents out.new) (front.now ++ (row_text false (map decimal bytes.now) ++ back.now)) result }
+{
+    out.put(front)?;
+    let mut later = false;
+    for b in bytes {
+        append_comma(later, out)?;
+        append_decimal(*b as u32, out)?;
+        later = true;
+    }
+    out.put(back)
+}
+
+/// A comma, where something stands before.
+fn append_comma<S: Sink>(later: bool, out: &mut S) -> Result<(), S::Fault>
+    ensures { AppendsOrFront (S.contents out.old) (S.contents out.new) (comma_if later) result }
+{
+    if later { out.put(",") } else { Ok(()) }
+}
+
+/// A number between two signs.
+fn append_number<S: Sink>(front: &str, n: u32, back: &str, out: &mut S) -> Result<(), S::Fault>
+    ensures { AppendsOrFront (S.contents out.old) (S.contents out.new) (front.now ++ (decimal n ++ back.now)) result }
+{
+    out.put(front)?;
+    append_decimal(n, out)?;
+    out.put(back)
+}
+
+fn append_decimal<S: Sink>(n: u32, out: &mut S) -> Result<(), S::Fault>
+    ensures { AppendsOrFront (S.contents out.old) (S.contents out.new) (decimal n) result }
+{
+    let mut buffer = Buffer::new();
+    out.put(buffer.format(n))
+}
+
+fn append_integer<S: Sink>(n: Integer, out: &mut S) -> Result<(), S::Fault>
+    ensures { AppendsOrFront (S.contents out.old) (S.contents out.new) (signed_decimal n) result }
+{
+    let mut buffer = Buffer::new();
+    out.put(buffer.format(n))
+}
+
+fn append_atom<S: Sink>(name: &Atom, out: &mut S) -> Result<(), S::Fault>
+    ensures { AppendsOrFront (S.contents out.old) (S.contents out.new) (atom_text name.now) result }
+{
+    let text = name.text();
+    if is_plain_text(text.as_bytes()) {
+        return out.put(text);
+    }
+    append_quoted(text, out)
+}
+
+fn is_plain_text(bytes: &[u8]) -> bool
+    ensures { result ≡ is_plain bytes.now }
+{
+    match bytes {
+        [] => false,
+        [b, ..] => is_small_byte(*b) && all_names(bytes),
+    }
+}
+
+fn all_names(bytes: &[u8]) -> bool
+    ensures { result ≡ list_all is_name bytes.now }
+{
+    bytes.iter().all(|b| is_name_byte(*b))
+}
+
+/// Characters between single quotes.
+fn append_quoted<S: Sink>(text: &str, out: &mut S) -> Result<(), S::Fault>
+    requires { list_all is_character text.now ≡ true }
+    ensures { AppendsOrFront (S.contents out.old) (S.contents out.new) (codes "'" ++ (flat_map escaped text.now ++ codes "'")) result }
+{
+    out.put("'")?;
+    append_escaped(text, out)?;
+    out.put("'")
+}
+
+fn append_escaped<S: Sink>(text: &str, out: &mut S) -> Result<(), S::Fault>
+    requires { list_all is_character text.now ≡ true }
+    ensures { AppendsOrFront (S.contents out.old) (S.contents out.new) (flat_map escaped text.now) result }
+{
+    let mut start = 0;
+    for (i, b) in text.as_bytes().iter().enumerate() {
+        if is_escaped(*b) {
+            append_piece(text, start, i, out)?;
+            start = i;
+        }
+    }
+    append_slice(text, start, text.len(), out)
+}
+
+fn is_escaped(b: u8) -> bool
+    ensures { result ≡ ((b == 39) || (b == 92)) }
+{
+    b == b'\'' || b == b'\\'
+}
+
+/// The characters between two places, and a `\`.
+fn append_piece<S: Sink>(text: &str, start: usize, end: usize, out: &mut S) -> Result<(), S::Fault>
+    requires ascii { list_all is_character text.now ≡ true }
+    requires within { (start ≤ end) × (end ≤ length text.now) }
+    ensures { AppendsOrFront (S.contents out.old) (S.contents out.new) (take (end - start) (drop start text.now) ++ 92 ∷ []) result }
+{
+    append_slice(text, start, end, out)?;
+    out.put("\\")
+}
+
+#[tactic(auto, using(crate::proofs::Escapes::boundary))]
+fn append_slice<S: Sink>(text: &str, start: usize, end: usize, out: &mut S) -> Result<(), S::Fault>
+    requires ascii { list_all is_character text.now ≡ true }
+    requires within { (start ≤ end) × (end ≤ length text.now) }
+    ensures { AppendsOrFront (S.contents out.old) (S.contents out.new) (take (end - start) (drop start text.now)) result }
+{
+    out.put(&text[start..end])
+}

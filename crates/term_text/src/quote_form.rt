@@ -1,0 +1,41 @@
+ghost use Rattle.std.specs.Prelude.{◌≡◌, ◌+◌, None};
+ghost use Rattle.term_text.specs.Reader.{quote};
+ghost use Rattle.term_text.specs.inside.Parts.{IsShort, Refuses};
+
+use crate::fault::TextFault;
+
+/// The forms that stand in quotes.
+#[derive(Clone, Copy)]
+pub(crate) enum QuoteForm {
+    /// An atom that begins at this byte.
+    Atom(usize),
+    String,
+    /// A string in a binary.
+    Binary,
+}
+
+/// The most characters that an atom has.
+pub const MAX_CHARACTERS: usize = 255;
+
+impl QuoteForm {
+    pub(crate) fn quote(self) -> u8
+        ensures { result ≡ quote self }
+    {
+        match self {
+            QuoteForm::Atom(_) => b'\'',
+            QuoteForm::String | QuoteForm::Binary => b'"',
+        }
+    }
+
+    /// Why one more character, behind n others, is refused.
+    pub(crate) fn refusal(self, at: usize, n: usize, deep: bool) -> Option<TextFault>
+        ensures refuses { Refuses at self n deep result }
+        ensures short { result ≡ None → IsShort self n → IsShort self (n + 1) }
+    {
+        match self {
+            QuoteForm::Atom(start) if n == MAX_CHARACTERS => Some(TextFault::AtomTooLong(start)),
+            QuoteForm::String if deep => Some(TextFault::TooDeep(at)),
+            _ => None,
+        }
+    }
+}
