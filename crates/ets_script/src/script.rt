@@ -26,7 +26,7 @@ pub struct Script<H: KeyHash + Copy> {
 }
 
 impl<H: KeyHash + Copy> Model for Script<H> {
-    ghost use Rattle.std.specs.Prelude.{◌≤◌, map, vec_items};
+    ghost use Rattle.std.specs.Prelude.{◌≤◌, ◌^◌, map, vec_items};
     ghost use Rattle.indexmap.specs.IndexSet.{index_set_len};
     ghost use Rattle.ets_script.specs.Script.{Scripted};
     ghost use Rattle.ets_script.specs.inside.Codes.{scripted_code};
