@@ -1,8 +1,7 @@
 use Rattle.std.proofs.Common.{◌≡◌, ◌≢◌, ℕ, Some, Option, IsSome, subst, refl, sym, ◌∙◌, ap}
 use Rattle.slab.specs.Slab.{Slab, get, slab_len, with_value, Updates}
 use Rattle.node_list.specs.Cells.{new_cell}
-use Rattle.node_list.specs.Changes.{put_cell}
-use Rattle.node_list.specs.inside.Walks.{rest, Linked, node_of, last_up_to_in}
+use Rattle.node_list.specs.inside.Walks.{rest, node_of, last_up_to_in}
 use Rattle.node_list.specs.declared.node.Node.{Node}
 use Rattle.node_list.proofs.InsertLaws.{Inserted, begun, inserted, spot-node}
 use Rattle.node_list.proofs.PlaceLaws.{with_value-len, apart-vacant}

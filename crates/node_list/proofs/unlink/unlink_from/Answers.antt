@@ -2,7 +2,7 @@ use Rattle.std.proofs.Common.{ℕ, ◌+◌, ap, Some, Option, List, IsSome, subs
 use Rattle.slab.specs.Slab.{Slab, get, slab_len}
 use Rattle.node_list.specs.Cells.{Cell}
 use Rattle.node_list.specs.Places.{all_but_first}
-use Rattle.node_list.specs.inside.Walks.{rest, Linked, HasPlace, StandsBefore}
+use Rattle.node_list.specs.inside.Walks.{rest, HasPlace, StandsBefore}
 use Rattle.node_list.specs.declared.node.Node.{Node}
 use Rattle.node_list.proofs.PlaceLaws.{rest-from, with_value-len}
 use Rattle.node_list.proofs.UnlinkLaws.{stands-behind, before-whole, before-has, before-node, before-differs, has-node, Unlinked, unlinked}
