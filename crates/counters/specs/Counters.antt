@@ -41,14 +41,14 @@ or_limit None = Err SystemLimit
 or_limit (Some r) = Ok (term.Tuple r.0, r.1)
 
 -- the new object and the answer; the tests of Badarg all go before SystemLimit
-abbrev pub updated_elements : Ops → List Term → Result (Term × Term) CounterFault
-updated_elements ops elements =
+abbrev pub counted_elements : Ops → List Term → Result (Term × Term) CounterFault
+counted_elements ops elements =
     if are_counters ops elements
     then or_limit (count ops elements)
     else Err Badarg
 
 abbrev pub updated_form : Ops → Term-F Term → Result (Term × Term) CounterFault
-updated_form ops (Term-F.Tuple elements) = updated_elements ops elements
+updated_form ops (Term-F.Tuple elements) = counted_elements ops elements
 updated_form ops _ = Err Badarg
 
 abbrev pub updated_counters : Ops → Term → Result (Term × Term) CounterFault

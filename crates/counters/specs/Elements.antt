@@ -36,7 +36,7 @@ abbrev pub listed : ElementSpecs → List ElementSpec
 listed (One spec) = spec ∷ []
 listed (Many specs) = specs
 
--- whether a tuple of so many elements has each position
+-- whether a tuple of `count` elements has each position
 abbrev pub has_all : ℕ → List ElementSpec → Bool
 has_all count specs = list_all (λ spec. nat_lt 0 spec.position && nat_le spec.position count) specs
 

@@ -1,6 +1,6 @@
-// Counters of one object, changed in place.
+//! Counters of one object, changed in place.
 ghost use Rattle.std.specs.Prelude.{◌≡◌, ◌<◌, ◌-◌, ◌↔◌, length, Some, None, Ok, Err, IfOk, OnErr, IsErrOf, slice_get, OnSome, IfSome, IfErr, true};
-ghost use Rattle.counters.specs.Counters.{integer_at, count_one, updated_elements, updated_counters};
+ghost use Rattle.counters.specs.Counters.{integer_at, count_one, counted_elements, updated_counters};
 ghost use Rattle.counters.specs.declared.ops.Ops.TheVariants.{One};
 ghost use Rattle.counters.specs.Ops.{is_one};
 ghost use Rattle.ets_term.specs.declared.term.Term.TheVariants.{Int, Tuple};
@@ -27,8 +27,8 @@ pub fn integer_at(elements: &[Term], position: usize) -> Option<Integer>
 
 /// Does one operation in place, without memory, and answers the new value.
 fn count_one(elements: &mut Items<Term>, op: Op) -> Result<Term, CounterFault>
-    ensures done { IfOk result (λ answer. updated_elements (One op) elements.old ≡ Ok (Tuple elements.new, answer)) }
-    ensures err { IfErr result (λ fault. updated_elements (One op) elements.old ≡ Err fault) }
+    ensures done { IfOk result (λ answer. counted_elements (One op) elements.old ≡ Ok (Tuple elements.new, answer)) }
+    ensures err { IfErr result (λ fault. counted_elements (One op) elements.old ≡ Err fault) }
     ensures kept { OnErr result (elements.new ≡ elements.old) }
     ensures room { ¬ IsErrOf result CounterFault.Memory }
 {

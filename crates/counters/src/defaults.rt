@@ -1,4 +1,4 @@
-// The object that a Default makes for a key that has none.
+//! The object that a Default makes for a key that has none.
 ghost use Rattle.std.specs.Prelude.{◌≡◌, ◌↔◌, ◌&&◌, nat_lt, nat_le, is_some, Some, None, Ok, Err, IfOk, IsErrOf};
 ghost use Rattle.counters.specs.Defaults.{keyed, counted_from, written_from};
 
@@ -20,7 +20,7 @@ pub fn is_default(default: &Term, keypos: u32, key: &Term) -> bool
     }
 }
 
-/// Whether a tuple of so many elements has the key's.
+/// Whether a tuple of `count` elements has the key's position.
 fn is_place(count: usize, keypos: u32) -> bool
     ensures { result ≡ (nat_lt 0 keypos && nat_le keypos count) }
 {

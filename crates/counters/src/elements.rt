@@ -1,4 +1,4 @@
-// Elements of one object, written in place.
+//! Elements of one object, written in place.
 ghost use Rattle.std.specs.Prelude.{◌≡◌, ◌-◌, ◌==◌, ◌↔◌, [], ◌∷◌, slice_set, false, Some, None, Ok, Err, IfOk, OnOk, OnErr, IfErr, IsErrOf};
 ghost use Rattle.std.specs.List.{list_any};
 ghost use Rattle.counters.specs.Elements.{spec_of_parts, all_specs, specs_of, has_all, is_over_deep, written, written_elements, updated_elements};
@@ -85,7 +85,7 @@ pub fn read_element_specs(
     }
 }
 
-/// Whether a tuple of so many elements has each position.
+/// Whether a tuple of `count` elements has each position.
 fn has_all(count: usize, specs: &[ElementSpec]) -> bool
     ensures { result ≡ has_all count specs.now }
 {

@@ -1,7 +1,7 @@
-// A list of operations: done in place one after another, and undone where one of them cannot be done.
+//! A list of operations: done in place one after another, and undone where one of them cannot be done.
 ghost use Rattle.std.specs.Prelude.{◌≡◌, ◌↔◌, Some, None, Ok, Err, IfOk, OnOk, OnErr, IsErrOf, is_some};
 ghost use Rattle.std.specs.List.{list_all};
-ghost use Rattle.counters.specs.Counters.{integer_at, count_one, count_all, updated_elements};
+ghost use Rattle.counters.specs.Counters.{integer_at, count_one, count_all, counted_elements};
 ghost use Rattle.counters.specs.declared.ops.Ops.TheVariants.{Many};
 ghost use Rattle.ets_term.specs.declared.term.Term.TheVariants.{Tuple};
 ghost use Rattle.counters.specs.inside.Lists.{restored, CountsNext};
@@ -26,9 +26,9 @@ pub fn count_many(
     elements: &mut Items<Term>,
     ops: &[Op],
 ) -> Result<Term, CounterFault>
-    ensures done { IfOk result (λ answer. updated_elements (Many ops.now) elements.old ≡ Ok (Tuple elements.new, answer)) }
-    ensures badarg { IsErrOf result CounterFault.Badarg ↔ (updated_elements (Many ops.now) elements.old ≡ Err CounterFault.Badarg) }
-    ensures limit { IsErrOf result CounterFault.SystemLimit → updated_elements (Many ops.now) elements.old ≡ Err CounterFault.SystemLimit }
+    ensures done { IfOk result (λ answer. counted_elements (Many ops.now) elements.old ≡ Ok (Tuple elements.new, answer)) }
+    ensures badarg { IsErrOf result CounterFault.Badarg ↔ (counted_elements (Many ops.now) elements.old ≡ Err CounterFault.Badarg) }
+    ensures limit { IsErrOf result CounterFault.SystemLimit → counted_elements (Many ops.now) elements.old ≡ Err CounterFault.SystemLimit }
     ensures kept { OnErr result (elements.new ≡ elements.old) }
 {
     if !are_counters(elements.as_slice(), ops) {
@@ -92,8 +92,8 @@ fn count_next(
     Ok(())
 }
 
-#[tactic(auto, using(crate::proofs::RestoreLaws::restored_push, crate::proofs::RestoreLaws::one_back))]
 /// Writes the saved integers back, the last first.
+#[tactic(auto, using(crate::proofs::RestoreLaws::restored_push, crate::proofs::RestoreLaws::one_back))]
 fn restore(elements: &mut Items<Term>, mut saved: Items<Saved>)
     ensures { elements.new ≡ restored saved elements.old }
 {

@@ -1,4 +1,4 @@
-// Operations on counters, as a caller asks for them.
+//! Operations on counters, as a caller asks for them.
 ghost use Rattle.std.specs.Prelude.{◌≡◌, false, Some, None, IfOk, IsErrOf};
 ghost use Rattle.counters.specs.Ops.{bound_of, op_from, op_of_parts, op_of, all_ops, ops_of, is_list};
 

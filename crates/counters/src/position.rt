@@ -1,4 +1,4 @@
-// Integers and positions in what a caller asks.
+//! Integers and positions in what a caller asks.
 ghost use Rattle.std.specs.Prelude.{◌≡◌, IfSome};
 ghost use Rattle.ets_term.specs.declared.term.Term.TheVariants.{Int};
 ghost use Rattle.counters.specs.Positions.{integer_of, position_at, position_of};

@@ -1,4 +1,4 @@
-// The one addition that may leave the integers.
+//! The one addition that may leave the integers.
 ghost use Rattle.std.specs.Prelude.{◌≡◌};
 ghost use Rattle.counters.specs.Sums.{is_past, new_value, in_range};
 

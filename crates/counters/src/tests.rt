@@ -1,4 +1,4 @@
-// Values from outside: each test is a table whose rows are updates of one object.
+//! Values from outside: each test is a table whose rows are updates of one object.
 use crate::{
     CounterFault, apply_elements, apply_ops, is_default, keyed, read_element_specs, read_ops,
     start_counter, start_elements, update_counter, update_elements,

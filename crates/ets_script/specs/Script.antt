@@ -79,7 +79,7 @@ pub record IsAnswered (old : Scripted) (bytes : List ℕ) (out : List ℕ) (new 
   pub answers : AnswersLine old line answer new
   pub prints : out ≡ printed answer
 
--- So many lines are all of the input, and what they print is all of the output, from one state to another. The last may
+-- This number of lines is all of the input, and what they print is all of the output, from one state to another. The last may
 -- lack its LF where `last` holds.
 abbrev pub ScriptText : ℕ → Type 0 → Scripted → List ℕ → List ℕ → Scripted → Type 0
 ScriptText zero last old input output new = (input ≡ []) × (output ≡ []) × (new ≡ old)

@@ -13,7 +13,7 @@ Completes start before after old new end = (input : List ℕ) × (output : List 
     × Consumes before after input × IsAtEnd after × Appends old new output × IsScript start input output end
 
 -- From what the reader had to what it has left. At a read fault these were whole lines, each with its LF, all of whose
--- answers were written, and a part of a line, which was not answered. At a write fault a front of the answers was
+-- answers were written, and a part of a line, which was not answered. At a write fault a prefix of the answers was
 -- written: answers to whole lines, and to a last one without an LF if all of the input was read; some of what was read
 -- may not have been looked at. Without memory to begin with, nothing was read or written.
 abbrev pub Stops : Scripted → Option (List ℕ) → Option (List ℕ) → Option (List ℕ) → Option (List ℕ) → ScriptFault → Type 0

@@ -9,7 +9,7 @@ pub enum ScriptFault {
     /// The reader failed, or gave no end of input in a billion reads. The answers to all whole lines before have gone out.
     #[error("read fault")]
     Read,
-    /// The writer failed, or took no byte. What went out is a front of the answers.
+    /// The writer failed, or took no byte. What went out is a prefix of the answers.
     #[error("write fault")]
     Write,
     /// There was no memory to begin with; nothing was read.

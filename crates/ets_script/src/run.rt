@@ -56,7 +56,7 @@ pub fn run_within<R: Read, W: Write, H: KeyHash + Copy>(
     Ok(script.into_node())
 }
 
-// Answers all lines, and sends all answers.
+/// Answers all lines, and sends all answers.
 fn answer_all<R: Read, W: Write, H: KeyHash + Copy>(
     alloc: Global,
     reader: &mut R,
@@ -91,7 +91,7 @@ struct AnsweredLine {
     taken: usize,
 }
 
-// Prints a line's answer, and says how many of the bytes held the line takes.
+/// Prints a line's answer, and says how many of the bytes held the line takes.
 fn print_line<W: Write>(
     line: AnsweredLine,
     pending: &mut Pending,
@@ -105,7 +105,7 @@ fn print_line<W: Write>(
     Ok(line.taken)
 }
 
-// Answers the next line, if its end is held.
+/// Answers the next line, if its end is held.
 fn answer_next<H: KeyHash + Copy>(
     alloc: Global,
     feed: &Feed,
@@ -126,7 +126,7 @@ fn answer_next<H: KeyHash + Copy>(
     }
 }
 
-// Answers the last line, which has no LF, and sends all answers.
+/// Answers the last line, which has no LF, and sends all answers.
 fn answer_last<W: Write, H: KeyHash + Copy>(
     alloc: Global,
     feed: &Feed,
@@ -142,7 +142,7 @@ fn answer_last<W: Write, H: KeyHash + Copy>(
     pending.flush(writer)
 }
 
-// Answers a part of a line as a line. An empty one is silent.
+/// Answers a part of a line as a line. An empty one is silent.
 fn answer_part<H: KeyHash + Copy>(alloc: Global, feed: &Feed, script: &mut Script<H>) -> Answer
     ensures { AnswersPart feed.now.is_skipping script.old feed.now.bytes result script.new }
 {

@@ -26,7 +26,7 @@ pub struct Script<H: KeyHash + Copy> {
 }
 
 impl<H: KeyHash + Copy> Model for Script<H> {
-    ghost use Rattle.std.specs.Prelude.{◌≤◌, map, vec_items};
+    ghost use Rattle.std.specs.Prelude.{◌≤◌, ◌^◌, map, vec_items};
     ghost use Rattle.indexmap.specs.IndexSet.{index_set_len};
     ghost use Rattle.ets_script.specs.Script.{Scripted};
     ghost use Rattle.ets_script.specs.inside.Codes.{scripted_code};
@@ -37,7 +37,7 @@ impl<H: KeyHash + Copy> Model for Script<H> {
 
     ghost view = { λ s. record { names = map vec_items s.names.keys; node = s.node } };
 
-    ghost invariant = { λ s. index_set_len s.names ≤ 4294967296 };
+    ghost invariant = { λ s. index_set_len s.names ≤ 2 ^ 32 };
 }
 
 impl<H: KeyHash + Copy> Script<H> {
@@ -70,7 +70,7 @@ impl<H: KeyHash + Copy> Script<H> {
         }
     }
 
-    // Does what a command says.
+    /// Does what a command says.
     fn obey(&mut self, alloc: Global, command: Command<'_>) -> Answer
         ensures { Obeys (command_seen command.entry) self.old result self.new ⊎ Unchanged self.old NoMemory result self.new }
     {
@@ -96,7 +96,7 @@ impl<H: KeyHash + Copy> Script<H> {
         }
     }
 
-    // The process that a name stands for.
+    /// The process that a name stands for.
     fn pid(&self, name: &[u8]) -> Option<u32>
         ensures { result ≡ pid_of self.now name.now }
     {
@@ -106,7 +106,7 @@ impl<H: KeyHash + Copy> Script<H> {
         }
     }
 
-    // The table that a term names; else the next identifier.
+    /// The table that a term names; else the next identifier.
     fn table(&self, term: &Term) -> u32
         ensures { result ≡ table_of self.now term.now }
     {
@@ -116,7 +116,7 @@ impl<H: KeyHash + Copy> Script<H> {
         }
     }
 
-    // A step of the node.
+    /// A step of the node.
     fn step(&mut self, step: &Step) -> Answer
         ensures { Steps self.old step.now result self.new ⊎ Unchanged self.old NoMemory result self.new }
     {
@@ -126,7 +126,7 @@ impl<H: KeyHash + Copy> Script<H> {
         }
     }
 
-    // Enrols the next number for a name. Room for the name is made first.
+    /// Enrols the next number for a name. Room for the name is made first.
     fn spawn(&mut self, alloc: Global, name: &[u8]) -> Answer
         ensures { Spawns (pid_of self.old name.now) self.old name.now result self.new ⊎ Unchanged self.old NoMemory result self.new }
     {
@@ -147,7 +147,7 @@ impl<H: KeyHash + Copy> Script<H> {
     }
 }
 
-// Enrols a number for a new name, for which there is room.
+/// Enrols a number for a new name, for which there is room.
 fn enrol<H: KeyHash + Copy>(
     names: &mut IndexSet<Vec<u8>>,
     node: &mut Node<H>,

@@ -1,4 +1,4 @@
-// Scripts and their answers, as docs/script.md has them.
+//! Scripts and their answers, as docs/script.md has them.
 mod devices;
 mod faults;
 mod limits;

@@ -7,8 +7,8 @@ use Rattle.ets_term.specs.declared.term.Term.{Term, ind-Term, fold-roll-Term}
 use Rattle.ets_term.specs.declared.term.Term.TheViews.{roll-Term}
 use Rattle.ets_term.specs.declared.term.Term.TheFolds.{map-Term}
 use Rattle.ets_term.specs.declared.term.Term.TheOpen.{Term-F}
-use Rattle.ets_term.specs.Encoding.{joined, encoding, encoding_step}
-use Rattle.ets_term.specs.Writes.{writes, writes_step}
+use Rattle.ets_term.specs.Encoding.{joined, encoding, encoding_form}
+use Rattle.ets_term.specs.Writes.{writes, writes_form}
 
 abbrev Known : Type 0
 Known = (t : Term) × (joined (writes t) ≡ encoding t)
@@ -31,10 +31,10 @@ abbrev opened : Term-F Known → Term
 opened y = roll-Term (map-Term Known Term plain y)
 
 abbrev written : Term-F Known → List (List ℕ)
-written y = writes_step (map-Term Term (List (List ℕ)) writes (map-Term Known Term plain y))
+written y = writes_form (map-Term Term (List (List ℕ)) writes (map-Term Known Term plain y))
 
 abbrev encoded : Term-F Known → List ℕ
-encoded y = encoding_step (map-Term Term (List ℕ) encoding (map-Term Known Term plain y))
+encoded y = encoding_form (map-Term Term (List ℕ) encoding (map-Term Known Term plain y))
 
 one_level : (y : Term-F Known) → joined (written y) ≡ encoded y
 one_level (Term-F.Int n) = ap (λ bs. 1 ∷ bs) (append-nil _)
@@ -46,7 +46,7 @@ one_level (Term-F.List ks) = λ i. 6 ∷ (to_be_bytes w64 (lengths ks i) ++ all_
 one_level (Term-F.Binary s) = ap (λ bs. 7 ∷ (to_be_bytes w64 (length s) ++ bs)) (append-nil s)
 
 one_joined : (y : Term-F Known) → joined (writes (opened y)) ≡ encoding (opened y)
-one_joined y = ap joined (fold-roll-Term (List (List ℕ)) writes_step (map-Term Known Term plain y)) ∙ one_level y ∙ sym (fold-roll-Term (List ℕ) encoding_step (map-Term Known Term plain y))
+one_joined y = ap joined (fold-roll-Term (List (List ℕ)) writes_form (map-Term Known Term plain y)) ∙ one_level y ∙ sym (fold-roll-Term (List ℕ) encoding_form (map-Term Known Term plain y))
 
 pub joined-writes : (t : Term) → joined (writes t) ≡ encoding t
 joined-writes = ind-Term (λ t. joined (writes t) ≡ encoding t) (λ x y e. subst (λ (z : Term-F Term). joined (writes (roll-Term z)) ≡ encoding (roll-Term z)) e (one_joined y))

@@ -22,14 +22,14 @@ row_of [] = no_terms
 row_of (d ∷ ds) = term d (row_of ds)
 
 -- one level, with each term inside already seen as its tree
-abbrev pub data_step : Term-F Data → Data
-data_step (Term-F.Int n) = int n
-data_step (Term-F.Atom a) = atom a
-data_step (Term-F.Pid n) = pid n
-data_step (Term-F.Tid n) = tid n
-data_step (Term-F.Tuple ds) = tuple (row_of ds)
-data_step (Term-F.List ds) = list (row_of ds)
-data_step (Term-F.Binary s) = binary s
+abbrev pub data_form : Term-F Data → Data
+data_form (Term-F.Int n) = int n
+data_form (Term-F.Atom a) = atom a
+data_form (Term-F.Pid n) = pid n
+data_form (Term-F.Tid n) = tid n
+data_form (Term-F.Tuple ds) = tuple (row_of ds)
+data_form (Term-F.List ds) = list (row_of ds)
+data_form (Term-F.Binary s) = binary s
 
 abbrev pub data_of : Term → Data
-data_of = fold-Term Data data_step
+data_of = fold-Term Data data_form

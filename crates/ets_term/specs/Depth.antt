@@ -10,25 +10,25 @@ largest [] = 0
 largest (n ∷ ns) = max n (largest ns)
 
 -- 1 for what holds no terms, `{}` and `[]` too, else one more than the depth of the deepest element
-abbrev pub depth_step : Term-F ℕ → ℕ
-depth_step (Term-F.Tuple ds) = largest ds + 1
-depth_step (Term-F.List ds) = largest ds + 1
-depth_step _ = 1
+abbrev pub depth_form : Term-F ℕ → ℕ
+depth_form (Term-F.Tuple ds) = largest ds + 1
+depth_form (Term-F.List ds) = largest ds + 1
+depth_form _ = 1
 
 abbrev pub depth : Term → ℕ
-depth = fold-Term ℕ depth_step
+depth = fold-Term ℕ depth_form
 
 -- whether a term is deeper than an argument or a stored object may be
 abbrev pub is_too_deep : Term → Bool
 is_too_deep term = nat_lt MAX_DEPTH (depth term)
 
 -- the elements of a tuple; any other term has none
-abbrev pub elements_step : Term-F Term → List Term
-elements_step (Term-F.Tuple ts) = ts
-elements_step _ = []
+abbrev pub elements_form : Term-F Term → List Term
+elements_form (Term-F.Tuple ts) = ts
+elements_form _ = []
 
 abbrev pub elements : Term → List Term
-elements t = elements_step (out-Term t)
+elements t = elements_form (out-Term t)
 
 -- element n of a tuple, counted from 1
 abbrev pub element_at : ℕ → Term → Option Term

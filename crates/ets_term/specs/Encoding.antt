@@ -10,17 +10,17 @@ joined [] = []
 joined (x ∷ xs) = x ++ joined xs
 
 -- a byte for the kind; then a number with its high byte first, or the count and then the parts
-abbrev pub encoding_step : Term-F (List ℕ) → List ℕ
-encoding_step (Term-F.Int n) = 1 ∷ integer_bytes n
-encoding_step (Term-F.Atom s) = 2 ∷ length s ∷ s
-encoding_step (Term-F.Pid n) = 3 ∷ to_be_bytes w32 n
-encoding_step (Term-F.Tid n) = 4 ∷ to_be_bytes w32 n
-encoding_step (Term-F.Tuple es) = 5 ∷ (to_be_bytes w64 (length es) ++ joined es)
-encoding_step (Term-F.List es) = 6 ∷ (to_be_bytes w64 (length es) ++ joined es)
-encoding_step (Term-F.Binary s) = 7 ∷ (to_be_bytes w64 (length s) ++ s)
+abbrev pub encoding_form : Term-F (List ℕ) → List ℕ
+encoding_form (Term-F.Int n) = 1 ∷ integer_bytes n
+encoding_form (Term-F.Atom s) = 2 ∷ length s ∷ s
+encoding_form (Term-F.Pid n) = 3 ∷ to_be_bytes w32 n
+encoding_form (Term-F.Tid n) = 4 ∷ to_be_bytes w32 n
+encoding_form (Term-F.Tuple es) = 5 ∷ (to_be_bytes w64 (length es) ++ joined es)
+encoding_form (Term-F.List es) = 6 ∷ (to_be_bytes w64 (length es) ++ joined es)
+encoding_form (Term-F.Binary s) = 7 ∷ (to_be_bytes w64 (length s) ++ s)
 
 abbrev pub encoding : Term → List ℕ
-encoding = fold-Term (List ℕ) encoding_step
+encoding = fold-Term (List ℕ) encoding_form
 
 -- FNV-1a of 32 bits: exclusive or with the byte, then times the prime
 abbrev pub fnv_step : ℕ → ℕ → ℕ

@@ -6,14 +6,14 @@ use Rattle.ets_term.specs.declared.term.Term.TheOpen.{Term-F}
 use Rattle.ets_term.specs.Encoding.{joined}
 use Rattle.ets_term.specs.Integers.{integer_bytes}
 
-abbrev pub writes_step : Term-F (List (List ℕ)) → List (List ℕ)
-writes_step (Term-F.Int n) = (1 ∷ []) ∷ integer_bytes n ∷ []
-writes_step (Term-F.Atom s) = (2 ∷ length s ∷ []) ∷ s ∷ []
-writes_step (Term-F.Pid n) = (3 ∷ []) ∷ to_be_bytes w32 n ∷ []
-writes_step (Term-F.Tid n) = (4 ∷ []) ∷ to_be_bytes w32 n ∷ []
-writes_step (Term-F.Tuple es) = (5 ∷ []) ∷ to_be_bytes w64 (length es) ∷ joined es
-writes_step (Term-F.List es) = (6 ∷ []) ∷ to_be_bytes w64 (length es) ∷ joined es
-writes_step (Term-F.Binary s) = (7 ∷ []) ∷ to_be_bytes w64 (length s) ∷ s ∷ []
+abbrev pub writes_form : Term-F (List (List ℕ)) → List (List ℕ)
+writes_form (Term-F.Int n) = (1 ∷ []) ∷ integer_bytes n ∷ []
+writes_form (Term-F.Atom s) = (2 ∷ length s ∷ []) ∷ s ∷ []
+writes_form (Term-F.Pid n) = (3 ∷ []) ∷ to_be_bytes w32 n ∷ []
+writes_form (Term-F.Tid n) = (4 ∷ []) ∷ to_be_bytes w32 n ∷ []
+writes_form (Term-F.Tuple es) = (5 ∷ []) ∷ to_be_bytes w64 (length es) ∷ joined es
+writes_form (Term-F.List es) = (6 ∷ []) ∷ to_be_bytes w64 (length es) ∷ joined es
+writes_form (Term-F.Binary s) = (7 ∷ []) ∷ to_be_bytes w64 (length s) ∷ s ∷ []
 
 abbrev pub writes : Term → List (List ℕ)
-writes = fold-Term (List (List ℕ)) writes_step
+writes = fold-Term (List (List ℕ)) writes_form

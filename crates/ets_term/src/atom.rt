@@ -2,11 +2,14 @@ ghost use Rattle.std.specs.Prelude.{◌≡◌, ◌<◌, ◌≤◌, ◌↔◌, le
 ghost use Rattle.std.specs.List.{list_all};
 ghost use Rattle.ets_term.specs.Character.{is_character, IsAtomText};
 
-use crate::stored::Stored;
+use crate::stored::{MAX_IN_PLACE, Stored};
 use std::alloc::{AllocError, Global};
 use std::marker::Model;
 
-/// An atom: at most 255 characters, each printable ASCII, from the space to the tilde.
+/// The most characters that an atom has.
+pub const MAX_CHARACTERS: usize = 255;
+
+/// An atom: at most `MAX_CHARACTERS` characters, each printable ASCII, from the space to the tilde.
 #[derive(Drop)]
 pub struct Atom {
     stored: Stored,
@@ -27,7 +30,7 @@ impl Model for Atom {
 /// Why a text is no atom.
 #[derive(Debug, Drop)]
 pub enum AtomFault {
-    /// It has more than 255 characters.
+    /// It has more than `MAX_CHARACTERS` characters.
     TooLong,
     /// One of its characters is not printable ASCII.
     BadCharacter,
@@ -52,11 +55,11 @@ impl Atom {
     pub fn new(alloc: Global, text: &str) -> Result<Atom, AtomFault>
         ensures made { IfOk result (λ a. a ≡ text.now) }
         ensures fits { IfOk result (λ _. IsAtomText text.now) }
-        ensures long { IsErrOf result AtomFault.TooLong ↔ 255 < length text.now }
-        ensures bad { IsErrOf result AtomFault.BadCharacter ↔ (length text.now ≤ 255) × ¬ IsAtomText text.now }
-        ensures short { length text.now ≤ 22 → ¬ IsErrOf result AtomFault.Memory }
+        ensures long { IsErrOf result AtomFault.TooLong ↔ MAX_CHARACTERS < length text.now }
+        ensures bad { IsErrOf result AtomFault.BadCharacter ↔ (length text.now ≤ MAX_CHARACTERS) × ¬ IsAtomText text.now }
+        ensures short { length text.now ≤ MAX_IN_PLACE → ¬ IsErrOf result AtomFault.Memory }
     {
-        if text.len() > 255 {
+        if text.len() > MAX_CHARACTERS {
             return Err(AtomFault::TooLong);
         }
         if !is_printable(text.as_bytes()) {
@@ -71,7 +74,7 @@ impl Atom {
     pub fn of_bytes(alloc: Global, bytes: &[u8]) -> Result<Atom, AllocError>
         requires { IsAtomText bytes.now }
         ensures same { IfOk result (λ a. a ≡ bytes.now) }
-        ensures short { length bytes.now ≤ 22 → IsOk result }
+        ensures short { length bytes.now ≤ MAX_IN_PLACE → IsOk result }
     {
         let text = unsafe { str::from_utf8_unchecked(bytes) };
         Ok(Atom {
@@ -90,7 +93,7 @@ impl Atom {
     /// The same atom again. One of up to 22 characters takes no memory.
     pub fn try_clone(&self, alloc: Global) -> Result<Atom, AllocError>
         ensures same { IfOk result (λ a. a ≡ self.now) }
-        ensures short { length self.now ≤ 22 → IsOk result }
+        ensures short { length self.now ≤ MAX_IN_PLACE → IsOk result }
     {
         Ok(Atom {
             stored: Stored::of_text(alloc, self.text())?,

@@ -1,4 +1,4 @@
-// The comparisons of terms.
+//! The comparisons of terms.
 ghost use Rattle.std.proofs.Common.{rules};
 ghost use Rattle.std.specs.Prelude.{◌≡◌, ◌↔◌, map};
 ghost use Rattle.std.specs.Ordering.{as_partial_cmp};

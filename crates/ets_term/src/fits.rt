@@ -1,4 +1,4 @@
-// The ranges of what terms hold.
+//! The ranges of what terms hold.
 ghost use Rattle.std.specs.Prelude.{◌<◌, map};
 ghost use Rattle.std.specs.List.{AllByRecursion};
 ghost use Rattle.ets_term.specs.Data.{row_of, data_of};
@@ -8,7 +8,7 @@ use crate::term::Term;
 
 impl Term {
     /// Answers nothing, and promises that the term fits: its integers, pids, identifiers and bytes are in their ranges,
-    /// and each of its atoms has at most 255 characters, all printable ASCII.
+    /// and each of its atoms has at most `MAX_CHARACTERS` characters, all printable ASCII.
     pub fn fits(&self)
         ensures { Fits self.now }
     {

@@ -1,4 +1,4 @@
-// FNV-1a of terms.
+//! FNV-1a of terms.
 ghost use Rattle.std.specs.Prelude.{◌≡◌, ◌∷◌, fold, map};
 ghost use Rattle.std.specs.Int.{to_be_bytes, w64};
 ghost use Rattle.ets_term.specs.Encoding.{encoding, joined, fnv_step};

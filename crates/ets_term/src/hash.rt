@@ -1,4 +1,4 @@
-// The bytes of terms, as any hasher takes them.
+//! The bytes of terms, as any hasher takes them.
 ghost use Rattle.std.specs.Prelude.{◌≡◌, [], ◌∷◌, fold, map};
 ghost use Rattle.std.specs.Int.{to_be_bytes, w64};
 ghost use Rattle.ets_term.specs.Encoding.{encoding, joined};

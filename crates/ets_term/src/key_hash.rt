@@ -1,4 +1,4 @@
-// Hashes of terms, as tables take them.
+//! Hashes of terms, as tables take them.
 ghost use Rattle.std.specs.Prelude.{◌≡◌, ℕ, ◌<◌, ◌^◌};
 ghost use Rattle.ets_term.specs.declared.term.Term as declared;
 

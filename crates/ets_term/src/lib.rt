@@ -17,7 +17,7 @@ mod term;
 #[cfg(test)]
 mod tests;
 
-pub use atom::{Atom, AtomFault};
+pub use atom::{Atom, AtomFault, MAX_CHARACTERS};
 pub use fnv::Fnv;
 pub use items::Items;
 pub use key_hash::{AllSame, KeyHash};

@@ -1,4 +1,4 @@
-// Values from outside: the order across kinds, the bounds of atoms, and each public call on its happy path.
+//! Values from outside: the order across kinds, the bounds of atoms, and each public call on its happy path.
 use crate::{AllSame, Atom, AtomFault, Fnv, Items, KeyHash, MAX_DEPTH, Term};
 use std::alloc::Global;
 use std::hash::{DefaultHasher, Hash, Hasher};
@@ -10,7 +10,7 @@ fn atom(alloc: Global, text: &str) -> Result<Term, Fail> {
     Ok(Term::Atom(Atom::new(alloc, text)?))
 }
 
-// An atom for each letter.
+/// An atom for each letter.
 fn atoms(alloc: Global, letters: &str) -> Result<Items<Term>, Fail> {
     let mut items = Items::new(alloc);
     for letter in letters.chars() {
@@ -58,7 +58,7 @@ fn atoms_have_up_to_255_printable_characters(rt: HostRuntime) -> Result<(), Fail
     Ok(())
 }
 
-// Terms in rising order, each kind in its place.
+/// Terms in rising order, each kind in its place.
 fn rising_parts(alloc: Global, terms: &mut Vec<Term>) -> Result<(), Fail> {
     for letters in ["", "z", "aa"] {
         terms.push(tuple(alloc, letters)?)?;
@@ -104,7 +104,7 @@ fn terms_rise(rt: HostRuntime) -> Result<(), Fail> {
     Ok(())
 }
 
-// Depth, and a copy that equals the term.
+/// Depth, and a copy that equals the term.
 fn is_of_depth(rt: &impl Abort, alloc: Global, term: &Term, depth: usize) -> Result<(), Fail> {
     assert_eq!(rt; term.depth(), depth);
     assert!(rt; term.try_clone(alloc)? == *term);
@@ -128,7 +128,7 @@ fn depths_and_copies(rt: HostRuntime) -> Result<(), Fail> {
     is_of_depth(&rt, alloc, &Term::List(parts), 3)
 }
 
-// A list within a list, so many levels deep.
+/// A list within a list, so many levels deep.
 fn nested(alloc: Global, levels: usize) -> Result<Term, Fail> {
     let mut term = Term::List(Items::new(alloc));
     for _ in 1..levels {

@@ -10,7 +10,7 @@ pub record Listed : Type 0 where
   pub cells : List Cell
   pub capacity : ℕ
 
--- so many nodes more fit
+-- this many more nodes fit
 abbrev pub HasRoom : Listed → ℕ → Type 0
 HasRoom l more = length l.cells + more ≤ l.capacity
 

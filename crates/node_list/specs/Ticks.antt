@@ -5,6 +5,6 @@ use Rattle.std.specs.Prelude.{ℕ, ◌+◌, ◌-◌, ◌^◌, min}
 abbrev pub tick : ℕ → ℕ
 tick n = min (n + 1) (2 ^ 64 - 1)
 
--- so many more: the lesser of the sum and the greatest number
+-- `more` of them: the lesser of the sum and the greatest number
 abbrev pub ticks : ℕ → ℕ → ℕ
 ticks more n = min (n + more) (2 ^ 64 - 1)

@@ -49,12 +49,14 @@ impl Chain {
         Chain { terms }
     }
 
+    /// The terms, in their order.
     pub fn as_slice(&self) -> &[Term]
         ensures { result.now ≡ self.now }
     {
         self.terms.as_slice()
     }
 
+    /// How many terms there are.
     pub fn len(&self) -> usize
         ensures { result ≡ length self.now }
     {
@@ -104,6 +106,7 @@ impl Chain {
         self.terms.retain(|t| *t != *term);
         had - self.len()
     }
+
     /// Moves the terms to the end of a list that has room for them.
     pub fn move_into(self, list: &mut Vec<Term>)
         requires { vec_len list.old + length self ≤ vec_capacity list.old }

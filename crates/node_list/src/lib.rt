@@ -2,7 +2,7 @@
 //!
 //! *Guarantee.* The nodes stand by rising key, and after nodes with an equal key where they were put later.
 //! A node keeps its place number for as long as it stands in the list, whatever is put in or taken out beside
-//! it. Once room is reserved, so many insertions take no memory and succeed. A search looks at no node but those
+//! it. Insertions for which room was reserved take no memory and succeed. A search looks at no node but those
 //! from its start up to the first that ends it, and counts each.
 //!
 //! *Weakness.* A search and an insertion take a step for each node that they pass, so a caller starts them near

@@ -99,7 +99,7 @@ impl NodeList {
         self.nodes.len()
     }
 
-    /// Makes room for so many insertions, which then take no memory.
+    /// Makes room for `additional` insertions, which then take no memory.
     pub fn reserve(&mut self, additional: usize) -> Result<(), AllocError>
         ensures room { OnOk result (HasRoom self.new additional) }
         ensures cells { self.new.cells ≡ self.old.cells }

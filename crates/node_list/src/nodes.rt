@@ -15,7 +15,7 @@ use std::alloc::{AllocError, Global};
 use std::marker::Model;
 use std::mem;
 
-/// Room for so many nodes is made at first.
+/// How many nodes room is made for at first.
 const FIRST_ROOM: usize = 8;
 
 /// For how many nodes more room is made: as many as there are, so that growth costs each node a constant.
@@ -53,7 +53,7 @@ pub struct Seen<'a> {
 #[derive(Drop)]
 pub struct Nodes {
     nodes: Slab<Front>,
-    // With room for as many as the slab can hold. A place with no node has a dummy, or lies past their end.
+    /// With room for as many as the slab can hold. A place with no node has a dummy, or lies past their end.
     items: Vec<Slot>,
 }
 
@@ -88,7 +88,7 @@ impl Nodes {
         }
     }
 
-    /// Makes room for so many nodes more.
+    /// Makes room for `additional` more nodes.
     pub fn reserve(&mut self, additional: usize) -> Result<(), AllocError>
         ensures room { OnOk result (HasRoomFor self.new additional) }
         ensures succeeds { HasRoomFor self.old additional → IsOk result }

@@ -21,18 +21,21 @@ impl Model for Steps {
 }
 
 impl Steps {
+    /// None yet.
     pub fn new() -> Steps
         ensures { result ≡ 0 }
     {
         Steps { count: 0 }
     }
 
+    /// How many were counted, up to the greatest `u64`.
     pub fn count(&self) -> u64
         ensures { result ≡ self.now }
     {
         self.count
     }
 
+    /// Counts one more, if there is a greater `u64`.
     pub fn tick(&mut self)
         ensures { self.new ≡ tick self.old }
     {

@@ -8,7 +8,7 @@ use Rattle.ets_term.specs.declared.term.Term.TheFolds.{map-Term}
 use Rattle.ets_term.specs.declared.term.Term.TheOpen.{Term-F}
 use Rattle.ets_term.specs.declared.term.Term.TheVariants.{Tuple, Int}
 use Rattle.ets_term.specs.declared.term.TheConstants.{MAX_DEPTH}
-use Rattle.ets_term.specs.Depth.{depth, depth_step, largest, is_too_deep, elements}
+use Rattle.ets_term.specs.Depth.{depth, depth_form, largest, is_too_deep, elements}
 
 pub depth-Tuple : (ts : List Term) → depth (Tuple ts) ≡ largest (map depth ts) + 1
 depth-Tuple ts = search (rules, the_lemmas)
@@ -32,7 +32,7 @@ one-deep : (y : Term-F ((t : Term) × Deep t)) → Deep (opened y)
 one-deep (Term-F.Tuple ks) es h =
     let out : Term-F.Tuple (map plain ks) ≡ Term-F.Tuple es = search (rules, the_lemmas, h) in
     let same : map plain ks ≡ es = cc in
-    fold-roll-Term ℕ depth_step (Term-F.Tuple (map plain ks)) ∙ ap (λ l. largest (map depth l) + 1) same
+    fold-roll-Term ℕ depth_form (Term-F.Tuple (map plain ks)) ∙ ap (λ l. largest (map depth l) + 1) same
 one-deep (Term-F.Int n) es h = search (rules, the_lemmas, h)
 one-deep (Term-F.Atom n) es h = search (rules, the_lemmas, h)
 one-deep (Term-F.Pid n) es h = search (rules, the_lemmas, h)

@@ -11,7 +11,7 @@ use Rattle.ets_term.specs.declared.term.Term.TheOpen.{Term-F}
 use Rattle.ets_term.specs.declared.term.Term.TheVariants.{Tuple, Int}
 use Rattle.ets_term.specs.declared.term.TheConstants.{MAX_DEPTH}
 use Rattle.ets_term.specs.Atoms.{is_atom}
-use Rattle.ets_term.specs.Depth.{depth, is_too_deep, elements, elements_step, element_at}
+use Rattle.ets_term.specs.Depth.{depth, is_too_deep, elements, elements_form, element_at}
 use Rattle.counters.specs.Counters.{count_one, count_all, count, are_counters, or_limit, updated_form, updated_counters}
 use Rattle.counters.specs.Defaults.{keyed, keyed_form, counted_from, shallow_counted}
 use Rattle.counters.specs.Elements as elements
@@ -115,7 +115,7 @@ module _ (keypos : ℕ) where
   -- what holds of the elements holds of the tuple
   tuple-keeps : (was object : Term) (es fs : List Term) → out-Term was ≡ Term-F.Tuple es → object ≡ Tuple fs → KeepsAll keypos es fs → Keeps keypos was object
   tuple-keeps was object es fs h is k =
-      let own : elements was ≡ es = ap elements_step h in
+      let own : elements was ≡ es = ap elements_form h in
       let new : elements object ≡ fs = ap elements is ∙ elements-Tuple fs in
       let at : element_at keypos object ≡ element_at keypos was = ap (at_pos keypos) new ∙ k.own ∙ sym (ap (at_pos keypos) own) in
       record {

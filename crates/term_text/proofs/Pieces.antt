@@ -80,6 +80,22 @@ pub rows_at : {X : Type 0} (a b : Option (List ℕ)) (f : X → List ℕ) (later
     → Rows a b f later (drop i xs) whole → Rows a b f later (x ∷ drop (i + 1) xs) whole
 rows_at a b f later xs i x whole h e rows = let P : List _ → Type 0 = λ ys. Rows a b f later ys whole in subst P (drop_more xs i x h ∙ ap (λ (y : _). y ∷ drop (i + 1) xs) e) rows
 
+-- a row between two signs: a comma fails, a text fails, or all is sent up to the sign behind it
+pub row_comma_fails : {X A E : Type 0} (a b c d : Option (List ℕ)) (f : X → List ℕ) (later : Bool) (x : X) (xs : List X) (front row back : List ℕ) (r : Result A E) → IsErr r
+    → Appends a b front → Rows b c f later (x ∷ xs) row → AppendsFront c d (comma_if later) → AppendsOrFront a d (front ++ (row ++ back)) r
+row_comma_fails a b c d f later x xs front row back r e h rows k =
+    sends_fault a d _ r e (front_then a b d front (row ++ back) h (front_first b d row back (rows_comma b c d f later x xs row rows k)))
+
+pub row_item_fails : {X A E : Type 0} (a b c m d : Option (List ℕ)) (f : X → List ℕ) (later : Bool) (x : X) (xs : List X) (front row back : List ℕ) (r : Result A E) → IsErr r
+    → Appends a b front → Rows b c f later (x ∷ xs) row → Appends c m (comma_if later) → AppendsFront m d (f x) → AppendsOrFront a d (front ++ (row ++ back)) r
+row_item_fails a b c m d f later x xs front row back r e h rows j k =
+    sends_fault a d _ r e (front_then a b d front (row ++ back) h (front_first b d row back (rows_item b c m d f later x xs row rows j k)))
+
+pub row_sent : {X A E : Type 0} (a b c d : Option (List ℕ)) (f : X → List ℕ) (later : Bool) (xs : List X) (i : ℕ) (front row back : List ℕ) (r : Result A E) → length xs ≤ i
+    → Appends a b front → Rows b c f later (drop i xs) row → AppendsOrFront c d back r → AppendsOrFront a d (front ++ (row ++ back)) r
+row_sent a b c d f later xs i front row back r past h rows k =
+    sends_then a b d front (row ++ back) r h (sends_then b c d row back r (rows_end b c f later xs i row past rows) k)
+
 pub sends_as : {A E : Type 0} (a b : Option (List ℕ)) (x y : List ℕ) (r : Result A E) → x ≡ y → AppendsOrFront a b x r → AppendsOrFront a b y r
 sends_as a b x y r e h = let P : List ℕ → Type 0 = λ w. AppendsOrFront a b w r in subst P e h
 

@@ -4,12 +4,12 @@ use Rattle.std.specs.List.{list_all}
 use Rattle.ets_term.specs.Character.{is_character}
 use Rattle.ets_term.specs.declared.term.Term.{Term}
 use Rattle.ets_term.specs.declared.term.TheConstants.{MAX_DEPTH}
-use Rattle.term_text.specs.declared.quote_form.TheConstants.{MAX_CHARACTERS}
+use Rattle.ets_term.specs.declared.atom.TheConstants.{MAX_CHARACTERS}
 use Rattle.term_text.specs.declared.fault.TextFault.{TextFault}
 use Rattle.term_text.specs.declared.fault.TextFault.TheVariants.{Unexpected, Unclosed, OutOfRange, TooDeep, AtomTooLong, Memory}
 use Rattle.term_text.specs.Forms.{Open, Number, integer, pid, identifier, byte, top}
 use Rattle.term_text.specs.Grammar.{AreBlanks, SpellsNumber, SpellsQuoted, SpellsBytes, SpellsRow, opening_sign, Front}
-use Rattle.term_text.specs.Text.{is_digit, is_small, is_name, begins, begins_term}
+use Rattle.term_text.specs.Text.{apostrophe, quotation_mark, is_digit, is_small, is_name, begins, begins_term}
 
 -- the text in a bracket up to where a term is wanted, behind these
 pub data Inside (k : ℕ) : List Term → List ℕ → Type 0 where
@@ -61,12 +61,12 @@ pub data PastAtom (pre : List ℕ) (b start : ℕ) : Type 0 where
   plain_form : (os : List Open) (k : ℕ) (lead s : List ℕ) → pre ≡ lead ++ s → Here (suc k) os lead → start ≡ length lead
       → IsTrue (begins is_small s) → IsTrue (list_all is_name s) → length s ≡ MAX_CHARACTERS → is_name b ≡ true → PastAtom pre b start
   quoted_form : (os : List Open) (k : ℕ) (lead s cs : List ℕ) → pre ≡ lead ++ (codes "'" ++ s) → Here (suc k) os lead → start ≡ length lead
-      → SpellsQuoted 39 s cs → length cs ≡ MAX_CHARACTERS → is_character b ≡ true → (b == 39) ≡ false → PastAtom pre b start
+      → SpellsQuoted apostrophe s cs → length cs ≡ MAX_CHARACTERS → is_character b ≡ true → (b == apostrophe) ≡ false → PastAtom pre b start
 
 -- too deep: b can begin a term one level past the last, or a character of a string that stands at the last
 pub data PastDepth (pre : List ℕ) (b : ℕ) : Type 0 where
   a_term : (os : List Open) → Here 0 os pre → begins_term b ≡ true → PastDepth pre b
-  a_character : (os : List Open) (lead : List ℕ) → pre ≡ lead ++ codes "\"" → Here 1 os lead → is_character b ≡ true → (b == 34) ≡ false → PastDepth pre b
+  a_character : (os : List Open) (lead : List ℕ) → pre ≡ lead ++ codes "\"" → Here 1 os lead → is_character b ≡ true → (b == quotation_mark) ≡ false → PastDepth pre b
 
 -- what a fault at the byte b says of the text before it
 abbrev pub Says : List ℕ → ℕ → TextFault → Type 0

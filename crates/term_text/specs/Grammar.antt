@@ -5,9 +5,9 @@ use Rattle.ets_term.specs.Character.{is_character}
 use Rattle.ets_term.specs.declared.term.Term.{Term}
 use Rattle.ets_term.specs.declared.term.Term.TheVariants.{Int, Atom, Pid, Tid, Binary, List as ListOf}
 use Rattle.ets_term.specs.declared.term.TheConstants.{MAX_DEPTH}
-use Rattle.term_text.specs.declared.quote_form.TheConstants.{MAX_CHARACTERS}
+use Rattle.ets_term.specs.declared.atom.TheConstants.{MAX_CHARACTERS}
 use Rattle.term_text.specs.Forms.{Number, integer, pid, identifier, byte, signed, top, code, bracket}
-use Rattle.term_text.specs.Text.{is_blank, is_digit, is_small, is_name, begins, spelled}
+use Rattle.term_text.specs.Text.{apostrophe, quotation_mark, is_blank, is_digit, is_small, is_name, begins, spelled}
 
 abbrev pub AreBlanks : List ℕ → Type 0
 AreBlanks s = IsTrue (list_all is_blank s)
@@ -39,20 +39,20 @@ abbrev pub closing_sign : Bool → ℕ
 closing_sign square = if square then 93 else 125
 
 mutual
-  -- the spellings of a term that has at most so many levels
+  -- the spellings of a term that has at most this many levels
   pub data Spells : ℕ → List ℕ → Term → Type 0 where
     positive : (k : ℕ) (s : List ℕ) (n : ℕ) → SpellsNumber (integer false) s n → Spells (suc k) s (Int (signed false n))
     negative : (k : ℕ) (s : List ℕ) (n : ℕ) → SpellsNumber (integer true) s n → Spells (suc k) (codes "-" ++ s) (Int (signed true n))
     plain_atom : (k : ℕ) (s : List ℕ) → IsTrue (begins is_small s) → IsTrue (list_all is_name s) → length s ≤ MAX_CHARACTERS → Spells (suc k) s (Atom s)
-    quoted_atom : (k : ℕ) (s cs : List ℕ) → SpellsQuoted 39 s cs → length cs ≤ MAX_CHARACTERS → Spells (suc k) (codes "'" ++ (s ++ codes "'")) (Atom cs)
+    quoted_atom : (k : ℕ) (s cs : List ℕ) → SpellsQuoted apostrophe s cs → length cs ≤ MAX_CHARACTERS → Spells (suc k) (codes "'" ++ (s ++ codes "'")) (Atom cs)
     pid_form : (k : ℕ) (s : List ℕ) (n : ℕ) → SpellsNumber pid s n → Spells (suc k) (codes "<0." ++ (s ++ codes ".0>")) (Pid n)
     identifier_form : (k : ℕ) (s : List ℕ) (n : ℕ) → SpellsNumber identifier s n → Spells (suc k) (codes "#Tid<" ++ (s ++ codes ">")) (Tid n)
     no_bytes : (k : ℕ) (blanks : List ℕ) → AreBlanks blanks → Spells (suc k) (codes "<<" ++ (blanks ++ codes ">>")) (Binary [])
     bytes : (k : ℕ) (row behind bs : List ℕ) → SpellsBytes row bs → AreBlanks behind → Spells (suc k) (codes "<<" ++ (row ++ (behind ++ codes ">>"))) (Binary bs)
-    byte_string : (k : ℕ) (before s behind bs : List ℕ) → AreBlanks before → SpellsQuoted 34 s bs → AreBlanks behind
+    byte_string : (k : ℕ) (before s behind bs : List ℕ) → AreBlanks before → SpellsQuoted quotation_mark s bs → AreBlanks behind
         → Spells (suc k) (codes "<<" ++ (before ++ (codes "\"" ++ (s ++ (codes "\"" ++ (behind ++ codes ">>")))))) (Binary bs)
     empty_string : (k : ℕ) → Spells (suc k) (codes "\"\"") (ListOf [])
-    string : (k : ℕ) (s cs : List ℕ) → SpellsQuoted 34 s cs → 0 < length cs → Spells (suc (suc k)) (codes "\"" ++ (s ++ codes "\"")) (ListOf (map code cs))
+    string : (k : ℕ) (s cs : List ℕ) → SpellsQuoted quotation_mark s cs → 0 < length cs → Spells (suc (suc k)) (codes "\"" ++ (s ++ codes "\"")) (ListOf (map code cs))
     empty_bracket : (k : ℕ) (square : Bool) (blanks : List ℕ) → AreBlanks blanks
         → Spells (suc k) (opening_sign square ∷ (blanks ++ closing_sign square ∷ [])) (bracket (record { square = square; terms = [] }))
     full_bracket : (k : ℕ) (square : Bool) (row behind : List ℕ) (ts : List Term) → SpellsRow k row ts → AreBlanks behind

@@ -5,13 +5,13 @@ use Rattle.ets_term.specs.Character.{is_character}
 use Rattle.ets_term.specs.declared.term.Term.{Term}
 use Rattle.ets_term.specs.declared.term.Term.TheVariants.{Int, Atom, Pid, Tid, List as ListOf, Binary}
 use Rattle.ets_term.specs.declared.term.TheConstants.{MAX_DEPTH}
-use Rattle.term_text.specs.declared.quote_form.TheConstants.{MAX_CHARACTERS}
+use Rattle.ets_term.specs.declared.atom.TheConstants.{MAX_CHARACTERS}
 use Rattle.term_text.specs.declared.fault.TextFault.{TextFault}
 use Rattle.term_text.specs.declared.fault.TextFault.TheVariants.{Unexpected, Unclosed, OutOfRange, TooDeep, AtomTooLong}
 use Rattle.term_text.specs.declared.quote_form.QuoteForm.{QuoteForm}
 use Rattle.term_text.specs.declared.quote_form.QuoteForm.TheVariants as form
 pub use Rattle.term_text.specs.Forms.{Open, Number, integer, pid, identifier, byte, signed, size, top, bracket, code}
-use Rattle.term_text.specs.Text.{is_blank, is_digit, is_name, closes, begins_term}
+use Rattle.term_text.specs.Text.{apostrophe, quotation_mark, is_blank, is_digit, is_name, closes, begins_term}
 
 -- What stands behind signs that must come.
 pub data Goal : Type 0 where
@@ -121,9 +121,9 @@ next_number at kind start n os b = if is_digit b
 
 -- the quote of a form
 abbrev pub quote : QuoteForm → ℕ
-quote (form.Atom start) = 39
-quote form.String = 34
-quote form.Binary = 34
+quote (form.Atom start) = apostrophe
+quote form.String = quotation_mark
+quote form.Binary = quotation_mark
 
 -- behind the closing quote, n bytes being taken; a string stands for the list of its characters' codes
 abbrev pub unquoted : ℕ → QuoteForm → List ℕ → List Open → Reading
@@ -131,7 +131,7 @@ unquoted n (form.Atom start) cs os = put os (Atom cs) n
 unquoted n form.String cs os = put os (ListOf (map code cs)) n
 unquoted n form.Binary cs os = goes (behind_string cs) os
 
--- the first byte of a further character, behind so many: an atom has MAX_CHARACTERS at most, and those of a string stand one level further in
+-- the first byte of a further character, behind n others: an atom has MAX_CHARACTERS at most, and those of a string stand one level further in
 abbrev pub admits : ℕ → QuoteForm → ℕ → List Open → Reading → Reading
 admits at (form.Atom start) n os s = if n == MAX_CHARACTERS then fails (AtomTooLong start) else s
 admits at form.String n os s = if nat_le (MAX_DEPTH - 1) (length os) then fails (TooDeep at) else s

@@ -15,6 +15,13 @@ is_small b = nat_le 97 b && nat_le b 122
 unfoldable pub is_name : ℕ → Bool
 is_name b = is_small b || (nat_le 65 b && nat_le b 90) || is_digit b || (b == 95) || (b == 64)
 
+-- the sign round an atom, and the one round a string
+abbrev pub apostrophe : ℕ
+apostrophe = 39
+
+abbrev pub quotation_mark : ℕ
+quotation_mark = 34
+
 -- the sign that closes a list, or a tuple
 unfoldable pub closes : Bool → ℕ → Bool
 closes square b = if square then b == 93 else b == 125

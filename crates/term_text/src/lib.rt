@@ -39,6 +39,5 @@ pub use laws::{
 };
 pub use number::{Magnitude, digits_at};
 pub use print::{print_term, write_term};
-pub use quote_form::MAX_CHARACTERS;
 pub use reading::{read_term, read_term_bytes};
 pub use sink::{WriteFault, write_bytes};

@@ -6,8 +6,7 @@ ghost use Rattle.term_text.specs.Text.{is_small};
 
 use crate::bytes::past_name;
 use crate::fault::TextFault;
-use crate::quote_form::MAX_CHARACTERS;
-use ets_term::{Atom, Term};
+use ets_term::{Atom, MAX_CHARACTERS, Term};
 use std::alloc::Global;
 
 /// The atom that begins with a small letter at this byte.

@@ -28,7 +28,7 @@ pub fn print_term(alloc: Global, term: &Term, out: &mut String) -> Result<(), Al
     result
 }
 
-/// Writes the term's text, and takes no memory for it. After a fault a front of the text has gone out.
+/// Writes the term's text, and takes no memory for it. After a fault a prefix of the text has gone out.
 pub fn write_term<W: Write>(term: &Term, out: &mut W) -> Result<(), WriteFault>
     ensures { AppendsOrFront (W.contents out.old) (W.contents out.new) (printed term.now) result }
 {

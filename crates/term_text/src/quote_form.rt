@@ -3,6 +3,7 @@ ghost use Rattle.term_text.specs.Reader.{quote};
 ghost use Rattle.term_text.specs.inside.Parts.{IsShort, Refuses};
 
 use crate::fault::TextFault;
+use ets_term::MAX_CHARACTERS;
 
 /// The forms that stand in quotes.
 #[derive(Clone, Copy)]
@@ -13,9 +14,6 @@ pub(crate) enum QuoteForm {
     /// A string in a binary.
     Binary,
 }
-
-/// The most characters that an atom has.
-pub const MAX_CHARACTERS: usize = 255;
 
 impl QuoteForm {
     pub(crate) fn quote(self) -> u8

@@ -29,7 +29,7 @@ pub fn read_term_bytes(alloc: Global, text: &[u8]) -> Result<(Term, usize), Text
     term_at(alloc, text, 0, MAX_DEPTH)
 }
 
-/// The term that must begin here, behind blanks, with so many levels left.
+/// The term that must begin here, behind blanks, with `room` levels left.
 #[cycle(term)]
 fn term_at(alloc: Global, text: &[u8], at: usize, room: usize) -> Result<(Term, usize), TextFault>
     requires { at ≤ length text.now }
@@ -75,7 +75,7 @@ fn form_at(alloc: Global, text: &[u8], at: usize, room: usize) -> Result<(Term, 
     }
 }
 
-/// A tuple, or a list if square, behind the sign that opens it, with so many levels left inside.
+/// A tuple, or a list if square, behind the sign that opens it, with `room` levels left inside.
 #[cycle(term)]
 fn bracket_at(
     alloc: Global,

@@ -11,7 +11,7 @@ pub(crate) trait Sink {
 
     ghost contents: { Self → Option (List ℕ) };
 
-    /// Appends a piece. After a fault a front of it has been appended.
+    /// Appends a piece. After a fault a prefix of it has been appended.
     fn put(&mut self, piece: &str) -> Result<(), Self::Fault>
         ensures { AppendsOrFront (contents self.old) (contents self.new) piece.now result };
 }
@@ -53,7 +53,7 @@ impl<W: Write> Sink for W {
     }
 }
 
-/// Writes the bytes. After a fault a front of them has gone out.
+/// Writes the bytes. After a fault a prefix of them has gone out.
 pub fn write_bytes<W: Write>(bytes: &[u8], out: &mut W) -> Result<(), WriteFault>
     ensures { AppendsOrFront (W.contents out.old) (W.contents out.new) bytes.now result }
 {

@@ -1,4 +1,4 @@
-// Values from outside: the rules of the text, row by row, and a writer that fails at its k-th write.
+//! Values from outside: the rules of the text, row by row, and a writer that fails at its k-th write.
 mod against_reference;
 mod long;
 mod reference;
@@ -9,7 +9,7 @@ use std::io::{self, Error, ErrorKind, Write};
 use std::process::Abort;
 use std::test::Fail;
 
-// What the text gives: the printed term and how many bytes it took, or the fault.
+/// What the text gives: the printed term and how many bytes it took, or the fault.
 fn given(alloc: Global, text: &str) -> Result<String, Fail> {
     match read_term(alloc, text) {
         Ok((term, n)) => {
@@ -173,7 +173,7 @@ fn levels_and_lengths(rt: HostRuntime) -> Result<(), Fail> {
     Ok(())
 }
 
-// A writer that takes at most so many bytes a write, and fails at its k-th.
+/// A writer that takes at most so many bytes a write, and fails at its k-th.
 #[derive(Drop)]
 struct Failing {
     taken: Vec<u8>,

@@ -1,8 +1,8 @@
 use super::*;
 
-const MOST: Integer = Integer::MAX;
+const MAX: Integer = Integer::MAX;
 
-const LEAST: Integer = Integer::MIN;
+const MIN: Integer = Integer::MIN;
 
 /// The object `{c,value}`.
 fn counter(alloc: Global, value: Integer) -> Result<Term, Fail> {
@@ -63,9 +63,9 @@ fn thresholds(rt: HostRuntime) -> Result<(), Fail> {
         (-5, [2, -3, -8, 1], -8),
         (-5, [2, -3, -7, 1], 1),
         (9, [2, 0, 8, 4], 4),
-        (MOST, [2, 1, MOST, 0], 0),
-        (MOST, [2, 0, MOST, 0], MOST),
-        (LEAST, [2, -1, 0, 5], 5),
+        (MAX, [2, 1, MAX, 0], 0),
+        (MAX, [2, 0, MAX, 0], MAX),
+        (MIN, [2, -1, 0, 5], 5),
     ];
     for (before, op, after) in rows {
         let update = Term::Tuple(numbers(alloc, &op)?);
@@ -77,7 +77,7 @@ fn thresholds(rt: HostRuntime) -> Result<(), Fail> {
 #[test]
 fn integer_alone(rt: HostRuntime) -> Result<(), Fail> {
     let alloc = rt.alloc();
-    for (before, increment, after) in [(5, 3, 8), (5, -7, -2), (MOST, 0, MOST)] {
+    for (before, increment, after) in [(5, 3, 8), (5, -7, -2), (MAX, 0, MAX)] {
         assert!(rt;
             gives(
                 alloc,
@@ -114,7 +114,7 @@ fn lists_answer_each_new_value(rt: HostRuntime) -> Result<(), Fail> {
 #[test]
 fn sums_past_the_integers(rt: HostRuntime) -> Result<(), Fail> {
     let alloc = rt.alloc();
-    for (before, increment) in [(MOST, 1), (LEAST, -1), (2, MOST)] {
+    for (before, increment) in [(MAX, 1), (MIN, -1), (2, MAX)] {
         let fault = refusal(alloc, before, &Term::Int(increment))?;
         assert!(rt; matches!(fault, Some(CounterFault::SystemLimit)));
     }
@@ -124,7 +124,7 @@ fn sums_past_the_integers(rt: HostRuntime) -> Result<(), Fail> {
         &[&[2, -3], &[2, 2], &[2, 2]],
     ];
     for ops in rows {
-        let fault = refusal(alloc, MOST, &listed(alloc, ops)?)?;
+        let fault = refusal(alloc, MAX, &listed(alloc, ops)?)?;
         assert!(rt; matches!(fault, Some(CounterFault::SystemLimit)));
     }
     Ok(())
@@ -135,7 +135,7 @@ fn elements_that_are_no_counters(rt: HostRuntime) -> Result<(), Fail> {
     let alloc = rt.alloc();
     let rows: [&[&[Integer]]; 3] = [&[&[2, 1], &[9, 1]], &[&[3, 1], &[2, 1]], &[&[3, 1]]];
     for ops in rows {
-        let fault = refusal(alloc, MOST, &listed(alloc, ops)?)?;
+        let fault = refusal(alloc, MAX, &listed(alloc, ops)?)?;
         assert!(rt; matches!(fault, Some(CounterFault::Badarg)));
     }
     let past = Term::Tuple(numbers(alloc, &[3, 1])?);
@@ -202,7 +202,7 @@ fn five_thousand_operations(rt: HostRuntime) -> Result<(), Fail> {
     }
     let update = ones(alloc, 5000)?;
     assert!(rt; gives(alloc, 5, &update, &Term::List(answers), 5005)?);
-    let fault = refusal(alloc, MOST - 4999, &update)?;
+    let fault = refusal(alloc, MAX - 4999, &update)?;
     assert!(rt; matches!(fault, Some(CounterFault::SystemLimit)));
     Ok(())
 }

@@ -1,4 +1,4 @@
-// Readers and writers that are slow, that take a part, or that fail.
+//! Readers and writers that are slow, that take a part, or that fail.
 use std::alloc::Global;
 use std::cell::Cell;
 use std::io::{self, Error, ErrorKind, Read, Write};

@@ -1,4 +1,4 @@
-// What has gone out when a reader or a writer is slow, or fails.
+//! What has gone out when a reader or a writer is slow, or fails.
 use super::devices::{Devices, GOOD};
 use super::{End, Run, is_run, usual};
 use std::alloc::Global;
@@ -82,7 +82,7 @@ fn failing_writes(rt: HostRuntime) {
     assert!(rt; answers_a_front(rt.alloc(), 1));
 }
 
-// A writer that takes no byte, and one that fails to flush.
+/// A writer that takes no byte, and one that fails to flush.
 #[test]
 fn stuck_writers(rt: HostRuntime) {
     let stuck = by(Devices {
@@ -110,7 +110,7 @@ fn ends_within(alloc: Global, reads: u32, end: End) -> bool {
     is_run(alloc, &run, SCRIPT, ANSWERS, end)
 }
 
-// Four lines that come one a read, and the read that finds the end.
+/// Four lines that come one a read, and the read that finds the end.
 #[test]
 fn the_last_read_must_find_the_end(rt: HostRuntime) {
     assert!(rt; ends_within(rt.alloc(), 4, End::Read));

@@ -1,4 +1,4 @@
-// Long scripts with known answers.
+//! Long scripts with known answers.
 use super::devices::{Devices, GOOD};
 use super::{End, Run, is_run, usual};
 use node_core::Limits;
@@ -48,7 +48,7 @@ fn long_lines(rt: HostRuntime) -> Result<(), Fail> {
     Ok(())
 }
 
-// The same, where each read gives a part of a line.
+/// The same, where each read gives a part of a line.
 #[test]
 fn long_lines_in_parts(rt: HostRuntime) -> Result<(), Fail> {
     let devices = Devices {
@@ -183,7 +183,7 @@ fn are_names(alloc: Global, count: u32) -> Result<bool, AllocError> {
     ))
 }
 
-// As many as the program allows, and more than 2 to the 16.
+/// As many as the program allows, and more than 2 to the 16.
 #[test]
 fn many_names(rt: HostRuntime) -> Result<(), Fail> {
     assert!(rt; are_names(rt.alloc(), Limits::usual().processes)?);

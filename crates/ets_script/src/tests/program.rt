@@ -1,4 +1,4 @@
-// The program's status, and its line of errors.
+//! The program's status, and its line of errors.
 use super::devices::{Devices, GOOD, Seen, Source, Target};
 use crate::fault::ScriptFault;
 use crate::program::answer_input;

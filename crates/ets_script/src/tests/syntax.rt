@@ -1,4 +1,4 @@
-// Lines that are no command, and how lines end.
+//! Lines that are no command, and how lines end.
 use super::{answered, usual};
 
 #[test]

@@ -6,7 +6,7 @@ use Rattle.ets_term.specs.declared.term.Term.TheViews.{roll-Term}
 use Rattle.ets_term.specs.declared.term.Term.TheFolds.{map-Term}
 use Rattle.ets_term.specs.declared.term.Term.TheOpen.{Term-F}
 use Rattle.ets_term.specs.declared.term.Term.TheVariants.{Int, Atom, Pid, Tid, Tuple, List as Lst, Binary, rolls-Int, rolls-Atom, rolls-Pid, rolls-Tid, rolls-Tuple, rolls-List, rolls-Binary}
-use Rattle.ets_term.specs.Data.{Data, int, atom, pid, tid, tuple, list, binary, Row, no_terms, term, row_of, data_step, data_of}
+use Rattle.ets_term.specs.Data.{Data, int, atom, pid, tid, tuple, list, binary, Row, no_terms, term, row_of, data_form, data_of}
 
 -- the term that a tree is of
 abbrev mutual
@@ -43,13 +43,13 @@ abbrev opened : Term-F Known → Term
 opened y = roll-Term (map-Term Known Term plain y)
 
 one_back : (y : Term-F Known) → term_of (data_of (opened y)) ≡ opened y
-one_back (Term-F.Int n) = ap term_of (fold-roll-Term Data data_step (Term-F.Int n)) ∙ sym (rolls-Int n)
-one_back (Term-F.Atom s) = ap term_of (fold-roll-Term Data data_step (Term-F.Atom s)) ∙ sym (rolls-Atom s)
-one_back (Term-F.Pid n) = ap term_of (fold-roll-Term Data data_step (Term-F.Pid n)) ∙ sym (rolls-Pid n)
-one_back (Term-F.Tid n) = ap term_of (fold-roll-Term Data data_step (Term-F.Tid n)) ∙ sym (rolls-Tid n)
-one_back (Term-F.Tuple ks) = ap term_of (fold-roll-Term Data data_step (Term-F.Tuple (map plain ks))) ∙ ap Tuple (all_back ks) ∙ sym (rolls-Tuple (map plain ks))
-one_back (Term-F.List ks) = ap term_of (fold-roll-Term Data data_step (Term-F.List (map plain ks))) ∙ ap Lst (all_back ks) ∙ sym (rolls-List (map plain ks))
-one_back (Term-F.Binary s) = ap term_of (fold-roll-Term Data data_step (Term-F.Binary s)) ∙ sym (rolls-Binary s)
+one_back (Term-F.Int n) = ap term_of (fold-roll-Term Data data_form (Term-F.Int n)) ∙ sym (rolls-Int n)
+one_back (Term-F.Atom s) = ap term_of (fold-roll-Term Data data_form (Term-F.Atom s)) ∙ sym (rolls-Atom s)
+one_back (Term-F.Pid n) = ap term_of (fold-roll-Term Data data_form (Term-F.Pid n)) ∙ sym (rolls-Pid n)
+one_back (Term-F.Tid n) = ap term_of (fold-roll-Term Data data_form (Term-F.Tid n)) ∙ sym (rolls-Tid n)
+one_back (Term-F.Tuple ks) = ap term_of (fold-roll-Term Data data_form (Term-F.Tuple (map plain ks))) ∙ ap Tuple (all_back ks) ∙ sym (rolls-Tuple (map plain ks))
+one_back (Term-F.List ks) = ap term_of (fold-roll-Term Data data_form (Term-F.List (map plain ks))) ∙ ap Lst (all_back ks) ∙ sym (rolls-List (map plain ks))
+one_back (Term-F.Binary s) = ap term_of (fold-roll-Term Data data_form (Term-F.Binary s)) ∙ sym (rolls-Binary s)
 
 pub back : (t : Term) → term_of (data_of t) ≡ t
 back = ind-Term (λ t. term_of (data_of t) ≡ t) (λ x y e. subst (λ (z : Term-F Term). term_of (data_of (roll-Term z)) ≡ roll-Term z) e (one_back y))

@@ -2,7 +2,7 @@ use super::*;
 use crate::atom::Atom;
 use std::test::Fail;
 
-// The vectors that the authors of FNV-1a publish.
+/// The vectors that the authors of FNV-1a publish.
 #[test]
 fn published_vectors(rt: HostRuntime) {
     for (text, want) in [("", 0x811c9dc5), ("a", 0xe40c292c), ("foobar", 0xbf9cf968)] {

@@ -10,7 +10,7 @@ cell_of at node = record { at = at; key = node.key; item = node.item }
 abbrev pub node_of : Cell → Option ℕ → Node
 node_of c next = record { key = c.key; next = next; item = c.item }
 
--- the nodes met from a link on, at most so many
+-- the nodes met from a link on; the number bounds how many
 unfoldable pub walk : ℕ → (ℕ → Option Node) → Option ℕ → List Cell
 walk zero at_place link = []
 walk (suc n) at_place None = []

@@ -43,7 +43,7 @@ fn add_item(list: &mut NodeList, alloc: Global, key: u64, number: i64) -> Result
     Ok(list.insert_item(head, key, Term::Int(number), chain))
 }
 
-// The dummies of the buckets 0 to 3, and an item of hash 3.
+/// The dummies of the buckets 0 to 3, and an item of hash 3.
 #[test]
 fn keys_in_split_order(rt: HostRuntime) -> Result<(), Fail> {
     let alloc = rt.alloc();
@@ -64,7 +64,7 @@ fn keys_in_split_order(rt: HostRuntime) -> Result<(), Fail> {
     Ok(())
 }
 
-// Two items of one key stand in the order in which they came, and a search counts what it passes.
+/// Two items of one key stand in the order in which they came, and a search counts what it passes.
 #[test]
 fn finds_among_equal_keys(rt: HostRuntime) -> Result<(), Fail> {
     let alloc = rt.alloc();
@@ -110,7 +110,7 @@ fn changes_a_chain(rt: HostRuntime) -> Result<(), Fail> {
     Ok(())
 }
 
-// A place that was given back is given out again.
+/// A place that was given back is given out again.
 #[test]
 fn unlinks_an_item(rt: HostRuntime) -> Result<(), Fail> {
     let alloc = rt.alloc();
@@ -136,7 +136,7 @@ fn want_of_memory_changes_nothing(rt: HostRuntime) -> Result<(), Fail> {
     Ok(())
 }
 
-// Each node at the head, from 4,999 down to 1: the slab grows many times, and the keys stand in order.
+/// Each node at the head, from 4,999 down to 1: the slab grows many times, and the keys stand in order.
 #[test]
 fn holds_many_nodes(rt: HostRuntime) -> Result<(), Fail> {
     let alloc = rt.alloc();

@@ -3,7 +3,7 @@ use Rattle.std.specs.Prelude.{◌≡◌, ℕ, List, [], ◌∷◌, ◌++◌, ◌
 use Rattle.ets_term.specs.declared.term.Term.{Term}
 use Rattle.ets_term.specs.declared.term.Term.TheVariants.{Int, Pid, Tid, Binary}
 use Rattle.ets_term.specs.declared.term.TheConstants.{MAX_DEPTH}
-use Rattle.term_text.specs.declared.quote_form.TheConstants.{MAX_CHARACTERS}
+use Rattle.ets_term.specs.declared.atom.TheConstants.{MAX_CHARACTERS}
 use Rattle.term_text.specs.declared.fault.TextFault.{TextFault}
 use Rattle.term_text.specs.Reader.{Open, Number, integer, pid, identifier, byte, Goal, whole, digit, behind_byte, quoted, escaped, unquoted, admits, Reading, goes, fails, signed, top, put, arrive, take_byte, read_from}
 use Rattle.term_text.specs.declared.quote_form.QuoteForm.{QuoteForm}

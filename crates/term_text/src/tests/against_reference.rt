@@ -1,4 +1,4 @@
-// The reader's answers beside those of the reference, on every front of good texts and on texts with one byte changed.
+//! The reader's answers beside those of the reference, on every front of good texts and on texts with one byte changed.
 use super::reference::reader::by_rules;
 use crate::{print_term, read_term_bytes};
 use std::alloc::Global;

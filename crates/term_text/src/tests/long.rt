@@ -1,10 +1,10 @@
-// Long and deep texts with known terms.
+//! Long and deep texts with known terms.
 use crate::{TextFault, print_term, read_term};
 use ets_term::{MAX_DEPTH, Term};
 use std::alloc::{AllocError, Global};
 use std::test::Fail;
 
-// One more than each power of two up to 65,536, and 70,000.
+/// One more than each power of two up to 65,536, and 70,000.
 const COUNTS: [usize; 18] = [
     2, 3, 5, 9, 17, 33, 65, 129, 257, 513, 1_025, 2_049, 4_097, 8_193, 16_385, 32_769, 65_537,
     70_000,
@@ -16,7 +16,7 @@ fn is_printed(alloc: Global, term: &Term, printed: &str) -> Result<bool, AllocEr
     Ok(out.as_str() == printed)
 }
 
-// Whether the text is that of a term, to its last byte, which is printed so.
+/// Whether the text is that of a term, to its last byte, which is printed so.
 fn is_read_whole(alloc: Global, text: &str, printed: &str) -> Result<bool, AllocError> {
     match read_term(alloc, text) {
         Ok((term, taken)) => Ok(taken == text.len() && is_printed(alloc, &term, printed)?),
@@ -24,7 +24,7 @@ fn is_read_whole(alloc: Global, text: &str, printed: &str) -> Result<bool, Alloc
     }
 }
 
-// A front, a part so many times, and an end.
+/// A front, a part so many times, and an end.
 fn with_repeats(
     alloc: Global,
     front: &str,
@@ -41,7 +41,7 @@ fn with_repeats(
     Ok(text)
 }
 
-// A text of which a part comes again and again, and how its term is printed.
+/// A text of which a part comes again and again, and how its term is printed.
 #[derive(Clone, Copy)]
 struct Repeated {
     text: [&'static str; 3],
@@ -101,13 +101,13 @@ fn long_tuples(rt: HostRuntime) -> Result<(), Fail> {
     Ok(())
 }
 
-// Brackets in brackets, so many deep.
+/// Brackets in brackets, so many deep.
 fn nested(alloc: Global, open: &str, close: &str, levels: usize) -> Result<String, AllocError> {
     let closing = with_repeats(alloc, "", close, levels, "")?;
     with_repeats(alloc, "", open, levels, closing.as_str())
 }
 
-// Whether brackets are read and printed at every depth that a term may have.
+/// Whether brackets are read and printed at every depth that a term may have.
 fn are_nested(alloc: Global, open: &str, close: &str) -> Result<bool, AllocError> {
     for levels in 1..=MAX_DEPTH {
         let text = nested(alloc, open, close, levels)?;
@@ -118,7 +118,7 @@ fn are_nested(alloc: Global, open: &str, close: &str) -> Result<bool, AllocError
     Ok(true)
 }
 
-// Whether brackets one level past that are refused at the last that opens.
+/// Whether brackets one level past that are refused at the last that opens.
 fn is_too_deep(alloc: Global, open: &str, close: &str) -> Result<bool, AllocError> {
     let text = nested(alloc, open, close, 129)?;
     Ok(matches!(

@@ -1,12 +1,12 @@
 use Rattle.std.proofs.Common.{◌≡◌, ◌≢◌, ℕ, Some, Option, IsSome, subst, refl, sym, ◌∙◌, ap}
 use Rattle.slab.specs.Slab.{Slab, get, slab_len, with_value, Updates}
 use Rattle.node_list.specs.Cells.{new_cell}
-use Rattle.node_list.specs.Changes.{put_cell}
-use Rattle.node_list.specs.inside.Walks.{rest, Linked, node_of, last_up_to_in}
+use Rattle.node_list.specs.inside.Walks.{rest, node_of, last_up_to_in}
 use Rattle.node_list.specs.declared.node.Node.{Node}
-use Rattle.node_list.proofs.InsertLaws.{begun, inserted, spot-node}
+use Rattle.node_list.proofs.InsertLaws.{Inserted, begun, inserted, spot-node}
 use Rattle.node_list.proofs.PlaceLaws.{with_value-len, apart-vacant}
 use Rattle.node_list.proofs.insert.insert_from.Goals as goal
+use Rattle.node_list.proofs.insert.insert_from.Goals.{After-set_next}
 
 pub last_up_to-last-requires-clause-linked : goal.last_up_to-last-requires-clause-linked
 last_up_to-last-requires-clause-linked c = (begun c.args.nodes.now c.args.key c.args.start c.requires.linked c.requires.sorted c.requires.stands).linked
@@ -21,34 +21,29 @@ front-next-requires c =
     let P : Option Node → Type 0 = λ o. IsSome o in
     subst P (sym (ap (get c.args.nodes.now) c.last_up_to-last.ensures ∙ found.1)) refl
 
-pub returns-clause-linked : goal.returns-clause-linked
-returns-clause-linked c =
+-- the list once the link leads to the new node
+done : (c : After-set_next) → Inserted c.args.nodes.now c.set_next.new.self (new_cell c.insert_reserved-place.result c.args.key c.args.item)
+done c =
+    let old = c.args.nodes.now in
     let m = c.insert_reserved-place.new.self in
+    let at = c.insert_reserved-place.result in
+    let last = c.last_up_to-last.result in
     let n = c.set_next.ensures.node in
-    let x = new_cell c.insert_reserved-place.result c.args.key c.args.item in
-    let U : Option ℕ → Type 0 = λ o. Updates c.args.nodes.now c.insert_reserved-place.new.self c.insert_reserved-place.result (Some (node_of (new_cell c.insert_reserved-place.result c.args.key c.args.item) o)) in
-    let len = with_value-len m c.last_up_to-last.result n (record n { next = Some c.insert_reserved-place.result }) c.set_next.ensures.was in
-    let i = inserted c.args.nodes.now m x c.args.start c.last_up_to-last.result c.front-next.ensures.node n
-    (begun c.args.nodes.now c.args.key c.args.start c.requires.linked c.requires.sorted c.requires.stands)
+    let x = new_cell at c.args.key c.args.item in
+    let U : Option ℕ → Type 0 = λ o. Updates old m at (Some (node_of x o)) in
+    let I : Option ℕ → Type 0 = λ o. Inserted old (with_value m last (record n { next = o })) x in
+    let V : Slab Node → Type 0 = λ v. Inserted old v x in
+    let len = with_value-len m last n (record n { next = Some at }) c.set_next.ensures.was in
+    subst V (sym c.set_next.ensures.now) (subst I (sym c.to.ensures)
+    (inserted old m x c.args.start last c.front-next.ensures.node n (begun old c.args.key c.args.start c.requires.linked c.requires.sorted c.requires.stands)
     c.requires.linked c.last_up_to-last.ensures c.front-next.ensures.is c.insert_reserved-place.ensures.was_vacant (subst U (sym c.front-next.ensures.next) c.insert_reserved-place.ensures.updates)
-    c.insert_reserved-place.ensures.len c.set_next.ensures.was (len ∙ c.insert_reserved-place.ensures.len) in
-    let P : Option ℕ → Type 0 = λ o. Linked (with_value m c.last_up_to-last.result (record n { next = o })) (Some 0) in
-    let L : Slab Node → Type 0 = λ v. Linked v (Some 0) in
-    subst L (sym c.set_next.ensures.now) (subst P (sym c.to.ensures) i.linked)
+    c.insert_reserved-place.ensures.len c.set_next.ensures.was (len ∙ c.insert_reserved-place.ensures.len)))
+
+pub returns-clause-linked : goal.returns-clause-linked
+returns-clause-linked c = (done (goal.at.returns-clause-linked c).After-set_next).linked
 
 pub returns-clause-cells : goal.returns-clause-cells
-returns-clause-cells c =
-    let m = c.insert_reserved-place.new.self in
-    let n = c.set_next.ensures.node in
-    let x = new_cell c.insert_reserved-place.result c.args.key c.args.item in
-    let U : Option ℕ → Type 0 = λ o. Updates c.args.nodes.now c.insert_reserved-place.new.self c.insert_reserved-place.result (Some (node_of (new_cell c.insert_reserved-place.result c.args.key c.args.item) o)) in
-    let len = with_value-len m c.last_up_to-last.result n (record n { next = Some c.insert_reserved-place.result }) c.set_next.ensures.was in
-    let i = inserted c.args.nodes.now m x c.args.start c.last_up_to-last.result c.front-next.ensures.node n
-    (begun c.args.nodes.now c.args.key c.args.start c.requires.linked c.requires.sorted c.requires.stands)
-    c.requires.linked c.last_up_to-last.ensures c.front-next.ensures.is c.insert_reserved-place.ensures.was_vacant (subst U (sym c.front-next.ensures.next) c.insert_reserved-place.ensures.updates)
-    c.insert_reserved-place.ensures.len c.set_next.ensures.was (len ∙ c.insert_reserved-place.ensures.len) in
-    let P : Option ℕ → Type 0 = λ o. rest (with_value m c.last_up_to-last.result (record n { next = o })) (Some 0) ≡ put_cell x (rest c.args.nodes.now (Some 0)) in
-    ap (λ (v : Slab Node). rest v (Some 0)) c.set_next.ensures.now ∙ subst P (sym c.to.ensures) i.cells
+returns-clause-cells c = (done (goal.at.returns-clause-cells c).After-set_next).cells
 
 pub returns-clause-fresh : goal.returns-clause-fresh
 returns-clause-fresh c =

@@ -1,4 +1,4 @@
-// Parts of the text of terms, read and printed plainly.
+//! Parts of the text of terms, read and printed plainly.
 use crate::TextFault;
 use std::alloc::Global;
 
@@ -27,7 +27,7 @@ pub(super) fn byte_at(text: &[u8], at: usize) -> Result<u8, TextFault> {
     }
 }
 
-// One digit or more; the number, and where its digits end.
+/// One digit or more; the number, and where its digits end.
 pub(super) fn digits(
     text: &[u8],
     from: usize,
@@ -52,7 +52,7 @@ pub(super) fn digits(
     Ok((n, text.len()))
 }
 
-// The signs that must come.
+/// The signs that must come.
 pub(super) fn signs(text: &[u8], from: usize, wanted: &[u8]) -> Result<usize, TextFault> {
     let mut at = from;
     for sign in wanted {
@@ -64,7 +64,7 @@ pub(super) fn signs(text: &[u8], from: usize, wanted: &[u8]) -> Result<usize, Te
     Ok(at)
 }
 
-// The characters up to the closing quote. Past so many there is this fault.
+/// The characters up to the closing quote. Past so many there is this fault.
 pub(super) fn quoted(
     alloc: Global,
     text: &[u8],

@@ -1,9 +1,9 @@
-// A slow plain reader, written from the rules of the text alone: one loop, with the open brackets in a row.
+//! A slow plain reader, written from the rules of the text alone: one loop, with the open brackets in a row.
 use super::pieces::{blanks_end, byte_at, digits, name_end, put, put_atom, put_row, quoted, signs};
 use crate::TextFault;
 use std::alloc::Global;
 
-// Behind `<<`.
+/// Behind `<<`.
 fn binary(alloc: Global, text: &[u8], from: usize, out: &mut String) -> Result<usize, TextFault> {
     let mut at = blanks_end(text, from);
     let mut row = Vec::new(alloc);
@@ -38,7 +38,7 @@ fn binary(alloc: Global, text: &[u8], from: usize, out: &mut String) -> Result<u
     Ok(end)
 }
 
-// A term that is no tuple and no list in brackets, with so many brackets round it.
+/// A term that is no tuple and no list in brackets, with so many brackets round it.
 fn single(
     alloc: Global,
     text: &[u8],
@@ -109,7 +109,7 @@ fn single(
     }
 }
 
-// The printed term at the front, and how many bytes it takes, by the rules.
+/// The printed term at the front, and how many bytes it takes, by the rules.
 pub fn by_rules(alloc: Global, text: &[u8]) -> Result<(String, usize), TextFault> {
     let mut out = String::new(alloc);
     let mut closing = Vec::new(alloc);

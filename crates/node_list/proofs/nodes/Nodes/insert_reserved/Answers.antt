@@ -1,4 +1,4 @@
-use Rattle.std.proofs.Common.{◌≡◌, ◌+◌, ◌<◌, length, Some, Option, get_or, set, sym, ◌∙◌, ap, subst, arith}
+use Rattle.std.proofs.Common.{◌≡◌, ◌+◌, Some, Option, get_or, sym, ◌∙◌, ap, subst, arith}
 use Rattle.node_list.specs.declared.node.Node.{Node}
 use Rattle.node_list.specs.declared.front.Front.{Front}
 use Rattle.node_list.specs.declared.slot.Slot.TheVariants.{Dummy}

@@ -1,7 +1,6 @@
-use Rattle.std.proofs.Common.{◌≡◌, ◌≤◌, List, length, Option, count_by, is_some, sym, ◌∙◌, ap, subst, arith, vec_len, vec_capacity}
+use Rattle.std.proofs.Common.{◌≡◌, List, Option, count_by, is_some, sym, ◌∙◌, ap, subst, arith}
 use Rattle.node_list.specs.declared.node.Node.{Node}
 use Rattle.node_list.specs.declared.front.Front.{Front}
-use Rattle.node_list.specs.declared.slot.Slot.{Slot}
 use Rattle.slab.specs.Slab.{Slab, HasRoomFor}
 use Rattle.node_list.specs.inside.Slots.{nodes_of}
 use Rattle.node_list.proofs.SlotLaws.{count-nodes, cloned}

@@ -1,0 +1,63 @@
+//! A caller of one table alone, without a node: it stores two counts, doubles the buckets, and looks one of them up.
+#![tactic(auto)]
+
+use bucket_table::SplitRows;
+use ets_term::{Atom, Fnv, Items, Term};
+use std::alloc::{AllocError, Global};
+use std::io;
+use std::process::ExitCode;
+use table_ops::{Kind, Refusal, Table};
+
+/// The most objects that the table may have.
+const OBJECTS: u32 = 1_000;
+
+fn main(rt: HostRuntime) -> io::Result<ExitCode> {
+    match count_of_milk(rt.alloc()) {
+        Ok((Some(count), buckets)) => {
+            println!(rt; "milk: {count}, in {buckets} buckets")?;
+            Ok(ExitCode::SUCCESS)
+        }
+        Ok((None, _)) => {
+            eprintln!(rt; "no milk")?;
+            Ok(ExitCode::FAILURE)
+        }
+        Err(_) => {
+            eprintln!(rt; "refused")?;
+            Ok(ExitCode::FAILURE)
+        }
+    }
+}
+
+/// What a table says of milk after it has doubled its buckets, and how many these are.
+fn count_of_milk(alloc: Global) -> Result<(Option<i64>, u32), Refusal> {
+    let rows = SplitRows::new(alloc, Fnv)?;
+    let mut table = Table::new(alloc, rows, Kind::Set, 1, OBJECTS);
+    let objects = vec![in alloc; count(alloc, "tea", 3)?, count(alloc, "milk", 1)?]?;
+    table.insert(objects.as_slice())?;
+    let _growth = table.grow()?;
+    let milk = atom(alloc, "milk")?;
+    let found = count_in(table.lookup(&milk));
+    Ok((found, table.buckets()))
+}
+
+/// The second element of the only object of a key.
+fn count_in(objects: &[Term]) -> Option<i64> {
+    match objects.first()?.element(2)? {
+        Term::Int(count) => Some(*count),
+        _ => None,
+    }
+}
+
+/// The object `{name,number}`.
+fn count(alloc: Global, name: &str, number: i64) -> Result<Term, AllocError> {
+    let elements = vec![in alloc; atom(alloc, name)?, Term::Int(number)]?;
+    Ok(Term::Tuple(Items::from_vec(elements)))
+}
+
+/// The atom with this text, which is short printable ASCII here.
+fn atom(alloc: Global, text: &str) -> Result<Term, AllocError> {
+    match Atom::new(alloc, text) {
+        Ok(atom) => Ok(Term::Atom(atom)),
+        Err(_) => Err(AllocError),
+    }
+}
