@@ -23,4 +23,5 @@ pub mod PlainLaws
 pub mod WalkLaws
 pub mod StepLaws
 pub mod NoteLaws
+pub mod OneLaws
 pub mod RunLaws

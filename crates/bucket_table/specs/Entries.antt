@@ -1,5 +1,5 @@
 -- Where the slot of a key stands.
-use Rattle.std.specs.Prelude.{◌≡◌, ℕ, List, Option, Some, None, IsSome}
+use Rattle.std.specs.Prelude.{◌≡◌, ℕ, List, [], ◌∷◌, Option, Some, None, IsSome}
 use Rattle.ets_term.specs.declared.term.Term.{Term}
 use Rattle.bucket_table.specs.declared.entry.Entry.{Entry}
 use Rattle.bucket_table.specs.declared.entry.Entry.TheVariants.{Occupied, Vacant}
@@ -19,3 +19,7 @@ objects_in slots (Some key) = objects_of slots key
 abbrev pub with_objects_in : List Slot → Option Term → List Term → List Slot
 with_objects_in slots None objects = slots
 with_objects_in slots (Some key) objects = with_objects slots key objects
+
+-- the slot at a place, whose key is this one, has one object
+abbrev pub HasOne : List Slot → Option Term → Type 0
+HasOne slots key = (object : Term) × (objects_in slots key ≡ Some (object ∷ []))

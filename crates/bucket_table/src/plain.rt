@@ -172,6 +172,13 @@ impl Rows for PlainRows {
         }
     }
 
+    fn replace_one_at(&mut self, place: Place, object: Term) -> Term {
+        match self.slots.get_index_mut(place) {
+            Some(own) => own.replace(0, object),
+            None => unreachable!(),
+        }
+    }
+
     fn remove_at(&mut self, place: Place) -> (Term, Chain) {
         self.known();
         match self.slots.shift_remove_index(place) {

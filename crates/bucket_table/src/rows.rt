@@ -1,8 +1,8 @@
-ghost use Rattle.std.specs.Prelude.{◌≡◌, ◌≤◌, ◌+◌, ℕ, Bool, false, List, Option, Some, None, IsSome, IsOk, IfOk, OnOk, OnErr, MatchOption, length, position, not, option_copied, option_map, slice_get, get_or};
+ghost use Rattle.std.specs.Prelude.{◌≡◌, ◌≤◌, ◌+◌, ℕ, Bool, false, List, [], ◌∷◌, Option, Some, None, IsSome, IsOk, IfOk, OnOk, OnErr, MatchOption, length, position, not, option_copied, option_map, slice_get, get_or};
 ghost use Rattle.std.specs.Map.Iter.{deref_pair};
 ghost use Rattle.ets_term.specs.declared.term.Term.{Term};
 ghost use Rattle.bucket_table.specs.Slots.{Slot, HasDistinctKeys, objects_of, with_objects, without, Enters, EnterAll, AreNew, purged, cleared, slots_behind};
-ghost use Rattle.bucket_table.specs.Entries.{IsEntry, objects_in, with_objects_in};
+ghost use Rattle.bucket_table.specs.Entries.{IsEntry, HasOne, objects_in, with_objects_in};
 ghost use Rattle.bucket_table.specs.Walks.{IsFirstPlace, IsNextPlace, StandsBefore};
 ghost use Rattle.bucket_table.specs.Buckets.{IsGrown, IsReadied};
 
@@ -123,6 +123,16 @@ pub trait Rows: Drop {
         ensures was { objects_in (content self.old) (key_at self.old place) ≡ Some result }
         ensures now { content self.new ≡ with_objects_in (content self.old) (key_at self.old place) objects }
         ensures place { key_at self.new place ≡ key_at self.old place }
+        ensures places { (other : ℕ) → key_at self.new other ≡ key_at self.old other }
+        ensures room { room self.old ≤ room self.new }
+        ensures hash { number self.new ≡ number self.old }
+        ensures buckets { readiness self.new ≡ readiness self.old };
+
+    /// Another object for the only one of the slot at a place, which is handed back.
+    fn replace_one_at(&mut self, place: Place, object: Term) -> Term
+        requires { HasOne (content self.old) (key_at self.old place) }
+        ensures was { objects_in (content self.old) (key_at self.old place) ≡ Some (result ∷ []) }
+        ensures now { content self.new ≡ with_objects_in (content self.old) (key_at self.old place) (object ∷ []) }
         ensures places { (other : ℕ) → key_at self.new other ≡ key_at self.old other }
         ensures room { room self.old ≤ room self.new }
         ensures hash { number self.new ≡ number self.old }

@@ -42,7 +42,7 @@ impl Store for SplitRows<Fnv> {
         let Some(place) = self.find(&number(k)) else {
             return Ok(false);
         };
-        let mut objects = self.replace_at(place, Chain::new(alloc));
+        let mut objects = self.replace_at(place, Chain::one(alloc, Term::Int(0)));
         let Some(Term::Tuple(fields)) = objects.pop() else {
             return Ok(false);
         };

@@ -4,7 +4,7 @@ use Rattle.std.specs.Prelude.{IfOk, OnOk, OnErr, IfErr, IsErrOf, nat_lt}
 use Rattle.ets_term.specs.declared.term.Term.{Term}
 use Rattle.ets_term.specs.Order.{same}
 use Rattle.bucket_table.specs.Slots.{Slot, objects_of, with_objects, has_objects, object_count}
-use Rattle.bucket_table.specs.Entries.{objects_in, with_objects_in}
+use Rattle.bucket_table.specs.Entries.{HasOne, objects_in, with_objects_in}
 use Rattle.counters.specs.Counters.{updated_counters}
 use Rattle.counters.specs.Defaults.{keyed, counted_from}
 use Rattle.counters.specs.Elements.{updated_elements}
@@ -22,19 +22,26 @@ use Rattle.table_ops.specs.declared.refusal.Refusal.TheVariants.{Badarg, SystemL
 use Rattle.table_ops.specs.Refusals.{Comes}
 use Rattle.table_ops.specs.Update.{is_set, ops_open, specs_open, is_good, Starts, CountsUnder, UpdatesCounter}
 use Rattle.table_ops.specs.inside.Counted.{IsCounted}
-use Rattle.table_ops.specs.inside.Updated.{HasOne, CountsAt, WritesAt, StartsAt}
+use Rattle.table_ops.specs.inside.Updated.{CountsAt, WritesAt, StartsAt}
 use Rattle.table_ops.proofs.Counts.{count-set, count-writes, written}
 use Rattle.table_ops.proofs.KeptLaws.{slot-of, slots-set, slots-puts}
 use Rattle.table_ops.proofs.PutLaws.{add-none, own-in, set-in}
-use Rattle.table_ops.proofs.SlotLaws.{set_value-twice, set_value-same}
+use Rattle.table_ops.proofs.SlotLaws.{set_value-twice, set_value-same, lookup-set_value}
 use Rattle.table_ops.proofs.StoreLaws.{is-below, is-not-below, above, not-above, full_at, room_at}
 use Rattle.table_ops.proofs.UpdatedLaws.{Keeps, counted-keeps, written-keeps}
 
--- the last of one is the one
-pub popped-one : (own rest : List Term) (object last : Term) → own ≡ object ∷ [] → own ≡ rest ++ last ∷ [] → last ≡ object
-popped-one own [] object last one h = let e : object ∷ [] ≡ last ∷ [] = sym one ∙ h in cc
-popped-one own (x ∷ []) object last one h = let e : object ∷ [] ≡ x ∷ last ∷ [] = sym one ∙ h in cc
-popped-one own (x ∷ y ∷ ys) object last one h = let e : object ∷ [] ≡ x ∷ y ∷ (ys ++ last ∷ []) = sym one ∙ h in cc
+-- the one object that was handed back is the one that was there
+pub only : (slots : List Slot) (at : Option Term) (was object : Term) → objects_in slots at ≡ Some (was ∷ []) → objects_in slots at ≡ Some (object ∷ []) → object ≡ was
+only slots at was object h e = let same : Some (was ∷ []) ≡ Some (object ∷ []) = sym h ∙ e in cc
+
+written-in : (slots : List Slot) (at : Option Term) (v w : List Term) → objects_in slots at ≡ Some v → objects_in (with_objects_in slots at w) at ≡ Some w
+written-in slots None v w h = cc
+written-in slots (Some key) v w h = lookup-set_value (same key) slots v w h
+
+-- where one stood, the one stands that was put in its place
+pub one-again : (old mid : List Slot) (at own : Option Term) (object : Term) → HasOne old at → mid ≡ with_objects_in old at (object ∷ []) → own ≡ at → HasOne mid own
+one-again old mid at own object h first same_place =
+    (object, ap (objects_in mid) same_place ∙ (ap (λ l. objects_in l at) first ∙ written-in old at (h.0 ∷ []) (object ∷ []) h.1))
 
 put-back-at : (old mid new : List Slot) (at : Option Term) (v w : List Term) → mid ≡ with_objects_in old at v → new ≡ with_objects_in mid at w → new ≡ with_objects_in old at w
 put-back-at old mid new None v w first second = second ∙ first

@@ -1,12 +1,12 @@
 ghost use Rattle.std.specs.Prelude.{◌≡◌, ◌&&◌, not, nat_lt, ◌==◌, [], ◌∷◌, true, Some, OnOk, OnErr, MatchOption, IsSome, option_copied};
 ghost use Rattle.std.specs.List.{list_all};
 ghost use Rattle.bucket_table.specs.Slots.{objects_of, has_objects};
-ghost use Rattle.bucket_table.specs.Entries.{IsEntry, objects_in};
+ghost use Rattle.bucket_table.specs.Entries.{IsEntry, HasOne, objects_in};
 ghost use Rattle.counters.specs.Defaults.{keyed, counted_from};
 ghost use Rattle.table_ops.specs.Content.{objects_under};
 ghost use Rattle.table_ops.specs.Put.{Writes};
 ghost use Rattle.table_ops.specs.Update.{is_open, ops_open, specs_open, is_good};
-ghost use Rattle.table_ops.specs.inside.Updated.{HasOne, CountsAt, WritesAt, StartsAt};
+ghost use Rattle.table_ops.specs.inside.Updated.{CountsAt, WritesAt, StartsAt};
 
 use crate::refusal::Refusal;
 use bucket_table::{Entry, Place, Rows};
@@ -88,18 +88,14 @@ pub fn count_at<R: Rows>(
     ensures slots { CountsAt ops.now (R.key_at rows.old place) (R.content rows.old) result (R.content rows.new) }
     ensures buckets { R.readiness rows.new ≡ R.readiness rows.old }
 {
-    let mut objects = rows.replace_at(place, Chain::new(alloc));
-    let Some(mut object) = objects.pop() else {
-        unreachable!()
-    };
+    let mut object = rows.replace_one_at(place, Term::Int(0));
     let counted = update_counter(alloc, &mut object, ops);
-    let _ = rows.replace_at(place, Chain::one(alloc, object));
+    let _zero = rows.replace_one_at(place, object);
     counted
 }
 
 /// Writes elements of the one object at a place.
 pub fn write_at<R: Rows>(
-    alloc: Global,
     rows: &mut R,
     place: Place,
     specs: ElementSpecs,
@@ -108,12 +104,9 @@ pub fn write_at<R: Rows>(
     ensures slots { WritesAt specs (R.key_at rows.old place) (R.content rows.old) result (R.content rows.new) }
     ensures buckets { R.readiness rows.new ≡ R.readiness rows.old }
 {
-    let mut objects = rows.replace_at(place, Chain::new(alloc));
-    let Some(mut object) = objects.pop() else {
-        unreachable!()
-    };
+    let mut object = rows.replace_one_at(place, Term::Int(0));
     let written = update_elements(&mut object, specs);
-    let _ = rows.replace_at(place, Chain::one(alloc, object));
+    let _zero = rows.replace_one_at(place, object);
     written
 }
 

@@ -1,6 +1,6 @@
-ghost use Rattle.std.specs.Prelude.{◌≡◌, ℕ, ◌+◌, ◌<◌, ◌≤◌, None, Some, IsSome, IsOk, OnOk, OnErr};
+ghost use Rattle.std.specs.Prelude.{◌≡◌, ℕ, ◌∷◌, [], ◌+◌, ◌<◌, ◌≤◌, None, Some, IsSome, IsOk, OnOk, OnErr};
 ghost use Rattle.bucket_table.specs.Slots.{Enters, EnterAll, AreNew, HasDistinctKeys, objects_of, without, purged};
-ghost use Rattle.bucket_table.specs.Entries.{objects_in, with_objects_in};
+ghost use Rattle.bucket_table.specs.Entries.{HasOne, objects_in, with_objects_in};
 ghost use Rattle.bucket_table.specs.Walks.{StandsBefore};
 ghost use Rattle.bucket_table.specs.Split.{key_of_place};
 ghost use Rattle.bucket_table.specs.inside.Sweeps.{swept};
@@ -87,6 +87,20 @@ impl<H: KeyHash + Copy + Drop> SplitRows<H> {
         self.held.mark(objects.len() == 0, number);
         let chain = self.list.chain_mut(place);
         mem::replace(chain, objects)
+    }
+
+    /// Another object for the only one of the slot at a place, which is handed back.
+    pub(super) fn replace_only(&mut self, place: Place, object: Term) -> Term
+        requires { HasOne self.old.slots (key_of_place self.old.places place) }
+        ensures was { objects_in self.old.slots (key_of_place self.old.places place) ≡ Some (result ∷ []) }
+        ensures now { self.new.slots ≡ with_objects_in self.old.slots (key_of_place self.old.places place) (object ∷ []) }
+        ensures places { self.new.places ≡ self.old.places }
+        ensures room { self.new.room ≡ self.old.room }
+        ensures hash { self.new.hash ≡ self.old.hash }
+        ensures buckets { self.new.ready ≡ self.old.ready }
+    {
+        self.list.known();
+        self.list.chain_mut(place).replace(0, object)
     }
 
     /// Takes the slot at a place away.

@@ -108,6 +108,10 @@ impl<H: KeyHash + Copy + Drop> Rows for SplitRows<H> {
         self.replace_objects(place, objects)
     }
 
+    fn replace_one_at(&mut self, place: Place, object: Term) -> Term {
+        self.replace_only(place, object)
+    }
+
     fn remove_at(&mut self, place: Place) -> (Term, Chain) {
         self.remove_slot(place)
     }

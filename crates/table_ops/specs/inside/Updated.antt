@@ -13,10 +13,6 @@ use Rattle.table_ops.specs.declared.refusal.Refusal.{Refusal}
 use Rattle.table_ops.specs.declared.refusal.Refusal.TheVariants.{Badarg, SystemLimit, Memory}
 use Rattle.table_ops.specs.Put.{Writes}
 
--- one object stands at the place of this key
-abbrev pub HasOne : List Slot → Option Term → Type 0
-HasOne slots at = (object : Term) × (objects_in slots at ≡ Some (object ∷ []))
-
 -- the one object at the place of this key was this one
 abbrev pub WasOne : List Slot → Option Term → (Term → Type 0) → Type 0
 WasOne slots at P = (object : Term) × (objects_in slots at ≡ Some (object ∷ [])) × P object

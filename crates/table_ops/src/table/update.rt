@@ -65,7 +65,7 @@ impl<R: Rows> Table<R> {
         let Some(place) = filled(&self.rows, key, entry) else {
             return Ok(false);
         };
-        write_at(self.alloc, &mut self.rows, place, specs)?;
+        write_at(&mut self.rows, place, specs)?;
         Ok(true)
     }
 
