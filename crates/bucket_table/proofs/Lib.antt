@@ -24,3 +24,4 @@ pub mod WalkLaws
 pub mod StepLaws
 pub mod NoteLaws
 pub mod RunLaws
+pub mod BelowLaws
