@@ -25,3 +25,4 @@ pub mod StepLaws
 pub mod NoteLaws
 pub mod OneLaws
 pub mod RunLaws
+pub mod BelowLaws

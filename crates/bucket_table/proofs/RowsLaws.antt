@@ -1,5 +1,5 @@
 -- Rows with their hints stay rows.
-use Rattle.std.proofs.Common.{inl, inr, ◌%◌, ◌≤◌, ◌≡◌, ℕ, zero, suc, ◌+◌, ◌-◌, ◌*◌, ◌/◌, ◌^◌, ◌<◌, List, [], ◌∷◌, ◌++◌, length, replicate, take, set, get_or, Option, Some, None, Bool, true, false, nat_eq, ◌&&◌, refl, sym, ◌∙◌, ap, subst, arith}
+use Rattle.std.proofs.Common.{inl, inr, ◌≤◌, ◌≡◌, ℕ, zero, suc, ◌+◌, ◌-◌, ◌*◌, ◌/◌, ◌^◌, ◌<◌, List, [], ◌∷◌, ◌++◌, length, replicate, take, set, get_or, Option, Some, None, Bool, true, false, nat_eq, ◌&&◌, refl, sym, ◌∙◌, ap, subst, arith}
 use Rattle.std.specs.Map.{lookup}
 use Rattle.std.proofs.lemmas.List.{length-set}
 use Rattle.ets_term.specs.declared.term.Term.{Term}
@@ -10,18 +10,17 @@ use Rattle.split_key.proofs.Halves.{exponent-lt}
 use Rattle.std.proofs.lemmas.Bool.{cases_eq}
 use Rattle.node_list.proofs.CellLaws.{from-here, from-on, at-most-from}
 use Rattle.node_list.specs.Cells.{Cell, Sorted, new_cell, new_item}
-use Rattle.node_list.specs.Places.{IsFresh, AreApart, HasItem, from, behind, all_but_first, first_place}
+use Rattle.node_list.specs.Places.{IsFresh, AreApart, from, first_place}
 use Rattle.node_list.specs.Changes.{put_cell, without}
 use Rattle.node_list.specs.Changes.{cells_with}
 use Rattle.bucket_table.specs.inside.Nodes.{slots_of}
-use Rattle.bucket_table.specs.inside.Layout.{ArePlaced, IsStartOf}
+use Rattle.bucket_table.specs.inside.Layout.{ArePlaced}
 use Rattle.bucket_table.specs.inside.Found.{IsFound}
-use Rattle.bucket_table.specs.inside.Firsts.{first_in, AreHints, IsRows, IsNewFirst, KeepsFirst, IsNoted, IsItemIn, IsNextHint, IsSucceeded}
+use Rattle.bucket_table.specs.inside.Firsts.{first_in, AreHints, IsRows, AreRows, IsNewFirst, KeepsFirst, IsNoted, IsItemIn, IsNextHint, IsSucceeded}
 use Rattle.bucket_table.proofs.ContentLaws.{placed-key}
 use Rattle.bucket_table.proofs.CountLaws.{placed-from}
 use Rattle.bucket_table.proofs.FirstLaws.{first-on}
 use Rattle.bucket_table.proofs.NewLaws.{new-split}
-use Rattle.bucket_table.proofs.StartLaws.{in-bucket}
 use Rattle.bucket_table.proofs.SplitLaws.{put-split, without-split, with-split, ready-split, grown-split, grown-length}
 use Rattle.bucket_table.proofs.HintedLaws.{hints-put, hints-dummy, hints-without, hints-with, hints-none}
 
@@ -30,6 +29,12 @@ rows-like number dummies shift firsts fs cells zs r e f =
     let P : List (Option (Option ℕ)) → Type 0 = λ gs. IsRows number dummies shift gs zs in
     let Q : List Cell → Type 0 = λ cs. IsRows number dummies shift firsts cs in
     subst P (sym e) (subst Q (sym f) r)
+
+-- rows as one reads them who knows no hash
+pub rows-seen : (number : Term → ℕ) (dummies ds : List (Option ℕ)) (shift : ℕ) (firsts fs : List (Option (Option ℕ))) (cells : List Cell) → IsRows number dummies shift firsts cells → ds ≡ dummies → fs ≡ firsts → AreRows ds shift fs cells
+rows-seen number dummies ds shift firsts fs cells r d f =
+    let P : List (Option ℕ) → Type 0 = λ es. IsRows number es shift fs cells in
+    (number, subst P (sym d) (rows-like number dummies shift firsts fs cells cells r f refl))
 
 and-false : (b : Bool) → (b && false) ≡ false
 and-false true = refl
@@ -53,7 +58,7 @@ new-rows number head dummies firsts n cells d e f h = record {
 }
 
 -- a node of a greater key stands behind
-stands-behind : (start at : ℕ) (cs : List Cell) (d : Cell) (ds : List Cell) (e : Cell) (es : List Cell) → Sorted cs → from start cs ≡ d ∷ ds → from at cs ≡ e ∷ es → d.key < e.key → from at ds ≡ e ∷ es
+pub stands-behind : (start at : ℕ) (cs : List Cell) (d : Cell) (ds : List Cell) (e : Cell) (es : List Cell) → Sorted cs → from start cs ≡ d ∷ ds → from at cs ≡ e ∷ es → d.key < e.key → from at ds ≡ e ∷ es
 stands-behind start at [] d ds e es o s t h = absurd (cc)
 stands-behind start at (c ∷ cs) d ds e es o s t h =
     elim (cases_eq c.at at) [
@@ -116,22 +121,6 @@ module _ (number : Term → ℕ) (dummies : List (Option ℕ)) (shift : ℕ) (fi
       let p : ArePlaced number dummies (h.cell ∷ h.later) = subst P h.is (placed-from number dummies at cells r.split.placed) in
       let is : h.cell.key ≡ key_of_item (number term) = placed-key number dummies h.cell.at h.cell.key h.cell.item h.item h.has p.0 ∙ ap (λ (t : Term). key_of_item (number t)) h.same_term in
       record { cell = h.cell; later = h.later; item = h.item; is = h.is; has = h.has; inside = ap (λ (z : ℕ). z / 2 ^ shift) is ∙ sym at_index }
-
-  -- it stands behind its bucket's start
-  pub found-behind-start : (ds : List (Option ℕ)) (term : Term) (hash at start : ℕ) → IsFound term at cells → Sorted cells → ds ≡ dummies → IsStartOf ds (hash % length ds) start → hash ≡ number term → HasItem at (behind start cells)
-  found-behind-start ds term hash at start h o same' s e =
-      let Q : List (Option ℕ) → Type 0 = λ es. IsStartOf es (hash % length es) start in
-      let s' : IsStartOf dummies (hash % length dummies) start = subst Q same' s in
-      let d = r.split.stand s'.nearest start s'.entry in
-      let b = in-bucket number dummies cells term (hash % length dummies) start r.split s' (ap (λ (n : ℕ). n % length dummies) e) in
-      let low : key_of_dummy (hash % length dummies) < key_of_item (number term) = b.low in
-      let before : key_of_dummy s'.nearest ≤ key_of_dummy (hash % length dummies) = s'.before in
-      let P : List Cell → Type 0 = λ zs. ArePlaced number dummies zs in
-      let p : ArePlaced number dummies (h.cell ∷ h.later) = subst P h.is (placed-from number dummies at cells r.split.placed) in
-      let is : h.cell.key ≡ key_of_item (number term) = placed-key number dummies h.cell.at h.cell.key h.cell.item h.item h.has p.0 ∙ ap (λ (t : Term). key_of_item (number t)) h.same_term in
-      let H : List Cell → Type 0 = λ zs. HasItem at (all_but_first zs) in
-      let later = stands-behind start at cells (new_cell start (key_of_dummy s'.nearest) None) d.later h.cell h.later o d.is h.is (omega (arith, low, before, is)) in
-      subst H (sym d.is) (record { cell = h.cell; later = h.later; item = h.item; is = later; has = h.has })
 
   pub rows-without : (after : List (Option (Option ℕ))) (hint : Option (Option ℕ)) (term : Term) (at index : ℕ) (new : List Cell) → IsFound term at cells → AreApart cells → new ≡ without at cells → index ≡ key_of_item (number term) / 2 ^ shift
       → IsNextHint (2 ^ shift) index at cells hint → IsSucceeded index at hint firsts after → IsRows number dummies shift after new

@@ -189,17 +189,6 @@ module _ (number : Term → ℕ) (dummies : List (Option ℕ)) (cs : List Cell) 
     answer-behind None r = tt
     answer-behind (Some at) r = found-behind at (sym r)
 
--- where an item may be put from
-pub item-stands : (number : Term → ℕ) (dummies ds : List (Option ℕ)) (cs zs : List Cell) (term : Term) (hash start key' : ℕ) → IsSplit number dummies cs → IsStartOf ds (hash % length ds) start → ds ≡ dummies → hash ≡ number term → key' ≡ key_of_item hash → zs ≡ cs → StandsUpTo key' start zs
-item-stands number dummies ds cs zs term hash start key' i s d h k z =
-    let P : List Cell → Type 0 = λ ys. StandsUpTo key' start ys in
-    let Q : List (Option ℕ) → Type 0 = λ es. IsStartOf es (hash % length es) start in
-    let s' : IsStartOf dummies (hash % length dummies) start = subst Q d s in
-    let b = in-bucket number dummies cs term (hash % length dummies) start i s' (ap (λ (n : ℕ). n % length dummies) h) in
-    let low : key_of_dummy (hash % length dummies) < key_of_item (number term) = b.low in
-    let same' : key' ≡ key_of_item (number term) = k ∙ ap key_of_item h in
-    subst P (sym z) (start-stands dummies (hash % length dummies) start key' cs i.stand s' (omega arith))
-
 -- where a dummy may be put from
 pub dummy-stands : (number : Term → ℕ) (dummies ds : List (Option ℕ)) (cs zs : List Cell) (bucket start key' : ℕ) → IsSplit number dummies cs → IsStartOf ds bucket start → ds ≡ dummies → key' ≡ key_of_dummy bucket → zs ≡ cs → StandsUpTo key' start zs
 dummy-stands number dummies ds cs zs bucket start key' i s d k z =

@@ -10,6 +10,7 @@ mod hint;
 mod order;
 mod places;
 mod rows;
+mod start;
 mod survey;
 mod sweep;
 

@@ -14,10 +14,12 @@ use std::test::Fail;
 mod calls;
 mod growth;
 mod hashes;
+mod refused;
 mod searches;
+mod several;
 mod sizes;
 
-use self::hashes::{Even, Plain};
+use self::hashes::{Even, Last, Plain};
 
 /// Numbers that look random, the same in each run.
 #[derive(Drop)]

@@ -1,5 +1,5 @@
 -- The first items of the intervals of keys.
-use Rattle.std.specs.Prelude.{◌≡◌, ◌≢◌, ◌⊎◌, ℕ, ◌+◌, ◌/◌, ◌^◌, Bool, true, false, nat_eq, ◌&&◌, if◌then◌else◌, List, [], ◌∷◌, Option, Some, None, is_some, length, get_or}
+use Rattle.std.specs.Prelude.{◌≡◌, ◌≢◌, ◌⊎◌, ℕ, ◌+◌, ◌<◌, ◌/◌, ◌^◌, Bool, true, false, nat_eq, ◌&&◌, if◌then◌else◌, List, [], ◌∷◌, Option, Some, None, is_some, length, get_or}
 use Rattle.ets_term.specs.declared.term.Term.{Term}
 use Rattle.node_list.specs.declared.node.Item.{Item}
 use Rattle.node_list.specs.Cells.{Cell, new_cell}
@@ -36,6 +36,12 @@ pub record IsRows (number : Term → ℕ) (dummies : List (Option ℕ)) (shift :
 -- rows of some hash
 abbrev pub AreRows : List (Option ℕ) → ℕ → List (Option (Option ℕ)) → List Cell → Type 0
 AreRows dummies shift firsts cells = (number : Term → ℕ) × IsRows number dummies shift firsts cells
+
+-- the first item of a lower interval is known to stand at this place
+pub record IsFirstBelow (index at : ℕ) (firsts : List (Option (Option ℕ))) : Type 0 where
+  pub lower : ℕ
+  pub less : lower < index
+  pub known : get_or firsts lower None ≡ Some (Some at)
 
 -- an item put in with this key is the first of its interval
 abbrev pub IsNewFirst : ℕ → ℕ → List Cell → ℕ → Type 0

@@ -50,6 +50,13 @@ pub record IsStartOf (dummies : List (Option ℕ)) (bucket at : ℕ) : Type 0 wh
   pub before : key_of_dummy nearest ≤ key_of_dummy bucket
   pub own : IsSome (get_or dummies bucket None) → nearest ≡ bucket
 
+-- a node with a lesser key stands at this place
+pub record StandsBelow (key at : ℕ) (cells : List Cell) : Type 0 where
+  pub cell : Cell
+  pub later : List Cell
+  pub is : from at cells ≡ cell ∷ later
+  pub below : cell.key < key
+
 -- an item's key is odd and a dummy's is even
 abbrev pub HaveParity : List Cell → Type 0
 HaveParity [] = Unit {0}

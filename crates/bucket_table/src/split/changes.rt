@@ -6,8 +6,9 @@ ghost use Rattle.bucket_table.specs.Split.{key_of_place};
 ghost use Rattle.bucket_table.specs.inside.Sweeps.{swept};
 
 use super::SplitRows;
-use super::directory::{hash_of, start_of};
+use super::directory::hash_of;
 use super::firsts::{becomes_first, note, take_out};
+use super::start::start_below;
 use super::sweep::{Sweep, purge_noted, sweep_all};
 use crate::entry::Place;
 use ets_term::{KeyHash, Term};
@@ -45,7 +46,13 @@ impl<H: KeyHash + Copy + Drop> SplitRows<H> {
         ensures buckets { self.new.ready ≡ self.old.ready }
     {
         self.list.known();
-        let start = start_of(&self.dummies, number);
+        let start = start_below(
+            &self.list,
+            &self.dummies,
+            &self.firsts,
+            self.shift,
+            number,
+        );
         let key_of_split = item_key(number);
         let moves = becomes_first(&self.list, &self.firsts, self.shift, key_of_split);
         let index = (key_of_split >> self.shift) as usize;
@@ -115,7 +122,13 @@ impl<H: KeyHash + Copy + Drop> SplitRows<H> {
     {
         self.list.known();
         let key = self.list.key(place);
-        let start = start_of(&self.dummies, hash_of(key));
+        let start = start_below(
+            &self.list,
+            &self.dummies,
+            &self.firsts,
+            self.shift,
+            hash_of(key),
+        );
         let slot = take_out(&mut self.list, &mut self.firsts, self.shift, start, place);
         self.slots -= 1;
         slot

@@ -6,9 +6,9 @@ ghost use Rattle.bucket_table.specs.inside.Sweeps.{swept, IsSweptOn, IsFateOf};
 ghost use Rattle.bucket_table.specs.inside.Notes.{AreAmong};
 ghost use Rattle.bucket_table.specs.Slots.{purged};
 
-use super::directory::start_of;
 use super::firsts::take_out;
 use super::hint::Hint;
+use super::start::start_below;
 use ets_term::KeyHash;
 use node_list::{At, Link, NodeList};
 use split_key::item_key;
@@ -85,7 +85,7 @@ fn sweep_one<H: KeyHash + Copy + Drop>(
     }
 }
 
-/// Purges the slots from the start of a hash up to the last that has it.
+/// Purges the slots from a place in front of those of a hash up to the last that has it.
 fn purge_run<H: KeyHash + Copy + Drop>(
     hash: H,
     list: &mut NodeList,
@@ -104,7 +104,7 @@ fn purge_run<H: KeyHash + Copy + Drop>(
 {
     list.known();
     let key = item_key(number);
-    let mut at = start_of(dummies, number);
+    let mut at = start_below(list, dummies, firsts, shift, number);
     while let Some(next) = list.after(at) {
         list.known();
         if key < list.key(next) {

@@ -237,5 +237,6 @@ fn split_rows_of_even_hashes_are_a_list(rt: HostRuntime) -> Result<(), Fail> {
 fn split_rows_of_one_hash_are_a_list(rt: HostRuntime) -> Result<(), Fail> {
     let alloc = rt.alloc();
     assert!(rt; thousands(&mut SplitRows::new(alloc, AllSame)?, alloc)?);
+    assert!(rt; thousands(&mut SplitRows::new(alloc, Last)?, alloc)?);
     Ok(())
 }

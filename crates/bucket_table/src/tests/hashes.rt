@@ -38,3 +38,19 @@ impl KeyHash for Plain {
         }
     }
 }
+
+/// One hash for all keys, the greatest.
+#[derive(Clone, Copy, Drop)]
+pub struct Last;
+
+impl KeyHash for Last {
+    ghost use Rattle.std.proofs.Common.{arith};
+
+    ghost number = { λ _ _. 4294967295 };
+
+    ghost below = { λ _ _. Prim.omega arith };
+
+    fn hash32(&self, _term: &Term) -> u32 {
+        u32::MAX
+    }
+}

@@ -116,6 +116,12 @@ fn by_one_hash(rt: HostRuntime) -> Result<(), Fail> {
     Ok(())
 }
 
+#[test]
+fn by_the_greatest_hash_alone(rt: HostRuntime) -> Result<(), Fail> {
+    assert!(rt; searches(rt.alloc(), Last, 8)?);
+    Ok(())
+}
+
 /// How many nodes a search looks at.
 fn steps_for<H: KeyHash + Copy + Drop>(rows: &SplitRows<H>, key: &Term) -> u64 {
     let mut steps = Steps::new();
@@ -150,6 +156,32 @@ fn eight_in_eight(alloc: Global) -> Result<bool, AllocError> {
 #[test]
 fn few_steps_in_ready_buckets(rt: HostRuntime) -> Result<(), Fail> {
     assert!(rt; eight_in_eight(rt.alloc())?);
+    Ok(())
+}
+
+/// Whether readying a bucket tells the first slots of its eighths and of its parent's: a search then looks at no node
+/// where the eighth is empty, and at one alone where the key's slot is the first.
+fn eighths_in_eight(alloc: Global) -> Result<bool, AllocError> {
+    let mut rows = SplitRows::new(alloc, Plain)?;
+    for number in 0..8u32 {
+        put_process(&mut rows, alloc, number)?;
+    }
+    rows.grow()?;
+    rows.grow()?;
+    for bucket in 1..8u32 {
+        rows.ready(bucket)?;
+    }
+    let mut all = true;
+    for number in 0..64u32 {
+        let most = u64::from(number < 8);
+        all = steps_for(&rows, &Term::Pid(number)) == most && all;
+    }
+    Ok(all)
+}
+
+#[test]
+fn readying_tells_the_eighths(rt: HostRuntime) -> Result<(), Fail> {
+    assert!(rt; eighths_in_eight(rt.alloc())?);
     Ok(())
 }
 

@@ -1,16 +1,17 @@
 use Rattle.bucket_table.specs.inside.Notes.{IsAmong}
 use Rattle.bucket_table.proofs.NoteLaws.{among-entered, among-more, held-told}
-use Rattle.std.proofs.Common.{◌≡◌, ◌+◌, ◌-◌, ◌/◌, ◌^◌, ◌≤◌, false, get_or, refl, ℕ, List, length, None, Option, sym, ◌∙◌, ap, subst, arith}
+use Rattle.std.proofs.Common.{◌≡◌, ◌+◌, ◌-◌, ◌/◌, ◌^◌, ◌≤◌, false, get_or, ℕ, List, length, None, Option, sym, ◌∙◌, ap, subst, arith}
 use Rattle.std.specs.Map.{lookup}
 use Rattle.ets_term.specs.Order.{same}
 use Rattle.split_key.specs.Keys.{key_of_item}
+use Rattle.node_list.specs.Places.{StandsUpTo}
 use Rattle.bucket_table.specs.Slots.{Enters}
 use Rattle.bucket_table.specs.inside.Nodes.{slots_of}
 use Rattle.bucket_table.specs.inside.Firsts.{KeepsFirst}
 use Rattle.bucket_table.specs.Split.{Split}
 use Rattle.bucket_table.proofs.CountedLaws.{length-added}
-use Rattle.bucket_table.proofs.RowsLaws.{rows-put}
-use Rattle.bucket_table.proofs.StartLaws.{item-stands}
+use Rattle.bucket_table.proofs.RowsLaws.{rows-put, rows-seen}
+use Rattle.bucket_table.proofs.BelowLaws.{lesser-up-to}
 use Rattle.bucket_table.proofs.SplitLaws.{put-added}
 use Rattle.bucket_table.proofs.SeatLaws.{few-slots}
 use Rattle.bucket_table.proofs.split.SplitRows.insert_slot.Goals as goal
@@ -21,11 +22,15 @@ insert_item-at-requires-clause-room g c =
     let r : 1 ≤ c.self.inside.list.capacity - length c.self.inside.list.cells = subst P (sym c.self.view_is) c.requires.room in
     omega arith
 
+pub start_below-start-requires : goal.start_below-start-requires
+start_below-start-requires g c =
+    rows-seen (g.H.KeyHash.number c.self.inside.hash) c.self.inside.dummies.items c.deref.result.now c.self.inside.shift c.self.inside.firsts.items c.deref-2.result.now c.self.inside.list.cells
+    c.self.invariant.rows c.deref.ensures.value c.deref-2.ensures.value
+
 pub insert_item-at-requires-clause-stands : goal.insert_item-at-requires-clause-stands
 insert_item-at-requires-clause-stands g c =
-    let hash : c.args.number ≡ g.H.KeyHash.number c.self.inside.hash c.args.key = c.requires.number ∙ ap (λ (v : Split g.row.H.Denot). g.H.KeyHash.number v.hash c.args.key) (sym c.self.view_is) in
-    item-stands (g.H.KeyHash.number c.self.inside.hash) c.self.inside.dummies.items c.deref.result.now c.self.inside.list.cells c.self.inside.list.cells c.args.key c.args.number c.start_of-start.result c.item_key-key_of_split.result
-    c.self.invariant.rows.split c.start_of-start.ensures c.deref.ensures.value hash c.item_key-key_of_split.ensures refl
+    let B : ℕ → Type 0 = λ k. StandsUpTo k c.start_below-start.result c.self.inside.list.cells in
+    subst B (sym c.item_key-key_of_split.ensures) (lesser-up-to (key_of_item c.args.number) c.start_below-start.result c.self.inside.list.cells c.start_below-start.ensures)
 
 pub overflow_add-self : goal.overflow_add-self
 overflow_add-self g c = let l = few-slots c.self.inside.list.cells in omega (arith, l, c.self.invariant.counted, c.known.ensures.few)
@@ -39,7 +44,7 @@ invariant_of-self g c =
     let K : List (Option (Option ℕ)) → Type 0 = λ fs. c.becomes_first-moves.result ≡ false → KeepsFirst (2 ^ c.self.inside.shift) index c.self.inside.list.cells c.item_key-key_of_split.result (get_or fs index None) in
     let rows = rows-put number c.self.inside.dummies.items c.self.inside.shift c.self.inside.firsts.items c.self.inside.list.cells c.self.invariant.rows c.note.new.firsts.items c.becomes_first-moves.result c.insert_item-at.result c.item_key-key_of_split.result c.args.key c.args.objects c.insert_item-at.new.self.cells
     c.insert_item-at.ensures.fresh (c.item_key-key_of_split.ensures ∙ ap key_of_item hash) none c.insert_item-at.ensures.cells
-    c.note.ensures c.becomes_first-moves.ensures.new (subst K c.deref-2.ensures.value c.becomes_first-moves.ensures.old) in
+    c.note.ensures c.becomes_first-moves.ensures.new (subst K c.deref-3.ensures.value c.becomes_first-moves.ensures.old) in
     let one = length-added (slots_of c.self.inside.list.cells) (slots_of c.insert_item-at.new.self.cells) c.args.key c.args.objects (put-added number c.self.inside.dummies.items c.self.inside.list.cells c.self.invariant.rows.split c.insert_item-at.result c.item_key-key_of_split.result c.args.key c.args.objects c.insert_item-at.new.self.cells c.insert_item-at.ensures.cells) in
     let ss = slots_of c.self.inside.list.cells in
     let enters = put-added number c.self.inside.dummies.items c.self.inside.list.cells c.self.invariant.rows.split c.insert_item-at.result c.item_key-key_of_split.result c.args.key c.args.objects c.insert_item-at.new.self.cells c.insert_item-at.ensures.cells in

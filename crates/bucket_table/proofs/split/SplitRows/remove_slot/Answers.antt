@@ -1,10 +1,12 @@
 use Rattle.bucket_table.specs.inside.Notes.{AreAmong}
 use Rattle.bucket_table.proofs.NoteLaws.{among-without}
-use Rattle.std.proofs.Common.{◌≡◌, ◌≢◌, ◌%◌, ℕ, List, Option, refl, Some, IsSome, length, sym, ◌∙◌, ap, subst, arith}
+use Rattle.std.proofs.Common.{◌≡◌, ◌≢◌, ℕ, List, Option, Some, IsSome, length, sym, ◌∙◌, ap, subst, arith}
 use Rattle.ets_term.specs.declared.term.Term.{Term}
 use Rattle.bucket_table.specs.Walks.{StandsBefore}
 use Rattle.bucket_table.proofs.WalkLaws.{before-other}
 use Rattle.bucket_table.proofs.StepLaws.{place-stays}
+use Rattle.std.proofs.Math.Nat.{mod-eq_of_lt}
+use Rattle.split_key.specs.Keys.{key_of_item}
 use Rattle.ets_term.specs.Order.{same}
 use Rattle.node_list.specs.declared.node.Item.{Item}
 use Rattle.node_list.specs.Cells.{Cell, new_item}
@@ -14,10 +16,9 @@ use Rattle.bucket_table.specs.inside.Nodes.{slots_of, places_of}
 use Rattle.bucket_table.proofs.ContentLaws.{found-item}
 use Rattle.bucket_table.proofs.CountedLaws.{length-removed}
 use Rattle.bucket_table.proofs.PlacedLaws.{placed-parity}
-use Rattle.bucket_table.proofs.RowsLaws.{found-behind-start}
+use Rattle.bucket_table.proofs.RowsLaws.{rows-seen}
+use Rattle.bucket_table.proofs.BelowLaws.{found-behind}
 use Rattle.bucket_table.proofs.SeatLaws.{at-place, place-stands, place-key, read-item}
-use Rattle.bucket_table.specs.inside.Layout.{IsStartOf}
-use Rattle.bucket_table.proofs.KeyLaws.{low-bits}
 use Rattle.bucket_table.proofs.SurveyLaws.{item-small}
 use Rattle.bucket_table.proofs.SweepLaws.{rows-out}
 use Rattle.bucket_table.proofs.split.SplitRows.remove_slot.Goals as goal
@@ -39,18 +40,20 @@ hash_of-requires g c =
 pub take_out-slot-requires-clause-parity : goal.take_out-slot-requires-clause-parity
 take_out-slot-requires-clause-parity g c = placed-parity (g.H.KeyHash.number c.self.inside.hash) c.self.inside.dummies.items c.self.inside.list.cells c.self.invariant.rows.split.placed
 
+pub start_below-start-requires : goal.start_below-start-requires
+start_below-start-requires g c =
+    rows-seen (g.H.KeyHash.number c.self.inside.hash) c.self.inside.dummies.items c.deref.result.now c.self.inside.shift c.self.inside.firsts.items c.deref-2.result.now c.self.inside.list.cells
+    c.self.invariant.rows c.deref.ensures.value c.deref-2.ensures.value
+
 pub take_out-slot-requires-clause-stands : goal.take_out-slot-requires-clause-stands
 take_out-slot-requires-clause-stands g c =
     let P : Split g.row.H.Denot → Type 0 = λ v. IsSome (key_of_place v.places c.args.place) in
     let p = at-place c.args.place c.self.inside.list.cells c.known.ensures.apart c.self.invariant.rows.split.distinct (subst P (sym c.self.view_is) c.requires) in
-    let key = place-key (g.H.KeyHash.number c.self.inside.hash) c.self.inside.dummies.items c.args.place c.self.inside.list.cells c.self.invariant.rows.split.placed p c.key-key.result c.key-key.ensures in
-    let s = c.self.invariant.rows.split in
-    let hash = c.hash_of.ensures ((g.H.KeyHash.number c.self.inside.hash) p.key) key in
-    let M : ℕ → Type 0 = λ n. IsStartOf c.deref.result.now n c.start_of-start.result in
-    let low = low-bits ((g.H.KeyHash.number c.self.inside.hash) p.key) s.doublings (length c.deref.result.now) (ap length c.deref.ensures.value ∙ s.size) s.few in
-    let start = subst M (ap (λ (n : ℕ). n % length c.deref.result.now) hash ∙ low) c.start_of-start.ensures in
-    found-behind-start (g.H.KeyHash.number c.self.inside.hash) c.self.inside.dummies.items c.self.inside.shift c.self.inside.firsts.items c.self.inside.list.cells c.self.invariant.rows c.deref.result.now p.key ((g.H.KeyHash.number c.self.inside.hash) p.key) c.args.place c.start_of-start.result
-    p.found c.known.ensures.sorted c.deref.ensures.value start refl
+    let number = g.H.KeyHash.number c.self.inside.hash in
+    let key = place-key number c.self.inside.dummies.items c.args.place c.self.inside.list.cells c.self.invariant.rows.split.placed p c.key-key.result c.key-key.ensures in
+    let hash : c.hash_of.result ≡ number p.key = c.hash_of.ensures (number p.key) key ∙ mod-eq_of_lt (g.met.H.KeyHash.below c.self.inside.hash p.key) in
+    found-behind number c.self.inside.dummies.items p.key c.hash_of.result c.args.place c.start_below-start.result c.self.inside.list.cells
+    c.self.invariant.rows.split.placed c.known.ensures.sorted p.found (ap key_of_item hash) c.start_below-start.ensures
 
 pub overflow_sub-self : goal.overflow_sub-self
 overflow_sub-self g c =

@@ -1,17 +1,19 @@
-use Rattle.std.proofs.Common.{◌%◌, List, None, refl, length, sym, ◌∙◌, subst, arith}
-use Rattle.split_key.specs.Keys.{key_of_dummy}
-use Rattle.node_list.specs.Cells.{Cell, new_cell}
+use Rattle.std.proofs.Common.{List, refl, sym, ◌∙◌, subst, arith}
+use Rattle.node_list.specs.Cells.{Cell}
 use Rattle.node_list.specs.Places.{behind}
 use Rattle.bucket_table.specs.inside.Nodes.{slots_of}
 use Rattle.bucket_table.specs.inside.Notes.{AreAmong}
-use Rattle.bucket_table.proofs.StartLaws.{start-is}
-use Rattle.bucket_table.proofs.RunLaws.{start-below, next-there, beyond-next, nothing-behind, run-purged, run-gone, among-rest}
+use Rattle.bucket_table.proofs.RowsLaws.{rows-seen}
+use Rattle.bucket_table.proofs.RunLaws.{next-there, beyond-next, nothing-behind, run-purged, run-gone, among-rest}
 use Rattle.bucket_table.proofs.split.sweep.purge_run.Goals as goal
+
+pub start_below-at-requires : goal.start_below-at-requires
+start_below-at-requires g c = rows-seen (g.H.KeyHash.number c.args.hash) c.args.dummies.now c.args.dummies.now c.args.shift c.args.firsts.now.items c.deref.result.now c.args.list.now.cells c.requires.rows refl c.deref.ensures.value
 
 pub loop-next-init : goal.loop-next-init
 loop-next-init g c = record {
   rows = c.requires.rows;
-  stands = start-is c.args.dummies.now (c.args.number % length c.args.dummies.now) c.start_of-at.result c.args.list.now.cells c.requires.rows.split.stand c.start_of-at.ensures;
+  stands = (let b = c.start_below-at.ensures in record { cell = b.cell; later = b.later; is = b.is });
   slots = refl;
   rest = λ hs a. a;
   len = refl;
@@ -25,19 +27,17 @@ key-requires g c = next-there c.loop-next.at c.in-Some.next c.loop-next.list.cel
 pub returns-then-key-clause-purged : goal.returns-then-key-clause-purged
 returns-then-key-clause-purged g c =
     let s = c.requires.rows.split in
-    let d = s.stand c.start_of-at.ensures.nearest c.start_of-at.result c.start_of-at.ensures.entry in
-    let below = start-below c.args.dummies.now s.doublings c.args.number c.start_of-at.result s.size s.few c.start_of-at.ensures in
-    run-purged (g.H.KeyHash.number c.args.hash) c.args.dummies.now c.item_key-key.result c.args.number c.item_key-key.ensures c.start_of-at.result c.loop-next.at c.args.list.now.cells c.loop-next.list.cells
-    (new_cell c.start_of-at.result (key_of_dummy c.start_of-at.ensures.nearest) None) d.later d.is (omega (arith, below, c.item_key-key.ensures)) c.known.ensures.sorted s.placed c.loop-next.invariant.stands c.loop-next.invariant.slots
+    let b = c.start_below-at.ensures in
+    run-purged (g.H.KeyHash.number c.args.hash) c.args.dummies.now c.item_key-key.result c.args.number c.item_key-key.ensures c.start_below-at.result c.loop-next.at c.args.list.now.cells c.loop-next.list.cells
+    b.cell b.later b.is (omega (arith, b.below, c.item_key-key.ensures)) c.known.ensures.sorted s.placed c.loop-next.invariant.stands c.loop-next.invariant.slots
 
 pub returns-then-key-clause-gone : goal.returns-then-key-clause-gone
 returns-then-key-clause-gone g c =
     let s = c.requires.rows.split in
-    let d = s.stand c.start_of-at.ensures.nearest c.start_of-at.result c.start_of-at.ensures.entry in
-    let below = start-below c.args.dummies.now s.doublings c.args.number c.start_of-at.result s.size s.few c.start_of-at.ensures in
+    let b = c.start_below-at.ensures in
     let none = beyond-next (g.H.KeyHash.number c.args.hash) c.args.dummies.now c.item_key-key.result c.args.number c.item_key-key.ensures c.loop-next.at c.in-Some.next c.key.result c.loop-next.list.cells c.known-in-Some.ensures.apart c.known-in-Some.ensures.sorted c.loop-next.invariant.rows.split.placed c.loop-next.invariant.stands (sym c.in-Some.ensures) c.key.ensures c.if-key.true in
-    run-gone (g.H.KeyHash.number c.args.hash) c.args.dummies.now c.item_key-key.result c.args.number c.item_key-key.ensures c.start_of-at.result c.loop-next.at c.args.list.now.cells c.loop-next.list.cells
-    (new_cell c.start_of-at.result (key_of_dummy c.start_of-at.ensures.nearest) None) d.later d.is (omega (arith, below, c.item_key-key.ensures)) c.known.ensures.sorted s.placed c.loop-next.invariant.stands c.loop-next.invariant.slots none c.loop-next.invariant.rest
+    run-gone (g.H.KeyHash.number c.args.hash) c.args.dummies.now c.item_key-key.result c.args.number c.item_key-key.ensures c.start_below-at.result c.loop-next.at c.args.list.now.cells c.loop-next.list.cells
+    b.cell b.later b.is (omega (arith, b.below, c.item_key-key.ensures)) c.known.ensures.sorted s.placed c.loop-next.invariant.stands c.loop-next.invariant.slots none c.loop-next.invariant.rest
 
 pub loop-next-preserved : goal.loop-next-preserved
 loop-next-preserved g c =
@@ -57,16 +57,14 @@ loop-next-preserved g c =
 pub returns-clause-purged : goal.returns-clause-purged
 returns-clause-purged g c =
     let s = c.requires.rows.split in
-    let d = s.stand c.start_of-at.ensures.nearest c.start_of-at.result c.start_of-at.ensures.entry in
-    let below = start-below c.args.dummies.now s.doublings c.args.number c.start_of-at.result s.size s.few c.start_of-at.ensures in
-    run-purged (g.H.KeyHash.number c.args.hash) c.args.dummies.now c.item_key-key.result c.args.number c.item_key-key.ensures c.start_of-at.result c.loop-next.at c.args.list.now.cells c.loop-next.list.cells
-    (new_cell c.start_of-at.result (key_of_dummy c.start_of-at.ensures.nearest) None) d.later d.is (omega (arith, below, c.item_key-key.ensures)) c.known.ensures.sorted s.placed c.loop-next.invariant.stands c.loop-next.invariant.slots
+    let b = c.start_below-at.ensures in
+    run-purged (g.H.KeyHash.number c.args.hash) c.args.dummies.now c.item_key-key.result c.args.number c.item_key-key.ensures c.start_below-at.result c.loop-next.at c.args.list.now.cells c.loop-next.list.cells
+    b.cell b.later b.is (omega (arith, b.below, c.item_key-key.ensures)) c.known.ensures.sorted s.placed c.loop-next.invariant.stands c.loop-next.invariant.slots
 
 pub returns-clause-gone : goal.returns-clause-gone
 returns-clause-gone g c =
     let s = c.requires.rows.split in
-    let d = s.stand c.start_of-at.ensures.nearest c.start_of-at.result c.start_of-at.ensures.entry in
-    let below = start-below c.args.dummies.now s.doublings c.args.number c.start_of-at.result s.size s.few c.start_of-at.ensures in
+    let b = c.start_below-at.ensures in
     let none = nothing-behind (g.H.KeyHash.number c.args.hash) c.args.number c.loop-next.at c.loop-next.list.cells (sym c.after.ensures ∙ c.in_default.is) in
-    run-gone (g.H.KeyHash.number c.args.hash) c.args.dummies.now c.item_key-key.result c.args.number c.item_key-key.ensures c.start_of-at.result c.loop-next.at c.args.list.now.cells c.loop-next.list.cells
-    (new_cell c.start_of-at.result (key_of_dummy c.start_of-at.ensures.nearest) None) d.later d.is (omega (arith, below, c.item_key-key.ensures)) c.known.ensures.sorted s.placed c.loop-next.invariant.stands c.loop-next.invariant.slots none c.loop-next.invariant.rest
+    run-gone (g.H.KeyHash.number c.args.hash) c.args.dummies.now c.item_key-key.result c.args.number c.item_key-key.ensures c.start_below-at.result c.loop-next.at c.args.list.now.cells c.loop-next.list.cells
+    b.cell b.later b.is (omega (arith, b.below, c.item_key-key.ensures)) c.known.ensures.sorted s.placed c.loop-next.invariant.stands c.loop-next.invariant.slots none c.loop-next.invariant.rest
