@@ -1,4 +1,4 @@
-ghost use Rattle.std.specs.Prelude.{◌≡◌, length, not, position, IfOk, OnErr};
+ghost use Rattle.std.specs.Prelude.{◌≡◌, ◌<◌, ◌^◌, length, not, position, IfOk, OnErr};
 ghost use Rattle.std.specs.FinMap as map;
 ghost use Rattle.bucket_table.specs.Buckets.{IsGrown, IsReadied};
 ghost use Rattle.bucket_table.specs.Slots.{object_count};
@@ -77,9 +77,10 @@ impl<R: Rows> Walked<R> {
         self.table.keypos()
     }
 
-    /// How many objects there are.
+    /// How many objects there are, fewer than 4,294,967,296.
     pub fn size(&self) -> usize
-        ensures { result ≡ object_count self.now.content.slots }
+        ensures count { result ≡ object_count self.now.content.slots }
+        ensures few { result < 2 ^ 32 }
     {
         self.table.size()
     }

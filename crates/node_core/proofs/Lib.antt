@@ -6,4 +6,3 @@ pub mod Contents
 pub mod Enrolments
 pub mod Runs
 pub mod Trees
-pub mod Counts

@@ -3,6 +3,7 @@ pub mod Counts
 pub mod DropLaws
 pub mod KeptLaws
 pub mod MarkLaws
+pub mod NewLaws
 pub mod PutLaws
 pub mod QueryLaws
 pub mod ReadLaws

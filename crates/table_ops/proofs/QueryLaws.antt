@@ -10,8 +10,10 @@ use Rattle.bucket_table.specs.Slots.{Slot, HasDistinctKeys, objects_of, slots_be
 use Rattle.bucket_table.specs.Walks.{StandsFirst, IsFirstPlace, IsNextPlace, behind_in}
 use Rattle.bucket_table.proofs.PlainLaws.{at-place}
 use Rattle.node_list.specs.Ticks.{tick, ticks}
+use Rattle.table_ops.specs.declared.kind.Kind.{Kind}
 use Rattle.table_ops.specs.Queries.{also, answers, chosen_count}
 use Rattle.table_ops.specs.Read.{all_objects}
+use Rattle.table_ops.specs.inside.Counted.{IsCounted}
 use Rattle.table_ops.proofs.ReadLaws.{objects-push}
 use Rattle.table_ops.proofs.StoreLaws.{take-one}
 
@@ -67,6 +69,10 @@ module _ (choose : Term → Bool) where
 pub objects-count : (slots : List Slot) → length (all_objects slots) ≡ object_count slots
 objects-count [] = refl
 objects-count (s ∷ ss) = omega (arith, length-append s.1 (all_objects ss), objects-count ss)
+
+-- so those that are chosen are fewer than a table may have
+pub chosen-below : (choose : Term → Bool) (kind : Kind) (keypos limit count n : ℕ) (slots : List Slot) → IsCounted kind keypos limit count slots → n ≡ chosen_count choose (all_objects slots) → n < 2 ^ 32
+chosen-below choose kind keypos limit count n slots i e = omega (arith, e, chosen-few choose (all_objects slots), objects-count slots, i.counted, i.within, i.few)
 
 count-append : (xs ys : List Slot) → object_count (xs ++ ys) ≡ object_count xs + object_count ys
 count-append [] ys = omega arith

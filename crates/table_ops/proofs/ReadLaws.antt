@@ -1,12 +1,11 @@
 -- Elements at a position, and all objects, one more at a time.
-use Rattle.std.proofs.Common.{◌≡◌, ℕ, zero, suc, ◌+◌, ◌<◌, List, [], ◌∷◌, ◌++◌, Option, None, Some, refl, sym, ap, ◌∙◌, length, take, drop, slice_get, append_assoc, add-one, arith}
+use Rattle.std.proofs.Common.{◌≡◌, ℕ, zero, suc, ◌+◌, ◌<◌, List, [], ◌∷◌, ◌++◌, Option, None, Some, refl, sym, ap, ◌∙◌, length, take, slice_get, append_assoc, add-one, arith}
 use Rattle.std.proofs.lemmas.List.{append-nil}
-use Rattle.std.specs.Option.{option_map, option_and_then, option_flatten}
+use Rattle.std.specs.Option.{option_map, option_and_then}
 use Rattle.ets_term.specs.declared.term.Term.{Term}
 use Rattle.ets_term.specs.declared.term.Term.TheVariants.{List as list_term}
 use Rattle.ets_term.specs.Depth.{element_at}
-use Rattle.bucket_table.specs.Slots.{Slot, HasDistinctKeys, slots_behind}
-use Rattle.bucket_table.proofs.PlainLaws.{at-place, first-of-drop}
+use Rattle.bucket_table.specs.Slots.{Slot}
 use Rattle.table_ops.specs.declared.kind.Kind.TheVariants.{Bag}
 use Rattle.table_ops.specs.Read.{all_objects, elements_at, element_told}
 
@@ -57,15 +56,3 @@ objects-more (x ∷ xs) (suc i) s h = ap (λ l. x.1 ++ l) (objects-more xs i s h
 
 pub objects-push : (slots : List Slot) (i : ℕ) (s : Slot) → slice_get slots i ≡ Some s → all_objects (take (i + 1) slots) ≡ all_objects (take i slots) ++ s.1
 objects-push slots i s h = rw add-one (objects-more slots i s h)
-
-flat : {A : Type 0} (f : A → Slot) (r : Option (Option A)) (v : Option Slot) → option_map (option_map f) r ≡ Some v → option_map f (option_flatten r) ≡ v
-flat f None v h = cc
-flat f (Some o) v h = let is : option_map f o ≡ v = cc in is
-
--- the slot behind the one at a place
-pub next-slot : {A : Type 0} (f : A → Slot) (slots : List Slot) (i : ℕ) (key : Term) (objects : List Term) (r : Option (Option A)) → HasDistinctKeys slots → slice_get slots i ≡ Some (key, objects)
-    → option_map (option_map f) r ≡ option_map (λ ss. slice_get ss 0) (slots_behind slots key) → option_map f (option_flatten r) ≡ slice_get slots (i + 1)
-next-slot f slots i key objects r d at h =
-    let behind = (at-place slots i key objects d at).behind in
-    let next : suc i ≡ i + 1 = omega arith in
-    flat f r (slice_get (drop (suc i) slots) 0) (h ∙ ap (option_map (λ ss. slice_get ss 0)) behind) ∙ first-of-drop slots (suc i) ∙ ap (slice_get slots) next

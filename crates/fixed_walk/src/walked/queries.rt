@@ -1,4 +1,4 @@
-ghost use Rattle.std.specs.Prelude.{◌≡◌, map, filter, IfOk, OnOk, OnErr};
+ghost use Rattle.std.specs.Prelude.{◌≡◌, ◌<◌, ◌^◌, map, filter, IfOk, OnOk, OnErr};
 ghost use Rattle.ets_term.specs.Data.{data_of};
 ghost use Rattle.table_ops.specs.Drop.{without_those};
 ghost use Rattle.table_ops.specs.Queries.{bound_in, matches, given_by, is_chosen, answers, chosen_count};
@@ -36,9 +36,11 @@ impl<R: Rows> Walked<R> {
         self.table.select(spec)
     }
 
-    /// How many objects there are for which the specification gives `true` (stdlib manual, ets:select_count/2).
+    /// How many objects there are for which the specification gives `true`, fewer than 4,294,967,296 (stdlib manual,
+    /// ets:select_count/2).
     pub fn select_count(&self, spec: &Spec) -> Result<usize, AllocError>
-        ensures { IfOk result (λ count. count ≡ chosen_count (is_chosen spec.now) (all_objects self.now.content.slots)) }
+        ensures count { IfOk result (λ count. count ≡ chosen_count (is_chosen spec.now) (all_objects self.now.content.slots)) }
+        ensures few { IfOk result (λ count. count < 2 ^ 32) }
     {
         self.table.select_count(spec)
     }
@@ -58,6 +60,7 @@ impl<R: Rows> Walked<R> {
     #[tactic(auto, using(crate::proofs::HeldLaws::held))]
     pub fn select_delete(&mut self, spec: &Spec) -> Result<usize, AllocError>
         ensures count { IfOk result (λ count. count ≡ chosen_count (is_chosen spec.now) (all_objects self.old.content.slots)) }
+        ensures few { IfOk result (λ count. count < 2 ^ 32) }
         ensures ok { OnOk result (self.new ≡ record self.old { content = without_those (is_fixed self.old.fixes) (λ own. is_chosen spec.now) self.old.content }) }
         ensures err { OnErr result (self.new ≡ self.old) }
     {

@@ -1,6 +1,5 @@
 // Calls that search a table by a pattern or a specification. No call fixes a table yet, so no slot is held.
 ghost use Rattle.std.specs.Prelude.{◌≡◌, ◌<◌, ◌^◌, true, false, map, IfOk, OnOk, IsErrOf};
-ghost use Rattle.bucket_table.specs.Slots.{object_count};
 ghost use Rattle.ets_term.specs.Data.{data_of};
 ghost use Rattle.match_spec.specs.Specifications.{is_pattern, is_spec};
 ghost use Rattle.table_ops.specs.Refusals as table_refusals;
@@ -15,7 +14,7 @@ use crate::step::Reply;
 use crate::table::Rowed;
 use ets_term::{Integer, Items, KeyHash, Term};
 use match_spec::{Pattern, Spec, SpecFault};
-use std::alloc::{AllocError, Global};
+use std::alloc::Global;
 use table_ops::Refusal;
 
 impl<H: KeyHash + Copy> Node<H> {
@@ -59,7 +58,6 @@ impl<H: KeyHash + Copy> Node<H> {
     {
         let table = self.readable(pid, table).ok_or(Refusal::Badarg)?;
         let spec = spec_of(self.alloc, spec)?;
-        may_be_counted(table)?;
         Ok(count_reply(table.select_count(&spec)?))
     }
 
@@ -114,21 +112,10 @@ fn delete_matching(alloc: Global, table: &mut Rowed, pattern: &Term) -> Result<(
 /// Deletes the objects for which a specification gives `true`, and answers how many they were.
 fn delete_chosen(alloc: Global, table: &mut Rowed, spec: &Term) -> Result<usize, Refusal>
     ensures content { table_refusals.Comes (DeletesChosen spec.now table.old.content) table.old.content result table.new.content }
-    ensures few { IfOk result (λ count. count < 2 ^ 63) }
+    ensures few { IfOk result (λ count. count < 2 ^ 32) }
 {
     let spec = spec_of(alloc, spec)?;
-    may_be_counted(table)?;
     Ok(table.select_delete(&spec, false)?)
-}
-
-/// Whether an integer says how many objects there are; no memory has more.
-fn may_be_counted(table: &Rowed) -> Result<(), AllocError>
-    ensures { OnOk result (object_count table.now.content.slots < 2 ^ 63) }
-{
-    if table.size() > Integer::MAX as usize {
-        return Err(AllocError);
-    }
-    Ok(())
 }
 
 fn answers_reply(found: Items<Term>) -> Reply
@@ -137,8 +124,9 @@ fn answers_reply(found: Items<Term>) -> Reply
     Reply::Value(Term::List(found))
 }
 
+/// A count of objects of a table, which an integer always holds.
 fn count_reply(count: usize) -> Reply
-    requires { count < 2 ^ 63 }
+    requires { count < 2 ^ 32 }
     ensures { result ≡ count_reply count }
 {
     Reply::Value(Term::Int(count as Integer))

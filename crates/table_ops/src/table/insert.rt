@@ -1,4 +1,4 @@
-ghost use Rattle.std.specs.Prelude.{◌≡◌, true};
+ghost use Rattle.std.specs.Prelude.{◌≡◌, [], ◌∷◌, true};
 ghost use Rattle.std.specs.List.{list_all, list_any};
 ghost use Rattle.table_ops.specs.Content.{is_object};
 ghost use Rattle.table_ops.specs.Put.{is_taken, Inserts, InsertsNew, Stores};
@@ -6,8 +6,10 @@ ghost use Rattle.table_ops.specs.Refusals.{Comes};
 
 use super::Table;
 use crate::object::{any_too_deep, are_objects, key_of};
+use crate::put::put;
 use crate::put_all::put_list;
 use crate::refusal::Refusal;
+use crate::update::filled;
 use bucket_table::Rows;
 use ets_term::Term;
 
@@ -31,13 +33,53 @@ impl<R: Rows> Table<R> {
         ensures content { Comes (InsertsNew objects.now self.old.content) self.old.content result self.new.content }
         ensures buckets { self.new.buckets ≡ self.old.buckets }
     {
-        if !are_objects(self.keypos, objects) {
-            return Err(Refusal::Badarg);
+        match objects {
+            [object] => self.insert_one_new(object),
+            _ => self.insert_all_new(objects),
         }
-        if self.any_taken(objects) {
+    }
+
+    /// `insert_new` of one object: a search finds its key's slot, or where to put it.
+    fn insert_one_new(&mut self, object: &Term) -> Result<bool, Refusal>
+        ensures content { Comes (InsertsNew (object.now ∷ []) self.old.content) self.old.content result self.new.content }
+        ensures buckets { self.new.buckets ≡ self.old.buckets }
+    {
+        let Some(key) = key_of(self.keypos, object) else {
+            return Err(Refusal::Badarg);
+        };
+        let entry = self.rows.entry(key);
+        if filled(&self.rows, key, entry).is_some() {
             return Ok(false);
         }
-        self.store(objects, true)
+        if object.is_too_deep() {
+            return Err(Refusal::SystemLimit);
+        }
+        let room = self.count < self.limit as usize;
+        let undo = put(
+            self.alloc,
+            &mut self.rows,
+            self.kind,
+            room,
+            entry,
+            key,
+            object,
+        )?;
+        self.count += undo.gain();
+        Ok(true)
+    }
+
+    /// `insert_new` of a list.
+    fn insert_all_new(&mut self, list: &[Term]) -> Result<bool, Refusal>
+        ensures content { Comes (InsertsNew list.now self.old.content) self.old.content result self.new.content }
+        ensures buckets { self.new.buckets ≡ self.old.buckets }
+    {
+        if !are_objects(self.keypos, list) {
+            return Err(Refusal::Badarg);
+        }
+        if self.any_taken(list) {
+            return Ok(false);
+        }
+        self.store(list, true)
     }
 
     /// Whether the key of an object has objects.

@@ -1,4 +1,4 @@
-ghost use Rattle.std.specs.Prelude.{◌≡◌, ◌++◌, IfOk, OnOk};
+ghost use Rattle.std.specs.Prelude.{◌≡◌, ◌≤◌, ◌+◌, ◌++◌, length, vec_len, vec_capacity, IfOk, OnOk};
 ghost use Rattle.table_ops.specs.declared.kind.Kind.TheVariants.{Set, Bag};
 ghost use Rattle.table_ops.specs.Content.{objects_under, is_present};
 ghost use Rattle.table_ops.specs.Read.{all_objects, element_told};
@@ -47,13 +47,12 @@ impl<R: Rows> Table<R> {
     {
         let mut copies = Vec::with_capacity(self.alloc, self.count)?;
         self.rows.known();
-        let mut at = self.rows.first_at();
+        let mut at = self.rows.first_place();
         for _ in 0..self.rows.len() {
-            let Some((key, objects)) = at else {
-                unreachable!()
-            };
+            let Some(place) = at else { unreachable!() };
+            let (_, objects) = self.rows.slot_at(place);
             copy_behind(self.alloc, &mut copies, objects)?;
-            at = self.rows.next_at(key).flatten();
+            at = self.rows.place_behind(place);
         }
         Ok(Items::from_vec(copies))
     }
@@ -85,12 +84,15 @@ fn elements(alloc: Global, objects: &[Term], position: usize) -> Result<Term, Re
     Ok(Term::List(Items::from_vec(copies)))
 }
 
-/// Copies objects behind others.
+/// Copies objects behind others, for which there is room.
 fn copy_behind(alloc: Global, copies: &mut Vec<Term>, objects: &[Term]) -> Result<(), AllocError>
-    ensures { OnOk result (copies.new.items ≡ copies.old.items ++ objects.now) }
+    requires room { vec_len copies.old + length objects.now ≤ vec_capacity copies.old }
+    ensures copied { OnOk result (copies.new.items ≡ copies.old.items ++ objects.now) }
+    ensures len { OnOk result (vec_len copies.new ≡ vec_len copies.old + length objects.now) }
+    ensures capacity { OnOk result (vec_capacity copies.new ≡ vec_capacity copies.old) }
 {
     for object in objects {
-        copies.push(object.try_clone(alloc)?)?;
+        copies.push_reserved(object.try_clone(alloc)?);
     }
     Ok(())
 }

@@ -1,4 +1,4 @@
-ghost use Rattle.std.specs.Prelude.{◌≡◌, ◌≤◌, map, filter, is_some, IfOk, OnOk, OnErr, option_copied};
+ghost use Rattle.std.specs.Prelude.{◌≡◌, ◌≤◌, ◌<◌, ◌^◌, map, filter, is_some, IfOk, OnOk, OnErr, option_copied};
 ghost use Rattle.std.specs.Option.{option_map};
 ghost use Rattle.ets_term.specs.Data.{data_of};
 ghost use Rattle.match_spec.specs.BoundKeys.{bound_key, spec_key};
@@ -82,9 +82,11 @@ impl<R: Rows> Table<R> {
         self.found(spec, spec.bound_key(self.keypos as usize), looks)
     }
 
-    /// How many objects there are for which the specification gives `true` (stdlib manual, ets:select_count/2).
+    /// How many objects there are for which the specification gives `true`, fewer than 4,294,967,296 (stdlib manual,
+    /// ets:select_count/2).
     pub fn select_count(&self, spec: &Spec) -> Result<usize, AllocError>
-        ensures { IfOk result (λ count. count ≡ chosen_count (is_chosen spec.now) (all_objects self.now.content.slots)) }
+        ensures count { IfOk result (λ count. count ≡ chosen_count (is_chosen spec.now) (all_objects self.now.content.slots)) }
+        ensures few { IfOk result (λ count. count < 2 ^ 32) }
     {
         let mut looks = Looks::new();
         self.select_count_counted(spec, &mut looks)
@@ -93,6 +95,7 @@ impl<R: Rows> Table<R> {
     /// `select_count`, counting the objects that are tried, as `select_counted` does.
     pub fn select_count_counted(&self, spec: &Spec, looks: &mut Looks) -> Result<usize, AllocError>
         ensures count { IfOk result (λ count. count ≡ chosen_count (is_chosen spec.now) (all_objects self.now.content.slots)) }
+        ensures few { IfOk result (λ count. count < 2 ^ 32) }
         ensures looks { OnOk result (looks.new ≡ ticks (tried (spec_key self.now.content.keypos (data_of spec.now)) self.now.content.slots) looks.old) }
         ensures at_most { looks.new ≤ ticks (tried (spec_key self.now.content.keypos (data_of spec.now)) self.now.content.slots) looks.old }
     {
@@ -131,6 +134,7 @@ impl<R: Rows> Table<R> {
     /// ets:select_delete/2). Want of memory changes nothing.
     pub fn select_delete(&mut self, spec: &Spec, hold: bool) -> Result<usize, AllocError>
         ensures count { IfOk result (λ count. count ≡ chosen_count (is_chosen spec.now) (all_objects self.old.content.slots)) }
+        ensures few { IfOk result (λ count. count < 2 ^ 32) }
         ensures content { OnOk result (self.new.content ≡ without_those hold (λ own. is_chosen spec.now) self.old.content) }
         ensures err { OnErr result (self.new.content ≡ self.old.content) }
         ensures buckets { self.new.buckets ≡ self.old.buckets }
@@ -147,6 +151,7 @@ impl<R: Rows> Table<R> {
         looks: &mut Looks,
     ) -> Result<usize, AllocError>
         ensures count { IfOk result (λ count. count ≡ chosen_count (is_chosen spec.now) (all_objects self.old.content.slots)) }
+        ensures few { IfOk result (λ count. count < 2 ^ 32) }
         ensures content { OnOk result (self.new.content ≡ without_those hold (λ own. is_chosen spec.now) self.old.content) }
         ensures err { OnErr result (self.new.content ≡ self.old.content) }
         ensures looks { OnOk result (looks.new ≡ ticks (tried (spec_key self.old.content.keypos (data_of spec.now)) self.old.content.slots) looks.old) }
@@ -184,6 +189,7 @@ impl<R: Rows> Table<R> {
     ) -> Result<usize, AllocError>
         requires { OnlyUnder self.now.content.keypos (option_copied key) (C.chooses chooser.now) }
         ensures count { IfOk result (λ count. count ≡ chosen_count (C.chooses chooser.now) (all_objects self.now.content.slots)) }
+        ensures few { IfOk result (λ count. count < 2 ^ 32) }
         ensures looks { OnOk result (looks.new ≡ ticks (tried (option_map data_of (option_copied key.entry)) self.now.content.slots) looks.old) }
         ensures at_most { looks.new ≤ ticks (tried (option_map data_of (option_copied key.entry)) self.now.content.slots) looks.old }
     {
@@ -202,6 +208,7 @@ impl<R: Rows> Table<R> {
     ) -> Result<usize, AllocError>
         requires { OnlyUnder self.old.content.keypos (option_copied key) (C.chooses chooser.now) }
         ensures count { IfOk result (λ count. count ≡ chosen_count (C.chooses chooser.now) (all_objects self.old.content.slots)) }
+        ensures few { IfOk result (λ count. count < 2 ^ 32) }
         ensures content { OnOk result (self.new.content ≡ without_those hold (λ own. C.chooses chooser.now) self.old.content) }
         ensures err { OnErr result (self.new.content ≡ self.old.content) }
         ensures looks { OnOk result (looks.new ≡ ticks (tried (option_map data_of (option_copied key.entry)) self.old.content.slots) looks.old) }

@@ -1,4 +1,4 @@
-ghost use Rattle.std.specs.Prelude.{◌≡◌, ◌≤◌, [], length, vec_capacity, IfOk, OnOk, OnErr};
+ghost use Rattle.std.specs.Prelude.{◌≡◌, IfOk, OnOk, OnErr};
 ghost use Rattle.bucket_table.specs.Slots.{purged};
 ghost use Rattle.table_ops.specs.Content.{objects_under};
 ghost use Rattle.table_ops.specs.Drop.{without_those, of_key, each, DeletesObject};
@@ -9,8 +9,7 @@ use crate::refusal::Refusal;
 use crate::take::{take_at, take_object};
 use bucket_table::Rows;
 use ets_term::{Items, Term};
-use node_list::Chain;
-use std::alloc::{AllocError, Global};
+use std::alloc::AllocError;
 
 impl<R: Rows> Table<R> {
     /// Deletes the objects of a key (stdlib manual, ets:delete/2). The slot stays, held, where slots are held.
@@ -38,10 +37,11 @@ impl<R: Rows> Table<R> {
             return Ok(Items::new(self.alloc));
         };
         let count = self.rows.objects_at(place).len();
-        let room = Vec::with_capacity(self.alloc, count)?;
+        let mut taken = Vec::with_capacity(self.alloc, count)?;
         let objects = take_at(self.alloc, &mut self.rows, hold, place);
         self.count -= count;
-        Ok(unchained(room, objects))
+        objects.move_into(&mut taken);
+        Ok(Items::from_vec(taken))
     }
 
     /// Deletes every instance of an object (stdlib manual, ets:delete_object/2). `Badarg` where the term is no object.
@@ -77,17 +77,4 @@ impl<R: Rows> Table<R> {
     {
         self.rows.purge();
     }
-}
-
-/// The objects of a chain, moved into the room that was made for them.
-fn unchained(mut room: Vec<Term>, mut chain: Chain) -> Items<Term>
-    requires empty { room.items ≡ [] }
-    requires fits { length chain ≤ vec_capacity room }
-    ensures { result ≡ chain }
-{
-    while let Some(object) = chain.pop() {
-        room.push_reserved(object);
-    }
-    room.reverse();
-    Items::from_vec(room)
 }

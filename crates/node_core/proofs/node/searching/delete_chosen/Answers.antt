@@ -1,8 +1,7 @@
-use Rattle.std.proofs.Common.{◌≡◌, false, Ok, ap, subst, arith}
+use Rattle.std.proofs.Common.{◌≡◌, false, Ok, ap, subst}
 use Rattle.table_ops.specs.Drop.{without_those}
 use Rattle.table_ops.specs.Queries.{chosen_count, is_chosen}
 use Rattle.table_ops.specs.Read.{all_objects}
-use Rattle.node_core.proofs.Counts.{chosen-few}
 use Rattle.node_core.proofs.node.searching.delete_chosen.Goals as goal
 
 pub returns-clause-content : goal.returns-clause-content
@@ -13,7 +12,3 @@ returns-clause-content c =
       ap Ok (subst (λ s. c.in_ok-select_delete.field-0 ≡ chosen_count (is_chosen s) (all_objects slots)) same c.in_ok-select_delete.ensures.count),
       subst (λ s. c.select_delete.new.self.content ≡ without_those false (λ _. is_chosen s) c.args.table.now.content) same c.in_ok-select_delete.ensures.content,
     )
-
-pub returns-clause-few : goal.returns-clause-few
-returns-clause-few c =
-    omega (arith, c.in_ok-select_delete.ensures.count, chosen-few (is_chosen c.in_ok-spec.spec) c.args.table.now.content.slots, c.in_ok-may_be_counted.ensures)

@@ -7,6 +7,7 @@ use Rattle.table_ops.specs.inside.Marked.{OnlyUnder, Noted, AreInOrder, thin_all
 use Rattle.table_ops.proofs.BoundLaws.{quiet}
 use Rattle.table_ops.proofs.DropLaws.{counted-less}
 use Rattle.table_ops.proofs.MarkLaws.{in-order, drops, drops-count}
+use Rattle.table_ops.proofs.QueryLaws.{chosen-below}
 use Rattle.table_ops.proofs.table.Table.delete_chosen.Goals as goal
 
 pub note_asked-requires-clause-quiet : goal.note_asked-requires-clause-quiet
@@ -39,3 +40,8 @@ returns-clause-content g c =
     let choose = g.C.Choose.chooses c.args.chooser.now in
     let now : new ≡ dropped c.args.hold (λ own. choose) slots = c.thin_out_all.ensures.slots ∙ ap (λ (ns : List Noted). thin_all c.args.hold ns slots) c.in_ok-gone.ensures.marks ∙ drops choose c.args.hold slots c.known.ensures in
     rw (← c.self.view_is) (ap (λ (l : List Slot). let r : Content = record { kind = c.self.inside.kind; keypos = c.self.inside.keypos; limit = c.self.inside.limit; slots = l } in r) now)
+
+pub returns-clause-few : goal.returns-clause-few
+returns-clause-few g c =
+    let i = c.self.inside in
+    chosen-below (g.C.Choose.chooses c.args.chooser.now) i.kind i.keypos i.limit i.count c.in_ok-gone.gone (g.R.Rows.content i.rows) c.self.invariant c.in_ok-gone.ensures.count
