@@ -32,12 +32,16 @@ fn main(rt: HostRuntime) -> io::Result<ExitCode> {
 fn count_of_milk(alloc: Global) -> Result<(Option<i64>, u32), Refusal> {
     let rows = SplitRows::new(alloc, Fnv)?;
     let mut table = Table::new(alloc, rows, Kind::Set, 1, OBJECTS);
-    let objects = [count(alloc, "tea", 3)?, count(alloc, "milk", 1)?];
-    table.insert(&objects)?;
+    table.insert(stock(alloc)?.as_slice())?;
     let _growth = table.grow()?;
     let milk = atom(alloc, "milk")?;
     let found = count_in(table.lookup(&milk));
     Ok((found, table.buckets()))
+}
+
+/// The objects that go into the table.
+fn stock(alloc: Global) -> Result<Vec<Term>, AllocError> {
+    Ok(vec![in alloc; count(alloc, "tea", 3)?, count(alloc, "milk", 1)?]?)
 }
 
 /// The second element of the only object of a key.
