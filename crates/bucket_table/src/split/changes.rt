@@ -46,13 +46,7 @@ impl<H: KeyHash + Copy + Drop> SplitRows<H> {
         ensures buckets { self.new.ready ≡ self.old.ready }
     {
         self.list.known();
-        let start = start_below(
-            &self.list,
-            &self.dummies,
-            &self.firsts,
-            self.shift,
-            number,
-        );
+        let start = start_below(&self.list, &self.dummies, &self.firsts, self.shift, number);
         let key_of_split = item_key(number);
         let moves = becomes_first(&self.list, &self.firsts, self.shift, key_of_split);
         let index = (key_of_split >> self.shift) as usize;
