@@ -36,7 +36,7 @@ impl Head {
     pub fn is_owned_by(&self, pid: u32) -> bool
         ensures { result ≡ owned_by self.now pid }
     {
-        self.owner == pid
+        pid == self.owner
     }
 
     /// Whether the process may read the table.

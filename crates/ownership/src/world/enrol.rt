@@ -52,7 +52,7 @@ impl<R: Rows> World<R> {
     fn has_most_processes(&self) -> bool
         ensures { result ≡ nat_le self.now.most_processes (length self.now.processes) }
     {
-        self.processes.len() >= self.most_processes as usize
+        self.enrolled() >= self.most_processes as usize
     }
 
     /// A process enters. It must be new.
