@@ -1,0 +1,101 @@
+// Terms as the tests write them: `{a,-1}`, `[x,[]]`, `#7` for an identifier, `<7` for a pid. An atom is any other word, without
+// quotes. A text that tells no term is a fault of its test, which then fails as for want of memory.
+use ets_term::{Atom, Integer, Items, Term};
+use std::alloc::{AllocError, Global};
+use std::mem;
+
+/// What is read so far: the terms before each sign that is open, those behind the last one, and the word that goes on.
+#[derive(Drop)]
+struct Reader {
+    alloc: Global,
+    open: Vec<Items<Term>>,
+    terms: Items<Term>,
+    word: String,
+}
+
+impl Reader {
+    fn take(&mut self, letter: char) -> Result<(), AllocError> {
+        match letter {
+            '{' | '[' => self.begin(),
+            '}' => self.end(true),
+            ']' => self.end(false),
+            ',' | ' ' => self.end_word(),
+            _ => Ok(self.word.push(letter)?),
+        }
+    }
+
+    fn begin(&mut self) -> Result<(), AllocError> {
+        self.end_word()?;
+        self.open.reserve(1)?;
+        let before = mem::replace(&mut self.terms, Items::new(self.alloc));
+        self.open.push_reserved(before);
+        Ok(())
+    }
+
+    fn end(&mut self, is_tuple: bool) -> Result<(), AllocError> {
+        self.end_word()?;
+        let Some(before) = self.open.pop() else {
+            return Err(AllocError);
+        };
+        let terms = mem::replace(&mut self.terms, before);
+        let term = if is_tuple {
+            Term::Tuple(terms)
+        } else {
+            Term::List(terms)
+        };
+        Ok(self.terms.push(term)?)
+    }
+
+    fn end_word(&mut self) -> Result<(), AllocError> {
+        if self.word.is_empty() {
+            return Ok(());
+        }
+        let term = word(self.alloc, self.word.as_str())?;
+        self.word.clear();
+        Ok(self.terms.push(term)?)
+    }
+}
+
+/// The terms that a text tells.
+fn terms(alloc: Global, text: &str) -> Result<Vec<Term>, AllocError> {
+    let mut reader = Reader {
+        alloc,
+        open: Vec::new(alloc),
+        terms: Items::new(alloc),
+        word: String::new(alloc),
+    };
+    for letter in text.chars() {
+        reader.take(letter)?;
+    }
+    reader.end_word()?;
+    Ok(reader.terms.into_vec())
+}
+
+/// The one term that a text tells.
+pub fn term(alloc: Global, text: &str) -> Result<Term, AllocError> {
+    match terms(alloc, text)?.pop() {
+        Some(term) => Ok(term),
+        None => Err(AllocError),
+    }
+}
+
+fn word(alloc: Global, word: &str) -> Result<Term, AllocError> {
+    if let Ok(n) = word.parse::<Integer>() {
+        return Ok(Term::Int(n));
+    }
+    if let Some(n) = number(word, "#") {
+        return Ok(Term::Tid(n));
+    }
+    if let Some(n) = number(word, "<") {
+        return Ok(Term::Pid(n));
+    }
+    match Atom::new(alloc, word) {
+        Ok(atom) => Ok(Term::Atom(atom)),
+        Err(_) => Err(AllocError),
+    }
+}
+
+/// The number behind this sign.
+fn number(word: &str, sign: &str) -> Option<u32> {
+    word.strip_prefix(sign)?.parse::<u32>().ok()
+}
