@@ -140,12 +140,7 @@ fn answer(alloc: Global, world: &mut Tables, event: Event) -> Result<Term, World
 }
 
 /// Whether a call is answered so.
-fn does(
-    alloc: Global,
-    world: &mut Tables,
-    event: Event,
-    wanted: &str,
-) -> Result<bool, AllocError> {
+fn does(alloc: Global, world: &mut Tables, event: Event, wanted: &str) -> Result<bool, AllocError> {
     match answer(alloc, world, event) {
         Ok(told) => Ok(told == term(alloc, wanted)?),
         Err(WorldFault::Badarg) => Ok(wanted == "** badarg"),

@@ -52,7 +52,10 @@ const IN_ORDER: [Row; 11] = [
     (New(1, "c", "[]"), "#2"),
     (New(0, "d", "[named_table,{heir,<1,[x]}]"), "d"),
     (End(0), "{}"),
-    (Receive(1), "[{ETS-TRANSFER,#0,<0,1},{ETS-TRANSFER,d,<0,[x]}]"),
+    (
+        Receive(1),
+        "[{ETS-TRANSFER,#0,<0,1},{ETS-TRANSFER,d,<0,[x]}]",
+    ),
     (Receive(2), "[{ETS-TRANSFER,#1,<0,2}]"),
     (Info(3, "heir"), "<1"),
 ];

@@ -4,7 +4,11 @@ use std::test::Fail;
 
 const READ: [Row; 12] = [
     (
-        New(0, "t", "[set,public,private,named_table,duplicate_bag,{keypos,4294967295}]"),
+        New(
+            0,
+            "t",
+            "[set,public,private,named_table,duplicate_bag,{keypos,4294967295}]",
+        ),
         "t",
     ),
     (Info(0, "name"), "t"),
@@ -28,10 +32,21 @@ fn options_are_read(rt: HostRuntime) -> Result<(), Fail> {
 
 const TUNING: [Row; 4] = [
     (
-        New(0, "t", "[compressed,{read_concurrency,true},{write_concurrency,auto}]"),
+        New(
+            0,
+            "t",
+            "[compressed,{read_concurrency,true},{write_concurrency,auto}]",
+        ),
         "#0",
     ),
-    (New(0, "t", "[{decentralized_counters,false},{heir,<1,a},{heir,none}]"), "#1"),
+    (
+        New(
+            0,
+            "t",
+            "[{decentralized_counters,false},{heir,<1,a},{heir,none}]",
+        ),
+        "#1",
+    ),
     (Info(1, "heir"), "none"),
     (Info(1, "protection"), "protected"),
 ];
