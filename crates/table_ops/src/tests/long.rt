@@ -62,20 +62,20 @@ fn agree<A: Rows, B: Rows>(
 }
 
 fn fnv_agrees(alloc: Global, kind: Kind) -> Result<bool, Fail> {
-    let mut second = split(alloc, kind, 1_000_000)?;
+    let mut second = split(alloc, kind, 1, 1_000_000)?;
     Ok(agree(
         alloc,
-        &mut plain(alloc, kind, 1_000_000),
+        &mut plain(alloc, kind, 1, 1_000_000),
         &mut second,
         CALLS,
     ))
 }
 
 fn same_agrees(alloc: Global, kind: Kind) -> Result<bool, Fail> {
-    let mut second = same(alloc, kind, 1_000_000)?;
+    let mut second = same(alloc, kind, 1, 1_000_000)?;
     Ok(agree(
         alloc,
-        &mut plain(alloc, kind, 1_000_000),
+        &mut plain(alloc, kind, 1, 1_000_000),
         &mut second,
         CALLS,
     ))
@@ -151,13 +151,13 @@ fn has_all<R: Rows>(alloc: Global, table: &mut Table<R>, last: i64) -> bool {
 }
 
 fn fnv_fills(alloc: Global) -> Result<bool, Fail> {
-    Ok(fills(alloc, &mut split(alloc, Kind::Set, 1_000_000)?, 10_000))
+    Ok(fills(alloc, &mut split(alloc, Kind::Set, 1, 1_000_000)?, 10_000))
 }
 
 #[test]
 fn fills_and_empties(rt: HostRuntime) -> Result<(), Fail> {
     let alloc = rt.alloc();
-    assert!(rt; fills(alloc, &mut plain(alloc, Kind::Set, 1_000_000), 10_000));
+    assert!(rt; fills(alloc, &mut plain(alloc, Kind::Set, 1, 1_000_000), 10_000));
     assert!(rt; fnv_fills(alloc)?);
     Ok(())
 }
