@@ -1,0 +1,23 @@
+use Rattle.std.proofs.Common.{◌≡◌, Option, None, Some, inl, option_map, sym, ap, ◌∙◌, arith}
+use Rattle.std.proofs.Math.ListN.{length-set}
+use Rattle.fixed_walk.specs.Fixed.{Fixed}
+use Rattle.ownership.specs.World.{Table, World, table_at, with_fixed}
+use Rattle.ownership.proofs.Heads.{heads-same, fixed-there}
+use Rattle.ownership.proofs.world.World.table_mut.Goals as goal
+
+pub invariant_of-self-lent : goal.invariant_of-self-lent
+invariant_of-self-lent g c = λ w.
+    let items = c.self.inside.places.items in
+    let at : table_at items c.args.id ≡ Some c.in_ok-table.table.now = sym (c.in_ok-place.ensures.item.3.1 None) ∙ sym c.in_ok-table.ensures.value in
+    (omega (arith, length-set {A = Option Table}, c.self.invariant.0), rw (heads-same items c.args.id c.in_ok-table.table.now w at) c.self.invariant.1)
+
+pub returns : goal.returns
+returns g c =
+    let items = c.self.inside.places.items in
+    let at : table_at items c.args.id ≡ Some c.in_ok-table.table.now = sym (c.in_ok-place.ensures.item.3.1 None) ∙ sym c.in_ok-table.ensures.value in
+    let ends : (w : Fixed) → _ = λ w.
+    ap (λ tables. record { most_processes = c.self.inside.most_processes; most_tables = c.self.inside.most_tables; processes = c.self.inside.processes.entries; tables = tables }) (fixed-there items c.args.id c.in_ok-table.table.now w at)
+    ∙ ap (λ (v : World). record v { tables = with_fixed v.tables c.args.id w }) c.self.view_is in (
+      λ i. inl (c.walked_mut.result.ghost_name, λ w. ends w i),
+      record { lends = tt; value = ap Some (c.walked_mut.ensures.value) ∙ ap (λ (o : Option Table). option_map (λ table. table.fixed) o) (sym at ∙ ap (λ (v : World). table_at v.tables c.args.id) c.self.view_is) },
+    )

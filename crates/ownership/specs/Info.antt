@@ -1,0 +1,71 @@
+-- What can be asked of a table (stdlib manual, module ets, info/2).
+use Rattle.std.specs.Prelude.{ℕ, pos, Bool, true, false, if◌then◌else◌, List, Option, Some, None, codes}
+use Rattle.std.specs.Option.{option_and_then}
+use Rattle.std.specs.Str.{bytes_eq}
+use Rattle.ets_term.specs.declared.term.Term.{Term}
+use Rattle.ets_term.specs.declared.term.Term.TheVariants.{Atom, Int, Pid, Tid}
+use Rattle.ets_term.specs.Atoms.{text_of}
+use Rattle.bucket_table.specs.Slots.{object_count}
+use Rattle.table_ops.specs.declared.kind.Kind.{Kind}
+use Rattle.table_ops.specs.declared.kind.Kind.TheVariants.{Set, Bag, DuplicateBag}
+use Rattle.fixed_walk.specs.Fixes.{is_fixed}
+use Rattle.ownership.specs.declared.head.Heir.{Heir}
+use Rattle.ownership.specs.declared.head.Protection.{Protection}
+use Rattle.ownership.specs.declared.head.Protection.TheVariants as protection
+use Rattle.ownership.specs.declared.info.InfoItem.{InfoItem}
+use Rattle.ownership.specs.declared.info.InfoItem.TheVariants as item
+use Rattle.ownership.specs.World.{Table}
+
+abbrev pub table_item : List ℕ → Option InfoItem
+table_item word =
+    if bytes_eq word (codes "size") then Some item.Size
+    else if bytes_eq word (codes "type") then Some item.Kind
+    else if bytes_eq word (codes "keypos") then Some item.Keypos
+    else if bytes_eq word (codes "fixed") then Some item.Fixed
+    else None
+
+abbrev pub word_item : List ℕ → Option InfoItem
+word_item word =
+    if bytes_eq word (codes "name") then Some item.Name
+    else if bytes_eq word (codes "named_table") then Some item.NamedTable
+    else if bytes_eq word (codes "owner") then Some item.Owner
+    else if bytes_eq word (codes "protection") then Some item.Protection
+    else if bytes_eq word (codes "heir") then Some item.Heir
+    else if bytes_eq word (codes "id") then Some item.Id
+    else table_item word
+
+-- the item that a term names; None where it names none
+abbrev pub item_of : Term → Option InfoItem
+item_of term = option_and_then word_item (text_of term)
+
+abbrev pub truth : Bool → Term
+truth true = Atom (codes "true")
+truth false = Atom (codes "false")
+
+abbrev pub protection_word : Protection → List ℕ
+protection_word protection.Public = codes "public"
+protection_word protection.Protected = codes "protected"
+protection_word protection.Private = codes "private"
+
+abbrev pub kind_word : Kind → List ℕ
+kind_word Set = codes "set"
+kind_word Bag = codes "bag"
+kind_word DuplicateBag = codes "duplicate_bag"
+
+-- the heir that was set, whether or not it lives
+abbrev pub heir_term : Option Heir → Term
+heir_term None = Atom (codes "none")
+heir_term (Some heir) = Pid heir.pid
+
+-- what there is to say of the table with this identifier
+abbrev pub info_of : InfoItem → ℕ → Table → Term
+info_of item.Name t table = Atom table.head.name
+info_of item.NamedTable t table = truth table.head.named
+info_of item.Owner t table = Pid table.head.owner
+info_of item.Protection t table = Atom (protection_word table.head.protection)
+info_of item.Heir t table = heir_term table.head.heir
+info_of item.Id t table = Tid t
+info_of item.Size t table = Int (pos (object_count table.fixed.content.slots))
+info_of item.Kind t table = Atom (kind_word table.fixed.content.kind)
+info_of item.Keypos t table = Int (pos table.fixed.content.keypos)
+info_of item.Fixed t table = truth (is_fixed table.fixed.fixes)

@@ -1,0 +1,9 @@
+pub mod World
+pub mod Outcomes
+pub mod Heads
+pub mod Options
+pub mod Messages
+pub mod Tables
+pub mod End
+pub mod Info
+pub mod inside

@@ -1,0 +1,120 @@
+-- The options of `new`, and the heirs that `setopts` sets (stdlib manual, module ets, new/2 and setopts/2): read from the left, a later one
+-- overriding an earlier.
+use Rattle.std.specs.Prelude.{ℕ, pos, nat_le, ◌&&◌, ◌||◌, Bool, true, false, if◌then◌else◌, List, [], ◌∷◌, Option, Some, None, codes, option_map}
+use Rattle.std.specs.Option.{option_and_then}
+use Rattle.std.specs.Str.{bytes_eq}
+use Rattle.ets_term.specs.declared.term.Term.{Term, out-Term}
+use Rattle.ets_term.specs.declared.term.Term.TheOpen.{Term-F}
+use Rattle.ets_term.specs.Atoms.{is_atom}
+use Rattle.table_ops.specs.declared.kind.Kind.TheVariants.{Set, Bag, DuplicateBag}
+use Rattle.ownership.specs.declared.head.Heir.{Heir}
+use Rattle.ownership.specs.declared.head.Protection.TheVariants.{Public, Protected, Private}
+use Rattle.ownership.specs.declared.options.NewOptions.{NewOptions}
+
+-- what holds where no option says otherwise
+abbrev pub usual : NewOptions
+usual = record { kind = Set; keypos = 1; protection = Protected; named = false; heir = None }
+
+abbrev pub natural_form : Term-F Term → Option ℕ
+natural_form (Term-F.Int (pos n)) = Some n
+natural_form _ = None
+
+abbrev pub pid_form : Term-F Term → Option ℕ
+pid_form (Term-F.Pid p) = Some p
+pid_form _ = None
+
+abbrev pub is_boolean : Term → Bool
+is_boolean term = is_atom (codes "true") term || is_atom (codes "false") term
+
+-- the option {keypos,N}; None where N is no position that keys can have
+abbrev pub keypos_option : ℕ → NewOptions → Option NewOptions
+keypos_option n options = if nat_le 1 n && nat_le n 4294967295 then Some (record options { keypos = n }) else None
+
+-- the words that say how the table is to be used; they change nothing
+abbrev pub tuning_word : List ℕ → NewOptions → Option NewOptions
+tuning_word word options = if bytes_eq word (codes "compressed") then Some options else None
+
+-- the words that say who uses the table
+abbrev pub access_word : List ℕ → NewOptions → Option NewOptions
+access_word word options =
+    if bytes_eq word (codes "public") then Some (record options { protection = Public })
+    else if bytes_eq word (codes "protected") then Some (record options { protection = Protected })
+    else if bytes_eq word (codes "private") then Some (record options { protection = Private })
+    else if bytes_eq word (codes "named_table") then Some (record options { named = true })
+    else tuning_word word options
+
+-- an option that is an atom; None where it is none
+abbrev pub word_option : List ℕ → NewOptions → Option NewOptions
+word_option word options =
+    if bytes_eq word (codes "set") then Some (record options { kind = Set })
+    else if bytes_eq word (codes "bag") then Some (record options { kind = Bag })
+    else if bytes_eq word (codes "duplicate_bag") then Some (record options { kind = DuplicateBag })
+    else access_word word options
+
+-- what {heir,none} and {heir,Pid,Data} say; None where a tuple says nothing of an heir
+abbrev pub heir_said : List Term → Option (Option Heir)
+heir_said (name ∷ none ∷ []) = if is_atom (codes "heir") name && is_atom (codes "none") none then Some None else None
+heir_said (name ∷ pid ∷ gift ∷ []) = if is_atom (codes "heir") name then option_map (λ p. Some (record { pid = p; gift = gift })) (pid_form (out-Term pid)) else None
+heir_said _ = None
+
+-- the tuples that say how the table is to be used; they change nothing
+abbrev pub is_tuning : Term → Term → Bool
+is_tuning name value =
+    if is_atom (codes "read_concurrency") name then is_boolean value
+    else if is_atom (codes "decentralized_counters") name then is_boolean value
+    else if is_atom (codes "write_concurrency") name then is_boolean value || is_atom (codes "auto") value
+    else false
+
+abbrev pub pair_option : Term → Term → NewOptions → Option NewOptions
+pair_option name value options =
+    if is_atom (codes "keypos") name then option_and_then (λ n. keypos_option n options) (natural_form (out-Term value))
+    else if is_tuning name value then Some options
+    else None
+
+-- an option that is a tuple and says nothing of an heir; None where it is none
+abbrev pub plain_tuple : List Term → NewOptions → Option NewOptions
+plain_tuple (name ∷ value ∷ []) options = pair_option name value options
+plain_tuple _ options = None
+
+-- what comes of a tuple, where this is what it says of an heir
+abbrev pub tuple_saying : Option (Option Heir) → List Term → NewOptions → Option NewOptions
+tuple_saying (Some heir) elements options = Some (record options { heir = heir })
+tuple_saying None elements options = plain_tuple elements options
+
+-- an option that is a tuple; None where it is none
+abbrev pub tuple_option : List Term → NewOptions → Option NewOptions
+tuple_option elements options = tuple_saying (heir_said elements) elements options
+
+abbrev pub option_form : Term-F Term → NewOptions → Option NewOptions
+option_form (Term-F.Atom word) options = word_option word options
+option_form (Term-F.Tuple elements) options = tuple_option elements options
+option_form _ options = None
+
+abbrev pub options_from : NewOptions → List Term → Option NewOptions
+options_from options [] = Some options
+options_from options (option ∷ rest) = option_and_then (λ o. options_from o rest) (option_form (out-Term option) options)
+
+abbrev pub options_form : Term-F Term → Option NewOptions
+options_form (Term-F.List terms) = options_from usual terms
+options_form _ = None
+
+-- the options that a term tells; None where it is no list of options
+abbrev pub options_of : Term → Option NewOptions
+options_of term = options_form (out-Term term)
+
+-- one entry of setopts; None where it is none
+abbrev pub heir_form : Term-F Term → Option (Option Heir)
+heir_form (Term-F.Tuple elements) = heir_said elements
+heir_form _ = None
+
+abbrev pub heirs_from : Option Heir → List Term → Option (Option Heir)
+heirs_from heir [] = Some heir
+heirs_from heir (option ∷ rest) = option_and_then (λ h. heirs_from h rest) (heir_form (out-Term option))
+
+abbrev pub heirs_form : Option Heir → Term-F Term → Option (Option Heir)
+heirs_form heir (Term-F.List terms) = heirs_from heir terms
+heirs_form heir form = heir_form form
+
+-- the heir that stands after setopts, where this one stood before; None where the term is neither an entry nor a list of such
+abbrev pub heir_after : Option Heir → Term → Option (Option Heir)
+heir_after heir term = heirs_form heir (out-Term term)

@@ -1,0 +1,5 @@
+pub mod Codes
+pub mod Names
+pub mod Lending
+pub mod Reading
+pub mod Ending

@@ -1,0 +1,138 @@
+ghost use Rattle.std.specs.Prelude.{◌≡◌, pos, IfOk};
+ghost use Rattle.ets_term.specs.Character.{IsAtomText};
+ghost use Rattle.ets_term.specs.declared.term.Term.TheVariants as term;
+ghost use Rattle.ownership.specs.Info.{item_of, word_item, table_item, truth, protection_word, kind_word, heir_term};
+
+use crate::head::{Heir, Protection};
+use ets_term::{Atom, Integer, Term};
+use std::alloc::{AllocError, Global};
+use table_ops::Kind;
+
+/// What can be asked of a table (stdlib manual, ets:info/2).
+#[derive(Clone, Copy, Debug, PartialEq, Eq)]
+pub enum InfoItem {
+    /// The name, as given to `new`.
+    Name,
+    /// Whether it is a named table.
+    NamedTable,
+    /// The owner's pid.
+    Owner,
+    /// Who uses the table besides its owner.
+    Protection,
+    /// The pid that was set, whether or not it lives, or `none`.
+    Heir,
+    /// The identifier.
+    Id,
+    /// How many objects there are.
+    Size,
+    /// How many objects the table keeps of one key: `type` in the manual.
+    Kind,
+    /// The position of the key.
+    Keypos,
+    /// Whether some process fixes the table.
+    Fixed,
+}
+
+impl InfoItem {
+    /// The item that a term names.
+    pub fn read(term: &Term) -> Option<InfoItem>
+        ensures { result ≡ item_of term.now }
+    {
+        match term {
+            Term::Atom(word) => InfoItem::of_word(word.text()),
+            _ => None,
+        }
+    }
+
+    fn of_word(word: &str) -> Option<InfoItem>
+        ensures { result ≡ word_item word.now }
+    {
+        if word == "name" {
+            Some(InfoItem::Name)
+        } else if word == "named_table" {
+            Some(InfoItem::NamedTable)
+        } else if word == "owner" {
+            Some(InfoItem::Owner)
+        } else if word == "protection" {
+            Some(InfoItem::Protection)
+        } else if word == "heir" {
+            Some(InfoItem::Heir)
+        } else if word == "id" {
+            Some(InfoItem::Id)
+        } else {
+            InfoItem::of_table_word(word)
+        }
+    }
+
+    fn of_table_word(word: &str) -> Option<InfoItem>
+        ensures { result ≡ table_item word.now }
+    {
+        if word == "size" {
+            Some(InfoItem::Size)
+        } else if word == "type" {
+            Some(InfoItem::Kind)
+        } else if word == "keypos" {
+            Some(InfoItem::Keypos)
+        } else if word == "fixed" {
+            Some(InfoItem::Fixed)
+        } else {
+            None
+        }
+    }
+}
+
+fn atom(alloc: Global, text: &[u8]) -> Result<Term, AllocError>
+    requires { IsAtomText text.now }
+    ensures { IfOk result (λ t. t ≡ term.Atom text.now) }
+{
+    Ok(Term::Atom(Atom::of_bytes(alloc, text)?))
+}
+
+pub fn truth(alloc: Global, value: bool) -> Result<Term, AllocError>
+    ensures { IfOk result (λ t. t ≡ truth value) }
+{
+    if value {
+        atom(alloc, b"true")
+    } else {
+        atom(alloc, b"false")
+    }
+}
+
+pub fn protection_term(alloc: Global, protection: Protection) -> Result<Term, AllocError>
+    ensures { IfOk result (λ t. t ≡ term.Atom (protection_word protection)) }
+{
+    match protection {
+        Protection::Public => atom(alloc, b"public"),
+        Protection::Protected => atom(alloc, b"protected"),
+        Protection::Private => atom(alloc, b"private"),
+    }
+}
+
+pub fn kind_term(alloc: Global, kind: Kind) -> Result<Term, AllocError>
+    ensures { IfOk result (λ t. t ≡ term.Atom (kind_word kind)) }
+{
+    match kind {
+        Kind::Set => atom(alloc, b"set"),
+        Kind::Bag => atom(alloc, b"bag"),
+        Kind::DuplicateBag => atom(alloc, b"duplicate_bag"),
+    }
+}
+
+pub fn heir_term(alloc: Global, heir: &Option<Heir>) -> Result<Term, AllocError>
+    ensures { IfOk result (λ t. t ≡ heir_term heir.now) }
+{
+    match heir {
+        Some(heir) => Ok(Term::Pid(heir.pid)),
+        None => atom(alloc, b"none"),
+    }
+}
+
+/// How many objects there are, as a term; no memory has more than an integer says.
+pub fn size_term(size: usize) -> Result<Term, AllocError>
+    ensures { IfOk result (λ t. t ≡ term.Int (pos size)) }
+{
+    if size > Integer::MAX as usize {
+        return Err(AllocError);
+    }
+    Ok(Term::Int(size as Integer))
+}

@@ -1,0 +1,34 @@
+//! Processes and the tables that they own: whom a table goes to when its owner ends, who may use it, and what it is called.
+//!
+//! *Guarantee.* A contract sees the processes ever enrolled, each with its mailbox, and the tables ever made, each with
+//! its head and its objects. A process that ends leaves none of its fixes, and each of its tables, in order of creation,
+//! is with its heir, who has the message, or is gone with its name. No two named tables have one name. A call that is
+//! refused, or finds no memory, has changed nothing.
+//!
+//! *Weakness.* The end of a process looks at every table ever made, since a table that is lent may be fixed by anybody.
+//!
+//! *Mechanism.* Tables stand at the places of their identifiers, beside an index by name. All messages are made before the
+//! first is posted, and those posted are taken back where memory is refused. A lent table can change in all but its head,
+//! and the index looks at heads alone.
+//!
+//! *Limits.* Processes and tables ever, as the world was made for; identifiers are never used again.
+#![tactic(auto)]
+
+mod fault;
+mod head;
+mod info;
+mod messages;
+mod names;
+mod options;
+mod process;
+mod table;
+#[cfg(test)]
+mod tests;
+mod world;
+
+pub use fault::WorldFault;
+pub use head::{Head, Heir, Protection};
+pub use info::InfoItem;
+pub use options::NewOptions;
+pub use process::Process;
+pub use world::World;

@@ -1,0 +1,80 @@
+// Messages to processes.
+ghost use Rattle.std.specs.Prelude.{◌≡◌, List, ℕ, OnOk, OnErr, IfOk};
+ghost use Rattle.ownership.specs.Messages.{told, transfer, post, post_all};
+ghost use Rattle.ownership.specs.declared.process.Process as model;
+ghost use Rattle.ets_term.specs.declared.term.Term as term;
+
+use crate::head::Head;
+use crate::process::Process;
+use ets_term::{Atom, Items, Term};
+use indexmap::IndexMap;
+use std::alloc::{AllocError, Global};
+
+/// A table as `new` answers it: the name of a named table, else its identifier.
+pub fn name_or_identifier(
+    alloc: Global,
+    named: bool,
+    name: &Atom,
+    id: u32,
+) -> Result<Term, AllocError>
+    ensures { IfOk result (λ t. t ≡ told named name.now id) }
+{
+    if named {
+        Ok(Term::Atom(name.try_clone(alloc)?))
+    } else {
+        Ok(Term::Tid(id))
+    }
+}
+
+/// The message with which the table of this head and identifier comes.
+pub fn transfer(
+    alloc: Global,
+    head: &Head,
+    id: u32,
+    from: u32,
+    gift: &Term,
+) -> Result<Term, AllocError>
+    ensures { IfOk result (λ t. t ≡ transfer head.now id from gift.now) }
+{
+    let word = Term::Atom(Atom::of_bytes(alloc, b"ETS-TRANSFER")?);
+    let table = name_or_identifier(alloc, head.named, &head.name, id)?;
+    let gift = gift.try_clone(alloc)?;
+    let mut elements = Items::new(alloc);
+    elements.push(word)?;
+    elements.push(table)?;
+    elements.push(Term::Pid(from))?;
+    elements.push(gift)?;
+    Ok(Term::Tuple(elements))
+}
+
+/// Posts a message to a process, if there is one of this number.
+pub fn post(
+    processes: &mut IndexMap<u32, Process>,
+    pid: u32,
+    message: Term,
+) -> Result<(), AllocError>
+    ensures ok { OnOk result (processes.new.entries ≡ post processes.old.entries pid message) }
+    ensures err { OnErr result (processes.new.entries ≡ processes.old.entries) }
+{
+    match processes.get_mut(&pid) {
+        Some(process) => {
+            if let Err(error) = process.mailbox.push(message) {
+                return Err(error);
+            }
+            Ok(())
+        }
+        None => {
+            drop(message);
+            Ok(())
+        }
+    }
+}
+
+/// Takes the message back that was posted last to a process. It takes no memory.
+pub fn take_back(processes: &mut IndexMap<u32, Process>, pid: u32)
+    ensures { (before : List (ℕ × model.Process)) (message : term.Term) → processes.old.entries ≡ post before pid message → processes.new.entries ≡ before }
+{
+    if let Some(process) = processes.get_mut(&pid) {
+        let _ = process.mailbox.pop();
+    }
+}

@@ -1,0 +1,38 @@
+ghost use Rattle.std.specs.Prelude.{◌≡◌, ◌≤◌, IfOk};
+ghost use Rattle.ownership.specs.Options.{options_of};
+ghost use Rattle.ownership.specs.Outcomes.{Reads};
+
+mod heir;
+mod read;
+
+use crate::fault::WorldFault;
+use crate::head::{Heir, Protection};
+use ets_term::Term;
+pub use heir::heir_said_by;
+use read::read_all;
+use std::alloc::Global;
+use table_ops::Kind;
+
+/// What a process asks of a new table.
+#[derive(Drop)]
+pub struct NewOptions {
+    pub kind: Kind,
+    pub keypos: u32,
+    pub protection: Protection,
+    pub named: bool,
+    pub heir: Option<Heir>,
+}
+
+impl NewOptions {
+    /// The options in a term (stdlib manual, ets:new/2), read from the left, a later one overriding an earlier. `Badarg`
+    /// where it is no list of options.
+    pub fn read(alloc: Global, term: &Term) -> Result<NewOptions, WorldFault>
+        ensures value { Reads (options_of term.now) result }
+        ensures keypos { IfOk result (λ options. 1 ≤ options.keypos) }
+    {
+        match term {
+            Term::List(terms) => read_all(alloc, terms.as_slice()),
+            _ => Err(WorldFault::Badarg),
+        }
+    }
+}

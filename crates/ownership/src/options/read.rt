@@ -1,0 +1,160 @@
+ghost use Rattle.std.specs.Prelude.{◌≡◌, ◌≤◌, IfOk};
+ghost use Rattle.ets_term.specs.declared.term.Term.{out-Term};
+ghost use Rattle.ownership.specs.Options.{usual, option_form, options_from, word_option, access_word, tuning_word, tuple_option, plain_tuple, pair_option, keypos_option, is_tuning, is_boolean};
+ghost use Rattle.ownership.specs.Outcomes.{Reads};
+ghost use Rattle.ownership.specs.inside.Reading.{Adds, Sets};
+
+use super::NewOptions;
+use super::heir::heir_said;
+use crate::fault::WorldFault;
+use crate::head::Protection;
+use ets_term::Term;
+use std::alloc::Global;
+use table_ops::Kind;
+
+pub fn read_all(alloc: Global, terms: &[Term]) -> Result<NewOptions, WorldFault>
+    ensures value { Reads (options_from usual terms.now) result }
+    ensures keypos { IfOk result (λ options. 1 ≤ options.keypos) }
+{
+    let mut options = NewOptions::usual();
+    for term in terms {
+        if let Err(fault) = options.add(alloc, term) {
+            drop(options);
+            return Err(fault);
+        }
+    }
+    Ok(options)
+}
+
+/// Whether the term is `true` or `false`.
+fn is_boolean(term: &Term) -> bool
+    ensures { result ≡ is_boolean term.now }
+{
+    term.is_atom("true") || term.is_atom("false")
+}
+
+/// Whether a pair says how the table is to be used, which changes nothing.
+fn is_tuning(name: &Term, value: &Term) -> bool
+    ensures { result ≡ is_tuning name.now value.now }
+{
+    if name.is_atom("read_concurrency") {
+        is_boolean(value)
+    } else if name.is_atom("decentralized_counters") {
+        is_boolean(value)
+    } else if name.is_atom("write_concurrency") {
+        is_boolean(value) || value.is_atom("auto")
+    } else {
+        false
+    }
+}
+
+/// Each of these reads one more option over those that stand; false, and nothing changed, where it is none.
+impl NewOptions {
+    /// What holds where no option says otherwise.
+    fn usual() -> NewOptions
+        ensures { result ≡ usual }
+    {
+        NewOptions {
+            kind: Kind::Set,
+            keypos: 1,
+            protection: Protection::Protected,
+            named: false,
+            heir: None,
+        }
+    }
+
+    fn add(&mut self, alloc: Global, term: &Term) -> Result<(), WorldFault>
+        requires { 1 ≤ self.old.keypos }
+        ensures value { Adds (option_form (out-Term term.now) self.old) result self.new }
+        ensures keypos { 1 ≤ self.new.keypos }
+    {
+        let added = match term {
+            Term::Atom(word) => self.set_word(word.text()),
+            Term::Tuple(elements) => return self.add_tuple(alloc, elements.as_slice()),
+            _ => false,
+        };
+        if !added {
+            return Err(WorldFault::Badarg);
+        }
+        Ok(())
+    }
+
+    fn set_word(&mut self, word: &str) -> bool
+        requires { 1 ≤ self.old.keypos }
+        ensures value { Sets (word_option word.now self.old) result self.new }
+        ensures keypos { 1 ≤ self.new.keypos }
+    {
+        if word == "set" {
+            self.kind = Kind::Set;
+        } else if word == "bag" {
+            self.kind = Kind::Bag;
+        } else if word == "duplicate_bag" {
+            self.kind = Kind::DuplicateBag;
+        } else {
+            return self.set_access(word);
+        }
+        true
+    }
+
+    fn set_access(&mut self, word: &str) -> bool
+        requires { 1 ≤ self.old.keypos }
+        ensures value { Sets (access_word word.now self.old) result self.new }
+        ensures keypos { 1 ≤ self.new.keypos }
+    {
+        if word == "public" {
+            self.protection = Protection::Public;
+        } else if word == "protected" {
+            self.protection = Protection::Protected;
+        } else if word == "private" {
+            self.protection = Protection::Private;
+        } else if word == "named_table" {
+            self.named = true;
+        } else {
+            return word == "compressed";
+        }
+        true
+    }
+
+    fn add_tuple(&mut self, alloc: Global, elements: &[Term]) -> Result<(), WorldFault>
+        requires { 1 ≤ self.old.keypos }
+        ensures value { Adds (tuple_option elements.now self.old) result self.new }
+        ensures keypos { 1 ≤ self.new.keypos }
+    {
+        if let Some(heir) = heir_said(alloc, elements)? {
+            self.heir = heir;
+            return Ok(());
+        }
+        if !self.set_tuple(elements) {
+            return Err(WorldFault::Badarg);
+        }
+        Ok(())
+    }
+
+    fn set_tuple(&mut self, elements: &[Term]) -> bool
+        requires { 1 ≤ self.old.keypos }
+        ensures value { Sets (plain_tuple elements.now self.old) result self.new }
+        ensures keypos { 1 ≤ self.new.keypos }
+    {
+        match elements {
+            [name, value] => self.set_pair(name, value),
+            _ => false,
+        }
+    }
+
+    fn set_pair(&mut self, name: &Term, value: &Term) -> bool
+        requires { 1 ≤ self.old.keypos }
+        ensures value { Sets (pair_option name.now value.now self.old) result self.new }
+        ensures keypos { 1 ≤ self.new.keypos }
+    {
+        if !name.is_atom("keypos") {
+            return is_tuning(name, value);
+        }
+        match value {
+            Term::Int(position) if *position >= 1 && *position <= 4_294_967_295 => {
+                self.keypos = *position as u32;
+                true
+            }
+            _ => false,
+        }
+    }
+}

@@ -1,0 +1,61 @@
+ghost use Rattle.std.specs.Prelude.{◌≡◌};
+ghost use Rattle.ownership.specs.World.{empty};
+
+mod access;
+mod end;
+mod enrol;
+mod heirs;
+mod info;
+mod mailbox;
+mod tables;
+
+use crate::process::Process;
+use crate::table::Table;
+use bucket_table::Rows;
+use indexmap::IndexMap;
+use std::alloc::Global;
+use std::marker::Model;
+
+/// Processes and the tables that they own (stdlib manual, module ets). A contract sees how many of both there may ever
+/// be, the processes ever enrolled, and the tables ever made.
+#[derive(Drop)]
+pub struct World<R: Rows> {
+    alloc: Global,
+    most_processes: u32,
+    most_tables: u32,
+    processes: IndexMap<u32, Process>,
+    places: Vec<Option<Table<R>>>,
+    names: IndexMap<String, u32>,
+}
+
+impl<R: Rows> Model for World<R> {
+    ghost use Rattle.std.specs.Prelude.{◌<◌, ◌^◌, length};
+    ghost use Rattle.indexmap.specs.IndexMap.{get_by_text};
+    ghost use Rattle.ownership.specs.World.{World, heads};
+    ghost use Rattle.ownership.specs.inside.Codes.{world_code};
+    ghost use Rattle.ownership.specs.inside.Names.{ByName};
+
+    ghost Value = { World };
+
+    ghost coded = { world_code };
+
+    ghost view = { λ w. record { most_processes = w.most_processes; most_tables = w.most_tables; processes = w.processes.entries; tables = w.places.items } };
+
+    ghost invariant = { λ w. (length w.places.items < 2 ^ 32) × ByName (get_by_text w.names) (heads w.places.items) };
+}
+
+impl<R: Rows> World<R> {
+    /// No process and no table; so many of each may there ever be. It takes no memory.
+    pub fn new(alloc: Global, processes: u32, tables: u32) -> Self
+        ensures { result ≡ empty processes tables }
+    {
+        World {
+            alloc,
+            most_processes: processes,
+            most_tables: tables,
+            processes: IndexMap::new(alloc),
+            places: Vec::new(alloc),
+            names: IndexMap::new(alloc),
+        }
+    }
+}

@@ -1,0 +1,38 @@
+ghost use Rattle.std.specs.Prelude.{◌≡◌};
+ghost use Rattle.ownership.specs.Heads.{may, owned_by, may_read, may_write};
+
+use super::World;
+use bucket_table::Rows;
+
+/// Who may use a table (stdlib manual, module ets, section Table Access Rights). Nobody may where there is none.
+impl<R: Rows> World<R> {
+    /// Whether the process may read the table with this identifier.
+    pub fn may_read(&self, pid: u32, id: u32) -> bool
+        ensures { result ≡ may may_read self.now.tables pid id }
+    {
+        match self.head(id) {
+            Some(head) => head.may_read(pid),
+            None => false,
+        }
+    }
+
+    /// Whether the process may write to it.
+    pub fn may_write(&self, pid: u32, id: u32) -> bool
+        ensures { result ≡ may may_write self.now.tables pid id }
+    {
+        match self.head(id) {
+            Some(head) => head.may_write(pid),
+            None => false,
+        }
+    }
+
+    /// Whether it is the process's own.
+    pub fn is_owner(&self, pid: u32, id: u32) -> bool
+        ensures { result ≡ may owned_by self.now.tables pid id }
+    {
+        match self.head(id) {
+            Some(head) => head.is_owned_by(pid),
+            None => false,
+        }
+    }
+}

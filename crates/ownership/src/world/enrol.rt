@@ -1,0 +1,72 @@
+ghost use Rattle.std.specs.Prelude.{◌≡◌, None, OnOk, OnErr, nat_le, is_some, length};
+ghost use Rattle.ownership.specs.World.{process_at, lives};
+ghost use Rattle.ownership.specs.Outcomes.{Comes};
+ghost use Rattle.ownership.specs.Tables.{Enrol, after_enrol};
+
+use super::World;
+use crate::fault::WorldFault;
+use crate::process::Process;
+use bucket_table::Rows;
+use ets_term::Items;
+use std::alloc::AllocError;
+
+impl<R: Rows> World<R> {
+    /// Whether the process was enrolled and has not ended.
+    pub fn lives(&self, pid: u32) -> bool
+        ensures { result ≡ lives self.now.processes pid }
+    {
+        match self.processes.get(&pid) {
+            Some(process) => process.lives,
+            None => false,
+        }
+    }
+
+    /// How many processes were ever enrolled.
+    pub fn enrolled(&self) -> usize
+        ensures { result ≡ length self.now.processes }
+    {
+        self.processes.len()
+    }
+
+    /// The process with this number begins. `Badarg` where the number was enrolled before; `SystemLimit` where as many
+    /// were enrolled as there may ever be.
+    pub fn enrol(&mut self, pid: u32) -> Result<(), WorldFault>
+        ensures { Comes (Enrol self.old pid) self.old result self.new }
+    {
+        if self.was_enrolled(pid) {
+            return Err(WorldFault::Badarg);
+        }
+        if self.has_most_processes() {
+            return Err(WorldFault::SystemLimit);
+        }
+        self.enter(pid)?;
+        Ok(())
+    }
+
+    fn was_enrolled(&self, pid: u32) -> bool
+        ensures { result ≡ is_some (process_at self.now.processes pid) }
+    {
+        self.processes.contains_key(&pid)
+    }
+
+    fn has_most_processes(&self) -> bool
+        ensures { result ≡ nat_le self.now.most_processes (length self.now.processes) }
+    {
+        self.processes.len() >= self.most_processes as usize
+    }
+
+    /// A process enters. It must be new.
+    #[tactic(auto, using(crate::proofs::Enrolments::enrolling))]
+    fn enter(&mut self, pid: u32) -> Result<(), AllocError>
+        requires { process_at self.old.processes pid ≡ None }
+        ensures ok { OnOk result (self.new ≡ after_enrol self.old pid) }
+        ensures err { OnErr result (self.new ≡ self.old) }
+    {
+        let process = Process {
+            lives: true,
+            mailbox: Items::new(self.alloc),
+        };
+        self.processes.insert(pid, process)?;
+        Ok(())
+    }
+}

@@ -1,0 +1,82 @@
+ghost use Rattle.std.specs.Prelude.{◌≡◌};
+ghost use Rattle.ownership.specs.Tables.{GiveAway, SetOptions, changed, passed_to, with_heir};
+ghost use Rattle.ownership.specs.Outcomes.{Comes};
+
+use super::World;
+use crate::fault::WorldFault;
+use crate::head::Heir;
+use crate::messages::{post, transfer};
+use crate::options::heir_said_by;
+use bucket_table::Rows;
+use ets_term::Term;
+
+/// Tables change hands, and heirs are set.
+impl<R: Rows> World<R> {
+    /// The owner gives its table to another process (stdlib manual, ets:give_away/3), which gets the transfer message
+    /// with the gift; the heir and the fixes stay. `Badarg` where there is no such table, it is not the process's own,
+    /// or the other does not live or is the process itself.
+    pub fn give_away(&mut self, pid: u32, id: u32, to: u32, gift: &Term) -> Result<(), WorldFault>
+        ensures { Comes (GiveAway self.old pid id to gift.now) self.old result self.new }
+    {
+        let Some(head) = self.head(id) else {
+            return Err(WorldFault::Badarg);
+        };
+        if !head.is_owned_by(pid) || to == pid || !self.lives(to) {
+            return Err(WorldFault::Badarg);
+        }
+        let message = transfer(self.alloc, head, id, pid, gift)?;
+        post(&mut self.processes, to, message)?;
+        self.pass(id, to);
+        Ok(())
+    }
+
+    /// The owner sets the heir of its table (stdlib manual, ets:setopts/2): `{heir,none}`, `{heir,Pid,Data}`, or a list of
+    /// these, of which the last counts. `Badarg` where there is no such table, it is not the process's own, or an entry
+    /// is none of these.
+    pub fn set_options(&mut self, pid: u32, id: u32, options: &Term) -> Result<(), WorldFault>
+        ensures { Comes (SetOptions self.old pid id options.now) self.old result self.new }
+    {
+        if !self.is_owner(pid, id) {
+            return Err(WorldFault::Badarg);
+        }
+        match heir_said_by(self.alloc, options) {
+            Ok(Some(heir)) => {
+                self.set_heir(id, heir);
+                Ok(())
+            }
+            Ok(None) => Ok(()),
+            Err(WorldFault::Badarg) => Err(WorldFault::Badarg),
+            Err(_) => Err(WorldFault::Memory),
+        }
+    }
+
+    /// The table has another owner.
+    fn pass(&mut self, id: u32, owner: u32)
+        ensures { self.new ≡ record self.old { tables = changed (passed_to owner) self.old.tables id } }
+    {
+        let place = id as usize;
+        if place >= self.places.len() {
+            return;
+        }
+        let Some(table) = &mut self.places[place] else {
+            return;
+        };
+        table.pass_to(owner);
+    }
+
+    /// The table has another heir, or none.
+    fn set_heir(&mut self, id: u32, heir: Option<Heir>)
+        ensures { self.new ≡ record self.old { tables = changed (with_heir heir) self.old.tables id } }
+    {
+        let place = id as usize;
+        if place >= self.places.len() {
+            drop(heir);
+            return;
+        }
+        let Some(table) = &mut self.places[place] else {
+            drop(heir);
+            return;
+        };
+        table.set_heir(heir);
+    }
+}

@@ -1,0 +1,47 @@
+ghost use Rattle.std.specs.Prelude.{◌≡◌, IfOk, option_map};
+ghost use Rattle.ownership.specs.World.{table_at};
+ghost use Rattle.ownership.specs.Info.{info_of};
+
+use super::World;
+use crate::info::{InfoItem, heir_term, kind_term, protection_term, size_term, truth};
+use crate::table::Table;
+use bucket_table::Rows;
+use ets_term::{Integer, Term};
+use std::alloc::{AllocError, Global};
+
+impl<R: Rows> World<R> {
+    /// What there is to say of the table with this identifier (stdlib manual, ets:info/2); None where there is no such
+    /// table.
+    pub fn info(&self, id: u32, item: InfoItem) -> Result<Option<Term>, AllocError>
+        ensures { IfOk result (λ told. told ≡ option_map (info_of item id) (table_at self.now.tables id)) }
+    {
+        match self.places.get(id as usize) {
+            Some(Some(table)) => Ok(Some(told(self.alloc, table, id, item)?)),
+            _ => Ok(None),
+        }
+    }
+}
+
+fn told<R: Rows>(
+    alloc: Global,
+    table: &Table<R>,
+    id: u32,
+    item: InfoItem,
+) -> Result<Term, AllocError>
+    ensures { IfOk result (λ t. t ≡ info_of item id table.now) }
+{
+    let head = table.head();
+    let walked = table.walked();
+    match item {
+        InfoItem::Name => Ok(Term::Atom(head.name.try_clone(alloc)?)),
+        InfoItem::NamedTable => truth(alloc, head.named),
+        InfoItem::Owner => Ok(Term::Pid(head.owner)),
+        InfoItem::Protection => protection_term(alloc, head.protection),
+        InfoItem::Heir => heir_term(alloc, &head.heir),
+        InfoItem::Id => Ok(Term::Tid(id)),
+        InfoItem::Size => size_term(walked.size()),
+        InfoItem::Kind => kind_term(alloc, walked.kind()),
+        InfoItem::Keypos => Ok(Term::Int(walked.keypos() as Integer)),
+        InfoItem::Fixed => truth(alloc, walked.is_fixed()),
+    }
+}

@@ -1,0 +1,40 @@
+ghost use Rattle.std.specs.Prelude.{◌≡◌};
+ghost use Rattle.ownership.specs.Messages.{mailbox_of, received};
+
+use super::World;
+use crate::process::Process;
+use bucket_table::Rows;
+use ets_term::{Items, Term};
+use indexmap::IndexMap;
+use std::alloc::Global;
+use std::mem;
+
+impl<R: Rows> World<R> {
+    /// The messages that the process has not yet received, oldest first; none where there is no such process.
+    pub fn mailbox(&self, pid: u32) -> &[Term]
+        ensures { result.now ≡ mailbox_of self.now.processes pid }
+    {
+        match self.processes.get(&pid) {
+            Some(process) => process.mailbox.as_slice(),
+            None => &[],
+        }
+    }
+
+    /// The same, taken out of the mailbox, which is then empty. It takes no memory.
+    pub fn receive(&mut self, pid: u32) -> Items<Term>
+        ensures answer { result ≡ mailbox_of self.old.processes pid }
+        ensures after { self.new ≡ record self.old { processes = received self.old.processes pid } }
+    {
+        take_messages(self.alloc, &mut self.processes, pid)
+    }
+}
+
+fn take_messages(alloc: Global, processes: &mut IndexMap<u32, Process>, pid: u32) -> Items<Term>
+    ensures answer { result ≡ mailbox_of processes.old.entries pid }
+    ensures after { processes.new.entries ≡ received processes.old.entries pid }
+{
+    let Some(process) = processes.get_mut(&pid) else {
+        return Items::new(alloc);
+    };
+    mem::replace(&mut process.mailbox, Items::new(alloc))
+}

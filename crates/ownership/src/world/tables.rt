@@ -1,0 +1,230 @@
+ghost use Rattle.std.specs.Prelude.{◌≡◌, ◌+◌, ◌<◌, ◌^◌, ◌&&◌, false, None, OnOk, OnErr, IsTrue, nat_le, length, is_some, option_copied, option_map, IfOk};
+ghost use Rattle.std.specs.Option.{option_copied_mut};
+ghost use Rattle.std.specs.Borrow.{sem};
+ghost use Rattle.ownership.specs.World.{table_at, head_of, whereis, resolve};
+ghost use Rattle.ownership.specs.Messages.{told};
+ghost use Rattle.ownership.specs.Tables.{New, new_head, with_table, without_table};
+ghost use Rattle.ownership.specs.Outcomes.{Comes};
+
+use super::World;
+use crate::fault::WorldFault;
+use crate::head::Head;
+use crate::messages::name_or_identifier;
+use crate::names::{forget, note};
+use crate::options::NewOptions;
+use crate::table::Table;
+use bucket_table::Rows;
+use ets_term::{Atom, Term};
+use fixed_walk::Walked;
+use std::alloc::{AllocError, Global};
+use std::mem;
+
+impl<R: Rows> World<R> {
+    ghost use Rattle.ownership.specs.inside.Lending.{LendsTable};
+
+    /// How many tables were ever made, which is the identifier of the next.
+    pub fn made(&self) -> u32
+        ensures { result ≡ length self.now.tables }
+    {
+        self.places.len() as u32
+    }
+
+    /// What stands over the table with this identifier.
+    pub fn head(&self, id: u32) -> Option<&Head>
+        ensures { option_copied result ≡ head_of (table_at self.now.tables id) }
+    {
+        match self.places.get(id as usize) {
+            Some(Some(table)) => Some(table.head()),
+            _ => None,
+        }
+    }
+
+    /// The identifier of the table with this name (stdlib manual, ets:whereis/1).
+    pub fn whereis(&self, name: &Atom) -> Option<u32>
+        ensures { result ≡ whereis self.now.tables name.now }
+    {
+        self.names.get(name.text()).copied()
+    }
+
+    /// The identifier of the table that a term names: a table's identifier, or the name of a named one.
+    pub fn resolve(&self, term: &Term) -> Option<u32>
+        ensures { result ≡ resolve self.now.tables term.now }
+    {
+        match term {
+            Term::Tid(id) => match self.table(*id) {
+                Some(_) => Some(*id),
+                None => None,
+            },
+            Term::Atom(name) => self.whereis(name),
+            _ => None,
+        }
+    }
+
+    /// The table with this identifier.
+    pub fn table(&self, id: u32) -> Option<&Walked<R>>
+        ensures { option_copied result ≡ option_map (λ table. table.fixed) (table_at self.now.tables id) }
+    {
+        match self.places.get(id as usize) {
+            Some(Some(table)) => Some(table.walked()),
+            _ => None,
+        }
+    }
+
+    /// The table with this identifier, for a change of it alone.
+    pub fn table_mut(&mut self, id: u32) -> Option<&mut Walked<R>>
+        ensures* lends { sem 𝓛 (LendsTable R.row R.Rows self.entry id result) }
+        ensures value { option_copied_mut result ≡ option_map (λ table. table.fixed) (table_at self.old.tables id) }
+    {
+        let place = self.places.get_mut(id as usize)?;
+        let table = place.as_mut()?;
+        Some(table.walked_mut())
+    }
+
+    /// Makes a process the owner of a table (stdlib manual, ets:new/2), and answers the name of a named table, else the
+    /// identifier. `Badarg` where it is to be a named one and another has the name; `SystemLimit` where as many tables
+    /// were made as there may ever be. A table that is refused is dropped.
+    pub fn new_table(
+        &mut self,
+        pid: u32,
+        name: &Atom,
+        options: NewOptions,
+        table: Walked<R>,
+    ) -> Result<Term, WorldFault>
+        ensures { Comes (New self.old pid name.now options table) self.old result self.new }
+    {
+        if self.name_is_taken(&options, name) {
+            drop(options);
+            drop(table);
+            return Err(WorldFault::Badarg);
+        }
+        if self.has_most_tables() {
+            drop(options);
+            drop(table);
+            return Err(WorldFault::SystemLimit);
+        }
+        match self.own(pid, name, options, table) {
+            Ok(answer) => Ok(answer),
+            Err(_) => Err(WorldFault::Memory),
+        }
+    }
+
+    /// Whether the table is to be a named one, and another has its name.
+    fn name_is_taken(&self, options: &NewOptions, name: &Atom) -> bool
+        ensures { result ≡ (options.now.named && is_some (whereis self.now.tables name.now)) }
+    {
+        options.named && self.whereis(name).is_some()
+    }
+
+    fn has_most_tables(&self) -> bool
+        ensures full { result ≡ nat_le self.now.most_tables (length self.now.tables) }
+        ensures few { result ≡ false → length self.now.tables + 1 < 2 ^ 32 }
+    {
+        self.made() >= self.most_tables
+    }
+
+    /// The same where it is not refused.
+    fn own(
+        &mut self,
+        pid: u32,
+        name: &Atom,
+        options: NewOptions,
+        table: Walked<R>,
+    ) -> Result<Term, AllocError>
+        requires free { (options.named && is_some (whereis self.old.tables name.now)) ≡ false }
+        requires few { length self.old.tables + 1 < 2 ^ 32 }
+        ensures answer { IfOk result (λ answer. answer ≡ told options.named name.now (length self.old.tables)) }
+        ensures ok { OnOk result (self.new ≡ with_table self.old (new_head pid name.now options) table) }
+        ensures err { OnErr result (self.new ≡ self.old) }
+    {
+        let (answer, head) = match headed(self.alloc, pid, name, options, self.made()) {
+            Ok(both) => both,
+            Err(error) => {
+                drop(table);
+                return Err(error);
+            }
+        };
+        if let Err(error) = self.add(Table::new(head, table)) {
+            drop(answer);
+            return Err(error);
+        }
+        Ok(answer)
+    }
+
+    /// One more table, with the next identifier. Its name, if it is a named table, must be free.
+    fn add(&mut self, table: Table<R>) -> Result<(), AllocError>
+        requires free { IsTrue table.head.named → whereis self.old.tables table.head.name ≡ None }
+        requires few { length self.old.tables + 1 < 2 ^ 32 }
+        ensures ok { OnOk result (self.new ≡ with_table self.old table.head table.fixed) }
+        ensures err { OnErr result (self.new ≡ self.old) }
+    {
+        let id = self.made();
+        if let Err(error) = self.places.reserve(1) {
+            drop(table);
+            return Err(error);
+        }
+        if let Err(error) = note(self.alloc, &mut self.names, table.head(), id) {
+            drop(table);
+            return Err(error);
+        }
+        self.places.push_reserved(Some(table));
+        Ok(())
+    }
+
+    /// The table with this identifier goes, with its name and its fixes (stdlib manual, ets:delete/1); nothing where
+    /// there is none. It takes no memory.
+    pub fn drop_table(&mut self, id: u32)
+        ensures { self.new ≡ without_table self.old id }
+    {
+        let place = id as usize;
+        if place >= self.places.len() {
+            return;
+        }
+        let table = mem::replace(&mut self.places[place], None);
+        if let Some(table) = table {
+            forget(&mut self.names, table.head());
+            drop(table);
+        }
+    }
+}
+
+/// What `new` answers, and what stands over the new table.
+fn headed(
+    alloc: Global,
+    pid: u32,
+    name: &Atom,
+    options: NewOptions,
+    id: u32,
+) -> Result<(Term, Head), AllocError>
+    ensures answer { IfOk result (λ both. both.0 ≡ told options.named name.now id) }
+    ensures head { IfOk result (λ both. both.1 ≡ new_head pid name.now options) }
+{
+    let NewOptions {
+        named,
+        protection,
+        heir,
+        ..
+    } = options;
+    let answer = match name_or_identifier(alloc, named, name, id) {
+        Ok(answer) => answer,
+        Err(error) => {
+            drop(heir);
+            return Err(error);
+        }
+    };
+    let name = match name.try_clone(alloc) {
+        Ok(name) => name,
+        Err(error) => {
+            drop(heir);
+            drop(answer);
+            return Err(error);
+        }
+    };
+    let head = Head {
+        name,
+        named,
+        owner: pid,
+        heir,
+        protection,
+    };
+    Ok((answer, head))
+}
