@@ -10,7 +10,7 @@ use Rattle.node_core.specs.rules.Insertion.{Insert, InsertNew}
 use Rattle.node_core.specs.rules.Reading.{Lookup, Member, LookupElement, Tab2list}
 use Rattle.node_core.specs.rules.Removal.{Take, Delete, DeleteObject, DeleteAllObjects}
 use Rattle.node_core.specs.rules.Searching.{Match, MatchObject, MatchDelete, Select, SelectCount, SelectDelete}
-use Rattle.node_core.specs.rules.Tables.{New}
+use Rattle.node_core.specs.rules.Tables.{New, DeleteTable}
 use Rattle.node_core.specs.rules.Updates.{UpdateCounter, UpdateElement}
 
 -- where the call has this name, this rule; else what follows
@@ -22,7 +22,8 @@ module _ (old : State) (p : ℕ) where
   calls_of_one name x =
       called name (codes "tab2list") (reads old p x Tab2list) (
       called name (codes "delete_all_objects") (writes old p x DeleteAllObjects) (
-      gives Badarg old))
+      called name (codes "delete") (DeleteTable old p x) (
+      gives Badarg old)))
 
   -- calls of two arguments on tables
   abbrev pub table_calls_of_two : List ℕ → Term → Term → Outcome

@@ -7,12 +7,12 @@ use super::replies::atom_reply;
 use crate::step::Reply;
 use ets_term::KeyHash;
 
-impl<H: KeyHash + Copy> Node<H> {
-    /// `ok` for a table that is there. A list of objects has no buckets, so nothing is to be done.
+impl<H: KeyHash + Copy + Drop> Node<H> {
+    /// `ok` for a table that is there. Its buckets stay as they are.
     pub fn growth(&self, id: u32) -> Reply
         ensures { result ≡ growth_reply self.now id }
     {
-        match self.tables.get(id) {
+        match self.world.table(id) {
             Some(_) => atom_reply(self.alloc, b"ok"),
             None => Reply::Badarg,
         }

@@ -7,7 +7,7 @@ use crate::step::Reply;
 use ets_term::{KeyHash, Term};
 use table_ops::Refusal;
 
-impl<H: KeyHash + Copy> Node<H> {
+impl<H: KeyHash + Copy + Drop> Node<H> {
     pub fn call(&mut self, pid: u32, name: &str, args: &[Term]) -> Result<Reply, Refusal>
         ensures { Comes (call self.old pid name.now args.now) self.old result self.new }
     {
@@ -27,6 +27,8 @@ impl<H: KeyHash + Copy> Node<H> {
             self.tab2list(pid, x)
         } else if name == "delete_all_objects" {
             self.delete_all_objects(pid, x)
+        } else if name == "delete" {
+            self.delete_table(pid, x)
         } else {
             Err(Refusal::Badarg)
         }
