@@ -1,3 +1,4 @@
+pub mod Growth
 pub mod Insertion
 pub mod Reading
 pub mod Removal

@@ -88,7 +88,8 @@ impl<H: KeyHash + Copy + Drop> Node<H> {
             Step::Enrol(pid) => self.enrol(*pid),
             Step::End(pid) => self.end(*pid),
             Step::Ask(pid, call) => self.ask(*pid, call),
-            Step::Grow(id) | Step::Ready(id, _) => Ok(self.growth(*id)),
+            Step::Grow(id) => self.grow(*id),
+            Step::Ready(id, bucket) => self.ready(*id, *bucket),
         }
     }
 
