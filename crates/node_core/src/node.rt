@@ -7,6 +7,7 @@ mod access;
 mod ask;
 mod growth;
 mod insertion;
+mod owning;
 mod processes;
 mod reading;
 mod removal;
@@ -15,6 +16,7 @@ mod searching;
 mod table_of_calls;
 mod tables;
 mod updates;
+mod walking;
 
 use crate::limits::Limits;
 use crate::step::{Reply, Step};
