@@ -9,6 +9,7 @@ use table_ops::{Kind, Table};
 
 mod calls;
 mod fixes;
+mod queries;
 mod walks;
 
 fn plain(alloc: Global) -> Walked<PlainRows> {
