@@ -1,8 +1,6 @@
 pub mod Arguments
-pub mod Positions
-pub mod Indices
-pub mod Owners
-pub mod Contents
-pub mod Enrolments
+pub mod Changes
+pub mod Growing
 pub mod Runs
 pub mod Trees
+pub mod Worlds

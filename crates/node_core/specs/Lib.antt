@@ -1,6 +1,5 @@
 pub mod State
 pub mod Positions
-pub mod Options
 pub mod Access
 pub mod rules
 pub mod Calls
