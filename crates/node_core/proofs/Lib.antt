@@ -1,6 +1,5 @@
 pub mod Arguments
 pub mod Changes
-pub mod Due
 pub mod Fixing
 pub mod Growing
 pub mod Runs
