@@ -1,4 +1,5 @@
 pub mod State
+pub mod Seen
 pub mod Positions
 pub mod Access
 pub mod rules

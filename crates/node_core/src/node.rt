@@ -1,7 +1,9 @@
 ghost use Rattle.std.specs.Prelude.{◌≡◌, ◌≤◌, ℕ, IfOk, IfErr, OnErr, length, take};
 ghost use Rattle.node_core.specs.State.{empty, next_identifier};
 ghost use Rattle.ownership.specs.World.{resolve};
+ghost use Rattle.node_core.specs.Seen.{seen};
 ghost use Rattle.node_core.specs.Machine.{step, run};
+ghost use Rattle.node_core.specs.rules.Growth.{step_on_buckets};
 
 mod access;
 mod ask;
@@ -81,9 +83,11 @@ impl<H: KeyHash + Copy + Drop> Node<H> {
 
     /// Does one step, and answers as the machine in specs/Machine.antt may: a pid for `Enrol`, `true` for `End`, the
     /// call's answer for `Ask`, `ok` for `Grow` and `Ready`, or the first refusal of docs/calls.md that holds. Want of
-    /// memory is the `Err`, and changes nothing.
+    /// memory is the `Err`, and changes nothing. `Grow` and `Ready` change the buckets of their table, which the machine
+    /// does not have; no other step changes those of a table that stays.
     pub fn step(&mut self, event: &Step) -> Result<Reply, AllocError>
-        ensures ok { IfOk result (λ r. step self.old event.now r self.new) }
+        ensures ok { IfOk result (λ r. step (seen self.old) event.now r (seen self.new)) }
+        ensures buckets { IfOk result (λ r. step_on_buckets self.old event.now r self.new) }
         ensures err { OnErr result (self.new ≡ self.old) }
     {
         match event {
@@ -97,8 +101,8 @@ impl<H: KeyHash + Copy + Drop> Node<H> {
 
     /// Does steps in order. Want of memory stops it after the steps whose replies it then hands back.
     pub fn run(&mut self, steps: &[Step]) -> Result<Vec<Reply>, RunFault>
-        ensures ok { IfOk result (λ replies. run self.old steps.now replies.items self.new) }
-        ensures err { IfErr result (λ f. run self.old (take (length f.replies) steps.now) f.replies self.new) }
+        ensures ok { IfOk result (λ replies. run (seen self.old) steps.now replies.items (seen self.new)) }
+        ensures err { IfErr result (λ f. run (seen self.old) (take (length f.replies) steps.now) f.replies (seen self.new)) }
     {
         let mut replies = Vec::new(self.alloc);
         if replies.reserve(steps.len()).is_err() {

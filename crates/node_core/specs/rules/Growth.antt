@@ -12,6 +12,7 @@ use Rattle.node_core.specs.declared.step.Step.TheVariants.{Grow, Ready}
 use Rattle.node_core.specs.declared.step.Reply.{Reply}
 use Rattle.node_core.specs.declared.step.Reply.TheVariants.{Value, Badarg}
 use Rattle.node_core.specs.State.{State, Outcome, gives}
+use Rattle.node_core.specs.Seen.{KeepsBuckets}
 use Rattle.node_core.specs.Access.{Rule, with_table}
 
 -- a table has no more buckets
@@ -20,6 +21,10 @@ most_buckets = 1048576
 
 abbrev pub ok_reply : Reply
 ok_reply = Value (Atom (codes "ok"))
+
+-- ok where there is such a table, else badarg
+abbrev pub growth_reply : State → ℕ → Reply
+growth_reply s t = option_map_or (λ _. ok_reply) (table_at s.world.tables t) Badarg
 
 -- the buckets double, unless there are as many as there can be
 abbrev pub Grows : Rule
@@ -32,6 +37,12 @@ Readies bucket old reply new = (reply ≡ ok_reply) × (readying : Readying) × 
 -- what is done to the table with an identifier, whoever owns it; badarg where there is none
 abbrev pub in_table : State → ℕ → Rule → Outcome
 in_table old t rule reply new = MatchOption (table_at old.world.tables t) (gives Badarg old reply new) (λ table. (fixed : Fixed) × rule table.fixed reply fixed × (new ≡ with_table old t fixed))
+
+-- what a step does to the buckets: growing and readying do this to one table's, and any other step leaves those of each table that stays
+abbrev pub step_on_buckets : State → Step → Outcome
+step_on_buckets old (Grow t) reply new = in_table old t Grows reply new
+step_on_buckets old (Ready t bucket) reply new = in_table old t (Readies bucket) reply new
+step_on_buckets old _ reply new = KeepsBuckets old new
 
 -- what is due of a table: to grow where it has more than four slots a bucket, else to ready the least bucket that is not ready
 abbrev pub due_of : ℕ → Fixed → Option Step

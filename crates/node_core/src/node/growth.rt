@@ -1,7 +1,6 @@
 // Growing a table and readying its buckets.
 ghost use Rattle.std.specs.Prelude.{◌≡◌, IfOk, OnErr};
-ghost use Rattle.node_core.specs.Machine.{step};
-ghost use Rattle.node_core.specs.declared.step.Step.TheVariants.{Grow, Ready};
+ghost use Rattle.node_core.specs.rules.Growth.{in_table, Grows, Readies};
 
 use super::Node;
 use super::replies::atom_reply;
@@ -11,7 +10,7 @@ use std::alloc::AllocError;
 
 impl<H: KeyHash + Copy + Drop> Node<H> {
     pub fn grow(&mut self, id: u32) -> Result<Reply, AllocError>
-        ensures ok { IfOk result (λ r. step self.old (Grow id) r self.new) }
+        ensures ok { IfOk result (λ r. in_table self.old id Grows r self.new) }
         ensures err { OnErr result (self.new ≡ self.old) }
     {
         let alloc = self.alloc;
@@ -23,7 +22,7 @@ impl<H: KeyHash + Copy + Drop> Node<H> {
     }
 
     pub fn ready(&mut self, id: u32, bucket: u32) -> Result<Reply, AllocError>
-        ensures ok { IfOk result (λ r. step self.old (Ready id bucket) r self.new) }
+        ensures ok { IfOk result (λ r. in_table self.old id (Readies bucket) r self.new) }
         ensures err { OnErr result (self.new ≡ self.old) }
     {
         let alloc = self.alloc;

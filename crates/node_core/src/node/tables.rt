@@ -1,5 +1,5 @@
 // Calls that make tables and let them go.
-ghost use Rattle.std.specs.Prelude.{◌≡◌, ◌≤◌, IfOk};
+ghost use Rattle.std.specs.Prelude.{◌≡◌, ◌≤◌, true, false, [], ◌∷◌, IfOk};
 ghost use Rattle.node_core.specs.Access.{asks};
 ghost use Rattle.ownership.specs.Tables as tables;
 ghost use Rattle.node_core.specs.declared.step.Reply.TheVariants.{Value};
@@ -33,7 +33,7 @@ impl<H: KeyHash + Copy + Drop> Node<H> {
 
     fn new_table(&mut self, pid: u32, name: &Atom, options: NewOptions) -> Result<Reply, Refusal>
         requires { 1 ≤ options.keypos }
-        ensures { Comes (asks self.old Value (tables.New self.old.world pid name.now options (new_table_of self.old.limits.objects options))) self.old result self.new }
+        ensures { Comes (asks self.old Value (tables.New self.old.world pid name.now options (new_table_of self.old.limits.objects options (true ∷ false ∷ [])))) self.old result self.new }
     {
         let table = match self.empty_table(&options) {
             Ok(table) => table,
@@ -51,7 +51,7 @@ impl<H: KeyHash + Copy + Drop> Node<H> {
     /// A table of these options, without objects.
     fn empty_table(&self, options: &NewOptions) -> Result<Walked<SplitRows<H>>, AllocError>
         requires { 1 ≤ options.now.keypos }
-        ensures { IfOk result (λ table. table ≡ new_table_of self.now.limits.objects options.now) }
+        ensures { IfOk result (λ table. table ≡ new_table_of self.now.limits.objects options.now (true ∷ false ∷ [])) }
     {
         let rows = SplitRows::new(self.alloc, self.hash)?;
         let table = Table::new(
