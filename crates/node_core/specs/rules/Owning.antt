@@ -38,20 +38,20 @@ abbrev pub told_or_undefined : Option Term → Reply
 told_or_undefined None = Value (Atom (codes "undefined"))
 told_or_undefined (Some term) = Value term
 
+-- whether a term could name a table
+abbrev pub names_form : Term-F Term → Bool
+names_form (Term-F.Atom name) = true
+names_form (Term-F.Tid t) = true
+names_form _ = false
+
+abbrev pub told_of : InfoItem → World → ℕ → Option Term
+told_of item world t = option_map_or (λ table. Some (info_of item t table)) (table_at world.tables t) None
+
 module _ (old : State) where
   -- whereis(Name): the identifier of the table with this name
   abbrev pub Whereis : Term → Outcome
   Whereis name reply new = MatchOption (text_of name) (gives Badarg old reply new) (λ text.
       gives (told_or_undefined (option_map_or (λ t. Some (Tid t)) (whereis old.world.tables text) None)) old reply new)
-
-  -- whether a term could name a table
-  abbrev pub names_form : Term-F Term → Bool
-  names_form (Term-F.Atom name) = true
-  names_form (Term-F.Tid t) = true
-  names_form _ = false
-
-  abbrev pub told_of : InfoItem → World → ℕ → Option Term
-  told_of item world t = option_map_or (λ table. Some (info_of item t table)) (table_at world.tables t) None
 
   -- info(Table, Item): what there is to say of the table; badarg where the item is none, or the term can name no table
   abbrev pub Info : Term → Term → Outcome
