@@ -172,13 +172,13 @@ receive-lawful old p = record {
   follows = λ reply new h. follows-same old.world.tables new.world.tables (ap (λ (s : State). s.world.tables) h.1);
 }
 
+abbrev wheres : State → List ℕ → Reply
+wheres s text = told_or_undefined (option_map_or (λ t. Some (Tid t)) (whereis s.world.tables text) None)
+
 whereis-lawful : (old : State) (name : Term) → IsLawfulCall old (Whereis old name) (Whereis (seen old) name)
 whereis-lawful old name =
-    where-lawful old (text_of name) (λ text. gives (told text old) old) (λ text. gives (told text (seen old)) (seen old)) (λ text.
-    tells-as (told text old) (told text (seen old)) old (ap (λ o. told_or_undefined (option_map_or (λ t. Some (Tid t)) o None)) (whereis-seen old.world.tables text)))
-  where
-    abbrev told : List ℕ → State → Reply
-    told text s = told_or_undefined (option_map_or (λ t. Some (Tid t)) (whereis s.world.tables text) None)
+    where-lawful old (text_of name) (λ text. gives (wheres old text) old) (λ text. gives (wheres (seen old) text) (seen old)) (λ text.
+    tells-as (wheres old text) (wheres (seen old) text) old (ap (λ o. told_or_undefined (option_map_or (λ t. Some (Tid t)) o None)) (whereis-seen old.world.tables text)))
 
 item-seen : (i : InfoItem) (t : ℕ) (table : Table) → info_of i t (seen_table table) ≡ info_of i t table
 item-seen item.Name t table = refl
