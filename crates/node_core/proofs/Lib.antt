@@ -1,7 +1,14 @@
 pub mod Arguments
+pub mod CallLaws
 pub mod Changes
 pub mod Fixing
+pub mod Following
 pub mod Growing
+pub mod Removals
 pub mod Runs
+pub mod Seen
+pub mod SeenRules
+pub mod SeenTables
 pub mod Trees
+pub mod WorldLaws
 pub mod Worlds
