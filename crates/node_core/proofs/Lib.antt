@@ -1,9 +1,13 @@
 pub mod Arguments
+pub mod Ascending
 pub mod CallLaws
 pub mod Changes
+pub mod Due
 pub mod Fixing
 pub mod Following
 pub mod Growing
+pub mod Index
+pub mod Keeping
 pub mod Removals
 pub mod Runs
 pub mod Seen

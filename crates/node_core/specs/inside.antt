@@ -1,3 +1,5 @@
 pub mod Codes
+pub mod Due
+pub mod Identifiers
 pub mod Lending
 pub mod Refusals

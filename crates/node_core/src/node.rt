@@ -21,6 +21,7 @@ mod tables;
 mod updates;
 mod walking;
 
+use crate::identifiers::Identifiers;
 use crate::limits::Limits;
 use crate::step::{Reply, Step};
 use bucket_table::SplitRows;
@@ -36,17 +37,21 @@ pub struct Node<H: KeyHash + Copy + Drop> {
     limits: Limits,
     hash: H,
     world: World<SplitRows<H>>,
+    due: Identifiers,
 }
 
 impl<H: KeyHash + Copy + Drop> Model for Node<H> {
     ghost use Rattle.node_core.specs.State.{State};
     ghost use Rattle.node_core.specs.inside.Codes.{state_code};
+    ghost use Rattle.node_core.specs.inside.Due.{IsIndex};
 
     ghost Value = { State };
 
     ghost coded = { state_code };
 
     ghost view = { λ n. record { limits = n.limits; world = n.world } };
+
+    ghost invariant = { λ n. IsIndex n.world.tables n.due };
 }
 
 /// Memory was refused; these are the replies of the steps done before.
@@ -65,6 +70,7 @@ impl<H: KeyHash + Copy + Drop> Node<H> {
             limits,
             hash,
             world: World::new(alloc, limits.processes, limits.tables),
+            due: Identifiers::new(alloc),
         }
     }
 
@@ -87,6 +93,16 @@ impl<H: KeyHash + Copy + Drop> Node<H> {
     /// memory is the `Err`, and changes nothing. `Grow` and `Ready` change the buckets of their table, which the machine
     /// does not have; no other step changes those of a table that stays.
     pub fn step(&mut self, event: &Step) -> Result<Reply, AllocError>
+        ensures ok { IfOk result (λ r. step (seen self.old) event.now r (seen self.new)) }
+        ensures buckets { IfOk result (λ r. step_on_buckets self.old event.now r self.new) }
+        ensures err { OnErr result (self.new ≡ self.old) }
+    {
+        let reply = self.done(event);
+        self.forget_done();
+        reply
+    }
+
+    fn done(&mut self, event: &Step) -> Result<Reply, AllocError>
         ensures ok { IfOk result (λ r. step (seen self.old) event.now r (seen self.new)) }
         ensures buckets { IfOk result (λ r. step_on_buckets self.old event.now r self.new) }
         ensures err { OnErr result (self.new ≡ self.old) }

@@ -3,6 +3,7 @@ ghost use Rattle.std.specs.Prelude.{◌≡◌, option_copied, option_map};
 ghost use Rattle.std.specs.Option.{option_copied_mut};
 ghost use Rattle.std.specs.Borrow.{sem};
 ghost use Rattle.node_core.specs.declared.node.access.Access.TheVariants.{Read};
+ghost use Rattle.ownership.specs.World.{table_at};
 ghost use Rattle.node_core.specs.Access.{may, usable};
 
 use super::Node;
@@ -19,7 +20,7 @@ pub enum Access {
 }
 
 impl<H: KeyHash + Copy + Drop> Node<H> {
-    ghost use Rattle.node_core.specs.inside.Lending.{LendsUsable};
+    ghost use Rattle.node_core.specs.inside.Lending.{LendsTable, LendsUsable};
 
     /// The table that a term names, where the process may read it.
     pub fn readable(&self, pid: u32, term: &Term) -> Option<&Walked<SplitRows<H>>>
@@ -48,6 +49,18 @@ impl<H: KeyHash + Copy + Drop> Node<H> {
         if !may(access, head, pid) {
             return None;
         }
+        self.table_mut(id)
+    }
+
+    /// The table with an identifier, for a change of it alone. What may then be due of it is looked for.
+    pub fn table_mut(&mut self, id: u32) -> Option<&mut Walked<SplitRows<H>>>
+        ensures* lends { sem 𝓛 (LendsTable H.row H.KeyHash H.Clone ⟦<SplitRows<H> as Rows>⟧ self.entry id result) }
+        ensures value { option_copied_mut result ≡ option_map (λ table. table.fixed) (table_at self.old.world.tables id) }
+    {
+        if id >= self.world.made() {
+            return None;
+        }
+        self.due.insert(id);
         self.world.table_mut(id)
     }
 

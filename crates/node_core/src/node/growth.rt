@@ -14,7 +14,7 @@ impl<H: KeyHash + Copy + Drop> Node<H> {
         ensures err { OnErr result (self.new ≡ self.old) }
     {
         let alloc = self.alloc;
-        let Some(table) = self.world.table_mut(id) else {
+        let Some(table) = self.table_mut(id) else {
             return Ok(Reply::Badarg);
         };
         table.grow()?;
@@ -26,7 +26,7 @@ impl<H: KeyHash + Copy + Drop> Node<H> {
         ensures err { OnErr result (self.new ≡ self.old) }
     {
         let alloc = self.alloc;
-        let Some(table) = self.world.table_mut(id) else {
+        let Some(table) = self.table_mut(id) else {
             return Ok(Reply::Badarg);
         };
         table.ready(bucket)?;

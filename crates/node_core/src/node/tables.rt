@@ -35,6 +35,11 @@ impl<H: KeyHash + Copy + Drop> Node<H> {
         requires { 1 ≤ options.keypos }
         ensures { Comes (asks self.old Value (tables.New self.old.world pid name.now options (new_table_of self.old.limits.objects options (true ∷ false ∷ [])))) self.old result self.new }
     {
+        let id = self.world.made();
+        if self.due.reserve(id as usize + 1).is_err() {
+            drop(options);
+            return Err(Refusal::Memory);
+        }
         let table = match self.empty_table(&options) {
             Ok(table) => table,
             Err(_) => {
@@ -43,7 +48,10 @@ impl<H: KeyHash + Copy + Drop> Node<H> {
             }
         };
         match self.world.new_table(pid, name, options, table) {
-            Ok(answer) => Ok(Reply::Value(answer)),
+            Ok(answer) => {
+                self.due.insert(id);
+                Ok(Reply::Value(answer))
+            }
             Err(fault) => refused(fault),
         }
     }
