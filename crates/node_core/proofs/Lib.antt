@@ -11,5 +11,7 @@ pub mod Seen
 pub mod SeenRules
 pub mod SeenTables
 pub mod Trees
+pub mod WalkCalls
+pub mod WholeWalks
 pub mod WorldLaws
 pub mod Worlds

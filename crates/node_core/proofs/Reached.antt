@@ -61,7 +61,7 @@ distinct-came : (old : Tables) (t : ℕ) (o : Option Table) (table : Table) → 
 distinct-came old t None table came d = subst HasDistinctKeys (sym came.bare) distinct-none
 distinct-came old t (Some was) table came d = came.fixed.keys.distinct (d was refl)
 
-slots-step : (old new : State) (s : Step) (reply : Reply) → step old s reply new → HasDistinctSlots old → HasDistinctSlots new
+pub slots-step : (old new : State) (s : Step) (reply : Reply) → step old s reply new → HasDistinctSlots old → HasDistinctSlots new
 slots-step old new s reply h d t table at = distinct-came old.world.tables t (table_at old.world.tables t) table (step-follows old new s reply h t table at) (λ was before. d t was before)
 
 pub slots-reached : SlotsStayDistinct
