@@ -18,8 +18,8 @@ use Rattle.node_core.specs.inside.Lending.{with_usable}
 use Rattle.node_core.specs.inside.Refusals as called
 
 -- a table that may be used is there
-record IsThere (tables : Tables) (found : ℕ × Table) : Type 0 where
-  at : table_at tables found.0 ≡ Some found.1
+pub record IsThere (tables : Tables) (found : ℕ × Table) : Type 0 where
+  pub at : table_at tables found.0 ≡ Some found.1
 
 allowed_at : (b : Bool) (t : ℕ) (table : Table) (found : ℕ × Table) → cond b (Some (t, table)) None ≡ Some found → (t, table) ≡ found
 allowed_at true t table found e = cc
@@ -33,7 +33,7 @@ resolved_at : (tables : Tables) (access : Access) (p : ℕ) (o : Option ℕ) (fo
 resolved_at tables access p None found e = cc
 resolved_at tables access p (Some t) found e = there_at tables access p t (table_at tables t) found refl e
 
-usable-there : (tables : Tables) (access : Access) (p : ℕ) (term : Term) (found : ℕ × Table) → usable access tables p term ≡ Some found → IsThere tables found
+pub usable-there : (tables : Tables) (access : Access) (p : ℕ) (term : Term) (found : ℕ × Table) → usable access tables p term ≡ Some found → IsThere tables found
 usable-there tables access p term found e = resolved_at tables access p (resolve tables term) found e
 
 module _ (old : State) (p : ℕ) (access : Access) (term : Term) (was f : Fixed) where

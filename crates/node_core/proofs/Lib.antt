@@ -1,7 +1,17 @@
 pub mod Arguments
+pub mod CallLaws
 pub mod Changes
+pub mod EndKeys
+pub mod Following
 pub mod Growing
+pub mod Reached
 pub mod Removals
 pub mod Runs
+pub mod Seen
+pub mod SeenRules
+pub mod SeenTables
 pub mod Trees
+pub mod WalkCalls
+pub mod WholeWalks
+pub mod WorldLaws
 pub mod Worlds
