@@ -2,6 +2,7 @@ pub mod Arguments
 pub mod CallLaws
 pub mod Changes
 pub mod EndKeys
+pub mod Fixing
 pub mod Following
 pub mod Growing
 pub mod Reached
@@ -10,6 +11,7 @@ pub mod Runs
 pub mod Seen
 pub mod SeenRules
 pub mod SeenTables
+pub mod Steps
 pub mod Trees
 pub mod WalkCalls
 pub mod WholeWalks
