@@ -12,6 +12,7 @@
 #![tactic(auto)]
 
 mod identifiers;
+pub mod laws;
 mod limits;
 mod node;
 mod position;
