@@ -34,7 +34,7 @@ module _ (index : Identifiers) where
       by t (inr among) = among
 
 -- what is due of a table that may not be there
-due_in : ℕ → Option Table → Bool
+abbrev pub due_in : ℕ → Option Table → Bool
 due_in t own = is_some (option_and_then (λ table. due_of t table.fixed) own)
 
 -- what is due where another place is written
@@ -86,7 +86,7 @@ due-push tables x t h = ap (option_and_then (λ table. due_of t table.fixed)) (g
 
 past-push : (n : ℕ) (tables : Tables) (x : Option Table) (t : ℕ) → length tables < t → due_in n (get_or (tables ++ x ∷ []) t None) ≡ true → ⊥
 past-push n [] x zero h e = omega (arith, h)
-past-push n [] x (suc t) h e = cc
+past-push n [] x (suc t) h e = true≢false (sym e)
 past-push n (y ∷ ys) x zero h e = omega (arith, h)
 past-push n (y ∷ ys) x (suc t) h e = past-push n ys x t (omega (arith, h)) e
 

@@ -1,19 +1,22 @@
 // Calls that make tables and let them go.
 ghost use Rattle.std.specs.Prelude.{◌≡◌, ◌≤◌, true, false, [], ◌∷◌, IfOk};
 ghost use Rattle.node_core.specs.Access.{asks};
+ghost use Rattle.ownership.specs.Outcomes as outcomes;
 ghost use Rattle.ownership.specs.Tables as tables;
 ghost use Rattle.node_core.specs.declared.step.Reply.TheVariants.{Value};
 ghost use Rattle.node_core.specs.rules.Tables.{New, DeleteTable, new_table_of};
+ghost use Rattle.node_core.specs.inside.Due.{IsIndex};
 ghost use Rattle.node_core.specs.inside.Refusals.{Comes};
 
 use super::Node;
 use super::access::Access;
 use super::replies::{refused, true_reply};
+use crate::identifiers::Identifiers;
 use crate::step::Reply;
 use bucket_table::SplitRows;
 use ets_term::{Atom, KeyHash, Term};
 use fixed_walk::Walked;
-use ownership::{NewOptions, WorldFault};
+use ownership::{NewOptions, World, WorldFault};
 use std::alloc::AllocError;
 use table_ops::{Refusal, Table};
 
@@ -35,11 +38,6 @@ impl<H: KeyHash + Copy + Drop> Node<H> {
         requires { 1 ≤ options.keypos }
         ensures { Comes (asks self.old Value (tables.New self.old.world pid name.now options (new_table_of self.old.limits.objects options (true ∷ false ∷ [])))) self.old result self.new }
     {
-        let id = self.world.made();
-        if self.due.reserve(id as usize + 1).is_err() {
-            drop(options);
-            return Err(Refusal::Memory);
-        }
         let table = match self.empty_table(&options) {
             Ok(table) => table,
             Err(_) => {
@@ -47,11 +45,15 @@ impl<H: KeyHash + Copy + Drop> Node<H> {
                 return Err(Refusal::Memory);
             }
         };
-        match self.world.new_table(pid, name, options, table) {
-            Ok(answer) => {
-                self.due.insert(id);
-                Ok(Reply::Value(answer))
-            }
+        match enter(
+            &mut self.world,
+            &mut self.due,
+            pid,
+            name,
+            options,
+            table,
+        ) {
+            Ok(answer) => Ok(Reply::Value(answer)),
             Err(fault) => refused(fault),
         }
     }
@@ -81,4 +83,28 @@ impl<H: KeyHash + Copy + Drop> Node<H> {
         self.world.drop_table(id);
         Ok(true_reply(self.alloc))
     }
+}
+
+/// The table enters the world. The index of what is due has room for it first, so that no later step wants memory for it.
+fn enter<H: KeyHash + Copy + Drop>(
+    world: &mut World<SplitRows<H>>,
+    due: &mut Identifiers,
+    pid: u32,
+    name: &Atom,
+    options: NewOptions,
+    table: Walked<SplitRows<H>>,
+) -> Result<Term, WorldFault>
+    requires { IsIndex world.old.tables due.old }
+    ensures made { outcomes.Comes (tables.New world.old pid name.now options table) world.old result world.new }
+    ensures index { IsIndex world.new.tables due.new }
+{
+    let id = world.made();
+    if due.reserve(id as usize + 1).is_err() {
+        drop(options);
+        drop(table);
+        return Err(WorldFault::Memory);
+    }
+    let answer = world.new_table(pid, name, options, table)?;
+    due.insert(id);
+    Ok(answer)
 }
