@@ -33,6 +33,14 @@ module _ (index : Identifiers) where
       by t (inl was) = is.due t was
       by t (inr among) = among
 
+-- there are no tables
+pub none : (tables : Tables) (index : Identifiers) → tables ≡ [] → index.all ≡ [] → IsIndex tables index
+none tables index e f = record {
+  below = subst (λ ids. AreBelow ids (length tables)) (sym f) (λ i h. absurd (omega (arith, h)));
+  room = omega (arith, ap (λ ts. length ts) e);
+  due = λ t some. absurd (true≢false (sym some ∙ ap (λ ts. is_some (due_at ts t)) e));
+}
+
 -- what is due of a table that may not be there
 abbrev pub due_in : ℕ → Option Table → Bool
 due_in t own = is_some (option_and_then (λ table. due_of t table.fixed) own)

@@ -3,9 +3,13 @@ use Rattle.node_core.specs.State.{State, Outcome}
 use Rattle.node_core.specs.Access.{asks}
 use Rattle.node_core.specs.inside.Refusals.{refused_as}
 use Rattle.node_core.specs.rules.Replies.{true_reply}
+use Rattle.node_core.proofs.Keeping.{end-keeps}
 use Rattle.node_core.proofs.Worlds.{asked-ok, asked-err, told-ok}
 use Rattle.node_core.proofs.node.Node.end.Goals.{in-Ok, in-Err}
 use Rattle.node_core.proofs.node.Node.end.Goals as goal
+
+pub invariant_of-self : goal.invariant_of-self
+invariant_of-self g c = end-keeps c.self.inside.due c.self.inside.world c.end.new.self c.self.invariant c.args.pid c.end.result c.end.ensures
 
 pub returns-clause-ok : goal.returns-clause-ok
 returns-clause-ok g c =
