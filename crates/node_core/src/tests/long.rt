@@ -132,7 +132,7 @@ fn inserts_and_lists(alloc: Global, insert: &str, listed: &str) -> Result<bool, 
 /// Whether so many objects are inserted by one call, of many keys or of one.
 fn inserts(alloc: Global, start: &str, object: &str) -> Result<bool, AllocError> {
     let insert = repeated(alloc, start, object, "])")?;
-    let listed = repeated(alloc, "[", object, "]")?;
+    let listed = repeated(alloc, "~[", object, "]")?;
     inserts_and_lists(alloc, insert.as_str(), listed.as_str())
 }
 
@@ -159,8 +159,8 @@ fn finds(alloc: Global, bound: &str, results: &str) -> Result<bool, AllocError> 
 
 /// Whether each of many objects is found.
 fn finds_all(alloc: Global) -> Result<bool, AllocError> {
-    let bound = repeated(alloc, "[", "[N],", "]")?;
-    let results = repeated(alloc, "[", "N,", "]")?;
+    let bound = repeated(alloc, "~[", "[N],", "]")?;
+    let results = repeated(alloc, "~[", "N,", "]")?;
     finds(alloc, bound.as_str(), results.as_str())
 }
 

@@ -55,7 +55,7 @@ const LIFE: [Row; 12] = [
     (Ask(0, "insert(#1,{k,2})"), "true"),
     (Ask(0, "lookup_element(#1,k,2)"), "[1,2]"),
     (Ask(0, "take(#1,k)"), "[{k,1},{k,2}]"),
-    (Ask(0, "tab2list(#0)"), "[{k,2},{l,1}]"),
+    (Ask(0, "tab2list(#0)"), "~[{k,2},{l,1}]"),
 ];
 
 /// The place of the first row that a node answers otherwise, where each want of memory is met again.
