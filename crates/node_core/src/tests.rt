@@ -8,6 +8,7 @@ use text::{term, terms};
 mod growth;
 mod insertion;
 mod long;
+mod owning;
 mod processes;
 mod reading;
 mod refused;
@@ -16,6 +17,7 @@ mod searching;
 mod tables;
 mod text;
 mod updates;
+mod walking;
 
 /// A step, told.
 #[derive(Clone, Copy)]
