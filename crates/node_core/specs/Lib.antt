@@ -1,8 +1,9 @@
 pub mod State
+pub mod Seen
 pub mod Positions
-pub mod Options
 pub mod Access
 pub mod rules
 pub mod Calls
 pub mod Machine
 pub mod inside
+pub mod laws

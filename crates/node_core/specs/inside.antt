@@ -1,4 +1,3 @@
 pub mod Codes
-pub mod Indices
 pub mod Lending
 pub mod Refusals

@@ -11,19 +11,14 @@
 //! *Limits.* One node is one value: sharing it between threads is for the layer above.
 #![tactic(auto)]
 
-mod head;
+pub mod laws;
 mod limits;
 mod node;
-mod options;
 mod position;
-mod process;
 mod step;
-mod table;
-mod tables;
 #[cfg(test)]
 mod tests;
 
-pub use head::Protection;
 pub use limits::Limits;
 pub use node::{Node, RunFault};
 pub use step::{Call, Reply, Step};

@@ -1,12 +1,16 @@
 ghost use Rattle.std.specs.Prelude.{◌≡◌, ◌≤◌, ℕ, IfOk, IfErr, OnErr, length, take};
 ghost use Rattle.node_core.specs.State.{empty, next_identifier};
-ghost use Rattle.node_core.specs.Access.{resolve};
+ghost use Rattle.ownership.specs.World.{resolve};
+ghost use Rattle.node_core.specs.Seen.{seen};
 ghost use Rattle.node_core.specs.Machine.{step, run};
+ghost use Rattle.node_core.specs.rules.Growth.{step_on_buckets};
 
 mod access;
 mod ask;
+mod due;
 mod growth;
 mod insertion;
+mod owning;
 mod processes;
 mod reading;
 mod removal;
@@ -15,27 +19,26 @@ mod searching;
 mod table_of_calls;
 mod tables;
 mod updates;
+mod walking;
 
 use crate::limits::Limits;
-use crate::process::Process;
 use crate::step::{Reply, Step};
-use crate::tables::Tables;
+use bucket_table::SplitRows;
 use ets_term::{Items, KeyHash, Term};
-use indexmap::IndexMap;
+use ownership::World;
 use std::alloc::{AllocError, Global};
 use std::marker::Model;
 
 /// Tables and the processes that share them (stdlib manual, module ets). A contract sees the machine's state.
 #[derive(Drop)]
-pub struct Node<H: KeyHash + Copy> {
+pub struct Node<H: KeyHash + Copy + Drop> {
     alloc: Global,
     limits: Limits,
     hash: H,
-    processes: IndexMap<u32, Process>,
-    tables: Tables,
+    world: World<SplitRows<H>>,
 }
 
-impl<H: KeyHash + Copy> Model for Node<H> {
+impl<H: KeyHash + Copy + Drop> Model for Node<H> {
     ghost use Rattle.node_core.specs.State.{State};
     ghost use Rattle.node_core.specs.inside.Codes.{state_code};
 
@@ -43,7 +46,7 @@ impl<H: KeyHash + Copy> Model for Node<H> {
 
     ghost coded = { state_code };
 
-    ghost view = { λ n. record { limits = n.limits; processes = n.processes.entries; tables = n.tables } };
+    ghost view = { λ n. record { limits = n.limits; world = n.world } };
 }
 
 /// Memory was refused; these are the replies of the steps done before.
@@ -52,7 +55,7 @@ pub struct RunFault {
     pub replies: Items<Reply>,
 }
 
-impl<H: KeyHash + Copy> Node<H> {
+impl<H: KeyHash + Copy + Drop> Node<H> {
     /// A node without processes and tables. It takes no memory. The hash spreads keys, and changes no answer.
     pub fn new(alloc: Global, limits: Limits, hash: H) -> Self
         ensures { result ≡ empty limits }
@@ -61,8 +64,7 @@ impl<H: KeyHash + Copy> Node<H> {
             alloc,
             limits,
             hash,
-            processes: IndexMap::new(alloc),
-            tables: Tables::new(alloc),
+            world: World::new(alloc, limits.processes, limits.tables),
         }
     }
 
@@ -70,35 +72,38 @@ impl<H: KeyHash + Copy> Node<H> {
     pub fn next_identifier(&self) -> u32
         ensures { result ≡ next_identifier self.now }
     {
-        self.tables.next_identifier()
+        self.world.made()
     }
 
     /// The identifier of the table that a term names: a table's identifier, or the name of a named one. It takes no memory.
     pub fn resolve(&self, term: &Term) -> Option<u32>
-        ensures { result ≡ resolve self.now.tables term.now }
+        ensures { result ≡ resolve self.now.world.tables term.now }
     {
-        self.tables.resolve(term)
+        self.world.resolve(term)
     }
 
     /// Does one step, and answers as the machine in specs/Machine.antt may: a pid for `Enrol`, `true` for `End`, the
     /// call's answer for `Ask`, `ok` for `Grow` and `Ready`, or the first refusal of docs/calls.md that holds. Want of
-    /// memory is the `Err`, and changes nothing.
+    /// memory is the `Err`, and changes nothing. `Grow` and `Ready` change the buckets of their table, which the machine
+    /// does not have; no other step changes those of a table that stays.
     pub fn step(&mut self, event: &Step) -> Result<Reply, AllocError>
-        ensures ok { IfOk result (λ r. step self.old event.now r self.new) }
+        ensures ok { IfOk result (λ r. step (seen self.old) event.now r (seen self.new)) }
+        ensures buckets { IfOk result (λ r. step_on_buckets self.old event.now r self.new) }
         ensures err { OnErr result (self.new ≡ self.old) }
     {
         match event {
             Step::Enrol(pid) => self.enrol(*pid),
             Step::End(pid) => self.end(*pid),
             Step::Ask(pid, call) => self.ask(*pid, call),
-            Step::Grow(id) | Step::Ready(id, _) => Ok(self.growth(*id)),
+            Step::Grow(id) => self.grow(*id),
+            Step::Ready(id, bucket) => self.ready(*id, *bucket),
         }
     }
 
     /// Does steps in order. Want of memory stops it after the steps whose replies it then hands back.
     pub fn run(&mut self, steps: &[Step]) -> Result<Vec<Reply>, RunFault>
-        ensures ok { IfOk result (λ replies. run self.old steps.now replies.items self.new) }
-        ensures err { IfErr result (λ f. run self.old (take (length f.replies) steps.now) f.replies self.new) }
+        ensures ok { IfOk result (λ replies. run (seen self.old) steps.now replies.items (seen self.new)) }
+        ensures err { IfErr result (λ f. run (seen self.old) (take (length f.replies) steps.now) f.replies (seen self.new)) }
     {
         let mut replies = Vec::new(self.alloc);
         if replies.reserve(steps.len()).is_err() {

@@ -6,10 +6,10 @@ ghost use Rattle.node_core.specs.declared.node.access.Access.TheVariants.{Read};
 ghost use Rattle.node_core.specs.Access.{may, usable};
 
 use super::Node;
-use crate::head::Head;
-use crate::table::Rowed;
-use bucket_table::{PlainRows, Rows};
+use bucket_table::{Rows, SplitRows};
 use ets_term::{KeyHash, Term};
+use fixed_walk::Walked;
+use ownership::Head;
 
 /// What a call is to do with a table.
 #[derive(Clone, Copy)]
@@ -18,32 +18,49 @@ pub enum Access {
     Write,
 }
 
-impl<H: KeyHash + Copy> Node<H> {
+impl<H: KeyHash + Copy + Drop> Node<H> {
     ghost use Rattle.node_core.specs.inside.Lending.{LendsUsable};
 
     /// The table that a term names, where the process may read it.
-    pub fn readable(&self, pid: u32, term: &Term) -> Option<&Rowed>
-        ensures { option_map (λ t. t.content) (option_copied result) ≡ option_map (λ found. found.1.fixed.content) (usable Read self.now.tables pid term.now) }
+    pub fn readable(&self, pid: u32, term: &Term) -> Option<&Walked<SplitRows<H>>>
+        ensures { option_copied result ≡ option_map (λ found. found.1.fixed) (usable Read self.now.world.tables pid term.now) }
     {
-        let id = self.tables.resolve(term)?;
-        let table = self.tables.get(id)?;
-        if !may(Access::Read, table.head(), pid) {
+        let id = self.world.resolve(term)?;
+        let head = self.world.head(id)?;
+        if !may(Access::Read, head, pid) {
             return None;
         }
-        Some(table.rowed())
+        self.world.table(id)
     }
 
     /// The table that a term names, where the process may use it so, for a change of it alone.
-    pub fn usable_mut(&mut self, access: Access, pid: u32, term: &Term) -> Option<&mut Rowed>
-        ensures* lends { sem 𝓛 (LendsUsable H.row H.KeyHash ⟦<PlainRows as Rows>⟧ self.entry access pid term.now result) }
-        ensures value { option_map (λ t. t.content) (option_copied_mut result) ≡ option_map (λ found. found.1.fixed.content) (usable access self.old.tables pid term.now) }
+    pub fn usable_mut(
+        &mut self,
+        access: Access,
+        pid: u32,
+        term: &Term,
+    ) -> Option<&mut Walked<SplitRows<H>>>
+        ensures* lends { sem 𝓛 (LendsUsable H.row H.KeyHash H.Clone ⟦<SplitRows<H> as Rows>⟧ self.entry access pid term.now result) }
+        ensures value { option_copied_mut result ≡ option_map (λ found. found.1.fixed) (usable access self.old.world.tables pid term.now) }
     {
-        let id = self.tables.resolve(term)?;
-        let table = self.tables.get(id)?;
-        if !may(access, table.head(), pid) {
+        let id = self.world.resolve(term)?;
+        let head = self.world.head(id)?;
+        if !may(access, head, pid) {
             return None;
         }
-        self.tables.rowed_mut(id)
+        self.world.table_mut(id)
+    }
+
+    /// The identifier of the table that a term names, where the process may use it so.
+    pub fn usable_id(&self, access: Access, pid: u32, term: &Term) -> Option<u32>
+        ensures { result ≡ option_map (λ found. found.0) (usable access self.now.world.tables pid term.now) }
+    {
+        let id = self.world.resolve(term)?;
+        let head = self.world.head(id)?;
+        if !may(access, head, pid) {
+            return None;
+        }
+        Some(id)
     }
 }
 

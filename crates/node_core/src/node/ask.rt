@@ -12,12 +12,12 @@ use ets_term::{KeyHash, Term};
 use std::alloc::AllocError;
 use table_ops::Refusal;
 
-impl<H: KeyHash + Copy> Node<H> {
+impl<H: KeyHash + Copy + Drop> Node<H> {
     pub fn ask(&mut self, pid: u32, call: &Call) -> Result<Reply, AllocError>
         ensures ok { IfOk result (λ r. step self.old (Ask pid call.now) r self.new) }
         ensures err { OnErr result (self.new ≡ self.old) }
     {
-        if !self.is_alive(pid) {
+        if !self.world.lives(pid) {
             return Ok(Reply::NoProcess);
         }
         let args = call.args.as_slice();
@@ -35,7 +35,7 @@ fn any_too_deep(terms: &[Term]) -> bool
 }
 
 /// The reply of a call, or of its refusal.
-fn told(call: Result<Reply, Refusal>) -> Result<Reply, AllocError>
+pub fn told(call: Result<Reply, Refusal>) -> Result<Reply, AllocError>
     ensures { Told call result }
 {
     match call {

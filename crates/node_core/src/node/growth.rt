@@ -1,20 +1,35 @@
 // Growing a table and readying its buckets.
-ghost use Rattle.std.specs.Prelude.{◌≡◌};
-ghost use Rattle.node_core.specs.Machine.{growth_reply};
+ghost use Rattle.std.specs.Prelude.{◌≡◌, IfOk, OnErr};
+ghost use Rattle.node_core.specs.rules.Growth.{in_table, Grows, Readies};
 
 use super::Node;
 use super::replies::atom_reply;
 use crate::step::Reply;
 use ets_term::KeyHash;
+use std::alloc::AllocError;
 
-impl<H: KeyHash + Copy> Node<H> {
-    /// `ok` for a table that is there. A list of objects has no buckets, so nothing is to be done.
-    pub fn growth(&self, id: u32) -> Reply
-        ensures { result ≡ growth_reply self.now id }
+impl<H: KeyHash + Copy + Drop> Node<H> {
+    pub fn grow(&mut self, id: u32) -> Result<Reply, AllocError>
+        ensures ok { IfOk result (λ r. in_table self.old id Grows r self.new) }
+        ensures err { OnErr result (self.new ≡ self.old) }
     {
-        match self.tables.get(id) {
-            Some(_) => atom_reply(self.alloc, b"ok"),
-            None => Reply::Badarg,
-        }
+        let alloc = self.alloc;
+        let Some(table) = self.world.table_mut(id) else {
+            return Ok(Reply::Badarg);
+        };
+        table.grow()?;
+        Ok(atom_reply(alloc, b"ok"))
+    }
+
+    pub fn ready(&mut self, id: u32, bucket: u32) -> Result<Reply, AllocError>
+        ensures ok { IfOk result (λ r. in_table self.old id (Readies bucket) r self.new) }
+        ensures err { OnErr result (self.new ≡ self.old) }
+    {
+        let alloc = self.alloc;
+        let Some(table) = self.world.table_mut(id) else {
+            return Ok(Reply::Badarg);
+        };
+        table.ready(bucket)?;
+        Ok(atom_reply(alloc, b"ok"))
     }
 }

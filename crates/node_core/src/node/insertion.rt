@@ -12,7 +12,7 @@ use ets_term::{KeyHash, Term};
 use std::slice;
 use table_ops::Refusal;
 
-impl<H: KeyHash + Copy> Node<H> {
+impl<H: KeyHash + Copy + Drop> Node<H> {
     pub fn insert(&mut self, pid: u32, table: &Term, objects: &Term) -> Result<Reply, Refusal>
         ensures { Comes (writes self.old pid table.now (Insert objects.now)) self.old result self.new }
     {

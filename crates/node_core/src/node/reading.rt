@@ -10,7 +10,7 @@ use crate::step::Reply;
 use ets_term::{KeyHash, Term};
 use table_ops::Refusal;
 
-impl<H: KeyHash + Copy> Node<H> {
+impl<H: KeyHash + Copy + Drop> Node<H> {
     pub fn lookup(&self, pid: u32, table: &Term, key: &Term) -> Result<Reply, Refusal>
         ensures { Comes (reads self.now pid table.now (Lookup key.now)) self.now result self.now }
     {

@@ -1,4 +1,4 @@
-// Calls that remove objects. No call fixes a table yet, so no slot is held.
+// Calls that remove objects.
 ghost use Rattle.node_core.specs.Access.{writes};
 ghost use Rattle.node_core.specs.rules.Removal.{Take, Delete, DeleteObject, DeleteAllObjects};
 ghost use Rattle.node_core.specs.inside.Refusals.{Comes};
@@ -10,14 +10,14 @@ use crate::step::Reply;
 use ets_term::{KeyHash, Term};
 use table_ops::Refusal;
 
-impl<H: KeyHash + Copy> Node<H> {
+impl<H: KeyHash + Copy + Drop> Node<H> {
     pub fn take(&mut self, pid: u32, table: &Term, key: &Term) -> Result<Reply, Refusal>
         ensures { Comes (writes self.old pid table.now (Take key.now)) self.old result self.new }
     {
         let Some(table) = self.usable_mut(Access::Write, pid, table) else {
             return Err(Refusal::Badarg);
         };
-        let objects = table.take(key, false)?;
+        let objects = table.take(key)?;
         Ok(Reply::Value(Term::List(objects)))
     }
 
@@ -28,7 +28,7 @@ impl<H: KeyHash + Copy> Node<H> {
         let Some(table) = self.usable_mut(Access::Write, pid, table) else {
             return Err(Refusal::Badarg);
         };
-        table.delete_key(key, false);
+        table.delete_key(key);
         Ok(true_reply(alloc))
     }
 
@@ -39,7 +39,7 @@ impl<H: KeyHash + Copy> Node<H> {
         let Some(table) = self.usable_mut(Access::Write, pid, table) else {
             return Err(Refusal::Badarg);
         };
-        table.delete_object(object, false)?;
+        table.delete_object(object)?;
         Ok(true_reply(alloc))
     }
 
@@ -50,7 +50,7 @@ impl<H: KeyHash + Copy> Node<H> {
         let Some(table) = self.usable_mut(Access::Write, pid, table) else {
             return Err(Refusal::Badarg);
         };
-        table.delete_all(false);
+        table.delete_all();
         Ok(true_reply(alloc))
     }
 }

@@ -4,10 +4,13 @@ ghost use Rattle.ets_term.specs.Character.{IsAtomText};
 ghost use Rattle.ets_term.specs.declared.term.Term.TheVariants as term;
 ghost use Rattle.node_core.specs.declared.step.Reply.TheVariants.{Value};
 ghost use Rattle.node_core.specs.rules.Replies.{true_reply, truth_reply, list_reply};
+ghost use Rattle.node_core.specs.inside.Refusals.{refused_as};
 
 use crate::step::Reply;
 use ets_term::{Atom, Items, Term};
+use ownership::WorldFault;
 use std::alloc::{AllocError, Global};
+use table_ops::Refusal;
 
 /// The atom `true`.
 pub fn true_reply(alloc: Global) -> Reply
@@ -48,4 +51,16 @@ pub fn list_reply(alloc: Global, objects: &[Term]) -> Result<Reply, AllocError>
         copies.push_reserved(object.try_clone(alloc)?);
     }
     Ok(Reply::Value(Term::List(Items::from_vec(copies))))
+}
+
+/// The refusal of the world, as a calling method has it.
+pub fn refused(fault: WorldFault) -> Result<Reply, Refusal>
+    ensures { result ≡ refused_as fault }
+{
+    match fault {
+        WorldFault::Badarg => Err(Refusal::Badarg),
+        WorldFault::SystemLimit => Err(Refusal::SystemLimit),
+        WorldFault::NoProcess => Ok(Reply::NoProcess),
+        WorldFault::Memory => Err(Refusal::Memory),
+    }
 }

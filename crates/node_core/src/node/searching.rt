@@ -1,4 +1,4 @@
-// Calls that search a table by a pattern or a specification. No call fixes a table yet, so no slot is held.
+// Calls that search a table by a pattern or a specification.
 ghost use Rattle.std.specs.Prelude.{◌≡◌, ◌<◌, ◌^◌, true, false, map, IfOk, OnOk, IsErrOf};
 ghost use Rattle.ets_term.specs.Data.{data_of};
 ghost use Rattle.match_spec.specs.Specifications.{is_pattern, is_spec};
@@ -11,13 +11,14 @@ use super::Node;
 use super::access::Access;
 use super::replies::true_reply;
 use crate::step::Reply;
-use crate::table::Rowed;
+use bucket_table::Rows;
 use ets_term::{Integer, Items, KeyHash, Term};
+use fixed_walk::Walked;
 use match_spec::{Pattern, Spec, SpecFault};
 use std::alloc::Global;
 use table_ops::Refusal;
 
-impl<H: KeyHash + Copy> Node<H> {
+impl<H: KeyHash + Copy + Drop> Node<H> {
     pub fn match_bindings(&self, pid: u32, table: &Term, pattern: &Term) -> Result<Reply, Refusal>
         ensures { Comes (reads self.now pid table.now (Match pattern.now)) self.now result self.now }
     {
@@ -102,20 +103,28 @@ fn spec_of(alloc: Global, argument: &Term) -> Result<Spec, Refusal>
 }
 
 /// Deletes the objects that a pattern matches.
-fn delete_matching(alloc: Global, table: &mut Rowed, pattern: &Term) -> Result<(), Refusal>
-    ensures { table_refusals.Comes (DeletesMatching pattern.now table.old.content) table.old.content result table.new.content }
+fn delete_matching<R: Rows>(
+    alloc: Global,
+    table: &mut Walked<R>,
+    pattern: &Term,
+) -> Result<(), Refusal>
+    ensures { table_refusals.Comes (DeletesMatching pattern.now table.old) table.old result table.new }
 {
     let pattern = pattern_of(alloc, pattern)?;
-    Ok(table.match_delete(&pattern, false)?)
+    Ok(table.match_delete(&pattern)?)
 }
 
 /// Deletes the objects for which a specification gives `true`, and answers how many they were.
-fn delete_chosen(alloc: Global, table: &mut Rowed, spec: &Term) -> Result<usize, Refusal>
-    ensures content { table_refusals.Comes (DeletesChosen spec.now table.old.content) table.old.content result table.new.content }
+fn delete_chosen<R: Rows>(
+    alloc: Global,
+    table: &mut Walked<R>,
+    spec: &Term,
+) -> Result<usize, Refusal>
+    ensures content { table_refusals.Comes (DeletesChosen spec.now table.old) table.old result table.new }
     ensures few { IfOk result (λ count. count < 2 ^ 32) }
 {
     let spec = spec_of(alloc, spec)?;
-    Ok(table.select_delete(&spec, false)?)
+    Ok(table.select_delete(&spec)?)
 }
 
 fn answers_reply(found: Items<Term>) -> Reply

@@ -1,5 +1,5 @@
 // The table of calls: a name and its method, at most eight names a function, by number of arguments.
-ghost use Rattle.node_core.specs.Calls.{call, calls_of_one, object_calls_of_two, search_calls_of_two, table_calls_of_two, calls_of_three, calls_of_four};
+ghost use Rattle.node_core.specs.Calls.{call, calls_of_none, calls_of_one, object_calls_of_two, search_calls_of_two, table_calls_of_two, calls_of_three, calls_of_four};
 ghost use Rattle.node_core.specs.inside.Refusals.{Comes};
 
 use super::Node;
@@ -7,16 +7,27 @@ use crate::step::Reply;
 use ets_term::{KeyHash, Term};
 use table_ops::Refusal;
 
-impl<H: KeyHash + Copy> Node<H> {
+impl<H: KeyHash + Copy + Drop> Node<H> {
     pub fn call(&mut self, pid: u32, name: &str, args: &[Term]) -> Result<Reply, Refusal>
         ensures { Comes (call self.old pid name.now args.now) self.old result self.new }
     {
         match args {
+            [] => self.calls_of_none(pid, name),
             [x] => self.calls_of_one(pid, name, x),
             [x, y] => self.object_calls_of_two(pid, name, x, y),
             [x, y, z] => self.calls_of_three(pid, name, x, y, z),
             [x, y, z, default] => self.calls_of_four(pid, name, x, y, z, default),
             _ => Err(Refusal::Badarg),
+        }
+    }
+
+    fn calls_of_none(&mut self, pid: u32, name: &str) -> Result<Reply, Refusal>
+        ensures { Comes (calls_of_none self.old pid name.now) self.old result self.new }
+    {
+        if name == "receive" {
+            self.receive(pid)
+        } else {
+            Err(Refusal::Badarg)
         }
     }
 
@@ -27,6 +38,12 @@ impl<H: KeyHash + Copy> Node<H> {
             self.tab2list(pid, x)
         } else if name == "delete_all_objects" {
             self.delete_all_objects(pid, x)
+        } else if name == "delete" {
+            self.delete_table(pid, x)
+        } else if name == "first" {
+            self.first(pid, x)
+        } else if name == "whereis" {
+            self.whereis(x)
         } else {
             Err(Refusal::Badarg)
         }
@@ -97,6 +114,14 @@ impl<H: KeyHash + Copy> Node<H> {
     {
         if name == "new" {
             self.new_call(pid, x, y)
+        } else if name == "next" {
+            self.next(pid, x, y)
+        } else if name == "safe_fixtable" {
+            self.safe_fixtable(pid, x, y)
+        } else if name == "setopts" {
+            self.set_options(pid, x, y)
+        } else if name == "info" {
+            self.info(x, y)
         } else {
             Err(Refusal::Badarg)
         }
@@ -118,6 +143,8 @@ impl<H: KeyHash + Copy> Node<H> {
             self.update_counter(pid, x, y, z, None)
         } else if name == "update_element" {
             self.update_element(pid, x, y, z)
+        } else if name == "give_away" {
+            self.give_away(pid, x, y, z)
         } else {
             Err(Refusal::Badarg)
         }

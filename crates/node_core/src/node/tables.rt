@@ -1,82 +1,76 @@
-// Calls that make tables.
-ghost use Rattle.std.specs.Prelude.{◌≡◌, ◌≤◌, ◌&&◌, if◌then◌else◌, is_some, IfOk};
-ghost use Rattle.ets_term.specs.declared.term.Term.TheVariants as term;
+// Calls that make tables and let them go.
+ghost use Rattle.std.specs.Prelude.{◌≡◌, ◌≤◌, true, false, [], ◌∷◌, IfOk};
+ghost use Rattle.node_core.specs.Access.{asks};
+ghost use Rattle.ownership.specs.Tables as tables;
 ghost use Rattle.node_core.specs.declared.step.Reply.TheVariants.{Value};
-ghost use Rattle.node_core.specs.Access.{whereis};
-ghost use Rattle.node_core.specs.rules.Tables.{New, new_table};
+ghost use Rattle.node_core.specs.rules.Tables.{New, DeleteTable, new_table_of};
 ghost use Rattle.node_core.specs.inside.Refusals.{Comes};
 
 use super::Node;
-use crate::head::Head;
-use crate::options::Options;
+use super::access::Access;
+use super::replies::{refused, true_reply};
 use crate::step::Reply;
-use crate::table::Table;
-use bucket_table::PlainRows;
+use bucket_table::SplitRows;
 use ets_term::{Atom, KeyHash, Term};
-use std::alloc::{AllocError, Global};
-use table_ops::Refusal;
+use fixed_walk::Walked;
+use ownership::{NewOptions, WorldFault};
+use std::alloc::AllocError;
+use table_ops::{Refusal, Table};
 
-impl<H: KeyHash + Copy> Node<H> {
+impl<H: KeyHash + Copy + Drop> Node<H> {
     pub fn new_call(&mut self, pid: u32, name: &Term, options: &Term) -> Result<Reply, Refusal>
         ensures { Comes (New self.old pid name.now options.now) self.old result self.new }
     {
         let Term::Atom(name) = name else {
             return Err(Refusal::Badarg);
         };
-        let options = Options::read(options).ok_or(Refusal::Badarg)?;
-        self.new_table(pid, name, options)
+        match NewOptions::read(self.alloc, options) {
+            Ok(options) => self.new_table(pid, name, options),
+            Err(WorldFault::Badarg) => Err(Refusal::Badarg),
+            Err(_) => Err(Refusal::Memory),
+        }
     }
 
-    fn new_table(&mut self, pid: u32, name: &Atom, options: Options) -> Result<Reply, Refusal>
+    fn new_table(&mut self, pid: u32, name: &Atom, options: NewOptions) -> Result<Reply, Refusal>
         requires { 1 ≤ options.keypos }
-        ensures { Comes (new_table self.old pid name.now options) self.old result self.new }
+        ensures { Comes (asks self.old Value (tables.New self.old.world pid name.now options (new_table_of self.old.limits.objects options (true ∷ false ∷ [])))) self.old result self.new }
     {
-        if self.name_is_taken(options, name.text()) {
-            return Err(Refusal::Badarg);
-        }
-        let id = self.tables.next_identifier();
-        if id >= self.limits.tables {
-            return Err(Refusal::SystemLimit);
-        }
-        let reply = name_or_identifier(self.alloc, options, name, id)?;
-        let head = Head {
-            name: name.try_clone(self.alloc)?,
-            named: options.named,
-            owner: pid,
-            heir: None,
-            protection: options.protection,
+        let table = match self.empty_table(&options) {
+            Ok(table) => table,
+            Err(_) => {
+                drop(options);
+                return Err(Refusal::Memory);
+            }
         };
-        let rowed = table_ops::Table::new(
+        match self.world.new_table(pid, name, options, table) {
+            Ok(answer) => Ok(Reply::Value(answer)),
+            Err(fault) => refused(fault),
+        }
+    }
+
+    /// A table of these options, without objects.
+    fn empty_table(&self, options: &NewOptions) -> Result<Walked<SplitRows<H>>, AllocError>
+        requires { 1 ≤ options.now.keypos }
+        ensures { IfOk result (λ table. table ≡ new_table_of self.now.limits.objects options.now (true ∷ false ∷ [])) }
+    {
+        let rows = SplitRows::new(self.alloc, self.hash)?;
+        let table = Table::new(
             self.alloc,
-            PlainRows::new(self.alloc),
+            rows,
             options.kind,
             options.keypos,
             self.limits.objects,
         );
-        self.tables.add(self.alloc, Table::new(head, rowed))?;
-        Ok(reply)
+        Ok(Walked::new(self.alloc, table))
     }
 
-    /// Whether the table is to be a named one, and another has its name.
-    fn name_is_taken(&self, options: Options, name: &str) -> bool
-        ensures { result ≡ (options.named && is_some (whereis self.now.tables name.now)) }
+    pub fn delete_table(&mut self, pid: u32, table: &Term) -> Result<Reply, Refusal>
+        ensures { Comes (DeleteTable self.old pid table.now) self.old result self.new }
     {
-        options.named && self.tables.whereis(name).is_some()
-    }
-}
-
-/// What `new` answers: the name of a named table, else its identifier.
-fn name_or_identifier(
-    alloc: Global,
-    options: Options,
-    name: &Atom,
-    id: u32,
-) -> Result<Reply, AllocError>
-    ensures { IfOk result (λ r. r ≡ Value (if options.named then term.Atom name.now else term.Tid id)) }
-{
-    if options.named {
-        Ok(Reply::Value(Term::Atom(name.try_clone(alloc)?)))
-    } else {
-        Ok(Reply::Value(Term::Tid(id)))
+        let id = self
+            .usable_id(Access::Write, pid, table)
+            .ok_or(Refusal::Badarg)?;
+        self.world.drop_table(id);
+        Ok(true_reply(self.alloc))
     }
 }

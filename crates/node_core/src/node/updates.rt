@@ -9,13 +9,14 @@ use super::Node;
 use super::access::Access;
 use super::replies::truth_reply;
 use crate::step::Reply;
-use crate::table::Rowed;
+use bucket_table::Rows;
 use counters::{read_element_specs, read_ops};
 use ets_term::{KeyHash, Term};
+use fixed_walk::Walked;
 use std::alloc::Global;
 use table_ops::Refusal;
 
-impl<H: KeyHash + Copy> Node<H> {
+impl<H: KeyHash + Copy + Drop> Node<H> {
     pub fn update_counter(
         &mut self,
         pid: u32,
@@ -53,22 +54,27 @@ impl<H: KeyHash + Copy> Node<H> {
 }
 
 /// Does the operations that a term tells on the counters of a key's object.
-fn count(
+fn count<R: Rows>(
     alloc: Global,
-    table: &mut Rowed,
+    table: &mut Walked<R>,
     key: &Term,
     updates: &Term,
     default: Option<&Term>,
 ) -> Result<Term, Refusal>
-    ensures { table_refusals.Comes (Counts key.now updates.now (option_copied default.entry) table.old.content) table.old.content result table.new.content }
+    ensures { table_refusals.Comes (Counts key.now updates.now (option_copied default.entry) table.old) table.old result table.new }
 {
     let ops = read_ops(alloc, updates, table.keypos())?;
     table.update_counter(key, &ops, default)
 }
 
 /// Writes the elements that a term tells into a key's object; whether the key has one.
-fn write(alloc: Global, table: &mut Rowed, key: &Term, updates: &Term) -> Result<bool, Refusal>
-    ensures { table_refusals.Comes (WritesTold key.now updates.now table.old.content) table.old.content result table.new.content }
+fn write<R: Rows>(
+    alloc: Global,
+    table: &mut Walked<R>,
+    key: &Term,
+    updates: &Term,
+) -> Result<bool, Refusal>
+    ensures { table_refusals.Comes (WritesTold key.now updates.now table.old) table.old result table.new }
 {
     let specs = read_element_specs(alloc, updates, table.keypos())?;
     table.update_element(key, specs)

@@ -2,9 +2,9 @@ use Rattle.std.proofs.Common.{refl}
 use Rattle.node_core.specs.declared.node.access.Access.TheVariants.{Write}
 use Rattle.node_core.specs.rules.Removal.{Delete}
 use Rattle.node_core.specs.rules.Replies.{true_reply}
-use Rattle.node_core.proofs.Contents.{changed}
+use Rattle.node_core.proofs.Changes.{changed}
 use Rattle.node_core.proofs.node.Node.delete.Goals as goal
 
 pub returns : goal.returns
 returns g c =
-    rw c.true_reply.ensures (changed c.args.self.now c.args.pid Write c.args.table.now c.in-Some.table.now.content c.delete_key.new.self.content c.in-Some.ensures.value (Delete c.args.key.now) true_reply (refl, c.delete_key.ensures.content))
+    rw c.true_reply.ensures (changed c.args.self.now c.args.pid Write c.args.table.now c.in-Some.table.now c.delete_key.new.self c.in-Some.ensures.value (Delete c.args.key.now) true_reply (refl, c.delete_key.ensures))

@@ -1,9 +1,10 @@
 use Rattle.std.proofs.Common.{Ok, Err, subst}
 use Rattle.std.proofs.lemmas.Result.{err_from_is_err_and}
 use Rattle.node_core.specs.declared.node.access.Access.TheVariants.{Write}
-use Rattle.node_core.proofs.Contents.{changed-ok, changed-err}
+use Rattle.node_core.proofs.Changes.{changed-ok, changed-err}
 use Rattle.table_ops.specs.Put.{InsertsNew}
 use Rattle.table_ops.specs.Refusals.{Comes}
+use Rattle.fixed_walk.specs.Fixed.{on_content}
 use Rattle.node_core.specs.rules.Insertion.{objects_in}
 use Rattle.node_core.specs.rules.Replies.{truth_reply}
 use Rattle.node_core.proofs.node.Node.insert_new.Goals as goal
@@ -11,10 +12,10 @@ use Rattle.node_core.proofs.node.Node.insert_new.Goals as goal
 pub returns-in_err-inserted : goal.returns-in_err-inserted
 returns-in_err-inserted g c =
     let p = err_from_is_err_and c.from_residual.result c.from_residual.ensures.1 in
-    rw (p.1, p.2) (changed-err c.args.self.now c.args.pid Write c.args.table.now c.in-Some.table.now.content c.insert_new.new.self.content c.in-Some.ensures.value truth_reply (InsertsNew (objects_in c.args.objects.now)) c.in_err-inserted.field-0.0
-    (subst (λ objects. Comes (InsertsNew objects c.in-Some.table.now.content) c.in-Some.table.now.content (Err c.in_err-inserted.field-0.0) c.insert_new.new.self.content) c.objects_in.ensures c.in_err-inserted.ensures.content))
+    rw (p.1, p.2) (changed-err c.args.self.now c.args.pid Write c.args.table.now c.in-Some.table.now c.insert_new.new.self c.in-Some.ensures.value truth_reply (on_content (InsertsNew (objects_in c.args.objects.now))) c.in_err-inserted.field-0.0
+    (subst (λ objects. Comes (on_content (InsertsNew objects) c.in-Some.table.now) c.in-Some.table.now (Err c.in_err-inserted.field-0.0) c.insert_new.new.self) c.objects_in.ensures c.in_err-inserted.ensures))
 
 pub returns : goal.returns
 returns g c =
-    rw c.truth_reply.ensures (changed-ok c.args.self.now c.args.pid Write c.args.table.now c.in-Some.table.now.content c.insert_new.new.self.content c.in-Some.ensures.value truth_reply (InsertsNew (objects_in c.args.objects.now)) c.in_ok-inserted.inserted
-    (subst (λ objects. InsertsNew objects c.in-Some.table.now.content (Ok c.in_ok-inserted.inserted) c.insert_new.new.self.content) c.objects_in.ensures c.in_ok-inserted.ensures.content))
+    rw c.truth_reply.ensures (changed-ok c.args.self.now c.args.pid Write c.args.table.now c.in-Some.table.now c.insert_new.new.self c.in-Some.ensures.value truth_reply (on_content (InsertsNew (objects_in c.args.objects.now))) c.in_ok-inserted.inserted
+    (subst (λ objects. on_content (InsertsNew objects) c.in-Some.table.now (Ok c.in_ok-inserted.inserted) c.insert_new.new.self) c.objects_in.ensures c.in_ok-inserted.ensures))

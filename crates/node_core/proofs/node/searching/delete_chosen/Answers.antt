@@ -1,14 +1,14 @@
-use Rattle.std.proofs.Common.{◌≡◌, false, Ok, ap, subst}
-use Rattle.table_ops.specs.Drop.{without_those}
+use Rattle.std.proofs.Common.{◌≡◌, Ok, ap, subst}
 use Rattle.table_ops.specs.Queries.{chosen_count, is_chosen}
 use Rattle.table_ops.specs.Read.{all_objects}
+use Rattle.node_core.specs.rules.Removal.{without}
 use Rattle.node_core.proofs.node.searching.delete_chosen.Goals as goal
 
 pub returns-clause-content : goal.returns-clause-content
-returns-clause-content c =
+returns-clause-content g c =
     let slots = c.args.table.now.content.slots in
     let same = c.in_ok-spec.ensures.same in
     rw c.in_ok-spec.ensures.good (
       ap Ok (subst (λ s. c.in_ok-select_delete.field-0 ≡ chosen_count (is_chosen s) (all_objects slots)) same c.in_ok-select_delete.ensures.count),
-      subst (λ s. c.select_delete.new.self.content ≡ without_those false (λ _. is_chosen s) c.args.table.now.content) same c.in_ok-select_delete.ensures.content,
+      subst (λ s. c.select_delete.new.self ≡ without (λ _. is_chosen s) c.args.table.now) same c.in_ok-select_delete.ensures.ok,
     )

@@ -1,9 +1,0 @@
-use Rattle.std.proofs.Common.{◌≡◌, ◌≤◌, drop}
-use Rattle.node_core.specs.Options.{options_from, usual}
-use Rattle.node_core.proofs.options.Options.read_all.Given as goal
-
-abbrev pub invariant-loop-term : goal.invariant-loop-term
-invariant-loop-term l = record {
-  rest : options_from l.options (drop l.term-index l.terms) ≡ options_from usual l.fn.terms;
-  keypos : 1 ≤ l.options.keypos;
-}

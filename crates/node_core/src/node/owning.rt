@@ -1,0 +1,95 @@
+// Calls on owners, heirs, names and mailboxes.
+ghost use Rattle.std.specs.Prelude.{◌≡◌, IfOk};
+ghost use Rattle.ets_term.specs.declared.term.Term.{out-Term};
+ghost use Rattle.node_core.specs.rules.Owning.{GiveAway, SetOptions, Receive, Whereis, Info, told_or_undefined, names_form};
+ghost use Rattle.node_core.specs.inside.Refusals.{Comes};
+
+use super::Node;
+use super::replies::{atom_reply, refused, true_reply};
+use crate::step::Reply;
+use ets_term::{KeyHash, Term};
+use ownership::InfoItem;
+use std::alloc::Global;
+use table_ops::Refusal;
+
+impl<H: KeyHash + Copy + Drop> Node<H> {
+    pub fn give_away(
+        &mut self,
+        pid: u32,
+        table: &Term,
+        to: &Term,
+        gift: &Term,
+    ) -> Result<Reply, Refusal>
+        ensures { Comes (GiveAway self.old pid table.now to.now gift.now) self.old result self.new }
+    {
+        let id = self.world.resolve(table).ok_or(Refusal::Badarg)?;
+        let Term::Pid(to) = to else {
+            return Err(Refusal::Badarg);
+        };
+        match self.world.give_away(pid, id, *to, gift) {
+            Ok(()) => Ok(true_reply(self.alloc)),
+            Err(fault) => refused(fault),
+        }
+    }
+
+    pub fn set_options(&mut self, pid: u32, table: &Term, options: &Term) -> Result<Reply, Refusal>
+        ensures { Comes (SetOptions self.old pid table.now options.now) self.old result self.new }
+    {
+        let id = self.world.resolve(table).ok_or(Refusal::Badarg)?;
+        match self.world.set_options(pid, id, options) {
+            Ok(()) => Ok(true_reply(self.alloc)),
+            Err(fault) => refused(fault),
+        }
+    }
+
+    pub fn receive(&mut self, pid: u32) -> Result<Reply, Refusal>
+        ensures { Comes (Receive self.old pid) self.old result self.new }
+    {
+        Ok(Reply::Value(Term::List(self.world.receive(pid))))
+    }
+
+    pub fn whereis(&self, name: &Term) -> Result<Reply, Refusal>
+        ensures { Comes (Whereis self.now name.now) self.now result self.now }
+    {
+        let Term::Atom(name) = name else {
+            return Err(Refusal::Badarg);
+        };
+        match self.world.whereis(name) {
+            Some(id) => Ok(Reply::Value(Term::Tid(id))),
+            None => Ok(atom_reply(self.alloc, b"undefined")),
+        }
+    }
+
+    pub fn info(&self, table: &Term, item: &Term) -> Result<Reply, Refusal>
+        ensures { Comes (Info self.now table.now item.now) self.now result self.now }
+    {
+        let item = InfoItem::read(item).ok_or(Refusal::Badarg)?;
+        if !can_name(table) {
+            return Err(Refusal::Badarg);
+        }
+        let Some(id) = self.world.resolve(table) else {
+            return Ok(told_or_undefined(self.alloc, None));
+        };
+        let told = self.world.info(id, item)?;
+        Ok(told_or_undefined(self.alloc, told))
+    }
+}
+
+/// Whether a term could name a table.
+fn can_name(term: &Term) -> bool
+    ensures { result ≡ names_form (out-Term term.now) }
+{
+    match term {
+        Term::Atom(_) | Term::Tid(_) => true,
+        _ => false,
+    }
+}
+
+fn told_or_undefined(alloc: Global, told: Option<Term>) -> Reply
+    ensures { result ≡ told_or_undefined told }
+{
+    match told {
+        Some(term) => Reply::Value(term),
+        None => atom_reply(alloc, b"undefined"),
+    }
+}

@@ -1,0 +1,81 @@
+// Calls that fix a table and walk over it.
+ghost use Rattle.std.specs.Prelude.{◌≡◌, option_copied, IfOk};
+ghost use Rattle.node_core.specs.declared.node.access.Access.TheVariants.{Read};
+ghost use Rattle.node_core.specs.Access.{reads, changes};
+ghost use Rattle.node_core.specs.rules.Walking.{SafeFixtable, Fixes, Releases, First, Next, key_reply};
+ghost use Rattle.node_core.specs.inside.Refusals.{Comes};
+
+use super::Node;
+use super::access::Access;
+use super::replies::{atom_reply, true_reply};
+use crate::step::Reply;
+use ets_term::{KeyHash, Term};
+use fixed_walk::FixFault;
+use std::alloc::{AllocError, Global};
+use table_ops::Refusal;
+
+impl<H: KeyHash + Copy + Drop> Node<H> {
+    pub fn safe_fixtable(&mut self, pid: u32, table: &Term, flag: &Term) -> Result<Reply, Refusal>
+        ensures { Comes (SafeFixtable self.old pid table.now flag.now) self.old result self.new }
+    {
+        if flag.is_atom("true") {
+            return self.fix(pid, table);
+        }
+        if flag.is_atom("false") {
+            return self.release(pid, table);
+        }
+        Err(Refusal::Badarg)
+    }
+
+    fn fix(&mut self, pid: u32, table: &Term) -> Result<Reply, Refusal>
+        ensures { Comes (changes self.old pid Read table.now (Fixes pid)) self.old result self.new }
+    {
+        let alloc = self.alloc;
+        let Some(table) = self.usable_mut(Access::Read, pid, table) else {
+            return Err(Refusal::Badarg);
+        };
+        match table.fix(pid) {
+            Ok(()) => Ok(true_reply(alloc)),
+            Err(FixFault::SystemLimit) => Err(Refusal::SystemLimit),
+            Err(FixFault::Memory) => Err(Refusal::Memory),
+        }
+    }
+
+    fn release(&mut self, pid: u32, table: &Term) -> Result<Reply, Refusal>
+        ensures { Comes (changes self.old pid Read table.now (Releases pid)) self.old result self.new }
+    {
+        let alloc = self.alloc;
+        let Some(table) = self.usable_mut(Access::Read, pid, table) else {
+            return Err(Refusal::Badarg);
+        };
+        table.release(pid);
+        Ok(true_reply(alloc))
+    }
+
+    pub fn first(&self, pid: u32, table: &Term) -> Result<Reply, Refusal>
+        ensures { Comes (reads self.now pid table.now First) self.now result self.now }
+    {
+        let table = self.readable(pid, table).ok_or(Refusal::Badarg)?;
+        Ok(key_reply(self.alloc, table.first())?)
+    }
+
+    pub fn next(&self, pid: u32, table: &Term, key: &Term) -> Result<Reply, Refusal>
+        ensures { Comes (reads self.now pid table.now (Next key.now)) self.now result self.now }
+    {
+        let table = self.readable(pid, table).ok_or(Refusal::Badarg)?;
+        match table.next(key) {
+            Ok(found) => Ok(key_reply(self.alloc, found)?),
+            Err(_) => Err(Refusal::Badarg),
+        }
+    }
+}
+
+/// A key as an answer, or the end.
+fn key_reply(alloc: Global, key: Option<&Term>) -> Result<Reply, AllocError>
+    ensures { IfOk result (λ r. r ≡ key_reply (option_copied key.entry)) }
+{
+    match key {
+        Some(key) => Ok(Reply::Value(key.try_clone(alloc)?)),
+        None => Ok(atom_reply(alloc, b"$end_of_table")),
+    }
+}
