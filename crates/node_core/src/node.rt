@@ -7,6 +7,7 @@ ghost use Rattle.node_core.specs.rules.Growth.{step_on_buckets};
 
 mod access;
 mod ask;
+mod due;
 mod growth;
 mod insertion;
 mod owning;
