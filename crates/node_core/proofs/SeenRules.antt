@@ -29,7 +29,7 @@ use Rattle.fixed_walk.proofs.KeptLaws.{insert-keeps, insert_new-keeps, update_co
 use Rattle.node_core.specs.declared.step.Reply.{Reply}
 use Rattle.node_core.specs.Seen.{seen_fixed}
 use Rattle.node_core.specs.Access.{Rule, IsReply, replies}
-use Rattle.node_core.proofs.EndKeys.{NoEnd, StaysFree, unchanged-free, dropped-free, purged-free, inserts-free, news-free, counter-free, element-free}
+use Rattle.node_core.proofs.EndKeys.{StaysFree, unchanged-free, dropped-free, purged-free, inserts-free, news-free, counter-free, element-free}
 use Rattle.node_core.specs.rules.Insertion.{objects_in, Insert, InsertNew}
 use Rattle.node_core.specs.rules.Removal.{without, Take, Delete, DeleteObject, DeleteAllObjects}
 use Rattle.node_core.specs.rules.Searching.{Deletes, DeletesMatching, DeletesChosen, MatchDelete, SelectDelete}
