@@ -19,8 +19,8 @@ use Rattle.counters.specs.declared.fault.CounterFault.{CounterFault}
 use Rattle.counters.specs.declared.ops.Ops.{Ops}
 use Rattle.table_ops.specs.declared.kind.Kind.{Kind}
 use Rattle.table_ops.specs.declared.refusal.Refusal.{Refusal}
-use Rattle.table_ops.specs.declared.refusal.Refusal.TheVariants.{Badarg, SystemLimit, Memory}
-use Rattle.table_ops.specs.Content.{Content, key_of, is_object, objects_under}
+use Rattle.table_ops.specs.declared.refusal.Refusal.TheVariants.{Badarg, SystemLimit}
+use Rattle.table_ops.specs.Content.{Content, is_object, objects_under}
 use Rattle.table_ops.specs.Drop.{Which, left, dropped}
 use Rattle.table_ops.specs.Put.{add, Writes, PutsAll, Stores, Inserts, InsertsNew, is_taken}
 use Rattle.table_ops.specs.Refusals.{gives}

@@ -1,13 +1,11 @@
 -- What steps keep, every state has that a run reaches from one that has it.
-use Rattle.std.proofs.Common.{◌≡◌, ℕ, ◌<◌, ◌≤◌, ◌⊎◌, inl, inr, Bool, true, false, ◌&&◌, not, List, [], ◌∷◌, Option, None, Some, refl, sym, subst, ap, ◌∙◌, length, position, true≢false}
-use Rattle.std.specs.Prelude.{MatchOption}
+use Rattle.std.proofs.Common.{◌≡◌, ℕ, true, ◌&&◌, not, List, [], ◌∷◌, Option, None, Some, refl, sym, subst, ap, ◌∙◌, true≢false}
 use Rattle.std.specs.List.{IsDistinct, list_any}
 use Rattle.std.specs.Str.{bytes_eq}
 use Rattle.std.proofs.lemmas.Slice.Eq.{bytes_eq-Decides}
 use Rattle.ets_term.specs.Depth.{is_too_deep}
 use Rattle.ets_term.specs.Order.{same}
-use Rattle.bucket_table.specs.Slots.{Slot, HasDistinctKeys}
-use Rattle.ownership.specs.declared.head.Head.{Head}
+use Rattle.bucket_table.specs.Slots.{HasDistinctKeys}
 use Rattle.ownership.specs.World.{Table, Tables, table_at, head_of, heads, is_named, whereis, lives}
 use Rattle.ownership.specs.inside.Names.{head_at}
 use Rattle.ownership.proofs.Heads.{head-there}
@@ -18,13 +16,13 @@ use Rattle.node_core.specs.declared.step.Reply.{Reply}
 use Rattle.node_core.specs.declared.step.Reply.TheVariants.{SystemLimit, NoProcess}
 use Rattle.node_core.specs.declared.step.Step.{Step}
 use Rattle.node_core.specs.declared.step.Step.TheVariants.{Enrol, End, Ask, Grow, Ready}
-use Rattle.node_core.specs.State.{State, Outcome, gives, empty}
+use Rattle.node_core.specs.State.{State, gives, empty}
 use Rattle.node_core.specs.Seen.{seen}
 use Rattle.node_core.specs.Calls.{call}
 use Rattle.node_core.specs.Machine.{step, run}
 use Rattle.node_core.specs.laws.Reached.{HasNoEnd, IsSound, RunsStaySound, ReachedAreSound}
-use Rattle.node_core.proofs.CallLaws.{Either, IsLawfulCall, either-lawful, tells-lawful, call-lawful}
-use Rattle.node_core.proofs.Following.{Follows, Came, Enters, Stays, follows-same}
+use Rattle.node_core.proofs.CallLaws.{Either, either-lawful, tells-lawful, call-lawful}
+use Rattle.node_core.proofs.Following.{Follows, Came, follows-same}
 use Rattle.node_core.proofs.Seen.{enrol-call, end-call}
 
 -- ---- after a step each table stays or is new

@@ -1,5 +1,5 @@
 -- Walks over a table that stays fixed are whole, in every run.
-use Rattle.std.proofs.Common.{◌≡◌, ℕ, true, false, List, [], ◌∷◌, Option, None, Some, refl, sym, subst, ap, ◌∙◌, true≢false}
+use Rattle.std.proofs.Common.{◌≡◌, ℕ, true, false, List, [], ◌∷◌, Option, None, Some, refl, sym, subst, ap, ◌∙◌}
 use Rattle.std.specs.Prelude.{MatchOption}
 use Rattle.std.specs.List.{AllByRecursion}
 use Rattle.std.specs.Map.{keys_of}
@@ -12,7 +12,7 @@ use Rattle.fixed_walk.specs.laws.Kept.{IsSubsequence}
 use Rattle.fixed_walk.specs.laws.Walks.{KeepKeys, IsWalk}
 use Rattle.fixed_walk.proofs.Subsequences.{sub-same, sub-further}
 use Rattle.fixed_walk.proofs.WalkLaws.{whole}
-use Rattle.ownership.specs.World.{Table, Tables, table_at}
+use Rattle.ownership.specs.World.{Table, table_at}
 use Rattle.node_core.specs.declared.step.Reply.{Reply}
 use Rattle.node_core.specs.declared.step.Reply.TheVariants.{Value}
 use Rattle.node_core.specs.declared.step.Step.{Step}
@@ -21,9 +21,8 @@ use Rattle.node_core.specs.Machine.{step, run}
 use Rattle.node_core.specs.rules.Walking.{key_reply}
 use Rattle.node_core.specs.laws.Kept.{slots_in, is_fixed_in, StepsKeepKeys}
 use Rattle.node_core.specs.laws.Reached.{HasNoEnd, IsSound}
-use Rattle.node_core.specs.laws.Walk.{states, walk_step, Answers, Walks, IsWhole, WalksAreWhole}
+use Rattle.node_core.specs.laws.Walk.{states, walk_step, Answers, Walks, WalksAreWhole}
 use Rattle.node_core.proofs.EndKeys.{is_end}
-use Rattle.node_core.proofs.Following.{Follows, Stays}
 use Rattle.node_core.proofs.Reached.{step-follows, sound-step}
 use Rattle.node_core.proofs.Seen.{stays-there}
 use Rattle.node_core.proofs.WalkCalls.{Replies, asked-free, step-replies, tells-end, tells-key}

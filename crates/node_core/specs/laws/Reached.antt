@@ -2,7 +2,6 @@
 use Rattle.std.specs.Prelude.{◌≡◌, ℕ, true, false, List, Some, codes}
 use Rattle.std.specs.List.{AllByRecursion}
 use Rattle.std.specs.Map.{keys_of}
-use Rattle.ets_term.specs.declared.term.Term.{Term}
 use Rattle.ets_term.specs.Atoms.{is_atom}
 use Rattle.bucket_table.specs.Slots.{Slot, HasDistinctKeys}
 use Rattle.ownership.specs.World.{Table, table_at}
