@@ -11,6 +11,7 @@ pub mod Runs
 pub mod Seen
 pub mod SeenRules
 pub mod SeenTables
+pub mod Steps
 pub mod Trees
 pub mod WalkCalls
 pub mod WholeWalks
