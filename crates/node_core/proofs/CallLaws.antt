@@ -219,7 +219,7 @@ fixtable-lawful old p term flag =
     (changes (seen old) p Read term (Fixes p)) (Either (is_atom (codes "false") flag) (changes (seen old) p Read term (Releases p)) (gives Badarg (seen old)))
     (changes-lawful old p Read term (Fixes p) (fixes-lawful p))
     (either-lawful old (is_atom (codes "false") flag) (changes old p Read term (Releases p)) (gives Badarg old) (changes (seen old) p Read term (Releases p)) (gives Badarg (seen old))
-        (changes-lawful old p Read term (Releases p) (releases-lawful p)) (tells-lawful Badarg old))
+    (changes-lawful old p Read term (Releases p) (releases-lawful p)) (tells-lawful Badarg old))
 
 -- ---- the table of calls
 called-lawful : (old : State) (name own : List ℕ) {rule rule' others others' : Outcome} → IsLawfulCall old rule rule' → IsLawfulCall old others others' → IsLawfulCall old (called name own rule others) (called name own rule' others')

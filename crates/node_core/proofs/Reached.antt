@@ -31,10 +31,10 @@ step-follows old new (Enrol p) reply h = let lawful = enrol-call old p in lawful
 step-follows old new (End p) reply h = let lawful = end-call old p in lawful.follows reply new h
 step-follows old new (Ask p asked) reply h =
     let lawful =
-        either-lawful old (not (lives old.world.processes p)) (gives NoProcess old) (Either (list_any is_too_deep asked.args) (gives SystemLimit old) (call old p asked.name asked.args))
-        (gives NoProcess (seen old)) (Either (list_any is_too_deep asked.args) (gives SystemLimit (seen old)) (call (seen old) p asked.name asked.args)) (tells-lawful NoProcess old)
-        (either-lawful old (list_any is_too_deep asked.args) (gives SystemLimit old) (call old p asked.name asked.args) (gives SystemLimit (seen old)) (call (seen old) p asked.name asked.args)
-            (tells-lawful SystemLimit old) (call-lawful old p asked.name asked.args))
+    either-lawful old (not (lives old.world.processes p)) (gives NoProcess old) (Either (list_any is_too_deep asked.args) (gives SystemLimit old) (call old p asked.name asked.args))
+    (gives NoProcess (seen old)) (Either (list_any is_too_deep asked.args) (gives SystemLimit (seen old)) (call (seen old) p asked.name asked.args)) (tells-lawful NoProcess old)
+    (either-lawful old (list_any is_too_deep asked.args) (gives SystemLimit old) (call old p asked.name asked.args) (gives SystemLimit (seen old)) (call (seen old) p asked.name asked.args)
+    (tells-lawful SystemLimit old) (call-lawful old p asked.name asked.args))
     in lawful.follows reply new h
 step-follows old new (Grow t) reply h = follows-same old.world.tables new.world.tables (ap (λ (s : State). s.world.tables) h.1)
 step-follows old new (Ready t bucket) reply h = follows-same old.world.tables new.world.tables (ap (λ (s : State). s.world.tables) h.1)

@@ -20,8 +20,8 @@ pub record IsSound (s : State) : Type 0 where
   pub keys : (t : ℕ) (table : Table) → table_at s.world.tables t ≡ Some table → HasDistinctKeys table.fixed.content.slots
   pub ends : (t : ℕ) (table : Table) → table_at s.world.tables t ≡ Some table → HasNoEnd table.fixed.content.slots
   pub names :
-    (t u : ℕ) (one other : Table) → table_at s.world.tables t ≡ Some one → table_at s.world.tables u ≡ Some other
-    → one.head.named ≡ true → other.head.named ≡ true → one.head.name ≡ other.head.name → t ≡ u
+      (t u : ℕ) (one other : Table) → table_at s.world.tables t ≡ Some one → table_at s.world.tables u ≡ Some other
+      → one.head.named ≡ true → other.head.named ≡ true → one.head.name ≡ other.head.name → t ≡ u
 
 -- so is the state after a run where the one before it is
 abbrev pub RunsStaySound : Type 0
