@@ -2,6 +2,7 @@ pub mod Arguments
 pub mod CallLaws
 pub mod Changes
 pub mod EndKeys
+mod Examples
 pub mod Fixing
 pub mod Following
 pub mod Growing
