@@ -120,6 +120,67 @@ def walk(count: int) -> Iterator[str]:
     yield "p safe_fixtable(t,false)"
 
 
+def sessions(count: int) -> Iterator[str]:
+    """A cache of sessions: each is made, read and touched; each thousandth line those go that were not touched lately."""
+    yield from table()
+    for i in range(count):
+        yield f"p insert(t,{{s{i},{i},{{user,{i % 97}}}}})"
+        yield f"p lookup(t,s{i * 7 // 8})"
+        yield f"p update_counter(t,s{i},{{2,1}})"
+        if i % 1_000 == 999:
+            yield f"p select_delete(t,[{{{{'_','$1','_'}},[{{'<','$1',{i - 5_000}}}],[true]}}])"
+
+
+def routes(count: int) -> Iterator[str]:
+    """A routing table: four routes for each destination in a bag, and matches whose key is bound."""
+    yield from table(",bag")
+    keys = min(count, 50_000)
+    for i in range(4):
+        for key in shuffled(keys):
+            yield f"p insert(t,{{d{key},hop{i},{key % 16 + i}}})"
+    for i in range(count):
+        yield f"p match(t,{{d{i * 31 % keys},'$1','$2'}})"
+
+
+def tables(count: int) -> Iterator[str]:
+    """A table for each number, then an insertion and a lookup in each."""
+    yield "spawn p"
+    for i in range(count):
+        yield f"p new(t{i},[named_table])"
+    for i in range(count):
+        yield f"p insert(t{i},{{a,{i}}})"
+    for i in range(count):
+        yield f"p lookup(t{i * 31 % count},a)"
+
+
+@dataclass(frozen=True)
+class Search:
+    """A call that looks at all objects of a filled table."""
+
+    name: str
+    call: str
+    passes: int  # how often the call stands in the script
+
+
+def filled(count: int) -> list[str]:
+    """Objects {K,V} with V = 3 K, a hundred a line."""
+    numbers = list(shuffled(count))
+    rows = (numbers[i : i + 100] for i in range(0, count, 100))
+    return table() + ["p insert(t,[" + ",".join(f"{{{k},{3 * k}}}" for k in row) + "])" for row in rows]
+
+
+def searches(count: int) -> list[Search]:
+    value = count // 2 * 3
+    return [
+        Search("select, a guard true of one", f"p select(t,[{{{{'$1','$2'}},[{{'=:=','$2',{value}}}],['$1']}}])", 10),
+        Search("match of a value", f"p match(t,{{'$1',{value}}})", 10),
+        Search("select_count of half", f"p select_count(t,[{{{{'_','$1'}},[{{'>','$1',{value}}}],[true]}}])", 10),
+        Search("select of all", "p select(t,[{{'_','$1'},[],['$1']}])", 2),
+        Search("tab2list", "p tab2list(t)", 2),
+        Search("select_delete of half", f"p select_delete(t,[{{{{'_','$1'}},[{{'>','$1',{value}}}],[true]}}])", 1),
+    ]
+
+
 # The full sizes keep the fastest peer busy for half a second or more on a machine with nothing else to do.
 WORKLOADS = [
     Workload("one key", "insert and lookup in turn, one key", one_key, 2_000_000, 200_000),
@@ -129,5 +190,8 @@ WORKLOADS = [
     Workload("select", "select with a bound key, and each 50th unbound, over 10,000 objects", select, 200_000, 1_000, True),
     Workload("bags", "100 objects a key in a bag", bags, 600_000, 10_000),
     Workload("heirs", "processes with a table each, heirs and exits", heirs, 100_000, 500),
+    Workload("sessions", "a cache: insert, lookup, update_counter, and select_delete of the old", sessions, 300_000, 3_000),
+    Workload("routes", "match with a bound key over a bag of 50,000 keys", routes, 600_000, 5_000),
+    Workload("tables", "65,536 tables, an insertion and a lookup in each", tables, 65_536, 2_000),
     Workload("fixed walk", "next over a fixed table, with deletes and inserts between", walk, 400_000, 2_000, True),
 ]

@@ -107,6 +107,36 @@ impl Table {
         }
         self.objects(&head[0]).iter().filter_map(value).collect()
     }
+
+    /// The bindings of a pattern `{Key,'$1','$2'}`.
+    fn matches(&self, pattern: &Term) -> Vec<Term> {
+        let Term::Tuple(parts) = pattern else { unreachable!() };
+        let bindings = |object: &Term| match object {
+            Term::Tuple(row) if row.len() == 3 => Some(Term::List(row[1..].to_vec())),
+            _ => None,
+        };
+        self.objects(&parts[0]).iter().filter_map(bindings).collect()
+    }
+
+    /// Deletes the objects of a set whose second element is below a bound, and says how many there were.
+    fn select_delete(&mut self, spec: &Term) -> Term {
+        let bound = bound_of(spec);
+        let before = self.places.len();
+        let slots = std::mem::take(&mut self.slots);
+        let stays = |object: &Term| !matches!(object, Term::Tuple(row) if row[1] < *bound);
+        self.slots = slots.into_iter().filter(|slot| slot.as_ref().is_some_and(|slot| stays(&slot.1[0]))).collect();
+        self.places = self.slots.iter().enumerate().map(|(at, slot)| (slot.as_ref().unwrap().0.clone(), at)).collect();
+        Term::Int((before - self.places.len()) as i64)
+    }
+}
+
+/// The number behind the variable in the only condition of a specification of one clause.
+fn bound_of(spec: &Term) -> &Term {
+    let Term::List(clauses) = spec else { unreachable!() };
+    let Term::Tuple(clause) = &clauses[0] else { unreachable!() };
+    let Term::List(conditions) = &clause[1] else { unreachable!() };
+    let Term::Tuple(condition) = &conditions[0] else { unreachable!() };
+    &condition[2]
 }
 
 fn key_of(object: &Term) -> &Term {
@@ -200,6 +230,8 @@ impl Node {
             }
             ("update_counter", [t, key, by]) => self.table(t).count(key, by),
             ("select", [t, spec]) => Term::List(self.table(t).select(spec)),
+            ("match", [t, pattern]) => Term::List(self.table(t).matches(pattern)),
+            ("select_delete", [t, spec]) => self.table(t).select_delete(spec),
             ("safe_fixtable", [t, on]) if *on == atom("true") => {
                 self.table(t).fixes += 1;
                 done()

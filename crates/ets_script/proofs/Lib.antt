@@ -7,3 +7,5 @@ mod Enrolments
 mod Words
 mod Arguments
 mod Fronts
+mod Defaults
+mod CommandLine

@@ -6,4 +6,5 @@ pub mod Commands
 pub mod Replies
 pub mod Script
 pub mod Stops
+pub mod CommandLine
 pub mod inside

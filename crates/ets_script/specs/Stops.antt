@@ -3,6 +3,7 @@ use Rattle.std.specs.Prelude.{◌≡◌, ◌⊎◌, ℕ, List, [], ◌++◌, Opt
 use Rattle.std.specs.Io.KnownBytes.{Appends, Consumes, IsAtEnd}
 use Rattle.ets_script.specs.Lines.{IsOneLine}
 use Rattle.node_core.specs.State.{empty}
+use Rattle.node_core.specs.declared.limits.Limits.{Limits}
 use Rattle.ets_script.specs.Script.{Scripted, at_start, IsScript, AreWholeLines, AreLines}
 use Rattle.ets_script.specs.declared.fault.ScriptFault.{ScriptFault}
 use Rattle.ets_script.specs.declared.fault.ScriptFault.TheVariants.{Read, Write, Memory}
@@ -23,11 +24,11 @@ Stops start before after old new Write = (lines : List ℕ) × (unread : List �
     × Consumes before after (lines ++ unread) × Appends old new output × AreLines ((unread ≡ []) × IsAtEnd after) start lines (output ++ unsent) end
 Stops start before after old new Memory = Consumes before after [] × Appends old new []
 
--- before the first line, by the usual limits
-abbrev pub usual_start : Scripted
-usual_start = at_start (empty (record { processes = 4096; tables = 65536; objects = 1000000 }))
+-- a node's limits, and the program's status: 0 after a whole script, else 1
+abbrev pub EndsWithin : Limits → Option (List ℕ) → Option (List ℕ) → Option (List ℕ) → Option (List ℕ) → ℕ → Type 0
+EndsWithin limits before after old new status = ((status ≡ 0) × (end : Scripted) × Completes (at_start (empty limits)) before after old new end)
+    ⊎ ((status ≡ 1) × (fault : ScriptFault) × Stops (at_start (empty limits)) before after old new fault)
 
--- the program's status: 0 after a whole script, else 1
-abbrev pub ProgramEnds : Option (List ℕ) → Option (List ℕ) → Option (List ℕ) → Option (List ℕ) → ℕ → Type 0
-ProgramEnds before after old new status = ((status ≡ 0) × (end : Scripted) × Completes usual_start before after old new end)
-    ⊎ ((status ≡ 1) × (fault : ScriptFault) × Stops usual_start before after old new fault)
+-- the same, by the limits that are usual, with this number of objects in one table
+abbrev pub ProgramEnds : ℕ → Option (List ℕ) → Option (List ℕ) → Option (List ℕ) → Option (List ℕ) → ℕ → Type 0
+ProgramEnds objects = EndsWithin (record { processes = 4096; tables = 65536; objects = objects })

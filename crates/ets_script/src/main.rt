@@ -4,6 +4,7 @@
 mod answer;
 mod classes;
 mod command;
+mod command_line;
 mod fault;
 mod feed;
 mod lines;
@@ -11,21 +12,29 @@ mod output;
 mod program;
 mod run;
 mod script;
+mod settings;
 mod stop;
 mod terms;
 #[cfg(test)]
 mod tests;
 
+use crate::command_line::{refuse, settings};
 use crate::program::answer_input;
-use std::io;
 use std::process::ExitCode;
+use std::{env, io};
 
 fn main(rt: HostRuntime) -> io::Result<ExitCode> {
-    let status = answer_input(
-        rt.alloc(),
-        &mut rt.reader(),
-        &mut io::writer(&rt),
-        &mut rt.stderr(),
-    )?;
+    let alloc = rt.alloc();
+    let words: Vec<String> = env::args(&rt)?.collect(alloc)?;
+    let status = match settings(alloc, words.as_slice()) {
+        Ok(settings) => answer_input(
+            alloc,
+            &settings,
+            &mut rt.reader(),
+            &mut io::writer(&rt),
+            &mut rt.stderr(),
+        )?,
+        Err(error) => refuse(&rt, &error)?,
+    };
     Ok(ExitCode::from(status))
 }

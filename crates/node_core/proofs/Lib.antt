@@ -4,6 +4,7 @@ pub mod CallLaws
 pub mod Changes
 pub mod Due
 pub mod EndKeys
+mod Examples
 pub mod Fixing
 pub mod Following
 pub mod Growing

@@ -28,25 +28,26 @@ use Rattle.node_core.specs.Access.{may, allowed, usable, reads}
 use Rattle.node_core.specs.Calls.{call}
 use Rattle.node_core.specs.Machine.{step}
 use Rattle.node_core.specs.rules.Walking.{key_reply, First, Next}
+use Rattle.node_core.specs.laws.Reached.{HasNoEnd}
 use Rattle.node_core.specs.laws.Walk.{is_table, walk_call, walk_step}
 use Rattle.node_core.proofs.Changes.{usable-there}
-use Rattle.node_core.proofs.EndKeys.{is_end, NoEnd}
+use Rattle.node_core.proofs.EndKeys.{is_end}
 
 -- ---- keys of slots without '$end_of_table'
 first-at : (b : Bool) (s : Slot) (ss : List Slot) (k : Term) → is_end s.0 ≡ false → (first_key ss ≡ Some k → is_end k ≡ false) → cond b (Some s.0) (first_key ss) ≡ Some k → is_end k ≡ false
 first-at true s ss k own rest e = let is : s.0 ≡ k = cc in subst (λ (t : Term). is_end t ≡ false) is own
 first-at false s ss k own rest e = rest e
 
-first-free : (ss : List Slot) (k : Term) → NoEnd ss → first_key ss ≡ Some k → is_end k ≡ false
+first-free : (ss : List Slot) (k : Term) → HasNoEnd ss → first_key ss ≡ Some k → is_end k ≡ false
 first-free [] k free e = cc
 first-free (s ∷ ss) k free e = first-at (has_objects s.1) s ss k free.0 (first-free ss k free.1) e
 
-next-at : (b : Bool) (s : Slot) (ss : List Slot) (c k : Term) → NoEnd ss → (option_map first_key (slots_behind ss c) ≡ Some (Some k) → is_end k ≡ false)
+next-at : (b : Bool) (s : Slot) (ss : List Slot) (c k : Term) → HasNoEnd ss → (option_map first_key (slots_behind ss c) ≡ Some (Some k) → is_end k ≡ false)
     → option_map first_key (cond b (Some ss) (slots_behind ss c)) ≡ Some (Some k) → is_end k ≡ false
 next-at true s ss c k free rest e = let is : first_key ss ≡ Some k = cc in first-free ss k free is
 next-at false s ss c k free rest e = rest e
 
-next-free : (ss : List Slot) (c k : Term) → NoEnd ss → next_key ss c ≡ Some (Some k) → is_end k ≡ false
+next-free : (ss : List Slot) (c k : Term) → HasNoEnd ss → next_key ss c ≡ Some (Some k) → is_end k ≡ false
 next-free [] c k free e = cc
 next-free (s ∷ ss) c k free e = next-at (same c s.0) s ss c k free.1 (next-free ss c k free.1) e
 
@@ -56,11 +57,11 @@ asked-at true s ss c o hit own rest e = ap is_end (same-exact c s.0 hit) ∙ own
 asked-at false s ss c o hit own rest e = rest e
 
 -- a key that has a next one is in the table
-pub asked-free : (ss : List Slot) (c : Term) (o : Option Term) → NoEnd ss → next_key ss c ≡ Some o → is_end c ≡ false
+pub asked-free : (ss : List Slot) (c : Term) (o : Option Term) → HasNoEnd ss → next_key ss c ≡ Some o → is_end c ≡ false
 asked-free [] c o free e = cc
 asked-free (s ∷ ss) c o free e = asked-at (same c s.0) s ss c o refl free.0 (asked-free ss c o free.1) e
 
-told-free : (asked : Option Term) (ss : List Slot) (k : Term) → NoEnd ss → key_told asked ss ≡ Some (Some k) → is_end k ≡ false
+told-free : (asked : Option Term) (ss : List Slot) (k : Term) → HasNoEnd ss → key_told asked ss ≡ Some (Some k) → is_end k ≡ false
 told-free None ss k free e = let is : first_key ss ≡ Some k = cc in first-free ss k free is
 told-free (Some c) ss k free e = next-free ss c k free e
 
@@ -160,14 +161,14 @@ step-replies old new p t (Ready u bucket) r table asked at e h = cc
 end-is : is_end (Atom (codes "$end_of_table")) ≡ true
 end-is = search (rules, the_lemmas)
 
-end-told : (asked : Option Term) (slots : List Slot) (o : Option (Option Term)) → key_told asked slots ≡ o → NoEnd slots → option_map_or key_reply o Badarg ≡ key_reply None → o ≡ Some None
+end-told : (asked : Option Term) (slots : List Slot) (o : Option (Option Term)) → key_told asked slots ≡ o → HasNoEnd slots → option_map_or key_reply o Badarg ≡ key_reply None → o ≡ Some None
 end-told asked slots None e free h = cc
 end-told asked slots (Some None) e free h = refl
 end-told asked slots (Some (Some k)) e free h =
     let is : k ≡ Atom (codes "$end_of_table") = cc in
     absurd (true≢false (sym (ap is_end is ∙ end-is) ∙ told-free asked slots k free e))
 
-pub tells-end : (asked : Option Term) (slots : List Slot) (r : Reply) → NoEnd slots → Replies asked slots r → r ≡ key_reply None → key_told asked slots ≡ Some None
+pub tells-end : (asked : Option Term) (slots : List Slot) (r : Reply) → HasNoEnd slots → Replies asked slots r → r ≡ key_reply None → key_told asked slots ≡ Some None
 tells-end asked slots r free (inl h) e = end-told asked slots (key_told asked slots) refl free (h ∙ e)
 tells-end asked slots r free (inr h) e = absurd (h (Atom (codes "$end_of_table")) e)
 

@@ -1,5 +1,5 @@
 -- Walks over a table that stays fixed are whole, in every run.
-use Rattle.std.proofs.Common.{◌≡◌, ℕ, true, false, List, [], ◌∷◌, Option, None, Some, refl, sym, subst, ap, ◌∙◌, true≢false}
+use Rattle.std.proofs.Common.{◌≡◌, ℕ, true, false, List, [], ◌∷◌, Option, None, Some, refl, sym, subst, ap, ◌∙◌}
 use Rattle.std.specs.Prelude.{MatchOption}
 use Rattle.std.specs.List.{AllByRecursion}
 use Rattle.std.specs.Map.{keys_of}
@@ -12,24 +12,20 @@ use Rattle.fixed_walk.specs.laws.Kept.{IsSubsequence}
 use Rattle.fixed_walk.specs.laws.Walks.{KeepKeys, IsWalk}
 use Rattle.fixed_walk.proofs.Subsequences.{sub-same, sub-further}
 use Rattle.fixed_walk.proofs.WalkLaws.{whole}
-use Rattle.ownership.specs.World.{Table, Tables, table_at}
+use Rattle.ownership.specs.World.{Table, table_at}
 use Rattle.node_core.specs.declared.step.Reply.{Reply}
 use Rattle.node_core.specs.declared.step.Reply.TheVariants.{Value}
 use Rattle.node_core.specs.declared.step.Step.{Step}
 use Rattle.node_core.specs.State.{State}
 use Rattle.node_core.specs.Machine.{step, run}
 use Rattle.node_core.specs.rules.Walking.{key_reply}
-use Rattle.node_core.specs.laws.Reached.{IsReached, HasDistinctSlots}
-use Rattle.node_core.specs.laws.Walk.{states, walk_step, Answers, Walks, is_fixed_in, is_present_in, IsWhole, WalksAreWhole}
-use Rattle.node_core.proofs.EndKeys.{is_end, NoEnd}
-use Rattle.node_core.proofs.Following.{Follows, Stays}
-use Rattle.node_core.proofs.Reached.{HasNoEnd, step-follows, slots-step, ends-step, slots-reached, ends-reached}
+use Rattle.node_core.specs.laws.Kept.{slots_in, is_fixed_in, StepsKeepKeys}
+use Rattle.node_core.specs.laws.Reached.{HasNoEnd, IsSound}
+use Rattle.node_core.specs.laws.Walk.{states, walk_step, Answers, Walks, WalksAreWhole}
+use Rattle.node_core.proofs.EndKeys.{is_end}
+use Rattle.node_core.proofs.Reached.{step-follows, sound-step}
 use Rattle.node_core.proofs.Seen.{stays-there}
 use Rattle.node_core.proofs.WalkCalls.{Replies, asked-free, step-replies, tells-end, tells-key}
-
--- the slots of a table, none where it is not there
-abbrev slots_in : ℕ → State → List Slot
-slots_in t s = option_map_or (λ table. table.fixed.content.slots) (table_at s.world.tables t) []
 
 -- a table that is there and fixed
 record IsThere (t : ℕ) (s : State) : Type 0 where
@@ -47,12 +43,8 @@ there t s fixed = there_at t s (table_at s.world.tables t) refl fixed
 own_slots : (t : ℕ) (s : State) (table : Table) → table_at s.world.tables t ≡ Some table → table.fixed.content.slots ≡ slots_in t s
 own_slots t s table at = sym (ap (λ o. option_map_or (λ table. table.fixed.content.slots) o []) at)
 
-present_at : (key : Term) (o : Option Table) → option_map_or (λ table. is_present table.fixed.content.slots key) o false ≡ true → is_present (option_map_or (λ table. table.fixed.content.slots) o []) key ≡ true
-present_at key None h = cc
-present_at key (Some table) h = h
-
 -- the keys of a table that is fixed before and after a step
-ground : (old new : State) (s : Step) (r : Reply) (t : ℕ) → step old s r new → is_fixed_in t old ≡ true → is_fixed_in t new ≡ true → IsSubsequence (keys_of (slots_in t old)) (keys_of (slots_in t new))
+pub ground : StepsKeepKeys
 ground old new s r t h before after =
     let was = there t old before in
     let now = there t new after in
@@ -78,16 +70,16 @@ record Walked (p t : ℕ) (call : Option Term) (keys : List Term) (old : State) 
   moments : List (List Slot)
   kept : KeepKeys (slots_in t old ∷ moments)
   walk : IsWalk call moments keys
-  free : AllByRecursion NoEnd moments
-  present : (key : Term) → AllByRecursion (λ s. is_present_in t key s ≡ true) stretch → AllByRecursion (λ slots. is_present slots key ≡ true) moments
+  free : AllByRecursion HasNoEnd moments
+  present : (key : Term) → AllByRecursion (λ s. is_present (slots_in t s) key ≡ true) stretch → AllByRecursion (λ slots. is_present slots key ≡ true) moments
 
 -- the key that is asked for next has a slot at some moment
-asked_key : (key : Term) (moments : List (List Slot)) (keys : List Term) → IsWalk (Some key) moments keys → AllByRecursion NoEnd moments → is_end key ≡ false
+asked_key : (key : Term) (moments : List (List Slot)) (keys : List Term) → IsWalk (Some key) moments keys → AllByRecursion HasNoEnd moments → is_end key ≡ false
 asked_key key [] keys walk free = absurd walk
 asked_key key (m ∷ moments) [] walk free = asked-free m key None free.0 walk.0
 asked_key key (m ∷ moments) (k ∷ keys) walk free = asked-free m key (Some k) free.0 walk.0
 
-module _ (p t : ℕ) (old mid : State) (s : Step) (r : Reply) (steps : List Step) (stretch : List State) (done : step old s r mid) (distinct : HasDistinctKeys (slots_in t old)) (free : NoEnd (slots_in t old))
+module _ (p t : ℕ) (old mid : State) (s : Step) (r : Reply) (steps : List Step) (stretch : List State) (done : step old s r mid) (distinct : HasDistinctKeys (slots_in t old)) (free : HasNoEnd (slots_in t old))
     (is : IsThere t old) (sub : IsSubsequence (keys_of (slots_in t old)) (keys_of (slots_in t mid))) (Further : Option Term → List Term → Type 0)
     (further : (call : Option Term) (keys : List Term) → Further call keys → Walked p t call keys mid stretch) where
   -- the step is no call of the walk
@@ -110,7 +102,7 @@ module _ (p t : ℕ) (old mid : State) (s : Step) (r : Reply) (steps : List Step
     kept = (distinct, sub-same (keys_of (slots_in t old)), distinct);
     walk = (tells-end call (slots_in t old) r free (replies call e) last, refl);
     free = (free, tt);
-    present = λ key all. (present_at key (table_at old.world.tables t) all.0, tt);
+    present = λ key all. (all.0, tt);
   }
 
   -- it is one that answers a key
@@ -120,7 +112,7 @@ module _ (p t : ℕ) (old mid : State) (s : Step) (r : Reply) (steps : List Step
     kept = (distinct, sub-same (keys_of (slots_in t old)), sooner (slots_in t old) (slots_in t mid) w.moments distinct sub w.kept);
     walk = (tells-key call (slots_in t old) r key (asked_key key w.moments keys w.walk w.free) (replies call e) value, w.walk);
     free = (free, w.free);
-    present = λ k all. (present_at k (table_at old.world.tables t) all.0, w.present k all.1);
+    present = λ k all. (all.0, w.present k all.1);
   }
 
   answered : (call : Option Term) (keys : List Term) → walk_step old p t s ≡ Some call → Answers r steps keys (λ key keys. Further (Some key) keys) → Walked p t call keys old (old ∷ stretch)
@@ -131,23 +123,23 @@ module _ (p t : ℕ) (old mid : State) (s : Step) (r : Reply) (steps : List Step
   walked_at call keys None e w = passes call keys (further call keys w)
   walked_at call keys (Some asked) e w = answered call keys (e ∙ ap Some w.0) w.1
 
-slots_apart : (t : ℕ) (s : State) → IsThere t s → HasDistinctSlots s → HasDistinctKeys (slots_in t s)
-slots_apart t s is distinct = subst HasDistinctKeys (own_slots t s is.table is.at) (distinct t is.table is.at)
+slots_apart : (t : ℕ) (s : State) → IsThere t s → IsSound s → HasDistinctKeys (slots_in t s)
+slots_apart t s is sound = subst HasDistinctKeys (own_slots t s is.table is.at) (sound.keys t is.table is.at)
 
-slots_free : (t : ℕ) (s : State) → IsThere t s → HasNoEnd s → NoEnd (slots_in t s)
-slots_free t s is free = subst NoEnd (own_slots t s is.table is.at) (free t is.table is.at)
+slots_free : (t : ℕ) (s : State) → IsThere t s → IsSound s → HasNoEnd (slots_in t s)
+slots_free t s is sound = subst HasNoEnd (own_slots t s is.table is.at) (sound.ends t is.table is.at)
 
-walked : (p t : ℕ) (call : Option Term) (keys : List Term) (old : State) (steps : List Step) (replies : List Reply) (new : State) (done : run old steps replies new) → HasDistinctSlots old → HasNoEnd old
+walked : (p t : ℕ) (call : Option Term) (keys : List Term) (old : State) (steps : List Step) (replies : List Reply) (new : State) (done : run old steps replies new) → IsSound old
     → AllByRecursion (λ s. is_fixed_in t s ≡ true) (states old steps replies new done) → Walks p t call keys old steps replies new done → Walked p t call keys old (states old steps replies new done)
-walked p t call keys old [] [] new done distinct free fixed w = absurd w
-walked p t call keys old [] (r ∷ replies) new done distinct free fixed w = absurd w
-walked p t call keys old (s ∷ steps) [] new done distinct free fixed w = absurd w
-walked p t call keys old (s ∷ steps) (r ∷ replies) new done distinct free fixed w =
+walked p t call keys old [] [] new done sound fixed w = absurd w
+walked p t call keys old [] (r ∷ replies) new done sound fixed w = absurd w
+walked p t call keys old (s ∷ steps) [] new done sound fixed w = absurd w
+walked p t call keys old (s ∷ steps) (r ∷ replies) new done sound fixed w =
     let is = there t old fixed.0 in
     let after = first_state (λ s. is_fixed_in t s ≡ true) done.0 steps replies new done.2 fixed.1 in
-    walked_at p t old done.0 s r steps (states done.0 steps replies new done.2) done.1 (slots_apart t old is distinct) (slots_free t old is free) is (ground old done.0 s r t done.1 fixed.0 after)
+    walked_at p t old done.0 s r steps (states done.0 steps replies new done.2) done.1 (slots_apart t old is sound) (slots_free t old is sound) is (ground old done.0 s r t done.1 fixed.0 after)
     (λ call keys. Walks p t call keys done.0 steps replies new done.2)
-    (λ call keys w. walked p t call keys done.0 steps replies new done.2 (slots-step old done.0 s r done.1 distinct) (ends-step old done.0 s r done.1 free) fixed.1 w)
+    (λ call keys w. walked p t call keys done.0 steps replies new done.2 (sound-step old done.0 s r done.1 sound) fixed.1 w)
     call keys (walk_step old p t s) refl w
 
 later : (now : List Slot) (moments : List (List Slot)) (call : Option Term) (keys : List Term) → IsWalk call moments keys → KeepKeys (now ∷ moments) → KeepKeys moments
@@ -155,7 +147,7 @@ later now [] call keys walk kept = absurd walk
 later now (m ∷ moments) call keys walk kept = kept.2
 
 pub walks-whole : WalksAreWhole
-walks-whole old steps replies new done p t keys reached fixed w =
-    let walk = walked p t None keys old steps replies new done (slots-reached old reached) (ends-reached old reached) fixed w in
+walks-whole old steps replies new done p t keys sound fixed w =
+    let walk = walked p t None keys old steps replies new done sound fixed w in
     let is = whole walk.moments keys (later (slots_in t old) walk.moments None keys walk.walk walk.kept) walk.walk in
     record { once = is.once; all = λ key all. is.all key (walk.present key all) }

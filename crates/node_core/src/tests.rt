@@ -1,13 +1,14 @@
 // Values from outside: each test is a table of rows, a step and the reply that the rules want of it. A row that is answered
 // otherwise is named by its place.
 use crate::{Call, Limits, Node, Reply, Step};
-use ets_term::{Fnv, Term};
+use ets_term::{AllSame, Fnv, KeyHash, Term};
 use std::alloc::{AllocError, Global};
 use text::{term, terms};
 
 mod growth;
 mod insertion;
 mod long;
+mod owning;
 mod processes;
 mod reading;
 mod refused;
@@ -16,6 +17,7 @@ mod searching;
 mod tables;
 mod text;
 mod updates;
+mod walking;
 
 /// A step, told.
 #[derive(Clone, Copy)]
@@ -28,7 +30,7 @@ enum Event<'a> {
     Ready(u32, u32),
 }
 
-/// A step, and its reply: a term, or `** badarg` and its like.
+/// A step, and its reply: a term, a list in some order behind `~`, or `** badarg` and its like.
 type Row = (Event<'static>, &'static str);
 
 /// The step in which a process asks a call.
@@ -53,10 +55,29 @@ fn step(alloc: Global, event: Event) -> Result<Step, AllocError> {
     }
 }
 
+/// The items of a list, in their order as terms. Any other term is a fault of the test, told as want of memory.
+fn sorted(term: Term) -> Result<Vec<Term>, AllocError> {
+    let Term::List(items) = term else {
+        return Err(AllocError);
+    };
+    let mut items = items.into_vec();
+    items.sort()?;
+    Ok(items)
+}
+
+/// Whether a list has these items, in any order.
+fn has_items(alloc: Global, value: &Term, wanted: &str) -> Result<bool, AllocError> {
+    let items = sorted(value.try_clone(alloc)?)?;
+    Ok(items == sorted(term(alloc, wanted)?)?)
+}
+
 /// Whether this is the reply that is wanted.
 fn is(alloc: Global, reply: &Reply, wanted: &str) -> Result<bool, AllocError> {
     match reply {
-        Reply::Value(value) => Ok(*value == term(alloc, wanted)?),
+        Reply::Value(value) => match wanted.strip_prefix("~") {
+            Some(wanted) => has_items(alloc, value, wanted),
+            None => Ok(*value == term(alloc, wanted)?),
+        },
         Reply::Badarg => Ok(wanted == "** badarg"),
         Reply::SystemLimit => Ok(wanted == "** system_limit"),
         Reply::NoProcess => Ok(wanted == "** noproc"),
@@ -64,9 +85,9 @@ fn is(alloc: Global, reply: &Reply, wanted: &str) -> Result<bool, AllocError> {
 }
 
 /// Whether the step is answered so.
-fn does(
+fn does<H: KeyHash + Copy + Drop>(
     alloc: Global,
-    node: &mut Node<Fnv>,
+    node: &mut Node<H>,
     event: Event,
     wanted: &str,
 ) -> Result<bool, AllocError> {
@@ -76,9 +97,9 @@ fn does(
 }
 
 /// The place of the first row that a node answers otherwise.
-fn wrong_in(
+fn wrong_in<H: KeyHash + Copy + Drop>(
     alloc: Global,
-    node: &mut Node<Fnv>,
+    node: &mut Node<H>,
     rows: &[Row],
 ) -> Result<Option<usize>, AllocError> {
     for (place, (event, wanted)) in rows.iter().enumerate() {
@@ -89,13 +110,27 @@ fn wrong_in(
     Ok(None)
 }
 
-/// The place of the first row that a new node with these limits answers otherwise.
-fn wrong_within(alloc: Global, limits: Limits, rows: &[Row]) -> Result<Option<usize>, AllocError> {
-    let mut node = Node::new(alloc, limits, Fnv);
+/// The place of the first row that a new node with this hash answers otherwise.
+fn wrong_by<H: KeyHash + Copy + Drop>(
+    alloc: Global,
+    limits: Limits,
+    hash: H,
+    rows: &[Row],
+) -> Result<Option<usize>, AllocError> {
+    let mut node = Node::new(alloc, limits, hash);
     wrong_in(alloc, &mut node, rows)
 }
 
-/// The place of the first row that a new node answers otherwise.
+/// The place of the first row that a new node with these limits answers otherwise, by a hash that spreads keys or by the
+/// one that does not.
+fn wrong_within(alloc: Global, limits: Limits, rows: &[Row]) -> Result<Option<usize>, AllocError> {
+    match wrong_by(alloc, limits, Fnv, rows)? {
+        Some(place) => Ok(Some(place)),
+        None => wrong_by(alloc, limits, AllSame, rows),
+    }
+}
+
+/// The place of the first row that a new node answers otherwise, by each of the two hashes.
 fn wrong(alloc: Global, rows: &[Row]) -> Result<Option<usize>, AllocError> {
     wrong_within(alloc, Limits::usual(), rows)
 }

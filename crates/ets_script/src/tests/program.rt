@@ -1,10 +1,20 @@
-//! The program's status, and its line of errors.
+//! The program's command line, its status, and its line of errors.
 use super::devices::{Devices, GOOD, Seen, Source, Target};
+use crate::command_line::settings;
 use crate::fault::ScriptFault;
 use crate::program::answer_input;
+use crate::settings::Settings;
+use clap::error::ErrorKind;
 use std::alloc::{AllocError, Global};
 use std::io;
 use std::test::Fail;
+
+/// What no option asks for.
+const USUAL: Settings = Settings {
+    threads: false,
+    same: false,
+    objects: 1_000_000,
+};
 
 /// The status with which the program answers one line by these devices, and whether this is its line of errors.
 fn status(alloc: Global, devices: &Devices, words: &[u8]) -> io::Result<(u8, bool)> {
@@ -23,7 +33,7 @@ fn status(alloc: Global, devices: &Devices, words: &[u8]) -> io::Result<(u8, boo
         seen: &seen,
     };
     let mut errors = Vec::new(alloc);
-    let status = answer_input(alloc, &mut source, &mut target, &mut errors)?;
+    let status = answer_input(alloc, &USUAL, &mut source, &mut target, &mut errors)?;
     Ok((status, errors.as_slice() == words))
 }
 
@@ -56,4 +66,76 @@ fn status_and_errors(rt: HostRuntime) -> Result<(), Fail> {
     assert!(rt; status(alloc, &unread, b"read fault\n")? == (1, true));
     assert!(rt; status(alloc, &unwritten, b"write fault\n")? == (1, true));
     Ok(())
+}
+
+/// Whether the hash is the one for all keys, and the most objects, as these words ask; or the kind of the refusal.
+fn asked(alloc: Global, words: &[&str]) -> Result<(bool, u32), ErrorKind> {
+    match settings(alloc, words) {
+        Ok(settings) => Ok((settings.same, settings.objects)),
+        Err(error) => Err(error.kind()),
+    }
+}
+
+#[test]
+fn settings_of_words(rt: HostRuntime) {
+    let alloc = rt.alloc();
+    let rows: [(&[&str], (bool, u32)); 9] = [
+        (&["ets_script"], (false, 1_000_000)),
+        (&["ets_script", "--hash", "fnv"], (false, 1_000_000)),
+        (&["ets_script", "--hash", "same"], (true, 1_000_000)),
+        (&["ets_script", "--hash=same"], (true, 1_000_000)),
+        (&["ets_script", "--max-objects", "3"], (false, 3)),
+        (&["ets_script", "--max-objects=0"], (false, 0)),
+        (
+            &["ets_script", "--max-objects", "4294967295"],
+            (false, u32::MAX),
+        ),
+        (
+            &["ets_script", "--max-objects", "007", "--hash", "same"],
+            (true, 7),
+        ),
+        (
+            &["another_name", "--hash", "same", "--max-objects", "3"],
+            (true, 3),
+        ),
+    ];
+    for (words, wanted) in rows {
+        assert!(rt; asked(alloc, words) == Ok(wanted), "{words:?}");
+    }
+}
+
+#[test]
+fn words_that_are_refused(rt: HostRuntime) {
+    let alloc = rt.alloc();
+    let rows: [(&[&str], ErrorKind); 11] = [
+        (&["ets_script", "--hash", "md5"], ErrorKind::InvalidValue),
+        (&["ets_script", "--hash", "SAME"], ErrorKind::InvalidValue),
+        (&["ets_script", "--hash"], ErrorKind::InvalidValue),
+        (
+            &["ets_script", "--max-objects", "4294967296"],
+            ErrorKind::ValueValidation,
+        ),
+        (
+            &["ets_script", "--max-objects=-1"],
+            ErrorKind::ValueValidation,
+        ),
+        (
+            &["ets_script", "--max-objects", "many"],
+            ErrorKind::ValueValidation,
+        ),
+        (
+            &["ets_script", "--max-objects", ""],
+            ErrorKind::InvalidValue,
+        ),
+        (
+            &["ets_script", "--hash", "same", "--hash", "fnv"],
+            ErrorKind::ArgumentConflict,
+        ),
+        (&["ets_script", "--threads"], ErrorKind::UnknownArgument),
+        (&["ets_script", "script"], ErrorKind::UnknownArgument),
+        (&["ets_script", "--help"], ErrorKind::DisplayHelp),
+    ];
+    for (words, wanted) in rows {
+        assert!(rt; asked(alloc, words) == Err(wanted), "{words:?}");
+    }
 }

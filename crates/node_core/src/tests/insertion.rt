@@ -9,15 +9,15 @@ const SETS: [Row; 14] = [
     (Ask(0, "insert(t,{a,1})"), "true"),
     (Ask(0, "insert(t,{a,2})"), "true"),
     (Ask(0, "insert(#0,[{b,1},{a,3},{b,2}])"), "true"),
-    (Ask(0, "tab2list(t)"), "[{a,3},{b,2}]"),
+    (Ask(0, "tab2list(t)"), "~[{a,3},{b,2}]"),
     (Ask(0, "insert(t,[])"), "true"),
     (Ask(0, "insert_new(t,[])"), "true"),
     (Ask(0, "insert_new(t,{a,9})"), "false"),
     (Ask(0, "insert_new(t,[{c,1},{a,9}])"), "false"),
-    (Ask(0, "tab2list(t)"), "[{a,3},{b,2}]"),
+    (Ask(0, "tab2list(t)"), "~[{a,3},{b,2}]"),
     (Ask(0, "insert_new(t,[{c,1},{c,2}])"), "true"),
     (Ask(0, "insert_new(t,{d})"), "true"),
-    (Ask(0, "tab2list(t)"), "[{a,3},{b,2},{c,2},{d}]"),
+    (Ask(0, "tab2list(t)"), "~[{a,3},{b,2},{c,2},{d}]"),
 ];
 
 #[test]
@@ -78,9 +78,9 @@ const FULL: [Row; 12] = [
     (Ask(0, "insert_new(#0,{c,1})"), "** system_limit"),
     (Ask(0, "insert_new(#0,[{c,1},{a,1}])"), "false"),
     (Ask(0, "insert(#0,[{c,1},x])"), "** badarg"),
-    (Ask(0, "tab2list(#0)"), "[{a},{b,1}]"),
+    (Ask(0, "tab2list(#0)"), "~[{a},{b,1}]"),
     (Ask(0, "insert(#0,[{a,2},{b,2},{a,3}])"), "true"),
-    (Ask(0, "tab2list(#0)"), "[{a,3},{b,2}]"),
+    (Ask(0, "tab2list(#0)"), "~[{a,3},{b,2}]"),
 ];
 
 #[test]

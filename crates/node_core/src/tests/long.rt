@@ -132,7 +132,7 @@ fn inserts_and_lists(alloc: Global, insert: &str, listed: &str) -> Result<bool, 
 /// Whether so many objects are inserted by one call, of many keys or of one.
 fn inserts(alloc: Global, start: &str, object: &str) -> Result<bool, AllocError> {
     let insert = repeated(alloc, start, object, "])")?;
-    let listed = repeated(alloc, "[", object, "]")?;
+    let listed = repeated(alloc, "~[", object, "]")?;
     inserts_and_lists(alloc, insert.as_str(), listed.as_str())
 }
 
@@ -159,8 +159,8 @@ fn finds(alloc: Global, bound: &str, results: &str) -> Result<bool, AllocError> 
 
 /// Whether each of many objects is found.
 fn finds_all(alloc: Global) -> Result<bool, AllocError> {
-    let bound = repeated(alloc, "[", "[N],", "]")?;
-    let results = repeated(alloc, "[", "N,", "]")?;
+    let bound = repeated(alloc, "~[", "[N],", "]")?;
+    let results = repeated(alloc, "~[", "N,", "]")?;
     finds(alloc, bound.as_str(), results.as_str())
 }
 
@@ -213,10 +213,10 @@ fn all_enter(alloc: Global, node: &mut Node<Fnv>, count: u32) -> Result<bool, Al
     Ok(true)
 }
 
-/// Whether every other one of so many ends.
+/// Whether every sixteenth of so many ends.
 fn some_end(alloc: Global, node: &mut Node<Fnv>, count: u32) -> Result<bool, AllocError> {
     for pid in 0..count {
-        if pid % 2 == 0 && !does(alloc, node, End(pid), "true")? {
+        if pid % 16 == 0 && !does(alloc, node, End(pid), "true")? {
             return Ok(false);
         }
     }
@@ -229,7 +229,7 @@ fn has_processes(alloc: Global, count: u32) -> Result<bool, AllocError> {
     if !all_enter(alloc, &mut node, count)? || !some_end(alloc, &mut node, count)? {
         return Ok(false);
     }
-    Ok((0..count).all(|pid| node.resolve(&Term::Tid(pid)).is_some() == (pid % 2 == 1)))
+    Ok((0..count).all(|pid| node.resolve(&Term::Tid(pid)).is_some() == (pid % 16 != 0)))
 }
 
 #[test]
@@ -329,5 +329,71 @@ fn runs(alloc: Global, count: u32, last: &str) -> Result<bool, AllocError> {
 #[test]
 fn a_run_is_long(rt: HostRuntime) -> Result<(), Fail> {
     assert!(rt; runs(rt.alloc(), COUNT, "[{a,4999}]")?);
+    Ok(())
+}
+
+/// Does what is due, at most so many steps of it, and says how many that were.
+fn tend(node: &mut Node<Fnv>, most: u32) -> Result<u32, AllocError> {
+    for done in 0..most {
+        let Some(step) = node.due() else {
+            return Ok(done);
+        };
+        let _ok = node.step(&step)?;
+    }
+    Ok(most)
+}
+
+/// How many objects a table has that grows meanwhile, by one step at each call.
+const MANY: u32 = 10_000;
+
+/// The first number whose object does not enter the table, which is tended behind each.
+fn not_entered(alloc: Global, node: &mut Node<Fnv>) -> Result<Option<u32>, AllocError> {
+    for number in 0..MANY {
+        if !does_numbered(alloc, node, "insert(t,{N,x})", "true", number)? {
+            return Ok(Some(number));
+        }
+        let _steps = tend(node, 1)?;
+    }
+    Ok(None)
+}
+
+/// Calls on each number, behind which the table is tended, and their replies.
+const GROWN: [(&str, &str); 5] = [
+    ("lookup(t,N)", "[{N,x}]"),
+    ("insert(t,{N,y})", "true"),
+    ("lookup(t,N)", "[{N,x},{N,y}]"),
+    ("delete_object(t,{N,x})", "true"),
+    ("take(t,N)", "[{N,y}]"),
+];
+
+/// The first number for which one of the calls is answered otherwise.
+fn not_grown(alloc: Global, node: &mut Node<Fnv>) -> Result<Option<u32>, AllocError> {
+    for number in 0..MANY {
+        for (call, wanted) in GROWN {
+            if !does_numbered(alloc, node, call, wanted, number)? {
+                return Ok(Some(number));
+            }
+        }
+        let _steps = tend(node, 1)?;
+    }
+    Ok(None)
+}
+
+/// Whether a table of many objects, which grows meanwhile, is answered of as one that does not.
+fn grows(alloc: Global) -> Result<bool, AllocError> {
+    let mut node = started(alloc)?;
+    Ok(
+        not_entered(alloc, &mut node)?.is_none()
+            && answers(alloc, &mut node, "info(t,size)", "10000")?
+            && not_grown(alloc, &mut node)?.is_none()
+            && answers(alloc, &mut node, "tab2list(t)", "[]")?
+            && tend(&mut node, MANY)? < MANY
+            && node.due().is_none(),
+    )
+}
+
+#[test]
+fn a_table_of_many_objects_grows(rt: HostRuntime) -> Result<(), Fail> {
+    assert!(rt; grows(rt.alloc())?);
     Ok(())
 }

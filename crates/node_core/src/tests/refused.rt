@@ -1,7 +1,7 @@
 // Want of memory. Run with each allocation refused in turn: `rt try --test --fail-alloc N`. A step that was refused
 // memory has changed nothing, so it answers when it is done again as if it had been done once. Where the refused
 // allocation is one of a test's own, it is made again.
-use super::Event::{Ask, Enrol};
+use super::Event::{Ask, End, Enrol, Grow, Ready};
 use super::{Event, Row, is, step};
 use crate::{Limits, Node, Reply, Step};
 use ets_term::Fnv;
@@ -40,7 +40,7 @@ fn does_again(
     is_again(alloc, &reply, wanted)
 }
 
-const LIFE: [Row; 12] = [
+const LIFE: [Row; 27] = [
     (Enrol(0), "<0"),
     (
         Ask(0, "new(a_name_that_is_longer_than_its_place,[named_table])"),
@@ -55,7 +55,25 @@ const LIFE: [Row; 12] = [
     (Ask(0, "insert(#1,{k,2})"), "true"),
     (Ask(0, "lookup_element(#1,k,2)"), "[1,2]"),
     (Ask(0, "take(#1,k)"), "[{k,1},{k,2}]"),
-    (Ask(0, "tab2list(#0)"), "[{k,2},{l,1}]"),
+    (Ask(0, "tab2list(#0)"), "~[{k,2},{l,1}]"),
+    (Grow(0), "ok"),
+    (Ready(0, 3), "ok"),
+    (Ask(0, "safe_fixtable(#0,true)"), "true"),
+    (Ask(0, "delete(#0,l)"), "true"),
+    (Ask(0, "first(#0)"), "k"),
+    (Ask(0, "member(#0,l)"), "false"),
+    (Enrol(1), "<1"),
+    (Enrol(2), "<2"),
+    (Ask(0, "give_away(#1,<1,{a,gift})"), "true"),
+    (Ask(0, "setopts(#0,{heir,<2,{an,heir}})"), "true"),
+    (Ask(0, "info(#0,heir)"), "<2"),
+    (End(0), "true"),
+    (Ask(1, "receive()"), "[{ETS-TRANSFER,#1,<0,{a,gift}}]"),
+    (
+        Ask(2, "receive()"),
+        "[{ETS-TRANSFER,a_name_that_is_longer_than_its_place,<0,{an,heir}}]",
+    ),
+    (Ask(2, "info(#0,fixed)"), "false"),
 ];
 
 /// The place of the first row that a node answers otherwise, where each want of memory is met again.

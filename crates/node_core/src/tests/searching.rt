@@ -100,7 +100,7 @@ const BAGS: [Row; 9] = [
     (Ask(0, "match(d,{a,$1})"), "[[1],[2],[1]]"),
     (Ask(0, "select(d,[{{b,$1},[],[$1]}])"), "[1]"),
     (Ask(0, "select_delete(d,[{{a,1},[],[true]}])"), "2"),
-    (Ask(0, "tab2list(d)"), "[{a,2},{b,1}]"),
+    (Ask(0, "tab2list(d)"), "~[{a,2},{b,1}]"),
     (Ask(0, "match_delete(d,{a,_})"), "true"),
     (Ask(0, "tab2list(d)"), "[{b,1}]"),
 ];

@@ -56,7 +56,7 @@ const DEFAULTS: [Row; 15] = [
     (Ask(0, "update_counter(t,@127,1,{x,1})"), "2"),
     (Ask(0, "update_counter(t,@128,1,{x,1})"), "** system_limit"),
     (Ask(0, "update_counter(t,@129,1,{x,1})"), "** system_limit"),
-    (Ask(0, "tab2list(t)"), "[{h,12},{i},{@127,2}]"),
+    (Ask(0, "tab2list(t)"), "~[{h,12},{i},{@127,2}]"),
 ];
 
 #[test]

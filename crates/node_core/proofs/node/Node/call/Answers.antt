@@ -11,4 +11,4 @@ returns-in-len3 g c =
 
 pub returns-in-len4 : goal.returns-in-len4
 returns-in-len4 g c =
-    rw (four c.args.args.now c.x-item.result c.y-item.result c.z-item.result c.default-item.result c.in-len4.len_at_least c.in-len4.len_below c.x-item.is c.y-item.is c.z-item.is c.default-item.is) c.calls_of_four.ensures
+    rw (four c.args.args.now c.x-item-then-args-lt5.result c.y-item-then-args-lt5.result c.z-item-then-args-lt5.result c.default-item.result c.in-len4.len_at_least c.in-len4.len_below c.x-item-then-args-lt5.is c.y-item-then-args-lt5.is c.z-item-then-args-lt5.is c.default-item.is) c.calls_of_four.ensures

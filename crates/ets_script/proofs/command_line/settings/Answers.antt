@@ -1,0 +1,55 @@
+use Rattle.std.proofs.Common.{rules, map, ◌≡◌, ◌∙◌, ap, ap₂, refl, sym, ℕ, true, List, Option, Some, []}
+use Rattle.std.specs.Prelude.{option_map, pos, codes}
+use Rattle.std.specs.Str.Parse.{ExplainsUnsignedError, HasUnsignedDigitsIfOk, ParsesUnsigned}
+use Rattle.clap.specs.declared.builder.value_parser.ValueParser.TheVariants.{Signed}
+use Rattle.clap.specs.Words.{app_of, first_of, found_of, matches_of, rule_of, with_rule}
+use Rattle.ets_script.specs.CommandLine.{Settles, TakesNames, command_line, is_named, hash_names, hash_option, objects_option}
+use Rattle.ets_script.proofs.CommandLine.{lacks_memory, refuses, answers, faults, rows, hash_text, objects_read, spelled}
+use Rattle.ets_script.proofs.command_line.settings.Goals as goal
+
+pub returns-in_err-arg : goal.returns-in_err-arg
+returns-in_err-arg g c =
+    let given = c.value_parser.ensures.given in
+    let names : TakesNames hash_names given.0 = rw given.2 (search rules) in
+    lacks_memory given.0 _ c.from_residual.result names c.from_residual.ensures.1
+
+pub returns-in_err-command : goal.returns-in_err-command
+returns-in_err-command g c =
+    let given = c.value_parser.ensures.given in
+    let names : TakesNames hash_names given.0 = rw given.2 (search rules) in
+    lacks_memory given.0 _ c.from_residual-in_err-command.result names c.from_residual-in_err-command.ensures.1
+
+pub returns-in_err-matches : goal.returns-in_err-matches
+returns-in_err-matches g c =
+    let given = c.value_parser.ensures.given in
+    let names : TakesNames hash_names given.0 = rw given.2 (search rules) in
+    let hash_is : rule_of c.default_value-hash.result ≡ hash_option given.0 = search rules in
+    let objects_is : rule_of c.default_value-objects.result ≡ objects_option = search rules in
+    let app_is : app_of c.in_ok-command.command ≡ command_line given.0 = c.in_ok-command.ensures.shape (search rules)
+    ∙ ap₂ with_rule (c.in_ok-arg.ensures.shape (search rules) ∙ ap₂ with_rule c.new-3.ensures.app hash_is) objects_is in
+    refuses given.0 _ c.try_get_matches_from.result c.in_err-matches.field-0.0 c.from_residual-in_err-matches.result names
+    (faults given.0 _ _ c.try_get_matches_from.result app_is c.try_get_matches_from.ensures.kinds) (c.in_err-matches.was) c.from_residual-in_err-matches.ensures.1
+
+pub returns : goal.returns
+returns g c =
+    let given = c.value_parser.ensures.given in
+    let names : TakesNames hash_names given.0 = rw given.2 (search rules) in
+    let hash_is : rule_of c.default_value-hash.result ≡ hash_option given.0 = search rules in
+    let objects_is : rule_of c.default_value-objects.result ≡ objects_option = search rules in
+    let app_is : app_of c.in_ok-command.command ≡ command_line given.0 = c.in_ok-command.ensures.shape (search rules)
+    ∙ ap₂ with_rule (c.in_ok-arg.ensures.shape (search rules) ∙ ap₂ with_rule c.new-3.ensures.app hash_is) objects_is in
+    let known = faults given.0 _ _ c.try_get_matches_from.result app_is c.try_get_matches_from.ensures.kinds in
+    let found = rows given.0 (map g.S.AsStr.text c.args.words.now) _ c.in_ok-matches.matches app_is c.in_ok-matches.ensures.matches in
+    let objects_given = c.value_parser-3.ensures.given in
+    let parser : objects_given.0 ≡ Signed (pos 0) (pos 4294967295) = objects_given.2 ∙ c.value_parser-2.ensures in
+    let text = objects_read c.new-3.result c.in_ok-arg.field-0 c.in_ok-command.command c.default_value-hash.result c.default_value-objects.result c.in_ok-matches.matches
+    c.in_ok-arg.ensures c.in_ok-command.ensures (search rules) (search rules) (search rules) (search rules) (search rules) (search rules) (search rules)
+    (search rules) (search rules) (search rules) (search rules) (search rules) (search rules) objects_given.0 (search rules) c.in_ok-matches.ensures.parsed in
+    let hash_found : option_map (λ s. s.now) c.get_str.result ≡ first_of (codes "hash") (matches_of (command_line given.0) (map g.S.AsStr.text c.args.words.now)) =
+    c.get_str.ensures ∙ hash_text (found_of c.in_ok-matches.matches) _ found in
+    answers given.0 _ c.try_get_matches_from.result c.in_ok-matches.matches _ names known c.in_ok-matches.was
+    record {
+      threads = refl;
+      same = c.is_same.ensures ∙ ap (is_named (codes "same")) hash_found;
+      objects = spelled _ (λ bs r. ParsesUnsigned 32 10 bs r × ExplainsUnsignedError 10 bs r × HasUnsignedDigitsIfOk bs r) (found_of c.in_ok-matches.matches) _ objects_given.0 text.0 _ c.get_one.result _ found parser text.1 text.2 c.get_one.ensures.value (λ u x h. h.0) (search rules);
+    }

@@ -1,0 +1,61 @@
+-- The command line, by the crate that reads it: its matches are a function of the words.
+use Rattle.std.specs.Prelude.{◌≡◌, ℕ, Bool, true, false, List, [], ◌∷◌, Option, Some, None, Result, IfOk, map, codes, pos}
+use Rattle.std.specs.Option.{option_map_or}
+use Rattle.std.specs.Str.{bytes_eq}
+use Rattle.std.specs.Str.Parse.{IsNumeral, digits_value, without_leading_plus}
+use Rattle.clap.specs.Words.{App, FailsBy, Row, Rule, Text, fault_of, first_of, matches_of, new_app, new_rule, one_of, with_rule}
+use Rattle.clap.specs.declared.builder.ArgAction.TheVariants.{Set}
+use Rattle.clap.specs.declared.builder.value_parser.ValueParser.{ValueParser}
+use Rattle.clap.specs.declared.builder.value_parser.ValueParser.TheVariants.{Names, Signed}
+use Rattle.clap.specs.declared.error.Error.{Error}
+use Rattle.clap.specs.declared.error.kind.ErrorKind.{ErrorKind}
+use Rattle.clap.specs.declared.error.kind.ErrorKind.TheVariants.{DisplayHelp, OutOfMemory}
+use Rattle.ets_script.specs.declared.settings.Settings.{Settings}
+
+-- the parser takes these names, and nothing else
+abbrev pub TakesNames : List Text → ValueParser → Type 0
+TakesNames names (Names taken) = map (λ name. name.now) taken.now ≡ names
+TakesNames names _ = ⊥
+
+abbrev pub hash_names : List Text
+hash_names = codes "fnv" ∷ codes "same" ∷ []
+
+-- `--hash`, whose values a parser takes, and without which it is fnv
+abbrev pub hash_option : ValueParser → Rule
+hash_option hashes = record (new_rule (codes "hash")) { long = Some (codes "hash"); action = Some Set; parser = Some hashes; defaults = codes "fnv" ∷ [] }
+
+-- `--max-objects`, a number below 2^32, and without it 1000000
+abbrev pub objects_option : Rule
+objects_option = record (new_rule (codes "max-objects")) { long = Some (codes "max-objects"); action = Some Set; parser = Some (Signed (pos 0) (pos 4294967295)); defaults = codes "1000000" ∷ [] }
+
+abbrev pub command_line : ValueParser → App
+command_line hashes = with_rule (with_rule (new_app (codes "ets_script")) (hash_option hashes)) objects_option
+
+-- the text of a number in decimal digits, before which a plus may stand
+abbrev pub Spells : Option Text → ℕ → Type 0
+Spells (Some text) n = IsNumeral 10 (without_leading_plus text) × (n ≡ digits_value 10 (without_leading_plus text))
+Spells None n = ⊥
+
+-- there is a text, and it is this name
+abbrev pub is_named : Text → Option Text → Bool
+is_named name text = option_map_or (λ t. bytes_eq t name) text false
+
+-- what the matches ask
+pub record Asks (rows : List Row) (settings : Settings) : Type 0 where
+  pub threads : settings.threads ≡ false
+  pub same : settings.same ≡ is_named (codes "same") (first_of (codes "hash") rows)
+  pub objects : Spells (one_of (codes "max-objects") rows) settings.objects
+
+-- The words are refused where the command has a fault in them, and then for that fault; else the settings are what its
+-- matches ask. Memory aside.
+pub record Settles (words : List Text) (result : Result Settings Error) : Type 0 where
+  pub hashes : ValueParser
+  pub names : TakesNames hash_names hashes
+  pub faults : FailsBy (fault_of (command_line hashes) words) result
+  pub settings : IfOk result (Asks (matches_of (command_line hashes) words))
+
+-- the program's status where its command line gives no settings
+abbrev pub refused_status : ErrorKind → ℕ
+refused_status DisplayHelp = 0
+refused_status OutOfMemory = 1
+refused_status _ = 2
