@@ -7,7 +7,7 @@
 //! *Weakness.* Memory may be refused at any step; no contract says that it is there.
 //!
 //! *Mechanism.* A call is found by its number of arguments and its name; its method is lent the one table that the first
-//! argument names, so that all else is known to stay.
+//! argument names, so that all else is known to stay. An index has the tables that were lent and may have something due.
 //!
 //! *Limits.* One node is one value: sharing it between threads is for the layer above.
 #![tactic(auto)]

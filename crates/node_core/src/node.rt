@@ -97,12 +97,13 @@ impl<H: KeyHash + Copy + Drop> Node<H> {
         ensures buckets { IfOk result (λ r. step_on_buckets self.old event.now r self.new) }
         ensures err { OnErr result (self.new ≡ self.old) }
     {
-        let reply = self.done(event);
+        let reply = self.dispatch(event);
         self.forget_done();
         reply
     }
 
-    fn done(&mut self, event: &Step) -> Result<Reply, AllocError>
+    /// The same, without a look at what is due no more.
+    fn dispatch(&mut self, event: &Step) -> Result<Reply, AllocError>
         ensures ok { IfOk result (λ r. step (seen self.old) event.now r (seen self.new)) }
         ensures buckets { IfOk result (λ r. step_on_buckets self.old event.now r self.new) }
         ensures err { OnErr result (self.new ≡ self.old) }

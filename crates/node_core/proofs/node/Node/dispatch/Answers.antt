@@ -1,6 +1,6 @@
 use Rattle.node_core.specs.declared.step.Step.TheVariants.{End, Ask, Grow, Ready}
 use Rattle.node_core.proofs.Steps.{did-seen, did-buckets}
-use Rattle.node_core.proofs.node.Node.step.Goals as goal
+use Rattle.node_core.proofs.node.Node.dispatch.Goals as goal
 
 pub returns-in-End-clause-ok : goal.returns-in-End-clause-ok
 returns-in-End-clause-ok g c = rw c.in-End.is (did-seen c.args.self.now c.end.new.self (End c.in-End.pid) c.end.result c.end.ensures.ok)
