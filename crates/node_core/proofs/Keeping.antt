@@ -88,6 +88,7 @@ module _ (all : Identifiers) (old new : World) (is : IsIndex old.tables all) whe
       said : (r : Result (Unit {0}) WorldFault) (o : Option (Option Heir)) → heir_said old t o r new → P new
       said r None h = refused-keeps P old new is Badarg r h
       said r (Some heir) h = gives-keeps P old new is tt (heir_set old t heir) r (index.rehead old.tables all t (with_heir heir) (λ _. refl) is) h
+
       by : (r : Result (Unit {0}) WorldFault) (o : Option Table) → MatchOption o (refused Badarg old r new) (λ table. refuse old (not (owned_by table.head p)) Badarg (heir_said old t (heir_after table.head.heir options)) r new) → P new
       by r None h = refused-keeps P old new is Badarg r h
       by r (Some table) h = refuse-keeps P old new is (not (owned_by table.head p)) Badarg (heir_said old t (heir_after table.head.heir options)) r (said r (heir_after table.head.heir options)) h

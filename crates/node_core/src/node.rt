@@ -37,6 +37,7 @@ pub struct Node<H: KeyHash + Copy + Drop> {
     limits: Limits,
     hash: H,
     world: World<SplitRows<H>>,
+    /// Tables of which something may be due: each that is made, or lent for a change.
     due: Identifiers,
 }
 

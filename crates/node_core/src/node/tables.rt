@@ -45,14 +45,7 @@ impl<H: KeyHash + Copy + Drop> Node<H> {
                 return Err(Refusal::Memory);
             }
         };
-        match enter(
-            &mut self.world,
-            &mut self.due,
-            pid,
-            name,
-            options,
-            table,
-        ) {
+        match enter(&mut self.world, &mut self.due, pid, name, options, table) {
             Ok(answer) => Ok(Reply::Value(answer)),
             Err(fault) => refused(fault),
         }

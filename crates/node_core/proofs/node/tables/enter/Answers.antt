@@ -33,7 +33,7 @@ returns-clause-index g c =
     let under : AreBelow c.reserve.new.self.all (length tables + 1) = subst (λ ids. AreBelow ids (length tables + 1)) (sym c.reserve.ensures.same) (λ i h. omega (arith, c.requires.below i h)) in
     let made : c.new_table.new.self ≡ with_table old (new_head c.args.pid c.args.name.now c.args.options) c.args.table = new-made old c.new_table.new.self c.args.pid c.args.name.now c.args.options c.args.table c.in_ok-answer.answer c.in_ok-answer.ensures in
     subst (λ (w : World). IsIndex w.tables c.insert.new.self) (sym made) (added tables c.args.due.now c.insert.new.self (Some (record { head = new_head c.args.pid c.args.name.now c.args.options; fixed = c.args.table })) c.requires
-      (c.insert.ensures.below (length tables + 1) under (omega (arith, c.made-id.ensures)))
-      (omega (arith, room, c.made-id.ensures, c.insert.ensures.room))
-      (subst (IsAmong c.insert.new.self.all) c.made-id.ensures c.insert.ensures.new)
-      (λ t among. c.insert.ensures.old t (subst (λ ids. IsAmong ids t) (sym c.reserve.ensures.same) among)))
+    (c.insert.ensures.below (length tables + 1) under (omega (arith, c.made-id.ensures)))
+    (omega (arith, room, c.made-id.ensures, c.insert.ensures.room))
+    (subst (IsAmong c.insert.new.self.all) c.made-id.ensures c.insert.ensures.new)
+    (λ t among. c.insert.ensures.old t (subst (λ ids. IsAmong ids t) (sym c.reserve.ensures.same) among)))
