@@ -172,8 +172,9 @@ fn count_up(map: &mut Map, k: u64) -> bool {
     }
 }
 
-fn mutex_map(count: u64) {
-    type Work = fn(&mut Map, u64) -> bool;
+type Work = fn(&mut Map, u64) -> bool;
+
+fn mutex_map(count: u64, who: &str, insert: Work, hit: Work, count_up: Work) {
     let miss: Work = |map, k| !map.contains_key(&key(k));
     let delete: Work = |map, k| map.remove(&key(k)).is_some();
     let phases: [(&str, u64, Work); 5] =
@@ -190,7 +191,26 @@ fn mutex_map(count: u64) {
         }
     }
     for (at, (operation, ..)) in phases.iter().enumerate() {
-        show("Mutex<HashMap>", operation, best[at] * 1e9 / count as f64);
+        show(who, operation, best[at] * 1e9 / count as f64);
+    }
+}
+
+/// The same as whole calls must do it: what is stored is a copy of the argument, and the reply a copy of what is stored.
+mod whole {
+    use super::{Map, Term, count_up, key};
+
+    pub fn insert(map: &mut Map, k: u64) -> bool {
+        let argument = Term::Tuple(vec![Term::Int(k as i64), Term::Int(1)]);
+        map.insert(key(k), std::hint::black_box(&argument).clone()).is_none()
+    }
+
+    pub fn hit(map: &mut Map, k: u64) -> bool {
+        let reply = Term::List(map.get(&key(k)).into_iter().cloned().collect());
+        matches!(std::hint::black_box(&reply), Term::List(objects) if objects.len() == 1)
+    }
+
+    pub fn count(map: &mut Map, k: u64) -> bool {
+        count_up(map, k)
     }
 }
 
@@ -232,9 +252,10 @@ fn main() {
         "text" => text(count),
         "store-list" => store_list(count),
         "rust-list" => rust_list(count),
-        "mutex-map" => mutex_map(count),
+        "mutex-map" => mutex_map(count, "Mutex<HashMap>", insert, hit, count_up),
+        "mutex-map-whole" => mutex_map(count, "HashMap,copies", whole::insert, whole::hit, whole::count),
         "mutex-map-bytes" => mutex_map_bytes(count),
         "chase" => chase(count),
-        _ => eprintln!("library text|store-list|rust-list|mutex-map|mutex-map-bytes|chase [COUNT]"),
+        _ => eprintln!("library text|store-list|rust-list|mutex-map|mutex-map-whole|mutex-map-bytes|chase [COUNT]"),
     }
 }

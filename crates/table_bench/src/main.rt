@@ -1,6 +1,7 @@
-//! Times a table and its rows, phase by phase, and prints lines of WHO OPERATION FIGURE: table_bench times|bytes|check rows|table COUNT.
+//! Times a node's calls, a table and its rows, phase by phase, and prints lines of WHO OPERATION FIGURE: table_bench times|bytes|check rows|table|calls COUNT.
 #![tactic(auto)]
 
+mod calls;
 mod order;
 mod phases;
 mod report;
@@ -9,6 +10,7 @@ mod store;
 mod table;
 
 use bucket_table::SplitRows;
+use calls::Calls;
 use ets_term::Fnv;
 use report::{check, measure, times};
 use std::alloc::Global;
@@ -45,6 +47,7 @@ fn main(rt: HostRuntime) -> io::Result<()> {
     let part = part.as_deref().unwrap_or("check");
     match store.as_deref() {
         Some("table") => run::<Table<SplitRows<Fnv>>>(&rt, part, count),
+        Some("calls") => run::<Calls>(&rt, part, count),
         _ => run::<SplitRows<Fnv>>(&rt, part, count),
     }
 }

@@ -76,7 +76,7 @@ fn insert_all<S: Store>(alloc: Global, store: &mut S, keys: &[u64]) -> Result<u6
     Ok(done)
 }
 
-fn hits<S: Store>(store: &S, keys: &[u64]) -> u64 {
+fn hits<S: Store>(store: &mut S, keys: &[u64]) -> u64 {
     let mut done: u64 = 0;
     for key in keys {
         done = done.wrapping_add(u64::from(store.hit(*key)));
@@ -84,7 +84,7 @@ fn hits<S: Store>(store: &S, keys: &[u64]) -> u64 {
     done
 }
 
-fn misses<S: Store>(store: &S, keys: &[u64]) -> u64 {
+fn misses<S: Store>(store: &mut S, keys: &[u64]) -> u64 {
     let mut done: u64 = 0;
     for key in keys {
         done = done.wrapping_add(u64::from(store.miss(*key)));

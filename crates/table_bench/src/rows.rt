@@ -27,14 +27,14 @@ impl Store for SplitRows<Fnv> {
         Ok(true)
     }
 
-    fn hit(&self, k: u64) -> bool {
+    fn hit(&mut self, k: u64) -> bool {
         match self.get(&number(k)) {
             Some(objects) => has_value(objects),
             None => false,
         }
     }
 
-    fn miss(&self, k: u64) -> bool {
+    fn miss(&mut self, k: u64) -> bool {
         self.get(&number(k)).is_none()
     }
 

@@ -16,9 +16,9 @@ pub trait Store: Drop {
     /// Puts `{K,1}` of a new key, and does two steps of growth that are due.
     fn insert(&mut self, alloc: Global, k: u64) -> Result<bool, AllocError>;
 
-    fn hit(&self, k: u64) -> bool;
+    fn hit(&mut self, k: u64) -> bool;
 
-    fn miss(&self, k: u64) -> bool;
+    fn miss(&mut self, k: u64) -> bool;
 
     /// Adds one to the value of the key's object, in place.
     fn count_up(&mut self, alloc: Global, k: u64) -> Result<bool, AllocError>;

@@ -42,11 +42,11 @@ impl Store for Table<SplitRows<Fnv>> {
         Ok(true)
     }
 
-    fn hit(&self, k: u64) -> bool {
+    fn hit(&mut self, k: u64) -> bool {
         has_value(self.lookup(&number(k)))
     }
 
-    fn miss(&self, k: u64) -> bool {
+    fn miss(&mut self, k: u64) -> bool {
         !self.member(&number(k))
     }
 
