@@ -2,9 +2,9 @@
 use Rattle.std.specs.Prelude.{◌≡◌, ℕ, zero, suc, ◌⊎◌, Bool, true, false, List, [], ◌∷◌, ◌++◌, length, ⊤, Option, Some, None, position, unwrap_or}
 use Rattle.std.specs.Str.{bytes_eq}
 use Rattle.ets_term.specs.declared.term.Term.{Term}
+use Rattle.ownership.specs.World.{resolve}
 use Rattle.node_core.specs.State.{State, next_identifier}
 use Rattle.node_core.specs.Machine.{step}
-use Rattle.node_core.specs.Access.{resolve}
 use Rattle.node_core.specs.declared.step.Step.{Step}
 use Rattle.node_core.specs.declared.step.Step.TheVariants.{Enrol, End, Ask, Grow, Ready}
 use Rattle.node_core.specs.declared.step.Reply.{Reply}
@@ -15,7 +15,8 @@ use Rattle.ets_script.specs.Replies.{printed}
 use Rattle.ets_script.specs.declared.answer.Answer.{Answer}
 use Rattle.ets_script.specs.declared.answer.Answer.TheVariants.{Silent, Replied, NoMemory, Syntax, TooLong}
 
--- The names that were spawned, in order: the first stands for process 0, the next for process 1, and so on. And the node.
+-- The names that were spawned, in order: the first stands for process 0, the next for process 1, and so on. And the state of
+-- the machine, which is what calls can see of the node.
 pub record Scripted : Type 0 where
   pub names : List (List ℕ)
   pub node : State
@@ -26,7 +27,7 @@ pid_of s name = position (bytes_eq name) s.names
 
 -- the table that a term names; else the next identifier, which no table has
 abbrev pub table_of : Scripted → Term → ℕ
-table_of s t = unwrap_or (resolve s.node.tables t) (next_identifier s.node)
+table_of s t = unwrap_or (resolve s.node.world.tables t) (next_identifier s.node)
 
 -- the answer is this, and nothing changes
 abbrev pub Unchanged : Scripted → Answer → Answer → Scripted → Type 0

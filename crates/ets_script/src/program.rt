@@ -32,7 +32,7 @@ pub fn answer_input<R: Read, W: Write, E: Write>(
 }
 
 /// Answers a script by these limits, and says the status.
-fn answer_by<H: KeyHash + Copy, R: Read, W: Write, E: Write>(
+fn answer_by<H: KeyHash + Copy + Drop, R: Read, W: Write, E: Write>(
     alloc: Global,
     limits: Limits,
     hash: H,

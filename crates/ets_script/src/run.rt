@@ -1,6 +1,7 @@
 //! A script from its first line to its last.
 ghost use Rattle.std.specs.Prelude.{◌≡◌, [], ◌++◌, false, IfOk, IfErr, OnOk, OnErr};
 ghost use Rattle.node_core.specs.State.{empty};
+ghost use Rattle.node_core.specs.Seen.{seen};
 ghost use Rattle.ets_script.specs.Replies.{printed};
 ghost use Rattle.ets_script.specs.Script.{Scripted, at_start};
 ghost use Rattle.ets_script.specs.Stops.{Stops, Completes};
@@ -20,21 +21,21 @@ use std::io::{Read, Write};
 
 /// Answers each line of a script, from the first state of a node with these limits to that of the node answered. What was
 /// answered has gone out before each read, and at the end.
-pub fn run_script<R: Read, W: Write, H: KeyHash + Copy>(
+pub fn run_script<R: Read, W: Write, H: KeyHash + Copy + Drop>(
     alloc: Global,
     reader: &mut R,
     writer: &mut W,
     limits: Limits,
     hash: H,
 ) -> Result<Node<H>, ScriptFault>
-    ensures ok { IfOk result (λ node. (end : Scripted) × (end.node ≡ node) × Completes (at_start (empty limits)) (R.remaining reader.old) (R.remaining reader.new) (W.contents writer.old) (W.contents writer.new) end) }
+    ensures ok { IfOk result (λ node. (end : Scripted) × (end.node ≡ seen node) × Completes (at_start (empty limits)) (R.remaining reader.old) (R.remaining reader.new) (W.contents writer.old) (W.contents writer.new) end) }
     ensures err { IfErr result (Stops (at_start (empty limits)) (R.remaining reader.old) (R.remaining reader.new) (W.contents writer.old) (W.contents writer.new)) }
 {
     run_within(alloc, reader, writer, limits, hash, MAX_READS)
 }
 
 /// As `run_script`, with at most this many reads.
-pub fn run_within<R: Read, W: Write, H: KeyHash + Copy>(
+pub fn run_within<R: Read, W: Write, H: KeyHash + Copy + Drop>(
     alloc: Global,
     reader: &mut R,
     writer: &mut W,
@@ -42,7 +43,7 @@ pub fn run_within<R: Read, W: Write, H: KeyHash + Copy>(
     hash: H,
     reads: u32,
 ) -> Result<Node<H>, ScriptFault>
-    ensures ok { IfOk result (λ node. (end : Scripted) × (end.node ≡ node) × Completes (at_start (empty limits)) (R.remaining reader.old) (R.remaining reader.new) (W.contents writer.old) (W.contents writer.new) end) }
+    ensures ok { IfOk result (λ node. (end : Scripted) × (end.node ≡ seen node) × Completes (at_start (empty limits)) (R.remaining reader.old) (R.remaining reader.new) (W.contents writer.old) (W.contents writer.new) end) }
     ensures err { IfErr result (Stops (at_start (empty limits)) (R.remaining reader.old) (R.remaining reader.new) (W.contents writer.old) (W.contents writer.new)) }
 {
     let Ok(mut feed) = Feed::new(alloc, reads) else {
@@ -57,7 +58,7 @@ pub fn run_within<R: Read, W: Write, H: KeyHash + Copy>(
 }
 
 /// Answers all lines, and sends all answers.
-fn answer_all<R: Read, W: Write, H: KeyHash + Copy>(
+fn answer_all<R: Read, W: Write, H: KeyHash + Copy + Drop>(
     alloc: Global,
     reader: &mut R,
     feed: &mut Feed,
@@ -106,7 +107,7 @@ fn print_line<W: Write>(
 }
 
 /// Answers the next line, if its end is held.
-fn answer_next<H: KeyHash + Copy>(
+fn answer_next<H: KeyHash + Copy + Drop>(
     alloc: Global,
     feed: &Feed,
     script: &mut Script<H>,
@@ -127,7 +128,7 @@ fn answer_next<H: KeyHash + Copy>(
 }
 
 /// Answers the last line, which has no LF, and sends all answers.
-fn answer_last<W: Write, H: KeyHash + Copy>(
+fn answer_last<W: Write, H: KeyHash + Copy + Drop>(
     alloc: Global,
     feed: &Feed,
     pending: &mut Pending,
@@ -143,7 +144,7 @@ fn answer_last<W: Write, H: KeyHash + Copy>(
 }
 
 /// Answers a part of a line as a line. An empty one is silent.
-fn answer_part<H: KeyHash + Copy>(alloc: Global, feed: &Feed, script: &mut Script<H>) -> Answer
+fn answer_part<H: KeyHash + Copy + Drop>(alloc: Global, feed: &Feed, script: &mut Script<H>) -> Answer
     ensures { AnswersPart feed.now.is_skipping script.old feed.now.bytes result script.new }
 {
     if feed.is_skipping() {

@@ -1,6 +1,7 @@
 //! A script: the names that it spawned, and its node.
 ghost use Rattle.std.specs.Prelude.{◌≡◌, ◌≤◌, ◌<◌, ◌++◌, ◌+◌, ◌⊎◌, [], false, length, map, vec_items, IfSome, MatchOption};
 ghost use Rattle.node_core.specs.State.{empty};
+ghost use Rattle.node_core.specs.Seen.{seen};
 ghost use Rattle.node_core.specs.declared.step.Step.TheVariants.{End, Ask};
 ghost use Rattle.ets_script.specs.Lines.{text};
 ghost use Rattle.ets_script.specs.declared.answer.Answer.TheVariants.{NoMemory};
@@ -18,16 +19,20 @@ use node_core::{Call, Limits, Node, Reply, Step};
 use std::alloc::{AllocError, Global};
 use std::marker::Model;
 
+/// The most steps that are due and are done behind a call.
+const DUE_STEPS: u32 = 2;
+
 /// The names that were spawned, in order, and the node.
 #[derive(Drop)]
-pub struct Script<H: KeyHash + Copy> {
+pub struct Script<H: KeyHash + Copy + Drop> {
     names: IndexSet<Vec<u8>>,
     node: Node<H>,
 }
 
-impl<H: KeyHash + Copy> Model for Script<H> {
+impl<H: KeyHash + Copy + Drop> Model for Script<H> {
     ghost use Rattle.std.specs.Prelude.{◌≤◌, ◌^◌, map, vec_items};
     ghost use Rattle.indexmap.specs.IndexSet.{index_set_len};
+    ghost use Rattle.node_core.specs.Seen.{seen};
     ghost use Rattle.ets_script.specs.Script.{Scripted};
     ghost use Rattle.ets_script.specs.inside.Codes.{scripted_code};
 
@@ -35,12 +40,12 @@ impl<H: KeyHash + Copy> Model for Script<H> {
 
     ghost coded = { scripted_code };
 
-    ghost view = { λ s. record { names = map vec_items s.names.keys; node = s.node } };
+    ghost view = { λ s. record { names = map vec_items s.names.keys; node = seen s.node } };
 
     ghost invariant = { λ s. index_set_len s.names ≤ 2 ^ 32 };
 }
 
-impl<H: KeyHash + Copy> Script<H> {
+impl<H: KeyHash + Copy + Drop> Script<H> {
     /// No name, and a node without processes and tables.
     pub fn new(alloc: Global, limits: Limits, hash: H) -> Script<H>
         ensures { result ≡ at_start (empty limits) }
@@ -52,7 +57,7 @@ impl<H: KeyHash + Copy> Script<H> {
     }
 
     pub fn into_node(self) -> Node<H>
-        ensures { result ≡ self.node }
+        ensures { seen result ≡ self.node }
     {
         self.node
     }
@@ -82,7 +87,11 @@ impl<H: KeyHash + Copy> Script<H> {
                 None => Answer::Replied(Reply::NoProcess),
             },
             Command::Ask(name, word, terms) => match self.pid(name) {
-                Some(pid) => self.step(&Step::Ask(pid, Call::new(word, terms.into_vec()))),
+                Some(pid) => {
+                    let answer = self.step(&Step::Ask(pid, Call::new(word, terms.into_vec())));
+                    self.tend();
+                    answer
+                }
                 None => Answer::Replied(Reply::NoProcess),
             },
             Command::Grow(table) => {
@@ -126,6 +135,19 @@ impl<H: KeyHash + Copy> Script<H> {
         }
     }
 
+    /// Does what is due of the node's tables, at most two steps of it, which no call can see. Without memory it waits for a
+    /// later call.
+    fn tend(&mut self)
+        ensures { self.new ≡ self.old }
+    {
+        for _ in 0..DUE_STEPS {
+            let Some(due) = self.node.due() else {
+                return;
+            };
+            let _ = self.node.step(&due);
+        }
+    }
+
     /// Enrols the next number for a name. Room for the name is made first.
     fn spawn(&mut self, alloc: Global, name: &[u8]) -> Answer
         ensures { Spawns (pid_of self.old name.now) self.old name.now result self.new ⊎ Unchanged self.old NoMemory result self.new }
@@ -148,7 +170,7 @@ impl<H: KeyHash + Copy> Script<H> {
 }
 
 /// Enrols a number for a new name, for which there is room.
-fn enrol<H: KeyHash + Copy>(
+fn enrol<H: KeyHash + Copy + Drop>(
     names: &mut IndexSet<Vec<u8>>,
     node: &mut Node<H>,
     number: u32,
@@ -156,7 +178,7 @@ fn enrol<H: KeyHash + Copy>(
 ) -> Answer
     requires room { 0 < spare names.old }
     requires new { contains_by (λ k. bytes_eq name.items k.items) names.old ≡ false }
-    ensures enrolled { Enrols (map vec_items names.old.keys) node.old number name.items result (map vec_items names.new.keys) node.new }
+    ensures enrolled { Enrols (map vec_items names.old.keys) (seen node.old) number name.items result (map vec_items names.new.keys) (seen node.new) }
     ensures len { index_set_len names.new ≤ index_set_len names.old + 1 }
 {
     match node.step(&Step::Enrol(number)) {

@@ -11,7 +11,7 @@ use crate::fault::ScriptFault;
 use crate::feed::MAX_READS;
 use crate::run::run_within;
 use devices::{Devices, Seen, Source, Target};
-use ets_term::AllSame;
+use ets_term::{AllSame, Fnv, KeyHash};
 use node_core::{Limits, Node};
 use std::alloc::Global;
 
@@ -42,7 +42,7 @@ fn usual() -> Run {
     }
 }
 
-fn end_of(done: Result<Node<AllSame>, ScriptFault>) -> End {
+fn end_of<H: KeyHash + Copy + Drop>(done: Result<Node<H>, ScriptFault>) -> End {
     match done {
         Ok(_) => End::Whole,
         Err(ScriptFault::Read) => End::Read,
@@ -51,8 +51,21 @@ fn end_of(done: Result<Node<AllSame>, ScriptFault>) -> End {
     }
 }
 
-/// Whether a script ends so, and these answers went out, flushed before each read; at a write fault they need not be.
+/// Whether a script ends so, and these answers went out, whatever the hash.
 fn is_run(alloc: Global, run: &Run, script: &[u8], answers: &[u8], end: End) -> bool {
+    is_run_by(alloc, run, Fnv, script, answers, end)
+        && is_run_by(alloc, run, AllSame, script, answers, end)
+}
+
+/// The same by this hash. Answers are flushed before each read; at a write fault they need not be.
+fn is_run_by<H: KeyHash + Copy + Drop>(
+    alloc: Global,
+    run: &Run,
+    hash: H,
+    script: &[u8],
+    answers: &[u8],
+    end: End,
+) -> bool {
     let seen = Seen::new();
     let mut source = Source {
         left: script,
@@ -72,7 +85,7 @@ fn is_run(alloc: Global, run: &Run, script: &[u8], answers: &[u8], end: End) -> 
         &mut source,
         &mut target,
         run.limits,
-        AllSame,
+        hash,
         run.reads,
     );
     target.taken.as_slice() == answers

@@ -125,7 +125,7 @@ fn words_that_are_refused(rt: HostRuntime) {
         ),
         (
             &["ets_script", "--max-objects", ""],
-            ErrorKind::InvalidValue,
+            ErrorKind::ValueValidation,
         ),
         (
             &["ets_script", "--hash", "same", "--hash", "fnv"],
