@@ -15,11 +15,14 @@
 #![tactic(auto)]
 
 mod fault;
+mod fixed;
 mod head;
+mod identifiers;
 mod info;
 mod messages;
 mod names;
 mod options;
+mod owners;
 mod process;
 mod table;
 #[cfg(test)]
