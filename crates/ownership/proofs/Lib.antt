@@ -5,4 +5,5 @@ pub mod Heads
 pub mod Kept
 pub mod Posting
 pub mod Mapped
+pub mod Ascending
 pub mod Ending
