@@ -1,11 +1,12 @@
 -- Identifiers in ascending order: where one stands, and where one is put in.
-use Rattle.std.proofs.Common.{◌≡◌, ℕ, ◌+◌, ◌<◌, ◌≤◌, ◌⊎◌, zero, suc, Bool, true, false, cond, List, [], ◌∷◌, ◌++◌, Result, Ok, Err, inl, inr, refl, sym, subst, length, get_or, arith}
+use Rattle.std.proofs.Common.{◌≡◌, ℕ, ◌+◌, ◌<◌, ◌≤◌, ◌⊎◌, zero, suc, Bool, true, false, cond, List, [], ◌∷◌, ◌++◌, Result, Ok, Err, inl, inr, refl, sym, subst, length, get_or, add-one, drop-cons, arith}
 use Rattle.std.specs.Prelude.{filter, take, drop}
 use Rattle.std.specs.List.{insert}
 use Rattle.std.specs.List.Sorted.{IsSearchInRange, IsBinarySearchResult, IsNonDecreasingBy}
 use Rattle.std.specs.Ordering.{nat_cmp, ordering_index}
 use Rattle.std.proofs.lemmas.Cmp.{ranked}
 use Rattle.std.proofs.lemmas.List.Sorted.{IsNonDecreasingBy-from_default}
+use Rattle.std.proofs.lemmas.List.{drop_all}
 use Rattle.std.proofs.lemmas.Bool.Decides.{nat_tests}
 use Rattle.ownership.specs.inside.Indices.{Among, Between, IsPutIn}
 
@@ -112,3 +113,10 @@ left-between false low high id ids h b = between-lower (suc id) low high ids (om
 pub between-filter : (keep : ℕ → Bool) (low high : ℕ) (ids : List ℕ) → Between low high ids → Between low high (filter keep ids)
 between-filter keep low high [] b = b
 between-filter keep low high (id ∷ ids) b = left-between (keep id) low high id (filter keep ids) b.0 (between-filter keep (suc id) high ids b.1)
+
+-- what is left of them from a place on
+pub cut-at : (ids : List ℕ) (i : ℕ) → i < length ids → drop i ids ≡ get_or ids i 0 ∷ drop (i + 1) ids
+cut-at ids i h = rw (add-one, drop-cons ids i 0)
+
+pub none-left : (ids : List ℕ) (i t : ℕ) → length ids ≤ i → Among t (drop i ids) → ⊥
+none-left ids i t h a = absurd (subst (Among t) (drop_all i ids h) a)

@@ -6,4 +6,7 @@ pub mod Kept
 pub mod Posting
 pub mod Mapped
 pub mod Ascending
+pub mod Owning
+pub mod Noting
+pub mod Settling
 pub mod Ending

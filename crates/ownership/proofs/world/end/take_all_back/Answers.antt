@@ -6,7 +6,8 @@ use Rattle.ownership.proofs.world.end.take_all_back.Goals as goal
 pub loop-i-preserved : goal.loop-i-preserved
 loop-i-preserved g c = λ before all.
     let places = c.args.places.now in
+    let ids = c.args.ids.now in
     let i = c.loop-i.i in
-    let k = length places - (i + 1) in
-    let seam : take (length places - i) places ≡ take k places ++ c.index-places-len.result ∷ [] = take-last places i c.index-places-len.result c.loop-i-test.true c.index-places-len.is in
-    c.take_back_of.ensures (posted before c.args.pid (take k places)) (length (take k places)) (c.loop-i.invariant before all ∙ ap (posted before c.args.pid) seam ∙ posted-more before c.args.pid (take k places) c.index-places-len.result)
+    let k = length ids - (i + 1) in
+    let seam : take (length ids - i) ids ≡ take k ids ++ c.index-ids-len.result ∷ [] = take-last ids i c.index-ids-len.result c.loop-i-test.true c.index-ids-len.is in
+    c.take_back_of.ensures (posted before c.args.pid places (take k ids)) (c.loop-i.invariant before all ∙ ap (posted before c.args.pid places) seam ∙ posted-more before c.args.pid places (take k ids) c.index-ids-len.result)
