@@ -127,14 +127,14 @@ pub back-none : (before now : Processes) (p t : ℕ) (o : Option Table) (table :
 back-none before now p t o table is none e =
     e ∙ ap (posted_of before) (message-still before now p t o e ∙ ap (message_of now p t) is ∙ ap (option_map (λ (heir : Heir). (heir.pid, transfer table.head t p heir.gift))) none)
 
--- the tables without the last that is left
-pub take-last : {X : Type 0} (xs : List X) (i : ℕ) (x : X) → i < length xs → x ≡ get_or xs (length xs - 1 - i) x → take (length xs - i) xs ≡ take (length xs - (i + 1)) xs ++ x ∷ []
-take-last xs i x h e =
-    let k = length xs - (i + 1) in
-    let more : length xs - i ≡ k + 1 = omega arith in
-    let place : length xs - 1 - i ≡ k = omega arith in
-    let within : k < length xs = omega arith in
-    ap (λ n. take n xs) more ∙ take_more xs k x within ∙ ap (λ y. take k xs ++ y ∷ []) (sym (e ∙ ap (λ n. get_or xs n x) place))
+-- the identifiers without the last that is left
+pub take-last : (ids : List ℕ) (i : ℕ) → i < length ids → take (length ids - i) ids ≡ take (length ids - (i + 1)) ids ++ get_or ids (length ids - 1 - i) 0 ∷ []
+take-last ids i h =
+    let k = length ids - (i + 1) in
+    let more : length ids - i ≡ k + 1 = omega arith in
+    let place : length ids - 1 - i ≡ k = omega arith in
+    let within : k < length ids = omega arith in
+    ap (λ n. take n ids) more ∙ take_more ids k 0 within ∙ ap (λ n. take k ids ++ get_or ids n 0 ∷ []) (sym place)
 
 -- ---- the tables of a process are among the identifiers, so theirs are all the messages
 no-message : (ps : Processes) (p t : ℕ) (table : Table) → owned_by table.head p ≡ false → message_of ps p t (Some table) ≡ None
@@ -182,7 +182,7 @@ module _ (ps : Processes) (p : ℕ) where
     messages-found n (o ∷ tables) [] fits b found =
         skip n o tables [] (no-owner n o (λ table there own. found.1 0 table there own))
         (messages-found (suc n) tables [] (omega (arith, fits)) (omega (arith, fits)) (shift n o tables [] [] (λ k a. a) found))
-    messages-found n (o ∷ tables) (t ∷ ids) fits b found = by (cases_eq n t)
+    messages-found n (o ∷ tables) (t ∷ ids) fits b found = by (cases_eq n t) (λ rest order there. messages-found (suc n) tables rest (omega (arith, fits)) order there)
       where
         zero-more : (n : ℕ) → n + 0 ≡ n
         zero-more n = omega arith
@@ -191,17 +191,17 @@ module _ (ps : Processes) (p : ℕ) where
         tail same k (inl e) = absurd (omega (arith, same, e))
         tail same k (inr a) = a
 
-        by : (n ≡ t) ⊎ (n ≡ t → ⊥) → messages_from ps p n (o ∷ tables) ≡ messages_at ps p at (t ∷ ids)
-        by (inl same) =
-            let rest = messages-found (suc n) tables ids (omega (arith, fits)) (subst (λ i. Between (suc i) high ids) (sym same) b.1) (shift n o tables (t ∷ ids) ids (tail same) found) in
+        by : (n ≡ t) ⊎ (n ≡ t → ⊥) → ((rest : List ℕ) → Between (suc n) high rest → AreFound (suc n) tables rest → messages_from ps p (suc n) tables ≡ messages_at ps p at rest) → messages_from ps p n (o ∷ tables) ≡ messages_at ps p at (t ∷ ids)
+        by (inl same) more =
+            let rest = more ids (subst (λ i. Between (suc i) high ids) (sym same) b.1) (shift n o tables (t ∷ ids) ids (tail same) found) in
             let here : o ≡ at t = sym (found.0 0) ∙ ap at (zero-more n ∙ same) in
             ap (λ r. option_map_or (λ message. message ∷ r) (message_of ps p n o) r) rest
             ∙ ap (λ m. option_map_or (λ message. message ∷ messages_at ps p at ids) m (messages_at ps p at ids)) (ap (λ i. message_of ps p i o) same ∙ ap (message_of ps p t) here)
-        by (inr other) =
+        by (inr other) more =
             let low : suc n ≤ t = omega (arith, b.0, other) in
             skip n o tables (messages_at ps p at (t ∷ ids))
             (no-owner n o (λ table there own. let above = among-above (suc n) high (t ∷ ids) (n + 0) (low, b.1) (found.1 0 table there own) in absurd (omega (arith, above))))
-            (messages-found (suc n) tables (t ∷ ids) (omega (arith, fits)) (low, b.1) (shift n o tables (t ∷ ids) (t ∷ ids) (λ k a. a) found))
+            (more (t ∷ ids) (low, b.1) (shift n o tables (t ∷ ids) (t ∷ ids) (λ k a. a) found))
 
 -- ---- a process that has ended lives no more, and nobody else is changed
 module _ (p : ℕ) (gone : Process) (dead : gone.lives ≡ false) where

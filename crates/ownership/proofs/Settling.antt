@@ -138,7 +138,7 @@ module _ (ps : Processes) (p : ℕ) where
   left-at true None table new own l e = absurd (cc)
   left-at true (Some heir) table new own l e =
       let same : passed_to heir.pid (let_go p table) ≡ new = same_Some _ _ e in
-      record { table = table; was = refl; fixed = ap (λ (t : Table). t.fixed) (sym same); head = inr (heir, (l, (own, ap (λ (t : Table). t.head) (sym same)))) }
+      record { table = table; was = refl; fixed = ap (λ (t : Table). t.fixed) (sym same); head = inr (heir, l, own, ap (λ (t : Table). t.head) (sym same)) }
   left-at false h table new own l e =
       let same : let_go p table ≡ new = same_Some _ _ e in
       record { table = table; was = refl; fixed = ap (λ (t : Table). t.fixed) (sym same); head = inl (ap (λ (t : Table). t.head) (sym same), own) }

@@ -1,4 +1,4 @@
-use Rattle.std.proofs.Common.{◌≡◌, ◌+◌, ◌++◌, ◌∷◌, [], sym, ap, ◌∙◌, take}
+use Rattle.std.proofs.Common.{◌≡◌, sym, ap, ◌∙◌, get_or, take}
 use Rattle.std.proofs.lemmas.List.{take_more}
 use Rattle.ownership.specs.End.{message_of}
 use Rattle.ownership.specs.World.{Processes, table_at}
@@ -13,7 +13,6 @@ loop-i-preserved g c =
     let i = c.loop-i.i in
     let p = c.args.pid in
     let start = c.args.processes.now.entries in
-    let t = c.index-ids-i.result in
-    let seam : take (i + 1) ids ≡ take i ids ++ t ∷ [] = take_more ids i t c.loop-i-test.true ∙ ap (λ y. take i ids ++ y ∷ []) (sym c.index-ids-i.is) in
+    let t = get_or ids i 0 in
     c.in_default.ensures.ok ∙ ap (λ (ps : Processes). posted_of ps (message_of ps p t (table_at places t))) c.loop-i.invariant
-    ∙ sym (posted-more start p places (take i ids) t) ∙ ap (posted start p places) (sym seam)
+    ∙ sym (posted-more start p places (take i ids) t) ∙ ap (posted start p places) (sym (take_more ids i 0 c.loop-i-test.true))

@@ -1,4 +1,4 @@
-use Rattle.std.proofs.Common.{◌≡◌, ◌+◌, ◌-◌, ◌++◌, ◌∷◌, [], ap, ◌∙◌, length, take}
+use Rattle.std.proofs.Common.{◌≡◌, ◌+◌, ◌-◌, ap, ◌∙◌, length, get_or, take}
 use Rattle.ownership.specs.inside.Ending.{posted}
 use Rattle.ownership.proofs.Ending.{posted-more, take-last}
 use Rattle.ownership.proofs.world.end.take_all_back.Goals as goal
@@ -8,6 +8,6 @@ loop-i-preserved g c = λ before all.
     let places = c.args.places.now in
     let ids = c.args.ids.now in
     let i = c.loop-i.i in
+    let p = c.args.pid in
     let k = length ids - (i + 1) in
-    let seam : take (length ids - i) ids ≡ take k ids ++ c.index-ids-len.result ∷ [] = take-last ids i c.index-ids-len.result c.loop-i-test.true c.index-ids-len.is in
-    c.take_back_of.ensures (posted before c.args.pid places (take k ids)) (c.loop-i.invariant before all ∙ ap (posted before c.args.pid places) seam ∙ posted-more before c.args.pid places (take k ids) c.index-ids-len.result)
+    c.take_back_of.ensures (posted before p places (take k ids)) (c.loop-i.invariant before all ∙ ap (posted before p places) (take-last ids i c.loop-i-test.true) ∙ posted-more before p places (take k ids) (get_or ids (length ids - 1 - i) 0))
