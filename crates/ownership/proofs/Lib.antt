@@ -10,3 +10,4 @@ pub mod Owning
 pub mod Noting
 pub mod Settling
 pub mod Ending
+pub mod Keeping
