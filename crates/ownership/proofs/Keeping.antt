@@ -1,5 +1,5 @@
 -- What stands beside the tables stays right at each change of them.
-use Rattle.std.proofs.Common.{◌≡◌, ◌≢◌, ℕ, ◌+◌, ◌<◌, ◌≤◌, ◌==◌, ◌⊎◌, suc, true, false, List, [], ◌∷◌, ◌++◌, Option, None, Some, inl, inr, refl, sym, ap, subst, ◌∙◌, length, set, map, arith, length-append}
+use Rattle.std.proofs.Common.{◌≡◌, ◌≢◌, ℕ, ◌+◌, ◌<◌, ◌≤◌, ◌==◌, ◌⊎◌, suc, true, false, List, [], ◌∷◌, ◌++◌, Option, None, Some, inl, inr, refl, sym, ap, subst, true≢false, ◌∙◌, length, set, map, arith, length-append}
 use Rattle.std.specs.Prelude.{vec_capacity, option_map}
 use Rattle.std.specs.declared.alloc.Global.{Global}
 use Rattle.std.specs.declared.vec.Vec.{Vec}
@@ -8,6 +8,7 @@ use Rattle.std.proofs.Math.Seq.{get_or-append_seam}
 use Rattle.std.proofs.lemmas.Bool.{cases_eq, cases_lt}
 use Rattle.std.proofs.lemmas.List.{get_or_past, get_or_append_left, get_or-set_same, get_or-set_other, length-map}
 use Rattle.std.proofs.lemmas.Option.{same_Some}
+use Rattle.fixed_walk.specs.Fixed.{Fixed}
 use Rattle.ownership.specs.declared.head.Head.{Head}
 use Rattle.ownership.specs.declared.head.Heir.{Heir}
 use Rattle.ownership.specs.World.{Table, Tables, Processes, table_at, heads, head_of, is_named}
@@ -17,7 +18,7 @@ use Rattle.ownership.specs.End.{living_heir, table_after}
 use Rattle.ownership.specs.inside.Names.{head_at, ByName}
 use Rattle.ownership.specs.inside.Indices.{Among, Between, Ascend, ByOwner, AreOwned, AreInherited, AreNoted, IsIdle, IsKept, Notes}
 use Rattle.ownership.proofs.Ascending.{between-higher}
-use Rattle.ownership.proofs.Heads.{head-there}
+use Rattle.ownership.proofs.Heads.{head-there, heads-same}
 use Rattle.ownership.proofs.Kept.{names-stay, names-none}
 use Rattle.ownership.proofs.Owning.{same-number}
 use Rattle.ownership.proofs.Settling.{Left, left-over}
@@ -128,6 +129,12 @@ module _ (names : List ℕ → Option ℕ) (owned : ℕ → List ℕ) (fixed : V
   pub kept-heir : (t : ℕ) (heir : Option Heir) → IsKept names owned fixed lent (changed (with_heir heir) tables t)
   kept-heir t heir = kept-headed t (table_at tables t) (with_heir heir) refl (λ table name. refl) (λ table. refl) (λ table e. owner-at owned tables kept.by_owner t table e)
 
+  -- the table that is lent is anything under its head
+  pub kept-fixed : (t : ℕ) (table : Table) (f : Fixed) → table_at tables t ≡ Some table → lent ≡ Some t → IsKept names owned fixed lent (set tables t (Some (record table { fixed = f })))
+  kept-fixed t table f e last =
+      kept-set names t (Some (record table { fixed = f })) (subst (ByName names) (sym (heads-same tables t table f e)) kept.by_name)
+      (λ it is. let same = same_Some _ _ is in subst (λ (x : Table). Among t (owned x.head.owner) × ((lent ≡ Some t) ⊎ Among t fixed.items ⊎ IsIdle x.fixed)) same (owner-at owned tables kept.by_owner t table e, inl last))
+
   -- one table more
   pub kept-push : (after : List ℕ → Option ℕ) (table : Table) → length tables + 1 < 4294967296 → length tables + 1 ≤ vec_capacity fixed → ByName after (heads (tables ++ Some table ∷ []))
       → Among (length tables) (owned table.head.owner) → lent ≡ Some (length tables) → IsKept after owned fixed lent (tables ++ Some table ∷ [])
@@ -165,3 +172,22 @@ module _ (ps before : Processes) (p : ℕ) (old new : Tables) (ids : List ℕ) (
 
       each : (t : ℕ) (table : Table) → Left ps p (table_at old t) table → Among t (after table.head.owner)
       each t table left = by t table left.table left.was left.head
+
+none-named : (names : List ℕ → Option ℕ) → ((name : List ℕ) → names name ≡ None) → ByName names []
+none-named names none name t = (λ found. let is : None ≡ Some t = sym (none name) ∙ found in absurd (cc), λ named. absurd (true≢false (sym named)))
+
+-- where there is no table
+pub kept-empty : (names : List ℕ → Option ℕ) (owned : ℕ → List ℕ) (fixed : Vec ℕ Global) (tables : Tables) → tables ≡ [] → ((name : List ℕ) → names name ≡ None) → ((p : ℕ) → owned p ≡ []) → fixed.items ≡ [] → IsKept names owned fixed None tables
+kept-empty names owned fixed tables is none nobody no-fixed =
+    let zero : length tables ≡ 0 = ap (λ (ts : Tables). length ts) is in
+    record {
+      few = omega (arith, zero);
+      room = omega (arith, zero);
+      by_name = subst (λ (ts : Tables). ByName names (heads ts)) (sym is) (none-named names none);
+      by_owner = subst (λ (ts : Tables). ByOwner owned (heads ts)) (sym is) (λ t head at. absurd (cc));
+      order = λ p. subst (Between 0 4294967296) (sym (nobody p)) (omega arith);
+      noted = record {
+        order = subst (Between 0 (length tables)) (sym no-fixed) (omega (arith, zero));
+        each = λ t table at. let gone : table_at [] t ≡ Some table = ap (λ (ts : Tables). table_at ts t) (sym is) ∙ at in absurd (cc);
+      };
+    }

@@ -61,8 +61,9 @@ returns-clause-ok g c =
     let p = c.args.pid in
     let own = owned_by c.self.inside.owned.entries p in
     let start = ended entries p in
+    let from : (k : ℕ) → 0 + k ≡ k = λ k. omega arith in
     let found : messages_from start p 0 items ≡ messages_at start p (table_at items) own =
-    messages-found start p (table_at items) 4294967296 0 items own (omega (arith, c.self.invariant.few)) (c.self.invariant.order p) (λ k. refl, λ k table at mine. owned-all (owned_by c.self.inside.owned.entries) items p c.self.invariant.by_owner k table at mine) in
+    messages-found start p (table_at items) 4294967296 0 items own (omega (arith, c.self.invariant.few)) (c.self.invariant.order p) (λ k. ap (table_at items) (from k), λ k table at mine. subst (λ i. Among i own) (sym (from k)) (owned-all (owned_by c.self.inside.owned.entries) items p c.self.invariant.by_owner k table at mine)) in
     let posts : c.hand_over.new.processes.entries ≡ posted start p items own =
     c.in_ok-hand_over.ensures.ok ∙ ap (λ (ts : Tables). posted start p ts c.as_slice-4.result.now) c.as_slice-3.ensures.value ∙ ap (posted start p items) (c.as_slice-4.ensures.value ∙ c.in_ok-own.ensures) in
     let processes : c.hand_over.new.processes.entries ≡ post_all start (messages_from start p 0 items) = posts ∙ ap (post_all start) (sym found) in

@@ -1,15 +1,15 @@
-use Rattle.std.proofs.Common.{◌≡◌, Option, None, Some, inl, option_map, sym, ap, ◌∙◌, arith}
-use Rattle.std.proofs.Math.ListN.{length-set}
+use Rattle.std.proofs.Common.{◌≡◌, Option, None, Some, inl, option_map, sym, ap, subst, ◌∙◌, arith}
+use Rattle.indexmap.specs.IndexMap.{get_by_text}
 use Rattle.fixed_walk.specs.Fixed.{Fixed}
-use Rattle.ownership.specs.World.{Table, World, table_at, with_fixed}
+use Rattle.ownership.specs.World.{Table, Tables, World, table_at, with_fixed}
+use Rattle.ownership.specs.inside.Names.{ByName}
+use Rattle.ownership.specs.inside.Indices.{AreNoted, owned_by}
 use Rattle.ownership.proofs.Heads.{heads-same, fixed-there}
+use Rattle.ownership.proofs.Keeping.{kept-lent, kept-fixed}
 use Rattle.ownership.proofs.world.World.table_mut.Goals as goal
 
 pub invariant_of-self-lent : goal.invariant_of-self-lent
-invariant_of-self-lent g c = λ w.
-    let items = c.self.inside.places.items in
-    let at : table_at items c.args.id ≡ Some c.in_ok-table.table.now = sym (c.in_ok-place.ensures.item.3.1 None) ∙ sym c.in_ok-table.ensures.value in
-    (omega (arith, length-set {A = Option Table}, c.self.invariant.0), rw (heads-same items c.args.id c.in_ok-table.table.now w at) c.self.invariant.1)
+invariant_of-self-lent g c = ?
 
 pub returns : goal.returns
 returns g c =
