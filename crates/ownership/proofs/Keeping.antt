@@ -1,5 +1,5 @@
 -- What stands beside the tables stays right at each change of them.
-use Rattle.std.proofs.Common.{◌≡◌, ◌≢◌, ℕ, ◌+◌, ◌<◌, ◌≤◌, ◌==◌, ◌⊎◌, suc, true, false, List, [], ◌∷◌, ◌++◌, Option, None, Some, inl, inr, refl, sym, ap, subst, true≢false, ◌∙◌, length, set, map, arith, length-append}
+use Rattle.std.proofs.Common.{◌≡◌, ◌≢◌, ℕ, ◌+◌, ◌<◌, ◌≤◌, ◌==◌, ◌⊎◌, zero, suc, true, false, List, [], ◌∷◌, ◌++◌, Option, None, Some, inl, inr, refl, sym, ap, subst, true≢false, ◌∙◌, length, set, map, arith, length-append}
 use Rattle.std.specs.Prelude.{vec_capacity, option_map}
 use Rattle.std.specs.declared.alloc.Global.{Global}
 use Rattle.std.specs.declared.vec.Vec.{Vec}
@@ -37,6 +37,12 @@ place-set tables t o u table e = by (cases_eq u t)
     by : (u ≡ t) ⊎ (u ≡ t → ⊥) → ((u ≡ t) × (o ≡ Some table)) ⊎ (table_at tables u ≡ Some table)
     by (inl same) = here same (cases_lt t (length tables))
     by (inr other) = inr (sym (get_or-set_other tables t u o None other) ∙ e)
+
+-- a place that is written as it is
+pub same-place : (tables : Tables) (t : ℕ) → set tables t (table_at tables t) ≡ tables
+same-place [] t = refl
+same-place (x ∷ tables) zero = refl
+same-place (x ∷ tables) (suc t) = ap (λ rest. x ∷ rest) (same-place tables t)
 
 -- one place more
 place-push : (tables : Tables) (o : Option Table) (u : ℕ) (table : Table) → table_at (tables ++ o ∷ []) u ≡ Some table → ((u ≡ length tables) × (o ≡ Some table)) ⊎ (table_at tables u ≡ Some table)
@@ -82,6 +88,17 @@ module _ (names : List ℕ → Option ℕ) (owned : ℕ → List ℕ) (fixed : V
   -- another table is lent
   pub kept-lent : (now : Vec ℕ Global) (next : Option ℕ) → AreNoted now.items next tables → length tables ≤ vec_capacity now → IsKept names owned now next tables
   kept-lent now next noted room = record { few = kept.few; room = room; by_name = kept.by_name; by_owner = kept.by_owner; order = kept.order; noted = noted }
+
+  -- a refusal may leave names and room that are as good
+  pub kept-refused : (after : List ℕ → Option ℕ) (more : ℕ → List ℕ) (now : Vec ℕ Global) → ByName after (heads tables) → Notes owned more → now.items ≡ fixed.items → vec_capacity fixed ≤ vec_capacity now → IsKept after more now lent tables
+  kept-refused after more now by_name notes items room = record {
+    few = kept.few;
+    room = omega (arith, kept.room, room);
+    by_name = by_name;
+    by_owner = λ t head at. notes.more head.owner t (kept.by_owner t head at);
+    order = notes.order kept.order;
+    noted = subst (λ (ids : List ℕ). AreNoted ids lent tables) (sym items) kept.noted;
+  }
 
   -- one place changes
   pub kept-set : (after : List ℕ → Option ℕ) (t : ℕ) (o : Option Table) → ByName after (heads (set tables t o))

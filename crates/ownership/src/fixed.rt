@@ -26,7 +26,7 @@ pub fn lend<R: Rows>(
     requires noted { AreNoted fixed.old.items lent.old places.now }
     requires room { length places.now ≤ vec_capacity fixed.old }
     ensures noted { AreNoted fixed.new.items lent.new places.now }
-    ensures room { length places.now ≤ vec_capacity fixed.new }
+    ensures capacity { vec_capacity fixed.old ≤ vec_capacity fixed.new }
     ensures lent { lent.new ≡ Some id }
 {
     if let Some(last) = *lent {
@@ -47,7 +47,7 @@ pub fn take_back_lent<R: Rows>(
     requires noted { AreNoted fixed.old.items lent.old places.now }
     requires room { length places.now ≤ vec_capacity fixed.old }
     ensures noted { AreNoted fixed.new.items None places.now }
-    ensures room { length places.now ≤ vec_capacity fixed.new }
+    ensures capacity { vec_capacity fixed.old ≤ vec_capacity fixed.new }
     ensures lent { lent.new ≡ None }
 {
     if let Some(last) = *lent {
@@ -61,7 +61,7 @@ fn note_lent<R: Rows>(fixed: &mut Vec<u32>, places: &[Option<Table<R>>], last: u
     requires noted { AreNoted fixed.old.items (Some last) places.now }
     requires room { length places.now ≤ vec_capacity fixed.old }
     ensures noted { AreNoted fixed.new.items None places.now }
-    ensures room { length places.now ≤ vec_capacity fixed.new }
+    ensures capacity { vec_capacity fixed.old ≤ vec_capacity fixed.new }
 {
     let Some(Some(table)) = places.get(last as usize) else {
         return;

@@ -40,14 +40,13 @@ invariant_of-self-2 g c =
     let owned = owned_by c.self.inside.owned.entries in
     let after = owned_by c.note_heirs.new.owned.entries in
     let same : length new ≡ length items = ap (λ (ts : Tables). length ts) c.settle_all.ensures.after ∙ length-map items (table_after ps p) in
-    let room : length items ≤ vec_capacity c.take_back_lent.new.fixed = subst (λ (ts : Tables). length ts ≤ vec_capacity c.take_back_lent.new.fixed) c.as_slice-5.ensures.value c.take_back_lent.ensures.room in
     let mine : AreOwned (owned p) p items = owned-all owned items p c.self.invariant.by_owner in
     let inherited : AreInherited after entries items (owned p) = subst (λ (ids : List ℕ). AreInherited after entries items ids) (c.as_slice-2.ensures.value ∙ c.in_ok-own.ensures) (subst (λ (ts : Tables). AreInherited after entries ts c.as_slice-2.result.now) c.as_slice.ensures.value c.in_ok-note_heirs.ensures.ok) in
     let lived : (head : Head) (heir : Heir) → living_heir ps head ≡ Some heir → living_heir entries head ≡ Some heir =
     λ head heir e. heir-before entries p head heir (sym (heir-same ps (ended entries p) head (λ r. ap (λ (qs : Processes). lives qs r) c.in_ok-hand_over.ensures.ok ∙ posted-lives (ended entries p) p c.as_slice-3.result.now c.as_slice-4.result.now r)) ∙ e) in
     record {
       few = omega (arith, same, c.self.invariant.few);
-      room = omega (arith, same, room, c.settle_all.ensures.capacity);
+      room = omega (arith, same, c.self.invariant.room, c.take_back_lent.ensures.capacity, c.settle_all.ensures.capacity);
       by_name = c.settle_all.ensures.index;
       by_owner = owners-after ps entries p items new (owned p) owned after c.self.invariant.by_owner c.note_heirs.ensures.stays mine inherited lived c.settle_all.ensures.after;
       order = c.note_heirs.ensures.stays.order c.self.invariant.order;
