@@ -5,8 +5,8 @@
 //! is with its heir, who has the message, or is gone with its name. No two named tables have one name. A call that is
 //! refused, or finds no memory, has changed nothing.
 //!
-//! *Weakness.* The end of a process looks at the tables that it ever came to own, and at those that somebody fixes; to
-//! note one costs the places of those behind it.
+//! *Weakness.* The end of a process looks at the tables that it ever came to own, and at those that somebody fixes. To
+//! write one down moves those that were made later.
 //!
 //! *Mechanism.* Tables stand at the places of their identifiers, beside an index by name, one by owner, and a list of those
 //! that may be fixed. A table that is lent is noted there when the next one is lent, if it is fixed by then. All messages
