@@ -1,12 +1,12 @@
 -- What stands beside the tables stays right at each change of them.
-use Rattle.std.proofs.Common.{◌≡◌, ◌≢◌, ℕ, ◌+◌, ◌<◌, ◌≤◌, ◌==◌, ◌⊎◌, zero, suc, true, false, List, [], ◌∷◌, ◌++◌, Option, None, Some, inl, inr, refl, sym, ap, subst, true≢false, ◌∙◌, length, set, map, arith, length-append}
+use Rattle.std.proofs.Common.{◌≡◌, ℕ, ◌+◌, ◌<◌, ◌≤◌, ◌⊎◌, zero, suc, true, false, List, [], ◌∷◌, ◌++◌, Option, None, Some, inl, inr, refl, sym, ap, subst, true≢false, ◌∙◌, length, set, map, arith, length-append}
 use Rattle.std.specs.Prelude.{vec_capacity, option_map}
 use Rattle.std.specs.declared.alloc.Global.{Global}
 use Rattle.std.specs.declared.vec.Vec.{Vec}
 use Rattle.std.proofs.Math.ListN.{length-set, get_or-map}
 use Rattle.std.proofs.Math.Seq.{get_or-append_seam}
 use Rattle.std.proofs.lemmas.Bool.{cases_eq, cases_lt}
-use Rattle.std.proofs.lemmas.List.{get_or_past, get_or_append_left, get_or-set_same, get_or-set_other, length-map}
+use Rattle.std.proofs.lemmas.List.{get_or_past, get_or_append_left, get_or-set_same, get_or-set_other}
 use Rattle.std.proofs.lemmas.Option.{same_Some}
 use Rattle.fixed_walk.specs.Fixed.{Fixed}
 use Rattle.ownership.specs.declared.head.Head.{Head}
@@ -15,8 +15,8 @@ use Rattle.ownership.specs.World.{Table, Tables, Processes, table_at, heads, hea
 use Rattle.ownership.specs.Tables.{passed_to, with_heir, changed}
 use Rattle.ownership.specs.Heads.{owned_by}
 use Rattle.ownership.specs.End.{living_heir, table_after}
-use Rattle.ownership.specs.inside.Names.{head_at, ByName}
-use Rattle.ownership.specs.inside.Indices.{Among, Between, Ascend, ByOwner, AreOwned, AreInherited, AreNoted, IsIdle, IsKept, Notes}
+use Rattle.ownership.specs.inside.Names.{ByName}
+use Rattle.ownership.specs.inside.Indices.{Among, Between, ByOwner, AreOwned, AreInherited, AreNoted, IsIdle, IsKept, Notes}
 use Rattle.ownership.proofs.Ascending.{between-higher}
 use Rattle.ownership.proofs.Heads.{head-there, heads-same}
 use Rattle.ownership.proofs.Kept.{names-stay, names-none}

@@ -1,8 +1,8 @@
 -- Tables that may be fixed: what is noted of the one that was lent, and what the end of a process makes of it.
-use Rattle.std.proofs.Common.{◌≡◌, ℕ, ◌<◌, ◌≤◌, ◌⊎◌, zero, suc, List, [], ◌∷◌, Option, None, Some, Result, Ok, Err, OnOk, IsOk, inl, inr, refl, sym, ap, subst, ◌∙◌, length, arith}
+use Rattle.std.proofs.Common.{◌≡◌, ℕ, ◌<◌, ◌⊎◌, zero, suc, List, [], ◌∷◌, None, Some, Result, Ok, Err, OnOk, IsOk, inl, inr, sym, ap, subst, ◌∙◌, length, arith}
 use Rattle.std.proofs.lemmas.Option.{same_Some}
 use Rattle.ownership.specs.World.{Table, Tables, table_at}
-use Rattle.ownership.specs.inside.Indices.{Among, Between, IsPutIn, IsIdle, AreNoted}
+use Rattle.ownership.specs.inside.Indices.{Among, IsPutIn, IsIdle, AreNoted}
 
 pub is-there : (tables : Tables) (t : ℕ) (table : Table) → table_at tables t ≡ Some table → t < length tables
 is-there [] t table e = absurd (cc)

@@ -1,14 +1,14 @@
 -- Tables settled one by one, where the process lives no more: those that are neither its own nor noted are settled from the first.
-use Rattle.std.proofs.Common.{◌≡◌, ℕ, ◌<◌, ◌≤◌, ◌==◌, ◌⊎◌, nat_eq, zero, suc, Bool, true, false, cond, List, [], ◌∷◌, Option, None, Some, inl, inr, refl, sym, ap, subst, true≢false, ◌∙◌, length, set, map, filter, arith}
+use Rattle.std.proofs.Common.{◌≡◌, ℕ, ◌⊎◌, nat_eq, zero, suc, Bool, true, false, cond, List, [], ◌∷◌, Option, None, Some, inl, inr, refl, sym, ap, subst, true≢false, ◌∙◌, length, set, map, filter}
 use Rattle.std.specs.Option.{option_map_or}
 use Rattle.std.proofs.Math.ListN.{get_or-map}
 use Rattle.std.specs.Prelude.{option_map, if◌then◌else◌}
-use Rattle.std.specs.Ordering.{nat_cmp, is_eq, eq_by_cmp}
+use Rattle.std.specs.Ordering.{nat_cmp, eq_by_cmp}
 use Rattle.std.specs.Cmp.{nat_cmp_total}
 use Rattle.std.specs.FinMap.{remove, get, get-remove, same_map, nat_cmp-IsAntisymmetric}
 use Rattle.std.proofs.lemmas.Bool.{cases_eq}
 use Rattle.std.proofs.lemmas.Option.{same_Some}
-use Rattle.std.proofs.lemmas.List.{get_or-set_same, get_or-set_other, length-map}
+use Rattle.std.proofs.lemmas.List.{get_or-set_other, length-map}
 use Rattle.bucket_table.specs.Slots.{purged}
 use Rattle.fixed_walk.specs.Fixes.{FixCounts, is_fixed}
 use Rattle.fixed_walk.specs.Fixed.{Fixed, all_released}

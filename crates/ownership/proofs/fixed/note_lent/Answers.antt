@@ -1,5 +1,4 @@
-use Rattle.std.proofs.Common.{rules, ◌≡◌, ◌<◌, ℕ, None, Some, false, sym, ap, subst, ◌∙◌, length, arith}
-use Rattle.fixed_walk.specs.Fixed.{Fixed, HeldWhileFixed}
+use Rattle.std.proofs.Common.{◌≡◌, None, Some, false, sym, subst, ◌∙◌, length}
 use Rattle.fixed_walk.specs.Fixes.{is_fixed}
 use Rattle.ownership.specs.World.{table_at}
 use Rattle.ownership.specs.inside.Indices.{IsIdle}

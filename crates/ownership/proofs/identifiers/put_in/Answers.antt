@@ -1,10 +1,8 @@
-use Rattle.std.proofs.Common.{◌≡◌, ◌<◌, ◌≤◌, ◌+◌, ap, sym, subst, ◌∙◌, length, List, ℕ, Err, Ok, arith}
-use Rattle.std.specs.Prelude.{vec_capacity}
-use Rattle.std.specs.List.{insert}
+use Rattle.std.proofs.Common.{◌<◌, ◌≤◌, sym, subst, length, Err, Ok, arith}
 use Rattle.std.specs.List.Sorted.{IsBinarySearchResult}
 use Rattle.std.specs.Ordering.{nat_cmp}
 use Rattle.std.proofs.lemmas.List.Edits.{length-insert}
-use Rattle.ownership.specs.inside.Indices.{Between, IsPutIn}
+use Rattle.ownership.specs.inside.Indices.{IsPutIn}
 use Rattle.ownership.proofs.Ascending.{put-in, put-found, few-between}
 use Rattle.ownership.proofs.identifiers.put_in.Goals as goal
 

@@ -1,7 +1,4 @@
-use Rattle.std.proofs.Common.{◌≡◌, ◌⊎◌, ◌<◌, ◌≤◌, ◌+◌, ℕ, List, Some, inl, inr, sym, subst, ◌∙◌, length, get_or, drop, arith}
-use Rattle.ownership.specs.declared.head.Heir.{Heir}
-use Rattle.ownership.specs.World.{Table, table_at}
-use Rattle.ownership.specs.End.{living_heir}
+use Rattle.std.proofs.Common.{◌⊎◌, ◌<◌, ◌+◌, ℕ, List, inl, inr, subst, length, get_or, drop, arith}
 use Rattle.ownership.specs.inside.Indices.{Among, owned_by}
 use Rattle.ownership.proofs.Ascending.{cut-at, none-left}
 use Rattle.ownership.proofs.Owning.{notes-more, inherited-more}

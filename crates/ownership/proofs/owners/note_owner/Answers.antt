@@ -1,4 +1,4 @@
-use Rattle.std.proofs.Common.{rules, ◌≡◌, ◌==◌, ◌∷◌, ◌++◌, [], ◌<◌, ℕ, List, nat_eq, Some, sym, ap, subst, ◌∙◌, OnErr, OnOk, arith}
+use Rattle.std.proofs.Common.{rules, ◌≡◌, ◌==◌, ◌∷◌, ◌++◌, [], ℕ, List, nat_eq, Some, sym, ap, subst, ◌∙◌, OnErr, OnOk, arith}
 use Rattle.std.specs.Map.{lookup}
 use Rattle.std.specs.Prelude.{if◌then◌else◌}
 use Rattle.std.specs.declared.alloc.Global.{Global}

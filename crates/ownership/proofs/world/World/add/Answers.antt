@@ -1,8 +1,8 @@
-use Rattle.std.proofs.Common.{◌≡◌, ◌++◌, ◌∷◌, [], ◌+◌, ◌<◌, ◌≤◌, ℕ, true, None, Option, Some, sym, ap, subst, ◌∙◌, length, arith}
+use Rattle.std.proofs.Common.{◌≡◌, ◌++◌, ◌∷◌, [], ◌+◌, ◌<◌, ◌≤◌, ℕ, true, None, Some, sym, ap, subst, ◌∙◌, length, arith}
 use Rattle.std.specs.Prelude.{vec_capacity}
 use Rattle.indexmap.specs.IndexMap.{get_by_text}
 use Rattle.ownership.specs.declared.head.Head.{Head}
-use Rattle.ownership.specs.World.{Table, Tables, World, heads, whereis}
+use Rattle.ownership.specs.World.{Tables, World, heads, whereis}
 use Rattle.ownership.specs.inside.Names.{ByName}
 use Rattle.ownership.specs.inside.Indices.{Among, AreNoted, IsKept, owned_by}
 use Rattle.ownership.proofs.Heads.{heads-push, length-heads}

@@ -1,14 +1,13 @@
-use Rattle.std.proofs.Common.{◌≡◌, ◌+◌, ◌<◌, ◌≤◌, ◌==◌, ℕ, true, None, Option, Some, refl, sym, ap, subst, ◌∙◌, List, length, map, arith}
-use Rattle.std.specs.Prelude.{vec_capacity}
+use Rattle.std.proofs.Common.{◌≡◌, ◌+◌, ℕ, Option, Some, sym, ap, subst, ◌∙◌, List, length, map, arith}
 use Rattle.std.proofs.lemmas.List.{length-map}
 use Rattle.indexmap.specs.IndexMap.{get_by_text}
 use Rattle.ownership.specs.declared.head.Head.{Head}
 use Rattle.ownership.specs.declared.head.Heir.{Heir}
-use Rattle.ownership.specs.World.{Table, Tables, World, Processes, table_at, lives}
+use Rattle.ownership.specs.World.{Tables, World, Processes, table_at, lives}
 use Rattle.ownership.specs.Messages.{post_all}
 use Rattle.ownership.specs.End.{ended, handed_over, living_heir, table_after, messages_from}
 use Rattle.ownership.specs.inside.Ending.{posted, messages_at}
-use Rattle.ownership.specs.inside.Indices.{Among, Between, AreNoted, AreInherited, AreOwned, owned_by}
+use Rattle.ownership.specs.inside.Indices.{Among, AreNoted, AreInherited, AreOwned, owned_by}
 use Rattle.ownership.proofs.Ending.{all-after-same, posted-lives, heir-same, heir-before, ended-dead, messages-found}
 use Rattle.ownership.proofs.Keeping.{kept-notes, owned-all, owners-after}
 use Rattle.ownership.proofs.world.World.bury.Goals as goal

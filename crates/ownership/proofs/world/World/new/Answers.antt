@@ -1,4 +1,4 @@
-use Rattle.std.proofs.Common.{◌≡◌, rules}
+use Rattle.std.proofs.Common.{rules}
 use Rattle.indexmap.specs.IndexMap.{get_by_text}
 use Rattle.ownership.specs.inside.Indices.{owned_by}
 use Rattle.ownership.proofs.Keeping.{kept-empty}

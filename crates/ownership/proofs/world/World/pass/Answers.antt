@@ -1,8 +1,6 @@
-use Rattle.std.proofs.Common.{◌≡◌, ◌⊎◌, ℕ, Option, None, Some, refl, sym, ap, subst, ◌∙◌}
-use Rattle.std.specs.Prelude.{option_map}
+use Rattle.std.proofs.Common.{sym, subst}
 use Rattle.indexmap.specs.IndexMap.{get_by_text}
-use Rattle.ownership.specs.World.{Table, Tables, table_at}
-use Rattle.ownership.specs.Tables.{passed_to}
+use Rattle.ownership.specs.World.{Tables}
 use Rattle.ownership.specs.inside.Indices.{IsKept, owned_by}
 use Rattle.ownership.proofs.Keeping.{kept-notes, kept-passed}
 use Rattle.ownership.proofs.world.World.pass.Goals as goal

@@ -1,4 +1,4 @@
-use Rattle.std.proofs.Common.{◌≡◌, sym, ap, ◌∙◌, get_or, take}
+use Rattle.std.proofs.Common.{sym, ap, ◌∙◌, get_or, take}
 use Rattle.std.proofs.lemmas.List.{take_more}
 use Rattle.ownership.specs.End.{message_of}
 use Rattle.ownership.specs.World.{Processes, table_at}

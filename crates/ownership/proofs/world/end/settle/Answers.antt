@@ -1,5 +1,5 @@
-use Rattle.std.proofs.Common.{◌≡◌, ◌⊎◌, ◌<◌, ◌+◌, ℕ, List, None, Option, inl, inr, refl, sym, ap, subst, ◌∙◌, length, get_or, map, drop, arith}
-use Rattle.ownership.specs.World.{Table, Tables, table_at}
+use Rattle.std.proofs.Common.{◌≡◌, ◌⊎◌, ◌<◌, ◌+◌, ℕ, List, Option, inl, inr, refl, sym, ap, subst, ◌∙◌, length, get_or, map, drop, arith}
+use Rattle.ownership.specs.World.{Table, Tables}
 use Rattle.ownership.specs.End.{table_after}
 use Rattle.ownership.specs.inside.Ending.{IsSettled}
 use Rattle.ownership.specs.inside.Indices.{Among}

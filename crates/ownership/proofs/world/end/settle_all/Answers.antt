@@ -1,4 +1,4 @@
-use Rattle.std.proofs.Common.{◌≡◌, sym, ap, subst, ◌∙◌, List, ℕ, map}
+use Rattle.std.proofs.Common.{sym, ap, subst, ◌∙◌, List, ℕ}
 use Rattle.std.specs.Prelude.{filter, None}
 use Rattle.ownership.specs.World.{Tables}
 use Rattle.ownership.specs.End.{table_after}

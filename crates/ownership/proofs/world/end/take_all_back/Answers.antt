@@ -1,4 +1,4 @@
-use Rattle.std.proofs.Common.{◌≡◌, ◌+◌, ◌-◌, ap, ◌∙◌, length, get_or, take}
+use Rattle.std.proofs.Common.{◌+◌, ◌-◌, ap, ◌∙◌, length, get_or, take}
 use Rattle.ownership.specs.inside.Ending.{posted}
 use Rattle.ownership.proofs.Ending.{posted-more, take-last}
 use Rattle.ownership.proofs.world.end.take_all_back.Goals as goal
