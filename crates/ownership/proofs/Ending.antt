@@ -1,5 +1,5 @@
 -- The end of a process: messages one by one, and that they change no process but its mailbox.
-use Rattle.std.proofs.Common.{◌≡◌, ℕ, ◌+◌, ◌==◌, nat_eq, suc, Bool, true, false, cond, List, [], ◌∷◌, ◌++◌, Option, None, Some, refl, sym, ap, ◌∙◌, length, map, take, get_or, ◌-◌, ◌<◌, append_assoc, arith}
+use Rattle.std.proofs.Common.{◌≡◌, ◌⊎◌, ℕ, ◌+◌, ◌==◌, nat_eq, suc, Bool, true, false, cond, List, [], ◌∷◌, ◌++◌, Option, None, Some, inl, inr, refl, sym, ap, subst, true≢false, ◌∙◌, length, map, take, get_or, ◌-◌, ◌<◌, ◌≤◌, append_assoc, arith}
 use Rattle.std.proofs.lemmas.List.{take_more}
 use Rattle.std.specs.Prelude.{option_map, if◌then◌else◌}
 use Rattle.std.specs.Option.{option_map_or}
@@ -8,12 +8,16 @@ use Rattle.ets_term.specs.declared.term.Term.{Term}
 use Rattle.ownership.specs.declared.head.Head.{Head}
 use Rattle.ownership.specs.declared.head.Heir.{Heir}
 use Rattle.ownership.specs.declared.process.Process.{Process}
-use Rattle.ownership.specs.World.{Table, Tables, Processes, process_at, lives}
+use Rattle.ownership.specs.World.{Table, Tables, Processes, process_at, lives, table_at}
 use Rattle.ownership.specs.Heads.{owned_by}
 use Rattle.ownership.specs.Messages.{with_message, transfer, post, post_all}
 use Rattle.ownership.specs.Tables.{passed_to}
-use Rattle.ownership.specs.End.{living_heir, receiver_of, let_go, table_after, message_of, messages_from}
-use Rattle.ownership.specs.inside.Ending.{posted, posted_of}
+use Rattle.ownership.specs.End.{living_heir, receiver_of, let_go, table_after, message_of, messages_from, ended}
+use Rattle.ownership.specs.inside.Ending.{posted, posted_of, messages_at}
+use Rattle.ownership.specs.inside.Indices.{Among, Between}
+use Rattle.std.proofs.lemmas.Bool.{cases_eq}
+use Rattle.ownership.proofs.Ascending.{between-lower, among-above}
+use Rattle.ownership.proofs.Posting.{lookup-set_value}
 
 -- the same processes live
 abbrev pub SameLives : Processes → Processes → Type 0
@@ -88,28 +92,27 @@ single : (o : Option (ℕ × Term)) → option_map_or (λ m. m ∷ []) o [] ≡ 
 single None = refl
 single (Some m) = refl
 
-module _ (ps : Processes) (p : ℕ) where
-  messages-push : (n k : ℕ) (xs : Tables) (o : Option Table) → n + length xs ≡ k → messages_from ps p n (xs ++ o ∷ []) ≡ messages_from ps p n xs ++ as_list (message_of ps p k o)
-  messages-push n k [] o e = let same : n ≡ k = omega (arith, e) in single (message_of ps p n o) ∙ ap (λ i. as_list (message_of ps p i o)) same
-  messages-push n k (x ∷ xs) o e =
-      let rest = messages-push (suc n) k xs o (omega (arith, e)) in
-      listed (message_of ps p n x) (messages_from ps p (suc n) (xs ++ o ∷ [])) ∙ ap (λ r. as_list (message_of ps p n x) ++ r) rest
-      ∙ sym (append_assoc (as_list (message_of ps p n x)) (messages_from ps p (suc n) xs) (as_list (message_of ps p k o)))
-      ∙ ap (λ r. r ++ as_list (message_of ps p k o)) (sym (listed (message_of ps p n x) (messages_from ps p (suc n) xs)))
+module _ (ps : Processes) (p : ℕ) (at : ℕ → Option Table) where
+  messages-push : (ids : List ℕ) (t : ℕ) → messages_at ps p at (ids ++ t ∷ []) ≡ messages_at ps p at ids ++ as_list (message_of ps p t (at t))
+  messages-push [] t = single (message_of ps p t (at t))
+  messages-push (i ∷ ids) t =
+      listed (message_of ps p i (at i)) (messages_at ps p at (ids ++ t ∷ [])) ∙ ap (λ r. as_list (message_of ps p i (at i)) ++ r) (messages-push ids t)
+      ∙ sym (append_assoc (as_list (message_of ps p i (at i))) (messages_at ps p at ids) (as_list (message_of ps p t (at t))))
+      ∙ ap (λ r. r ++ as_list (message_of ps p t (at t))) (sym (listed (message_of ps p i (at i)) (messages_at ps p at ids)))
 
 one : (qs : Processes) (m : Option (ℕ × Term)) → post_all qs (as_list m) ≡ posted_of qs m
 one qs None = refl
 one qs (Some m) = refl
 
-pub posted-lives : (ps : Processes) (p : ℕ) (xs : Tables) → SameLives (posted ps p xs) ps
-posted-lives ps p xs = post_all-lives ps (messages_from ps p 0 xs)
+pub posted-lives : (ps : Processes) (p : ℕ) (tables : Tables) (ids : List ℕ) → SameLives (posted ps p tables ids) ps
+posted-lives ps p tables ids = post_all-lives ps (messages_at ps p (table_at tables) ids)
 
 -- one table more
-pub posted-more : (ps : Processes) (p : ℕ) (xs : Tables) (o : Option Table) → posted ps p (xs ++ o ∷ []) ≡ posted_of (posted ps p xs) (message_of (posted ps p xs) p (length xs) o)
-posted-more ps p xs o =
-    let from_zero : 0 + length xs ≡ length xs = omega arith in
-    ap (post_all ps) (messages-push ps p 0 (length xs) xs o from_zero) ∙ post_all-append ps (messages_from ps p 0 xs) (as_list (message_of ps p (length xs) o)) ∙ one (posted ps p xs) (message_of ps p (length xs) o)
-    ∙ ap (posted_of (posted ps p xs)) (sym (message-same (posted ps p xs) ps p (length xs) o (posted-lives ps p xs)))
+pub posted-more : (ps : Processes) (p : ℕ) (tables : Tables) (ids : List ℕ) (t : ℕ) → posted ps p tables (ids ++ t ∷ []) ≡ posted_of (posted ps p tables ids) (message_of (posted ps p tables ids) p t (table_at tables t))
+posted-more ps p tables ids t =
+    ap (post_all ps) (messages-push ps p (table_at tables) ids t) ∙ post_all-append ps (messages_at ps p (table_at tables) ids) (as_list (message_of ps p t (table_at tables t)))
+    ∙ one (posted ps p tables ids) (message_of ps p t (table_at tables t))
+    ∙ ap (posted_of (posted ps p tables ids)) (sym (message-same (posted ps p tables ids) ps p t (table_at tables t) (posted-lives ps p tables ids)))
 
 posted_of-lives : (ps : Processes) (m : Option (ℕ × Term)) → SameLives (posted_of ps m) ps
 posted_of-lives ps None r = refl
@@ -124,11 +127,119 @@ pub back-none : (before now : Processes) (p t : ℕ) (o : Option Table) (table :
 back-none before now p t o table is none e =
     e ∙ ap (posted_of before) (message-still before now p t o e ∙ ap (message_of now p t) is ∙ ap (option_map (λ (heir : Heir). (heir.pid, transfer table.head t p heir.gift))) none)
 
--- the tables without the last that is left
-pub take-last : {X : Type 0} (xs : List X) (i : ℕ) (x : X) → i < length xs → x ≡ get_or xs (length xs - 1 - i) x → take (length xs - i) xs ≡ take (length xs - (i + 1)) xs ++ x ∷ []
-take-last xs i x h e =
-    let k = length xs - (i + 1) in
-    let more : length xs - i ≡ k + 1 = omega arith in
-    let place : length xs - 1 - i ≡ k = omega arith in
-    let within : k < length xs = omega arith in
-    ap (λ n. take n xs) more ∙ take_more xs k x within ∙ ap (λ y. take k xs ++ y ∷ []) (sym (e ∙ ap (λ n. get_or xs n x) place))
+-- the identifiers without the last that is left
+pub take-last : (ids : List ℕ) (i : ℕ) → i < length ids → take (length ids - i) ids ≡ take (length ids - (i + 1)) ids ++ get_or ids (length ids - 1 - i) 0 ∷ []
+take-last ids i h =
+    let k = length ids - (i + 1) in
+    let more : length ids - i ≡ k + 1 = omega arith in
+    let place : length ids - 1 - i ≡ k = omega arith in
+    let within : k < length ids = omega arith in
+    ap (λ n. take n ids) more ∙ take_more ids k 0 within ∙ ap (λ n. take k ids ++ get_or ids n 0 ∷ []) (sym place)
+
+-- ---- the tables of a process are among the identifiers, so theirs are all the messages
+no-message : (ps : Processes) (p t : ℕ) (table : Table) → owned_by table.head p ≡ false → message_of ps p t (Some table) ≡ None
+no-message ps p t table other = ap (λ (b : Bool). option_map (λ (heir : Heir). (heir.pid, transfer table.head t p heir.gift)) (if b then living_heir ps table.head else None)) other
+
+module _ (ps : Processes) (p : ℕ) where
+  -- identifiers past the tables bring none
+  none-past : (n : ℕ) (at : ℕ → Option Table) (high : ℕ) (ids : List ℕ) → ((k : ℕ) → at (n + k) ≡ None) → Between n high ids → messages_at ps p at ids ≡ []
+  none-past n at high [] past b = refl
+  none-past n at high (t ∷ ids) past b =
+      let here : at t ≡ None = ap at (distance n t b.0) ∙ past (t - n) in
+      ap (λ o. option_map_or (λ message. message ∷ messages_at ps p at ids) (message_of ps p t o) (messages_at ps p at ids)) here
+      ∙ none-past n at high ids past (between-lower (suc t) n high ids (omega (arith, b.0)) b.1)
+    where
+      distance : (n t : ℕ) → n ≤ t → t ≡ n + (t - n)
+      distance n t h = omega (arith, h)
+
+  no-owner : (t : ℕ) (o : Option Table) → ((table : Table) → o ≡ Some table → owned_by table.head p ≡ true → ⊥) → message_of ps p t o ≡ None
+  no-owner t None other = refl
+  no-owner t (Some table) other = no-message ps p t table (by (owned_by table.head p) refl)
+    where
+      by : (b : Bool) → owned_by table.head p ≡ b → b ≡ false
+      by true e = absurd (other table refl e)
+      by false e = refl
+
+  skip : (n : ℕ) (o : Option Table) (tables : Tables) (messages : List (ℕ × Term)) → message_of ps p n o ≡ None → messages_from ps p (suc n) tables ≡ messages → messages_from ps p n (o ∷ tables) ≡ messages
+  skip n o tables messages none rest = ap (λ m. option_map_or (λ message. message ∷ messages_from ps p (suc n) tables) m (messages_from ps p (suc n) tables)) none ∙ rest
+
+  module _ (at : ℕ → Option Table) (high : ℕ) where
+    -- the tables from this identifier on, all of whose owner's are among these
+    abbrev AreFound : ℕ → Tables → List ℕ → Type 0
+    AreFound n tables ids = ((k : ℕ) → at (n + k) ≡ table_at tables k) × ((k : ℕ) (table : Table) → table_at tables k ≡ Some table → owned_by table.head p ≡ true → Among (n + k) ids)
+
+    move : (n k : ℕ) → suc n + k ≡ n + suc k
+    move n k = omega arith
+
+    shift : (n : ℕ) (o : Option Table) (tables : Tables) (ids rest : List ℕ) → ((k : ℕ) → Among (n + suc k) ids → Among (n + suc k) rest) → AreFound n (o ∷ tables) ids → AreFound (suc n) tables rest
+    shift n o tables ids rest more found = (
+      λ k. ap at (move n k) ∙ found.0 (suc k),
+      λ k table there own. subst (λ i. Among i rest) (sym (move n k)) (more k (found.1 (suc k) table there own)),
+    )
+
+    pub messages-found : (n : ℕ) (tables : Tables) (ids : List ℕ) → n + length tables ≤ high → Between n high ids → AreFound n tables ids → messages_from ps p n tables ≡ messages_at ps p at ids
+    messages-found n [] ids fits b found = sym (none-past n at high ids found.0 b)
+    messages-found n (o ∷ tables) [] fits b found =
+        skip n o tables [] (no-owner n o (λ table there own. found.1 0 table there own))
+        (messages-found (suc n) tables [] (omega (arith, fits)) (omega (arith, fits)) (shift n o tables [] [] (λ k a. a) found))
+    messages-found n (o ∷ tables) (t ∷ ids) fits b found = by (cases_eq n t) (λ rest order there. messages-found (suc n) tables rest (omega (arith, fits)) order there)
+      where
+        zero-more : (n : ℕ) → n + 0 ≡ n
+        zero-more n = omega arith
+
+        tail : n ≡ t → (k : ℕ) → (n + suc k ≡ t) ⊎ Among (n + suc k) ids → Among (n + suc k) ids
+        tail same k (inl e) = absurd (omega (arith, same, e))
+        tail same k (inr a) = a
+
+        by : (n ≡ t) ⊎ (n ≡ t → ⊥) → ((rest : List ℕ) → Between (suc n) high rest → AreFound (suc n) tables rest → messages_from ps p (suc n) tables ≡ messages_at ps p at rest) → messages_from ps p n (o ∷ tables) ≡ messages_at ps p at (t ∷ ids)
+        by (inl same) more =
+            let rest = more ids (subst (λ i. Between (suc i) high ids) (sym same) b.1) (shift n o tables (t ∷ ids) ids (tail same) found) in
+            let here : o ≡ at t = sym (found.0 0) ∙ ap at (zero-more n ∙ same) in
+            ap (λ r. option_map_or (λ message. message ∷ r) (message_of ps p n o) r) rest
+            ∙ ap (λ m. option_map_or (λ message. message ∷ messages_at ps p at ids) m (messages_at ps p at ids)) (ap (λ i. message_of ps p i o) same ∙ ap (message_of ps p t) here)
+        by (inr other) more =
+            let low : suc n ≤ t = omega (arith, b.0, other) in
+            skip n o tables (messages_at ps p at (t ∷ ids))
+            (no-owner n o (λ table there own. let above = among-above (suc n) high (t ∷ ids) (n + 0) (low, b.1) (found.1 0 table there own) in absurd (omega (arith, above))))
+            (more (t ∷ ids) (low, b.1) (shift n o tables (t ∷ ids) (t ∷ ids) (λ k a. a) found))
+
+-- ---- a process that has ended lives no more, and nobody else is changed
+module _ (p : ℕ) (gone : Process) (dead : gone.lives ≡ false) where
+  ended-head : (c b : Bool) (q : ℕ) (e : ℕ × Process) (before after : Option Process) → (option_map_or (λ (x : Process). x.lives) after false ≡ true → option_map_or (λ (x : Process). x.lives) before false ≡ true)
+      → option_map_or (λ (x : Process). x.lives) (cond c (Some (cond b gone e.1)) (cond b before after)) false ≡ true → option_map_or (λ (x : Process). x.lives) (cond c (Some e.1) before) false ≡ true
+  ended-head true true q e before after ih h = absurd (true≢false (sym h ∙ dead))
+  ended-head true false q e before after ih h = h
+  ended-head false true q e before after ih h = h
+  ended-head false false q e before after ih h = ih h
+
+  ended-at : (b : Bool) (q : ℕ) (e : ℕ × Process) (es : Processes) → (lives (set_value (λ k. p == k) es gone) q ≡ true → lives es q ≡ true)
+      → lives (cond b ((e.0, gone) ∷ es) (e ∷ set_value (λ k. p == k) es gone)) q ≡ true → lives (e ∷ es) q ≡ true
+  ended-at true q e es ih h = ended-head (nat_eq q e.0) true q e (process_at es q) (process_at es q) (λ l. l) h
+  ended-at false q e es ih h = ended-head (nat_eq q e.0) false q e (process_at es q) (process_at (set_value (λ k. p == k) es gone) q) ih h
+
+  ended-lives : (ps : Processes) (q : ℕ) → lives (set_value (λ k. p == k) ps gone) q ≡ true → lives ps q ≡ true
+  ended-lives [] q h = h
+  ended-lives (e ∷ es) q h = ended-at (nat_eq p e.0) q e es (ended-lives es q) h
+
+-- who lives after an end lived before
+pub ended-before : (ps : Processes) (p q : ℕ) → lives (ended ps p) q ≡ true → lives ps q ≡ true
+ended-before ps p q = ended-lives p (record { lives = false; mailbox = [] }) refl ps q
+
+pub ended-dead : (ps : Processes) (p : ℕ) → lives ps p ≡ true → lives (ended ps p) p ≡ false
+ended-dead ps p l = by (process_at ps p) refl
+  where
+    by : (o : Option Process) → process_at ps p ≡ o → lives (ended ps p) p ≡ false
+    by None e = absurd (true≢false (sym l ∙ ap (λ o. option_map_or (λ (x : Process). x.lives) o false) e))
+    by (Some own) e = ap (λ o. option_map_or (λ (x : Process). x.lives) o false) (lookup-set_value (λ q. p == q) ps own (record { lives = false; mailbox = [] }) e)
+
+heir-before-at : (ps : Processes) (p : ℕ) (head : Head) (own heir : Heir) (b : Bool) → lives (ended ps p) own.pid ≡ b → cond b (Some own) None ≡ Some heir → cond (lives ps own.pid) (Some own) None ≡ Some heir
+heir-before-at ps p head own heir true l e = ap (λ b. cond b (Some own) None) (ended-before ps p own.pid l) ∙ e
+heir-before-at ps p head own heir false l e = absurd (cc)
+
+-- an heir that lives after an end lived before
+pub heir-before : (ps : Processes) (p : ℕ) (head : Head) (heir : Heir) → living_heir (ended ps p) head ≡ Some heir → living_heir ps head ≡ Some heir
+heir-before ps p head heir e = by head.heir e
+  where
+    by : (o : Option Heir) → living_heir (ended ps p) (record head { heir = o }) ≡ Some heir → living_heir ps (record head { heir = o }) ≡ Some heir
+    by None e = e
+    by (Some own) e = heir-before-at ps p head own heir (lives (ended ps p) own.pid) refl e

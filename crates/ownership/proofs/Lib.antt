@@ -5,4 +5,9 @@ pub mod Heads
 pub mod Kept
 pub mod Posting
 pub mod Mapped
+pub mod Ascending
+pub mod Owning
+pub mod Noting
+pub mod Settling
 pub mod Ending
+pub mod Keeping

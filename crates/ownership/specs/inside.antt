@@ -3,3 +3,4 @@ pub mod Names
 pub mod Lending
 pub mod Reading
 pub mod Ending
+pub mod Indices

@@ -5,21 +5,26 @@
 //! is with its heir, who has the message, or is gone with its name. No two named tables have one name. A call that is
 //! refused, or finds no memory, has changed nothing.
 //!
-//! *Weakness.* The end of a process looks at every table ever made, since a table that is lent may be fixed by anybody.
+//! *Weakness.* The end of a process looks at the tables that it ever came to own, and at those that somebody fixes. To
+//! write one down moves those that were made later.
 //!
-//! *Mechanism.* Tables stand at the places of their identifiers, beside an index by name. All messages are made before the
-//! first is posted, and those posted are taken back where memory is refused. A lent table can change in all but its head,
-//! and the index looks at heads alone.
+//! *Mechanism.* Tables stand at the places of their identifiers, beside an index by name, one by owner, and a list of those
+//! that may be fixed. A table that is lent is noted there when the next one is lent, if it is fixed by then. All messages
+//! are made before the first is posted, and those posted are taken back where memory is refused. A lent table can change
+//! in all but its head, and the indices look at heads alone.
 //!
 //! *Limits.* Processes and tables ever, as the world was made for; identifiers are never used again.
 #![tactic(auto)]
 
 mod fault;
+mod fixed;
 mod head;
+mod identifiers;
 mod info;
 mod messages;
 mod names;
 mod options;
+mod owners;
 mod process;
 mod table;
 #[cfg(test)]

@@ -9,6 +9,7 @@ use table_ops::Table;
 use text::term;
 
 mod ends;
+mod many;
 mod options;
 mod owners;
 mod text;

@@ -2,7 +2,7 @@ ghost use Rattle.std.specs.Prelude.{◌≡◌};
 ghost use Rattle.ownership.specs.World.{empty};
 
 mod access;
-mod end;
+pub(crate) mod end;
 mod enrol;
 mod heirs;
 mod info;
@@ -26,14 +26,16 @@ pub struct World<R: Rows> {
     processes: IndexMap<u32, Process>,
     places: Vec<Option<Table<R>>>,
     names: IndexMap<String, u32>,
+    owned: IndexMap<u32, Vec<u32>>,
+    fixed: Vec<u32>,
+    lent: Option<u32>,
 }
 
 impl<R: Rows> Model for World<R> {
-    ghost use Rattle.std.specs.Prelude.{◌<◌, ◌^◌, length};
     ghost use Rattle.indexmap.specs.IndexMap.{get_by_text};
-    ghost use Rattle.ownership.specs.World.{World, heads};
+    ghost use Rattle.ownership.specs.World.{World};
     ghost use Rattle.ownership.specs.inside.Codes.{world_code};
-    ghost use Rattle.ownership.specs.inside.Names.{ByName};
+    ghost use Rattle.ownership.specs.inside.Indices.{IsKept, owned_by};
 
     ghost Value = { World };
 
@@ -41,7 +43,7 @@ impl<R: Rows> Model for World<R> {
 
     ghost view = { λ w. record { most_processes = w.most_processes; most_tables = w.most_tables; processes = w.processes.entries; tables = w.places.items } };
 
-    ghost invariant = { λ w. (length w.places.items < 2 ^ 32) × ByName (get_by_text w.names) (heads w.places.items) };
+    ghost invariant = { λ w. IsKept (get_by_text w.names) (owned_by w.owned.entries) w.fixed w.lent w.places.items };
 }
 
 impl<R: Rows> World<R> {
@@ -56,6 +58,9 @@ impl<R: Rows> World<R> {
             processes: IndexMap::new(alloc),
             places: Vec::new(alloc),
             names: IndexMap::new(alloc),
+            owned: IndexMap::new(alloc),
+            fixed: Vec::new(alloc),
+            lent: None,
         }
     }
 }

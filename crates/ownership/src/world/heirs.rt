@@ -1,4 +1,5 @@
-ghost use Rattle.std.specs.Prelude.{◌≡◌};
+ghost use Rattle.std.specs.Prelude.{◌≡◌, OnOk, OnErr};
+ghost use Rattle.ownership.specs.Messages.{post};
 ghost use Rattle.ownership.specs.Tables.{GiveAway, SetOptions, changed, passed_to, with_heir};
 ghost use Rattle.ownership.specs.Outcomes.{Comes};
 
@@ -7,8 +8,11 @@ use crate::fault::WorldFault;
 use crate::head::Heir;
 use crate::messages::{post, transfer};
 use crate::options::heir_said_by;
+use crate::owners::note_owner;
+use crate::table::Table;
 use bucket_table::Rows;
 use ets_term::Term;
+use std::alloc::AllocError;
 
 /// Tables change hands, and heirs are set.
 impl<R: Rows> World<R> {
@@ -25,8 +29,7 @@ impl<R: Rows> World<R> {
             return Err(WorldFault::Badarg);
         }
         let message = transfer(self.alloc, head, id, pid, gift)?;
-        post(&mut self.processes, to, message)?;
-        self.pass(id, to);
+        self.pass(id, to, message)?;
         Ok(())
     }
 
@@ -50,18 +53,18 @@ impl<R: Rows> World<R> {
         }
     }
 
-    /// The table has another owner.
-    fn pass(&mut self, id: u32, owner: u32)
-        ensures { self.new ≡ record self.old { tables = changed (passed_to owner) self.old.tables id } }
+    /// The table has another owner, which gets the message with it.
+    fn pass(&mut self, id: u32, owner: u32, message: Term) -> Result<(), AllocError>
+        ensures ok { OnOk result (self.new ≡ record self.old { processes = post self.old.processes owner message; tables = changed (passed_to owner) self.old.tables id }) }
+        ensures err { OnErr result (self.new ≡ self.old) }
     {
-        let place = id as usize;
-        if place >= self.places.len() {
-            return;
+        if let Err(error) = note_owner(self.alloc, &mut self.owned, owner, id) {
+            drop(message);
+            return Err(error);
         }
-        let Some(table) = &mut self.places[place] else {
-            return;
-        };
-        table.pass_to(owner);
+        post(&mut self.processes, owner, message)?;
+        pass_at(&mut self.places, id, owner);
+        Ok(())
     }
 
     /// The table has another heir, or none.
@@ -79,4 +82,18 @@ impl<R: Rows> World<R> {
         };
         table.set_heir(heir);
     }
+}
+
+/// The table at a place, if there is one, has another owner.
+fn pass_at<R: Rows>(places: &mut Vec<Option<Table<R>>>, id: u32, owner: u32)
+    ensures { places.new.items ≡ changed (passed_to owner) places.old.items id }
+{
+    let place = id as usize;
+    if place >= places.len() {
+        return;
+    }
+    let Some(table) = &mut places[place] else {
+        return;
+    };
+    table.pass_to(owner);
 }

@@ -1,16 +1,20 @@
-use Rattle.std.proofs.Common.{◌≡◌, ◌<◌, Option, None, Some, sym, ap, ◌∙◌, length, arith}
-use Rattle.std.proofs.Math.ListN.{length-set}
-use Rattle.std.proofs.lemmas.List.{get_or_read}
+use Rattle.std.proofs.Common.{sym, subst}
 use Rattle.indexmap.specs.IndexMap.{get_by_text}
-use Rattle.ownership.specs.World.{Table, table_at, is_named}
-use Rattle.ownership.proofs.Kept.{names-stay}
+use Rattle.ownership.specs.World.{Tables}
+use Rattle.ownership.specs.inside.Indices.{IsKept, owned_by}
+use Rattle.ownership.proofs.Keeping.{kept-notes, kept-passed}
 use Rattle.ownership.proofs.world.World.pass.Goals as goal
+
+pub invariant_of-self : goal.invariant_of-self
+invariant_of-self g c = kept-notes (get_by_text c.self.inside.names) (owned_by c.self.inside.owned.entries) c.self.inside.fixed c.self.inside.lent c.self.inside.places.items c.self.invariant (owned_by c.note_owner.new.owned.entries) c.note_owner.ensures.stays
+
+pub invariant_of-self-in_err-post : goal.invariant_of-self-in_err-post
+invariant_of-self-in_err-post g c = kept-notes (get_by_text c.self.inside.names) (owned_by c.self.inside.owned.entries) c.self.inside.fixed c.self.inside.lent c.self.inside.places.items c.self.invariant (owned_by c.note_owner.new.owned.entries) c.note_owner.ensures.stays
 
 pub invariant_of-self-2 : goal.invariant_of-self-2
 invariant_of-self-2 g c =
+    let names = get_by_text c.self.inside.names in
     let items = c.self.inside.places.items in
-    let within : c.args.id < length items = omega (arith, c.self.invariant.0, c.self.inside.places.ok.0) in
-    let was : table_at items c.args.id ≡ Some c.in-Some.table = sym (get_or_read items c.args.id c.index_mut.result.now within c.index_mut.ensures.value None) ∙ c.in-Some.is in (
-      omega (arith, length-set {A = Option Table}, c.self.invariant.0),
-      names-stay (get_by_text c.self.inside.names) items c.args.id c.in-Some.table c.pass_to.new.self was (λ name. ap (λ (t : Table). is_named name (Some t.head)) c.pass_to.ensures) c.self.invariant.1,
-    )
+    let after = owned_by c.note_owner.new.owned.entries in
+    let kept = kept-notes names (owned_by c.self.inside.owned.entries) c.self.inside.fixed c.self.inside.lent items c.self.invariant after c.note_owner.ensures.stays in
+    subst (λ (ts : Tables). IsKept names after c.self.inside.fixed c.self.inside.lent ts) (sym c.pass_at.ensures) (kept-passed names after c.self.inside.fixed c.self.inside.lent items kept c.args.id c.args.owner c.in_default.ensures.ok)

@@ -6,5 +6,5 @@ use Rattle.ownership.proofs.world.World.whereis.Goals as goal
 
 pub returns : goal.returns
 returns g c =
-    c.copied.ensures ∙ c.get.ensures.value ∙ name-found _ _ c.self.invariant.1 c.text.result.now ∙ ap (find_named (heads c.self.inside.places.items)) c.text.ensures.text
+    c.copied.ensures ∙ c.get.ensures.value ∙ name-found _ _ c.self.invariant.by_name c.text.result.now ∙ ap (find_named (heads c.self.inside.places.items)) c.text.ensures.text
     ∙ ap (λ (v : World). whereis v.tables c.args.name.now) c.self.view_is

@@ -3,4 +3,4 @@ use Rattle.ownership.specs.inside.Ending.{posted}
 use Rattle.ownership.proofs.world.end.post_all.Given as goal
 
 abbrev pub invariant-loop-i : goal.invariant-loop-i
-invariant-loop-i g l = l.processes.entries ≡ posted l.fn.processes.entries l.pid (take l.i l.places)
+invariant-loop-i g l = l.processes.entries ≡ posted l.fn.processes.entries l.pid l.places (take l.i l.ids)

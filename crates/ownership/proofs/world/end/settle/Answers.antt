@@ -1,26 +1,33 @@
-use Rattle.std.proofs.Common.{◌≡◌, ◌<◌, Option, None, sym, ap, subst, ◌∙◌, length, get_or, arith}
-use Rattle.std.proofs.Math.ListN.{length-set}
-use Rattle.std.proofs.lemmas.List.{get_or_read}
-use Rattle.indexmap.specs.IndexMap.{get_by_text}
-use Rattle.ownership.specs.World.{Table, heads, head_of}
+use Rattle.std.proofs.Common.{◌≡◌, ◌⊎◌, ◌<◌, ◌+◌, ℕ, List, Option, inl, inr, refl, sym, ap, subst, ◌∙◌, length, get_or, map, drop, arith}
+use Rattle.ownership.specs.World.{Table, Tables}
 use Rattle.ownership.specs.End.{table_after}
-use Rattle.ownership.specs.inside.Names.{head_at, ByName}
-use Rattle.ownership.proofs.Heads.{heads-again, head-there, length-heads}
-use Rattle.ownership.proofs.Mapped.{map-more}
+use Rattle.ownership.specs.inside.Ending.{IsSettled}
+use Rattle.ownership.specs.inside.Indices.{Among}
+use Rattle.ownership.proofs.Ascending.{cut-at, none-left}
+use Rattle.ownership.proofs.Settling.{settled-twice, map-at, settled-next, settled-there}
 use Rattle.ownership.proofs.world.end.settle.Goals as goal
 
-pub loop-i-preserved : goal.loop-i-preserved
-loop-i-preserved g c =
-    let old = c.args.places.now.items in
-    let now = c.loop-i.places.items in
-    let i = c.loop-i.i in
-    let within : i < length old = omega (arith, c.loop-i-test.true, c.len-len.ensures, c.args.places.now.ok.0) in
-    let there : i < length now = omega (arith, within, c.loop-i.invariant.same) in
-    let place : i < length (heads now) = omega (arith, there, length-heads) in
-    let read : c.replace-table.result ≡ get_or now i c.replace-table.result = subst (λ x. x ≡ get_or now i x) (sym c.replace-table.ensures.value) c.index_mut.ensures.value in
-    let at : head_at (heads now) i ≡ head_of c.replace-table.result = head-there now i ∙ ap head_of (sym (get_or_read now i c.replace-table.result there read None)) in
+pub loop-id-preserved : goal.loop-id-preserved
+loop-id-preserved g c =
+    let after = table_after c.args.processes.now.entries c.args.pid in
+    let twice : (o : Option Table) → after (after o) ≡ after o = settled-twice c.args.processes.now.entries c.args.pid c.requires.dead in
+    let ids = c.args.ids.now in
+    let i = c.loop-id.id-index in
+    let id = get_or ids i 0 in
+    let tables = c.loop-id.places.items in
+    let within : i < length ids = omega (arith, c.loop-id-test.true) in
+    let is = c.settle_one.ensures.after in
     record {
-      done = map-more (table_after c.args.processes.now.entries c.args.pid) old now i c.replace-table.new.dest c.replace-table.result c.after.result within c.loop-i.invariant.done read c.after.ensures.after;
-      same = omega (arith, length-set {A = Option Table}, c.loop-i.invariant.same);
-      index = subst (ByName (get_by_text c.after.new.names)) (sym (heads-again now i c.replace-table.new.dest c.after.result)) (c.after.ensures.index (heads now) i place at c.loop-i.invariant.index);
+      index = c.settle_one.ensures.index;
+      same = ap (map after) is ∙ map-at after refl twice tables id ∙ c.loop-id.invariant.same;
+      here = λ t a. subst (λ (new : Tables). Among t (drop (i + 1) ids) ⊎ IsSettled after new t) (sym is)
+          (settled-next after refl twice tables id (drop (i + 1) ids) t (subst (λ (xs : List ℕ). Among t xs ⊎ IsSettled after tables t) (cut-at ids i within) (c.loop-id.invariant.here t a)));
+      there = λ t s. subst (λ (new : Tables). IsSettled after new t) (sym is) (settled-there after refl twice tables id t (c.loop-id.invariant.there t s));
     }
+
+pub returns-clause-settles : goal.returns-clause-settles
+returns-clause-settles g c = record {
+  same = c.loop-id.invariant.same;
+  here = λ t a. elim (c.loop-id.invariant.here t a) [ inl left ↦ absurd (none-left c.args.ids.now c.loop-id.id-index t (omega arith) left) | inr settled ↦ settled ];
+  there = c.loop-id.invariant.there;
+}

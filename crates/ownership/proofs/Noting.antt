@@ -1,0 +1,46 @@
+-- Tables that may be fixed: what is noted of the one that was lent, and what the end of a process makes of it.
+use Rattle.std.proofs.Common.{◌≡◌, ℕ, ◌<◌, ◌⊎◌, zero, suc, List, [], ◌∷◌, None, Some, Result, Ok, Err, OnOk, IsOk, inl, inr, sym, ap, subst, ◌∙◌, length, arith}
+use Rattle.std.proofs.lemmas.Option.{same_Some}
+use Rattle.ownership.specs.World.{Table, Tables, table_at}
+use Rattle.ownership.specs.inside.Indices.{Among, IsPutIn, IsIdle, AreNoted}
+
+pub is-there : (tables : Tables) (t : ℕ) (table : Table) → table_at tables t ≡ Some table → t < length tables
+is-there [] t table e = absurd (cc)
+is-there (x ∷ tables) zero table e = omega arith
+is-there (x ∷ tables) (suc t) table e = let rest = is-there tables t table e in omega (arith, rest)
+
+pub on-ok : {E : Type 0} {P : Type 0} (r : Result (Unit {0}) E) → IsOk r → OnOk r P → P
+on-ok (Ok done) h p = p
+on-ok (Err error) h p = absurd (cc)
+
+module _ (tables : Tables) (ids : List ℕ) (last : ℕ) (table : Table) (at : table_at tables last ≡ Some table) (noted : AreNoted ids (Some last) tables) where
+  -- the table lent last is put in
+  pub noted-put : (new : List ℕ) → IsPutIn ids last new → AreNoted new None tables
+  noted-put new put = record {
+    order = put.order 0 (length tables) (omega arith) (is-there tables last table at) noted.order;
+    each = λ t own there. by t own there (noted.each t own there);
+  }
+    where
+      by : (t : ℕ) (own : Table) → table_at tables t ≡ Some own → (Some last ≡ Some t) ⊎ Among t ids ⊎ IsIdle own.fixed → (None ≡ Some t) ⊎ Among t new ⊎ IsIdle own.fixed
+      by t own there (inl lent) = inr (inl (subst (λ i. Among i new) (same_Some _ _ lent) put.here))
+      by t own there (inr (inl among)) = inr (inl (put.more t among))
+      by t own there (inr (inr idle)) = inr (inr idle)
+
+  -- or it is idle
+  pub noted-idle : IsIdle table.fixed → AreNoted ids None tables
+  noted-idle is = record { order = noted.order; each = λ t own there. by t own there (noted.each t own there) }
+    where
+      by : (t : ℕ) (own : Table) → table_at tables t ≡ Some own → (Some last ≡ Some t) ⊎ Among t ids ⊎ IsIdle own.fixed → (None ≡ Some t) ⊎ Among t ids ⊎ IsIdle own.fixed
+      by t own there (inl lent) =
+          let same : Some own ≡ Some table = sym there ∙ ap (table_at tables) (sym (same_Some _ _ lent)) ∙ at in
+          inr (inr (subst (λ (x : Table). IsIdle x.fixed) (sym (same_Some _ _ same)) is))
+      by t own there (inr (inl among)) = inr (inl among)
+      by t own there (inr (inr idle)) = inr (inr idle)
+
+-- another is lent
+pub noted-lent : (ids : List ℕ) (id : ℕ) (tables : Tables) → AreNoted ids None tables → AreNoted ids (Some id) tables
+noted-lent ids id tables noted = record { order = noted.order; each = λ t own there. by t own (noted.each t own there) }
+  where
+    by : (t : ℕ) (own : Table) → (None ≡ Some t) ⊎ Among t ids ⊎ IsIdle own.fixed → (Some id ≡ Some t) ⊎ Among t ids ⊎ IsIdle own.fixed
+    by t own (inl lent) = absurd (cc)
+    by t own (inr other) = inr other

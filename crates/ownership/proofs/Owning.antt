@@ -1,0 +1,81 @@
+-- The index by owner: what is noted stays, and what the end of a process makes of it.
+use Rattle.std.proofs.Common.{◌≡◌, ℕ, ◌<◌, ◌⊎◌, nat_eq, Bool, true, false, cond, List, [], ◌∷◌, Option, Some, Result, Ok, Err, OnOk, OnErr, inl, inr, refl, sym, ap, subst, ◌∙◌, arith}
+use Rattle.std.specs.Option.{option_map_or}
+use Rattle.std.specs.declared.alloc.Global.{Global}
+use Rattle.std.specs.declared.vec.Vec.{Vec}
+use Rattle.std.proofs.lemmas.Bool.Decides.{nat_tests}
+use Rattle.ownership.specs.declared.head.Heir.{Heir}
+use Rattle.ownership.specs.World.{Table, Tables, Processes, table_at}
+use Rattle.ownership.specs.End.{living_heir}
+use Rattle.ownership.specs.inside.Indices.{Among, Between, IsPutIn, Notes, Ascend}
+
+pub same-number : (m n : ℕ) → nat_eq m n ≡ true → m ≡ n
+same-number m n h = grind (arith, nat_tests)
+
+own-number : (n : ℕ) → nat_eq n n ≡ true
+own-number n = grind (arith, nat_tests)
+
+-- what stands in an entry of the index
+abbrev pub ids_in : Option (Vec ℕ Global) → List ℕ
+ids_in entry = option_map_or (λ ids. ids.items) entry []
+
+module _ (before after : ℕ → Option (Vec ℕ Global)) (owner id : ℕ) (ids : Vec ℕ Global) (updated : (q : ℕ) → after q ≡ cond (nat_eq owner q) (Some ids) (before q)) where
+  now-is : (p : ℕ) (b : Bool) → nat_eq owner p ≡ b → ids_in (after p) ≡ cond b ids.items (ids_in (before p))
+  now-is p true e = ap ids_in (updated p) ∙ ap (λ b. ids_in (cond b (Some ids) (before p))) e
+  now-is p false e = ap ids_in (updated p) ∙ ap (λ b. ids_in (cond b (Some ids) (before p))) e
+
+  module _ (put : IsPutIn (ids_in (before owner)) id ids.items) (below : id < 4294967296) where
+    more-at : (b : Bool) (p t : ℕ) → nat_eq owner p ≡ b → Among t (ids_in (before p)) → Among t (cond b ids.items (ids_in (before p)))
+    more-at true p t e a = put.more t (subst (λ q. Among t (ids_in (before q))) (sym (same-number owner p e)) a)
+    more-at false p t e a = a
+
+    order-at : (b : Bool) (p : ℕ) → nat_eq owner p ≡ b → Ascend (λ q. ids_in (before q)) → Between 0 4294967296 (cond b ids.items (ids_in (before p)))
+    order-at true p e a = put.order 0 4294967296 (omega arith) below (a owner)
+    order-at false p e a = a p
+
+    -- an identifier more under an owner, in a new entry or one that was there
+    pub noted : Notes (λ p. ids_in (before p)) (λ p. ids_in (after p))
+    noted = record {
+      more = λ p t a. subst (Among t) (sym (now-is p (nat_eq owner p) refl)) (more-at (nat_eq owner p) p t refl a);
+      order = λ a p. subst (Between 0 4294967296) (sym (now-is p (nat_eq owner p) refl)) (order-at (nat_eq owner p) p refl a);
+    }
+
+    pub noted-here : Among id (ids_in (after owner))
+    noted-here = subst (Among id) (sym (now-is owner true (own-number owner))) put.here
+
+  same-at : (b : Bool) (p : ℕ) → nat_eq owner p ≡ b → ids.items ≡ ids_in (before owner) → cond b ids.items (ids_in (before p)) ≡ ids_in (before p)
+  same-at true p e s = s ∙ ap (λ q. ids_in (before q)) (same-number owner p e)
+  same-at false p e s = refl
+
+  -- an entry written back as it was
+  pub noted-same : ids.items ≡ ids_in (before owner) → Notes (λ p. ids_in (before p)) (λ p. ids_in (after p))
+  noted-same s =
+      let same : (p : ℕ) → ids_in (after p) ≡ ids_in (before p) = λ p. now-is p (nat_eq owner p) refl ∙ same-at (nat_eq owner p) p refl s in
+      record { more = λ p t a. subst (Among t) (sym (same p)) a; order = λ a p. subst (Between 0 4294967296) (sym (same p)) (a p) }
+
+-- the first that stands under an owner
+pub put-first : (id : ℕ) → IsPutIn [] id (id ∷ [])
+put-first id = record { here = inl refl; more = λ t a. absurd a; order = λ low high l u b. (l, omega (arith, u)) }
+
+pub notes-same : (owned : ℕ → List ℕ) → Notes owned owned
+notes-same owned = record { more = λ p t a. a; order = λ a. a }
+
+pub notes-more : (owned mid after : ℕ → List ℕ) → Notes owned mid → Notes mid after → Notes owned after
+notes-more owned mid after first next = record { more = λ p t a. next.more p t (first.more p t a); order = λ a. next.order (first.order a) }
+
+-- what it comes to that one is put in, or memory is refused
+pub noted-either : {E : Type 0} (r : Result (Unit {0}) E) (before after : ℕ → Option (Vec ℕ Global)) (owner id : ℕ) (ids : Vec ℕ Global) → ((q : ℕ) → after q ≡ cond (nat_eq owner q) (Some ids) (before q)) → id < 4294967296
+    → OnOk r (IsPutIn (ids_in (before owner)) id ids.items) → OnErr r (ids.items ≡ ids_in (before owner)) → Notes (λ p. ids_in (before p)) (λ p. ids_in (after p))
+noted-either (Ok done) before after owner id ids updated below put same = noted before after owner id ids updated put below
+noted-either (Err error) before after owner id ids updated below put same = noted-same before after owner id ids updated same
+
+pub inherited-more : (owned after : ℕ → List ℕ) (processes : Processes) (tables : Tables) (ids rest : List ℕ) (id : ℕ) → Notes owned after
+    → ((table : Table) (heir : Heir) → table_at tables id ≡ Some table → living_heir processes table.head ≡ Some heir → Among id (after heir.pid))
+    → ((t : ℕ) (table : Table) (heir : Heir) → Among t ids → table_at tables t ≡ Some table → living_heir processes table.head ≡ Some heir → Among t (id ∷ rest) ⊎ Among t (owned heir.pid))
+    → (t : ℕ) (table : Table) (heir : Heir) → Among t ids → table_at tables t ≡ Some table → living_heir processes table.head ≡ Some heir → Among t rest ⊎ Among t (after heir.pid)
+inherited-more owned after processes tables ids rest id notes here each t table heir a at lives = by (each t table heir a at lives)
+  where
+    by : Among t (id ∷ rest) ⊎ Among t (owned heir.pid) → Among t rest ⊎ Among t (after heir.pid)
+    by (inl (inl same)) = inr (subst (λ i. Among i (after heir.pid)) (sym same) (here table heir (ap (table_at tables) (sym same) ∙ at) lives))
+    by (inl (inr more)) = inl more
+    by (inr found) = inr (notes.more heir.pid t found)

@@ -1,0 +1,203 @@
+-- Tables settled one by one, where the process lives no more: those that are neither its own nor noted are settled from the first.
+use Rattle.std.proofs.Common.{◌≡◌, ℕ, ◌⊎◌, nat_eq, zero, suc, Bool, true, false, cond, List, [], ◌∷◌, Option, None, Some, inl, inr, refl, sym, ap, subst, true≢false, ◌∙◌, length, set, map, filter}
+use Rattle.std.specs.Option.{option_map_or}
+use Rattle.std.proofs.Math.ListN.{get_or-map}
+use Rattle.std.specs.Prelude.{option_map, if◌then◌else◌}
+use Rattle.std.specs.Ordering.{nat_cmp, eq_by_cmp}
+use Rattle.std.specs.Cmp.{nat_cmp_total}
+use Rattle.std.specs.FinMap.{remove, get, get-remove, same_map, nat_cmp-IsAntisymmetric}
+use Rattle.std.proofs.lemmas.Bool.{cases_eq}
+use Rattle.std.proofs.lemmas.Option.{same_Some}
+use Rattle.std.proofs.lemmas.List.{get_or-set_other, length-map}
+use Rattle.bucket_table.specs.Slots.{purged}
+use Rattle.fixed_walk.specs.Fixes.{FixCounts, is_fixed}
+use Rattle.fixed_walk.specs.Fixed.{Fixed, all_released}
+use Rattle.fixed_walk.proofs.HeldLaws.{free-release_all, purged-none}
+use Rattle.ownership.specs.declared.head.Head.{Head}
+use Rattle.ownership.specs.declared.head.Heir.{Heir}
+use Rattle.ownership.specs.World.{Table, Tables, Processes, table_at, lives}
+use Rattle.ownership.specs.Heads.{owned_by}
+use Rattle.ownership.specs.End.{living_heir, let_go, table_after}
+use Rattle.ownership.specs.Tables.{passed_to}
+use Rattle.ownership.specs.inside.Ending.{IsSettled, Settles}
+use Rattle.ownership.specs.inside.Indices.{Among, Between, IsIdle, AreNoted, AreOwned, is_fixed_at}
+use Rattle.ownership.proofs.Ascending.{among-filter, between-filter}
+use Rattle.ownership.proofs.Owning.{same-number}
+
+-- ---- to let go twice is to let go once
+gone-twice : (m : FixCounts) (p : ℕ) → remove (remove m p) p ≡ remove m p
+gone-twice m p = same_map nat_cmp_total nat_cmp-IsAntisymmetric _ _ (λ q. get-remove nat_cmp_total (remove m p) p q ∙ either (eq_by_cmp nat_cmp q p) q refl)
+  where
+    either : (b : Bool) (q : ℕ) → eq_by_cmp nat_cmp q p ≡ b → cond b None (get (remove m p) q) ≡ get (remove m p) q
+    either true q e = sym (get-remove nat_cmp_total m p q ∙ ap (λ b. cond b None (get m q)) e)
+    either false q e = refl
+
+released-at : (b : Bool) (f : Fixed) (p : ℕ) → is_fixed (remove f.fixes p) ≡ b → all_released p (all_released p f) ≡ all_released p f
+released-at true f p e =
+    let once : all_released p f ≡ record f { fixes = remove f.fixes p } = rw e refl in
+    rw once (rw (gone-twice f.fixes p) (rw e refl))
+released-at false f p e =
+    let once : all_released p f ≡ record f { content = record f.content { slots = purged f.content.slots }; fixes = remove f.fixes p } = rw e refl in
+    rw once (sym (free-release_all p (record f { content = record f.content { slots = purged f.content.slots }; fixes = remove f.fixes p }) e (λ free. purged-none f.content.slots)))
+
+released-twice : (p : ℕ) (f : Fixed) → all_released p (all_released p f) ≡ all_released p f
+released-twice p f = released-at (is_fixed (remove f.fixes p)) f p refl
+
+-- an idle table is left as it is
+pub idle-stays : (p : ℕ) (f : Fixed) → IsIdle f → all_released p f ≡ f
+idle-stays p f idle = sym (free-release_all p f idle.0 (λ free. idle.1))
+
+-- ---- a table that is settled twice
+module _ (ps : Processes) (p : ℕ) (dead : lives ps p ≡ false) where
+  heir-lives : (head : Head) (heir : Heir) → living_heir ps head ≡ Some heir → lives ps heir.pid ≡ true
+  heir-lives head heir e = by head.heir e
+    where
+      at : (b : Bool) (own : Heir) → lives ps own.pid ≡ b → cond b (Some own) None ≡ Some heir → lives ps heir.pid ≡ true
+      at true own l e = let same : own ≡ heir = same_Some _ _ e in ap (λ (h : Heir). lives ps h.pid) (sym same) ∙ l
+      at false own l e = absurd (cc)
+
+      by : (o : Option Heir) → living_heir ps (record head { heir = o }) ≡ Some heir → lives ps heir.pid ≡ true
+      by None e = absurd (cc)
+      by (Some own) e = at (lives ps own.pid) own refl e
+
+  other-pid : (q : ℕ) → lives ps q ≡ true → nat_eq q p ≡ false
+  other-pid q l = by (nat_eq q p) refl
+    where
+      by : (b : Bool) → nat_eq q p ≡ b → b ≡ false
+      by true e = let same : q ≡ p = same-number q p e in absurd (true≢false (sym l ∙ ap (lives ps) same ∙ dead))
+      by false e = refl
+
+  twice-at : (b : Bool) (table : Table) (h : Option Heir) → owned_by table.head p ≡ b → living_heir ps table.head ≡ h → table_after ps p (table_after ps p (Some table)) ≡ table_after ps p (Some table)
+  twice-at true table None own e =
+      let once : table_after ps p (Some table) ≡ None = rw (own, e) refl in
+      rw once refl
+  twice-at true table (Some heir) own e =
+      let once : table_after ps p (Some table) ≡ Some (passed_to heir.pid (let_go p table)) = rw (own, e) refl in
+      let other : nat_eq heir.pid p ≡ false = other-pid heir.pid (heir-lives table.head heir e) in
+      rw once (rw other (ap (λ f. Some (record (passed_to heir.pid table) { fixed = f })) (released-twice p table.fixed)))
+  twice-at false table h own e =
+      let once : table_after ps p (Some table) ≡ Some (let_go p table) = rw own refl in
+      rw once (rw own (ap (λ f. Some (record table { fixed = f })) (released-twice p table.fixed)))
+
+  pub settled-twice : (o : Option Table) → table_after ps p (table_after ps p o) ≡ table_after ps p o
+  settled-twice None = refl
+  settled-twice (Some table) = twice-at (owned_by table.head p) table (living_heir ps table.head) refl refl
+
+  -- an idle table of another is settled
+  pub settled-idle : (table : Table) → owned_by table.head p ≡ false → IsIdle table.fixed → table_after ps p (Some table) ≡ Some table
+  settled-idle table other idle = rw other (ap (λ f. Some (record table { fixed = f })) (idle-stays p table.fixed idle))
+
+-- ---- lists of tables that are settled at places
+module _ (after : Option Table → Option Table) (empty : after None ≡ None) (twice : (o : Option Table) → after (after o) ≡ after o) where
+  pub map-at : (tables : Tables) (t : ℕ) → map after (set tables t (after (table_at tables t))) ≡ map after tables
+  map-at [] t = refl
+  map-at (o ∷ tables) zero = ap (λ x. x ∷ map after tables) (twice o)
+  map-at (o ∷ tables) (suc t) = ap (λ rest. after o ∷ rest) (map-at tables t)
+
+  pub settled-here : (tables : Tables) (t : ℕ) → IsSettled after (set tables t (after (table_at tables t))) t
+  settled-here [] t = empty
+  settled-here (o ∷ tables) zero = twice o
+  settled-here (o ∷ tables) (suc t) = settled-here tables t
+
+  settled-still : (tables : Tables) (t u : ℕ) → IsSettled after tables u → (u ≡ t) ⊎ (u ≡ t → ⊥) → IsSettled after (set tables t (after (table_at tables t))) u
+  settled-still tables t u s (inl same) = subst (IsSettled after (set tables t (after (table_at tables t)))) (sym same) (settled-here tables t)
+  settled-still tables t u s (inr other) =
+      let there = get_or-set_other tables t u (after (table_at tables t)) None other in
+      ap after there ∙ s ∙ sym there
+
+  pub settled-there : (tables : Tables) (t u : ℕ) → IsSettled after tables u → IsSettled after (set tables t (after (table_at tables t))) u
+  settled-there tables t u s = settled-still tables t u s (cases_eq u t)
+
+  -- one more of them is settled
+  pub settled-next : (tables : Tables) (id : ℕ) (rest : List ℕ) (t : ℕ) → Among t (id ∷ rest) ⊎ IsSettled after tables t → Among t rest ⊎ IsSettled after (set tables id (after (table_at tables id))) t
+  settled-next tables id rest t (inl (inl same)) = inr (subst (IsSettled after (set tables id (after (table_at tables id)))) (sym same) (settled-here tables id))
+  settled-next tables id rest t (inl (inr more)) = inl more
+  settled-next tables id rest t (inr settled) = inr (settled-there tables id t settled)
+
+-- a place that is written twice
+pub written-again : (tables : Tables) (t : ℕ) (d o : Option Table) → set (set tables t d) t o ≡ set tables t o
+written-again [] t d o = refl
+written-again (x ∷ tables) zero d o = refl
+written-again (x ∷ tables) (suc t) d o = ap (λ rest. x ∷ rest) (written-again tables t d o)
+
+-- where all are settled nothing comes of them
+all-settled : (after : Option Table → Option Table) (tables : Tables) → ((t : ℕ) → IsSettled after tables t) → map after tables ≡ tables
+all-settled after [] s = refl
+all-settled after (o ∷ tables) s = let here = s 0 in let rest = all-settled after tables (λ t. s (suc t)) in λ i. here i ∷ rest i
+
+-- ---- what an end makes of the tables
+pub record Left (ps : Processes) (p : ℕ) (o : Option Table) (new : Table) : Type 0 where
+  pub table : Table
+  pub was : o ≡ Some table
+  pub fixed : new.fixed ≡ all_released p table.fixed
+  pub head : (new.head ≡ table.head × (owned_by table.head p ≡ false)) ⊎ ((heir : Heir) × (living_heir ps table.head ≡ Some heir) × (owned_by table.head p ≡ true) × (new.head ≡ record table.head { owner = heir.pid }))
+
+module _ (ps : Processes) (p : ℕ) where
+  left-at : (b : Bool) (h : Option Heir) (table new : Table) → owned_by table.head p ≡ b → living_heir ps table.head ≡ h
+      → (if b then option_map (λ (heir : Heir). passed_to heir.pid (let_go p table)) h else Some (let_go p table)) ≡ Some new → Left ps p (Some table) new
+  left-at true None table new own l e = absurd (cc)
+  left-at true (Some heir) table new own l e =
+      let same : passed_to heir.pid (let_go p table) ≡ new = same_Some _ _ e in
+      record { table = table; was = refl; fixed = ap (λ (t : Table). t.fixed) (sym same); head = inr (heir, l, own, ap (λ (t : Table). t.head) (sym same)) }
+  left-at false h table new own l e =
+      let same : let_go p table ≡ new = same_Some _ _ e in
+      record { table = table; was = refl; fixed = ap (λ (t : Table). t.fixed) (sym same); head = inl (ap (λ (t : Table). t.head) (sym same), own) }
+
+  pub left-over : (o : Option Table) (new : Table) → table_after ps p o ≡ Some new → Left ps p o new
+  left-over None new e = absurd (cc)
+  left-over (Some table) new e =
+      left-at (owned_by table.head p) (living_heir ps table.head) table new refl refl e
+
+released-idle-at : (b : Bool) (p : ℕ) (f : Fixed) → is_fixed (remove f.fixes p) ≡ b → is_fixed (all_released p f).fixes ≡ false → IsIdle (all_released p f)
+released-idle-at true p f e free =
+    let once : all_released p f ≡ record f { fixes = remove f.fixes p } = rw e refl in
+    absurd (true≢false (sym e ∙ ap (λ (g : Fixed). is_fixed g.fixes) (sym once) ∙ free))
+released-idle-at false p f e free =
+    let once : all_released p f ≡ record f { content = record f.content { slots = purged f.content.slots }; fixes = remove f.fixes p } = rw e refl in
+    subst IsIdle (sym once) (e, purged-none f.content.slots)
+
+-- a table of which a process has let go, and that nobody fixes any more, is idle
+pub released-idle : (p : ℕ) (f : Fixed) → is_fixed (all_released p f).fixes ≡ false → IsIdle (all_released p f)
+released-idle p f free = released-idle-at (is_fixed (remove f.fixes p)) p f refl free
+
+module _ (ps : Processes) (p : ℕ) (dead : lives ps p ≡ false) (old : Tables) (own fixed : List ℕ) (noted : AreNoted fixed None old) (owned : AreOwned own p old) where
+  settled-first : (t : ℕ) (o : Option Table) → table_at old t ≡ o → Among t own ⊎ Among t fixed ⊎ (table_after ps p o ≡ o)
+  settled-first t None e = inr (inr refl)
+  settled-first t (Some table) e = by (owned_by table.head p) refl (noted.each t table e)
+    where
+      by : (b : Bool) → owned_by table.head p ≡ b → (None ≡ Some t) ⊎ Among t fixed ⊎ IsIdle table.fixed → Among t own ⊎ Among t fixed ⊎ (table_after ps p (Some table) ≡ Some table)
+      by true is n = inl (owned t table e is)
+      by false is (inl lent) = absurd (cc)
+      by false is (inr (inl among)) = inr (inl among)
+      by false is (inr (inr idle)) = inr (inr (settled-idle ps p dead table is idle))
+
+  -- to settle its own and those that are noted is to settle all
+  pub settles-all : (mid new : Tables) → Settles (table_after ps p) own old mid → Settles (table_after ps p) fixed mid new → new ≡ map (table_after ps p) old
+  settles-all mid new first next = sym (all-settled (table_after ps p) new each) ∙ next.same ∙ first.same
+    where
+      by : (t : ℕ) → Among t own ⊎ Among t fixed ⊎ (table_after ps p (table_at old t) ≡ table_at old t) → IsSettled (table_after ps p) new t
+      by t (inl mine) = next.there t (first.here t mine)
+      by t (inr (inl among)) = next.here t among
+      by t (inr (inr settled)) = next.there t (first.there t settled)
+
+      each : (t : ℕ) → IsSettled (table_after ps p) new t
+      each t = by t (settled-first t (table_at old t) refl)
+
+  -- what is noted of them afterwards
+  pub noted-after : (new : Tables) → new ≡ map (table_after ps p) old → AreNoted (filter (is_fixed_at new) fixed) None new
+  noted-after new is = record {
+    order = subst (λ n. Between 0 n (filter (is_fixed_at new) fixed)) (sym (ap (λ (ts : Tables). length ts) is ∙ length-map old (table_after ps p))) (between-filter (is_fixed_at new) 0 (length old) fixed noted.order);
+    each = λ t table there. each t table there (left-over ps p (table_at old t) table (sym (get_or-map (table_after ps p) old t None) ∙ ap (λ ts. table_at ts t) (sym is) ∙ there));
+  }
+    where
+      fixed-at : (t : ℕ) (table was : Table) → table_at new t ≡ Some table → table.fixed ≡ all_released p was.fixed → Among t fixed → (b : Bool) → is_fixed table.fixed.fixes ≡ b → Among t (filter (is_fixed_at new) fixed) ⊎ IsIdle table.fixed
+      fixed-at t table was there f a true e = inl (among-filter (is_fixed_at new) fixed t (ap (λ o. option_map_or (λ (x : Table). is_fixed x.fixed.fixes) o false) there ∙ e) a)
+      fixed-at t table was there f a false e = inr (subst IsIdle (sym f) (released-idle p was.fixed (ap (λ (g : Fixed). is_fixed g.fixes) (sym f) ∙ e)))
+
+      by : (t : ℕ) (table was : Table) → table_at new t ≡ Some table → table.fixed ≡ all_released p was.fixed → (None ≡ Some t) ⊎ Among t fixed ⊎ IsIdle was.fixed → (None ≡ Some t) ⊎ Among t (filter (is_fixed_at new) fixed) ⊎ IsIdle table.fixed
+      by t table was there f (inl lent) = absurd (cc)
+      by t table was there f (inr (inl among)) = inr (fixed-at t table was there f among (is_fixed table.fixed.fixes) refl)
+      by t table was there f (inr (inr idle)) = inr (inr (subst IsIdle (sym (f ∙ idle-stays p was.fixed idle)) idle))
+
+      each : (t : ℕ) (table : Table) → table_at new t ≡ Some table → Left ps p (table_at old t) table → (None ≡ Some t) ⊎ Among t (filter (is_fixed_at new) fixed) ⊎ IsIdle table.fixed
+      each t table there left = by t table left.table there left.fixed (noted.each t left.table left.was)

@@ -1,0 +1,75 @@
+-- The lists of identifiers beside the tables: under each process those that it ever came to own, and those that may be fixed.
+use Rattle.std.specs.Prelude.{◌≡◌, ◌≤◌, ◌<◌, ◌⊎◌, ℕ, suc, ◌==◌, Bool, true, false, List, [], ◌∷◌, Option, Some, length, vec_capacity}
+use Rattle.std.specs.Option.{option_map_or}
+use Rattle.std.specs.Map.{lookup}
+use Rattle.std.specs.declared.alloc.Global.{Global}
+use Rattle.std.specs.declared.vec.Vec.{Vec}
+use Rattle.fixed_walk.specs.Fixes.{is_fixed}
+use Rattle.fixed_walk.specs.Fixed.{Fixed, NoneHeld}
+use Rattle.ownership.specs.declared.head.Head.{Head}
+use Rattle.ownership.specs.declared.head.Heir.{Heir}
+use Rattle.ownership.specs.World.{Table, Tables, Processes, table_at, heads}
+use Rattle.ownership.specs.End.{living_heir}
+use Rattle.ownership.specs.inside.Names.{head_at, ByName}
+
+abbrev pub Among : ℕ → List ℕ → Type 0
+Among t [] = ⊥
+Among t (id ∷ ids) = (t ≡ id) ⊎ Among t ids
+
+-- they ascend, from one bound on and below another
+abbrev pub Between : ℕ → ℕ → List ℕ → Type 0
+Between low high [] = low ≤ high
+Between low high (id ∷ ids) = (low ≤ id) × Between (suc id) high ids
+
+-- one is put in at its place
+pub record IsPutIn (old : List ℕ) (id : ℕ) (new : List ℕ) : Type 0 where
+  pub here : Among id new
+  pub more : (t : ℕ) → Among t old → Among t new
+  pub order : (low high : ℕ) → low ≤ id → id < high → Between low high old → Between low high new
+
+-- the identifiers that stand under an owner
+abbrev pub owned_by : List (ℕ × Vec ℕ Global) → ℕ → List ℕ
+owned_by entries p = option_map_or (λ ids. ids.items) (lookup (λ q. p == q) entries) []
+
+-- under each they ascend
+abbrev pub Ascend : (ℕ → List ℕ) → Type 0
+Ascend owned = (p : ℕ) → Between 0 4294967296 (owned p)
+
+-- an owner leads to all tables of its own, and perhaps to others
+abbrev pub ByOwner : (ℕ → List ℕ) → List (Option Head) → Type 0
+ByOwner owned hs = (t : ℕ) (head : Head) → head_at hs t ≡ Some head → Among t (owned head.owner)
+
+-- all tables of an owner are among these
+abbrev pub AreOwned : List ℕ → ℕ → Tables → Type 0
+AreOwned ids p tables = (t : ℕ) (table : Table) → table_at tables t ≡ Some table → (table.head.owner == p) ≡ true → Among t ids
+
+-- more may stand under owners
+pub record Notes (old new : ℕ → List ℕ) : Type 0 where
+  pub more : (p t : ℕ) → Among t (old p) → Among t (new p)
+  pub order : Ascend old → Ascend new
+
+-- each of these tables stands under its heir, where that lives
+abbrev pub AreInherited : (ℕ → List ℕ) → Processes → Tables → List ℕ → Type 0
+AreInherited owned processes tables ids = (t : ℕ) (table : Table) (heir : Heir) → Among t ids → table_at tables t ≡ Some table → living_heir processes table.head ≡ Some heir → Among t (owned heir.pid)
+
+-- nobody fixes the table, and no slot of it is held
+abbrev pub IsIdle : Fixed → Type 0
+IsIdle table = (is_fixed table.fixes ≡ false) × NoneHeld table.content.slots
+
+-- whether there is a table that somebody fixes
+abbrev pub is_fixed_at : Tables → ℕ → Bool
+is_fixed_at tables t = option_map_or (λ table. is_fixed table.fixed.fixes) (table_at tables t) false
+
+-- the identifiers ascend, and a table that is not among them is idle, but for the one that was lent last
+pub record AreNoted (ids : List ℕ) (lent : Option ℕ) (tables : Tables) : Type 0 where
+  pub order : Between 0 (length tables) ids
+  pub each : (t : ℕ) (table : Table) → table_at tables t ≡ Some table → (lent ≡ Some t) ⊎ Among t ids ⊎ IsIdle table.fixed
+
+-- what stands beside the tables goes with them
+pub record IsKept (names : List ℕ → Option ℕ) (owned : ℕ → List ℕ) (fixed : Vec ℕ Global) (lent : Option ℕ) (tables : Tables) : Type 0 where
+  pub few : length tables < 4294967296
+  pub room : length tables ≤ vec_capacity fixed
+  pub by_name : ByName names (heads tables)
+  pub by_owner : ByOwner owned (heads tables)
+  pub order : Ascend owned
+  pub noted : AreNoted fixed.items lent tables

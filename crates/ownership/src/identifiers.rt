@@ -1,0 +1,21 @@
+// Identifiers of tables, in ascending order.
+ghost use Rattle.std.specs.Prelude.{◌≡◌, ◌<◌, ◌≤◌, ℕ, OnOk, OnErr, IsOk, vec_capacity};
+ghost use Rattle.ownership.specs.inside.Indices.{Between, IsPutIn};
+
+use std::alloc::AllocError;
+
+/// Puts one in at its place, if it is not there.
+pub fn put_in(ids: &mut Vec<u32>, id: u32) -> Result<(), AllocError>
+    ensures ok { OnOk result (IsPutIn ids.old.items id ids.new.items) }
+    ensures err { OnErr result (ids.new.items ≡ ids.old.items) }
+    ensures room { (hi : ℕ) → Between 0 hi ids.old.items → id < hi → hi ≤ vec_capacity ids.old → IsOk result }
+    ensures capacity { vec_capacity ids.old ≤ vec_capacity ids.new }
+{
+    match ids.binary_search(&id) {
+        Ok(_) => Ok(()),
+        Err(place) => {
+            ids.insert(place, id)?;
+            Ok(())
+        }
+    }
+}
