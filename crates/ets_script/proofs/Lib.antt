@@ -9,3 +9,4 @@ mod Arguments
 mod Fronts
 mod Defaults
 mod CommandLine
+mod Tending

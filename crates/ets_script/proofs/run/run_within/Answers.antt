@@ -8,3 +8,6 @@ returns-in_default-clause-err g c = not_begun (at_start (empty c.args.limits)) (
 
 pub returns-in_default-new-clause-err : goal.returns-in_default-new-clause-err
 returns-in_default-new-clause-err g c = not_begun (at_start (empty c.args.limits)) (g.R.Read.remaining c.args.reader.now) (g.W.Write.contents c.args.writer.now)
+
+pub returns-in_err-answer_all-clause-err : goal.returns-in_err-answer_all-clause-err
+returns-in_err-answer_all-clause-err g c = ?

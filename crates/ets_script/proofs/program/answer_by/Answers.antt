@@ -1,0 +1,4 @@
+use Rattle.ets_script.proofs.program.answer_by.Goals as goal
+
+pub returns : goal.returns
+returns g c = ?
