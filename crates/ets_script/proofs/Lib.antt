@@ -10,3 +10,4 @@ mod Fronts
 mod Defaults
 mod CommandLine
 mod Tending
+mod Asking
