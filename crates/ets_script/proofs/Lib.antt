@@ -9,3 +9,5 @@ mod Arguments
 mod Fronts
 mod Defaults
 mod CommandLine
+mod Tending
+mod Asking

@@ -1,6 +1,7 @@
 -- What has been read and written when a script ends.
 use Rattle.std.proofs.Common.{◌≡◌, ℕ, suc, ◌≤◌, ◌<◌, ◌⊎◌, true, false, List, [], ◌++◌, length, take, drop, refl, sym, ap, ◌∙◌, subst, Option, inl, inr, append-nil, append_assoc}
-use Rattle.std.specs.Prelude.{⊤, Result, Ok, Err, OnOk, OnErr}
+use Rattle.std.specs.Prelude.{⊤, Result, Ok, Err, IfErr, OnOk, OnErr}
+use Rattle.std.specs.Result.{IsErrAnd}
 use Rattle.std.proofs.lemmas.List.{nil_from_length}
 use Rattle.std.proofs.lemmas.Bool.{true≢false}
 use Rattle.std.specs.Io.KnownBytes.{Appends, Consumes, Keeps, IsAtEnd}
@@ -12,6 +13,7 @@ use Rattle.ets_script.specs.inside.Feeds.{Held, Refills, EndsLine, Waits}
 use Rattle.ets_script.specs.inside.Output.{Sends, Breaks}
 use Rattle.ets_script.specs.inside.Answered.{AnswersPart, EndsAll, BreaksAtEnd}
 use Rattle.ets_script.specs.declared.answer.Answer.{Answer}
+use Rattle.ets_script.specs.declared.fault.ScriptFault.{ScriptFault}
 use Rattle.ets_script.specs.declared.fault.ScriptFault.TheVariants as faults
 use Rattle.ets_script.proofs.KnownBytes.{sends_on, breaks_on, breaks_more, appends_same, appends_more, kept_left, same_known, taken_front, the_none, unheld}
 use Rattle.ets_script.proofs.AnsweredLines.{last_lines, no_more, none_is, then_line, weaker_line}
@@ -138,3 +140,9 @@ pub end_err : {T E : Type 0} (r : Result T E) (h : Held) (s1 s2 : Scripted) (p1 
 end_err (Ok x) h s1 s2 p1 p2 w1 w2 w3 answer answers printed_so broken = tt
 end_err (Err e) h s1 s2 p1 p2 w1 w2 w3 answer answers printed_so broken =
     record { answer = answer; answers = answers; broken = breaks_on w1 w2 w3 (p1 ++ printed answer) p2 printed_so broken }
+
+-- a fault is told as it was found
+pub stop_told : {N : Type 0} (start : Scripted) (before after old new : Option (List ℕ)) (r : Result N ScriptFault) (fault : ScriptFault) → IsErrAnd r (λ told. told ≡ fault)
+    → Stops start before after old new fault → IfErr r (Stops start before after old new)
+stop_told start before after old new (Ok x) fault told stops = tt
+stop_told start before after old new (Err e) fault told stops = subst (Stops start before after old new) (sym told) stops

@@ -19,9 +19,6 @@ use node_core::{Call, Limits, Node, Reply, Step};
 use std::alloc::{AllocError, Global};
 use std::marker::Model;
 
-/// The most steps that are due and are done behind a call.
-const DUE_STEPS: u32 = 2;
-
 /// The names that were spawned, in order, and the node.
 #[derive(Drop)]
 pub struct Script<H: KeyHash + Copy + Drop> {
@@ -135,17 +132,12 @@ impl<H: KeyHash + Copy + Drop> Script<H> {
         }
     }
 
-    /// Does what is due of the node's tables, at most two steps of it, which no call can see. Without memory it waits for a
-    /// later call.
+    /// Does at most two steps that are due, which no call can see.
     fn tend(&mut self)
         ensures { self.new ≡ self.old }
     {
-        for _ in 0..DUE_STEPS {
-            let Some(due) = self.node.due() else {
-                return;
-            };
-            let _ = self.node.step(&due);
-        }
+        do_due(&mut self.node);
+        do_due(&mut self.node);
     }
 
     /// Enrols the next number for a name. Room for the name is made first.
@@ -189,4 +181,14 @@ fn enrol<H: KeyHash + Copy + Drop>(
         Ok(reply) => Answer::Replied(reply),
         Err(_) => Answer::NoMemory,
     }
+}
+
+/// Does the step that is due, if any. Without memory for it, it stays due.
+fn do_due<H: KeyHash + Copy + Drop>(node: &mut Node<H>)
+    ensures { seen node.new ≡ seen node.old }
+{
+    let Some(due) = node.due() else {
+        return;
+    };
+    let _ = node.step(&due);
 }

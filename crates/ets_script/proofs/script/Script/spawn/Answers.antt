@@ -2,6 +2,7 @@ use Rattle.std.proofs.Common.{◌≡◌, length, map, sym, ap, ◌∙◌, refl, 
 use Rattle.std.specs.Prelude.{vec_items}
 use Rattle.std.specs.Str.{bytes_eq}
 use Rattle.std.proofs.lemmas.List.{length-map}
+use Rattle.node_core.specs.Seen.{seen}
 use Rattle.node_core.specs.State.{State}
 use Rattle.ets_script.specs.Script.{Scripted, pid_of}
 use Rattle.ets_script.specs.inside.Enrolments.{Enrols}
@@ -20,5 +21,5 @@ returns g c =
     let same : map vec_items c.reserve.new.self.keys ≡ c.args.self.now.names = ap (λ k. map vec_items k) kept ∙ ap (λ (s : Scripted). s.names) c.self.view_is in
     let count : c.in-Ok.number ≡ length c.self.inside.names.keys = search rules in
     let counted : c.in-Ok.number ≡ length c.args.self.now.names = count ∙ sym (length-map c.self.inside.names.keys vec_items) ∙ ap (λ (s : Scripted). length s.names) c.self.view_is in
-    let did = subst (λ (n : State). Enrols (map vec_items c.reserve.new.self.keys) n c.in-Ok.number c.in-Ok-from_slice.name.items c.enrol.result (map vec_items c.enrol.new.names.keys) c.enrol.new.node) (ap (λ (s : Scripted). s.node) c.self.view_is) c.enrol.ensures.enrolled in
-    rw is (spawned c.args.self.now (record { names = map vec_items c.enrol.new.names.keys; node = c.enrol.new.node }) (map vec_items c.reserve.new.self.keys) c.in-Ok.number c.args.name.now c.in-Ok-from_slice.name.items c.enrol.result same counted c.in-Ok-from_slice.ensures.items did)
+    let did = subst (λ (n : State). Enrols (map vec_items c.reserve.new.self.keys) n c.in-Ok.number c.in-Ok-from_slice.name.items c.enrol.result (map vec_items c.enrol.new.names.keys) (seen c.enrol.new.node)) (ap (λ (s : Scripted). s.node) c.self.view_is) c.enrol.ensures.enrolled in
+    rw is (spawned c.args.self.now (record { names = map vec_items c.enrol.new.names.keys; node = seen c.enrol.new.node }) (map vec_items c.reserve.new.self.keys) c.in-Ok.number c.args.name.now c.in-Ok-from_slice.name.items c.enrol.result same counted c.in-Ok-from_slice.ensures.items did)

@@ -1,0 +1,2 @@
+% No process of this name was spawned.
+p lookup(t,a)

@@ -1,0 +1,5 @@
+% The offset of the fault that is noticed first.
+p f([a,
+p insert(t,{a,1|2})
+p insert(t,{a,1.5})
+p insert(t,9223372036854775808)

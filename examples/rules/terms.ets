@@ -1,0 +1,5 @@
+% Terms are printed in one way.
+spawn p
+p new(t,[named_table])
+p insert(t,{'A b',<<"hi">>,"ab",-0})
+p lookup(t,'A b')
