@@ -10,6 +10,7 @@ use std::test::Fail;
 use table_ops::Table;
 
 const MANY: u32 = 300;
+
 const GONE: u32 = 1_000;
 
 /// The option of an heir, as the only one.

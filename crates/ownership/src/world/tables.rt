@@ -82,12 +82,7 @@ impl<R: Rows> World<R> {
         ensures* lends { sem 𝓛 (LendsTable R.row R.Rows self.entry id result) }
         ensures value { option_copied_mut result ≡ option_map (λ table. table.fixed) (table_at self.old.tables id) }
     {
-        lend(
-            &mut self.fixed,
-            self.places.as_slice(),
-            &mut self.lent,
-            id,
-        );
+        lend(&mut self.fixed, self.places.as_slice(), &mut self.lent, id);
         let place = self.places.get_mut(id as usize)?;
         let table = place.as_mut()?;
         Some(table.walked_mut())
@@ -186,12 +181,7 @@ impl<R: Rows> World<R> {
             drop(table);
             return Err(error);
         }
-        lend(
-            &mut self.fixed,
-            self.places.as_slice(),
-            &mut self.lent,
-            id,
-        );
+        lend(&mut self.fixed, self.places.as_slice(), &mut self.lent, id);
         self.places.push_reserved(Some(table));
         Ok(())
     }
