@@ -144,7 +144,11 @@ fn answer_last<W: Write, H: KeyHash + Copy + Drop>(
 }
 
 /// Answers a part of a line as a line. An empty one is silent.
-fn answer_part<H: KeyHash + Copy + Drop>(alloc: Global, feed: &Feed, script: &mut Script<H>) -> Answer
+fn answer_part<H: KeyHash + Copy + Drop>(
+    alloc: Global,
+    feed: &Feed,
+    script: &mut Script<H>,
+) -> Answer
     ensures { AnswersPart feed.now.is_skipping script.old feed.now.bytes result script.new }
 {
     if feed.is_skipping() {

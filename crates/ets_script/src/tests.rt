@@ -80,14 +80,7 @@ fn is_run_by<H: KeyHash + Copy + Drop>(
         fails_to_flush: run.devices.fails_to_flush,
         seen: &seen,
     };
-    let done = run_within(
-        alloc,
-        &mut source,
-        &mut target,
-        run.limits,
-        hash,
-        run.reads,
-    );
+    let done = run_within(alloc, &mut source, &mut target, run.limits, hash, run.reads);
     target.taken.as_slice() == answers
         && end_of(done) == end
         && (end == End::Write || seen.is_all_flushed(answers.len()))
