@@ -1,6 +1,5 @@
 -- What is told of the command line's words.
-use Rattle.std.proofs.Common.{zero, suc, ◌≡◌, ◌⊎◌, ◌∙◌, ◌++◌, ◌||◌, ◌-◌, ◌^◌, ◌<◌, ◌≤◌, sym, ap, subst, refl, inl, inr, arith, ℕ, Bool, true, false, List, [], ◌∷◌, length, codes, Option, Some, None, Result, Ok, Err}
-use Rattle.std.specs.Borrow.{Bor}
+use Rattle.std.proofs.Common.{zero, suc, ◌≡◌, ◌⊎◌, ◌∙◌, ◌++◌, ◌||◌, ◌-◌, ◌<◌, ◌≤◌, sym, ap, subst, refl, inl, inr, arith, ℕ, Bool, true, false, List, [], ◌∷◌, length, codes, Option, Some, None, Result, Ok, Err}
 use Rattle.std.specs.List.{All, slice_index_or}
 use Rattle.std.specs.Result.{IsErrAnd}
 use Rattle.std.specs.Prelude.{pos, unwrap_or}

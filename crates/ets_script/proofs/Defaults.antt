@@ -1,14 +1,14 @@
 -- An argument that has a default has a value, and is read as its parser says.
-use Rattle.std.proofs.Common.{zero, suc, ◌≡◌, ◌⊎◌, ◌∙◌, ◌++◌, subst, ◌<◌, ◌≤◌, ap, ℕ, Bool, true, false, List, [], ◌∷◌, length, is_some, Option, Some, None, refl, sym, inl, inr, arith}
-use Rattle.std.specs.List.{All, Any, slice_index_or}
+use Rattle.std.proofs.Common.{zero, suc, ◌≡◌, ◌∙◌, subst, ◌<◌, ◌≤◌, ap, ℕ, Bool, true, false, List, [], ◌∷◌, length, is_some, Option, Some, None, refl, sym, inl, inr, arith}
+use Rattle.std.specs.List.{All, slice_index_or}
 use Rattle.std.specs.Str.{bytes_eq}
-use Rattle.std.specs.Prelude.{find, option_map, unwrap_or, slice_get}
+use Rattle.std.specs.Prelude.{find, option_map, slice_get}
 use Rattle.std.specs.Borrow.{Bor}
-use Rattle.std.proofs.lemmas.List.Elements.{All-get_or, All-drop}
+use Rattle.std.proofs.lemmas.List.Elements.{All-get_or}
 use Rattle.std.proofs.lemmas.Slice.Eq.{bytes_eq-Decides}
-use Rattle.clap.specs.Facts.{Entry, EntryPasses, HasIn, HasReading, IsParsed, PassesArg, WantsDefault, args_of, groups_of, least_values, parser_of, parser_of_value}
+use Rattle.clap.specs.Facts.{Entry, EntryPasses, HasIn, PassesArg, WantsDefault, args_of, groups_of, least_values, parser_of, parser_of_value}
 use Rattle.clap.specs.Built.{IsPlain, IsParsedFrom, IsAuto, SameRules}
-use Rattle.clap.specs.Matches.{matched_of, first_value, one_text, found_of, has_subcommand}
+use Rattle.clap.specs.Matches.{matched_of, one_text, found_of}
 use Rattle.clap.specs.Values.{Accepts, read_as, reading_of}
 use Rattle.clap.specs.declared.builder.action.ArgAction.TheVariants.{Count, Set}
 use Rattle.clap.specs.declared.builder.arg.Arg.{Arg}

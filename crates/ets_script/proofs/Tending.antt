@@ -1,7 +1,7 @@
 -- What calls can see of a node. What is due grows a table, or readies a bucket of one; so it changes nothing that a call can see.
 use Rattle.std.proofs.Common.{suc, ◌≡◌, ◌∙◌, ap, subst, refl, ℕ, Bool, true, false, List, [], ◌∷◌, Option, Some, None, Result, Ok, Err, cond}
-use Rattle.std.specs.Prelude.{⊤, ◌+◌, IfOk, OnErr, option_map, position, not, length, nat_lt, unwrap_or, ◌&&◌, ◌*◌}
-use Rattle.std.specs.Option.{option_map_or, option_and_then}
+use Rattle.std.specs.Prelude.{⊤, IfOk, OnErr, option_map, position, not, length, nat_lt, unwrap_or, ◌&&◌, ◌*◌}
+use Rattle.std.specs.Option.{option_map_or}
 use Rattle.ets_term.specs.declared.term.Term.{Term}
 use Rattle.ownership.specs.World.{Table, Tables, resolve}
 use Rattle.node_core.specs.State.{State, next_identifier}

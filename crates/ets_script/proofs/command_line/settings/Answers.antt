@@ -1,9 +1,9 @@
-use Rattle.std.proofs.Common.{rules, map, ◌≡◌, ◌∙◌, ap, ap₂, refl, sym, ℕ, true, List, Option, Some, []}
+use Rattle.std.proofs.Common.{rules, map, ◌≡◌, ◌∙◌, ap, ap₂, refl}
 use Rattle.std.specs.Prelude.{option_map, pos, codes}
 use Rattle.std.specs.Str.Parse.{ExplainsUnsignedError, HasUnsignedDigitsIfOk, ParsesUnsigned}
 use Rattle.clap.specs.declared.builder.value_parser.ValueParser.TheVariants.{Signed}
 use Rattle.clap.specs.Words.{app_of, first_of, found_of, matches_of, rule_of, with_rule}
-use Rattle.ets_script.specs.CommandLine.{Settles, TakesNames, command_line, is_named, hash_names, hash_option, objects_option}
+use Rattle.ets_script.specs.CommandLine.{TakesNames, command_line, is_named, hash_names, hash_option, objects_option}
 use Rattle.ets_script.proofs.CommandLine.{lacks_memory, refuses, answers, faults, rows, hash_text, objects_read, spelled}
 use Rattle.ets_script.proofs.command_line.settings.Goals as goal
 

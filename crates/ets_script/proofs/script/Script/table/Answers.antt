@@ -1,4 +1,4 @@
-use Rattle.std.proofs.Common.{◌≡◌, ◌∙◌, ℕ, List, Option, Some, None, ap, sym}
+use Rattle.std.proofs.Common.{◌≡◌, ◌∙◌, ℕ, Option, Some, None, ap, sym}
 use Rattle.std.specs.Prelude.{map, unwrap_or, vec_items}
 use Rattle.ownership.specs.World.{resolve}
 use Rattle.node_core.specs.State.{next_identifier}
