@@ -1,5 +1,6 @@
 //! Scripts and their answers, as docs/script.md has them.
 mod devices;
+mod due;
 mod faults;
 mod limits;
 mod long;
