@@ -13,20 +13,20 @@ const MANY: u32 = 300;
 
 const GONE: u32 = 1_000;
 
-/// The option of an heir, as the only one.
-fn heir_options(alloc: Global, heir: u32) -> Result<NewOptions, WorldFault> {
+/// The option of an heir, as the only one of the list.
+fn heir_options(alloc: Global, heir: u32) -> Result<Term, WorldFault> {
     let mut entry = Items::new(alloc);
     entry.push(term(alloc, "heir")?)?;
     entry.push(Term::Pid(heir))?;
     entry.push(Term::Int(1))?;
     let mut list = Items::new(alloc);
     list.push(Term::Tuple(entry))?;
-    NewOptions::read(alloc, &Term::List(list))
+    Ok(Term::List(list))
 }
 
 /// A table of the process, with this heir.
 fn make(alloc: Global, world: &mut Tables, pid: u32, heir: u32) -> Result<(), WorldFault> {
-    let options = heir_options(alloc, heir)?;
+    let options = NewOptions::read(alloc, &heir_options(alloc, heir)?)?;
     let Term::Atom(name) = term(alloc, "t")? else {
         return Err(WorldFault::Badarg);
     };
@@ -96,16 +96,16 @@ fn seventy_tables_go_to_one_heir(rt: HostRuntime) -> Result<(), Fail> {
 
 /// The heir of a table, and the process that fixes it.
 fn heir_of(id: u32) -> u32 {
-    (id * 17 + 1) % MANY
+    id.wrapping_mul(17).wrapping_add(1) % MANY
 }
 
 fn fixer_of(id: u32) -> u32 {
-    (id * 11 + 5) % MANY
+    id.wrapping_mul(11).wrapping_add(5) % MANY
 }
 
 /// Who ends as the so manieth.
 fn ending(turn: u32) -> u32 {
-    turn * 7 % MANY
+    turn.wrapping_mul(7) % MANY
 }
 
 fn is_ended(pid: u32, turns: u32) -> bool {
