@@ -53,17 +53,17 @@ gives-lawful answer old after unseen same follows = record {
 }
 
 -- a call that changes nothing
-tells-lawful : (answer : Reply) (old : State) → IsLawfulCall old (gives answer old) (gives answer (seen old))
+pub tells-lawful : (answer : Reply) (old : State) → IsLawfulCall old (gives answer old) (gives answer (seen old))
 tells-lawful answer old = gives-lawful answer old old (seen old) refl (follows-same old.world.tables old.world.tables refl)
 
 -- one that tells the same of what is seen
 tells-as : (answer other : Reply) (old : State) → other ≡ answer → IsLawfulCall old (gives answer old) (gives other (seen old))
 tells-as answer other old same = subst (λ (r : Reply). IsLawfulCall old (gives answer old) (gives r (seen old))) (sym same) (tells-lawful answer old)
 
-abbrev Either : Bool → Outcome → Outcome → Outcome
+abbrev pub Either : Bool → Outcome → Outcome → Outcome
 Either test own otherwise reply new = MatchBool test (own reply new) (otherwise reply new)
 
-either-lawful : (old : State) (test : Bool) (own otherwise own' otherwise' : Outcome) → IsLawfulCall old own own' → IsLawfulCall old otherwise otherwise' → IsLawfulCall old (Either test own otherwise) (Either test own' otherwise')
+pub either-lawful : (old : State) (test : Bool) (own otherwise own' otherwise' : Outcome) → IsLawfulCall old own own' → IsLawfulCall old otherwise otherwise' → IsLawfulCall old (Either test own otherwise) (Either test own' otherwise')
 either-lawful old true own otherwise own' otherwise' a b = a
 either-lawful old false own otherwise own' otherwise' a b = b
 

@@ -1,9 +1,11 @@
 pub mod Arguments
 pub mod CallLaws
 pub mod Changes
+pub mod EndKeys
 pub mod Fixing
 pub mod Following
 pub mod Growing
+pub mod Reached
 pub mod Removals
 pub mod Runs
 pub mod Seen

@@ -32,10 +32,10 @@ stays-there old new follows t was table before after = subst (λ (o : Option Tab
 pub buckets-kept : (old new : State) → Follows old.world.tables new.world.tables → KeepsBuckets old new
 buckets-kept old new follows t was table before after = let stays = stays-there old new follows t was table before after in stays.fixed.buckets
 
-enrol-call : (old : State) (p : ℕ) → IsLawfulCall old (step old (Enrol p)) (step (seen old) (Enrol p))
+pub enrol-call : (old : State) (p : ℕ) → IsLawfulCall old (step old (Enrol p)) (step (seen old) (Enrol p))
 enrol-call old p = asks-lawful old (λ _. Value (Pid p)) (tables.Enrol old.world p) (tables.Enrol (seen_world old.world) p) (enrol-lawful old.world p)
 
-end-call : (old : State) (p : ℕ) → IsLawfulCall old (step old (End p)) (step (seen old) (End p))
+pub end-call : (old : State) (p : ℕ) → IsLawfulCall old (step old (End p)) (step (seen old) (End p))
 end-call old p = asks-lawful old (λ _. true_reply) (ends.End old.world p) (ends.End (seen_world old.world) p) (end-lawful old.world p)
 
 module _ (old new : State) (reply : Reply) where

@@ -1,5 +1,5 @@
--- What the rules of the calls do to the table that they change: they do not see its buckets, and leave them; no key gets a second slot, and
--- while the table is fixed its keys stay, in their order.
+-- What the rules of the calls do to the table that they change: they do not see its buckets, and leave them; no key gets a second slot, none
+-- is '$end_of_table', and while the table is fixed its keys stay, in their order.
 use Rattle.std.proofs.Common.{◌≡◌, ℕ, ◌-◌, Bool, true, false, cond, List, Option, None, Some, Result, Ok, Err, refl, sym, subst, ap, ◌∙◌}
 use Rattle.std.specs.Prelude.{MatchOption}
 use Rattle.std.specs.Bool.{MatchBool}
@@ -13,9 +13,9 @@ use Rattle.counters.specs.declared.ops.Ops.{Ops}
 use Rattle.counters.specs.declared.elements.ElementSpecs.{ElementSpecs}
 use Rattle.table_ops.specs.declared.refusal.Refusal.{Refusal}
 use Rattle.table_ops.specs.declared.refusal.Refusal.TheVariants.{Badarg, SystemLimit, Memory}
-use Rattle.table_ops.specs.Content.{Content}
+use Rattle.table_ops.specs.Content.{Content, key_of}
 use Rattle.table_ops.specs.Refusals.{Change, Comes, gives}
-use Rattle.table_ops.specs.Drop.{Which, of_key, each, DeletesObject}
+use Rattle.table_ops.specs.Drop.{Which, of_key, each, equal_to, without_those, DeletesObject}
 use Rattle.table_ops.specs.Put.{Inserts, InsertsNew}
 use Rattle.table_ops.specs.Queries.{chosen_count, matches, is_chosen}
 use Rattle.table_ops.specs.Read.{all_objects}
@@ -29,6 +29,7 @@ use Rattle.fixed_walk.proofs.KeptLaws.{insert-keeps, insert_new-keeps, update_co
 use Rattle.node_core.specs.declared.step.Reply.{Reply}
 use Rattle.node_core.specs.Seen.{seen_fixed}
 use Rattle.node_core.specs.Access.{Rule, IsReply, replies}
+use Rattle.node_core.proofs.EndKeys.{NoEnd, StaysFree, unchanged-free, dropped-free, purged-free, inserts-free, news-free, counter-free, element-free}
 use Rattle.node_core.specs.rules.Insertion.{objects_in, Insert, InsertNew}
 use Rattle.node_core.specs.rules.Removal.{without, Take, Delete, DeleteObject, DeleteAllObjects}
 use Rattle.node_core.specs.rules.Searching.{Deletes, DeletesMatching, DeletesChosen, MatchDelete, SelectDelete}
@@ -39,6 +40,7 @@ use Rattle.node_core.specs.rules.Walking.{Fixes, Releases}
 pub record IsTame (old new : Fixed) : Type 0 where
   pub buckets : new.buckets ≡ old.buckets
   pub keys : KeepsKeys old new
+  pub ends : StaysFree old.content.slots new.content.slots
 
 -- what is shown of each rule
 pub record IsLawful (rule : Rule) : Type 0 where
@@ -51,10 +53,14 @@ record IsLawfulChange (X : Type 0) (change : Fixed → Change X Fixed) : Type 0 
   tame : (old new : Fixed) (r : Result X Refusal) → Comes (change old) old r new → IsTame old new
 
 pub tame-same : (old new : Fixed) → new ≡ old → IsTame old new
-tame-same old new e = record { buckets = ap (λ (f : Fixed). f.buckets) e; keys = rows-keep old new (ap (λ (f : Fixed). f.content) e) }
+tame-same old new e = record {
+  buckets = ap (λ (f : Fixed). f.buckets) e;
+  keys = rows-keep old new (ap (λ (f : Fixed). f.content) e);
+  ends = unchanged-free old.content new.content (ap (λ (f : Fixed). f.content) e);
+}
 
 tame-without : (which : Which) (old : Fixed) → IsTame old (without which old)
-tame-without which old = record { buckets = refl; keys = delete-keeps which old }
+tame-without which old = record { buckets = refl; keys = delete-keeps which old; ends = dropped-free (is_fixed old.fixes) which old.content.slots }
 
 comes-of : {X : Type 0} (answer : X → Reply) (change : Change X Fixed) (old new : Fixed) (r : Result X Refusal) (reply : Reply) → change r new → IsReply answer r reply → Comes change old r new
 comes-of answer change old new (Ok x) reply h e = h
@@ -75,20 +81,30 @@ content-buckets change old new (Err Badarg) h = ap (λ (f : Fixed). f.buckets) h
 content-buckets change old new (Err SystemLimit) h = ap (λ (f : Fixed). f.buckets) h.1
 content-buckets change old new (Err Memory) h = ap (λ (f : Fixed). f.buckets) h
 
-content-tame : {X : Type 0} (change : Content → Change X Content) → AlwaysKeeps (λ hold. change) → (old new : Fixed) (r : Result X Refusal) → Comes (on_content change old) old r new → IsTame old new
-content-tame change keeps old new r h = record { buckets = content-buckets change old new r h; keys = keeps old new r h }
+-- no slot gets the key '$end_of_table' by the change
+abbrev NeverEnds : {X : Type 0} → (Content → Change X Content) → Type 0
+NeverEnds {X = X} change = (old new : Content) (r : Result X Refusal) → change old r new → StaysFree old.slots new.slots
+
+content-ends : {X : Type 0} (change : Content → Change X Content) → NeverEnds change → (old new : Fixed) (r : Result X Refusal) → Comes (on_content change old) old r new → StaysFree old.content.slots new.content.slots
+content-ends change never old new (Ok x) h = never old.content new.content (Ok x) h.0
+content-ends change never old new (Err Badarg) h = never old.content new.content (Err Badarg) h.0
+content-ends change never old new (Err SystemLimit) h = never old.content new.content (Err SystemLimit) h.0
+content-ends change never old new (Err Memory) h = unchanged-free old.content new.content (ap (λ (f : Fixed). f.content) h)
+
+content-tame : {X : Type 0} (change : Content → Change X Content) → AlwaysKeeps (λ hold. change) → NeverEnds change → (old new : Fixed) (r : Result X Refusal) → Comes (on_content change old) old r new → IsTame old new
+content-tame change keeps never old new r h = record { buckets = content-buckets change old new r h; keys = keeps old new r h; ends = content-ends change never old new r h }
 
 content-unseen : {X : Type 0} (change : Content → Change X Content) (old new : Fixed) (r : Result X Refusal) → on_content change old r new → on_content change (seen_fixed old) r (seen_fixed new)
 content-unseen change old new r h = (h.0, ap seen_fixed h.1)
 
-on-content : {X : Type 0} (change : Content → Change X Content) → AlwaysKeeps (λ hold. change) → IsLawfulChange X (on_content change)
-on-content change keeps = record { unseen = content-unseen change; tame = content-tame change keeps }
+on-content : {X : Type 0} (change : Content → Change X Content) → AlwaysKeeps (λ hold. change) → NeverEnds change → IsLawfulChange X (on_content change)
+on-content change keeps never = record { unseen = content-unseen change; tame = content-tame change keeps never }
 
 pub insert-lawful : (argument : Term) → IsLawful (Insert argument)
-insert-lawful argument = replied _ (on_content (Inserts (objects_in argument))) (on-content (Inserts (objects_in argument)) (insert-keeps (objects_in argument)))
+insert-lawful argument = replied _ (on_content (Inserts (objects_in argument))) (on-content (Inserts (objects_in argument)) (insert-keeps (objects_in argument)) (inserts-free (objects_in argument)))
 
 pub insert_new-lawful : (argument : Term) → IsLawful (InsertNew argument)
-insert_new-lawful argument = replied _ (on_content (InsertsNew (objects_in argument))) (on-content (InsertsNew (objects_in argument)) (insert_new-keeps (objects_in argument)))
+insert_new-lawful argument = replied _ (on_content (InsertsNew (objects_in argument))) (on-content (InsertsNew (objects_in argument)) (insert_new-keeps (objects_in argument)) (news-free (objects_in argument)))
 
 -- ---- removal
 pub take-lawful : (key : Term) → IsLawful (Take key)
@@ -112,10 +128,23 @@ delete_all-lawful = record {
 abbrev deletes : Term → Fixed → Change (Unit {0}) Fixed
 deletes object table = on_content (DeletesObject (is_fixed table.fixes) object) table
 
+-- the object's every instance goes
+object-at : (hold : Bool) (o : Option Term) (object : Term) (old new : Content) (r : Result (Unit {0}) Refusal)
+    → MatchOption o (gives (Err Badarg) old r new) (λ _. gives (Ok tt) (without_those hold (equal_to object) old) r new) → StaysFree old.slots new.slots
+object-at hold None object old new r h = unchanged-free old new h.1
+object-at hold (Some key) object old new r h = subst (λ (c : Content). StaysFree old.slots c.slots) (sym h.1) (dropped-free hold (equal_to object) old.slots)
+
+object-done : (object : Term) (old new : Fixed) (r : Result (Unit {0}) Refusal) → deletes object old r new → IsTame old new
+object-done object old new r h = record {
+  buckets = ap (λ (f : Fixed). f.buckets) h.1;
+  keys = delete_object-keeps object old new r h;
+  ends = object-at (is_fixed old.fixes) (key_of old.content.keypos object) object old.content new.content r h.0;
+}
+
 object-tame : (object : Term) (old new : Fixed) (r : Result (Unit {0}) Refusal) → Comes (deletes object old) old r new → IsTame old new
-object-tame object old new (Ok x) h = record { buckets = ap (λ (f : Fixed). f.buckets) h.1; keys = delete_object-keeps object old new (Ok x) h }
-object-tame object old new (Err Badarg) h = record { buckets = ap (λ (f : Fixed). f.buckets) h.1; keys = delete_object-keeps object old new (Err Badarg) h }
-object-tame object old new (Err SystemLimit) h = record { buckets = ap (λ (f : Fixed). f.buckets) h.1; keys = delete_object-keeps object old new (Err SystemLimit) h }
+object-tame object old new (Ok x) h = object-done object old new (Ok x) h
+object-tame object old new (Err Badarg) h = object-done object old new (Err Badarg) h
+object-tame object old new (Err SystemLimit) h = object-done object old new (Err SystemLimit) h
 object-tame object old new (Err Memory) h = tame-same old new h
 
 pub delete_object-lawful : (object : Term) → IsLawful (DeleteObject object)
@@ -159,7 +188,7 @@ module _ (key : Term) (default : Option Term) where
 
   counts-tame : (o : Option Ops) (old new : Fixed) (r : Result Term Refusal) → Comes (CountsBy o old) old r new → IsTame old new
   counts-tame None old new r h = gave-tame (Err Badarg) old old new r (tame-same old old refl) h
-  counts-tame (Some ops) old new r h = content-tame (UpdatesCounter key ops default) (update_counter-keeps key ops default) old new r h
+  counts-tame (Some ops) old new r h = content-tame (UpdatesCounter key ops default) (update_counter-keeps key ops default) (counter-free key ops default) old new r h
 
 pub update_counter-lawful : (key updates : Term) (default : Option Term) → IsLawful (UpdateCounter key updates default)
 update_counter-lawful key updates default = replied _ (Counts key updates default) (record {
@@ -177,7 +206,7 @@ module _ (key : Term) where
 
   writes-tame : (o : Option ElementSpecs) (old new : Fixed) (r : Result Bool Refusal) → Comes (WritesBy o old) old r new → IsTame old new
   writes-tame None old new r h = gave-tame (Err Badarg) old old new r (tame-same old old refl) h
-  writes-tame (Some specs) old new r h = content-tame (UpdatesElement key specs) (update_element-keeps key specs) old new r h
+  writes-tame (Some specs) old new r h = content-tame (UpdatesElement key specs) (update_element-keeps key specs) (element-free key specs) old new r h
 
 pub update_element-lawful : (key updates : Term) → IsLawful (UpdateElement key updates)
 update_element-lawful key updates = replied _ (WritesTold key updates) (record {
@@ -191,15 +220,15 @@ fixes-unseen p old new (Ok x) h = (h.0, ap seen_fixed h.1)
 fixes-unseen p old new (Err fault.SystemLimit) h = (h.0, ap seen_fixed h.1)
 fixes-unseen p old new (Err fault.Memory) h = (h.0, ap seen_fixed h.1)
 
-fixes-buckets : (p : ℕ) (old new : Fixed) (r : Result (Unit {0}) FixFault) → FixesOnce p old r new → new.buckets ≡ old.buckets
-fixes-buckets p old new (Ok x) h = ap (λ (f : Fixed). f.buckets) h.1
-fixes-buckets p old new (Err fault.SystemLimit) h = ap (λ (f : Fixed). f.buckets) h.1
-fixes-buckets p old new (Err fault.Memory) h = ap (λ (f : Fixed). f.buckets) h.1
+fixes-tame : (p : ℕ) (old new : Fixed) (r : Result (Unit {0}) FixFault) → FixesOnce p old r new → IsTame old new
+fixes-tame p old new (Ok x) h = record { buckets = ap (λ (f : Fixed). f.buckets) h.1; keys = fix-keeps p old new (Ok x) h; ends = unchanged-free old.content new.content (ap (λ (f : Fixed). f.content) h.1) }
+fixes-tame p old new (Err fault.SystemLimit) h = tame-same old new h.1
+fixes-tame p old new (Err fault.Memory) h = tame-same old new h.1
 
 pub fixes-lawful : (p : ℕ) → IsLawful (Fixes p)
 fixes-lawful p = record {
   unseen = λ old new reply h. (h.0, fixes-unseen p old new h.0 h.1, h.2);
-  tame = λ old new reply h. record { buckets = fixes-buckets p old new h.0 h.1; keys = fix-keeps p old new h.0 h.1 };
+  tame = λ old new reply h. fixes-tame p old new h.0 h.1;
 }
 
 either-seen : (b : Bool) (f g : Fixed) → cond b (seen_fixed f) (seen_fixed g) ≡ seen_fixed (cond b f g)
@@ -210,6 +239,10 @@ either-buckets : (b : Bool) (f g : Fixed) → g.buckets ≡ f.buckets → (cond 
 either-buckets true f g e = refl
 either-buckets false f g e = e
 
+either-free : (b : Bool) (f g : Fixed) → StaysFree f.content.slots g.content.slots → StaysFree f.content.slots (cond b f g).content.slots
+either-free true f g h free = free
+either-free false f g h free = h free
+
 abbrev without_held : Fixed → Fixed
 without_held table = record table { content = record table.content { slots = purged table.content.slots } }
 
@@ -219,8 +252,11 @@ settled-seen table = either-seen (is_fixed table.fixes) table (without_held tabl
 settled-buckets : (table : Fixed) → (settled table).buckets ≡ table.buckets
 settled-buckets table = either-buckets (is_fixed table.fixes) table (without_held table) refl
 
+settled-free : (table : Fixed) → StaysFree table.content.slots (settled table).content.slots
+settled-free table = either-free (is_fixed table.fixes) table (without_held table) (purged-free table.content.slots)
+
 released-tame : (p : ℕ) (old : Fixed) → IsTame old (released p old)
-released-tame p old = record { buckets = settled-buckets (record old { fixes = with_count old.fixes p (fix_count old.fixes p - 1) }); keys = release-keeps p old }
+released-tame p old = record { buckets = settled-buckets (record old { fixes = with_count old.fixes p (fix_count old.fixes p - 1) }); keys = release-keeps p old; ends = settled-free (record old { fixes = with_count old.fixes p (fix_count old.fixes p - 1) }) }
 
 pub releases-lawful : (p : ℕ) → IsLawful (Releases p)
 releases-lawful p = record {
@@ -232,4 +268,4 @@ pub all_released-seen : (p : ℕ) (table : Fixed) → all_released p (seen_fixed
 all_released-seen p table = settled-seen (record table { fixes = with_count table.fixes p 0 })
 
 pub all_released-tame : (p : ℕ) (old : Fixed) → IsTame old (all_released p old)
-all_released-tame p old = record { buckets = settled-buckets (record old { fixes = with_count old.fixes p 0 }); keys = release_all-keeps p old }
+all_released-tame p old = record { buckets = settled-buckets (record old { fixes = with_count old.fixes p 0 }); keys = release_all-keeps p old; ends = settled-free (record old { fixes = with_count old.fixes p 0 }) }

@@ -6,3 +6,4 @@ pub mod rules
 pub mod Calls
 pub mod Machine
 pub mod inside
+pub mod laws

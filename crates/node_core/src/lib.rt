@@ -11,6 +11,7 @@
 //! *Limits.* One node is one value: sharing it between threads is for the layer above.
 #![tactic(auto)]
 
+pub mod laws;
 mod limits;
 mod node;
 mod position;

@@ -1,0 +1,76 @@
+-- Whole walks (stdlib manual, module ets, safe_fixtable/2, first/1 and next/2), over the steps, the replies and the states of a run.
+use Rattle.std.specs.Prelude.{◌≡◌, ℕ, ◌==◌, ◌&&◌, Bool, true, false, if◌then◌else◌, List, [], ◌∷◌, Option, Some, None, MatchOption, codes}
+use Rattle.std.specs.List.{AllByRecursion, IsDistinct, Contains}
+use Rattle.std.specs.Option.{option_map_or}
+use Rattle.std.specs.Str.{bytes_eq}
+use Rattle.ets_term.specs.declared.term.Term.{Term}
+use Rattle.ets_term.specs.Order.{same}
+use Rattle.table_ops.specs.Content.{is_present}
+use Rattle.fixed_walk.specs.Fixes.{is_fixed}
+use Rattle.ownership.specs.World.{table_at, resolve}
+use Rattle.node_core.specs.declared.step.Reply.{Reply}
+use Rattle.node_core.specs.declared.step.Reply.TheVariants.{Value}
+use Rattle.node_core.specs.declared.step.Step.{Step}
+use Rattle.node_core.specs.declared.step.Step.TheVariants.{Ask}
+use Rattle.node_core.specs.State.{State}
+use Rattle.node_core.specs.Machine.{step, run}
+use Rattle.node_core.specs.rules.Walking.{key_reply}
+use Rattle.node_core.specs.laws.Reached.{IsReached}
+
+-- the states of a run, from the one before its first step to the one after its last
+abbrev pub states : (old : State) (steps : List Step) (replies : List Reply) (new : State) → run old steps replies new → List State
+states old [] [] new done = old ∷ []
+states old (s ∷ steps) (r ∷ replies) new done = old ∷ states done.0 steps replies new done.2
+states old [] (r ∷ replies) new done = absurd done
+states old (s ∷ steps) [] new done = absurd done
+
+-- whether a term names this table
+abbrev pub is_table : State → ℕ → Term → Bool
+is_table s t term = option_map_or (λ u. u == t) (resolve s.world.tables term) false
+
+-- what a call asks of the table for a walk: None is first, Some is next of this key; the outer None is any other call
+abbrev pub walk_call : State → ℕ → List ℕ → List Term → Option (Option Term)
+walk_call s t name (term ∷ []) = if bytes_eq name (codes "first") && is_table s t term then Some None else None
+walk_call s t name (term ∷ key ∷ []) = if bytes_eq name (codes "next") && is_table s t term then Some (Some key) else None
+walk_call s t name _ = None
+
+-- the same of a step, where this process asks
+abbrev pub walk_step : State → ℕ → ℕ → Step → Option (Option Term)
+walk_step s p t (Ask q call) = if q == p then walk_call s t call.name call.args else None
+walk_step s p t _ = None
+
+-- the reply is the next key, and the walk goes on from it; or it is the end, and no step is left
+abbrev pub Answers : Reply → List Step → List Term → (Term → List Term → Type 0) → Type 0
+Answers r steps [] Further = (r ≡ key_reply None) × (steps ≡ [])
+Answers r steps (key ∷ keys) Further = (r ≡ Value key) × Further key keys
+
+module _ (p t : ℕ) where
+  -- the calls of first and next that the process makes on the table are, in order, this one and next of each key that is answered
+  abbrev pub Walks : Option Term → List Term → (old : State) (steps : List Step) (replies : List Reply) (new : State) → run old steps replies new → Type 0
+  Walks call keys old [] [] new done = ⊥
+  Walks call keys old (s ∷ steps) (r ∷ replies) new done =
+      MatchOption (walk_step old p t s)
+      (Walks call keys done.0 steps replies new done.2)
+      (λ asked. (asked ≡ call) × Answers r steps keys (λ key keys. Walks (Some key) keys done.0 steps replies new done.2))
+  Walks call keys old [] (r ∷ replies) new done = ⊥
+  Walks call keys old (s ∷ steps) [] new done = ⊥
+
+-- whoever fixes the table
+abbrev pub is_fixed_in : ℕ → State → Bool
+is_fixed_in t s = option_map_or (λ table. is_fixed table.fixed.fixes) (table_at s.world.tables t) false
+
+-- whether a key has objects in the table
+abbrev pub is_present_in : ℕ → Term → State → Bool
+is_present_in t key s = option_map_or (λ table. is_present table.fixed.content.slots key) (table_at s.world.tables t) false
+
+-- no key comes twice, and each key that has objects in every state comes
+pub record IsWhole (t : ℕ) (stretch : List State) (keys : List Term) : Type 0 where
+  pub once : IsDistinct same keys
+  pub all : (key : Term) → AllByRecursion (λ s. is_present_in t key s ≡ true) stretch → Contains keys key
+
+-- in every run, each walk over a table that stays fixed is whole, whatever others do meanwhile
+abbrev pub WalksAreWhole : Type 0
+WalksAreWhole =
+    (old : State) (steps : List Step) (replies : List Reply) (new : State) (done : run old steps replies new) (p t : ℕ) (keys : List Term)
+    → IsReached old → AllByRecursion (λ s. is_fixed_in t s ≡ true) (states old steps replies new done) → Walks p t None keys old steps replies new done
+    → IsWhole t (states old steps replies new done) keys
