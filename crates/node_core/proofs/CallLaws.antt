@@ -1,5 +1,5 @@
 -- No call sees the buckets of a table, and after it each table stays or is new.
-use Rattle.std.proofs.Common.{◌≡◌, ℕ, Bool, true, false, List, [], ◌∷◌, Option, None, Some, option_map, option_and_then, Result, refl, sym, subst, ap, ◌∙◌, codes}
+use Rattle.std.proofs.Common.{◌≡◌, ℕ, Bool, true, false, List, [], ◌∷◌, Option, None, Some, option_map, option_and_then, refl, sym, subst, ap, ◌∙◌, codes}
 use Rattle.std.specs.Prelude.{MatchOption}
 use Rattle.std.specs.Bool.{MatchBool}
 use Rattle.std.specs.Option.{option_map_or}
@@ -8,11 +8,10 @@ use Rattle.ets_term.specs.declared.term.Term.{Term, out-Term}
 use Rattle.ets_term.specs.declared.term.Term.TheVariants.{Tid}
 use Rattle.ets_term.specs.Atoms.{text_of, is_atom}
 use Rattle.fixed_walk.specs.Fixed.{Fixed}
-use Rattle.ownership.specs.declared.fault.WorldFault.{WorldFault}
 use Rattle.ownership.specs.declared.info.InfoItem.{InfoItem}
 use Rattle.ownership.specs.declared.info.InfoItem.TheVariants as item
 use Rattle.ownership.specs.declared.options.NewOptions.{NewOptions}
-use Rattle.ownership.specs.World.{Table, Tables, World, table_at, resolve, whereis}
+use Rattle.ownership.specs.World.{Table, table_at, resolve, whereis}
 use Rattle.ownership.specs.Info.{item_of, info_of}
 use Rattle.ownership.specs.Options.{options_of, pid_form}
 use Rattle.ownership.specs.Outcomes as world
@@ -24,7 +23,7 @@ use Rattle.node_core.specs.declared.step.Reply.{Reply}
 use Rattle.node_core.specs.declared.step.Reply.TheVariants.{Value, Badarg}
 use Rattle.node_core.specs.State.{State, Outcome, gives}
 use Rattle.node_core.specs.Seen.{seen_fixed, seen_table, seen_tables, seen}
-use Rattle.node_core.specs.Access.{allowed, usable, with_table, Rule, IsWorldReply, asks, reads, changes, writes}
+use Rattle.node_core.specs.Access.{usable, with_table, Rule, asks, reads, changes}
 use Rattle.node_core.specs.Calls.{called, calls_of_none, calls_of_one, table_calls_of_two, search_calls_of_two, object_calls_of_two, calls_of_three, calls_of_four, call}
 use Rattle.node_core.specs.rules.Insertion.{Insert, InsertNew}
 use Rattle.node_core.specs.rules.Reading.{Lookup, Member, LookupElement, Tab2list}

@@ -19,32 +19,29 @@ use Rattle.counters.specs.declared.fault.CounterFault.{CounterFault}
 use Rattle.counters.specs.declared.ops.Ops.{Ops}
 use Rattle.table_ops.specs.declared.kind.Kind.{Kind}
 use Rattle.table_ops.specs.declared.refusal.Refusal.{Refusal}
-use Rattle.table_ops.specs.declared.refusal.Refusal.TheVariants.{Badarg, SystemLimit, Memory}
-use Rattle.table_ops.specs.Content.{Content, key_of, is_object, objects_under}
+use Rattle.table_ops.specs.declared.refusal.Refusal.TheVariants.{Badarg, SystemLimit}
+use Rattle.table_ops.specs.Content.{Content, is_object, objects_under}
 use Rattle.table_ops.specs.Drop.{Which, left, dropped}
 use Rattle.table_ops.specs.Put.{add, Writes, PutsAll, Stores, Inserts, InsertsNew, is_taken}
 use Rattle.table_ops.specs.Refusals.{gives}
+use Rattle.node_core.specs.laws.Reached.{HasNoEnd}
 use Rattle.table_ops.specs.Update.{is_set, ops_open, specs_open, is_good, with_object, Counts, Starts, CountsUnder, UpdatesCounter, WritesElements, WritesUnder, UpdatesElement}
 
 abbrev pub is_end : Term → Bool
 is_end key = is_atom (codes "$end_of_table") key
 
--- no slot has this key
-abbrev pub NoEnd : List Slot → Type 0
-NoEnd slots = AllByRecursion (λ key. is_end key ≡ false) (keys_of slots)
-
--- so a change keeps it
+-- a change keeps it so
 abbrev pub StaysFree : List Slot → List Slot → Type 0
-StaysFree old new = NoEnd old → NoEnd new
+StaysFree old new = HasNoEnd old → HasNoEnd new
 
 same-free : (old new : List Slot) → keys_of new ≡ keys_of old → StaysFree old new
 same-free old new e free = subst (AllByRecursion (λ key. is_end key ≡ false)) (sym e) free
 
 pub unchanged-free : (old new : Content) → new ≡ old → StaysFree old.slots new.slots
-unchanged-free old new e free = subst (λ (t : Content). NoEnd t.slots) (sym e) free
+unchanged-free old new e free = subst (λ (t : Content). HasNoEnd t.slots) (sym e) free
 
 -- ---- fewer slots
-one_fewer : (b : Bool) (s new : Slot) (rest : List Slot) → new.0 ≡ s.0 → is_end s.0 ≡ false → NoEnd rest → NoEnd (cond b (new ∷ rest) rest)
+one_fewer : (b : Bool) (s new : Slot) (rest : List Slot) → new.0 ≡ s.0 → is_end s.0 ≡ false → HasNoEnd rest → HasNoEnd (cond b (new ∷ rest) rest)
 one_fewer true s new rest e own free = (ap is_end e ∙ own, free)
 one_fewer false s new rest e own free = free
 
@@ -57,19 +54,19 @@ purged-free [] free = tt
 purged-free (s ∷ ss) free = one_fewer (has_objects s.1) s s (purged ss) refl free.0 (purged-free ss free.1)
 
 -- ---- one slot more
-between : (front back : List Slot) (s : Slot) → is_end s.0 ≡ false → NoEnd (front ++ back) → NoEnd (front ++ s ∷ back)
+between : (front back : List Slot) (s : Slot) → is_end s.0 ≡ false → HasNoEnd (front ++ back) → HasNoEnd (front ++ s ∷ back)
 between [] back s own free = (own, free)
 between (f ∷ front) back s own free = (free.0, between front back s own free.1)
 
 enters-free : (old new : List Slot) (key : Term) (os : List Term) → is_end key ≡ false → Enters old key os new → StaysFree old new
-enters-free old new key os own e free = subst NoEnd (sym e.after) (between e.front e.back (key, os) own (subst NoEnd e.before free))
+enters-free old new key os own e free = subst HasNoEnd (sym e.after) (between e.front e.back (key, os) own (subst HasNoEnd e.before free))
 
 filled-free : (old : List Slot) (key : Term) (os : List Term) → StaysFree old (with_objects old key os)
 filled-free old key os = same-free old (with_objects old key os) (keys-set_value (same key) old os)
 
 writes_at : (found : Option (List Term)) (old new : List Slot) (key : Term) (os : List Term) → is_end key ≡ false → MatchOption found (Enters old key os new) (λ _. new ≡ with_objects old key os) → StaysFree old new
 writes_at None old new key os own w free = enters-free old new key os own w free
-writes_at (Some c) old new key os own w free = subst NoEnd (sym w) (filled-free old key os free)
+writes_at (Some c) old new key os own w free = subst HasNoEnd (sym w) (filled-free old key os free)
 
 writes-free : (old new : List Slot) (key : Term) (os : List Term) → is_end key ≡ false → Writes old key os new → StaysFree old new
 writes-free old new key os own w = writes_at (objects_of old key) old new key os own w
@@ -84,7 +81,7 @@ key-free None key h = cc
 key-free (Some k) key h = key-at (is_end k) k key refl h
 
 all-free : (kind : Kind) (keypos : ℕ) (objects : List Term) (old new : List Slot) → PutsAll kind keypos old objects new → StaysFree old new
-all-free kind keypos [] old new p free = subst NoEnd (sym p) free
+all-free kind keypos [] old new p free = subst HasNoEnd (sym p) free
 all-free kind keypos (o ∷ os) old new p free =
     all-free kind keypos os p.2.0 new p.2.2 (writes-free old p.2.0 p.0 (add kind (objects_under old p.0) o) (key-free (element_at keypos o) p.0 p.1) p.2.1 free)
 

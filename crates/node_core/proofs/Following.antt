@@ -1,9 +1,7 @@
 -- What a step does to each table: it stays, with its name and its buckets, and keeps its keys; or it is new.
-use Rattle.std.proofs.Common.{◌≡◌, ℕ, zero, suc, ◌⊎◌, inl, inr, Bool, true, false, ◌&&◌, cond, List, [], ◌∷◌, ◌++◌, Option, None, Some, option_map, refl, sym, subst, ap, ◌∙◌, length, map, true≢false}
-use Rattle.std.specs.Prelude.{MatchOption, slice_set, is_some}
+use Rattle.std.proofs.Common.{◌≡◌, ℕ, zero, suc, ◌⊎◌, inl, inr, true, [], ◌∷◌, ◌++◌, Option, None, Some, option_map, refl, sym, subst, ap, ◌∙◌, length, map}
+use Rattle.std.specs.Prelude.{MatchOption, slice_set}
 use Rattle.fixed_walk.specs.Fixed.{Fixed}
-use Rattle.fixed_walk.specs.laws.Kept.{KeepsKeys}
-use Rattle.ownership.specs.declared.head.Head.{Head}
 use Rattle.ownership.specs.World.{Table, Tables, table_at, whereis, with_fixed, fixed_in}
 use Rattle.ownership.specs.Tables.{changed}
 use Rattle.node_core.proofs.SeenRules.{IsTame, tame-same}

@@ -11,6 +11,9 @@ pub mod Runs
 pub mod Seen
 pub mod SeenRules
 pub mod SeenTables
+pub mod Steps
 pub mod Trees
+pub mod WalkCalls
+pub mod WholeWalks
 pub mod WorldLaws
 pub mod Worlds

@@ -1,13 +1,11 @@
 -- What steps keep, every state has that a run reaches from one that has it.
-use Rattle.std.proofs.Common.{◌≡◌, ℕ, ◌<◌, ◌≤◌, ◌⊎◌, inl, inr, Bool, true, false, ◌&&◌, not, List, [], ◌∷◌, Option, None, Some, refl, sym, subst, ap, ◌∙◌, length, position, true≢false}
-use Rattle.std.specs.Prelude.{MatchOption}
+use Rattle.std.proofs.Common.{◌≡◌, ℕ, true, ◌&&◌, not, List, [], ◌∷◌, Option, None, Some, refl, sym, subst, ap, ◌∙◌, true≢false}
 use Rattle.std.specs.List.{IsDistinct, list_any}
 use Rattle.std.specs.Str.{bytes_eq}
 use Rattle.std.proofs.lemmas.Slice.Eq.{bytes_eq-Decides}
 use Rattle.ets_term.specs.Depth.{is_too_deep}
 use Rattle.ets_term.specs.Order.{same}
-use Rattle.bucket_table.specs.Slots.{Slot, HasDistinctKeys}
-use Rattle.ownership.specs.declared.head.Head.{Head}
+use Rattle.bucket_table.specs.Slots.{HasDistinctKeys}
 use Rattle.ownership.specs.World.{Table, Tables, table_at, head_of, heads, is_named, whereis, lives}
 use Rattle.ownership.specs.inside.Names.{head_at}
 use Rattle.ownership.proofs.Heads.{head-there}
@@ -18,14 +16,13 @@ use Rattle.node_core.specs.declared.step.Reply.{Reply}
 use Rattle.node_core.specs.declared.step.Reply.TheVariants.{SystemLimit, NoProcess}
 use Rattle.node_core.specs.declared.step.Step.{Step}
 use Rattle.node_core.specs.declared.step.Step.TheVariants.{Enrol, End, Ask, Grow, Ready}
-use Rattle.node_core.specs.State.{State, Outcome, gives, empty}
+use Rattle.node_core.specs.State.{State, gives, empty}
 use Rattle.node_core.specs.Seen.{seen}
 use Rattle.node_core.specs.Calls.{call}
 use Rattle.node_core.specs.Machine.{step, run}
-use Rattle.node_core.specs.laws.Reached.{IsReached, HasDistinctSlots, HasDistinctNames, SlotsStayDistinct, NamesStayDistinct}
-use Rattle.node_core.proofs.CallLaws.{Either, IsLawfulCall, either-lawful, tells-lawful, call-lawful}
-use Rattle.node_core.proofs.EndKeys.{NoEnd}
-use Rattle.node_core.proofs.Following.{Follows, Came, Enters, Stays, follows-same}
+use Rattle.node_core.specs.laws.Reached.{HasNoEnd, IsSound, RunsStaySound, ReachedAreSound}
+use Rattle.node_core.proofs.CallLaws.{Either, either-lawful, tells-lawful, call-lawful}
+use Rattle.node_core.proofs.Following.{Follows, Came, follows-same}
 use Rattle.node_core.proofs.Seen.{enrol-call, end-call}
 
 -- ---- after a step each table stays or is new
@@ -49,10 +46,10 @@ run-keeps P keeps old (s ∷ steps) (reply ∷ replies) new r h = run-keeps P ke
 run-keeps P keeps old [] (reply ∷ replies) new r h = absurd r
 run-keeps P keeps old (s ∷ steps) [] new r h = absurd r
 
-pub reached-keeps : (P : State → Type 0) → ((old new : State) (s : Step) (reply : Reply) → step old s reply new → P old → P new) → ((limits : Limits) → P (empty limits)) → (s : State) → IsReached s → P s
-reached-keeps P keeps start s r = run-keeps P keeps (empty r.limits) r.steps r.replies s r.done (start r.limits)
+-- ---- keys
+abbrev HasDistinctSlots : State → Type 0
+HasDistinctSlots s = (t : ℕ) (table : Table) → table_at s.world.tables t ≡ Some table → HasDistinctKeys table.fixed.content.slots
 
--- ---- slots
 distinct-none : HasDistinctKeys []
 unfolding IsDistinct
 distinct-none = tt
@@ -61,27 +58,23 @@ distinct-came : (old : Tables) (t : ℕ) (o : Option Table) (table : Table) → 
 distinct-came old t None table came d = subst HasDistinctKeys (sym came.bare) distinct-none
 distinct-came old t (Some was) table came d = came.fixed.keys.distinct (d was refl)
 
-slots-step : (old new : State) (s : Step) (reply : Reply) → step old s reply new → HasDistinctSlots old → HasDistinctSlots new
-slots-step old new s reply h d t table at = distinct-came old.world.tables t (table_at old.world.tables t) table (step-follows old new s reply h t table at) (λ was before. d t was before)
+keys-step : (old new : State) (s : Step) (reply : Reply) → step old s reply new → HasDistinctSlots old → HasDistinctSlots new
+keys-step old new s reply h d t table at = distinct-came old.world.tables t (table_at old.world.tables t) table (step-follows old new s reply h t table at) (λ was before. d t was before)
 
-pub slots-reached : SlotsStayDistinct
-slots-reached = reached-keeps HasDistinctSlots slots-step (λ limits t table at. cc)
+abbrev HasNoEnds : State → Type 0
+HasNoEnds s = (t : ℕ) (table : Table) → table_at s.world.tables t ≡ Some table → HasNoEnd table.fixed.content.slots
 
--- ---- keys
-abbrev pub HasNoEnd : State → Type 0
-HasNoEnd s = (t : ℕ) (table : Table) → table_at s.world.tables t ≡ Some table → NoEnd table.fixed.content.slots
-
-end-came : (old : Tables) (t : ℕ) (o : Option Table) (table : Table) → Came old t o table → ((was : Table) → o ≡ Some was → NoEnd was.fixed.content.slots) → NoEnd table.fixed.content.slots
-end-came old t None table came d = subst NoEnd (sym came.bare) tt
+end-came : (old : Tables) (t : ℕ) (o : Option Table) (table : Table) → Came old t o table → ((was : Table) → o ≡ Some was → HasNoEnd was.fixed.content.slots) → HasNoEnd table.fixed.content.slots
+end-came old t None table came d = subst HasNoEnd (sym came.bare) tt
 end-came old t (Some was) table came d = came.fixed.ends (d was refl)
 
-pub ends-step : (old new : State) (s : Step) (reply : Reply) → step old s reply new → HasNoEnd old → HasNoEnd new
+ends-step : (old new : State) (s : Step) (reply : Reply) → step old s reply new → HasNoEnds old → HasNoEnds new
 ends-step old new s reply h d t table at = end-came old.world.tables t (table_at old.world.tables t) table (step-follows old new s reply h t table at) (λ was before. d t was before)
 
-pub ends-reached : (s : State) → IsReached s → HasNoEnd s
-ends-reached = reached-keeps HasNoEnd ends-step (λ limits t table at. cc)
-
 -- ---- names
+abbrev HasDistinctNames : State → Type 0
+HasDistinctNames s = (t u : ℕ) (one other : Table) → table_at s.world.tables t ≡ Some one → table_at s.world.tables u ≡ Some other → one.head.named ≡ true → other.head.named ≡ true → one.head.name ≡ other.head.name → t ≡ u
+
 -- a name that no table has is not that of a named table
 none-named : (ts : Tables) (name : List ℕ) (u : ℕ) (was : Table) → whereis ts name ≡ None → table_at ts u ≡ Some was → was.head.named ≡ true → was.head.name ≡ name → ⊥
 none-named ts name u was none at named same =
@@ -106,5 +99,15 @@ names-step old new s reply h distinct t u one other at at' named named' same =
     let follows = step-follows old new s reply h in
     names-came old.world.tables t u (table_at old.world.tables t) (table_at old.world.tables u) one other refl refl (follows t one at) (follows u other at') (λ was other_was. distinct t u was other_was) named named' same
 
-pub names-reached : NamesStayDistinct
-names-reached = reached-keeps HasDistinctNames names-step (λ limits t u one other at at'. cc)
+-- ---- runs
+pub sound-step : (old new : State) (s : Step) (reply : Reply) → step old s reply new → IsSound old → IsSound new
+sound-step old new s reply h sound = record { keys = keys-step old new s reply h sound.keys; ends = ends-step old new s reply h sound.ends; names = names-step old new s reply h sound.names }
+
+pub sound-run : RunsStaySound
+sound-run = run-keeps IsSound sound-step
+
+sound-empty : (limits : Limits) → IsSound (empty limits)
+sound-empty limits = record { keys = λ t table at. cc; ends = λ t table at. cc; names = λ t u one other at at'. cc }
+
+pub sound-reached : ReachedAreSound
+sound-reached limits steps replies s done = sound-run (empty limits) steps replies s done (sound-empty limits)

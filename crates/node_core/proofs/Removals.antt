@@ -9,7 +9,7 @@ use Rattle.table_ops.specs.Drop.{DeletesObject, without_those, equal_to}
 use Rattle.table_ops.specs.Refusals.{Comes, gives}
 use Rattle.fixed_walk.specs.Fixed.{Fixed, on_content}
 
-never-memory : (hold : Bool) (object : Term) (old new : Content) (o : Option Term) → MatchOption o (gives (Err Badarg) old (Err Memory) new) (λ _. gives (Ok tt) (without_those hold (equal_to object) old) (Err Memory) new) → ⊥
+never-memory : (hold : Bool) (object : Term) (old new : Content) (o : Option Term) → MatchOption o (gives {X = Unit {0}} (Err Badarg) old (Err Memory) new) (λ _. gives {X = Unit {0}} (Ok tt) (without_those hold (equal_to object) old) (Err Memory) new) → ⊥
 never-memory hold object old new None h = cc
 never-memory hold object old new (Some key) h = cc
 

@@ -9,13 +9,12 @@ use Rattle.fixed_walk.specs.Fixed.{Fixed}
 use Rattle.ownership.specs.World.{Table, table_at}
 use Rattle.ownership.specs.Tables as tables
 use Rattle.ownership.specs.End as ends
-use Rattle.node_core.specs.declared.step.Step.{Step}
-use Rattle.node_core.specs.declared.step.Step.TheVariants.{Enrol, End, Ask, Grow, Ready}
+use Rattle.node_core.specs.declared.step.Step.TheVariants.{Enrol, End, Grow, Ready}
 use Rattle.node_core.specs.declared.step.Reply.{Reply}
 use Rattle.node_core.specs.declared.step.Reply.TheVariants.{Value, Badarg}
-use Rattle.node_core.specs.State.{State, Outcome, gives}
+use Rattle.node_core.specs.State.{State, gives}
 use Rattle.node_core.specs.Seen.{seen_fixed, seen_table, seen, KeepsBuckets}
-use Rattle.node_core.specs.Access.{Rule, with_table, asks}
+use Rattle.node_core.specs.Access.{Rule, with_table}
 use Rattle.node_core.specs.Calls.{call}
 use Rattle.node_core.specs.Machine.{step}
 use Rattle.node_core.specs.rules.Growth.{in_table, Grows, Readies, ok_reply, growth_reply}

@@ -1,8 +1,7 @@
 -- What the rules of the calls do to the table that they change: they do not see its buckets, and leave them; no key gets a second slot, none
 -- is '$end_of_table', and while the table is fixed its keys stay, in their order.
-use Rattle.std.proofs.Common.{◌≡◌, ℕ, ◌-◌, Bool, true, false, cond, List, Option, None, Some, Result, Ok, Err, refl, sym, subst, ap, ◌∙◌}
+use Rattle.std.proofs.Common.{◌≡◌, ℕ, ◌-◌, Bool, true, false, cond, Option, None, Some, Result, Ok, Err, refl, sym, subst, ap, ◌∙◌}
 use Rattle.std.specs.Prelude.{MatchOption}
-use Rattle.std.specs.Bool.{MatchBool}
 use Rattle.ets_term.specs.declared.term.Term.{Term}
 use Rattle.ets_term.specs.Data.{data_of}
 use Rattle.bucket_table.specs.Slots.{purged}
@@ -22,14 +21,14 @@ use Rattle.table_ops.specs.Read.{all_objects}
 use Rattle.table_ops.specs.Update.{UpdatesCounter, UpdatesElement}
 use Rattle.fixed_walk.specs.declared.fault.FixFault.{FixFault}
 use Rattle.fixed_walk.specs.declared.fault.FixFault.TheVariants as fault
-use Rattle.fixed_walk.specs.Fixes.{FixCounts, is_fixed, with_count, fix_count}
+use Rattle.fixed_walk.specs.Fixes.{is_fixed, with_count, fix_count}
 use Rattle.fixed_walk.specs.Fixed.{Fixed, on_content, FixesOnce, settled, released, all_released}
 use Rattle.fixed_walk.specs.laws.Kept.{KeepsKeys, AlwaysKeeps}
 use Rattle.fixed_walk.proofs.KeptLaws.{insert-keeps, insert_new-keeps, update_counter-keeps, update_element-keeps, delete-keeps, delete_object-keeps, fix-keeps, release-keeps, release_all-keeps, rows-keep}
 use Rattle.node_core.specs.declared.step.Reply.{Reply}
 use Rattle.node_core.specs.Seen.{seen_fixed}
 use Rattle.node_core.specs.Access.{Rule, IsReply, replies}
-use Rattle.node_core.proofs.EndKeys.{NoEnd, StaysFree, unchanged-free, dropped-free, purged-free, inserts-free, news-free, counter-free, element-free}
+use Rattle.node_core.proofs.EndKeys.{StaysFree, unchanged-free, dropped-free, purged-free, inserts-free, news-free, counter-free, element-free}
 use Rattle.node_core.specs.rules.Insertion.{objects_in, Insert, InsertNew}
 use Rattle.node_core.specs.rules.Removal.{without, Take, Delete, DeleteObject, DeleteAllObjects}
 use Rattle.node_core.specs.rules.Searching.{Deletes, DeletesMatching, DeletesChosen, MatchDelete, SelectDelete}

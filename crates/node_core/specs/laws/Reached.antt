@@ -1,6 +1,9 @@
--- What holds in every state that a run reaches from the empty one.
-use Rattle.std.specs.Prelude.{◌≡◌, ℕ, true, List, Some}
-use Rattle.bucket_table.specs.Slots.{HasDistinctKeys}
+-- What holds in every state that a run reaches.
+use Rattle.std.specs.Prelude.{◌≡◌, ℕ, true, false, List, Some, codes}
+use Rattle.std.specs.List.{AllByRecursion}
+use Rattle.std.specs.Map.{keys_of}
+use Rattle.ets_term.specs.Atoms.{is_atom}
+use Rattle.bucket_table.specs.Slots.{Slot, HasDistinctKeys}
 use Rattle.ownership.specs.World.{Table, table_at}
 use Rattle.node_core.specs.declared.limits.Limits.{Limits}
 use Rattle.node_core.specs.declared.step.Reply.{Reply}
@@ -8,25 +11,22 @@ use Rattle.node_core.specs.declared.step.Step.{Step}
 use Rattle.node_core.specs.State.{State, empty}
 use Rattle.node_core.specs.Machine.{run}
 
--- the states in which runs from the empty one end
-pub record IsReached (s : State) : Type 0 where
-  pub limits : Limits
-  pub steps : List Step
-  pub replies : List Reply
-  pub done : run (empty limits) steps replies s
+-- no key is '$end_of_table'
+abbrev pub HasNoEnd : List Slot → Type 0
+HasNoEnd slots = AllByRecursion (λ key. is_atom (codes "$end_of_table") key ≡ false) (keys_of slots)
 
--- no two slots of one table have one key
-abbrev pub HasDistinctSlots : State → Type 0
-HasDistinctSlots s = (t : ℕ) (table : Table) → table_at s.world.tables t ≡ Some table → HasDistinctKeys table.fixed.content.slots
-
--- no two named tables have one name
-abbrev pub HasDistinctNames : State → Type 0
-HasDistinctNames s =
+-- no two slots of one table have one key, none has the key '$end_of_table', and no two named tables have one name
+pub record IsSound (s : State) : Type 0 where
+  pub keys : (t : ℕ) (table : Table) → table_at s.world.tables t ≡ Some table → HasDistinctKeys table.fixed.content.slots
+  pub ends : (t : ℕ) (table : Table) → table_at s.world.tables t ≡ Some table → HasNoEnd table.fixed.content.slots
+  pub names :
     (t u : ℕ) (one other : Table) → table_at s.world.tables t ≡ Some one → table_at s.world.tables u ≡ Some other
     → one.head.named ≡ true → other.head.named ≡ true → one.head.name ≡ other.head.name → t ≡ u
 
-abbrev pub SlotsStayDistinct : Type 0
-SlotsStayDistinct = (s : State) → IsReached s → HasDistinctSlots s
+-- so is the state after a run where the one before it is
+abbrev pub RunsStaySound : Type 0
+RunsStaySound = (old : State) (steps : List Step) (replies : List Reply) (new : State) → run old steps replies new → IsSound old → IsSound new
 
-abbrev pub NamesStayDistinct : Type 0
-NamesStayDistinct = (s : State) → IsReached s → HasDistinctNames s
+-- and so is each that a run reaches from the empty one
+abbrev pub ReachedAreSound : Type 0
+ReachedAreSound = (limits : Limits) (steps : List Step) (replies : List Reply) (s : State) → run (empty limits) steps replies s → IsSound s

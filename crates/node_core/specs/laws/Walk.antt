@@ -1,4 +1,4 @@
--- Whole walks (stdlib manual, module ets, safe_fixtable/2, first/1 and next/2), over the steps, the replies and the states of a run.
+-- Whole walks (stdlib manual, module ets, safe_fixtable/2, first/1 and next/2), in a run: its steps, replies and states.
 use Rattle.std.specs.Prelude.{◌≡◌, ℕ, ◌==◌, ◌&&◌, Bool, true, false, if◌then◌else◌, List, [], ◌∷◌, Option, Some, None, MatchOption, codes}
 use Rattle.std.specs.List.{AllByRecursion, IsDistinct, Contains}
 use Rattle.std.specs.Option.{option_map_or}
@@ -6,16 +6,16 @@ use Rattle.std.specs.Str.{bytes_eq}
 use Rattle.ets_term.specs.declared.term.Term.{Term}
 use Rattle.ets_term.specs.Order.{same}
 use Rattle.table_ops.specs.Content.{is_present}
-use Rattle.fixed_walk.specs.Fixes.{is_fixed}
-use Rattle.ownership.specs.World.{table_at, resolve}
+use Rattle.ownership.specs.World.{resolve}
 use Rattle.node_core.specs.declared.step.Reply.{Reply}
 use Rattle.node_core.specs.declared.step.Reply.TheVariants.{Value}
 use Rattle.node_core.specs.declared.step.Step.{Step}
 use Rattle.node_core.specs.declared.step.Step.TheVariants.{Ask}
 use Rattle.node_core.specs.State.{State}
-use Rattle.node_core.specs.Machine.{step, run}
+use Rattle.node_core.specs.Machine.{run}
 use Rattle.node_core.specs.rules.Walking.{key_reply}
-use Rattle.node_core.specs.laws.Reached.{IsReached}
+use Rattle.node_core.specs.laws.Kept.{slots_in, is_fixed_in}
+use Rattle.node_core.specs.laws.Reached.{IsSound}
 
 -- the states of a run, from the one before its first step to the one after its last
 abbrev pub states : (old : State) (steps : List Step) (replies : List Reply) (new : State) → run old steps replies new → List State
@@ -55,22 +55,14 @@ module _ (p t : ℕ) where
   Walks call keys old [] (r ∷ replies) new done = ⊥
   Walks call keys old (s ∷ steps) [] new done = ⊥
 
--- whoever fixes the table
-abbrev pub is_fixed_in : ℕ → State → Bool
-is_fixed_in t s = option_map_or (λ table. is_fixed table.fixed.fixes) (table_at s.world.tables t) false
-
--- whether a key has objects in the table
-abbrev pub is_present_in : ℕ → Term → State → Bool
-is_present_in t key s = option_map_or (λ table. is_present table.fixed.content.slots key) (table_at s.world.tables t) false
-
 -- no key comes twice, and each key that has objects in every state comes
 pub record IsWhole (t : ℕ) (stretch : List State) (keys : List Term) : Type 0 where
   pub once : IsDistinct same keys
-  pub all : (key : Term) → AllByRecursion (λ s. is_present_in t key s ≡ true) stretch → Contains keys key
+  pub all : (key : Term) → AllByRecursion (λ s. is_present (slots_in t s) key ≡ true) stretch → Contains keys key
 
--- in every run, each walk over a table that stays fixed is whole, whatever others do meanwhile
+-- in every run, each walk over a table that stays fixed, whoever fixes it, is whole, whatever others do meanwhile
 abbrev pub WalksAreWhole : Type 0
 WalksAreWhole =
     (old : State) (steps : List Step) (replies : List Reply) (new : State) (done : run old steps replies new) (p t : ℕ) (keys : List Term)
-    → IsReached old → AllByRecursion (λ s. is_fixed_in t s ≡ true) (states old steps replies new done) → Walks p t None keys old steps replies new done
+    → IsSound old → AllByRecursion (λ s. is_fixed_in t s ≡ true) (states old steps replies new done) → Walks p t None keys old steps replies new done
     → IsWhole t (states old steps replies new done) keys

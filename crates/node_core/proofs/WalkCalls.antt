@@ -1,0 +1,184 @@
+-- What the calls of a walk answer: the first key with objects, or the next, of the slots that the table has.
+use Rattle.std.proofs.Common.{◌≡◌, ℕ, ◌==◌, ◌⊎◌, inl, inr, Bool, true, false, ◌&&◌, not, cond, List, [], ◌∷◌, Option, None, Some, option_map, option_and_then, refl, sym, subst, ap, ◌∙◌, codes, arith, rules, true≢false}
+use Rattle.std.specs.Prelude.{MatchOption}
+use Rattle.std.specs.Bool.{MatchBool}
+use Rattle.std.specs.List.{list_any}
+use Rattle.std.specs.Option.{option_map_or}
+use Rattle.std.specs.Str.{bytes_eq}
+use Rattle.std.proofs.lemmas.Bool.Decides.{nat_tests}
+use Rattle.std.proofs.lemmas.Slice.Eq.{bytes_eq-Decides}
+use Rattle.ets_term.specs.declared.term.Term.{Term, the_lemmas}
+use Rattle.ets_term.specs.declared.term.Term.TheVariants.{Atom}
+use Rattle.ets_term.specs.Depth.{is_too_deep}
+use Rattle.ets_term.specs.Order.{same}
+use Rattle.ets_term.specs.laws.Same.{same-exact}
+use Rattle.bucket_table.specs.Slots.{Slot, has_objects, slots_behind}
+use Rattle.fixed_walk.specs.Fixed.{Fixed}
+use Rattle.fixed_walk.specs.Walk.{first_key, next_key}
+use Rattle.fixed_walk.specs.laws.Walks.{key_told}
+use Rattle.ownership.specs.World.{Table, Tables, table_at, resolve, lives}
+use Rattle.node_core.specs.declared.node.access.Access.{Access}
+use Rattle.node_core.specs.declared.node.access.Access.TheVariants.{Read}
+use Rattle.node_core.specs.declared.step.Reply.{Reply}
+use Rattle.node_core.specs.declared.step.Reply.TheVariants.{Value, Badarg, SystemLimit, NoProcess}
+use Rattle.node_core.specs.declared.step.Step.{Step}
+use Rattle.node_core.specs.declared.step.Step.TheVariants.{Enrol, End, Ask, Grow, Ready}
+use Rattle.node_core.specs.State.{State, gives}
+use Rattle.node_core.specs.Access.{may, allowed, usable, reads}
+use Rattle.node_core.specs.Calls.{call}
+use Rattle.node_core.specs.Machine.{step}
+use Rattle.node_core.specs.rules.Walking.{key_reply, First, Next}
+use Rattle.node_core.specs.laws.Reached.{HasNoEnd}
+use Rattle.node_core.specs.laws.Walk.{is_table, walk_call, walk_step}
+use Rattle.node_core.proofs.Changes.{usable-there}
+use Rattle.node_core.proofs.EndKeys.{is_end}
+
+-- ---- keys of slots without '$end_of_table'
+first-at : (b : Bool) (s : Slot) (ss : List Slot) (k : Term) → is_end s.0 ≡ false → (first_key ss ≡ Some k → is_end k ≡ false) → cond b (Some s.0) (first_key ss) ≡ Some k → is_end k ≡ false
+first-at true s ss k own rest e = let is : s.0 ≡ k = cc in subst (λ (t : Term). is_end t ≡ false) is own
+first-at false s ss k own rest e = rest e
+
+first-free : (ss : List Slot) (k : Term) → HasNoEnd ss → first_key ss ≡ Some k → is_end k ≡ false
+first-free [] k free e = cc
+first-free (s ∷ ss) k free e = first-at (has_objects s.1) s ss k free.0 (first-free ss k free.1) e
+
+next-at : (b : Bool) (s : Slot) (ss : List Slot) (c k : Term) → HasNoEnd ss → (option_map first_key (slots_behind ss c) ≡ Some (Some k) → is_end k ≡ false)
+    → option_map first_key (cond b (Some ss) (slots_behind ss c)) ≡ Some (Some k) → is_end k ≡ false
+next-at true s ss c k free rest e = let is : first_key ss ≡ Some k = cc in first-free ss k free is
+next-at false s ss c k free rest e = rest e
+
+next-free : (ss : List Slot) (c k : Term) → HasNoEnd ss → next_key ss c ≡ Some (Some k) → is_end k ≡ false
+next-free [] c k free e = cc
+next-free (s ∷ ss) c k free e = next-at (same c s.0) s ss c k free.1 (next-free ss c k free.1) e
+
+asked-at : (b : Bool) (s : Slot) (ss : List Slot) (c : Term) (o : Option Term) → same c s.0 ≡ b → is_end s.0 ≡ false → (option_map first_key (slots_behind ss c) ≡ Some o → is_end c ≡ false)
+    → option_map first_key (cond b (Some ss) (slots_behind ss c)) ≡ Some o → is_end c ≡ false
+asked-at true s ss c o hit own rest e = ap is_end (same-exact c s.0 hit) ∙ own
+asked-at false s ss c o hit own rest e = rest e
+
+-- a key that has a next one is in the table
+pub asked-free : (ss : List Slot) (c : Term) (o : Option Term) → HasNoEnd ss → next_key ss c ≡ Some o → is_end c ≡ false
+asked-free [] c o free e = cc
+asked-free (s ∷ ss) c o free e = asked-at (same c s.0) s ss c o refl free.0 (asked-free ss c o free.1) e
+
+told-free : (asked : Option Term) (ss : List Slot) (k : Term) → HasNoEnd ss → key_told asked ss ≡ Some (Some k) → is_end k ≡ false
+told-free None ss k free e = let is : first_key ss ≡ Some k = cc in first-free ss k free is
+told-free (Some c) ss k free e = next-free ss c k free e
+
+-- ---- a call that reads the table
+named-at : (ts : Tables) (access : Access) (p : ℕ) (u : ℕ) (o : Option Table) (found : ℕ × Table) → option_and_then (allowed access p u) o ≡ Some found → u ≡ found.0
+named-at ts access p u None found e = cc
+named-at ts access p u (Some table) found e = by (may access table.head p) e
+  where
+    by : (b : Bool) → cond b (Some (u, table)) None ≡ Some found → u ≡ found.0
+    by true e = let is : (u, table) ≡ found = cc in ap (λ (x : ℕ × Table). x.0) is
+    by false e = cc
+
+usable-named : (ts : Tables) (access : Access) (p t : ℕ) (o : Option ℕ) (found : ℕ × Table) → option_map_or (λ u. u == t) o false ≡ true → option_and_then (λ u. option_and_then (allowed access p u) (table_at ts u)) o ≡ Some found → found.0 ≡ t
+usable-named ts access p t None found is e = cc
+usable-named ts access p t (Some u) found is e = sym (named-at ts access p u (table_at ts u) found e) ∙ number u t is
+  where
+    number : (u t : ℕ) → (u == t) ≡ true → u ≡ t
+    number u t h = grind (arith, nat_tests)
+
+read-at : (old new : State) (q t : ℕ) (term : Term) (answer : Fixed → Reply) (r : Reply) (table : Table) (o : Option (ℕ × Table)) → usable Read old.world.tables q term ≡ o → is_table old t term ≡ true → table_at old.world.tables t ≡ Some table
+    → MatchOption o (gives Badarg old r new) (λ found. gives (answer found.1.fixed) old r new) → (r ≡ answer table.fixed) ⊎ (r ≡ Badarg)
+read-at old new q t term answer r table None e is at h = inr h.0
+read-at old new q t term answer r table (Some found) e is at h =
+    let here : found.0 ≡ t = usable-named old.world.tables Read q t (resolve old.world.tables term) found is e in
+    let there : Some found.1 ≡ Some table = sym (usable-there old.world.tables Read q term found e).at ∙ (ap (table_at old.world.tables) here ∙ at) in
+    let same : found.1 ≡ table = cc in
+    inl (h.0 ∙ ap (λ (x : Table). answer x.fixed) same)
+
+-- the reply to a call of a walk: what the slots tell, or a refusal
+abbrev pub Replies : Option Term → List Slot → Reply → Type 0
+Replies asked slots r = (option_map_or key_reply (key_told asked slots) Badarg ≡ r) ⊎ ((x : Term) → r ≡ Value x → ⊥)
+
+refused : (asked : Option Term) (slots : List Slot) (r : Reply) → r ≡ Badarg → Replies asked slots r
+refused asked slots r e = inr (λ x v. cc)
+
+replied : (asked : Option Term) (slots : List Slot) (r answer : Reply) → option_map_or key_reply (key_told asked slots) Badarg ≡ answer → (r ≡ answer) ⊎ (r ≡ Badarg) → Replies asked slots r
+replied asked slots r answer same (inl e) = inl (same ∙ sym e)
+replied asked slots r answer same (inr e) = refused asked slots r e
+
+both : (a b : Bool) → (a && b) ≡ true → (a ≡ true) × (b ≡ true)
+both true true e = (refl, refl)
+both true false e = cc
+both false b e = cc
+
+module _ (old new : State) (q t : ℕ) (r : Reply) (table : Table) (at : table_at old.world.tables t ≡ Some table) where
+  first-replies : (name : List ℕ) (term : Term) (asked : Option Term) (b : Bool) → (bytes_eq name (codes "first") && is_table old t term) ≡ b → cond b (Some None) None ≡ Some asked → call old q name (term ∷ []) r new → Replies asked table.fixed.content.slots r
+  first-replies name term asked false test e h = cc
+  first-replies name term asked true test e h =
+      let tests = both (bytes_eq name (codes "first")) (is_table old t term) test in
+      let is : name ≡ codes "first" = (bytes_eq-Decides name (codes "first")).0 tests.0 in
+      let reading : reads old q term First r new = subst (λ (n : List ℕ). call old q n (term ∷ []) r new) is h in
+      let none : None ≡ asked = cc in
+      subst (λ (a : Option Term). Replies a table.fixed.content.slots r) none (
+      replied None table.fixed.content.slots r (First table.fixed) refl (read-at old new q t term First r table (usable Read old.world.tables q term) refl tests.1 at reading))
+
+  next-replies : (name : List ℕ) (term key : Term) (asked : Option Term) (b : Bool) → (bytes_eq name (codes "next") && is_table old t term) ≡ b → cond b (Some (Some key)) None ≡ Some asked → call old q name (term ∷ key ∷ []) r new
+      → Replies asked table.fixed.content.slots r
+  next-replies name term key asked false test e h = cc
+  next-replies name term key asked true test e h =
+      let tests = both (bytes_eq name (codes "next")) (is_table old t term) test in
+      let is : name ≡ codes "next" = (bytes_eq-Decides name (codes "next")).0 tests.0 in
+      let reading : reads old q term (Next key) r new = subst (λ (n : List ℕ). call old q n (term ∷ key ∷ []) r new) is h in
+      let some : Some key ≡ asked = cc in
+      subst (λ (a : Option Term). Replies a table.fixed.content.slots r) some (
+      replied (Some key) table.fixed.content.slots r (Next key table.fixed) refl (read-at old new q t term (Next key) r table (usable Read old.world.tables q term) refl tests.1 at reading))
+
+  call-replies : (name : List ℕ) (args : List Term) (asked : Option Term) → walk_call old t name args ≡ Some asked → call old q name args r new → Replies asked table.fixed.content.slots r
+  call-replies name [] asked e h = cc
+  call-replies name (term ∷ []) asked e h = first-replies name term asked (bytes_eq name (codes "first") && is_table old t term) refl e h
+  call-replies name (term ∷ key ∷ []) asked e h = next-replies name term key asked (bytes_eq name (codes "next") && is_table old t term) refl e h
+  call-replies name (term ∷ key ∷ more ∷ args) asked e h = cc
+
+  -- refusals that go before the call
+  deep-replies : (deep : Bool) (name : List ℕ) (args : List Term) (asked : Option Term) → walk_call old t name args ≡ Some asked → MatchBool deep (gives SystemLimit old r new) (call old q name args r new) → Replies asked table.fixed.content.slots r
+  deep-replies true name args asked e h = let limit = h.0 in inr (λ x v. cc)
+  deep-replies false name args asked e h = call-replies name args asked e h
+
+  ask-replies : (ended deep : Bool) (name : List ℕ) (args : List Term) (asked : Option Term) → walk_call old t name args ≡ Some asked
+      → MatchBool ended (gives NoProcess old r new) (MatchBool deep (gives SystemLimit old r new) (call old q name args r new)) → Replies asked table.fixed.content.slots r
+  ask-replies true deep name args asked e h = let none = h.0 in inr (λ x v. cc)
+  ask-replies false deep name args asked e h = deep-replies deep name args asked e h
+
+asks-walk : (b : Bool) (o : Option (Option Term)) (asked : Option Term) → cond b o None ≡ Some asked → o ≡ Some asked
+asks-walk true o asked e = e
+asks-walk false o asked e = cc
+
+pub step-replies : (old new : State) (p t : ℕ) (s : Step) (r : Reply) (table : Table) (asked : Option Term) → table_at old.world.tables t ≡ Some table → walk_step old p t s ≡ Some asked → step old s r new → Replies asked table.fixed.content.slots r
+step-replies old new p t (Ask q asked_call) r table asked at e h =
+    ask-replies old new q t r table at (not (lives old.world.processes q)) (list_any is_too_deep asked_call.args) asked_call.name asked_call.args asked
+    (asks-walk (q == p) (walk_call old t asked_call.name asked_call.args) asked e) h
+step-replies old new p t (Enrol q) r table asked at e h = cc
+step-replies old new p t (End q) r table asked at e h = cc
+step-replies old new p t (Grow u) r table asked at e h = cc
+step-replies old new p t (Ready u bucket) r table asked at e h = cc
+
+-- ---- what a reply tells
+end-is : is_end (Atom (codes "$end_of_table")) ≡ true
+end-is = search (rules, the_lemmas)
+
+end-told : (asked : Option Term) (slots : List Slot) (o : Option (Option Term)) → key_told asked slots ≡ o → HasNoEnd slots → option_map_or key_reply o Badarg ≡ key_reply None → o ≡ Some None
+end-told asked slots None e free h = cc
+end-told asked slots (Some None) e free h = refl
+end-told asked slots (Some (Some k)) e free h =
+    let is : k ≡ Atom (codes "$end_of_table") = cc in
+    absurd (true≢false (sym (ap is_end is ∙ end-is) ∙ told-free asked slots k free e))
+
+pub tells-end : (asked : Option Term) (slots : List Slot) (r : Reply) → HasNoEnd slots → Replies asked slots r → r ≡ key_reply None → key_told asked slots ≡ Some None
+tells-end asked slots r free (inl h) e = end-told asked slots (key_told asked slots) refl free (h ∙ e)
+tells-end asked slots r free (inr h) e = absurd (h (Atom (codes "$end_of_table")) e)
+
+key-told : (o : Option (Option Term)) (key : Term) → is_end key ≡ false → option_map_or key_reply o Badarg ≡ Value key → o ≡ Some (Some key)
+key-told None key free h = cc
+key-told (Some None) key free h =
+    let is : Atom (codes "$end_of_table") ≡ key = cc in
+    absurd (true≢false (sym end-is ∙ (ap is_end is ∙ free)))
+key-told (Some (Some k)) key free h = let is : k ≡ key = cc in ap (λ (t : Term). Some (Some t)) is
+
+pub tells-key : (asked : Option Term) (slots : List Slot) (r : Reply) (key : Term) → is_end key ≡ false → Replies asked slots r → r ≡ Value key → key_told asked slots ≡ Some (Some key)
+tells-key asked slots r key free (inl h) e = key-told (key_told asked slots) key free (h ∙ e)
+tells-key asked slots r key free (inr h) e = absurd (h key e)

@@ -1,0 +1,18 @@
+use Rattle.ownership.specs.End as ends
+use Rattle.node_core.specs.State.{State, Outcome}
+use Rattle.node_core.specs.Access.{asks}
+use Rattle.node_core.specs.inside.Refusals.{refused_as}
+use Rattle.node_core.specs.rules.Replies.{true_reply}
+use Rattle.node_core.proofs.Worlds.{asked-ok, asked-err, told-ok}
+use Rattle.node_core.proofs.node.Node.end.Goals.{in-Ok, in-Err}
+use Rattle.node_core.proofs.node.Node.end.Goals as goal
+
+pub returns-clause-ok : goal.returns-clause-ok
+returns-clause-ok g c =
+    let was : State = record { limits = c.self.inside.limits; world = c.self.inside.world } in
+    let new : State = record { limits = c.self.inside.limits; world = c.end.new.self } in
+    rw (← c.self.view_is) (elim c.match-end.branch [
+      | in-Ok w ↦ rw (w.result-is, w.true_reply.ensures) (asked-ok was (λ _. true_reply) (ends.End was.world c.args.pid) c.end.new.self tt w.in-Ok.ensures)
+      | in-Err w ↦ rw w.result-is (told-ok (asks was (λ _. true_reply) (ends.End was.world c.args.pid)) was new (refused_as w.in-Err.fault) w.told.result
+          (asked-err was (λ _. true_reply) (ends.End was.world c.args.pid) c.end.new.self w.in-Err.fault w.in-Err.ensures) (rw (← w.refused.ensures) w.told.ensures))
+    ])

@@ -1,0 +1,18 @@
+use Rattle.std.proofs.Common.{◌≡◌, ◌∙◌, sym, ap, List, Bool, true, false, [], ◌∷◌}
+use Rattle.ownership.specs.Tables as tables
+use Rattle.node_core.specs.State.{State}
+use Rattle.node_core.specs.declared.step.Reply.TheVariants.{Value}
+use Rattle.node_core.specs.rules.Tables.{new_table_of}
+use Rattle.node_core.proofs.Worlds.{asked-ok, asked-err}
+use Rattle.node_core.proofs.node.Node.new_table.Goals.{in-Ok-new_table, in-Err-new_table}
+use Rattle.node_core.proofs.node.Node.new_table.Goals as goal
+
+pub returns : goal.returns
+returns g c =
+    let was : State = record { limits = c.self.inside.limits; world = c.self.inside.world } in
+    let buckets : List Bool = true ∷ false ∷ [] in
+    let fresh : c.in-Ok.table ≡ new_table_of was.limits.objects c.args.options buckets = c.in-Ok.ensures ∙ ap (λ (s : State). new_table_of s.limits.objects c.args.options buckets) (sym c.self.view_is) in
+    rw (← c.self.view_is, ← fresh) (elim c.match-new_table.branch [
+      | in-Ok-new_table w ↦ rw w.result-is (asked-ok was (λ x. Value x) (tables.New was.world c.args.pid c.args.name.now c.args.options c.in-Ok.table) c.new_table.new.self w.in-Ok-new_table.answer w.in-Ok-new_table.ensures)
+      | in-Err-new_table w ↦ rw (w.result-is, w.refused.ensures) (asked-err was (λ x. Value x) (tables.New was.world c.args.pid c.args.name.now c.args.options c.in-Ok.table) c.new_table.new.self w.in-Err-new_table.fault w.in-Err-new_table.ensures)
+    ])

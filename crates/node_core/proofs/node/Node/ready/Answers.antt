@@ -1,0 +1,10 @@
+use Rattle.std.proofs.Common.{refl}
+use Rattle.node_core.specs.State.{State}
+use Rattle.node_core.specs.rules.Growth.{Readies, ok_reply}
+use Rattle.node_core.proofs.Growing.{done}
+use Rattle.node_core.proofs.node.Node.ready.Goals as goal
+
+pub returns-clause-ok : goal.returns-clause-ok
+returns-clause-ok g c =
+    let was : State = record { limits = c.self.inside.limits; world = c.self.inside.world } in
+    rw (← c.self.view_is, c.atom_reply.ensures) (done was c.args.id c.in-Some.table.now c.ready.new.self c.in-Some.ensures.value (Readies c.args.bucket) ok_reply (refl, c.in_ok-ready.field-0, c.in_ok-ready.ensures.ok, c.in_ok-ready.ensures.content))
