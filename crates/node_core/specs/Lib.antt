@@ -7,3 +7,4 @@ pub mod Calls
 pub mod Machine
 pub mod inside
 pub mod laws
+pub mod Woven
