@@ -5,6 +5,6 @@ pub mod Access
 pub mod rules
 pub mod Calls
 pub mod Machine
-pub mod inside
 pub mod laws
 pub mod Woven
+pub mod inside

@@ -1,3 +1,4 @@
 pub mod Codes
 pub mod Lending
 pub mod Refusals
+pub mod Walker

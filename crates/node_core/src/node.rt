@@ -19,6 +19,7 @@ mod searching;
 mod table_of_calls;
 mod tables;
 mod updates;
+mod walker;
 mod walking;
 
 use crate::limits::Limits;

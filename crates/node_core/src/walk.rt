@@ -1,9 +1,11 @@
 //! A walk over a table while others' steps come between its calls.
-ghost use Rattle.std.specs.Prelude.{◌≡◌, ℕ, [], List, OnOk, OnErr};
+ghost use Rattle.std.specs.Prelude.{◌≡◌, ◌≤◌, ℕ, [], List, Some, Ok, OnOk, OnErr, map, drop, length};
 ghost use Rattle.ets_term.specs.declared.term.Term as term;
 ghost use Rattle.node_core.specs.declared.step.Step as event;
 ghost use Rattle.node_core.specs.Seen.{seen};
-ghost use Rattle.node_core.specs.Woven.{Adds, WalksAmong};
+ghost use Rattle.node_core.specs.State.{State};
+ghost use Rattle.node_core.specs.Woven.{is_step_of, Adds, WalksAmong};
+ghost use Rattle.node_core.specs.inside.Walker.{Stands, TurnsTo, EndsIn, Holds, OthersRun};
 
 use crate::node::Node;
 use crate::step::Step;
@@ -70,5 +72,105 @@ pub fn walk_among<H: KeyHash + Copy + Drop, O: Others>(
     requires steps { O.steps others.old ≡ [] }
     ensures { WalksAmong (seen node.old) pid table.now limit (O.keys others.new) (O.steps others.new) result (seen node.new) }
 {
-    Err(WalkFault::Lost)
+    let Some(id) = node.resolve(table) else {
+        return Err(WalkFault::Lost);
+    };
+    node.hold(pid, id)?;
+    let walked = walk_held(node, pid, id, limit, others);
+    node.let_go(pid, id);
+    walked
+}
+
+/// The same over a table that the process has fixed once more.
+fn walk_held<H: KeyHash + Copy + Drop, O: Others>(
+    node: &mut Node<H>,
+    pid: u32,
+    id: u32,
+    limit: u32,
+    others: &mut O,
+) -> Result<Walk, WalkFault>
+    requires keys { O.keys others.old ≡ [] }
+    requires steps { O.steps others.old ≡ [] }
+    ensures { (old : State) → Holds pid id old (Ok tt) (seen node.old) → EndsIn pid id old limit (O.keys others.new) (O.steps others.new) result (seen node.new) }
+{
+    let mut keys = Vec::new(node.allocator());
+    let mut found = node.key_behind(pid, id, None)?;
+    for _ in 0..limit {
+        let Some(key) = found else {
+            return Ok(Walk::over(keys));
+        };
+        found = turn(node, pid, id, key, &mut keys, others)?;
+    }
+    match found {
+        None => Ok(Walk::over(keys)),
+        Some(_) => Err(WalkFault::LimitReached),
+    }
+}
+
+/// The turn of a key: the others are told it, their steps are done, and the key behind it is looked for.
+fn turn<H: KeyHash + Copy + Drop, O: Others>(
+    node: &mut Node<H>,
+    pid: u32,
+    id: u32,
+    key: Term,
+    keys: &mut Vec<Term>,
+    others: &mut O,
+) -> Result<Option<Term>, WalkFault>
+    requires { O.keys others.old ≡ keys.old.items }
+    ensures keys { OnOk result (keys.new.items ≡ O.keys others.new) }
+    ensures turn { (old : State) → Stands pid id old (O.keys others.old) (O.steps others.old) (Some key) (seen node.old) → TurnsTo pid id old (O.keys others.new) (O.steps others.new) result (seen node.new) }
+{
+    if keys.reserve(1).is_err() {
+        return Err(WalkFault::Memory);
+    }
+    let before = others.given().len();
+    if others.between(&key).is_err() {
+        return Err(WalkFault::Memory);
+    }
+    run_others(node, pid, others.given(), before)?;
+    let found = node.key_behind(pid, id, Some(&key))?;
+    keys.push_reserved(key);
+    Ok(found)
+}
+
+/// Does the steps from a place on, as long as none is the process's own.
+fn run_others<H: KeyHash + Copy + Drop>(
+    node: &mut Node<H>,
+    pid: u32,
+    given: &[(usize, Step)],
+    from: usize,
+) -> Result<(), WalkFault>
+    requires { from ≤ length given.now }
+    ensures { OthersRun pid (seen node.old) (map (λ g. g.1) (drop from given.now)) result (seen node.new) }
+{
+    for at in from..given.len() {
+        let (_, step) = &given[at];
+        if is_step_of(pid, step) {
+            return Err(WalkFault::OwnStep);
+        }
+        if node.step(step).is_err() {
+            return Err(WalkFault::Memory);
+        }
+    }
+    Ok(())
+}
+
+/// Whether the step is one of this process.
+fn is_step_of(pid: u32, step: &Step) -> bool
+    ensures { result ≡ is_step_of pid step.now }
+{
+    match step {
+        Step::Enrol(own) | Step::End(own) | Step::Ask(own, _) => *own == pid,
+        Step::Grow(_) | Step::Ready(_, _) => false,
+    }
+}
+
+impl Walk {
+    fn over(keys: Vec<Term>) -> Walk
+        ensures { result.keys ≡ keys.items }
+    {
+        Walk {
+            keys: Items::from_vec(keys),
+        }
+    }
 }
