@@ -1,6 +1,7 @@
 pub mod Arguments
 pub mod CallLaws
 pub mod Changes
+pub mod Counts
 pub mod EndKeys
 pub mod Fixing
 pub mod Following
