@@ -6,6 +6,8 @@ pub mod EndKeys
 pub mod Fixing
 pub mod Following
 pub mod Growing
+pub mod OthersRuns
+pub mod OwnCalls
 pub mod Reached
 pub mod Removals
 pub mod Runs
@@ -14,7 +16,9 @@ pub mod SeenRules
 pub mod SeenTables
 pub mod Steps
 pub mod Trees
+pub mod Turns
 pub mod WalkCalls
+pub mod Weaving
 pub mod WholeWalks
 pub mod WorldLaws
 pub mod Worlds

@@ -1,5 +1,5 @@
 //! A walk over a table while others' steps come between its calls.
-ghost use Rattle.std.specs.Prelude.{◌≡◌, ◌≤◌, ℕ, [], List, Some, Ok, OnOk, OnErr, map, drop, length};
+ghost use Rattle.std.specs.Prelude.{◌≡◌, ℕ, [], List, Some, Ok, OnOk, OnErr};
 ghost use Rattle.ets_term.specs.declared.term.Term as term;
 ghost use Rattle.node_core.specs.declared.step.Step as event;
 ghost use Rattle.node_core.specs.Seen.{seen};
@@ -127,24 +127,21 @@ fn turn<H: KeyHash + Copy + Drop, O: Others>(
     if others.between(&key).is_err() {
         return Err(WalkFault::Memory);
     }
-    run_others(node, pid, others.given(), before)?;
+    run_others(node, pid, &others.given()[before..])?;
     let found = node.key_behind(pid, id, Some(&key))?;
     keys.push_reserved(key);
     Ok(found)
 }
 
-/// Does the steps from a place on, as long as none is the process's own.
+/// Does the steps handed in, in order, as long as none is the process's own.
 fn run_others<H: KeyHash + Copy + Drop>(
     node: &mut Node<H>,
     pid: u32,
     given: &[(usize, Step)],
-    from: usize,
 ) -> Result<(), WalkFault>
-    requires { from ≤ length given.now }
-    ensures { OthersRun pid (seen node.old) (map (λ g. g.1) (drop from given.now)) result (seen node.new) }
+    ensures { OthersRun pid (seen node.old) given.now result (seen node.new) }
 {
-    for at in from..given.len() {
-        let (_, step) = &given[at];
+    for (_, step) in given {
         if is_step_of(pid, step) {
             return Err(WalkFault::OwnStep);
         }

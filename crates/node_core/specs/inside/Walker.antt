@@ -108,13 +108,21 @@ module _ (p t : ℕ) where
   EndsIn old limit keys given (Ok walk) now = (walk.keys ≡ keys) × (length keys ≤ limit) × Stands old keys given None now
   EndsIn old limit keys given (Err why) now = Halts old limit keys given why now
 
--- steps done in order, none of them of this process: all of them, or those before one that is its own or that memory was refused for
-abbrev pub OthersRun : ℕ → State → List Step → Result (Unit {0}) WalkFault → State → Type 0
-OthersRun p old steps (Ok done) new = (replies : List Reply) × run old steps replies new × AllByRecursion (λ s. is_step_of p s ≡ false) steps
-OthersRun p old steps (Err why) new =
-    (n : ℕ) × (replies : List Reply) × run old (take n steps) replies new × AllByRecursion (λ s. is_step_of p s ≡ false) (take n steps) × Stopped why n
-  where
-    Stopped : WalkFault → ℕ → Type 0
-    Stopped fault.OwnStep n = (s : Step) × (slice_get steps n ≡ Some s) × (is_step_of p s ≡ true)
-    Stopped fault.Memory n = Unit {0}
-    Stopped _ n = ⊥
+-- the steps handed in are done in order, none of them of this process: all, or those before one that is its own or that memory was
+-- refused for
+abbrev pub steps_of : Given → List Step
+steps_of given = map (λ g. g.1) given
+
+pub record OthersDid (p : ℕ) (old : State) (given : Given) (new : State) : Type 0 where
+  pub replies : List Reply
+  pub ran : run old (steps_of given) replies new
+  pub others : AllByRecursion (λ s. is_step_of p s ≡ false) (steps_of given)
+
+abbrev pub StoppedAt : ℕ → WalkFault → Given → Type 0
+StoppedAt p fault.OwnStep left = (g : ℕ × Step) × (slice_get left 0 ≡ Some g) × (is_step_of p g.1 ≡ true)
+StoppedAt p fault.Memory left = Unit {0}
+StoppedAt p _ left = ⊥
+
+abbrev pub OthersRun : ℕ → State → Given → Result (Unit {0}) WalkFault → State → Type 0
+OthersRun p old given (Ok done) new = OthersDid p old given new
+OthersRun p old given (Err why) new = (n : ℕ) × OthersDid p old (take n given) new × StoppedAt p why (drop n given)
