@@ -18,6 +18,7 @@ pub mod Steps
 pub mod Trees
 pub mod Turns
 pub mod WalkCalls
+pub mod WalkEnds
 pub mod Weaving
 pub mod WholeWalks
 pub mod WorldLaws

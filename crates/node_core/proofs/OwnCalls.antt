@@ -185,7 +185,7 @@ module _ (p t : ℕ) where
 
   module _ (s : State) (table : Table) (at : table_at s.world.tables t ≡ Some table) (living : lives s.world.processes p ≡ true) (readable : may_read table.head p ≡ true) where
     usable-own : usable Read s.world.tables p (Tid t) ≡ Some (t, table)
-    unfolding out-Term
+    unfolding out-Term denote.Hole.Carrier.out
     usable-own =
         ap (λ o. option_and_then (λ u. option_and_then (allowed Read p u) (table_at s.world.tables u)) (option_map (λ _. t) o)) at
         ∙ (ap (λ o. option_and_then (allowed Read p t) o) at ∙ ap (λ (b : Bool). cond b (Some (t, table)) None) readable)
@@ -214,15 +214,15 @@ module _ (p t : ℕ) where
     call-done (Some key) found shallow e = next-done key found shallow e
 
     true-atom : is_atom (codes "true") (Atom (codes "true")) ≡ true
-    unfolding out-Term
+    unfolding out-Term denote.Hole.Carrier.out
     true-atom = refl
 
     false-true : is_atom (codes "true") (Atom (codes "false")) ≡ false
-    unfolding out-Term
+    unfolding out-Term denote.Hole.Carrier.out
     false-true = refl
 
     false-atom : is_atom (codes "false") (Atom (codes "false")) ≡ true
-    unfolding out-Term
+    unfolding out-Term denote.Hole.Carrier.out
     false-atom = refl
 
     changed : (rule : Rule) (f : Fixed) → rule table.fixed true_reply f → changes s p Read (Tid t) rule true_reply (with_table s t f)
@@ -337,8 +337,8 @@ module _ (p t : ℕ) where
         let good = told-found was.content.kind was.content.keypos asked was.content.slots key is.slots e in
         record { slot = λ here. subst (λ (ss : List Slot). HasSlot ss key) lent-slots good.1; shallow = good.0.0; no_end = good.0.1 }
 
-    pub found : (asked found : Option Term) → CanGoOn t (seen s) asked → key_told asked was.content.slots ≡ Some found → Finds p t asked (seen s) (Ok found)
-    found asked found can_go e =
+    pub finds : (asked found : Option Term) → CanGoOn t (seen s) asked → key_told asked was.content.slots ≡ Some found → Finds p t asked (seen s) (Ok found)
+    finds asked found can_go e =
         let l = lent s was there can in
         let told : key_told asked l.table.fixed.content.slots ≡ Some found = subst (λ (g : Fixed). key_told asked g.content.slots ≡ Some found) l.is e in
         (can_read-seen s ∙ can, call-seen asked found (call-done s l.table l.at l.living l.readable asked found (can-shallow (seen s) asked can_go) told), goes-on asked found e)

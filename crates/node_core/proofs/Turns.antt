@@ -48,7 +48,7 @@ length-more : {X : Type 0} (xs : List X) (x : X) → length (xs ++ x ∷ []) ≡
 length-more [] x = refl
 length-more (y ∷ xs) x = ap suc (length-more xs x)
 
-steps-paired : (n : ℕ) (steps : List Step) → steps_of (paired n steps) ≡ steps
+pub steps-paired : (n : ℕ) (steps : List Step) → steps_of (paired n steps) ≡ steps
 steps-paired n [] = refl
 steps-paired n (s ∷ steps) = ap (λ xs. s ∷ xs) (steps-paired n steps)
 
@@ -80,7 +80,7 @@ module _ (p t : ℕ) where
   table-at (Some table) e = number-same t
 
   names-table : (s : State) → is_there t s ≡ true → is_table s t (Tid t) ≡ true
-  unfolding out-Term
+  unfolding out-Term denote.Hole.Carrier.out
   names-table s h = table-at (table_at s.world.tables t) h
 
   asked-by : (b c : Bool) (o : Option (Option Term)) → b ≡ true → c ≡ true → cond b (cond c o None) None ≡ o
@@ -98,7 +98,7 @@ module _ (p t : ℕ) where
   key-front call key s there fixed h further more others end w = record {
     done = (s, h, w.done);
     answers = subst (λ (o : Option (Option Term)). MatchOption o (Walks p t call (key ∷ further) s more others end w.done) (λ asked. (asked ≡ call) × Answers (Value key) more (key ∷ further) (λ key keys. Walks p t (Some key) keys s more others end w.done)))
-        (sym (asked s call there)) (refl, refl, w.answers);
+        (sym (asked s call there)) (refl, (refl, w.answers));
     held = (fixed, w.held);
   }
 
@@ -107,8 +107,8 @@ module _ (p t : ℕ) where
   end-front call s there fixed h = record {
     done = (s, h, refl);
     answers = subst (λ (o : Option (Option Term)). MatchOption o (Walks p t call [] s [] [] s refl) (λ asked. (asked ≡ call) × Answers (key_reply None) [] [] (λ key keys. Walks p t (Some key) keys s [] [] s refl)))
-        (sym (asked s call there)) (refl, refl, refl);
-    held = (fixed, fixed, tt);
+        (sym (asked s call there)) (refl, (refl, refl));
+    held = (fixed, (fixed, tt));
   }
 
   moved : (call : Option Term) (keys keys' : List Term) (s : State) (xs xs' : List Step) (rs rs' : List Reply) (end : State) → keys' ≡ keys → xs' ≡ xs → rs' ≡ rs
@@ -195,7 +195,7 @@ module _ (p t : ℕ) where
     pub past-limit : (keys : List Term) (given : Given) (key : Term) (now : State) (limit : ℕ) → Stands p t old keys given (Some key) now → length keys ≡ limit → Halts p t old limit keys given fault.LimitReached now
     past-limit keys given key now limit st many =
         halts-at keys given (Some key) now st fault.LimitReached limit keys given [] [] [] [] now (same-order keys given (Some key) now st) (sym (append-none (walk p t keys []))) refl tt
-        (refl, many, true_reply ∷ st.before, key, ap (λ rs. true_reply ∷ rs) (append-none (st.before ++ Value key ∷ [])), st.goes_on.no_end)
+        (refl, many, (true_reply ∷ st.before, key, ap (λ rs. true_reply ∷ rs) (append-none (st.before ++ Value key ∷ [])), st.goes_on.no_end))
 
     -- ---- the turn of a key
     module _ (keys : List Term) (given : Given) (key : Term) (now : State) (st : Stands p t old keys given (Some key) now) (steps : List Step) where
@@ -220,9 +220,9 @@ module _ (p t : ℕ) where
           (g.0, g.1, steps_of left ++ next p t key ∷ [], refl, handed-in n (paired (length keys) steps) g left e, ap (λ (x : ℕ × Step). is_step_of p x.1) is ∙ h.2)
         where
           cut : (n : ℕ) (xs : Given) (g : ℕ × Step) (left : Given) → drop n xs ≡ g ∷ left → Contains xs g
-          cut zero xs g left e = subst (λ (ys : Given). Contains ys g) (sym e) (inl refl)
+          cut zero xs g left e = subst (λ (ys : Given). Contains ys g) (sym e) (0, omega arith, refl)
           cut (suc n) [] g left e = cc
-          cut (suc n) (x ∷ xs) g left e = inr (cut n xs g left e)
+          cut (suc n) (x ∷ xs) g left e = let c = cut n xs g left e in let below = c.1 in (suc c.0, omega (arith, below), c.2)
 
           handed-in : (n : ℕ) (xs : Given) (g : ℕ × Step) (left : Given) → drop n xs ≡ g ∷ left → Contains (given ++ xs) g
           handed-in n xs g left e = Contains-append_right given xs g (cut n xs g left e)

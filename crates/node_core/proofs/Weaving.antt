@@ -11,7 +11,7 @@ use Rattle.node_core.specs.Woven.{is_step_of, Given, steps_at, first, next, turn
 abbrev pub paired : ℕ → List Step → Given
 paired n steps = map (λ s. (n, s)) steps
 
-number-same : (n : ℕ) → (n == n) ≡ true
+pub number-same : (n : ℕ) → (n == n) ≡ true
 number-same n = grind (arith, nat_tests)
 
 number-below : (a n : ℕ) → a < n → (a == n) ≡ false
@@ -80,7 +80,7 @@ module _ (p t : ℕ) where
   walk-more keys key given steps h = ap (λ xs. first p t ∷ xs) (turns-more 0 (length keys) keys key given steps (omega arith) h)
 
   -- ---- the walker's own steps
-  own-kept : (xs : List Step) (s : Step) → is_step_of p s ≡ true → filter (is_step_of p) (s ∷ xs) ≡ s ∷ filter (is_step_of p) xs
+  pub own-kept : (xs : List Step) (s : Step) → is_step_of p s ≡ true → filter (is_step_of p) (s ∷ xs) ≡ s ∷ filter (is_step_of p) xs
   own-kept xs s e = ap (λ (b : Bool). cond b (s ∷ filter (is_step_of p) xs) (filter (is_step_of p) xs)) e
 
   pub none-own : (xs : List Step) → AllByRecursion (λ s. is_step_of p s ≡ false) xs → filter (is_step_of p) xs ≡ []

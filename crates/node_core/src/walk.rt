@@ -91,11 +91,12 @@ fn walk_held<H: KeyHash + Copy + Drop, O: Others>(
 ) -> Result<Walk, WalkFault>
     requires keys { O.keys others.old ≡ [] }
     requires steps { O.steps others.old ≡ [] }
+    requires held { (old : State) × Holds pid id old (Ok tt) (seen node.old) }
     ensures { (old : State) → Holds pid id old (Ok tt) (seen node.old) → EndsIn pid id old limit (O.keys others.new) (O.steps others.new) result (seen node.new) }
 {
     let mut keys = Vec::new(node.allocator());
     let mut found = node.key_behind(pid, id, None)?;
-    for _ in 0..limit {
+    for _at in 0..limit {
         let Some(key) = found else {
             return Ok(Walk::over(keys));
         };
@@ -116,7 +117,8 @@ fn turn<H: KeyHash + Copy + Drop, O: Others>(
     keys: &mut Vec<Term>,
     others: &mut O,
 ) -> Result<Option<Term>, WalkFault>
-    requires { O.keys others.old ≡ keys.old.items }
+    requires keys { O.keys others.old ≡ keys.old.items }
+    requires stands { (old : State) × Stands pid id old (O.keys others.old) (O.steps others.old) (Some key) (seen node.old) }
     ensures keys { OnOk result (keys.new.items ≡ O.keys others.new) }
     ensures turn { (old : State) → Stands pid id old (O.keys others.old) (O.steps others.old) (Some key) (seen node.old) → TurnsTo pid id old (O.keys others.new) (O.steps others.new) result (seen node.new) }
 {
