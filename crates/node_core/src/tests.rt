@@ -16,6 +16,7 @@ mod searching;
 mod tables;
 mod text;
 mod updates;
+mod walk_among;
 
 /// A step, told.
 #[derive(Clone, Copy)]
