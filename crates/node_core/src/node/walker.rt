@@ -65,7 +65,7 @@ impl<H: KeyHash + Copy + Drop> Node<H> {
         last: Option<&Term>,
     ) -> Result<Option<Term>, WalkFault>
         requires { CanGoOn id (seen self.now) (option_copied last) }
-        ensures { Finds pid id (option_copied last) (seen self.now) result }
+        ensures { Finds pid id (option_copied last.entry) (seen self.now) result }
     {
         if !self.can_read(pid, id) {
             return Err(WalkFault::Lost);

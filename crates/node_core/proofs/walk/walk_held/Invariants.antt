@@ -8,6 +8,6 @@ use Rattle.node_core.proofs.walk.walk_held.Given as goal
 abbrev pub invariant-loop-at : goal.invariant-loop-at
 invariant-loop-at g l = record {
   told : g.O.Others.keys l.others ≡ l.keys.items;
-  count : vec_len l.keys ≡ l.at;
+  count : vec_len l.keys ≡ l._at;
   stands : (old : State) → Holds l.pid l.id old (Ok tt) (seen l.fn.node) → Stands l.pid l.id old l.keys.items (g.O.Others.steps l.others) l.found (seen l.node);
 }
