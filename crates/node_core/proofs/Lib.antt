@@ -7,6 +7,7 @@ pub mod Fixing
 pub mod Following
 pub mod Growing
 pub mod OthersRuns
+pub mod OthersSteps
 pub mod OwnCalls
 pub mod Reached
 pub mod Removals
