@@ -231,8 +231,8 @@ fn nine<H: KeyHash + Copy + Drop>(alloc: Global, hash: H) -> Result<Vec<i64>, Al
 #[test]
 fn keys_that_go_and_come_again_are_walked_once(rt: HostRuntime) -> Result<(), Fail> {
     let wanted = [1, 2, 3, 4, 5, 6, 7, 8, 9];
-    assert_eq!(rt; nine(rt.alloc(), Fnv)?.as_slice(), &wanted);
-    assert_eq!(rt; nine(rt.alloc(), AllSame)?.as_slice(), &wanted);
+    assert_eq!(rt; nine(rt.alloc(), Fnv)?.as_slice(), wanted.as_slice());
+    assert_eq!(rt; nine(rt.alloc(), AllSame)?.as_slice(), wanted.as_slice());
     Ok(())
 }
 
