@@ -1,106 +1,107 @@
 -- What a step does to each table: it stays, with its name and its buckets, and keeps its keys; or it is new.
-use Rattle.std.proofs.Common.{◌≡◌, ℕ, zero, suc, ◌⊎◌, inl, inr, true, [], ◌∷◌, ◌++◌, Option, None, Some, option_map, refl, sym, subst, ap, ◌∙◌, length, map}
+use Rattle.std.proofs.Common.{◌≡◌, ℕ, zero, suc, ◌⊎◌, inl, inr, Bool, true, [], ◌∷◌, ◌++◌, Option, None, Some, option_map, refl, sym, subst, ap, ◌∙◌, length, map}
 use Rattle.std.specs.Prelude.{MatchOption, slice_set}
 use Rattle.fixed_walk.specs.Fixed.{Fixed}
 use Rattle.ownership.specs.World.{Table, Tables, table_at, whereis, with_fixed, fixed_in}
 use Rattle.ownership.specs.Tables.{changed}
 use Rattle.node_core.proofs.SeenRules.{IsTame, tame-same}
 
-pub record Stays (was table : Table) : Type 0 where
-  pub name : table.head.name ≡ was.head.name
-  pub named : table.head.named ≡ was.head.named
-  pub fixed : IsTame was.fixed table.fixed
+module _ (own : ℕ → Bool) where
+  pub record Stays (was table : Table) : Type 0 where
+    pub name : table.head.name ≡ was.head.name
+    pub named : table.head.named ≡ was.head.named
+    pub fixed : IsTame own was.fixed table.fixed
 
--- a table that is new stands last, has no slot, and has no name that another has
-pub record Enters (old : Tables) (t : ℕ) (table : Table) : Type 0 where
-  pub place : t ≡ length old
-  pub bare : table.fixed.content.slots ≡ []
-  pub free : table.head.named ≡ true → whereis old table.head.name ≡ None
+  -- a table that is new stands last, has no slot, and has no name that another has
+  pub record Enters (old : Tables) (t : ℕ) (table : Table) : Type 0 where
+    pub place : t ≡ length old
+    pub bare : table.fixed.content.slots ≡ []
+    pub free : table.head.named ≡ true → whereis old table.head.name ≡ None
 
-abbrev pub Came : Tables → ℕ → Option Table → Table → Type 0
-Came old t before table = MatchOption before (Enters old t table) (λ was. Stays was table)
+  abbrev pub Came : Tables → ℕ → Option Table → Table → Type 0
+  Came old t before table = MatchOption before (Enters old t table) (λ was. Stays was table)
 
--- each table stays or is new
-abbrev pub Follows : Tables → Tables → Type 0
-Follows old new = (t : ℕ) (table : Table) → table_at new t ≡ Some table → Came old t (table_at old t) table
+  -- each table stays or is new
+  abbrev pub Follows : Tables → Tables → Type 0
+  Follows old new = (t : ℕ) (table : Table) → table_at new t ≡ Some table → Came old t (table_at old t) table
 
-pub stays-same : (table : Table) → Stays table table
-stays-same table = record { name = refl; named = refl; fixed = tame-same table.fixed table.fixed refl }
+  pub stays-same : (table : Table) → Stays table table
+  stays-same table = record { name = refl; named = refl; fixed = tame-same own table.fixed table.fixed refl }
 
-stayed : (old : Tables) (t : ℕ) (was table : Table) → table_at old t ≡ Some was → Stays was table → Came old t (table_at old t) table
-stayed old t was table at stays = subst (λ (o : Option Table). Came old t o table) (sym at) stays
+  stayed : (old : Tables) (t : ℕ) (was table : Table) → table_at old t ≡ Some was → Stays was table → Came old t (table_at old t) table
+  stayed old t was table at stays = subst (λ (o : Option Table). Came old t o table) (sym at) stays
 
-pub follows-same : (old new : Tables) → new ≡ old → Follows old new
-follows-same old new same t table at = stayed old t table table (subst (λ (ts : Tables). table_at ts t ≡ Some table) same at) (stays-same table)
+  pub follows-same : (old new : Tables) → new ≡ old → Follows old new
+  follows-same old new same t table at = stayed old t table table (subst (λ (ts : Tables). table_at ts t ≡ Some table) same at) (stays-same table)
 
--- ---- one place is written
-set-at : (ts : Tables) (place t : ℕ) (o : Option Table) (table : Table) → table_at (slice_set ts place o) t ≡ Some table → (table_at ts t ≡ Some table) ⊎ ((t ≡ place) × (o ≡ Some table))
-set-at [] place t o table at = inl at
-set-at (x ∷ xs) zero zero o table at = inr (refl, at)
-set-at (x ∷ xs) zero (suc t) o table at = inl at
-set-at (x ∷ xs) (suc place) zero o table at = inl at
-set-at (x ∷ xs) (suc place) (suc t) o table at = up (set-at xs place t o table at)
-  where
-    up : (table_at xs t ≡ Some table) ⊎ ((t ≡ place) × (o ≡ Some table)) → (table_at xs t ≡ Some table) ⊎ ((suc t ≡ suc place) × (o ≡ Some table))
-    up (inl h) = inl h
-    up (inr h) = inr (ap suc h.0, h.1)
+  -- ---- one place is written
+  set-at : (ts : Tables) (place t : ℕ) (o : Option Table) (table : Table) → table_at (slice_set ts place o) t ≡ Some table → (table_at ts t ≡ Some table) ⊎ ((t ≡ place) × (o ≡ Some table))
+  set-at [] place t o table at = inl at
+  set-at (x ∷ xs) zero zero o table at = inr (refl, at)
+  set-at (x ∷ xs) zero (suc t) o table at = inl at
+  set-at (x ∷ xs) (suc place) zero o table at = inl at
+  set-at (x ∷ xs) (suc place) (suc t) o table at = up (set-at xs place t o table at)
+    where
+      up : (table_at xs t ≡ Some table) ⊎ ((t ≡ place) × (o ≡ Some table)) → (table_at xs t ≡ Some table) ⊎ ((suc t ≡ suc place) × (o ≡ Some table))
+      up (inl h) = inl h
+      up (inr h) = inr (ap suc h.0, h.1)
 
--- what is written at a place is what stood there, or a table that stays
-abbrev Written : Option Table → Option Table → Type 0
-Written before o = (table : Table) → o ≡ Some table → (was : Table) × (before ≡ Some was) × Stays was table
+  -- what is written at a place is what stood there, or a table that stays
+  abbrev Written : Option Table → Option Table → Type 0
+  Written before o = (table : Table) → o ≡ Some table → (was : Table) × (before ≡ Some was) × Stays was table
 
-pub follows-set : (ts : Tables) (place : ℕ) (o : Option Table) → Written (table_at ts place) o → Follows ts (slice_set ts place o)
-follows-set ts place o written t table at = by (set-at ts place t o table at)
-  where
-    by : (table_at ts t ≡ Some table) ⊎ ((t ≡ place) × (o ≡ Some table)) → Came ts t (table_at ts t) table
-    by (inl same) = stayed ts t table table same (stays-same table)
-    by (inr here) = let w = written table here.1 in stayed ts t w.0 table (ap (table_at ts) here.0 ∙ w.1) w.2
+  pub follows-set : (ts : Tables) (place : ℕ) (o : Option Table) → Written (table_at ts place) o → Follows ts (slice_set ts place o)
+  follows-set ts place o written t table at = by (set-at ts place t o table at)
+    where
+      by : (table_at ts t ≡ Some table) ⊎ ((t ≡ place) × (o ≡ Some table)) → Came ts t (table_at ts t) table
+      by (inl same) = stayed ts t table table same (stays-same table)
+      by (inr here) = let w = written table here.1 in stayed ts t w.0 table (ap (table_at ts) here.0 ∙ w.1) w.2
 
-pub follows-gone : (ts : Tables) (place : ℕ) → Follows ts (slice_set ts place None)
-follows-gone ts place = follows-set ts place None (λ table e. cc)
+  pub follows-gone : (ts : Tables) (place : ℕ) → Follows ts (slice_set ts place None)
+  follows-gone ts place = follows-set ts place None (λ table e. cc)
 
-fixed-written : (before : Option Table) (f : Fixed) → ((was : Table) → before ≡ Some was → IsTame was.fixed f) → Written before (fixed_in before f)
-fixed-written None f tame table e = cc
-fixed-written (Some was) f tame table e =
-    let is : record was { fixed = f } ≡ table = cc in
-    (was, refl, subst (Stays was) is (record { name = refl; named = refl; fixed = tame was refl }))
+  fixed-written : (before : Option Table) (f : Fixed) → ((was : Table) → before ≡ Some was → IsTame own was.fixed f) → Written before (fixed_in before f)
+  fixed-written None f tame table e = cc
+  fixed-written (Some was) f tame table e =
+      let is : record was { fixed = f } ≡ table = cc in
+      (was, refl, subst (Stays was) is (record { name = refl; named = refl; fixed = tame was refl }))
 
-pub follows-fixed : (ts : Tables) (place : ℕ) (f : Fixed) → ((was : Table) → table_at ts place ≡ Some was → IsTame was.fixed f) → Follows ts (with_fixed ts place f)
-follows-fixed ts place f tame = follows-set ts place (fixed_in (table_at ts place) f) (fixed-written (table_at ts place) f tame)
+  pub follows-fixed : (ts : Tables) (place : ℕ) (f : Fixed) → ((was : Table) → table_at ts place ≡ Some was → IsTame own was.fixed f) → Follows ts (with_fixed ts place f)
+  follows-fixed ts place f tame = follows-set ts place (fixed_in (table_at ts place) f) (fixed-written (table_at ts place) f tame)
 
-change-written : (change : Table → Table) → ((table : Table) → Stays table (change table)) → (before : Option Table) → Written before (option_map change before)
-change-written change stays None table e = cc
-change-written change stays (Some was) table e = let is : change was ≡ table = cc in (was, refl, subst (Stays was) is (stays was))
+  change-written : (change : Table → Table) → ((table : Table) → Stays table (change table)) → (before : Option Table) → Written before (option_map change before)
+  change-written change stays None table e = cc
+  change-written change stays (Some was) table e = let is : change was ≡ table = cc in (was, refl, subst (Stays was) is (stays was))
 
-pub follows-changed : (change : Table → Table) → ((table : Table) → Stays table (change table)) → (ts : Tables) (place : ℕ) → Follows ts (changed change ts place)
-follows-changed change stays ts place = follows-set ts place (option_map change (table_at ts place)) (change-written change stays (table_at ts place))
+  pub follows-changed : (change : Table → Table) → ((table : Table) → Stays table (change table)) → (ts : Tables) (place : ℕ) → Follows ts (changed change ts place)
+  follows-changed change stays ts place = follows-set ts place (option_map change (table_at ts place)) (change-written change stays (table_at ts place))
 
--- ---- a table more
-push-at : (ts : Tables) (t : ℕ) (new table : Table) → table_at (ts ++ Some new ∷ []) t ≡ Some table → (table_at ts t ≡ Some table) ⊎ ((t ≡ length ts) × (table_at ts t ≡ None) × (new ≡ table))
-push-at [] zero new table at = inr (refl, refl, (cc))
-push-at [] (suc t) new table at = cc
-push-at (x ∷ xs) zero new table at = inl at
-push-at (x ∷ xs) (suc t) new table at = up (push-at xs t new table at)
-  where
-    up : (table_at xs t ≡ Some table) ⊎ ((t ≡ length xs) × (table_at xs t ≡ None) × (new ≡ table)) → (table_at xs t ≡ Some table) ⊎ ((suc t ≡ suc (length xs)) × (table_at xs t ≡ None) × (new ≡ table))
-    up (inl h) = inl h
-    up (inr h) = inr (ap suc h.0, h.1, h.2)
+  -- ---- a table more
+  push-at : (ts : Tables) (t : ℕ) (new table : Table) → table_at (ts ++ Some new ∷ []) t ≡ Some table → (table_at ts t ≡ Some table) ⊎ ((t ≡ length ts) × (table_at ts t ≡ None) × (new ≡ table))
+  push-at [] zero new table at = inr (refl, refl, (cc))
+  push-at [] (suc t) new table at = cc
+  push-at (x ∷ xs) zero new table at = inl at
+  push-at (x ∷ xs) (suc t) new table at = up (push-at xs t new table at)
+    where
+      up : (table_at xs t ≡ Some table) ⊎ ((t ≡ length xs) × (table_at xs t ≡ None) × (new ≡ table)) → (table_at xs t ≡ Some table) ⊎ ((suc t ≡ suc (length xs)) × (table_at xs t ≡ None) × (new ≡ table))
+      up (inl h) = inl h
+      up (inr h) = inr (ap suc h.0, h.1, h.2)
 
-pub follows-push : (ts : Tables) (new : Table) → new.fixed.content.slots ≡ [] → (new.head.named ≡ true → whereis ts new.head.name ≡ None) → Follows ts (ts ++ Some new ∷ [])
-follows-push ts new bare free t table at = by (push-at ts t new table at)
-  where
-    by : (table_at ts t ≡ Some table) ⊎ ((t ≡ length ts) × (table_at ts t ≡ None) × (new ≡ table)) → Came ts t (table_at ts t) table
-    by (inl same) = stayed ts t table table same (stays-same table)
-    by (inr more) =
-        subst (λ (o : Option Table). Came ts t o table) (sym more.1) (
-        subst (Enters ts t) more.2 (record { place = more.0; bare = bare; free = free }))
+  pub follows-push : (ts : Tables) (new : Table) → new.fixed.content.slots ≡ [] → (new.head.named ≡ true → whereis ts new.head.name ≡ None) → Follows ts (ts ++ Some new ∷ [])
+  follows-push ts new bare free t table at = by (push-at ts t new table at)
+    where
+      by : (table_at ts t ≡ Some table) ⊎ ((t ≡ length ts) × (table_at ts t ≡ None) × (new ≡ table)) → Came ts t (table_at ts t) table
+      by (inl same) = stayed ts t table table same (stays-same table)
+      by (inr more) =
+          subst (λ (o : Option Table). Came ts t o table) (sym more.1) (
+          subst (Enters ts t) more.2 (record { place = more.0; bare = bare; free = free }))
 
--- ---- each place is mapped
-map-at : (change : Option Table → Option Table) → change None ≡ None → (ts : Tables) (t : ℕ) (table : Table) → table_at (map change ts) t ≡ Some table → (was : Table) × (table_at ts t ≡ Some was) × (change (Some was) ≡ Some table)
-map-at change none [] t table at = cc
-map-at change none (None ∷ xs) zero table at = let e : None ≡ Some table = sym none ∙ at in cc
-map-at change none (Some was ∷ xs) zero table at = (was, refl, at)
-map-at change none (x ∷ xs) (suc t) table at = map-at change none xs t table at
+  -- ---- each place is mapped
+  map-at : (change : Option Table → Option Table) → change None ≡ None → (ts : Tables) (t : ℕ) (table : Table) → table_at (map change ts) t ≡ Some table → (was : Table) × (table_at ts t ≡ Some was) × (change (Some was) ≡ Some table)
+  map-at change none [] t table at = cc
+  map-at change none (None ∷ xs) zero table at = let e : None ≡ Some table = sym none ∙ at in cc
+  map-at change none (Some was ∷ xs) zero table at = (was, refl, at)
+  map-at change none (x ∷ xs) (suc t) table at = map-at change none xs t table at
 
-pub follows-map : (change : Option Table → Option Table) → change None ≡ None → ((was table : Table) → change (Some was) ≡ Some table → Stays was table) → (ts : Tables) → Follows ts (map change ts)
-follows-map change none stays ts t table at = let was = map-at change none ts t table at in stayed ts t was.0 table was.1 (stays was.0 table was.2)
+  pub follows-map : (change : Option Table → Option Table) → change None ≡ None → ((was table : Table) → change (Some was) ≡ Some table → Stays was table) → (ts : Tables) → Follows ts (map change ts)
+  follows-map change none stays ts t table at = let was = map-at change none ts t table at in stayed ts t was.0 table was.1 (stays was.0 table was.2)

@@ -1,8 +1,9 @@
 -- The node's steps as steps over what calls can see: a call, an enrolment and an end may come to the same without the buckets of
 -- tables, which they leave as they were; growing and readying come to nothing.
-use Rattle.std.proofs.Common.{◌≡◌, ℕ, List, Option, None, Some, option_map, refl, sym, subst, ap, ◌∙◌}
+use Rattle.std.proofs.Common.{Bool, true, ◌==◌, arith, ◌≡◌, ℕ, List, Option, None, Some, option_map, refl, sym, subst, ap, ◌∙◌}
 use Rattle.std.specs.Prelude.{MatchOption}
 use Rattle.std.specs.Option.{option_map_or}
+use Rattle.std.proofs.lemmas.Bool.Decides.{nat_tests}
 use Rattle.ets_term.specs.declared.term.Term.{Term}
 use Rattle.ets_term.specs.declared.term.Term.TheVariants.{Pid}
 use Rattle.fixed_walk.specs.Fixed.{Fixed}
@@ -25,36 +26,46 @@ use Rattle.node_core.proofs.SeenTables.{seen_world, at-seen, same-seen}
 use Rattle.node_core.proofs.WorldLaws.{enrol-lawful, end-lawful}
 
 -- a table that is there before and after stays
-pub stays-there : (old new : State) → Follows old.world.tables new.world.tables → (t : ℕ) (was table : Table) → table_at old.world.tables t ≡ Some was → table_at new.world.tables t ≡ Some table → Stays was table
-stays-there old new follows t was table before after = subst (λ (o : Option Table). Came old.world.tables t o table) before (follows t table after)
+pub stays-there : (own : ℕ → Bool) (old new : State) → Follows own old.world.tables new.world.tables → (t : ℕ) (was table : Table) → table_at old.world.tables t ≡ Some was → table_at new.world.tables t ≡ Some table → Stays own was table
+stays-there own old new follows t was table before after = subst (λ (o : Option Table). Came own old.world.tables t o table) before (follows t table after)
 
-pub buckets-kept : (old new : State) → Follows old.world.tables new.world.tables → KeepsBuckets old new
-buckets-kept old new follows t was table before after = let stays = stays-there old new follows t was table before after in stays.fixed.buckets
+pub buckets-kept : (own : ℕ → Bool) (old new : State) → Follows own old.world.tables new.world.tables → KeepsBuckets old new
+buckets-kept own old new follows t was table before after = let stays = stays-there own old new follows t was table before after in stays.fixed.buckets
 
-pub enrol-call : (old : State) (p : ℕ) → IsLawfulCall old (step old (Enrol p)) (step (seen old) (Enrol p))
-enrol-call old p = asks-lawful old (λ _. Value (Pid p)) (tables.Enrol old.world p) (tables.Enrol (seen_world old.world) p) (enrol-lawful old.world p)
+-- the process that does a step, among all
+abbrev pub alone : ℕ → ℕ → Bool
+alone q p = q == p
 
-pub end-call : (old : State) (p : ℕ) → IsLawfulCall old (step old (End p)) (step (seen old) (End p))
-end-call old p = asks-lawful old (λ _. true_reply) (ends.End old.world p) (ends.End (seen_world old.world) p) (end-lawful old.world p)
+alone-acts : (p : ℕ) → alone p p ≡ true
+alone-acts p = grind (arith, nat_tests)
+
+pub enrol-call : (old : State) (p : ℕ) → IsLawfulCall (alone p) old (step old (Enrol p)) (step (seen old) (Enrol p))
+enrol-call old p = asks-lawful (alone p) old (λ _. Value (Pid p)) (tables.Enrol old.world p) (tables.Enrol (seen_world old.world) p) (enrol-lawful (alone p) old.world p)
+
+pub end-call : (old : State) (p : ℕ) → IsLawfulCall (alone p) old (step old (End p)) (step (seen old) (End p))
+end-call old p = asks-lawful (alone p) old (λ _. true_reply) (ends.End old.world p) (ends.End (seen_world old.world) p) (end-lawful (alone p) old.world p (alone-acts p))
+
+pub asked-call : (old : State) (p : ℕ) (name : List ℕ) (args : List Term) → IsLawfulCall (alone p) old (call old p name args) (call (seen old) p name args)
+asked-call old p name args = call-lawful (alone p) old p (alone-acts p) name args
 
 module _ (old new : State) (reply : Reply) where
   pub call-seen : (p : ℕ) (name : List ℕ) (args : List Term) → call old p name args reply new → call (seen old) p name args reply (seen new)
-  call-seen p name args h = let lawful = call-lawful old p name args in lawful.seen reply new h
+  call-seen p name args h = let lawful = asked-call old p name args in lawful.seen reply new h
 
   pub call-keeps : (p : ℕ) (name : List ℕ) (args : List Term) → call old p name args reply new → KeepsBuckets old new
-  call-keeps p name args h = let lawful = call-lawful old p name args in buckets-kept old new (lawful.follows reply new h)
+  call-keeps p name args h = let lawful = asked-call old p name args in buckets-kept (alone p) old new (lawful.follows reply new h)
 
   pub enrol-seen : (p : ℕ) → step old (Enrol p) reply new → step (seen old) (Enrol p) reply (seen new)
   enrol-seen p h = let lawful = enrol-call old p in lawful.seen reply new h
 
   pub enrol-keeps : (p : ℕ) → step old (Enrol p) reply new → KeepsBuckets old new
-  enrol-keeps p h = let lawful = enrol-call old p in buckets-kept old new (lawful.follows reply new h)
+  enrol-keeps p h = let lawful = enrol-call old p in buckets-kept (alone p) old new (lawful.follows reply new h)
 
   pub end-seen : (p : ℕ) → step old (End p) reply new → step (seen old) (End p) reply (seen new)
   end-seen p h = let lawful = end-call old p in lawful.seen reply new h
 
   pub end-keeps : (p : ℕ) → step old (End p) reply new → KeepsBuckets old new
-  end-keeps p h = let lawful = end-call old p in buckets-kept old new (lawful.follows reply new h)
+  end-keeps p h = let lawful = end-call old p in buckets-kept (alone p) old new (lawful.follows reply new h)
 
 -- ---- growing and readying
 module _ (old new : State) (reply : Reply) (t : ℕ) (rule : Rule) (quiet : (f g : Fixed) → rule f reply g → (reply ≡ ok_reply) × (seen_fixed g ≡ seen_fixed f)) where

@@ -17,7 +17,7 @@ use Rattle.node_core.specs.Calls.{call}
 use Rattle.node_core.specs.Machine.{step}
 use Rattle.node_core.specs.rules.Growth.{in_table, Grows, Readies, step_on_buckets}
 use Rattle.node_core.proofs.Following.{follows-same}
-use Rattle.node_core.proofs.Seen.{buckets-kept, call-seen, call-keeps, enrol-seen, enrol-keeps, end-seen, end-keeps, grown-seen, readied-seen}
+use Rattle.node_core.proofs.Seen.{alone, buckets-kept, call-seen, call-keeps, enrol-seen, enrol-keeps, end-seen, end-keeps, grown-seen, readied-seen}
 
 -- what a method ensures of its step
 abbrev pub Does : State → Step → Outcome
@@ -27,7 +27,7 @@ Does old event reply new = step old event reply new
 
 module _ (old new : State) (reply : Reply) (p : ℕ) (name : List ℕ) (args : List Term) where
   same-keeps : new ≡ old → KeepsBuckets old new
-  same-keeps same = buckets-kept old new (follows-same old.world.tables new.world.tables (ap (λ (s : State). s.world.tables) same))
+  same-keeps same = buckets-kept (alone p) old new (follows-same (alone p) old.world.tables new.world.tables (ap (λ (s : State). s.world.tables) same))
 
   -- what a process asks, by its two refusals
   abbrev Asks : Bool → Bool → State → State → Type 0

@@ -19,7 +19,7 @@ use Rattle.node_core.specs.declared.step.Step.{Step}
 use Rattle.node_core.specs.State.{State}
 use Rattle.node_core.specs.Machine.{step, run}
 use Rattle.node_core.specs.rules.Walking.{key_reply}
-use Rattle.node_core.specs.laws.Kept.{slots_in, is_fixed_in, StepsKeepKeys}
+use Rattle.node_core.specs.laws.Kept.{slots_in, is_fixed_in, StepsKeepKeys, is_step_of}
 use Rattle.node_core.specs.laws.Reached.{HasNoEnd, IsSound}
 use Rattle.node_core.specs.laws.Walk.{states, walk_step, Answers, Walks, WalksAreWhole}
 use Rattle.node_core.proofs.EndKeys.{is_end}
@@ -48,7 +48,7 @@ pub ground : StepsKeepKeys
 ground old new s r t h before after =
     let was = there t old before in
     let now = there t new after in
-    let stays = stays-there old new (step-follows old new s r h) t was.table now.table was.at now.at in
+    let stays = stays-there (λ p. is_step_of p s) old new (step-follows old new s r h) t was.table now.table was.at now.at in
     subst (λ (ss : List Slot). IsSubsequence (keys_of ss) (keys_of (slots_in t new))) (own_slots t old was.table was.at) (
     subst (λ (ss : List Slot). IsSubsequence (keys_of was.table.fixed.content.slots) (keys_of ss)) (own_slots t new now.table now.at) (
     stays.fixed.keys.order was.fixed now.fixed))

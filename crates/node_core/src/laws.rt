@@ -1,6 +1,6 @@
 //! What holds of the machine's runs, each law the contract of a function that does nothing.
 
-ghost use Rattle.node_core.specs.laws.Kept.{StepsKeepKeys};
+ghost use Rattle.node_core.specs.laws.Kept.{StepsKeepKeys, FixesAreOwn};
 ghost use Rattle.node_core.specs.laws.Reached.{RunsStaySound, ReachedAreSound};
 ghost use Rattle.node_core.specs.laws.Walk.{WalksAreWhole};
 
@@ -15,6 +15,11 @@ pub fn runs_stay_sound()
 /// among those after, in the same order.
 pub fn steps_keep_keys()
     ensures { StepsKeepKeys }
+{}
+
+/// A step that is not a process's own leaves it as many fixes as it had of each table that stays.
+pub fn steps_keep_fixes_of_others()
+    ensures { FixesAreOwn }
 {}
 
 /// In each run, each walk by `first` and `next` over a table that stays fixed, whoever fixes it, gives no key twice, and
