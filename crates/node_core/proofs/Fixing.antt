@@ -1,8 +1,7 @@
 -- A fix of the table that a term names is a change of the state.
-use Rattle.std.proofs.Common.{◌≡◌, ℕ, Option, Some, refl}
+use Rattle.std.proofs.Common.{◌≡◌, ℕ, Some, refl}
 use Rattle.std.specs.Prelude.{option_map, Ok, Err}
 use Rattle.ets_term.specs.declared.term.Term.{Term}
-use Rattle.table_ops.specs.declared.refusal.Refusal.TheVariants as refusal
 use Rattle.fixed_walk.specs.declared.fault.FixFault.TheVariants as fault
 use Rattle.fixed_walk.specs.Fixed.{Fixed, FixesOnce}
 use Rattle.node_core.specs.declared.node.access.Access.TheVariants.{Read}
@@ -12,7 +11,6 @@ use Rattle.node_core.specs.Access.{usable, changes}
 use Rattle.node_core.specs.rules.Replies.{true_reply}
 use Rattle.node_core.specs.rules.Walking.{Fixes}
 use Rattle.node_core.specs.inside.Lending.{with_usable}
-use Rattle.node_core.specs.inside.Refusals.{Comes}
 use Rattle.node_core.proofs.Changes.{changed, unchanged}
 
 module _ (old : State) (p : ℕ) (term : Term) (was f : Fixed) (there : Some was ≡ option_map (λ found. found.1.fixed) (usable Read old.world.tables p term)) where

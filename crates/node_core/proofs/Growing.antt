@@ -2,7 +2,7 @@
 use Rattle.std.proofs.Common.{◌≡◌, ℕ, Option, None, Some, refl, ap, subst, ◌∙◌}
 use Rattle.std.specs.Prelude.{MatchOption, option_map}
 use Rattle.fixed_walk.specs.Fixed.{Fixed}
-use Rattle.ownership.specs.World.{Table, table_at, with_fixed}
+use Rattle.ownership.specs.World.{Table, table_at}
 use Rattle.ownership.proofs.Heads.{fixed-same}
 use Rattle.node_core.specs.declared.step.Reply.{Reply}
 use Rattle.node_core.specs.declared.step.Reply.TheVariants.{Badarg}

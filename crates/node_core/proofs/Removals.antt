@@ -1,5 +1,5 @@
 -- Deleting an object takes no memory.
-use Rattle.std.proofs.Common.{◌≡◌, Bool, Option, None, Some, Ok, Err}
+use Rattle.std.proofs.Common.{Bool, Option, None, Some, Ok, Err}
 use Rattle.std.specs.Prelude.{MatchOption}
 use Rattle.ets_term.specs.declared.term.Term.{Term}
 use Rattle.table_ops.specs.declared.refusal.Refusal.{Refusal}

@@ -26,7 +26,7 @@ use Rattle.table_ops.specs.Update.{UpdatesCounter, UpdatesElement}
 use Rattle.fixed_walk.specs.declared.fault.FixFault.{FixFault}
 use Rattle.fixed_walk.specs.declared.fault.FixFault.TheVariants as fault
 use Rattle.fixed_walk.specs.Fixes.{FixCounts, is_fixed, with_count, fix_count}
-use Rattle.fixed_walk.specs.Fixed.{Fixed, on_content, FixesOnce, settled, released, all_released}
+use Rattle.fixed_walk.specs.Fixed.{Fixed, on_content, FixesOnce, settled, all_released}
 use Rattle.fixed_walk.specs.laws.Kept.{KeepsKeys, AlwaysKeeps}
 use Rattle.fixed_walk.proofs.KeptLaws.{insert-keeps, insert_new-keeps, update_counter-keeps, update_element-keeps, delete-keeps, delete_object-keeps, fix-keeps, release-keeps, release_all-keeps, rows-keep}
 use Rattle.node_core.specs.declared.step.Reply.{Reply}

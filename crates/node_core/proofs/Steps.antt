@@ -6,7 +6,6 @@ use Rattle.std.specs.declared.alloc.AllocError.{AllocError}
 use Rattle.ets_term.specs.declared.term.Term.{Term}
 use Rattle.ets_term.specs.Depth.{is_too_deep}
 use Rattle.ownership.specs.World.{lives}
-use Rattle.node_core.specs.declared.step.Call.{Call}
 use Rattle.node_core.specs.declared.step.Step.{Step}
 use Rattle.node_core.specs.declared.step.Step.TheVariants.{Enrol, End, Ask, Grow, Ready}
 use Rattle.node_core.specs.declared.step.Reply.{Reply}

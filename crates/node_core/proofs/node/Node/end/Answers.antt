@@ -1,5 +1,5 @@
 use Rattle.ownership.specs.End as ends
-use Rattle.node_core.specs.State.{State, Outcome}
+use Rattle.node_core.specs.State.{State}
 use Rattle.node_core.specs.Access.{asks}
 use Rattle.node_core.specs.inside.Refusals.{refused_as}
 use Rattle.node_core.specs.rules.Replies.{true_reply}
