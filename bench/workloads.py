@@ -86,22 +86,20 @@ def bags(count: int) -> Iterator[str]:
 
 
 def heirs(count: int) -> Iterator[str]:
-    """Processes with a table each, that goes to the first process as they end, or away with them: 2,000 at a time."""
+    """Processes with sixteen tables each, which go to the first process as they end, or away with them."""
     yield "spawn p"
-    for past in range(0, count, 2_000):
-        block = range(past + 1, min(past + 2_000, count) + 1)
-        for i in block:
+    for process in range(1, max(count // 16, 1) + 1):
+        own = range(16 * process, 16 * process + 16)
+        yield f"spawn p{process}"
+        for i in own:
             heir = ",{heir,<0.0.0>,g}" if i % 2 else ""
-            yield f"spawn p{i}"
-            yield f"p{i} new(t{i},[named_table,public{heir}])"
-            yield f"p{i} insert(t{i},{{a,{i}}})"
-        for i in block:
-            yield f"exit p{i}"
+            yield f"p{process} new(t{i},[named_table,public{heir}])"
+            yield f"p{process} insert(t{i},{{a,{i}}})"
+        yield f"exit p{process}"
         yield "p receive()"
-        for i in block:
-            if i % 2:
-                yield f"p lookup(t{i},a)"
-                yield f"p delete(t{i})"
+        for i in own[1::2]:
+            yield f"p lookup(t{i},a)"
+            yield f"p delete(t{i})"
 
 
 def walk(count: int) -> Iterator[str]:
@@ -189,7 +187,7 @@ WORKLOADS = [
     Workload("counters", "update_counter over 100 keys", counters, 3_000_000, 50_000),
     Workload("select", "select with a bound key, and each 50th unbound, over 10,000 objects", select, 200_000, 1_000, True),
     Workload("bags", "100 objects a key in a bag", bags, 600_000, 10_000),
-    Workload("heirs", "processes with a table each, heirs and exits", heirs, 100_000, 500),
+    Workload("heirs", "4,000 processes with sixteen tables each, heirs and exits", heirs, 64_000, 800),
     Workload("sessions", "a cache: insert, lookup, update_counter, and select_delete of the old", sessions, 300_000, 3_000),
     Workload("routes", "match with a bound key over a bag of 50,000 keys", routes, 600_000, 5_000),
     Workload("tables", "65,536 tables, an insertion and a lookup in each", tables, 65_536, 2_000),
