@@ -167,6 +167,17 @@ def filled(count: int) -> list[str]:
     return table() + ["p insert(t,[" + ",".join(f"{{{k},{3 * k}}}" for k in row) + "])" for row in rows]
 
 
+def rounds(count: int, fixed: bool) -> list[str]:
+    """Deletions of so many objects, each in a table that is fixed for it alone, or between two calls that fix nothing."""
+    before, after = ("safe_fixtable(t,true)", "safe_fixtable(t,false)") if fixed else ("member(t,none)", "member(t,none)")
+    return [line for i in range(count) for line in (f"p {before}", f"p delete(t,{i})", f"p {after}")]
+
+
+def singly(count: int) -> list[str]:
+    """Objects {K,V} with V = 3 K, one a line."""
+    return table() + [f"p insert(t,{{{k},{3 * k}}})" for k in shuffled(count)]
+
+
 def searches(count: int) -> list[Search]:
     value = count // 2 * 3
     return [
@@ -178,6 +189,28 @@ def searches(count: int) -> list[Search]:
         Search("select_delete of half", f"p select_delete(t,[{{{{'_','$1'}},[{{'>','$1',{value}}}],[true]}}])", 1),
     ]
 
+
+@dataclass(frozen=True)
+class Shape:
+    """Objects of one shape, one a line, for what they take in memory."""
+
+    name: str
+    options: str
+    object: Callable[[int], str]
+
+    def lines(self, count: int) -> Iterator[str]:
+        yield from table(self.options)
+        for i in shuffled(count):
+            yield f"p insert(t,{self.object(i)})"
+
+
+TEN_BYTES = "<<" + ",".join(map(str, range(10))) + ">>"
+
+SHAPES = [
+    Shape("{Int,Int}", "", lambda i: f"{{{i},{i * 3}}}"),
+    Shape("{Atom,Binary of 10 bytes}", "", lambda i: f"{{k{i},{TEN_BYTES}}}"),
+    Shape("{Int,Int} in a bag, 100 a key", ",bag", lambda i: f"{{{i // 100},{i}}}"),
+]
 
 # The full sizes keep the fastest peer busy for half a second or more on a machine with nothing else to do.
 WORKLOADS = [

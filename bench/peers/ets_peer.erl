@@ -61,6 +61,7 @@ serve() ->
 call(<<"new">>, [Name, Options]) -> ets:new(Name, Options);
 call(<<"insert">>, [T, X]) -> ets:insert(T, X);
 call(<<"lookup">>, [T, K]) -> ets:lookup(T, K);
+call(<<"member">>, [T, K]) -> ets:member(T, K);
 call(<<"delete">>, [T, K]) -> ets:delete(T, K);
 call(<<"delete">>, [T]) -> ets:delete(T);
 call(<<"update_counter">>, [T, K, U]) -> ets:update_counter(T, K, U);
@@ -105,6 +106,7 @@ term(<<"{", Rest/binary>>) -> {Terms, Last} = row(Rest, $}), {list_to_tuple(Term
 term(<<"[", Rest/binary>>) -> row(Rest, $]);
 term(<<"'", Rest/binary>>) -> {Text, Last} = quoted(Rest, $', []), {list_to_atom(Text), Last};
 term(<<"\"", Rest/binary>>) -> quoted(Rest, $", []);
+term(<<"<<", Rest/binary>>) -> {Bytes, <<">", Last/binary>>} = row(Rest, $>), {list_to_binary(Bytes), Last};
 term(<<"<0.", Rest/binary>>) -> {Number, <<".0>", Last/binary>>} = digits(Rest, 0), {get({pid, Number}), Last};
 term(<<"-", Rest/binary>>) -> {Number, Last} = digits(Rest, 0), {-Number, Last};
 term(<<C, _/binary>> = Bytes) when C >= $0, C =< $9 -> digits(Bytes, 0);

@@ -214,6 +214,18 @@ mod whole {
     }
 }
 
+/// The longest of so many insertions into one table.
+fn mutex_map_longest(count: u64) {
+    let map: Mutex<Map> = Mutex::new(HashMap::default());
+    let insertion = |k| {
+        let start = Instant::now();
+        assert!(insert(&mut map.lock().unwrap(), k));
+        start.elapsed().as_nanos()
+    };
+    let longest = shuffled(count, 1).map(insertion).max().unwrap_or(0);
+    show("Mutex<HashMap>", "longest", longest as f64);
+}
+
 /// As many tables as make some 300,000 objects, so that the pages of a small one do not blur it.
 fn mutex_map_bytes(count: u64) {
     let order: Vec<u64> = shuffled(count, 1).collect();
@@ -254,8 +266,9 @@ fn main() {
         "rust-list" => rust_list(count),
         "mutex-map" => mutex_map(count, "Mutex<HashMap>", insert, hit, count_up),
         "mutex-map-whole" => mutex_map(count, "HashMap,copies", whole::insert, whole::hit, whole::count),
+        "mutex-map-longest" => mutex_map_longest(count),
         "mutex-map-bytes" => mutex_map_bytes(count),
         "chase" => chase(count),
-        _ => eprintln!("library text|store-list|rust-list|mutex-map|mutex-map-whole|mutex-map-bytes|chase [COUNT]"),
+        _ => eprintln!("library text|store-list|rust-list|mutex-map|mutex-map-whole|mutex-map-longest|mutex-map-bytes|chase [COUNT]"),
     }
 }

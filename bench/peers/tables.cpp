@@ -175,6 +175,19 @@ template <class Table> static void times(size_t count) {
     for (auto &known : best) printf("%s %s %.1f\n", Table::name, known.first, known.second);
 }
 
+// The longest of so many insertions into one table.
+template <class Table> static void longest(size_t count) {
+    Table table;
+    double most = 0;
+    for (int64_t key : shuffled(count, 1)) {
+        auto start = std::chrono::steady_clock::now();
+        table.insert(key);
+        std::chrono::duration<double, std::nano> spent = std::chrono::steady_clock::now() - start;
+        most = std::max(most, spent.count());
+    }
+    printf("%s longest %.0f\n", Table::name, most);
+}
+
 // As many tables as make some 300,000 objects, so that the pages of a small one do not blur it.
 template <class Table> static void bytes(size_t count) {
     Keys keys = shuffled(count, 1);
@@ -197,10 +210,12 @@ int main(int argc, char **argv) {
         bytes<Lfht>(count);
     } else if (part == "oneTBB") {
         times<Tbb>(count);
+    } else if (part == "oneTBB-longest") {
+        longest<Tbb>(count);
     } else if (part == "oneTBB-bytes") {
         bytes<Tbb>(count);
     } else {
-        fprintf(stderr, "tables cds_lfht|cds_lfht-bytes|oneTBB|oneTBB-bytes [COUNT]\n");
+        fprintf(stderr, "tables cds_lfht|cds_lfht-bytes|oneTBB|oneTBB-bytes|oneTBB-longest [COUNT]\n");
         return 2;
     }
     fflush(stdout);

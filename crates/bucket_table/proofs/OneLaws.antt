@@ -1,5 +1,5 @@
 -- A slot that has one object.
-use Rattle.std.proofs.Common.{◌≡◌, ◌∙◌, sym, ap, ℕ, Bool, true, false, List, [], ◌∷◌, Option, Some, None, IsSome, subst, arith, refl, slice_get, slice_set, length, ◌<◌}
+use Rattle.std.proofs.Common.{◌≡◌, ◌∙◌, sym, ap, false, List, [], ◌∷◌, Option, Some, None, IsSome, subst, arith, refl, slice_get, slice_set, length, ◌<◌}
 use Rattle.std.proofs.lemmas.Option.{same_Some}
 use Rattle.ets_term.specs.declared.term.Term.{Term}
 use Rattle.bucket_table.specs.Slots.{Slot, has_objects}

@@ -1,5 +1,5 @@
 -- A survey of a bucket.
-use Rattle.std.proofs.Common.{◌≡◌, ◌≢◌, ℕ, ◌+◌, ◌-◌, ◌*◌, ◌/◌, ◌%◌, ◌^◌, ◌<◌, ◌≤◌, IsSome, inl, inr, List, [], ◌∷◌, length, Option, Some, None, is_some, true, false, nat_eq, ◌&&◌, get_or, refl, sym, ◌∙◌, ap, subst, arith}
+use Rattle.std.proofs.Common.{◌≡◌, ◌≢◌, ◌⊎◌, ℕ, ◌+◌, ◌-◌, ◌*◌, ◌/◌, ◌%◌, ◌^◌, ◌<◌, ◌≤◌, IsSome, inl, inr, List, [], ◌∷◌, length, Option, Some, None, is_some, true, false, nat_eq, ◌&&◌, get_or, refl, sym, ◌∙◌, ap, subst, arith}
 use Rattle.std.proofs.lemmas.Bool.{cases_lt, cases_eq}
 use Rattle.std.proofs.lemmas.Bool.Decides.{nat_tests}
 use Rattle.std.proofs.lemmas.List.{get_or_past}
@@ -15,7 +15,7 @@ use Rattle.node_list.proofs.CellLaws.{from-here, from-on, at-most-from, sorted-f
 use Rattle.node_list.proofs.PlaceLaws.{from-behind}
 use Rattle.bucket_table.specs.inside.Layout.{IsPlaced, ArePlaced, IsKnown, IsSplit}
 use Rattle.bucket_table.specs.inside.Firsts.{is_in, first_in, AreHints}
-use Rattle.bucket_table.specs.inside.Surveys.{tail_from, IsSurveyed, IsAdvanced, AreEmpty}
+use Rattle.bucket_table.specs.inside.Surveys.{tail_from, IsSurveyed, AreNearly, AreEmpty, IsCleared, IsMarked}
 use Rattle.bucket_table.proofs.KeyLaws.{width, width-even, dummy-alone}
 use Rattle.bucket_table.proofs.ContentLaws.{item-cases, placed-key}
 use Rattle.bucket_table.proofs.CountLaws.{placed-from, apart-from}
@@ -66,6 +66,10 @@ item-small h = let l : rev 32 h < 2 ^ 32 = rev-lt 32 h in omega arith
 
 some-is : (a b : ℕ) (o : Option ℕ) → o ≡ Some a → o ≡ Some b → a ≡ b
 some-is a b o e f = cc
+
+old-one : (g f at : ℕ) (before after : Option (Option ℕ)) (first : Option ℕ) → first ≡ None → ((g ≡ f) × (before ≡ Some None) × (first ≡ Some at)) ⊎ ((after ≡ Some first) × (g ≡ f → first ≢ None)) → after ≡ Some None
+old-one g f at before after first none (inl mine) = let e : first ≡ Some at = mine.2 in absurd (cc)
+old-one g f at before after first none (inr old) = old.0 ∙ ap Some none
 
 some-of : (o : Option Item) → IsSome o → (item : Item) × (o ≡ Some item)
 some-of None h = absurd (cc)
@@ -135,8 +139,8 @@ module _ (number : Term → ℕ) (dummies : List (Option ℕ)) (shift bucket sta
   part-is : key_of_dummy bucket / 2 ^ shift ≡ rev j bucket * 8
   part-is = ap (λ (z : ℕ). z / 2 ^ shift) edge ∙ mul-div_cancel (rev j bucket * 8) (pow_pos shift)
 
-  pub survey-start : IsSurveyed number dummies (2 ^ shift) start (key_of_dummy bucket) (key_of_dummy bucket / 2 ^ shift) (place_after start cs) cs
-  survey-start =
+  pub survey-start : (firsts : List (Option (Option ℕ))) → IsSurveyed number dummies (2 ^ shift) start (key_of_dummy bucket) firsts (place_after start cs) cs
+  survey-start firsts =
       let d = i.stand bucket start entry in
       let A : List Cell → Type 0 = λ zs. AreApart zs in
       let S : List Cell → Type 0 = λ zs. Sorted zs in
@@ -149,7 +153,7 @@ module _ (number : Term → ℕ) (dummies : List (Option ℕ)) (shift bucket sta
         rest = d.later;
         is = ap (λ (z : Option ℕ). tail_from z cs) after ∙ tail-is start cs (new_cell start (key_of_dummy bucket) None) d.later a d.is;
         link = after;
-        seen = λ g late.
+        seen = λ g late known.
             (let l : rev j bucket * 8 ≤ g = omega (arith, part-is, late) in
             before-start number dummies (2 ^ shift) (rev j bucket * 8) g start bucket cs (new_cell start (key_of_dummy bucket) None) d.later (pow_pos shift) edge l refl o i.placed d.is
             ∙ (ap (first_in (2 ^ shift) g) d.is ∙ first-on (2 ^ shift) g (new_cell start (key_of_dummy bucket) None) d.later (out-none (key_of_dummy bucket / 2 ^ shift) g None refl)));
@@ -170,7 +174,7 @@ module _ (number : Term → ℕ) (dummies : List (Option ℕ)) (shift bucket sta
   next-of place [] e = absurd (cc)
   next-of place (c ∷ ds) e = record { cell = c; later = ds; is = refl; at = (let s : place ≡ c.at = cc in sym s) }
 
-  module _ (next place : ℕ) (at : Option ℕ) (is-at : at ≡ Some place) (s : IsSurveyed number dummies (2 ^ shift) start (key_of_dummy bucket) next at cs) where
+  module _ (firsts : List (Option (Option ℕ))) (place : ℕ) (at : Option ℕ) (is-at : at ≡ Some place) (s : IsSurveyed number dummies (2 ^ shift) start (key_of_dummy bucket) firsts at cs) where
     pub here : Next place s.rest
     here = next-of place s.rest (sym is-at ∙ s.link)
 
@@ -180,23 +184,35 @@ module _ (number : Term → ℕ) (dummies : List (Option ℕ)) (shift bucket sta
     pub can-read : Stands place cs
     can-read = record { cell = here.cell; later = here.later; is = stands-here }
 
+    -- the interval of the node is of the bucket, or behind it
+    late-here : key_of_dummy bucket / 2 ^ shift ≤ here.cell.key / 2 ^ shift
+    late-here =
+        let U : List Cell → Type 0 = λ zs. StartsFrom (key_of_dummy bucket) zs in
+        part-rises (2 ^ shift) (key_of_dummy bucket) here.cell.key (pow_pos shift) (subst U here.is s.above)
+
+    -- an interval that is noted as empty when the node is noted is another one
+    other-one : (g f at : ℕ) (before after : Option (Option ℕ)) (first : Option ℕ) → f ≡ here.cell.key / 2 ^ shift → first ≡ None → ((g ≡ f) × (before ≡ Some None) × (first ≡ Some at)) ⊎ ((after ≡ Some first) × (g ≡ f → first ≢ None)) → here.cell.key / 2 ^ shift ≢ g
+    other-one g f at before after first fe none (inl mine) = let e : first ≡ Some at = mine.2 in absurd (cc)
+    other-one g f at before after first fe none (inr old) = λ e. old.1 (sym e ∙ sym fe) none
+
     -- one node on
-    pub survey-step : (next' f : ℕ) → f ≡ here.cell.key / 2 ^ shift → f < next' → next ≤ next' → IsSurveyed number dummies (2 ^ shift) start (key_of_dummy bucket) next' (place_after place cs) cs
-    survey-step next' f fe behind' least =
+    pub survey-step : (after : List (Option (Option ℕ))) (f : ℕ) → f ≡ here.cell.key / 2 ^ shift → IsMarked f place firsts after → IsSurveyed number dummies (2 ^ shift) start (key_of_dummy bucket) after (place_after place cs) cs
+    survey-step after f fe marked =
         let h = here in
         let F : List Cell → Type 0 = λ zs. IsFresh start zs in
         let U : List Cell → Type 0 = λ zs. StartsFrom (key_of_dummy bucket) zs in
         let S : List Cell → Type 0 = λ zs. Sorted zs in
         let R : List Cell → Type 0 = λ zs. ArePlaced number dummies zs in
         let so = subst S h.is s.sorted in
-        let after = after-is place cs h.cell h.later stands-here in
+        let next = after-is place cs h.cell h.later stands-here in
         record {
           rest = h.later;
-          is = ap (λ (z : Option ℕ). tail_from z cs) after ∙ tail-is place cs h.cell h.later a stands-here;
-          link = after;
-          seen = λ g late.
-              (let n : h.cell.key / 2 ^ shift ≢ g = λ e. (let e' : h.cell.key / 2 ^ shift ≡ g = e in absurd (omega (arith, fe, behind', late, e'))) in
-              s.seen g (omega (arith, least, late)) ∙ (ap (first_in (2 ^ shift) g) h.is ∙ first-on (2 ^ shift) g h.cell h.later (out-in (h.cell.key / 2 ^ shift) g h.cell.item n)));
+          is = ap (λ (z : Option ℕ). tail_from z cs) next ∙ tail-is place cs h.cell h.later a stands-here;
+          link = next;
+          seen = λ g late known.
+              (let told = marked g None known in
+              let n : h.cell.key / 2 ^ shift ≢ g = other-one g f place (get_or firsts f None) (get_or firsts g None) None fe refl told in
+              s.seen g late (old-one g f place (get_or firsts f None) (get_or firsts g None) None refl told) ∙ (ap (first_in (2 ^ shift) g) h.is ∙ first-on (2 ^ shift) g h.cell h.later (out-in (h.cell.key / 2 ^ shift) g h.cell.item n)));
           fresh = (subst F h.is s.fresh).1;
           above = starts-later (key_of_dummy bucket) h.cell h.later (subst U h.is s.above) so.0;
           sorted = so.1;
@@ -212,26 +228,25 @@ module _ (number : Term → ℕ) (dummies : List (Option ℕ)) (shift bucket sta
         omega (arith, ap length l, ap length m)
 
     -- nothing of an earlier interval stands from here on
-    pub none-before : (g : ℕ) → next ≤ g → g < here.cell.key / 2 ^ shift → first_in (2 ^ shift) g cs ≡ None
-    none-before g late early =
+    pub none-before : (g : ℕ) → key_of_dummy bucket / 2 ^ shift ≤ g → get_or firsts g None ≡ Some None → g < here.cell.key / 2 ^ shift → first_in (2 ^ shift) g cs ≡ None
+    none-before g late known early =
         let h = here in
         let S : List Cell → Type 0 = λ zs. Sorted zs in
         let so = subst S h.is s.sorted in
-        s.seen g late ∙ (ap (first_in (2 ^ shift) g) h.is ∙ none-from (2 ^ shift) g h.cell.key (h.cell ∷ h.later) (pow_pos shift) (omega arith) so early)
+        s.seen g late known ∙ (ap (first_in (2 ^ shift) g) h.is ∙ none-from (2 ^ shift) g h.cell.key (h.cell ∷ h.later) (pow_pos shift) (omega arith) so early)
 
-    pub hints-step : (firsts after : List (Option (Option ℕ))) (f : ℕ) (item : Item) → here.cell.item ≡ Some item → f ≡ here.cell.key / 2 ^ shift → AreHints (2 ^ shift) firsts cs → IsAdvanced next f place firsts after → AreHints (2 ^ shift) after cs
-    hints-step firsts after f item has fe h advanced g first e =
+    pub hints-step : (high : ℕ) (after : List (Option (Option ℕ))) (f : ℕ) (item : Item) → here.cell.item ≡ Some item → f ≡ here.cell.key / 2 ^ shift
+        → AreNearly (2 ^ shift) (key_of_dummy bucket / 2 ^ shift) high firsts cs → IsMarked f place firsts after → AreNearly (2 ^ shift) (key_of_dummy bucket / 2 ^ shift) high after cs
+    hints-step high after f item has fe h marked g first e =
         let n = here in
-        elim (advanced g first e) [
-          | inl empty ↦ none-before g empty.0 (omega (arith, empty.1, fe)) ∙ sym empty.2
-          | inr other ↦
-              elim other [
-                | inl mine ↦
-                    let late : next ≤ g = omega (arith, mine.0, mine.1) in
-                    let k : n.cell.key / 2 ^ shift ≡ g = sym fe ∙ sym mine.1 in
-                    s.seen g late ∙ (ap (first_in (2 ^ shift) g) n.is ∙ (first-here (2 ^ shift) g n.cell n.later (is_in-yes (2 ^ shift) g n.cell item k has) ∙ (ap Some n.at ∙ sym mine.2)))
-                | inr old ↦ h g first old
-              ]
+        elim (marked g first e) [
+          | inl mine ↦
+              let k : n.cell.key / 2 ^ shift ≡ f = sym fe in
+              let P : ℕ → Type 0 = λ z. key_of_dummy bucket / 2 ^ shift ≤ z in
+              let late : key_of_dummy bucket / 2 ^ shift ≤ f = subst P k late-here in
+              let found : first_in (2 ^ shift) f cs ≡ Some n.cell.at = s.seen f late mine.1 ∙ (ap (first_in (2 ^ shift) f) n.is ∙ first-here (2 ^ shift) f n.cell n.later (is_in-yes (2 ^ shift) f n.cell item k has)) in
+              inl (ap (λ (z : ℕ). first_in (2 ^ shift) z cs) mine.0 ∙ (found ∙ (ap Some n.at ∙ sym mine.2)))
+          | inr old ↦ h g first old.0
         ]
 
     -- what was read at the place
@@ -255,8 +270,8 @@ module _ (number : Term → ℕ) (dummies : List (Option ℕ)) (shift bucket sta
     some-one : (x y : ℕ) (p q : Option ℕ) → p ≡ q → p ≡ Some x → q ≡ Some y → x ≡ y
     some-one x y p q e f h = cc
 
-    pub ends-at-dummy : here.cell.item ≡ None → AreEmpty (2 ^ shift) next (key_of_dummy bucket / 2 ^ shift + 8) cs
-    ends-at-dummy none g late early =
+    pub ends-at-dummy : here.cell.item ≡ None → AreEmpty (2 ^ shift) (key_of_dummy bucket / 2 ^ shift) (key_of_dummy bucket / 2 ^ shift + 8) firsts cs
+    ends-at-dummy none g late early known =
         let h = here in
         let F : List Cell → Type 0 = λ zs. IsFresh start zs in
         let U : List Cell → Type 0 = λ zs. StartsFrom (key_of_dummy bucket) zs in
@@ -281,11 +296,29 @@ module _ (number : Term → ℕ) (dummies : List (Option ℕ)) (shift bucket sta
         ] in
         let far : (rev j bucket * 8 + 8) * 2 ^ shift ≤ h.cell.key = omega (arith, up, edge, w, q) in
         let part : rev j bucket * 8 + 8 ≤ h.cell.key / 2 ^ shift = from-part (rev j bucket * 8 + 8) (2 ^ shift) h.cell.key (pow_pos shift) far in
-        none-before g late (omega (arith, part, part-is, early))
+        none-before g late known (omega (arith, part, part-is, early))
 
-    pub ends-past : (f : ℕ) → f ≡ here.cell.key / 2 ^ shift → key_of_dummy bucket / 2 ^ shift + 8 ≤ f → AreEmpty (2 ^ shift) next (key_of_dummy bucket / 2 ^ shift + 8) cs
-    ends-past f fe past g late early = none-before g late (omega (arith, fe, past, early))
+    pub ends-past : (f : ℕ) → f ≡ here.cell.key / 2 ^ shift → key_of_dummy bucket / 2 ^ shift + 8 ≤ f → AreEmpty (2 ^ shift) (key_of_dummy bucket / 2 ^ shift) (key_of_dummy bucket / 2 ^ shift + 8) firsts cs
+    ends-past f fe past g late early known = none-before g late known (omega (arith, fe, past, early))
 
   -- so does the end of the list
-  pub ends-there : (next : ℕ) (at : Option ℕ) → at ≡ None → IsSurveyed number dummies (2 ^ shift) start (key_of_dummy bucket) next at cs → AreEmpty (2 ^ shift) next (key_of_dummy bucket / 2 ^ shift + 8) cs
-  ends-there next at none s g late early = s.seen g late ∙ ap (first_in (2 ^ shift) g) (sym s.is ∙ ap (λ (z : Option ℕ). tail_from z cs) none)
+  pub ends-there : (firsts : List (Option (Option ℕ))) (at : Option ℕ) → at ≡ None → IsSurveyed number dummies (2 ^ shift) start (key_of_dummy bucket) firsts at cs → AreEmpty (2 ^ shift) (key_of_dummy bucket / 2 ^ shift) (key_of_dummy bucket / 2 ^ shift + 8) firsts cs
+  ends-there firsts at none s g late early known = s.seen g late known ∙ ap (first_in (2 ^ shift) g) (sym s.is ∙ ap (λ (z : Option ℕ). tail_from z cs) none)
+
+-- ---- hints
+
+-- with all intervals of a bucket noted as empty the hints are nearly right
+pub cleared-nearly : (wide low high : ℕ) (firsts after : List (Option (Option ℕ))) (cs : List Cell) → AreHints wide firsts cs → IsCleared low high firsts after → AreNearly wide low high after cs
+cleared-nearly wide low high firsts after cs h cleared f first e =
+    elim (cleared f first e) [
+      | inl empty ↦ inr empty
+      | inr old ↦ inl (h f first old)
+    ]
+
+-- and they are right once those that are still noted as empty are so
+pub nearly-hints : (wide low high : ℕ) (firsts : List (Option (Option ℕ))) (cs : List Cell) → AreNearly wide low high firsts cs → AreEmpty wide low high firsts cs → AreHints wide firsts cs
+nearly-hints wide low high firsts cs nearly empty f first e =
+    elim (nearly f first e) [
+      | inl is ↦ is
+      | inr noted ↦ empty f noted.0 noted.1 (e ∙ ap Some noted.2) ∙ sym noted.2
+    ]

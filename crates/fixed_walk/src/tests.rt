@@ -11,25 +11,19 @@ mod calls;
 mod fixes;
 mod walks;
 
-fn plain(alloc: Global) -> Walked<PlainRows> {
-    let table = Table::new(alloc, PlainRows::new(alloc), Kind::Set, 1, 1_000_000);
+fn plain(alloc: Global, kind: Kind) -> Walked<PlainRows> {
+    let table = Table::new(alloc, PlainRows::new(alloc), kind, 1, 1_000_000);
     Walked::new(alloc, table)
 }
 
 /// With one hash for all keys the slots stand in the order in which they came.
-fn one_bucket(alloc: Global) -> Result<Walked<SplitRows<AllSame>>, Fail> {
-    let table = Table::new(
-        alloc,
-        SplitRows::new(alloc, AllSame)?,
-        Kind::Set,
-        1,
-        1_000_000,
-    );
+fn one_bucket(alloc: Global, kind: Kind) -> Result<Walked<SplitRows<AllSame>>, Fail> {
+    let table = Table::new(alloc, SplitRows::new(alloc, AllSame)?, kind, 1, 1_000_000);
     Ok(Walked::new(alloc, table))
 }
 
-fn split(alloc: Global) -> Result<Walked<SplitRows<Fnv>>, Fail> {
-    let table = Table::new(alloc, SplitRows::new(alloc, Fnv)?, Kind::Set, 1, 1_000_000);
+fn split(alloc: Global, kind: Kind) -> Result<Walked<SplitRows<Fnv>>, Fail> {
+    let table = Table::new(alloc, SplitRows::new(alloc, Fnv)?, kind, 1, 1_000_000);
     Ok(Walked::new(alloc, table))
 }
 

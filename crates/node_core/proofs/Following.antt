@@ -34,7 +34,7 @@ pub follows-same : (old new : Tables) → new ≡ old → Follows old new
 follows-same old new same t table at = stayed old t table table (subst (λ (ts : Tables). table_at ts t ≡ Some table) same at) (stays-same table)
 
 -- ---- one place is written
-set-at : (ts : Tables) (place t : ℕ) (o : Option Table) (table : Table) → table_at (slice_set ts place o) t ≡ Some table → (table_at ts t ≡ Some table) ⊎ ((t ≡ place) × (o ≡ Some table))
+pub set-at : (ts : Tables) (place t : ℕ) (o : Option Table) (table : Table) → table_at (slice_set ts place o) t ≡ Some table → (table_at ts t ≡ Some table) ⊎ ((t ≡ place) × (o ≡ Some table))
 set-at [] place t o table at = inl at
 set-at (x ∷ xs) zero zero o table at = inr (refl, at)
 set-at (x ∷ xs) zero (suc t) o table at = inl at
@@ -76,7 +76,7 @@ pub follows-changed : (change : Table → Table) → ((table : Table) → Stays 
 follows-changed change stays ts place = follows-set ts place (option_map change (table_at ts place)) (change-written change stays (table_at ts place))
 
 -- ---- a table more
-push-at : (ts : Tables) (t : ℕ) (new table : Table) → table_at (ts ++ Some new ∷ []) t ≡ Some table → (table_at ts t ≡ Some table) ⊎ ((t ≡ length ts) × (table_at ts t ≡ None) × (new ≡ table))
+pub push-at : (ts : Tables) (t : ℕ) (new table : Table) → table_at (ts ++ Some new ∷ []) t ≡ Some table → (table_at ts t ≡ Some table) ⊎ ((t ≡ length ts) × (table_at ts t ≡ None) × (new ≡ table))
 push-at [] zero new table at = inr (refl, refl, (cc))
 push-at [] (suc t) new table at = cc
 push-at (x ∷ xs) zero new table at = inl at
@@ -96,7 +96,7 @@ follows-push ts new bare free t table at = by (push-at ts t new table at)
         subst (Enters ts t) more.2 (record { place = more.0; bare = bare; free = free }))
 
 -- ---- each place is mapped
-map-at : (change : Option Table → Option Table) → change None ≡ None → (ts : Tables) (t : ℕ) (table : Table) → table_at (map change ts) t ≡ Some table → (was : Table) × (table_at ts t ≡ Some was) × (change (Some was) ≡ Some table)
+pub map-at : (change : Option Table → Option Table) → change None ≡ None → (ts : Tables) (t : ℕ) (table : Table) → table_at (map change ts) t ≡ Some table → (was : Table) × (table_at ts t ≡ Some was) × (change (Some was) ≡ Some table)
 map-at change none [] t table at = cc
 map-at change none (None ∷ xs) zero table at = let e : None ≡ Some table = sym none ∙ at in cc
 map-at change none (Some was ∷ xs) zero table at = (was, refl, at)

@@ -2,6 +2,7 @@ pub mod Arguments
 pub mod Ascending
 pub mod CallLaws
 pub mod Changes
+pub mod Counts
 pub mod Due
 pub mod EndKeys
 mod Examples
@@ -10,6 +11,9 @@ pub mod Following
 pub mod Growing
 pub mod Index
 pub mod Keeping
+pub mod OthersRuns
+pub mod OthersSteps
+pub mod OwnCalls
 pub mod Reached
 pub mod Removals
 pub mod Runs
@@ -18,7 +22,10 @@ pub mod SeenRules
 pub mod SeenTables
 pub mod Steps
 pub mod Trees
+pub mod Turns
 pub mod WalkCalls
+pub mod WalkEnds
+pub mod Weaving
 pub mod WholeWalks
 pub mod WorldLaws
 pub mod Worlds

@@ -5,5 +5,7 @@ pub mod Access
 pub mod rules
 pub mod Calls
 pub mod Machine
-pub mod inside
+pub mod Buckets
 pub mod laws
+pub mod Woven
+pub mod inside

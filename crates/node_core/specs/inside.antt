@@ -3,3 +3,4 @@ pub mod Due
 pub mod Identifiers
 pub mod Lending
 pub mod Refusals
+pub mod Walker

@@ -20,7 +20,9 @@ mod position;
 mod step;
 #[cfg(test)]
 mod tests;
+mod walk;
 
 pub use limits::Limits;
 pub use node::{Node, RunFault};
 pub use step::{Call, Reply, Step};
+pub use walk::{Others, Walk, WalkFault, walk_among};

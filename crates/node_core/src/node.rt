@@ -4,6 +4,7 @@ ghost use Rattle.ownership.specs.World.{resolve};
 ghost use Rattle.node_core.specs.Seen.{seen};
 ghost use Rattle.node_core.specs.Machine.{step, run};
 ghost use Rattle.node_core.specs.rules.Growth.{step_on_buckets};
+ghost use Rattle.node_core.specs.Buckets.{run_on_buckets};
 
 mod access;
 mod ask;
@@ -19,6 +20,7 @@ mod searching;
 mod table_of_calls;
 mod tables;
 mod updates;
+mod walker;
 mod walking;
 
 use crate::identifiers::Identifiers;
@@ -118,10 +120,12 @@ impl<H: KeyHash + Copy + Drop> Node<H> {
         }
     }
 
-    /// Does steps in order. Want of memory stops it after the steps whose replies it then hands back.
+    /// Does steps in order, each as `step` does. Want of memory stops it after the steps whose replies it then hands back.
     pub fn run(&mut self, steps: &[Step]) -> Result<Vec<Reply>, RunFault>
         ensures ok { IfOk result (λ replies. run (seen self.old) steps.now replies.items (seen self.new)) }
         ensures err { IfErr result (λ f. run (seen self.old) (take (length f.replies) steps.now) f.replies (seen self.new)) }
+        ensures ok_buckets { IfOk result (λ replies. run_on_buckets self.old steps.now replies.items self.new) }
+        ensures err_buckets { IfErr result (λ f. run_on_buckets self.old (take (length f.replies) steps.now) f.replies self.new) }
     {
         let mut replies = Vec::new(self.alloc);
         if replies.reserve(steps.len()).is_err() {

@@ -17,6 +17,7 @@ mod searching;
 mod tables;
 mod text;
 mod updates;
+mod walk_among;
 mod walking;
 
 /// A step, told.

@@ -26,6 +26,7 @@ fn last_up_to(nodes: &Nodes, start: usize, key: u64) -> usize
 }
 
 /// Puts a node to its sorted place, after nodes with an equal key.
+#[inline(always)]
 pub fn insert_from(nodes: &mut Nodes, start: usize, key: u64, item: Option<Item>) -> usize
     requires room { HasRoomFor nodes.old 1 }
     requires linked { Linked nodes.old (Some 0) }

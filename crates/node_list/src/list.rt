@@ -110,6 +110,7 @@ impl NodeList {
     }
 
     /// Puts a dummy to its sorted place, after nodes with an equal key. `start` stands before that place.
+    #[inline(always)]
     pub fn insert_dummy(&mut self, start: At, key: u64) -> At
         requires room { HasRoom self.old 1 }
         requires stands { StandsUpTo key start self.old.cells }
@@ -123,6 +124,7 @@ impl NodeList {
     }
 
     /// Puts an item to its sorted place, after nodes with an equal key. `start` stands before that place.
+    #[inline(always)]
     pub fn insert_item(&mut self, start: At, key: u64, term: Term, chain: Chain) -> At
         requires room { HasRoom self.old 1 }
         requires stands { StandsUpTo key start self.old.cells }

@@ -26,6 +26,7 @@ fn growth(len: usize, additional: usize) -> usize
 }
 
 /// Puts a slot at a place. The slab gives its places out in turn, but does not promise it, so there may be a gap.
+#[inline(always)]
 fn put_slot(items: &mut Vec<Slot>, at: usize, slot: Slot)
     requires { at < vec_capacity items.old }
     ensures puts { PutsSlot items.old.items items.new.items at slot }
@@ -109,6 +110,7 @@ impl Nodes {
     }
 
     /// Puts a node at a vacant place.
+    #[inline(always)]
     pub fn insert_reserved(&mut self, node: Node) -> usize
         requires { HasRoomFor self.old 1 }
         ensures key { result ≡ self.old.vacant_key }

@@ -16,6 +16,7 @@ pub enum Slot {
 }
 
 impl Slot {
+    #[inline(always)]
     pub fn new(item: Option<Item>) -> Slot
         ensures { result ≡ slot_of item }
     {

@@ -11,17 +11,17 @@ use Rattle.std.proofs.lemmas.Option.{same_Some}
 use Rattle.fixed_walk.specs.Fixed.{Fixed}
 use Rattle.ownership.specs.declared.head.Head.{Head}
 use Rattle.ownership.specs.declared.head.Heir.{Heir}
-use Rattle.ownership.specs.World.{Table, Tables, Processes, table_at, heads, head_of, is_named}
+use Rattle.ownership.specs.World.{Table, Tables, Processes, lives, table_at, heads, head_of, is_named}
 use Rattle.ownership.specs.Tables.{passed_to, with_heir, changed}
 use Rattle.ownership.specs.Heads.{owned_by}
 use Rattle.ownership.specs.End.{living_heir, table_after}
 use Rattle.ownership.specs.inside.Names.{ByName}
-use Rattle.ownership.specs.inside.Indices.{Among, Between, ByOwner, AreOwned, AreInherited, AreNoted, IsIdle, IsKept, Notes}
+use Rattle.ownership.specs.inside.Indices.{Among, Between, ByOwner, AreOwned, AreInherited, AreNoted, IsIdle, IsKept, Notes, Forgets}
 use Rattle.ownership.proofs.Ascending.{between-higher}
 use Rattle.ownership.proofs.Heads.{head-there, heads-same}
 use Rattle.ownership.proofs.Kept.{names-stay, names-none}
-use Rattle.ownership.proofs.Owning.{same-number}
-use Rattle.ownership.proofs.Settling.{Left, left-over}
+use Rattle.ownership.proofs.Owning.{same-number, forgets-others}
+use Rattle.ownership.proofs.Settling.{Left, left-over, left-others}
 
 -- a place changes
 place-set : (tables : Tables) (t : ℕ) (o : Option Table) (u : ℕ) (table : Table) → table_at (set tables t o) u ≡ Some table → ((u ≡ t) × (o ≡ Some table)) ⊎ (table_at tables u ≡ Some table)
@@ -189,6 +189,13 @@ module _ (ps before : Processes) (p : ℕ) (old new : Tables) (ids : List ℕ) (
 
       each : (t : ℕ) (table : Table) → Left ps p (table_at old t) table → Among t (after table.head.owner)
       each t table left = by t table left.table left.was left.head
+
+-- nothing need stand under a process that has ended
+pub owners-forgotten : (ps : Processes) (p : ℕ) → lives ps p ≡ false → (old new : Tables) (owned after : ℕ → List ℕ) → Forgets p owned after → ByOwner owned (heads new) → new ≡ map (table_after ps p) old → ByOwner after (heads new)
+owners-forgotten ps p dead old new owned after forgets by_owner is =
+    owners-by after new (λ t table e.
+    let left : Left ps p (table_at old t) table = left-over ps p (table_at old t) table (sym (get_or-map (table_after ps p) old t None) ∙ ap (λ ts. table_at ts t) (sym is) ∙ e) in
+    forgets-others owned after p forgets table.head.owner t (left-others ps p dead (table_at old t) table left) (owner-at owned new by_owner t table e))
 
 none-named : (names : List ℕ → Option ℕ) → ((name : List ℕ) → names name ≡ None) → ByName names []
 none-named names none name t = (λ found. let is : None ≡ Some t = sym (none name) ∙ found in absurd (cc), λ named. absurd (true≢false (sym named)))

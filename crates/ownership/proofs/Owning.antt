@@ -1,5 +1,5 @@
 -- The index by owner: what is noted stays, and what the end of a process makes of it.
-use Rattle.std.proofs.Common.{◌≡◌, ℕ, ◌<◌, ◌⊎◌, nat_eq, Bool, true, false, cond, List, [], ◌∷◌, Option, Some, Result, Ok, Err, OnOk, OnErr, inl, inr, refl, sym, ap, subst, ◌∙◌, arith}
+use Rattle.std.proofs.Common.{◌≡◌, ℕ, ◌<◌, ◌⊎◌, nat_eq, Bool, true, false, cond, List, [], ◌∷◌, Option, None, Some, Result, Ok, Err, OnOk, OnErr, inl, inr, refl, sym, ap, subst, true≢false, ◌∙◌, arith}
 use Rattle.std.specs.Option.{option_map_or}
 use Rattle.std.specs.declared.alloc.Global.{Global}
 use Rattle.std.specs.declared.vec.Vec.{Vec}
@@ -7,13 +7,16 @@ use Rattle.std.proofs.lemmas.Bool.Decides.{nat_tests}
 use Rattle.ownership.specs.declared.head.Heir.{Heir}
 use Rattle.ownership.specs.World.{Table, Tables, Processes, table_at}
 use Rattle.ownership.specs.End.{living_heir}
-use Rattle.ownership.specs.inside.Indices.{Among, Between, IsPutIn, Notes, Ascend}
+use Rattle.ownership.specs.inside.Indices.{Among, Between, IsPutIn, Notes, Forgets, Ascend}
 
 pub same-number : (m n : ℕ) → nat_eq m n ≡ true → m ≡ n
 same-number m n h = grind (arith, nat_tests)
 
 own-number : (n : ℕ) → nat_eq n n ≡ true
 own-number n = grind (arith, nat_tests)
+
+other-number : (m n : ℕ) → nat_eq m n ≡ false → nat_eq n m ≡ false
+other-number m n h = grind (arith, nat_tests)
 
 -- what stands in an entry of the index
 abbrev pub ids_in : Option (Vec ℕ Global) → List ℕ
@@ -52,6 +55,30 @@ module _ (before after : ℕ → Option (Vec ℕ Global)) (owner id : ℕ) (ids 
   noted-same s =
       let same : (p : ℕ) → ids_in (after p) ≡ ids_in (before p) = λ p. now-is p (nat_eq owner p) refl ∙ same-at (nat_eq owner p) p refl s in
       record { more = λ p t a. subst (Among t) (sym (same p)) a; order = λ a p. subst (Between 0 4294967296) (sym (same p)) (a p) }
+
+forgotten-at : (b : Bool) (entry : Option (Vec ℕ Global)) → ids_in (cond b None entry) ≡ cond b [] (ids_in entry)
+forgotten-at true entry = refl
+forgotten-at false entry = refl
+
+-- an entry that is taken out
+pub forgotten : (before after : ℕ → Option (Vec ℕ Global)) (owner : ℕ) → ((q : ℕ) → after q ≡ cond (nat_eq owner q) None (before q)) → Forgets owner (λ p. ids_in (before p)) (λ p. ids_in (after p))
+forgotten before after owner updated p = ap ids_in (updated p) ∙ forgotten-at (nat_eq owner p) (before p)
+
+module _ (owned after : ℕ → List ℕ) (owner : ℕ) (forgets : Forgets owner owned after) where
+  order-left : (b : Bool) (ids : List ℕ) → Between 0 4294967296 ids → Between 0 4294967296 (cond b [] ids)
+  order-left true ids order = omega arith
+  order-left false ids order = order
+
+  pub forgets-order : Ascend owned → Ascend after
+  forgets-order order p = subst (Between 0 4294967296) (sym (forgets p)) (order-left (nat_eq owner p) (owned p) (order p))
+
+  among-left : (b : Bool) (t : ℕ) (ids : List ℕ) → b ≡ false → Among t ids → Among t (cond b [] ids)
+  among-left true t ids e a = absurd (true≢false e)
+  among-left false t ids e a = a
+
+  -- what stands under others stays
+  pub forgets-others : (p t : ℕ) → nat_eq p owner ≡ false → Among t (owned p) → Among t (after p)
+  forgets-others p t e a = subst (Among t) (sym (forgets p)) (among-left (nat_eq owner p) t (owned p) (other-number p owner e) a)
 
 -- the first that stands under an owner
 pub put-first : (id : ℕ) → IsPutIn [] id (id ∷ [])

@@ -148,6 +148,14 @@ module _ (ps : Processes) (p : ℕ) where
   left-over (Some table) new e =
       left-at (owned_by table.head p) (living_heir ps table.head) table new refl refl e
 
+-- the process owns none of them
+pub left-others : (ps : Processes) (p : ℕ) → lives ps p ≡ false → (o : Option Table) (new : Table) → Left ps p o new → owned_by new.head p ≡ false
+left-others ps p dead o new left = by left.head
+  where
+    by : (new.head ≡ left.table.head × (owned_by left.table.head p ≡ false)) ⊎ ((heir : Heir) × (living_heir ps left.table.head ≡ Some heir) × (owned_by left.table.head p ≡ true) × (new.head ≡ record left.table.head { owner = heir.pid })) → owned_by new.head p ≡ false
+    by (inl same) = ap (λ (h : Head). owned_by h p) same.0 ∙ same.1
+    by (inr passed) = ap (λ (h : Head). owned_by h p) passed.3 ∙ other-pid ps p dead passed.0.pid (heir-lives ps p dead left.table.head passed.0 passed.1)
+
 released-idle-at : (b : Bool) (p : ℕ) (f : Fixed) → is_fixed (remove f.fixes p) ≡ b → is_fixed (all_released p f).fixes ≡ false → IsIdle (all_released p f)
 released-idle-at true p f e free =
     let once : all_released p f ≡ record f { fixes = remove f.fixes p } = rw e refl in

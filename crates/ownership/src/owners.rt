@@ -1,10 +1,10 @@
-// The index by owner: under each process the tables that it ever came to own.
+// The index by owner: under each process the tables that it ever came to own, until it ends.
 ghost use Rattle.std.specs.Prelude.{◌≡◌, ℕ, Some, OnOk, IfOk};
 ghost use Rattle.ownership.specs.declared.head.Heir as heir;
 ghost use Rattle.ownership.specs.World as model;
 ghost use Rattle.ownership.specs.World.{table_at};
 ghost use Rattle.ownership.specs.End.{living_heir};
-ghost use Rattle.ownership.specs.inside.Indices.{Among, Notes, AreInherited, owned_by};
+ghost use Rattle.ownership.specs.inside.Indices.{Among, Notes, Forgets, AreInherited, owned_by};
 
 use crate::identifiers::put_in;
 use crate::process::Process;
@@ -46,6 +46,13 @@ pub fn owned_by(
         ids.extend_from_slice(own.as_slice())?;
     }
     Ok(ids)
+}
+
+/// What stands under an owner goes, once it owns no table. It takes no memory.
+pub fn forget_owner(owned: &mut IndexMap<u32, Vec<u32>>, owner: u32)
+    ensures { Forgets owner (owned_by owned.old.entries) (owned_by owned.new.entries) }
+{
+    let _ = owned.swap_remove(&owner);
 }
 
 /// Writes each of these tables down under its heir, where that lives.

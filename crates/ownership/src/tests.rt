@@ -12,6 +12,7 @@ mod ends;
 mod many;
 mod options;
 mod owners;
+mod refused;
 mod text;
 
 /// A call, told.
@@ -140,14 +141,22 @@ fn answer(alloc: Global, world: &mut Tables, event: Event) -> Result<Term, World
     }
 }
 
+/// How a refusal is told.
+fn refusal(fault: &WorldFault) -> &'static str {
+    match fault {
+        WorldFault::Badarg => "** badarg",
+        WorldFault::SystemLimit => "** system_limit",
+        WorldFault::NoProcess => "** noproc",
+        WorldFault::Memory => "** no memory",
+    }
+}
+
 /// Whether a call is answered so.
 fn does(alloc: Global, world: &mut Tables, event: Event, wanted: &str) -> Result<bool, AllocError> {
     match answer(alloc, world, event) {
         Ok(told) => Ok(told == term(alloc, wanted)?),
-        Err(WorldFault::Badarg) => Ok(wanted == "** badarg"),
-        Err(WorldFault::SystemLimit) => Ok(wanted == "** system_limit"),
-        Err(WorldFault::NoProcess) => Ok(wanted == "** noproc"),
         Err(WorldFault::Memory) => Err(AllocError),
+        Err(fault) => Ok(refusal(&fault) == wanted),
     }
 }
 

@@ -1,4 +1,4 @@
-//! Times a node's calls, a table and its rows, phase by phase, and prints lines of WHO OPERATION FIGURE: table_bench times|bytes|check rows|table|calls COUNT.
+//! Times a node's calls, a table and its rows, phase by phase, and prints lines of WHO OPERATION FIGURE: table_bench times|longest|bytes|check rows|table|calls COUNT.
 #![tactic(auto)]
 
 mod calls;
@@ -12,7 +12,7 @@ mod table;
 use bucket_table::SplitRows;
 use calls::Calls;
 use ets_term::Fnv;
-use report::{check, measure, times};
+use report::{check, longest, measure, times};
 use std::alloc::Global;
 use std::rt::{Clock, Files};
 use std::{env, io};
@@ -30,6 +30,7 @@ fn run<S: Store>(
 ) -> io::Result<()> {
     match part {
         "times" => times::<S>(rt, count),
+        "longest" => longest::<S>(rt, count),
         "bytes" => measure::<S>(rt, count),
         _ => check::<S>(rt, count),
     }

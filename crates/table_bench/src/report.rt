@@ -102,6 +102,22 @@ pub(crate) fn times<S: Store>(
     )
 }
 
+/// Prints the nanoseconds of the longest of so many insertions into one table, each with its steps of growth.
+pub(crate) fn longest<S: Store>(
+    rt: &(impl Print + Alloc<A = Global> + Clock),
+    count: u64,
+) -> io::Result<()> {
+    let keys = Phase::Insert.keys(rt.alloc(), count)?;
+    let mut store = S::empty(rt.alloc())?;
+    let mut longest = 0;
+    for key in keys.as_slice() {
+        let start = Instant::now(rt)?;
+        store.insert(rt.alloc(), *key)?;
+        longest = longest.max(nanoseconds(start.elapsed(rt)?));
+    }
+    println!(rt; "{} longest {}", S::name(), longest)
+}
+
 fn nanoseconds(spent: Duration) -> u64 {
     u64::try_from(spent.as_nanos()).unwrap_or(u64::MAX)
 }

@@ -1,5 +1,5 @@
 -- What a survey of a bucket writes down.
-use Rattle.std.specs.Prelude.{◌≡◌, ◌⊎◌, ℕ, ◌<◌, ◌≤◌, List, [], Option, Some, None, get_or}
+use Rattle.std.specs.Prelude.{◌≡◌, ◌≢◌, ◌⊎◌, ℕ, ◌/◌, ◌<◌, ◌≤◌, List, [], Option, Some, None, get_or}
 use Rattle.ets_term.specs.declared.term.Term.{Term}
 use Rattle.node_list.specs.Cells.{Cell, StartsFrom, Sorted}
 use Rattle.node_list.specs.Places.{from, first_place, IsFresh}
@@ -17,23 +17,28 @@ abbrev pub tail_from : Option ℕ → List Cell → List Cell
 tail_from None cs = []
 tail_from (Some p) cs = from p cs
 
--- how far a survey has come: nothing of interval `next` or a later one stands in front of the rest
-pub record IsSurveyed (number : Term → ℕ) (dummies : List (Option ℕ)) (wide start low next : ℕ) (at : Option ℕ) (cs : List Cell) : Type 0 where
+-- how far a survey has come: of an interval that is noted as empty nothing stands in front of the rest
+pub record IsSurveyed (number : Term → ℕ) (dummies : List (Option ℕ)) (wide start low : ℕ) (firsts : List (Option (Option ℕ))) (at : Option ℕ) (cs : List Cell) : Type 0 where
   pub rest : List Cell
   pub is : tail_from at cs ≡ rest
   pub link : at ≡ first_place rest
-  pub seen : (f : ℕ) → next ≤ f → first_in wide f cs ≡ first_in wide f rest
+  pub seen : (f : ℕ) → low / wide ≤ f → get_or firsts f None ≡ Some None → first_in wide f cs ≡ first_in wide f rest
   pub fresh : IsFresh start rest
   pub above : StartsFrom low rest
   pub sorted : Sorted rest
   pub placed : ArePlaced number dummies rest
 
--- nothing stands in these intervals
-abbrev pub AreEmpty : ℕ → ℕ → ℕ → List Cell → Type 0
-AreEmpty wide low high cs = (f : ℕ) → low ≤ f → f < high → first_in wide f cs ≡ None
+-- what is known is so, but for the intervals from one up to another that are noted as empty
+abbrev pub AreNearly : ℕ → ℕ → ℕ → List (Option (Option ℕ)) → List Cell → Type 0
+AreNearly wide low high firsts cs =
+    (f : ℕ) (first : Option ℕ) → get_or firsts f None ≡ Some first → (first_in wide f cs ≡ first) ⊎ ((low ≤ f) × (f < high) × (first ≡ None))
 
--- the intervals up to that of an item are empty and it is the first of its own, where that was not settled before
-abbrev pub IsAdvanced : ℕ → ℕ → ℕ → List (Option (Option ℕ)) → List (Option (Option ℕ)) → Type 0
-IsAdvanced next f at old new =
+-- those of these intervals that are noted as empty are so
+abbrev pub AreEmpty : ℕ → ℕ → ℕ → List (Option (Option ℕ)) → List Cell → Type 0
+AreEmpty wide low high firsts cs = (f : ℕ) → low ≤ f → f < high → get_or firsts f None ≡ Some None → first_in wide f cs ≡ None
+
+-- an item is noted in its interval, where that was noted as empty, and no other hint is changed
+abbrev pub IsMarked : ℕ → ℕ → List (Option (Option ℕ)) → List (Option (Option ℕ)) → Type 0
+IsMarked f at old new =
     (g : ℕ) (first : Option ℕ) → get_or new g None ≡ Some first
-    → ((next ≤ g) × (g < f) × (first ≡ None)) ⊎ (((next ≤ f) × (g ≡ f) × (first ≡ Some at)) ⊎ (get_or old g None ≡ Some first))
+    → ((g ≡ f) × (get_or old f None ≡ Some None) × (first ≡ Some at)) ⊎ ((get_or old g None ≡ Some first) × (g ≡ f → first ≢ None))

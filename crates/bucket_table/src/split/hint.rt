@@ -48,6 +48,18 @@ impl Hint {
         }
     }
 
+    /// A first item where there was none, and else what was known.
+    pub fn or_first(self, place: usize) -> Hint
+        ensures empty { self ≡ Some None → (result ≡ None) ⊎ (result ≡ Some (Some place)) }
+        ensures other { (self ≡ Some None) ⊎ (result ≡ self) }
+    {
+        if self.word == u32::MAX - 1 {
+            Hint::to(place)
+        } else {
+            self
+        }
+    }
+
     pub fn get(self) -> Option<Option<usize>>
         ensures { result ≡ self }
     {

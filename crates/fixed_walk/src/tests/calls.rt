@@ -69,7 +69,7 @@ fn whole_table<R: Rows>(table: &mut Walked<R>, keys: usize) -> Result<bool, Fail
 #[test]
 fn calls_succeed_plain(rt: HostRuntime) -> Result<(), Fail> {
     let alloc = rt.alloc();
-    let mut table = plain(alloc);
+    let mut table = plain(alloc, Kind::Set);
     assert!(rt; all_succeed(alloc, &mut table, 5_000)?);
     assert!(rt; fix_and_release(&mut table, 5_000));
     assert!(rt; whole_table(&mut table, 5_000)?);
@@ -79,7 +79,7 @@ fn calls_succeed_plain(rt: HostRuntime) -> Result<(), Fail> {
 #[test]
 fn calls_succeed_split(rt: HostRuntime) -> Result<(), Fail> {
     let alloc = rt.alloc();
-    let mut table = split(alloc)?;
+    let mut table = split(alloc, Kind::Set)?;
     assert!(rt; all_succeed(alloc, &mut table, 5_000)?);
     assert!(rt; fix_and_release(&mut table, 5_000));
     assert!(rt; whole_table(&mut table, 5_000)?);

@@ -67,7 +67,10 @@ fn all_do<R: Rows>(alloc: Global, table: &mut Walked<R>, rows: &[Row]) -> Result
 }
 
 fn both_do(alloc: Global, rows: &[Row]) -> Result<bool, Fail> {
-    Ok(all_do(alloc, &mut plain(alloc), rows)? && all_do(alloc, &mut one_bucket(alloc)?, rows)?)
+    Ok(
+        all_do(alloc, &mut plain(alloc, Kind::Set), rows)?
+            && all_do(alloc, &mut one_bucket(alloc, Kind::Set)?, rows)?,
+    )
 }
 
 #[test]

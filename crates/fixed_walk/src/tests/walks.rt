@@ -6,104 +6,289 @@ fn stirred(seed: u64) -> u64 {
         .wrapping_add(1_442_695_040_888_963_407)
 }
 
-/// A step of another process: it inserts a key, deletes one that is no multiple of 5, or grows the table.
-fn meddle<R: Rows>(alloc: Global, table: &mut Walked<R>, seed: u64) -> Result<(), Fail> {
-    let key = ((seed >> 33) % 4000) as Integer;
-    match (seed >> 20) % 8 {
-        0 | 1 | 2 => {
-            let _ = insert(alloc, table, key, 1)?;
+/// What the table should have beside a walk. Others put in and delete as many keys; it begins with the lower half.
+#[derive(Drop)]
+struct Beside {
+    keys: u32,
+    /// The values that a key has, each one bit.
+    values: Vec<u32>,
+    /// Whether a key had values after each step so far.
+    stayed: Vec<bool>,
+    /// Whether the walk came to a key.
+    came: Vec<bool>,
+}
+
+impl Beside {
+    fn new(alloc: Global, keys: u32) -> Result<Beside, Fail> {
+        let mut values = Vec::new(alloc);
+        let mut stayed = Vec::new(alloc);
+        let mut came = Vec::new(alloc);
+        for key in 0..keys {
+            values.push(u32::from(key < keys / 2))?;
+            stayed.push(key < keys / 2)?;
+            came.push(false)?;
         }
-        3 | 4 | 5 => {
-            if key % 5 != 0 {
-                table.delete_key(&Term::Int(key));
-            }
-        }
-        _ => grow(table)?,
+        Ok(Beside {
+            keys,
+            values,
+            stayed,
+            came,
+        })
     }
-    Ok(())
+
+    fn values(&self, key: u32) -> u32 {
+        self.values.get(key as usize).copied().unwrap_or(0)
+    }
+
+    fn set(&mut self, key: u32, values: u32) {
+        if let Some(own) = self.values.get_mut(key as usize) {
+            *own = values;
+        }
+        if let Some(stayed) = self.stayed.get_mut(key as usize) {
+            *stayed = *stayed && values != 0;
+        }
+    }
+
+    /// Whether the walk came to a key that has values, for the first time.
+    fn comes(&mut self, key: u32) -> bool {
+        let present = self.values(key) != 0;
+        match self.came.get_mut(key as usize) {
+            Some(came) => {
+                let first = !*came;
+                *came = true;
+                present && first
+            }
+            None => false,
+        }
+    }
+
+    /// How many keys had values at each moment, and how many of them the walk came to.
+    fn stayed(&self) -> (usize, usize) {
+        let stayed = self.stayed.iter().filter(|stayed| **stayed).count();
+        let both = self.stayed.iter().zip(self.came.iter());
+        (
+            stayed,
+            both.filter(|(stayed, came)| **stayed && **came).count(),
+        )
+    }
+
+    /// How many keys have values.
+    fn present(&self) -> usize {
+        self.values.iter().filter(|values| **values != 0).count()
+    }
+}
+
+/// Inserts an object of a key.
+fn put<R: Rows>(
+    alloc: Global,
+    table: &mut Walked<R>,
+    beside: &mut Beside,
+    key: u32,
+    value: u32,
+) -> Result<bool, Fail> {
+    let before = if table.kind() == Kind::Set {
+        0
+    } else {
+        beside.values(key)
+    };
+    beside.set(key, before | value);
+    insert(alloc, table, Integer::from(key), Integer::from(value))
+}
+
+/// Deletes one object of a key, if it has it.
+fn delete_object<R: Rows>(
+    alloc: Global,
+    table: &mut Walked<R>,
+    beside: &mut Beside,
+    key: u32,
+    value: u32,
+) -> Result<bool, Fail> {
+    beside.set(key, beside.values(key) & !value);
+    let object = object(alloc, Integer::from(key), Integer::from(value))?;
+    Ok(table.delete_object(&object).is_ok())
+}
+
+fn delete<R: Rows>(table: &mut Walked<R>, beside: &mut Beside, key: u32) -> bool {
+    beside.set(key, 0);
+    table.delete_key(&Term::Int(Integer::from(key)));
+    true
+}
+
+/// Deletes all objects of a key and inserts one, so that it has some before and after.
+fn renew<R: Rows>(
+    alloc: Global,
+    table: &mut Walked<R>,
+    beside: &mut Beside,
+    key: u32,
+    value: u32,
+) -> Result<bool, Fail> {
+    table.delete_key(&Term::Int(Integer::from(key)));
+    beside.set(key, value);
+    insert(alloc, table, Integer::from(key), Integer::from(value))
+}
+
+/// A step of another process; whether it succeeds.
+fn meddle<R: Rows>(
+    alloc: Global,
+    table: &mut Walked<R>,
+    beside: &mut Beside,
+    seed: u64,
+) -> Result<bool, Fail> {
+    let key = ((seed >> 33) as u32).checked_rem(beside.keys).unwrap_or(0);
+    let value = 1u32 << ((seed >> 30) % 3);
+    match (seed >> 20) % 10 {
+        0 | 1 => put(alloc, table, beside, key, value),
+        2 | 3 => Ok(delete(table, beside, key)),
+        4 => delete_object(alloc, table, beside, key, value),
+        5 | 6 => renew(alloc, table, beside, key, value),
+        7 => {
+            let _ = table.ready((seed >> 52) as u32)?;
+            Ok(true)
+        }
+        _ => {
+            grow(table)?;
+            Ok(true)
+        }
+    }
 }
 
 fn meddle_often<R: Rows>(
     alloc: Global,
     table: &mut Walked<R>,
+    beside: &mut Beside,
     seed: u64,
-    times: u32,
-) -> Result<u64, Fail> {
+) -> Result<Option<u64>, Fail> {
     let mut seed = seed;
-    for _ in 0..times {
+    for _ in 0..10 {
         seed = stirred(seed);
-        meddle(alloc, table, seed)?;
+        if !meddle(alloc, table, beside, seed)? {
+            return Ok(None);
+        }
     }
-    Ok(seed)
+    Ok(Some(seed))
 }
 
-fn number(found: Option<&Term>) -> Option<Integer> {
+/// The key behind one, or the first; None at the end.
+fn next<R: Rows>(table: &Walked<R>, last: Option<u32>) -> Result<Option<u32>, Badarg> {
+    let found = match last {
+        None => table.first(),
+        Some(key) => table.next(&Term::Int(Integer::from(key)))?,
+    };
     match found {
-        Some(Term::Int(number)) => Some(*number),
-        _ => None,
-    }
-}
-
-/// The key behind one, or the first.
-fn next<R: Rows>(table: &Walked<R>, last: Option<Integer>) -> Option<Integer> {
-    match last {
-        None => number(table.first()),
-        Some(key) => match table.next(&Term::Int(key)) {
-            Ok(found) => number(found),
-            Err(Badarg) => None,
+        Some(Term::Int(number)) => match u32::try_from(*number) {
+            Ok(key) => Ok(Some(key)),
+            Err(_) => Err(Badarg),
         },
+        Some(_) => Err(Badarg),
+        None => Ok(None),
     }
 }
 
-/// The keys of a walk with ten steps of others between any two of its calls.
-fn walked<R: Rows>(alloc: Global, table: &mut Walked<R>) -> Result<Vec<Integer>, Fail> {
-    let mut keys = Vec::new(alloc);
+/// How many keys came, with ten steps of others between any two of them; None where a call failed, or a key came for
+/// the second time or without objects.
+fn walked<R: Rows>(
+    alloc: Global,
+    table: &mut Walked<R>,
+    beside: &mut Beside,
+) -> Result<Option<u32>, Fail> {
     let mut seed = 20251122;
     let mut last = None;
-    for _ in 0..10_000 {
-        last = next(table, last);
-        let Some(key) = last else {
-            return Ok(keys);
+    for count in 0..=beside.keys {
+        let Ok(found) = next(table, last) else {
+            return Ok(None);
         };
-        keys.push(key)?;
-        seed = meddle_often(alloc, table, seed, 10)?;
+        let Some(key) = found else {
+            return Ok(Some(count));
+        };
+        if !beside.comes(key) {
+            return Ok(None);
+        }
+        let Some(after) = meddle_often(alloc, table, beside, seed)? else {
+            return Ok(None);
+        };
+        seed = after;
+        last = found;
     }
-    Ok(keys)
+    Ok(None)
 }
 
-/// Whether no key comes twice, and each multiple of 5 below 2,000 comes.
-fn is_whole(mut keys: Vec<Integer>) -> Result<bool, Fail> {
-    keys.sort()?;
-    let mut stayed = 0u32;
-    let mut before = -1;
-    for key in keys.as_slice() {
-        if *key <= before {
-            return Ok(false);
-        }
-        before = *key;
-        if *key < 2000 && *key % 5 == 0 {
-            stayed = stayed.wrapping_add(1);
+/// Whether each key has as many objects as it should.
+fn agrees<R: Rows>(table: &Walked<R>, beside: &Beside) -> bool {
+    for key in 0..beside.keys {
+        let objects = table.lookup(&Term::Int(Integer::from(key)));
+        if objects.len() != beside.values(key).count_ones() as usize {
+            return false;
         }
     }
-    Ok(stayed == 400)
+    true
 }
 
-fn walks_whole<R: Rows>(alloc: Global, table: &mut Walked<R>) -> Result<bool, Fail> {
-    for key in 0..2000 {
-        if !insert(alloc, table, key, 0)? {
-            return Ok(false);
+/// Whether held slots stand until the last of two fixes goes, and then none.
+fn is_purged<R: Rows>(table: &mut Walked<R>, present: usize) -> bool {
+    let held = table.slots() > present;
+    table.release(8);
+    let kept = table.is_fixed() && table.slots() > present;
+    table.release(7);
+    held && kept && !table.is_fixed() && table.slots() == present
+}
+
+/// Why a walk over a table of half of so many keys is not whole; None where it is.
+fn wrong<R: Rows>(
+    alloc: Global,
+    table: &mut Walked<R>,
+    keys: u32,
+) -> Result<Option<&'static str>, Fail> {
+    let mut beside = Beside::new(alloc, keys)?;
+    for key in 0..keys / 2 {
+        if !insert(alloc, table, Integer::from(key), 1)? {
+            return Ok(Some("a key is not inserted"));
         }
     }
     table.fix(7)?;
-    let keys = walked(alloc, table)?;
-    table.release(7);
-    is_whole(keys)
+    table.fix(8)?;
+    let Some(count) = walked(alloc, table, &mut beside)? else {
+        return Ok(Some("a key comes twice, or without objects, or a call fails"));
+    };
+    let (stayed, came) = beside.stayed();
+    if came != stayed {
+        return Ok(Some("a key that stayed does not come"));
+    }
+    if stayed < keys as usize / 20 || count < keys / 2 {
+        return Ok(Some("too few keys stay or come"));
+    }
+    if !agrees(table, &beside) {
+        return Ok(Some("a key has other objects"));
+    }
+    if !is_purged(table, beside.present()) {
+        return Ok(Some("held slots go too early, or stay"));
+    }
+    Ok(None)
 }
 
 #[test]
-fn whole_while_others_meddle(rt: HostRuntime) -> Result<(), Fail> {
+fn whole_over_plain_rows(rt: HostRuntime) -> Result<(), Fail> {
     let alloc = rt.alloc();
-    assert!(rt; walks_whole(alloc, &mut plain(alloc))?);
-    assert!(rt; walks_whole(alloc, &mut split(alloc)?)?);
+    let mut table = plain(alloc, Kind::Bag);
+    assert_eq!(rt; wrong(alloc, &mut table, 4000)?, None);
+    Ok(())
+}
+
+#[test]
+fn whole_over_split_rows(rt: HostRuntime) -> Result<(), Fail> {
+    let alloc = rt.alloc();
+    for kind in [Kind::Set, Kind::Bag] {
+        let mut table = split(alloc, kind)?;
+        assert_eq!(rt; wrong(alloc, &mut table, 4000)?, None);
+        assert!(rt; table.buckets() > 1000);
+    }
+    Ok(())
+}
+
+#[test]
+fn whole_over_one_bucket(rt: HostRuntime) -> Result<(), Fail> {
+    let alloc = rt.alloc();
+    let mut table = one_bucket(alloc, Kind::Bag)?;
+    assert_eq!(rt; wrong(alloc, &mut table, 1600)?, None);
+    assert!(rt; table.buckets() > 100);
     Ok(())
 }

@@ -1,5 +1,5 @@
--- The lists of identifiers beside the tables: under each process those that it ever came to own, and those that may be fixed.
-use Rattle.std.specs.Prelude.{◌≡◌, ◌≤◌, ◌<◌, ◌⊎◌, ℕ, suc, ◌==◌, Bool, true, false, List, [], ◌∷◌, Option, Some, length, vec_capacity}
+-- The lists of identifiers beside the tables: under each process those that it ever came to own until it ends, and those that may be fixed.
+use Rattle.std.specs.Prelude.{◌≡◌, ◌≤◌, ◌<◌, ◌⊎◌, ℕ, suc, ◌==◌, Bool, true, false, if◌then◌else◌, List, [], ◌∷◌, Option, Some, length, vec_capacity}
 use Rattle.std.specs.Option.{option_map_or}
 use Rattle.std.specs.Map.{lookup}
 use Rattle.std.specs.declared.alloc.Global.{Global}
@@ -47,6 +47,10 @@ AreOwned ids p tables = (t : ℕ) (table : Table) → table_at tables t ≡ Some
 pub record Notes (old new : ℕ → List ℕ) : Type 0 where
   pub more : (p t : ℕ) → Among t (old p) → Among t (new p)
   pub order : Ascend old → Ascend new
+
+-- nothing stands under this owner any more, and under the others what did
+abbrev pub Forgets : ℕ → (ℕ → List ℕ) → (ℕ → List ℕ) → Type 0
+Forgets owner old new = (p : ℕ) → new p ≡ if owner == p then [] else old p
 
 -- each of these tables stands under its heir, where that lives
 abbrev pub AreInherited : (ℕ → List ℕ) → Processes → Tables → List ℕ → Type 0

@@ -16,7 +16,7 @@ use crate::fixed::{keep_fixed, take_back_lent};
 use crate::head::{Head, Heir};
 use crate::messages::{post, take_back, transfer};
 use crate::names::forget;
-use crate::owners::{note_heirs, owned_by};
+use crate::owners::{forget_owner, note_heirs, owned_by};
 use crate::process::Process;
 use crate::table::Table;
 use bucket_table::Rows;
@@ -70,6 +70,7 @@ impl<R: Rows> World<R> {
             own.as_slice(),
             pid,
         );
+        forget_owner(&mut self.owned, pid);
         Ok(())
     }
 }

@@ -1,5 +1,4 @@
-use Rattle.std.proofs.Common.{◌≡◌, ◌-◌, ◌<◌, ℕ, List, [], ◌∷◌, length, IsSome, Some, sym, ◌∙◌, ap, subst, arith}
-use Rattle.ets_term.specs.declared.term.Term.{Term}
+use Rattle.std.proofs.Common.{◌≡◌, ◌-◌, ℕ, List, [], ◌∷◌, length, Some, sym, ◌∙◌, ap, subst}
 use Rattle.ets_term.specs.Order.{same}
 use Rattle.node_list.specs.Changes.{cells_with}
 use Rattle.bucket_table.specs.Slots.{Slot}
@@ -12,7 +11,7 @@ use Rattle.bucket_table.proofs.CountedLaws.{length-set_value}
 use Rattle.bucket_table.proofs.NoteLaws.{among-with}
 use Rattle.bucket_table.proofs.OneLaws.{one-stands, one-long, swapped, no-held}
 use Rattle.bucket_table.proofs.RowsLaws.{rows-with}
-use Rattle.bucket_table.proofs.SeatLaws.{AtPlace, at-place, objects-read, objects-written, length-with, places-with}
+use Rattle.bucket_table.proofs.SeatLaws.{at-place, objects-read, objects-written, length-with, places-with}
 use Rattle.bucket_table.proofs.split.SplitRows.replace_only.Goals as goal
 
 pub chain_mut-requires : goal.chain_mut-requires

@@ -1,4 +1,4 @@
-use Rattle.std.proofs.Common.{◌≡◌, ◌+◌, ℕ, Option, Some, sym, ap, subst, ◌∙◌, List, length, map, arith}
+use Rattle.std.proofs.Common.{◌≡◌, ◌+◌, ℕ, false, Option, Some, sym, ap, subst, ◌∙◌, List, length, map, arith}
 use Rattle.std.proofs.lemmas.List.{length-map}
 use Rattle.indexmap.specs.IndexMap.{get_by_text}
 use Rattle.ownership.specs.declared.head.Head.{Head}
@@ -9,7 +9,8 @@ use Rattle.ownership.specs.End.{ended, handed_over, living_heir, table_after, me
 use Rattle.ownership.specs.inside.Ending.{posted, messages_at}
 use Rattle.ownership.specs.inside.Indices.{Among, AreNoted, AreInherited, AreOwned, owned_by}
 use Rattle.ownership.proofs.Ending.{all-after-same, posted-lives, heir-same, heir-before, ended-dead, messages-found}
-use Rattle.ownership.proofs.Keeping.{kept-notes, owned-all, owners-after}
+use Rattle.ownership.proofs.Keeping.{kept-notes, owned-all, owners-after, owners-forgotten}
+use Rattle.ownership.proofs.Owning.{forgets-order}
 use Rattle.ownership.proofs.world.World.bury.Goals as goal
 
 pub invariant_of-self : goal.invariant_of-self
@@ -38,6 +39,10 @@ invariant_of-self-2 g c =
     let p = c.args.pid in
     let owned = owned_by c.self.inside.owned.entries in
     let after = owned_by c.note_heirs.new.owned.entries in
+    let left = owned_by c.forget_owner.new.owned.entries in
+    let dead : lives ps p ≡ false =
+    ap (λ (qs : Processes). lives qs p) c.in_ok-hand_over.ensures.ok ∙ posted-lives (ended entries p) p c.as_slice-3.result.now c.as_slice-4.result.now p
+    ∙ ended-dead entries p (ap (λ (v : World). lives v.processes p) c.self.view_is ∙ c.requires) in
     let same : length new ≡ length items = ap (λ (ts : Tables). length ts) c.settle_all.ensures.after ∙ length-map items (table_after ps p) in
     let mine : AreOwned (owned p) p items = owned-all owned items p c.self.invariant.by_owner in
     let inherited : AreInherited after entries items (owned p) = subst (λ (ids : List ℕ). AreInherited after entries items ids) (c.as_slice-2.ensures.value ∙ c.in_ok-own.ensures) (subst (λ (ts : Tables). AreInherited after entries ts c.as_slice-2.result.now) c.as_slice.ensures.value c.in_ok-note_heirs.ensures.ok) in
@@ -47,8 +52,8 @@ invariant_of-self-2 g c =
       few = omega (arith, same, c.self.invariant.few);
       room = omega (arith, same, c.self.invariant.room, c.take_back_lent.ensures.capacity, c.settle_all.ensures.capacity);
       by_name = c.settle_all.ensures.index;
-      by_owner = owners-after ps entries p items new (owned p) owned after c.self.invariant.by_owner c.note_heirs.ensures.stays mine inherited lived c.settle_all.ensures.after;
-      order = c.note_heirs.ensures.stays.order c.self.invariant.order;
+      by_owner = owners-forgotten ps p dead items new after left c.forget_owner.ensures (owners-after ps entries p items new (owned p) owned after c.self.invariant.by_owner c.note_heirs.ensures.stays mine inherited lived c.settle_all.ensures.after) c.settle_all.ensures.after;
+      order = forgets-order after left p c.forget_owner.ensures (c.note_heirs.ensures.stays.order c.self.invariant.order);
       noted = subst (λ (lent : Option ℕ). AreNoted c.settle_all.new.fixed.items lent new) (sym c.take_back_lent.ensures.lent) c.settle_all.ensures.noted;
     }
 

@@ -1,0 +1,127 @@
+-- A walk among the steps of others (stdlib manual, module ets, safe_fixtable/2, first/1 and next/2): its steps in their order, and
+-- where it leaves the machine.
+use Rattle.std.specs.Prelude.{◌≡◌, ◌≤◌, ℕ, suc, ◌==◌, ◌&&◌, Bool, true, false, List, [], ◌∷◌, ◌++◌, map, filter, length, None, Result, Ok, Err, MatchOption, codes}
+use Rattle.std.specs.Bool.{MatchBool}
+use Rattle.std.specs.List.{AllByRecursion, Contains}
+use Rattle.std.specs.Option.{option_map_or}
+use Rattle.ets_term.specs.declared.term.Term.{Term}
+use Rattle.ets_term.specs.declared.term.Term.TheVariants.{Atom, Tid}
+use Rattle.ets_term.specs.Atoms.{is_atom}
+use Rattle.fixed_walk.specs.Fixes.{most_fixes, fix_count}
+use Rattle.ownership.specs.Heads.{may, may_read}
+use Rattle.ownership.specs.World.{table_at, resolve, lives}
+use Rattle.node_core.specs.declared.step.Step.{Step}
+use Rattle.node_core.specs.declared.step.Step.TheVariants.{Enrol, End, Ask, Grow, Ready}
+use Rattle.node_core.specs.declared.step.Reply.{Reply}
+use Rattle.node_core.specs.declared.step.Reply.TheVariants.{Value}
+use Rattle.node_core.specs.declared.walk.Walk.{Walk}
+use Rattle.node_core.specs.declared.walk.WalkFault.{WalkFault}
+use Rattle.node_core.specs.declared.walk.WalkFault.TheVariants as fault
+use Rattle.node_core.specs.State.{State}
+use Rattle.node_core.specs.Machine.{step, run}
+use Rattle.node_core.specs.rules.Replies.{true_reply}
+use Rattle.node_core.specs.laws.Kept.{is_fixed_in}
+use Rattle.node_core.specs.laws.Walk.{states, Walks}
+
+-- whether the step is one of this process
+abbrev pub is_step_of : ℕ → Step → Bool
+is_step_of p (Enrol q) = q == p
+is_step_of p (End q) = q == p
+is_step_of p (Ask q call) = q == p
+is_step_of p (Grow t) = false
+is_step_of p (Ready t bucket) = false
+
+-- steps handed in, each with its turn, which is the place of a key
+abbrev pub Given : Type 0
+Given = List (ℕ × Step)
+
+abbrev pub steps_at : ℕ → Given → List Step
+steps_at turn given = map (λ g. g.1) (filter (λ g. g.0 == turn) given)
+
+-- a key is told to the others: it goes last, and steps of its turn go last of those handed in
+abbrev pub Adds : List Term → Given → Term → List Term → Given → Type 0
+Adds keys given key new_keys new_given = (new_keys ≡ keys ++ key ∷ []) × ((steps : List Step) × (new_given ≡ given ++ map (λ s. (length keys, s)) steps))
+
+module _ (p t : ℕ) where
+  -- the calls of the walker on the table
+  abbrev pub fix : Step
+  fix = Ask p (record { name = codes "safe_fixtable"; args = Tid t ∷ Atom (codes "true") ∷ [] })
+
+  abbrev pub release : Step
+  release = Ask p (record { name = codes "safe_fixtable"; args = Tid t ∷ Atom (codes "false") ∷ [] })
+
+  abbrev pub first : Step
+  first = Ask p (record { name = codes "first"; args = Tid t ∷ [] })
+
+  abbrev pub next : Term → Step
+  next key = Ask p (record { name = codes "next"; args = Tid t ∷ key ∷ [] })
+
+  -- from a turn on, of each key the steps handed in for its turn, in order, and then next of the key
+  abbrev pub turns : Given → ℕ → List Term → List Step
+  turns given turn [] = []
+  turns given turn (key ∷ keys) = steps_at turn given ++ next key ∷ turns given (suc turn) keys
+
+  -- first, and the turn of each key
+  abbrev pub walk : List Term → Given → List Step
+  walk keys given = first ∷ turns given 0 keys
+
+  -- the fix goes before
+  abbrev pub woven : List Term → Given → List Step
+  woven keys given = fix ∷ walk keys given
+
+  -- whether the walker lives, and the table is there and may be read by it
+  abbrev pub can_read : State → Bool
+  can_read s = lives s.world.processes p && may may_read s.world.tables p t
+
+  -- the walker's fixes of the table
+  abbrev pub fixes_in : State → ℕ
+  fixes_in s = option_map_or (λ table. fix_count table.fixed.fixes p) (table_at s.world.tables t) 0
+
+  -- A walk that came to its end: the steps woven, and then the release, are done. The walker's calls answer these keys and then the
+  -- end, the table stays fixed from the first of them to the last, and no step handed in is the walker's.
+  pub record IsWalked (old : State) (limit : ℕ) (keys : List Term) (given : Given) (new : State) : Type 0 where
+    pub fixed : State
+    pub last : State
+    pub replies : List Reply
+    pub fix_done : step old fix true_reply fixed
+    pub walk_done : run fixed (walk keys given) replies last
+    pub release_done : step last release true_reply new
+    pub answers : Walks p t None keys fixed (walk keys given) replies last walk_done
+    pub held : AllByRecursion (λ s. is_fixed_in t s ≡ true) (states fixed (walk keys given) replies last walk_done)
+    pub others : AllByRecursion (λ g. is_step_of p g.1 ≡ false) given
+    pub few : length keys ≤ limit
+    pub fixes : fixes_in new ≡ fixes_in old
+
+  -- why a walk stops, of the steps woven having done these, with these replies, and left those
+  abbrev pub Reason : WalkFault → (old : State) (limit : ℕ) (keys : List Term) (given : Given) (done left : List Step) (replies : List Reply) (last : State) → Type 0
+  Reason fault.Lost old limit keys given done left replies last = can_read last ≡ false
+  Reason fault.OwnStep old limit keys given done left replies last =
+      (turn : ℕ) × (s : Step) × (further : List Step) × (left ≡ s ∷ further) × Contains given (turn, s) × (is_step_of p s ≡ true)
+  Reason fault.LimitReached old limit keys given done left replies last =
+      (left ≡ []) × (length keys ≡ limit) × ((before : List Reply) × (key : Term) × (replies ≡ before ++ Value key ∷ []) × (is_atom (codes "$end_of_table") key ≡ false))
+  Reason fault.Memory old limit keys given done left replies last = Unit {0}
+  Reason fault.SystemLimit old limit keys given done left replies last = (done ≡ []) × (fixes_in old ≡ most_fixes)
+
+  -- after the steps done comes the release, where they begin with the fix and the table may still be read; the walker then has as many
+  -- fixes as before
+  abbrev pub Leaves : (old : State) (done : List Step) (last new : State) → Type 0
+  Leaves old [] last new = new ≡ last
+  Leaves old (s ∷ done) last new = MatchBool (can_read last) (step last release true_reply new × (fixes_in new ≡ fixes_in old)) (new ≡ last)
+
+  -- A walk that stopped: of the steps woven the first are done, and the walker's among them are its calls of the walk alone.
+  pub record Stops (old : State) (limit : ℕ) (keys : List Term) (given : Given) (why : WalkFault) (new : State) : Type 0 where
+    pub done : List Step
+    pub left : List Step
+    pub own_left : List Step
+    pub replies : List Reply
+    pub last : State
+    pub order : woven keys given ≡ done ++ left
+    pub own : woven keys [] ≡ filter (is_step_of p) done ++ own_left
+    pub ran : run old done replies last
+    pub reason : Reason why old limit keys given done left replies last
+    pub after : Leaves old done last new
+
+-- what a walk over the table that a term names comes to, where the others then have these keys and these steps
+abbrev pub WalksAmong : State → ℕ → Term → ℕ → List Term → Given → Result Walk WalkFault → State → Type 0
+WalksAmong old p term limit keys given (Ok walk) new = (walk.keys ≡ keys) × MatchOption (resolve old.world.tables term) ⊥ (λ t. IsWalked p t old limit keys given new)
+WalksAmong old p term limit keys given (Err why) new = MatchOption (resolve old.world.tables term) ((why ≡ fault.Lost) × (new ≡ old)) (λ t. Stops p t old limit keys given why new)

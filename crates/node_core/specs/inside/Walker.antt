@@ -1,0 +1,128 @@
+-- What the parts of a walk among others' steps come to.
+use Rattle.std.specs.Prelude.{◌≡◌, ◌≤◌, ◌<◌, ℕ, suc, Bool, true, false, List, [], ◌∷◌, ◌++◌, map, take, drop, filter, length, Option, Some, None, Result, Ok, Err, MatchOption, is_some, codes, slice_get}
+use Rattle.std.specs.List.{AllByRecursion, list_any}
+use Rattle.std.specs.Map.{keys_of}
+use Rattle.ets_term.specs.declared.term.Term.{Term}
+use Rattle.ets_term.specs.Atoms.{is_atom}
+use Rattle.ets_term.specs.Depth.{is_too_deep}
+use Rattle.ets_term.specs.Order.{same}
+use Rattle.fixed_walk.specs.Fixes.{most_fixes}
+use Rattle.ownership.specs.World.{table_at}
+use Rattle.node_core.specs.declared.step.Step.{Step}
+use Rattle.node_core.specs.declared.step.Reply.{Reply}
+use Rattle.node_core.specs.declared.walk.Walk.{Walk}
+use Rattle.node_core.specs.declared.walk.WalkFault.{WalkFault}
+use Rattle.node_core.specs.declared.walk.WalkFault.TheVariants as fault
+use Rattle.node_core.specs.State.{State}
+use Rattle.node_core.specs.Machine.{step, run}
+use Rattle.node_core.specs.rules.Replies.{true_reply}
+use Rattle.node_core.specs.rules.Walking.{key_reply}
+use Rattle.node_core.specs.laws.Kept.{slots_in, is_fixed_in}
+use Rattle.node_core.specs.laws.Walk.{states, Walks}
+use Rattle.node_core.specs.Woven.{is_step_of, Given, fix, release, first, next, walk, can_read, fixes_in, Reason}
+
+abbrev pub is_there : ℕ → State → Bool
+is_there t s = is_some (table_at s.world.tables t)
+
+-- a key from which the walk can go on
+pub record IsFound (t : ℕ) (s : State) (key : Term) : Type 0 where
+  pub slot : is_there t s ≡ true → list_any (same key) (keys_of (slots_in t s)) ≡ true
+  pub shallow : is_too_deep key ≡ false
+  pub no_end : is_atom (codes "$end_of_table") key ≡ false
+
+abbrev pub CanGoOn : ℕ → State → Option Term → Type 0
+CanGoOn t s call = MatchOption call (Unit {0}) (λ key. IsFound t s key)
+
+module _ (p t : ℕ) where
+  -- the walker's call: first, or next of a key
+  abbrev pub call_of : Option Term → Step
+  call_of None = first p t
+  call_of (Some key) = next p t key
+
+  -- what the call answers: a key or the end
+  abbrev pub Finds : Option Term → State → Result (Option Term) WalkFault → Type 0
+  Finds call s (Ok found) = (can_read p t s ≡ true) × step s (call_of call) (key_reply found) s × CanGoOn t s found
+  Finds call s (Err fault.Lost) = can_read p t s ≡ false
+  Finds call s (Err fault.Memory) = Unit {0}
+  Finds call s (Err _) = ⊥
+
+  -- one fix more of the walker
+  abbrev pub Holds : State → Result (Unit {0}) WalkFault → State → Type 0
+  Holds old (Ok done) new = step old (fix p t) true_reply new × (fixes_in p t new ≡ suc (fixes_in p t old))
+  Holds old (Err fault.Lost) new = (can_read p t old ≡ false) × (new ≡ old)
+  Holds old (Err fault.SystemLimit) new = (fixes_in p t old ≡ most_fixes) × (new ≡ old)
+  Holds old (Err fault.Memory) new = new ≡ old
+  Holds old (Err _) new = ⊥
+
+  -- one fix less, where the table may be read
+  abbrev pub LetsGo : State → Bool → State → Type 0
+  LetsGo old true new = (can_read p t old ≡ true) × step old (release p t) true_reply new × ((n : ℕ) → fixes_in p t old ≡ suc n → fixes_in p t new ≡ n)
+  LetsGo old false new = (can_read p t old ≡ false) × (new ≡ old)
+
+  -- a run from a state on that is a walk from this call on, in a table that stays fixed
+  pub record Walking (call : Option Term) (keys : List Term) (old : State) (steps : List Step) (replies : List Reply) (new : State) : Type 0 where
+    pub done : run old steps replies new
+    pub answers : Walks p t call keys old steps replies new done
+    pub held : AllByRecursion (λ s. is_fixed_in t s ≡ true) (states old steps replies new done)
+
+  -- such a walk was found whole, or it is whole with what comes from now on
+  abbrev pub Leads : Option Term → List Term → State → List Step → List Reply → State → Type 0
+  Leads None keys fixed steps replies now = Walking None keys fixed steps replies now
+  Leads (Some key) keys fixed steps replies now =
+      (further : List Term) (more : List Step) (others : List Reply) (end : State) → Walking (Some key) further now more others end
+      → Walking None (keys ++ key ∷ further) fixed (steps ++ more) (replies ++ others) end
+
+  -- the walk so far, where the last of its calls has found this
+  pub record Stands (old : State) (keys : List Term) (given : Given) (found : Option Term) (now : State) : Type 0 where
+    pub fixed : State
+    pub before : List Reply
+    pub fix_done : step old (fix p t) true_reply fixed
+    pub walk_done : run fixed (walk p t keys given) (before ++ key_reply found ∷ []) now
+    pub leads : Leads found keys fixed (walk p t keys given) (before ++ key_reply found ∷ []) now
+    pub others : AllByRecursion (λ g. is_step_of p g.1 ≡ false) given
+    pub turns : AllByRecursion (λ g. g.0 < length keys) given
+    pub fixes : is_there t now ≡ true → fixes_in p t now ≡ suc (fixes_in p t old)
+    pub long : t < length now.world.tables
+    pub readable : can_read p t now ≡ true
+    pub goes_on : CanGoOn t now found
+
+  -- a walk that stopped, before the release
+  pub record Halts (old : State) (limit : ℕ) (keys : List Term) (given : Given) (why : WalkFault) (now : State) : Type 0 where
+    pub done : List Step
+    pub left : List Step
+    pub own_left : List Step
+    pub replies : List Reply
+    pub order : walk p t keys given ≡ done ++ left
+    pub own : walk p t keys [] ≡ filter (is_step_of p) done ++ own_left
+    pub ran : run old (fix p t ∷ done) (true_reply ∷ replies) now
+    pub reason : Reason p t why old limit keys given (fix p t ∷ done) left (true_reply ∷ replies) now
+    pub fixes : is_there t now ≡ true → fixes_in p t now ≡ suc (fixes_in p t old)
+
+  -- what the turn of a key comes to
+  abbrev pub TurnsTo : State → List Term → Given → Result (Option Term) WalkFault → State → Type 0
+  TurnsTo old keys given (Ok found) now = Stands old keys given found now
+  TurnsTo old keys given (Err why) now = (limit : ℕ) → Halts old limit keys given why now
+
+  -- what the whole walk comes to, before the release
+  abbrev pub EndsIn : State → ℕ → List Term → Given → Result Walk WalkFault → State → Type 0
+  EndsIn old limit keys given (Ok walk) now = (walk.keys ≡ keys) × (length keys ≤ limit) × Stands old keys given None now
+  EndsIn old limit keys given (Err why) now = Halts old limit keys given why now
+
+-- the steps handed in are done in order, none of them of this process: all, or those before one that is its own or that memory was
+-- refused for
+abbrev pub steps_of : Given → List Step
+steps_of given = map (λ g. g.1) given
+
+pub record OthersDid (p : ℕ) (old : State) (given : Given) (new : State) : Type 0 where
+  pub replies : List Reply
+  pub ran : run old (steps_of given) replies new
+  pub others : AllByRecursion (λ s. is_step_of p s ≡ false) (steps_of given)
+
+abbrev pub StoppedAt : ℕ → WalkFault → Given → Type 0
+StoppedAt p fault.OwnStep left = (g : ℕ × Step) × (slice_get left 0 ≡ Some g) × (is_step_of p g.1 ≡ true)
+StoppedAt p fault.Memory left = Unit {0}
+StoppedAt p _ left = ⊥
+
+abbrev pub OthersRun : ℕ → State → Given → Result (Unit {0}) WalkFault → State → Type 0
+OthersRun p old given (Ok done) new = OthersDid p old given new
+OthersRun p old given (Err why) new = (n : ℕ) × OthersDid p old (take n given) new × StoppedAt p why (drop n given)

@@ -1,0 +1,92 @@
+// What a walk among others' steps does to the table that it walks over.
+ghost use Rattle.std.specs.Prelude.{◌≡◌, Some, option_copied, IsTrue};
+ghost use Rattle.fixed_walk.specs.Fixed.{FixesOnce};
+ghost use Rattle.fixed_walk.specs.laws.Walks.{key_told};
+ghost use Rattle.table_ops.specs.Content.{IsContent};
+ghost use Rattle.ownership.specs.World as model;
+ghost use Rattle.node_core.specs.Seen.{seen};
+ghost use Rattle.node_core.specs.Woven.{can_read};
+ghost use Rattle.node_core.specs.inside.Walker.{CanGoOn, Finds, Holds, LetsGo};
+
+use super::Node;
+use crate::walk::WalkFault;
+use ets_term::{KeyHash, Term};
+use fixed_walk::FixFault;
+use std::alloc::Global;
+
+impl<H: KeyHash + Copy + Drop> Node<H> {
+    pub fn allocator(&self) -> Global {
+        self.alloc
+    }
+
+    /// Whether the process lives, and the table with this identifier is there and may be read by it.
+    fn can_read(&self, pid: u32, id: u32) -> bool
+        ensures { result ≡ can_read pid id self.now }
+    {
+        self.world.lives(pid) && self.world.may_read(pid, id)
+    }
+
+    /// One fix more of the table.
+    pub fn hold(&mut self, pid: u32, id: u32) -> Result<(), WalkFault>
+        ensures { Holds pid id (seen self.old) result (seen self.new) }
+    {
+        if !self.can_read(pid, id) {
+            return Err(WalkFault::Lost);
+        }
+        let Some(table) = self.table_mut(id) else {
+            return Err(WalkFault::Lost);
+        };
+        match table.fix(pid) {
+            Ok(()) => Ok(()),
+            Err(FixFault::SystemLimit) => Err(WalkFault::SystemLimit),
+            Err(FixFault::Memory) => Err(WalkFault::Memory),
+        }
+    }
+
+    /// One fix less, where the process may read the table; whether it may. It takes no memory.
+    pub fn let_go(&mut self, pid: u32, id: u32) -> bool
+        ensures { LetsGo pid id (seen self.old) result (seen self.new) }
+    {
+        if !self.can_read(pid, id) {
+            return false;
+        }
+        let Some(table) = self.table_mut(id) else {
+            return false;
+        };
+        table.release(pid);
+        true
+    }
+
+    /// The first key, or the key behind the last one; None at the end.
+    pub fn key_behind(
+        &self,
+        pid: u32,
+        id: u32,
+        last: Option<&Term>,
+    ) -> Result<Option<Term>, WalkFault>
+        requires { CanGoOn id (seen self.now) (option_copied last) }
+        ensures { Finds pid id (option_copied last.entry) (seen self.now) result }
+    {
+        if !self.can_read(pid, id) {
+            return Err(WalkFault::Lost);
+        }
+        let Some(table) = self.world.table(id) else {
+            return Err(WalkFault::Lost);
+        };
+        table.known();
+        let found = match last {
+            None => table.first(),
+            Some(key) => match table.next(key) {
+                Ok(found) => found,
+                Err(_) => unreachable!(),
+            },
+        };
+        match found {
+            None => Ok(None),
+            Some(key) => match key.try_clone(self.alloc) {
+                Ok(key) => Ok(Some(key)),
+                Err(_) => Err(WalkFault::Memory),
+            },
+        }
+    }
+}
