@@ -6,5 +6,4 @@ pub mod Firsts
 pub mod Surveys
 pub mod Walks
 pub mod Sweeps
-pub mod Numbers
 pub mod Notes

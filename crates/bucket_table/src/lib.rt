@@ -19,8 +19,6 @@ mod growth;
 mod plain;
 mod rows;
 mod split;
-#[cfg(test)]
-mod tests;
 
 pub use entry::{Entry, Place};
 pub use growth::{Growth, Readying};

@@ -20,8 +20,6 @@ mod expression;
 mod fault;
 mod pattern;
 mod spec;
-#[cfg(test)]
-mod tests;
 mod variable;
 
 pub use fault::SpecFault;

@@ -18,8 +18,6 @@ mod limits;
 mod node;
 mod position;
 mod step;
-#[cfg(test)]
-mod tests;
 mod walk;
 
 pub use limits::Limits;

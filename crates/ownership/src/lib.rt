@@ -27,8 +27,6 @@ mod options;
 mod owners;
 mod process;
 mod table;
-#[cfg(test)]
-mod tests;
 mod world;
 
 pub use fault::WorldFault;

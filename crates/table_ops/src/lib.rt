@@ -33,8 +33,6 @@ mod put_all;
 mod refusal;
 mod table;
 mod take;
-#[cfg(test)]
-mod tests;
 mod trial;
 mod undo;
 mod update;

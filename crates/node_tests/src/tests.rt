@@ -1,0 +1,3 @@
+mod node;
+mod text;
+mod world;

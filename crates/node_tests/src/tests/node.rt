@@ -1,0 +1,136 @@
+// Values from outside: each test is a table of rows, a step and the reply that the rules want of it. A row that is answered
+// otherwise is named by its place.
+use crate::tests::text::{term, terms};
+use ets_term::{AllSame, Fnv, KeyHash, Term};
+use node_core::{Call, Limits, Node, Reply, Step};
+use std::alloc::{AllocError, Global};
+
+mod growth;
+mod insertion;
+mod long;
+mod owning;
+mod processes;
+mod reading;
+mod refused;
+mod removal;
+mod searching;
+mod tables;
+mod updates;
+mod walk_among;
+mod walking;
+
+/// A step, told.
+#[derive(Clone, Copy)]
+enum Event<'a> {
+    Enrol(u32),
+    End(u32),
+    /// The process asks this call, as `lookup(t,a)`.
+    Ask(u32, &'a str),
+    Grow(u32),
+    Ready(u32, u32),
+}
+
+/// A step, and its reply: a term, a list in some order behind `~`, or `** badarg` and its like.
+type Row = (Event<'static>, &'static str);
+
+/// The step in which a process asks a call.
+fn ask(alloc: Global, pid: u32, call: &str) -> Result<Step, AllocError> {
+    let mut told = terms(alloc, call)?;
+    let Some(Term::List(arguments)) = told.pop() else {
+        return Err(AllocError);
+    };
+    let Some(Term::Atom(name)) = told.pop() else {
+        return Err(AllocError);
+    };
+    Ok(Step::Ask(pid, Call::new(name, arguments.into_vec())))
+}
+
+fn step(alloc: Global, event: Event) -> Result<Step, AllocError> {
+    match event {
+        Event::Enrol(pid) => Ok(Step::Enrol(pid)),
+        Event::End(pid) => Ok(Step::End(pid)),
+        Event::Ask(pid, call) => ask(alloc, pid, call),
+        Event::Grow(id) => Ok(Step::Grow(id)),
+        Event::Ready(id, bucket) => Ok(Step::Ready(id, bucket)),
+    }
+}
+
+/// The items of a list, in their order as terms. Any other term is a fault of the test, told as want of memory.
+fn sorted(term: Term) -> Result<Vec<Term>, AllocError> {
+    let Term::List(items) = term else {
+        return Err(AllocError);
+    };
+    let mut items = items.into_vec();
+    items.sort()?;
+    Ok(items)
+}
+
+/// Whether a list has these items, in any order.
+fn has_items(alloc: Global, value: &Term, wanted: &str) -> Result<bool, AllocError> {
+    let items = sorted(value.try_clone(alloc)?)?;
+    Ok(items == sorted(term(alloc, wanted)?)?)
+}
+
+/// Whether this is the reply that is wanted.
+fn is(alloc: Global, reply: &Reply, wanted: &str) -> Result<bool, AllocError> {
+    match reply {
+        Reply::Value(value) => match wanted.strip_prefix("~") {
+            Some(wanted) => has_items(alloc, value, wanted),
+            None => Ok(*value == term(alloc, wanted)?),
+        },
+        Reply::Badarg => Ok(wanted == "** badarg"),
+        Reply::SystemLimit => Ok(wanted == "** system_limit"),
+        Reply::NoProcess => Ok(wanted == "** noproc"),
+    }
+}
+
+/// Whether the step is answered so.
+fn does<H: KeyHash + Copy + Drop>(
+    alloc: Global,
+    node: &mut Node<H>,
+    event: Event,
+    wanted: &str,
+) -> Result<bool, AllocError> {
+    let step = step(alloc, event)?;
+    let reply = node.step(&step)?;
+    is(alloc, &reply, wanted)
+}
+
+/// The place of the first row that a node answers otherwise.
+fn wrong_in<H: KeyHash + Copy + Drop>(
+    alloc: Global,
+    node: &mut Node<H>,
+    rows: &[Row],
+) -> Result<Option<usize>, AllocError> {
+    for (place, (event, wanted)) in rows.iter().enumerate() {
+        if !does(alloc, node, *event, *wanted)? {
+            return Ok(Some(place));
+        }
+    }
+    Ok(None)
+}
+
+/// The place of the first row that a new node with this hash answers otherwise.
+fn wrong_by<H: KeyHash + Copy + Drop>(
+    alloc: Global,
+    limits: Limits,
+    hash: H,
+    rows: &[Row],
+) -> Result<Option<usize>, AllocError> {
+    let mut node = Node::new(alloc, limits, hash);
+    wrong_in(alloc, &mut node, rows)
+}
+
+/// The place of the first row that a new node with these limits answers otherwise, by a hash that spreads keys or by the
+/// one that does not.
+fn wrong_within(alloc: Global, limits: Limits, rows: &[Row]) -> Result<Option<usize>, AllocError> {
+    match wrong_by(alloc, limits, Fnv, rows)? {
+        Some(place) => Ok(Some(place)),
+        None => wrong_by(alloc, limits, AllSame, rows),
+    }
+}
+
+/// The place of the first row that a new node answers otherwise, by each of the two hashes.
+fn wrong(alloc: Global, rows: &[Row]) -> Result<Option<usize>, AllocError> {
+    wrong_within(alloc, Limits::usual(), rows)
+}

@@ -1,0 +1,94 @@
+// Want of memory. Run with each allocation refused in turn: `rt try --test --fail-alloc N`. A step that was refused
+// memory has changed nothing, so it answers when it is done again as if it had been done once. Where the refused
+// allocation is one of a test's own, it is made again.
+use super::Event::{Ask, End, Enrol, Grow, Ready};
+use super::{Event, Row, is, step};
+use ets_term::Fnv;
+use node_core::{Limits, Node, Reply, Step};
+use std::alloc::{AllocError, Global};
+use std::test::Fail;
+
+fn step_again(alloc: Global, event: Event) -> Result<Step, AllocError> {
+    match step(alloc, event) {
+        Ok(step) => Ok(step),
+        Err(_) => step(alloc, event),
+    }
+}
+
+fn reply_again(node: &mut Node<Fnv>, step: &Step) -> Result<Reply, AllocError> {
+    match node.step(step) {
+        Ok(reply) => Ok(reply),
+        Err(_) => node.step(step),
+    }
+}
+
+fn is_again(alloc: Global, reply: &Reply, wanted: &str) -> Result<bool, AllocError> {
+    match is(alloc, reply, wanted) {
+        Ok(same) => Ok(same),
+        Err(_) => is(alloc, reply, wanted),
+    }
+}
+
+fn does_again(
+    alloc: Global,
+    node: &mut Node<Fnv>,
+    event: Event,
+    wanted: &str,
+) -> Result<bool, AllocError> {
+    let step = step_again(alloc, event)?;
+    let reply = reply_again(node, &step)?;
+    is_again(alloc, &reply, wanted)
+}
+
+const LIFE: [Row; 27] = [
+    (Enrol(0), "<0"),
+    (
+        Ask(0, "new(a_name_that_is_longer_than_its_place,[named_table])"),
+        "a_name_that_is_longer_than_its_place",
+    ),
+    (Ask(0, "new(u,[bag])"), "#1"),
+    (Ask(0, "insert(#0,[{k,1},{l,1}])"), "true"),
+    (Ask(0, "insert(#0,{k,2})"), "true"),
+    (Ask(0, "insert_new(#0,{k,3})"), "false"),
+    (Ask(0, "lookup(#0,k)"), "[{k,2}]"),
+    (Ask(0, "insert(#1,[{k,1},{k,2}])"), "true"),
+    (Ask(0, "insert(#1,{k,2})"), "true"),
+    (Ask(0, "lookup_element(#1,k,2)"), "[1,2]"),
+    (Ask(0, "take(#1,k)"), "[{k,1},{k,2}]"),
+    (Ask(0, "tab2list(#0)"), "~[{k,2},{l,1}]"),
+    (Grow(0), "ok"),
+    (Ready(0, 3), "ok"),
+    (Ask(0, "safe_fixtable(#0,true)"), "true"),
+    (Ask(0, "delete(#0,l)"), "true"),
+    (Ask(0, "first(#0)"), "k"),
+    (Ask(0, "member(#0,l)"), "false"),
+    (Enrol(1), "<1"),
+    (Enrol(2), "<2"),
+    (Ask(0, "give_away(#1,<1,{a,gift})"), "true"),
+    (Ask(0, "setopts(#0,{heir,<2,{an,heir}})"), "true"),
+    (Ask(0, "info(#0,heir)"), "<2"),
+    (End(0), "true"),
+    (Ask(1, "receive()"), "[{ETS-TRANSFER,#1,<0,{a,gift}}]"),
+    (
+        Ask(2, "receive()"),
+        "[{ETS-TRANSFER,a_name_that_is_longer_than_its_place,<0,{an,heir}}]",
+    ),
+    (Ask(2, "info(#0,fixed)"), "false"),
+];
+
+/// The place of the first row that a node answers otherwise, where each want of memory is met again.
+fn wrong_again(alloc: Global) -> Result<Option<usize>, AllocError> {
+    let mut node = Node::new(alloc, Limits::usual(), Fnv);
+    for (place, (event, wanted)) in LIFE.iter().enumerate() {
+        if !does_again(alloc, &mut node, *event, *wanted)? {
+            return Ok(Some(place));
+        }
+    }
+    Ok(None)
+}
+
+#[test]
+fn a_refused_step_is_done_again(rt: HostRuntime) -> Result<(), Fail> {
+    assert_eq!(rt; wrong_again(rt.alloc())?, None);
+    Ok(())
+}

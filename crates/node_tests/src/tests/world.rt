@@ -1,0 +1,171 @@
+// Values from outside: each test is a table of rows, a call and the answer that the rules want of it. A row that is
+// answered otherwise is named by its place.
+use crate::tests::text::term;
+use bucket_table::PlainRows;
+use ets_term::{Integer, Items, Term};
+use fixed_walk::Walked;
+use ownership::{InfoItem, NewOptions, World, WorldFault};
+use std::alloc::{AllocError, Global};
+use table_ops::Table;
+
+mod ends;
+mod many;
+mod options;
+mod owners;
+mod refused;
+
+/// A call, told.
+#[derive(Clone, Copy)]
+enum Event<'a> {
+    Enrol(u32),
+    End(u32),
+    /// The process makes a table of this name with these options.
+    New(u32, &'a str, &'a str),
+    /// The table with this identifier goes.
+    Drop(u32),
+    /// The process gives the table to another, with this gift.
+    Give(u32, u32, u32, &'a str),
+    /// The process sets these options of the table.
+    Set(u32, u32, &'a str),
+    Receive(u32),
+    /// An item of the table, or `undefined`.
+    Info(u32, &'a str),
+    /// The identifier of the table that a term names, or `none`.
+    Resolve(&'a str),
+    /// Whether the process may read the table, write to it, and owns it: 1 or 0 each.
+    May(u32, u32),
+    /// The process fixes the table.
+    Fix(u32, u32),
+}
+
+/// A call, and its answer: a term, `{}` where it only does something, or `** badarg` and its like.
+type Row = (Event<'static>, &'static str);
+
+type Tables = World<PlainRows>;
+
+fn done(alloc: Global) -> Term {
+    Term::Tuple(Items::new(alloc))
+}
+
+fn new_table(
+    alloc: Global,
+    world: &mut Tables,
+    pid: u32,
+    name: &str,
+    options: &str,
+) -> Result<Term, WorldFault> {
+    let Term::Atom(name) = term(alloc, name)? else {
+        return Err(WorldFault::Badarg);
+    };
+    let options = NewOptions::read(alloc, &term(alloc, options)?)?;
+    let table = Table::new(
+        alloc,
+        PlainRows::new(alloc),
+        options.kind,
+        options.keypos,
+        10,
+    );
+    world.new_table(pid, &name, options, Walked::new(alloc, table))
+}
+
+fn info(alloc: Global, world: &Tables, id: u32, item: &str) -> Result<Term, WorldFault> {
+    let Some(item) = InfoItem::read(&term(alloc, item)?) else {
+        return Err(WorldFault::Badarg);
+    };
+    match world.info(id, item)? {
+        Some(told) => Ok(told),
+        None => Ok(term(alloc, "undefined")?),
+    }
+}
+
+fn resolved(alloc: Global, world: &Tables, named: &str) -> Result<Term, WorldFault> {
+    match world.resolve(&term(alloc, named)?) {
+        Some(id) => Ok(Term::Int(id as Integer)),
+        None => Ok(term(alloc, "none")?),
+    }
+}
+
+fn rights(alloc: Global, world: &Tables, pid: u32, id: u32) -> Result<Term, WorldFault> {
+    let mut rights = Items::new(alloc);
+    rights.push(Term::Int(world.may_read(pid, id) as Integer))?;
+    rights.push(Term::Int(world.may_write(pid, id) as Integer))?;
+    rights.push(Term::Int(world.is_owner(pid, id) as Integer))?;
+    Ok(Term::List(rights))
+}
+
+fn fix(alloc: Global, world: &mut Tables, pid: u32, id: u32) -> Result<Term, WorldFault> {
+    let Some(table) = world.table_mut(id) else {
+        return Err(WorldFault::Badarg);
+    };
+    match table.fix(pid) {
+        Ok(()) => Ok(done(alloc)),
+        Err(_) => Err(WorldFault::Memory),
+    }
+}
+
+/// What a call answers that only looks.
+fn told(alloc: Global, world: &Tables, event: Event) -> Result<Term, WorldFault> {
+    match event {
+        Event::Info(id, item) => info(alloc, world, id, item),
+        Event::Resolve(named) => resolved(alloc, world, named),
+        Event::May(pid, id) => rights(alloc, world, pid, id),
+        _ => Ok(done(alloc)),
+    }
+}
+
+/// What a call does that answers nothing of itself.
+fn doing(alloc: Global, world: &mut Tables, event: Event) -> Result<(), WorldFault> {
+    match event {
+        Event::Enrol(pid) => world.enrol(pid),
+        Event::End(pid) => world.end(pid),
+        Event::Give(pid, id, to, gift) => world.give_away(pid, id, to, &term(alloc, gift)?),
+        Event::Set(pid, id, options) => world.set_options(pid, id, &term(alloc, options)?),
+        Event::Drop(id) => {
+            world.drop_table(id);
+            Ok(())
+        }
+        _ => Ok(()),
+    }
+}
+
+fn answer(alloc: Global, world: &mut Tables, event: Event) -> Result<Term, WorldFault> {
+    match event {
+        Event::New(pid, name, options) => new_table(alloc, world, pid, name, options),
+        Event::Receive(pid) => Ok(Term::List(world.receive(pid))),
+        Event::Fix(pid, id) => fix(alloc, world, pid, id),
+        _ => {
+            doing(alloc, world, event)?;
+            told(alloc, world, event)
+        }
+    }
+}
+
+/// How a refusal is told.
+fn refusal(fault: &WorldFault) -> &'static str {
+    match fault {
+        WorldFault::Badarg => "** badarg",
+        WorldFault::SystemLimit => "** system_limit",
+        WorldFault::NoProcess => "** noproc",
+        WorldFault::Memory => "** no memory",
+    }
+}
+
+/// Whether a call is answered so.
+fn does(alloc: Global, world: &mut Tables, event: Event, wanted: &str) -> Result<bool, AllocError> {
+    match answer(alloc, world, event) {
+        Ok(told) => Ok(told == term(alloc, wanted)?),
+        Err(WorldFault::Memory) => Err(AllocError),
+        Err(fault) => Ok(refusal(&fault) == wanted),
+    }
+}
+
+/// The place of the first row that a new world for three processes and four tables answers otherwise.
+fn wrong(alloc: Global, rows: &[Row]) -> Result<Option<usize>, AllocError> {
+    let mut world = World::new(alloc, 3, 4);
+    for (place, (event, wanted)) in rows.iter().enumerate() {
+        if !does(alloc, &mut world, *event, *wanted)? {
+            return Ok(Some(place));
+        }
+    }
+    Ok(None)
+}

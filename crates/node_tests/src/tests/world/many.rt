@@ -1,0 +1,168 @@
+// Worlds of hundreds of processes and tables, beside a plain model.
+use super::Tables;
+use crate::tests::text::term;
+use bucket_table::PlainRows;
+use ets_term::{Items, Term};
+use fixed_walk::Walked;
+use ownership::{NewOptions, World, WorldFault};
+use std::alloc::Global;
+use std::test::Fail;
+use table_ops::Table;
+
+const MANY: u32 = 300;
+
+const GONE: u32 = 1_000;
+
+/// The option of an heir, as the only one of the list.
+fn heir_options(alloc: Global, heir: u32) -> Result<Term, WorldFault> {
+    let mut entry = Items::new(alloc);
+    entry.push(term(alloc, "heir")?)?;
+    entry.push(Term::Pid(heir))?;
+    entry.push(Term::Int(1))?;
+    let mut list = Items::new(alloc);
+    list.push(Term::Tuple(entry))?;
+    Ok(Term::List(list))
+}
+
+/// A table of the process, with this heir.
+fn make(alloc: Global, world: &mut Tables, pid: u32, heir: u32) -> Result<(), WorldFault> {
+    let options = NewOptions::read(alloc, &heir_options(alloc, heir)?)?;
+    let Term::Atom(name) = term(alloc, "t")? else {
+        return Err(WorldFault::Badarg);
+    };
+    let rows = PlainRows::new(alloc);
+    let table = Table::new(alloc, rows, options.kind, options.keypos, 10);
+    world.new_table(pid, &name, options, Walked::new(alloc, table))?;
+    Ok(())
+}
+
+fn fix(world: &mut Tables, pid: u32, id: u32) -> Result<(), WorldFault> {
+    let Some(table) = world.table_mut(id) else {
+        return Err(WorldFault::Badarg);
+    };
+    match table.fix(pid) {
+        Ok(()) => Ok(()),
+        Err(_) => Err(WorldFault::Memory),
+    }
+}
+
+/// Whose the table is, and whether it is fixed; GONE where there is none.
+fn seen(world: &Tables, id: u32) -> (u32, bool) {
+    match (world.head(id), world.table(id)) {
+        (Some(head), Some(table)) => (head.owner, table.is_fixed()),
+        _ => (GONE, false),
+    }
+}
+
+/// The identifiers of the tables whose messages a process has, in that order.
+fn comes_in_order(messages: &[Term], wanted: u32) -> bool {
+    for (place, message) in messages.iter().enumerate() {
+        let Term::Tuple(elements) = message else {
+            return false;
+        };
+        match elements.as_slice().get(1) {
+            Some(Term::Tid(id)) if *id as usize == place => {}
+            _ => return false,
+        }
+    }
+    messages.len() == wanted as usize
+}
+
+fn seventy(alloc: Global) -> Result<bool, WorldFault> {
+    let mut world = World::new(alloc, 2, 70);
+    world.enrol(0)?;
+    world.enrol(1)?;
+    for _ in 0..70 {
+        make(alloc, &mut world, 0, 1)?;
+    }
+    world.end(0)?;
+    if !comes_in_order(world.mailbox(1), 70) || seen(&world, 69) != (1, false) {
+        return Ok(false);
+    }
+    world.end(1)?;
+    for id in 0..70 {
+        if seen(&world, id) != (GONE, false) {
+            return Ok(false);
+        }
+    }
+    Ok(true)
+}
+
+#[test]
+fn seventy_tables_go_to_one_heir(rt: HostRuntime) -> Result<(), Fail> {
+    assert_eq!(rt; seventy(rt.alloc()), Ok(true));
+    Ok(())
+}
+
+/// The heir of a table, and the process that fixes it.
+fn heir_of(id: u32) -> u32 {
+    id.wrapping_mul(17).wrapping_add(1) % MANY
+}
+
+fn fixer_of(id: u32) -> u32 {
+    id.wrapping_mul(11).wrapping_add(5) % MANY
+}
+
+/// Who ends as the so manieth.
+fn ending(turn: u32) -> u32 {
+    turn.wrapping_mul(7) % MANY
+}
+
+fn is_ended(pid: u32, turns: u32) -> bool {
+    for turn in 0..turns {
+        if ending(turn) == pid {
+            return true;
+        }
+    }
+    false
+}
+
+/// Whose a table is after so many ends: it goes with its owner to its heir, or is gone where that has ended.
+fn wanted(id: u32, turns: u32) -> (u32, bool) {
+    let heir = heir_of(id);
+    let owner = if !is_ended(id, turns) {
+        id
+    } else if is_ended(heir, turns) {
+        GONE
+    } else {
+        heir
+    };
+    (owner, owner != GONE && !is_ended(fixer_of(id), turns))
+}
+
+fn world_of_many(alloc: Global) -> Result<Tables, WorldFault> {
+    let mut world = World::new(alloc, MANY, MANY);
+    for pid in 0..MANY {
+        world.enrol(pid)?;
+    }
+    for id in 0..MANY {
+        make(alloc, &mut world, id, heir_of(id))?;
+    }
+    for id in 0..MANY {
+        fix(&mut world, fixer_of(id), id)?;
+    }
+    Ok(world)
+}
+
+/// After how many ends a table is otherwise than wanted, and which.
+fn wrong_of_many(alloc: Global) -> Result<Option<(u32, u32)>, WorldFault> {
+    let mut world = world_of_many(alloc)?;
+    for turn in 0..MANY {
+        world.end(ending(turn))?;
+        if turn % 16 != 0 && turn + 1 != MANY {
+            continue;
+        }
+        for id in 0..MANY {
+            if seen(&world, id) != wanted(id, turn + 1) {
+                return Ok(Some((turn, id)));
+            }
+        }
+    }
+    Ok(None)
+}
+
+#[test]
+fn three_hundred_end(rt: HostRuntime) -> Result<(), Fail> {
+    assert_eq!(rt; wrong_of_many(rt.alloc()), Ok(None));
+    Ok(())
+}

@@ -1,0 +1,184 @@
+// Want of memory. Run with each allocation refused in turn: `rt try --test --fail-alloc N`. A call that was refused
+// memory has changed nothing that can be seen from outside, and answers when it is called again as if it had been called
+// once. Where the refused allocation is one of the test's own, it is made again.
+use super::Event::{End, Enrol, Fix, Give, Info, New, Receive, Set};
+use super::{Event, Row, Tables, answer, refusal};
+use crate::tests::text::term;
+use ets_term::{Integer, Term};
+use ownership::{InfoItem, World, WorldFault};
+use std::alloc::{AllocError, Global};
+use std::test::Fail;
+
+const LIFE: [Row; 28] = [
+    (Enrol(0), "{}"),
+    (Enrol(1), "{}"),
+    (Enrol(1), "** badarg"),
+    (Enrol(2), "{}"),
+    (Enrol(3), "** system_limit"),
+    (
+        New(0, "a_name_longer_than_its_place", "[named_table]"),
+        "a_name_longer_than_its_place",
+    ),
+    (New(0, "u", "[{heir,<2,[x,y]}]"), "#1"),
+    (New(0, "v", "[bag,public]"), "#2"),
+    (
+        New(0, "a_name_longer_than_its_place", "[named_table]"),
+        "** badarg",
+    ),
+    (New(1, "w", "[named_table,{heir,<0,x}]"), "w"),
+    (New(0, "x", "[{heir,<1,{a,gift}}]"), "** system_limit"),
+    (Info(0, "name"), "a_name_longer_than_its_place"),
+    (Fix(0, 0), "{}"),
+    (Fix(1, 0), "{}"),
+    (Fix(0, 3), "{}"),
+    (Set(0, 0, "{heir,<1,{an,heir}}"), "{}"),
+    (Set(0, 2, "[{heir,<2,{a,b}},{heir,<1,{c,[d]}}]"), "{}"),
+    (Set(0, 2, "[{heir,<2,{e,f}},{heir,7,x}]"), "** badarg"),
+    (Give(0, 1, 2, "{a,{deep,[gift]}}"), "{}"),
+    (Give(0, 1, 2, "{a,gift}"), "** badarg"),
+    (Give(1, 3, 0, "{another,gift}"), "{}"),
+    (Set(0, 3, "{heir,<2,{last,gift}}"), "{}"),
+    (End(0), "{}"),
+    (End(0), "** noproc"),
+    (
+        Receive(1),
+        "[{ETS-TRANSFER,a_name_longer_than_its_place,<0,{an,heir}},{ETS-TRANSFER,#2,<0,{c,[d]}}]",
+    ),
+    (
+        Receive(2),
+        "[{ETS-TRANSFER,#1,<0,{a,{deep,[gift]}}},{ETS-TRANSFER,w,<0,{last,gift}}]",
+    ),
+    (End(1), "{}"),
+    (Info(0, "name"), "undefined"),
+];
+
+const ITEMS: [InfoItem; 10] = [
+    InfoItem::Name,
+    InfoItem::NamedTable,
+    InfoItem::Owner,
+    InfoItem::Protection,
+    InfoItem::Heir,
+    InfoItem::Id,
+    InfoItem::Size,
+    InfoItem::Kind,
+    InfoItem::Keypos,
+    InfoItem::Fixed,
+];
+
+fn flag(value: bool) -> Term {
+    Term::Int(Integer::from(value))
+}
+
+/// Whether the process lives, and what is in its mailbox.
+fn see_process(
+    alloc: Global,
+    world: &Tables,
+    pid: u32,
+    seen: &mut Vec<Term>,
+) -> Result<(), AllocError> {
+    seen.push(flag(world.lives(pid)))?;
+    for message in world.mailbox(pid) {
+        seen.push(message.try_clone(alloc)?)?;
+    }
+    Ok(())
+}
+
+/// What there is to say of the table, and who may use it.
+fn see_table(world: &Tables, id: u32, seen: &mut Vec<Term>) -> Result<(), AllocError> {
+    seen.push(flag(world.resolve(&Term::Tid(id)).is_some()))?;
+    for item in ITEMS {
+        if let Some(told) = world.info(id, item)? {
+            seen.push(told)?;
+        }
+    }
+    for pid in 0..4 {
+        seen.push(flag(world.may_read(pid, id)))?;
+        seen.push(flag(world.may_write(pid, id)))?;
+        seen.push(flag(world.is_owner(pid, id)))?;
+    }
+    Ok(())
+}
+
+/// Which table has this name.
+fn see_name(
+    alloc: Global,
+    world: &Tables,
+    name: &str,
+    seen: &mut Vec<Term>,
+) -> Result<(), AllocError> {
+    let name = term(alloc, name)?;
+    seen.push(flag(world.resolve(&name).is_some()))?;
+    if let Some(id) = world.resolve(&name) {
+        seen.push(Term::Tid(id))?;
+    }
+    Ok(())
+}
+
+/// All that can be seen of a world.
+fn seen(alloc: Global, world: &Tables) -> Result<Vec<Term>, AllocError> {
+    let mut seen = Vec::with_capacity(alloc, 128)?;
+    seen.push(Term::Int(Integer::from(world.made())))?;
+    for pid in 0..4 {
+        see_process(alloc, world, pid, &mut seen)?;
+    }
+    for id in 0..4 {
+        see_table(world, id, &mut seen)?;
+    }
+    for name in ["a_name_longer_than_its_place", "u", "v", "w", "x"] {
+        see_name(alloc, world, name, &mut seen)?;
+    }
+    Ok(seen)
+}
+
+fn seen_again(alloc: Global, world: &Tables) -> Result<Vec<Term>, AllocError> {
+    match seen(alloc, world) {
+        Ok(seen) => Ok(seen),
+        Err(_) => seen(alloc, world),
+    }
+}
+
+fn term_again(alloc: Global, text: &str) -> Result<Term, AllocError> {
+    match term(alloc, text) {
+        Ok(term) => Ok(term),
+        Err(_) => term(alloc, text),
+    }
+}
+
+/// Whether a call is answered so, at once or, where it was refused memory and has changed nothing, when it is called
+/// again.
+fn does_again(
+    alloc: Global,
+    world: &mut Tables,
+    event: Event,
+    wanted: &str,
+) -> Result<bool, AllocError> {
+    let before = seen_again(alloc, world)?;
+    let mut answered = answer(alloc, world, event);
+    if answered == Err(WorldFault::Memory) {
+        if seen_again(alloc, world)? != before {
+            return Ok(false);
+        }
+        answered = answer(alloc, world, event);
+    }
+    match answered {
+        Ok(told) => Ok(told == term_again(alloc, wanted)?),
+        Err(fault) => Ok(refusal(&fault) == wanted),
+    }
+}
+
+/// The place of the first row that is answered otherwise.
+fn wrong_again(alloc: Global) -> Result<Option<usize>, AllocError> {
+    let mut world = World::new(alloc, 3, 4);
+    for (place, (event, wanted)) in LIFE.iter().enumerate() {
+        if !does_again(alloc, &mut world, *event, wanted)? {
+            return Ok(Some(place));
+        }
+    }
+    Ok(None)
+}
+
+#[test]
+fn a_refused_call_is_called_again(rt: HostRuntime) -> Result<(), Fail> {
+    assert_eq!(rt; wrong_again(rt.alloc())?, None);
+    Ok(())
+}

@@ -1,0 +1,95 @@
+ghost use Rattle.std.specs.Prelude.{◌<◌};
+
+// What no clause says: that calls succeed at every size, and that searches are short where they must be.
+use bucket_table::{Entry, Growth, PlainRows, Readying, Rows, SplitRows};
+use ets_term::{AllSame, Fnv, KeyHash, Term};
+use node_list::{Chain, Steps};
+use std::alloc::{AllocError, Global};
+use std::test::Fail;
+
+mod calls;
+mod growth;
+mod hashes;
+mod refused;
+mod searches;
+mod several;
+mod sizes;
+
+use self::hashes::{Even, Last, Plain};
+
+/// Numbers that look random, the same in each run.
+#[derive(Drop)]
+struct Draws {
+    state: u64,
+}
+
+impl Draws {
+    fn new() -> Draws {
+        Draws { state: 20_261_122 }
+    }
+
+    fn below(&mut self, bound: u32) -> u32
+        requires { 0 < bound }
+    {
+        self.state = self
+            .state
+            .wrapping_mul(6_364_136_223_846_793_005)
+            .wrapping_add(1_442_695_040_888_963_407);
+        ((self.state >> 33) % (bound as u64)) as u32
+    }
+}
+
+/// What a key has.
+#[derive(Clone, Copy, PartialEq, Eq)]
+enum Kept {
+    Nothing,
+    Held,
+    Object(i64),
+}
+
+fn kept_in(objects: &[Term]) -> Kept {
+    match objects.first() {
+        Some(Term::Int(value)) => Kept::Object(*value as i64),
+        _ => Kept::Held,
+    }
+}
+
+fn kept_at<R: Rows>(rows: &R, key: i64) -> Kept {
+    match rows.get(&Term::Int(key)) {
+        Some(objects) => kept_in(objects),
+        None => Kept::Nothing,
+    }
+}
+
+/// Gives a key one object, in a new slot or in its own, and answers what it had.
+fn insert<R: Rows>(rows: &mut R, alloc: Global, key: i64, value: i64) -> Result<Kept, AllocError> {
+    let term = Term::Int(key);
+    let objects = Chain::one(alloc, Term::Int(value));
+    match rows.entry(&term) {
+        Entry::Vacant(hash) => {
+            rows.put_at(hash, term, objects)?;
+            Ok(Kept::Nothing)
+        }
+        Entry::Occupied(place) => Ok(kept_in(rows.replace_at(place, objects).as_slice())),
+    }
+}
+
+/// Takes a key's slot away, and answers what it had.
+fn remove<R: Rows>(rows: &mut R, key: i64) -> Kept {
+    match rows.remove(&Term::Int(key)) {
+        Some(objects) => kept_in(objects.as_slice()),
+        None => Kept::Nothing,
+    }
+}
+
+/// Doubles the buckets now and then, and readies some of them in any order.
+fn ready_some<R: Rows>(rows: &mut R, draws: &mut Draws) -> Result<(), AllocError> {
+    if rows.buckets() < 4096 && draws.below(50) == 0 {
+        rows.grow()?;
+    }
+    for _ in 0..draws.below(20) {
+        let bucket = draws.below(rows.buckets().max(1));
+        rows.ready(bucket)?;
+    }
+    Ok(())
+}

@@ -1,0 +1,163 @@
+// Long runs: the same answers over each form of rows, past every power of two.
+use super::{Step, answer, plain, same, split};
+use bucket_table::Rows;
+use std::alloc::Global;
+use std::process::Abort;
+use std::test::Fail;
+use table_ops::{Kind, Table};
+
+const CALLS: u32 = 10_000;
+
+/// The step of a number: the calls on keys that spread with it.
+fn step_at(i: u32) -> Step {
+    let mixed = i.wrapping_mul(2_654_435_761);
+    let key = (mixed >> 16) as i64 % 97;
+    let value = (mixed >> 8) as i64 % 10;
+    let hold = i % 64 < 16;
+    match mixed >> 27 {
+        0 | 1 | 2 | 3 | 4 | 5 | 6 | 7 => Step::Insert(key, value),
+        8 | 9 => Step::InsertTwo(key, value, value, key),
+        10 | 11 => Step::InsertNew(key, value),
+        12 | 13 => Step::Delete(key, hold),
+        14 => Step::Take(key, hold),
+        15 => Step::DeleteObject(key, value, hold),
+        16 | 17 => Step::Count(key, value),
+        18 | 19 => Step::CountFrom(key, value, value),
+        20 => Step::Write(key, value),
+        21 => Step::Matches(key),
+        22 => Step::Element(key, 2),
+        23 => Step::DeleteMatching(key, hold),
+        24 => Step::Size,
+        25 => Step::Slots,
+        26 => Step::Grow,
+        _ => Step::Lookup(key),
+    }
+}
+
+/// The steps that look at the whole table, now and then.
+fn whole_step_at(i: u32) -> Step {
+    match i % 1024 {
+        0 => Step::Objects,
+        256 => Step::Below((i % 7) as i64),
+        512 => Step::DeleteBelow((i % 3) as i64, i % 2048 < 1024),
+        700 => Step::Purge,
+        _ => step_at(i),
+    }
+}
+
+/// Whether the tables answer alike.
+fn agree<A: Rows, B: Rows>(
+    alloc: Global,
+    first: &mut Table<A>,
+    second: &mut Table<B>,
+    calls: u32,
+) -> bool {
+    for i in 0..calls {
+        let step = whole_step_at(i);
+        if answer(alloc, first, step) != answer(alloc, second, step) {
+            return false;
+        }
+    }
+    true
+}
+
+fn fnv_agrees(alloc: Global, kind: Kind) -> Result<bool, Fail> {
+    let mut second = split(alloc, kind, 1, 1_000_000)?;
+    Ok(agree(
+        alloc,
+        &mut plain(alloc, kind, 1, 1_000_000),
+        &mut second,
+        CALLS,
+    ))
+}
+
+fn same_agrees(alloc: Global, kind: Kind) -> Result<bool, Fail> {
+    let mut second = same(alloc, kind, 1, 1_000_000)?;
+    Ok(agree(
+        alloc,
+        &mut plain(alloc, kind, 1, 1_000_000),
+        &mut second,
+        CALLS,
+    ))
+}
+
+#[test]
+fn sets_answer_alike(rt: HostRuntime) -> Result<(), Fail> {
+    assert!(rt; fnv_agrees(rt.alloc(), Kind::Set)?);
+    assert!(rt; same_agrees(rt.alloc(), Kind::Set)?);
+    Ok(())
+}
+
+#[test]
+fn bags_answer_alike(rt: HostRuntime) -> Result<(), Fail> {
+    assert!(rt; fnv_agrees(rt.alloc(), Kind::Bag)?);
+    assert!(rt; same_agrees(rt.alloc(), Kind::Bag)?);
+    Ok(())
+}
+
+#[test]
+fn duplicate_bags_answer_alike(rt: HostRuntime) -> Result<(), Fail> {
+    assert!(rt; fnv_agrees(rt.alloc(), Kind::DuplicateBag)?);
+    assert!(rt; same_agrees(rt.alloc(), Kind::DuplicateBag)?);
+    Ok(())
+}
+
+/// Whether a table of one more object each time has what it must, and gives it all up again.
+fn fills<R: Rows>(alloc: Global, table: &mut Table<R>, most: u32) -> bool {
+    for i in 0..most {
+        if answer(alloc, table, Step::Insert(i as i64, 1)) != 1 {
+            return false;
+        }
+        if answer(alloc, table, Step::Size) != i as i64 + 1 {
+            return false;
+        }
+        if i % 8 == 0 && answer(alloc, table, Step::Grow) != 1 {
+            return false;
+        }
+        if i.is_power_of_two() && !has_all(alloc, table, i as i64) {
+            return false;
+        }
+    }
+    answer(alloc, table, Step::DeleteBelow(2, false)) == most as i64
+}
+
+/// Whether each call does what it must on a table of the keys up to this one, with the value 1.
+fn has_all<R: Rows>(alloc: Global, table: &mut Table<R>, last: i64) -> bool {
+    let count = last.wrapping_add(1);
+    let rows = [
+        (Step::Below(2), count.wrapping_mul(100_001)),
+        (Step::Below(1), 0),
+        (Step::Count(last, 4), 5),
+        (Step::Write(last, 1), 1),
+        (Step::Matches(last), 202),
+        (Step::Element(last, 2), 1),
+        (Step::InsertNew(last, 2), 0),
+        (Step::Take(last, true), 1),
+        (Step::InsertNew(last, 1), 1),
+        (Step::DeleteObject(last, 1, true), last),
+        (Step::CountFrom(last, 0, 1), 1),
+        (Step::Delete(last, false), last),
+        (Step::InsertTwo(last, 2, last, 1), 1),
+        (Step::DeleteMatching(last, false), last),
+        (Step::Insert(last, 1), 1),
+        (Step::Slots, count),
+    ];
+    for (step, wanted) in rows {
+        if answer(alloc, table, step) != wanted {
+            return false;
+        }
+    }
+    true
+}
+
+fn fnv_fills(alloc: Global) -> Result<bool, Fail> {
+    Ok(fills(alloc, &mut split(alloc, Kind::Set, 1, 1_000_000)?, 10_000))
+}
+
+#[test]
+fn fills_and_empties(rt: HostRuntime) -> Result<(), Fail> {
+    let alloc = rt.alloc();
+    assert!(rt; fills(alloc, &mut plain(alloc, Kind::Set, 1, 1_000_000), 10_000));
+    assert!(rt; fnv_fills(alloc)?);
+    Ok(())
+}

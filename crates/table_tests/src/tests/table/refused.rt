@@ -1,0 +1,130 @@
+// Want of memory. Run with each allocation refused in turn: `rt try --test --fail-alloc N`. A step that was refused
+// memory has changed nothing: the table has what it had, and the step answers when it is done again as if it had been
+// done once. Where the refused allocation is one of a test's own, it is made again.
+use super::steps::every;
+use super::{MEMORY, Step, answer, plain};
+use bucket_table::{Rows, SplitRows};
+use ets_term::{AllSame, Fnv, KeyHash};
+use std::alloc::Global;
+use std::process::Abort;
+use std::test::Fail;
+use table_ops::{Kind, Table};
+
+const LIFE: [(Step, i64); 26] = [
+    (Step::InsertTwo(1, 1, 2, 2), 1),
+    (Step::InsertTwo(3, 3, 1, 4), 1),
+    (Step::InsertNew(1, 5), 0),
+    (Step::InsertNew(4, 5), 1),
+    (Step::InsertDeep(5, 3), 1),
+    (Step::InsertNewDeep(6, 3), 1),
+    (Step::Grow, 1),
+    (Step::Grow, 1),
+    (Step::Insert(7, 6), 1),
+    (Step::Insert(7, 7), 1),
+    (Step::Lookup(7), 7),
+    (Step::Element(7, 2), 7),
+    (Step::Count(7, 1), 8),
+    (Step::CountFrom(8, 1, 1), 2),
+    (Step::Write(8, 3), 1),
+    (Step::Matches(8), 202),
+    (Step::Below(9), 600_006),
+    (Step::Take(8, true), 3),
+    (Step::CountFrom(8, 1, 4), 5),
+    (Step::DeleteMatching(8, true), 7),
+    (Step::DeleteBelow(4, true), 2),
+    (Step::Slots, 8),
+    (Step::Insert(8, 9), 1),
+    (Step::DeleteObject(8, 9, false), 5),
+    (Step::Purge, 5),
+    (Step::DeleteAll(false), 0),
+];
+
+const BAG_LIFE: [(Step, i64); 10] = [
+    (Step::InsertTwo(1, 1, 1, 2), 1),
+    (Step::InsertTwo(1, 1, 1, 3), 1),
+    (Step::Insert(1, 4), 1),
+    (Step::InsertNew(2, 5), 1),
+    (Step::Element(1, 2), 4),
+    (Step::Matches(1), 808),
+    (Step::DeleteBelow(3, false), 2),
+    (Step::Lookup(1), 34),
+    (Step::Take(1, false), 34),
+    (Step::Lookup(2), 5),
+];
+
+/// What a table has: its objects, and how many objects and slots there are.
+fn state<R: Rows>(table: &Table<R>) -> Option<(i64, usize, usize)> {
+    let objects = every(table).or_else(|| every(table))?;
+    Some((objects, table.size(), table.slots()))
+}
+
+/// Whether a step has its answer, at once or, where it was refused memory and has changed nothing, when it is done
+/// again.
+fn does_again<R: Rows>(alloc: Global, table: &mut Table<R>, step: Step, wanted: i64) -> bool {
+    let before = state(table);
+    let first = answer(alloc, table, step);
+    if first != MEMORY {
+        return first == wanted;
+    }
+    state(table) == before && answer(alloc, table, step) == wanted
+}
+
+/// The place of the first step that is answered otherwise.
+fn wrong_again<R: Rows>(
+    alloc: Global,
+    table: &mut Table<R>,
+    steps: &[(Step, i64)],
+) -> Option<usize> {
+    for (place, (step, wanted)) in steps.iter().enumerate() {
+        if !does_again(alloc, table, *step, *wanted) {
+            return Some(place);
+        }
+    }
+    None
+}
+
+#[test]
+fn refused_steps_of_plain_rows(rt: HostRuntime) -> Result<(), Fail> {
+    let alloc = rt.alloc();
+    assert_eq!(rt;
+        wrong_again(alloc, &mut plain(alloc, Kind::Set, 1, 9), &LIFE),
+        None
+    );
+    assert_eq!(rt;
+        wrong_again(alloc, &mut plain(alloc, Kind::Bag, 1, 9), &BAG_LIFE),
+        None
+    );
+    Ok(())
+}
+
+fn try_split<H: KeyHash + Copy>(alloc: Global, hash: H, kind: Kind) -> Option<Table<SplitRows<H>>> {
+    match SplitRows::new(alloc, hash) {
+        Ok(rows) => Some(Table::new(alloc, rows, kind, 1, 9)),
+        Err(_) => None,
+    }
+}
+
+/// A table over split rows, which are made again where they are refused memory.
+fn split_again<H: KeyHash + Copy>(
+    alloc: Global,
+    hash: H,
+    kind: Kind,
+) -> Option<Table<SplitRows<H>>> {
+    match try_split(alloc, hash, kind) {
+        Some(table) => Some(table),
+        None => try_split(alloc, hash, kind),
+    }
+}
+
+/// The place of the first step of a set or a bag that is answered otherwise.
+fn wrong_split(alloc: Global) -> Option<usize> {
+    let mut set = split_again(alloc, Fnv, Kind::Set)?;
+    let mut bag = split_again(alloc, AllSame, Kind::Bag)?;
+    wrong_again(alloc, &mut set, &LIFE).or(wrong_again(alloc, &mut bag, &BAG_LIFE))
+}
+
+#[test]
+fn refused_steps_of_split_rows(rt: HostRuntime) -> Result<(), Fail> {
+    assert_eq!(rt; wrong_split(rt.alloc()), None);
+    Ok(())
+}
