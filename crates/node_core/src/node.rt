@@ -64,7 +64,7 @@ pub struct RunFault {
 }
 
 impl<H: KeyHash + Copy + Drop> Node<H> {
-    /// A node without processes and tables. It takes no memory. The hash spreads keys, and changes no answer.
+    /// A node without processes and tables. It takes no memory. The hash spreads keys, and changes no answer but the order of keys.
     pub fn new(alloc: Global, limits: Limits, hash: H) -> Self
         ensures { result ≡ empty limits }
     {

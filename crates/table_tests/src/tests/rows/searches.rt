@@ -1,9 +1,9 @@
 use super::*;
 
-/// At how many moments of growth there are searches, with each of three hashes.
+/// At how many moments of growth there are searches, with each of four hashes.
 const MOMENTS: usize = 1_000;
 
-/// How many searches there are at each, so that there are a million in all.
+/// How many searches there are at each, so that there are more than a million in all.
 const AT_ONCE: usize = 334;
 
 /// How many keys of slots each bucket has.
