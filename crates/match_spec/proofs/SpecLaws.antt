@@ -9,7 +9,7 @@ use Rattle.ets_term.specs.laws.Exact.{data_of-List}
 use Rattle.ets_term.specs.Order.{row_len}
 use Rattle.match_spec.specs.declared.spec.check.ClauseParts.{ClauseParts}
 use Rattle.match_spec.specs.declared.spec.clause.Clause.{Clause}
-use Rattle.match_spec.specs.inside.CompiledClauses.{parts_seen, counts, hold_of, last_of, outcome_of, first_counted, clause_of, clause_else, clauses_from, clauses_of}
+use Rattle.match_spec.specs.inside.CompiledClauses.{parts_seen, counts, hold_of, last_of, outcome_by, first_counted, clause_of, clause_else, clauses_from, clauses_of}
 use Rattle.match_spec.specs.inside.CompiledExpressions.{expression_value, expressions_of}
 use Rattle.match_spec.specs.inside.FirstPlaces.{FirstPlaces, numbers_of, places_of, first_of}
 use Rattle.match_spec.specs.Patterns.{matches, candidates, bindings_of}
@@ -62,7 +62,7 @@ module _ (object : Data) where
 
 -- the clause that counts, and past one that does not
 pub first_counted-here : (cs : List Clause) (i : ℕ) (c : Clause) (object : Data) → i < length cs → get_or cs i c ≡ c → counts c object ≡ true
-    → first_counted (drop i cs) object ≡ Some (outcome_of (map (expression_value c.places) c.body) object)
+    → first_counted (drop i cs) object ≡ Some (outcome_by c object)
 first_counted-here [] i c object h is e = absurd (omega arith)
 first_counted-here (a ∷ cs) zero c object h is e = rw (is, e) refl
 first_counted-here (a ∷ cs) (suc i) c object h is e = first_counted-here cs i c object (omega arith) is e

@@ -1,9 +1,9 @@
 -- Steps of the evaluation of expressions.
-use Rattle.std.proofs.Common.{◌≡◌, ℕ, zero, suc, ◌<◌, Bool, true, false, List, [], ◌∷◌, Some, map, length, get_or, drop, refl, sym, ap, ◌∙◌, arith}
+use Rattle.std.proofs.Common.{◌≡◌, ℕ, zero, suc, ◌<◌, Bool, true, false, List, [], ◌∷◌, Option, Some, None, map, length, get_or, drop, unwrap_or, codes, refl, sym, ap, ◌∙◌, arith}
 use Rattle.std.specs.List.{slice_get}
-use Rattle.std.specs.Option.{option_map}
+use Rattle.std.specs.Option.{option_map, option_map_or}
 use Rattle.ets_term.specs.declared.term.Term.{Term}
-use Rattle.ets_term.specs.Data.{Data, list, row_of, data_of}
+use Rattle.ets_term.specs.Data.{Data, atom, list, row_of, data_of}
 use Rattle.match_spec.specs.declared.expression.Expression.{Expression}
 use Rattle.match_spec.specs.inside.CompiledClauses.{last_of}
 use Rattle.match_spec.specs.inside.CompiledExpressions.{expression_value, apply_of, decide}
@@ -61,3 +61,8 @@ expression_value_of_two ps g [] a b object n at is = absurd (omega arith)
 expression_value_of_two ps g (x ∷ []) a b object n at is = absurd (omega arith)
 expression_value_of_two ps g (x ∷ y ∷ []) a b object n at is = rw (at, is) (ap (λ f. f object) (of-Apply ps g (a ∷ b ∷ [])))
 expression_value_of_two ps g (x ∷ y ∷ z ∷ es) a b object n at is = absurd (omega arith)
+
+-- what a failing body gives is not true
+pub is_true_outcome : (value : Option Data) → option_map_or is_true value false ≡ is_true (unwrap_or value (atom (codes "EXIT")))
+is_true_outcome None = refl
+is_true_outcome (Some d) = refl

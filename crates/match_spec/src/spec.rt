@@ -1,8 +1,8 @@
 ghost use Rattle.std.specs.Prelude.{◌≡◌, [], ◌∷◌, ◌++◌, true, false, map, option_copied, IfOk, OnOk, IfSome, IsErrOf};
-ghost use Rattle.std.specs.Option.{option_map};
+ghost use Rattle.std.specs.Option.{option_map, option_map_or};
 ghost use Rattle.ets_term.specs.Data.{list, data_of, row_of};
 ghost use Rattle.match_spec.specs.BoundKeys.{spec_key, IsKeyOfResults};
-ghost use Rattle.match_spec.specs.Specifications.{is_spec, is_clause, are_clauses, is_good, result_of};
+ghost use Rattle.match_spec.specs.Specifications.{is_true, is_spec, is_clause, are_clauses, is_good, result_of};
 ghost use Rattle.match_spec.specs.inside.CompiledClauses.{clauses_of, clauses_from, clause_of, clause_by, parts_seen};
 ghost use Rattle.match_spec.specs.inside.FirstPlaces.{first_of};
 
@@ -15,7 +15,7 @@ use crate::fault::SpecFault;
 use crate::pattern::compile::part_of;
 use crate::pattern::place::{FirstPlaces, first_places, in_order};
 use crate::spec::check::{ClauseParts, clause_parts, is_good};
-use crate::spec::clause::{Clause, first_counted};
+use crate::spec::clause::{Clause, first_counted, first_is_true};
 use ets_term::{Items, Term};
 use std::alloc::{AllocError, Global};
 use std::marker::Model;
@@ -67,6 +67,13 @@ impl Spec {
         ensures { IfOk result (λ given. option_map data_of given ≡ result_of (data_of self.now) (data_of object.now)) }
     {
         first_counted(alloc, self.clauses.as_slice(), object)
+    }
+
+    /// Whether it gives `true` for the object.
+    pub fn is_true(&self, alloc: Global, object: &Term) -> Result<bool, AllocError>
+        ensures { IfOk result (λ b. b ≡ option_map_or is_true (result_of (data_of self.now) (data_of object.now)) false) }
+    {
+        first_is_true(alloc, self.clauses.as_slice(), object)
     }
 
     /// The key of every object for which it gives something, where the heads of all clauses have the same element at

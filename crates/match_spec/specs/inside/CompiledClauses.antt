@@ -21,12 +21,16 @@ last_of (f ∷ g ∷ fs) object = option_and_then (λ d. last_of (g ∷ fs) obje
 abbrev pub outcome_of : List (Data → Option Data) → Data → Data
 outcome_of fs object = unwrap_or (last_of fs object) (atom (codes "EXIT"))
 
+-- the value of a clause's body
+abbrev pub outcome_by : Clause → Data → Data
+outcome_by c object = outcome_of (map (expression_value c.places) c.body) object
+
 abbrev pub counts : Clause → Data → Bool
 counts c object = part_fits c.head object object && hold_of (map (expression_value c.places) c.conditions) object
 
 abbrev pub first_counted : List Clause → Data → Option Data
 first_counted [] object = None
-first_counted (c ∷ cs) object = if counts c object then Some (outcome_of (map (expression_value c.places) c.body) object) else first_counted cs object
+first_counted (c ∷ cs) object = if counts c object then Some (outcome_by c object) else first_counted cs object
 
 -- the three parts of a clause, as the program has them
 abbrev pub parts_seen : ClauseParts → RawClause

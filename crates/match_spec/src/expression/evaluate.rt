@@ -1,5 +1,5 @@
 // The values of compiled expressions.
-ghost use Rattle.std.specs.Prelude.{◌≡◌, [], ◌∷◌, map, IfOk};
+ghost use Rattle.std.specs.Prelude.{◌≡◌, [], ◌∷◌, Some, map, IfOk, IfSome};
 ghost use Rattle.std.specs.Option.{option_map, option_and_then};
 ghost use Rattle.ets_term.specs.Data.{data_of};
 ghost use Rattle.match_spec.specs.Expressions.{join};
@@ -38,6 +38,38 @@ impl<'a> Value<'a> {
             Value::Lent(term) => Ok(term.try_clone(alloc)?),
             Value::Made(term) => Ok(term),
         }
+    }
+}
+
+// The value of an expression that stands in it or in the object, None where it is to be made.
+fn lent<'a>(
+    expression: &'a Expression,
+    places: &[Items<usize>],
+    object: &'a Term,
+) -> Option<&'a Term>
+    ensures { IfSome result (λ term. expression_value places.now expression.now (data_of object.now) ≡ Some (data_of term.now)) }
+{
+    match expression {
+        Expression::Constant(term) => Some(term),
+        Expression::Object => Some(object),
+        Expression::Variable(place) => Some(at(place.as_slice(), object)),
+        _ => None,
+    }
+}
+
+/// The value of the expression for the object, None where it fails. A part of the object costs no call of `evaluate`.
+#[inline(always)]
+pub(crate) fn value_of<'a>(
+    alloc: Global,
+    expression: &'a Expression,
+    places: &[Items<usize>],
+    object: &'a Term,
+) -> Result<Option<Value<'a>>, AllocError>
+    ensures { IfOk result (λ v. option_map seen v ≡ expression_value places.now expression.now (data_of object.now)) }
+{
+    match lent(expression, places, object) {
+        Some(term) => Ok(Some(Value::Lent(term))),
+        None => evaluate(alloc, expression, places, object),
     }
 }
 

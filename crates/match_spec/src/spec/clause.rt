@@ -1,15 +1,15 @@
 // Compiled clauses.
-ghost use Rattle.std.specs.Prelude.{◌≡◌, [], ◌∷◌, false, map, codes, IfOk};
+ghost use Rattle.std.specs.Prelude.{◌≡◌, [], ◌∷◌, false, map, option_copied, IfOk};
 ghost use Rattle.std.specs.Option.{option_map, option_map_or};
-ghost use Rattle.ets_term.specs.Data.{atom, data_of};
+ghost use Rattle.ets_term.specs.Data.{data_of};
 ghost use Rattle.match_spec.specs.Functions.{apply};
 ghost use Rattle.match_spec.specs.Specifications.{is_true};
-ghost use Rattle.match_spec.specs.inside.CompiledClauses.{counts, hold_of, last_of, outcome_of, first_counted};
+ghost use Rattle.match_spec.specs.inside.CompiledClauses.{counts, hold_of, last_of, outcome_by, first_counted};
 ghost use Rattle.match_spec.specs.inside.CompiledExpressions.{seen, apply_of, expression_value};
 
 use crate::expression::Expression;
 use crate::expression::comparison::compares;
-use crate::expression::evaluate::{Value, apply_to_two, discard, evaluate};
+use crate::expression::evaluate::{Value, apply_to_two, discard, evaluate, value_of};
 use crate::expression::function::Function;
 use crate::pattern::part::{Part, fits};
 use ets_term::{Atom, Items, Term};
@@ -32,9 +32,37 @@ pub(crate) fn first_counted(
 ) -> Result<Option<Term>, AllocError>
     ensures { IfOk result (λ t. option_map data_of t ≡ first_counted clauses.now (data_of object.now)) }
 {
+    match counted(alloc, clauses, object)? {
+        Some(clause) => Ok(Some(outcome(alloc, clause, object)?)),
+        None => Ok(None),
+    }
+}
+
+/// Whether that is `true`. No atom is made for it.
+pub(crate) fn first_is_true(
+    alloc: Global,
+    clauses: &[Clause],
+    object: &Term,
+) -> Result<bool, AllocError>
+    ensures { IfOk result (λ b. b ≡ option_map_or is_true (first_counted clauses.now (data_of object.now)) false) }
+{
+    match counted(alloc, clauses, object)? {
+        Some(clause) => Ok(is_outcome_true(alloc, clause, object)?),
+        None => Ok(false),
+    }
+}
+
+// The first of the clauses that counts.
+fn counted<'a>(
+    alloc: Global,
+    clauses: &'a [Clause],
+    object: &Term,
+) -> Result<Option<&'a Clause>, AllocError>
+    ensures { IfOk result (λ c. option_map (λ clause. outcome_by clause (data_of object.now)) (option_copied c) ≡ first_counted clauses.now (data_of object.now)) }
+{
     for clause in clauses {
         if counts(alloc, clause, object)? {
-            return Ok(Some(outcome(alloc, clause, object)?));
+            return Ok(Some(clause));
         }
     }
     Ok(None)
@@ -55,14 +83,30 @@ fn counts(alloc: Global, clause: &Clause, object: &Term) -> Result<bool, AllocEr
 }
 
 fn outcome(alloc: Global, clause: &Clause, object: &Term) -> Result<Term, AllocError>
-    ensures { IfOk result (λ t. data_of t ≡ outcome_of (map (expression_value clause.now.places) clause.now.body) (data_of object.now)) }
+    ensures { IfOk result (λ t. data_of t ≡ outcome_by clause.now (data_of object.now)) }
 {
-    last_value(
+    match last_value(
         alloc,
         clause.body.as_slice(),
         clause.places.as_slice(),
         object,
-    )
+    )? {
+        Some(value) => Ok(value.into_term(alloc)?),
+        None => Ok(Term::Atom(Atom::of_bytes(alloc, b"EXIT")?)),
+    }
+}
+
+#[tactic(auto, using(crate::proofs::ValueLaws::is_true_outcome))]
+fn is_outcome_true(alloc: Global, clause: &Clause, object: &Term) -> Result<bool, AllocError>
+    ensures { IfOk result (λ b. b ≡ is_true (outcome_by clause.now (data_of object.now))) }
+{
+    let value = last_value(
+        alloc,
+        clause.body.as_slice(),
+        clause.places.as_slice(),
+        object,
+    )?;
+    Ok(is_true(value))
 }
 
 fn hold(
@@ -109,10 +153,10 @@ fn two_hold(
 ) -> Result<bool, AllocError>
     ensures { IfOk result (λ b. b ≡ option_map_or is_true (apply_of function (expression_value places.now first.now ∷ expression_value places.now second.now ∷ []) (data_of object.now)) false) }
 {
-    let Some(x) = evaluate(alloc, first, places, object)? else {
+    let Some(x) = value_of(alloc, first, places, object)? else {
         return Ok(false);
     };
-    let Some(y) = evaluate(alloc, second, places, object)? else {
+    let Some(y) = value_of(alloc, second, places, object)? else {
         return Ok(false);
     };
     values_hold(alloc, function, x, y)
@@ -146,28 +190,23 @@ fn is_the_true(term: &Term) -> bool
     }
 }
 
-fn last_value(
+// The value of the last of these expressions, None where one of them fails or there is none.
+fn last_value<'a>(
     alloc: Global,
-    body: &[Expression],
+    body: &'a [Expression],
     places: &[Items<usize>],
-    object: &Term,
-) -> Result<Term, AllocError>
-    ensures { IfOk result (λ t. data_of t ≡ outcome_of (map (expression_value places.now) body.now) (data_of object.now)) }
+    object: &'a Term,
+) -> Result<Option<Value<'a>>, AllocError>
+    ensures { IfOk result (λ v. option_map seen v ≡ last_of (map (expression_value places.now) body.now) (data_of object.now)) }
 {
     for i in 0..body.len() {
-        let Some(x) = evaluate(alloc, &body[i], places, object)? else {
-            return exit(alloc);
+        let Some(x) = value_of(alloc, &body[i], places, object)? else {
+            return Ok(None);
         };
         if i + 1 == body.len() {
-            return x.into_term(alloc);
+            return Ok(Some(x));
         }
         discard(x);
     }
-    exit(alloc)
-}
-
-fn exit(alloc: Global) -> Result<Term, AllocError>
-    ensures { IfOk result (λ t. data_of t ≡ atom (codes "EXIT")) }
-{
-    Ok(Term::Atom(Atom::of_bytes(alloc, b"EXIT")?))
+    Ok(None)
 }

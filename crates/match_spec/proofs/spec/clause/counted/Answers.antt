@@ -1,11 +1,10 @@
-use Rattle.std.proofs.Common.{Some, ap, sym, ◌∙◌, add-one}
+use Rattle.std.proofs.Common.{sym, ◌∙◌, add-one}
 use Rattle.match_spec.proofs.SpecLaws.{first_counted-here, first_counted-next}
-use Rattle.match_spec.proofs.spec.clause.first_counted.Goals as goal
+use Rattle.match_spec.proofs.spec.clause.counted.Goals as goal
 
 pub returns-then-branch : goal.returns-then-branch
 returns-then-branch c =
-    ap Some c.in_ok-outcome.ensures
-    ∙ sym (first_counted-here _ _ c.clause-item.result _ c.loop-clause-test.true (sym c.clause-item.is) (sym c.in_ok-counts.ensures ∙ c.if-branch.true))
+    sym (first_counted-here _ _ c.clause-item.result _ c.loop-clause-test.true (sym c.clause-item.is) (sym c.in_ok-counts.ensures ∙ c.if-branch.true))
     ∙ c.loop-clause.invariant
 
 pub loop-clause-preserved : goal.loop-clause-preserved
