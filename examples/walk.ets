@@ -1,4 +1,4 @@
-% A walk that deletes as it goes, beside another process. With one hash for all keys they stand in the order of insertion.
+% A walk that deletes as it goes, beside another process. New keys stand in the order of insertion until one goes.
 spawn walker
 spawn other
 walker new(jobs,[named_table,public])

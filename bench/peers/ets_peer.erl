@@ -10,11 +10,12 @@ main() ->
     put(pids, #{}),
     read(Port, [], 0).
 
-%% Answers go out a thousand lines at a time: the port writes them, and a halt flushes it.
+%% Answers go out a thousand lines at a time, or when no line waits: the port writes them, and a halt flushes it.
 read(Port, Out, 1000) ->
     port_command(Port, lists:reverse(Out)),
     read(Port, [], 0);
 read(Port, Out, Count) ->
+    Patience = case Count of 0 -> infinity; _ -> 0 end,
     receive
         {Port, {data, {eol, Line}}} ->
             case answer(Line) of
@@ -24,6 +25,8 @@ read(Port, Out, Count) ->
         {Port, eof} ->
             port_command(Port, lists:reverse(Out)),
             halt(0)
+    after Patience ->
+        read(Port, Out, 1000)
     end.
 
 %% ---- lines ----

@@ -45,19 +45,19 @@ fresh-apart place at (c ∷ cs) d ds f e =
 
 -- ---- an item that a search passes by, and one that it finds
 
-lookup-skips : (term : Term) (o : Option Item) (ss : List Slot) → holds term o ≡ false → lookup (same term) (with_slot o ss) ≡ lookup (same term) ss
+pub lookup-skips : (term : Term) (o : Option Item) (ss : List Slot) → holds term o ≡ false → lookup (same term) (with_slot o ss) ≡ lookup (same term) ss
 lookup-skips term None ss h = refl
 lookup-skips term (Some item) ss h = ap (λ (b : Bool). cond b (Some item.chain) (lookup (same term) ss)) (same-sym term item.term ∙ h)
 
-remove-skips : (term : Term) (o : Option Item) (ss : List Slot) → holds term o ≡ false → remove_entry (same term) (with_slot o ss) ≡ with_slot o (remove_entry (same term) ss)
+pub remove-skips : (term : Term) (o : Option Item) (ss : List Slot) → holds term o ≡ false → remove_entry (same term) (with_slot o ss) ≡ with_slot o (remove_entry (same term) ss)
 remove-skips term None ss h = refl
 remove-skips term (Some item) ss h = ap (λ (b : Bool). cond b ss ((item.term, item.chain) ∷ remove_entry (same term) ss)) (same-sym term item.term ∙ h)
 
-set-skips : (term : Term) (o : Option Item) (ss : List Slot) (w : List Term) → holds term o ≡ false → set_value (same term) (with_slot o ss) w ≡ with_slot o (set_value (same term) ss w)
+pub set-skips : (term : Term) (o : Option Item) (ss : List Slot) (w : List Term) → holds term o ≡ false → set_value (same term) (with_slot o ss) w ≡ with_slot o (set_value (same term) ss w)
 set-skips term None ss w h = refl
 set-skips term (Some item) ss w h = ap (λ (b : Bool). cond b ((item.term, w) ∷ ss) ((item.term, item.chain) ∷ set_value (same term) ss w)) (same-sym term item.term ∙ h)
 
-behind-skips : (term : Term) (o : Option Item) (ss : List Slot) → holds term o ≡ false → slots_behind (with_slot o ss) term ≡ slots_behind ss term
+pub behind-skips : (term : Term) (o : Option Item) (ss : List Slot) → holds term o ≡ false → slots_behind (with_slot o ss) term ≡ slots_behind ss term
 behind-skips term None ss h = refl
 behind-skips term (Some item) ss h = ap (λ (b : Bool). cond b (Some ss) (slots_behind ss term)) (same-sym term item.term ∙ h)
 
@@ -118,7 +118,6 @@ found-here term at c cs f e h =
       has = h.is;
       same_term = h.same_term;
       objects = ap (lookup (same term)) is ∙ ap (λ (b : Bool). cond b (Some h.item.chain) (lookup (same term) (slots_of cs))) yes;
-      behind = ap (λ (ss : List Slot). slots_behind ss term) is ∙ ap (λ (b : Bool). cond b (Some (slots_of cs)) (slots_behind (slots_of cs) term)) yes;
       removed = ap slots_of (without-here at c cs e) ∙ sym (ap (remove_entry (same term)) is ∙ ap (λ (b : Bool). cond b (slots_of cs) ((h.item.term, h.item.chain) ∷ remove_entry (same term) (slots_of cs))) yes);
       replaced = λ w.
           ap slots_of (with-here at w c cs e)
@@ -138,7 +137,6 @@ found-on term at c cs f miss h =
       has = h.has;
       same_term = h.same_term;
       objects = lookup-skips term c.item (slots_of cs) miss ∙ h.objects;
-      behind = behind-skips term c.item (slots_of cs) miss ∙ h.behind;
       removed = ap slots_of (without-on at c cs other) ∙ (ap (with_slot c.item) h.removed ∙ sym (remove-skips term c.item (slots_of cs) miss));
       replaced = λ w. ap slots_of (with-on at w c cs other) ∙ (ap (with_slot c.item) (h.replaced w) ∙ sym (set-skips term c.item (slots_of cs) w miss));
     }

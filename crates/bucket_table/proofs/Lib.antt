@@ -12,7 +12,6 @@ pub mod HintedLaws
 pub mod BecomesLaws
 pub mod RowsLaws
 pub mod SurveyLaws
-pub mod TailLaws
 pub mod CountedLaws
 pub mod NextLaws
 pub mod SeatLaws
@@ -26,3 +25,8 @@ pub mod NoteLaws
 pub mod OneLaws
 pub mod RunLaws
 pub mod BelowLaws
+pub mod OrderLaws
+pub mod PlaceLaws
+pub mod OrderedLaws
+pub mod ReadLaws
+pub mod SweptLaws

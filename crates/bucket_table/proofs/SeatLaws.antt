@@ -1,5 +1,5 @@
 -- The places of a list's items, and the slots that stand there.
-use Rattle.std.proofs.Common.{◌≡◌, ◌≢◌, ℕ, ◌+◌, ◌≤◌, lit≤, suc, length, is_some, MatchOption, option_map, inl, inr, List, [], ◌∷◌, Option, Some, None, IsSome, false, cond, nat_eq, refl, sym, ◌∙◌, ap, subst, arith}
+use Rattle.std.proofs.Common.{◌≡◌, ◌≢◌, ℕ, ◌+◌, ◌≤◌, lit≤, suc, length, option_map, inl, inr, List, [], ◌∷◌, Option, Some, None, IsSome, false, cond, nat_eq, refl, sym, ◌∙◌, ap, subst, arith}
 use Rattle.std.specs.List.{IsDistinct, AllByRecursion}
 use Rattle.std.specs.Map.{lookup, keys_of}
 use Rattle.std.proofs.lemmas.Bool.{cases_eq}
@@ -13,8 +13,8 @@ use Rattle.node_list.specs.Search.{holds}
 use Rattle.node_list.specs.Changes.{item_with}
 use Rattle.node_list.specs.Changes.{cells_with}
 use Rattle.node_list.proofs.CellLaws.{from-here, from-on}
-use Rattle.bucket_table.specs.Slots.{Slot, objects_of, HasDistinctKeys}
-use Rattle.bucket_table.specs.Entries.{objects_in, with_objects_in}
+use Rattle.bucket_table.specs.Slots.{Slot, HasDistinctKeys}
+use Rattle.bucket_table.specs.Entries.{objects_in}
 use Rattle.bucket_table.specs.Split.{key_of_place}
 use Rattle.bucket_table.specs.inside.Nodes.{slots_of, with_slot, places_of, with_place}
 use Rattle.split_key.specs.Keys.{key_of_item}
@@ -87,10 +87,10 @@ key-seat key at (c ∷ cs) a h =
 
 -- ---- with distinct keys it is what a search finds
 
-tail-seat : (key : Term) (at : ℕ) (c : Cell) (cs : List Cell) → c.at ≢ at → Seat key at (c ∷ cs) → Seat key at cs
+pub tail-seat : (key : Term) (at : ℕ) (c : Cell) (cs : List Cell) → c.at ≢ at → Seat key at (c ∷ cs) → Seat key at cs
 tail-seat key at c cs other s = record { cell = s.cell; later = s.later; item = s.item; is = sym (from-on at c cs other) ∙ s.is; has = s.has; same_term = s.same_term }
 
-all-behind : (P : Term → Type 0) (o : Option Item) (ss : List Slot) → AllByRecursion P (keys_of (with_slot o ss)) → AllByRecursion P (keys_of ss)
+pub all-behind : (P : Term → Type 0) (o : Option Item) (ss : List Slot) → AllByRecursion P (keys_of (with_slot o ss)) → AllByRecursion P (keys_of ss)
 all-behind P None ss a = a
 all-behind P (Some item) ss a = a.1
 
@@ -107,7 +107,7 @@ all-seat P key at (c ∷ cs) a s =
       | inr other ↦ all-seat P key at cs (all-behind P c.item (slots_of cs) a) (tail-seat key at c cs other s)
     ]
 
-misses : (key : Term) (at : ℕ) (o : Option Item) (cs : List Cell) → HasDistinctKeys (with_slot o (slots_of cs)) → Seat key at cs → holds key o ≡ false
+pub misses : (key : Term) (at : ℕ) (o : Option Item) (cs : List Cell) → HasDistinctKeys (with_slot o (slots_of cs)) → Seat key at cs → holds key o ≡ false
 unfolding IsDistinct
 misses key at None cs d s = refl
 misses key at (Some item) cs d s = all-seat (λ t. same item.term t ≡ false) key at cs d.0 s
@@ -177,18 +177,9 @@ objects-read at cs p objects e =
     ap (objects_in (slots_of cs)) p.is
     ∙ (p.found.objects ∙ (ap (option_map (λ (item : Item). item.chain)) (sym (found-at p.key at cs p.found)) ∙ e))
 
-pub objects-written : (at : ℕ) (cs : List Cell) → AtPlace at cs → (w : List Term) → slots_of (cells_with at w cs) ≡ with_objects_in (slots_of cs) (key_of_place (places_of cs) at) w
-objects-written at cs p w = p.found.replaced w ∙ sym (ap (λ (o : Option Term). with_objects_in (slots_of cs) o w) p.is)
-
 pub length-with : (at : ℕ) (w : List Term) (cs : List Cell) → length (cells_with at w cs) ≡ length cs
 length-with at w [] = refl
 length-with at w (c ∷ cs) = ap suc (length-with at w cs)
-
--- what a search answers, in terms of places
-pub placed-answer : (key : Term) (cs : List Cell) (o : Option ℕ) → MatchOption o (lookup (same key) (slots_of cs) ≡ None) (λ at. IsFound key at cs)
-    → MatchOption o (objects_of (slots_of cs) key ≡ None) (λ at. (key_of_place (places_of cs) at ≡ Some key) × IsSome (objects_of (slots_of cs) key))
-placed-answer key cs None e = e
-placed-answer key cs (Some at) f = (found-key key at cs f, ap is_some f.objects)
 
 few-more : (o : Option Item) (ss : List Slot) (n : ℕ) → length ss ≤ n → length (with_slot o ss) ≤ n + 1
 few-more None ss n h = omega arith

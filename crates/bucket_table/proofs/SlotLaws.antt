@@ -24,7 +24,7 @@ slots-put-dummy at key (c ∷ cs) =
       | inr on ↦ ap slots_of (put-on (new_cell at key None) c cs on) ∙ ap (with_slot c.item) (slots-put-dummy at key cs)
     ]
 
-added-behind : (o : Option Item) (old new : List Slot) (key : Term) (objects : List Term) → Enters old key objects new → Enters (with_slot o old) key objects (with_slot o new)
+pub added-behind : (o : Option Item) (old new : List Slot) (key : Term) (objects : List Term) → Enters old key objects new → Enters (with_slot o old) key objects (with_slot o new)
 added-behind None old new key objects a = a
 added-behind (Some item) old new key objects a = record {
   front = (item.term, item.chain) ∷ a.front;

@@ -1,5 +1,5 @@
 -- A step from place to place, in rows of both forms.
-use Rattle.std.proofs.Common.{◌≡◌, ◌≢◌, ℕ, zero, suc, ◌+◌, ◌<◌, ◌≤◌, true, false, cond, nat_eq, List, [], ◌∷◌, Option, None, Some, IsSome, is_some, refl, sym, ap, subst, ◌∙◌, length, drop, remove, slice_get, option_map, true≢false, inl, inr, arith}
+use Rattle.std.proofs.Common.{◌≡◌, ◌≢◌, ℕ, zero, suc, ◌+◌, ◌<◌, ◌≤◌, true, false, cond, nat_eq, List, [], ◌∷◌, Option, None, Some, IsSome, is_some, refl, sym, ap, ◌∙◌, length, drop, remove, slice_get, option_map, true≢false, inl, inr, arith}
 use Rattle.std.specs.List.{IsDistinct, AllByRecursion}
 use Rattle.std.specs.Map.{keys_of}
 use Rattle.std.proofs.lemmas.Bool.{cases_eq}
@@ -7,18 +7,15 @@ use Rattle.indexmap.specs.IndexMap.{set_value_at}
 use Rattle.ets_term.specs.declared.term.Term.{Term}
 use Rattle.ets_term.specs.Order.{same}
 use Rattle.node_list.specs.declared.node.Item.{Item}
-use Rattle.node_list.specs.Cells.{Cell, new_item}
-use Rattle.node_list.specs.Places.{item_at, first_item}
+use Rattle.node_list.specs.Cells.{Cell}
 use Rattle.node_list.specs.Changes as changes
 use Rattle.node_list.proofs.CellLaws.{without-here, without-on}
 use Rattle.bucket_table.specs.Slots.{Slot, objects_of, slots_behind}
 use Rattle.bucket_table.specs.Walks.{StandsFirst, IsNextPlace, StandsBefore, behind_in}
 use Rattle.bucket_table.specs.Split.{key_of_place}
-use Rattle.bucket_table.specs.inside.Nodes.{slots_of, with_slot, places_of, with_place}
-use Rattle.bucket_table.specs.inside.Surveys.{tail_from}
+use Rattle.bucket_table.specs.inside.Nodes.{places_of, with_place}
 use Rattle.bucket_table.proofs.PlainLaws as plain
-use Rattle.bucket_table.proofs.SeatLaws.{seat-key, passes-by}
-use Rattle.bucket_table.proofs.TailLaws.{Here}
+use Rattle.bucket_table.proofs.SeatLaws.{passes-by}
 use Rattle.bucket_table.proofs.WalkLaws.{none-apart}
 
 -- ---- by index
@@ -121,20 +118,6 @@ index-stays slots i j key s d h e b =
     some-rest a b o e f = cc
 
 -- ---- in a list of nodes
-
--- the item at a place is the first slot from there on
-pub item-leads : (place : ℕ) (at : Option ℕ) (cs : List Cell) (h : Here place at cs) (term : Term) (chain : List Term) → item_at place cs ≡ Some (new_item term chain) → StandsFirst (key_of_place (places_of cs)) (slots_of (tail_from at cs)) place
-item-leads place at cs h term chain e =
-    let has : h.cell.item ≡ Some (new_item term chain) = sym (ap first_item h.is) ∙ e in
-    record {
-      slot = (term, chain);
-      rest = slots_of h.later;
-      is = ap slots_of h.tail ∙ ap (λ (o : Option Item). with_slot o (slots_of h.later)) has;
-      key = seat-key term place cs (record { cell = h.cell; later = h.later; item = new_item term chain; is = h.is; has = has; same_term = refl });
-    }
-
-pub leads-same : (key_at : ℕ → Option Term) (ss rest : List Slot) (place : ℕ) → ss ≡ rest → StandsFirst key_at ss place → StandsFirst key_at rest place
-leads-same key_at ss rest place e f = subst (λ (l : List Slot). StandsFirst key_at l place) e f
 
 -- where an item goes, the others keep their places
 pub place-stays : (at other : ℕ) (cs : List Cell) → at ≢ other → key_of_place (places_of (changes.without at cs)) other ≡ key_of_place (places_of cs) other

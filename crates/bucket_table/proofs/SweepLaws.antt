@@ -184,7 +184,7 @@ append-none : (ss : List Slot) → ss ++ [] ≡ ss
 append-none [] = refl
 append-none (s ∷ ss) = ap (λ (zs : List Slot). s ∷ zs) (append-none ss)
 
-swept-none : (how : Sweep) → swept how [] ≡ []
+pub swept-none : (how : Sweep) → swept how [] ≡ []
 swept-none Purge = refl
 swept-none Drop = refl
 swept-none Hold = refl

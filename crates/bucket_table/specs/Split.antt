@@ -6,7 +6,7 @@ use Rattle.ets_term.specs.declared.term.Term.{Term}
 use Rattle.ets_term.specs.contracts.term.Term as term
 use Rattle.bucket_table.specs.Slots.{Slot}
 
--- the hash, the slots, the place and key of each, how many more fit with no allocation, and for each bucket whether it is ready
+-- the hash, the slots in the order of their places, the place and key of each, how many more fit with no allocation, and for each bucket whether it is ready
 pub record Split (H : Type 0) : Type 0 where
   pub hash : H
   pub slots : List Slot

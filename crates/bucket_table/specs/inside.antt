@@ -4,6 +4,6 @@ pub mod Found
 pub mod Hints
 pub mod Firsts
 pub mod Surveys
-pub mod Walks
 pub mod Sweeps
 pub mod Notes
+pub mod Order

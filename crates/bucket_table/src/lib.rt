@@ -5,11 +5,13 @@
 //! than the bucket has keys, and two.
 //!
 //! *Weakness.* Keys of one hash stand in one bucket at every size, so a bad hash makes searches long. A `clear`
-//! walks over all nodes, and so does a `purge` after more slots became held than there was room to note.
+//! walks over all nodes, and so does a `purge` after more slots became held than there was room to note. A walk looks
+//! at free places too, and at those of dummies.
 //!
 //! *Mechanism.* The nodes stand in one list, in the order of their split keys; a bucket is a stretch of it, behind its
 //! dummy. For each eighth of a bucket the place of its first item is known, or that it has none, or nothing: a search
-//! begins there, or else at the dummy of the nearest ready bucket.
+//! begins there, or else at the dummy of the nearest ready bucket. The slots come in the order of their places, and a
+//! walk reads these forward.
 //!
 //! *Limits.* Buckets are 2 to 1,048,576. A place that was given back is given out again.
 #![tactic(auto)]

@@ -101,7 +101,7 @@ pub trait Rows: Drop {
     fn first_place(&self) -> Option<Place>
         ensures { IsFirstPlace (key_at self.now) (content self.now) result };
 
-    /// The place of the slot behind the one at a place, in a few steps at most.
+    /// The place of the slot behind the one at a place. Split rows look at each place between.
     fn place_behind(&self, place: Place) -> Option<Place>
         requires { IsSome (key_at self.now place) }
         ensures { IsNextPlace (key_at self.now) (content self.now) (key_at self.now place) result };

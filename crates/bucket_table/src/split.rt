@@ -7,7 +7,6 @@ mod find;
 mod firsts;
 mod held;
 mod hint;
-mod order;
 mod places;
 mod rows;
 mod start;
@@ -21,7 +20,7 @@ use node_list::{Link, NodeList};
 use std::alloc::{AllocError, Global};
 use std::marker::Model;
 
-/// Rows in one list sorted by split keys, with a directory of its buckets.
+/// Rows in one list sorted by split keys, with a directory of its buckets. The slots come in the order of their places.
 #[derive(Drop)]
 pub struct SplitRows<H: KeyHash + Copy + Drop> {
     hash: H,
@@ -36,7 +35,8 @@ pub struct SplitRows<H: KeyHash + Copy + Drop> {
 
 impl<H: KeyHash + Copy + Drop> Model for SplitRows<H> {
     ghost use Rattle.std.specs.Prelude.{map, is_some, length, ◌-◌};
-    ghost use Rattle.bucket_table.specs.inside.Nodes.{slots_of, places_of};
+    ghost use Rattle.bucket_table.specs.inside.Nodes.{places_of};
+    ghost use Rattle.bucket_table.specs.inside.Order.{content_of};
     ghost use Rattle.bucket_table.specs.Split.{Split, split_code};
     ghost use Rattle.bucket_table.specs.inside.Firsts.{IsTable};
 
@@ -44,7 +44,7 @@ impl<H: KeyHash + Copy + Drop> Model for SplitRows<H> {
 
     ghost coded = { split_code H.code };
 
-    ghost view = { λ s. record { hash = s.hash; slots = slots_of s.list.cells; places = places_of s.list.cells; room = s.list.capacity - length s.list.cells; ready = map is_some s.dummies.items } };
+    ghost view = { λ s. record { hash = s.hash; slots = content_of s.list.cells; places = places_of s.list.cells; room = s.list.capacity - length s.list.cells; ready = map is_some s.dummies.items } };
 
     ghost invariant = { λ s. IsTable (H.number s.hash) s.dummies.items s.shift s.firsts.items s.slots s.least s.held.is_lost s.held.hashes.items s.list.cells };
 }

@@ -16,7 +16,7 @@ fn plain(alloc: Global, kind: Kind) -> Walked<PlainRows> {
     Walked::new(alloc, table)
 }
 
-/// With one hash for all keys the slots stand in the order in which they came.
+/// With one hash for all keys. The slots come in the order of insertion until one goes, whose place is taken again.
 fn one_bucket(alloc: Global, kind: Kind) -> Result<Walked<SplitRows<AllSame>>, Fail> {
     let table = Table::new(alloc, SplitRows::new(alloc, AllSame)?, kind, 1, 1_000_000);
     Ok(Walked::new(alloc, table))

@@ -10,6 +10,7 @@ use Rattle.node_list.specs.Places.{IsFresh, Stands, StandsUpTo, HasItem, from, b
 use Rattle.node_list.specs.Search.{is_it, place_of, passed}
 use Rattle.node_list.specs.Changes.{put_cell, without}
 use Rattle.node_list.proofs.CellLaws.{put-past, put-on, from-here, from-on, without-here, without-on, at-most-from, search-past, search-on}
+use Rattle.node_list.proofs.PlaceLaws.{from-has, fresh-other}
 
 -- the head stands before every key
 pub head-stands : (at key : ℕ) (cs : List Cell) → first_place cs ≡ Some at → StartsWithDummy cs → StandsUpTo key at cs
@@ -77,6 +78,13 @@ put-keeps x (c ∷ cs) at d ds n e =
                 (later.0, from-on at c (put_cell x cs) other ∙ later.1)
           ])
     ]
+
+-- an item stays where it stands
+pub item-stays : (at : ℕ) (x : Cell) (old new : List Cell) → new ≡ put_cell x old → IsFresh x.at old → HasItem at old → HasItem at new
+item-stays at x old new e f h =
+    let P : List Cell → Type 0 = λ zs. HasItem at zs in
+    let s = put-keeps x old at h.cell h.later (fresh-other at x.at old (from-has at old h.cell h.later h.is) f) h.is in
+    subst P (sym e) (record { cell = h.cell; later = s.0; item = h.item; is = s.1; has = h.has })
 
 pub put-fresh : (x : Cell) (cs : List Cell) (at : ℕ) → x.at ≢ at → IsFresh at cs → IsFresh at (put_cell x cs)
 put-fresh x [] at n f = (n, tt)

@@ -1,5 +1,7 @@
 pub mod KeptLaws
 pub mod SlotLaws
+pub mod GapLaws
+pub mod ItemLaws
 pub mod WalkLaws
 pub mod TickLaws
 pub mod CellLaws
@@ -8,4 +10,5 @@ pub mod InsertLaws
 pub mod ChainLaws
 pub mod UnlinkLaws
 pub mod ListLaws
+pub mod CountLaws
 pub mod CallerLaws

@@ -94,7 +94,7 @@ from-has at (c ∷ cs) d ds e =
       | inr other ↦ inr (from-has at cs d ds (sym (from-on at c cs other) ∙ e))
     ]
 
-fresh-other : (at p : ℕ) (cs : List Cell) → HasPlace at cs → IsFresh p cs → p ≢ at
+pub fresh-other : (at p : ℕ) (cs : List Cell) → HasPlace at cs → IsFresh p cs → p ≢ at
 fresh-other at p [] h f = absurd h
 fresh-other at p (c ∷ cs) h f =
     elim h [ inl here ↦ (λ e. f.0 (here ∙ sym e)) | inr later ↦ fresh-other at p cs later f.1 ]

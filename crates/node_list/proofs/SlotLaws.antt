@@ -1,10 +1,10 @@
 -- Laws of a slab of fronts with what stands beside them.
-use Rattle.std.proofs.Common.{◌≡◌, ◌≢◌, ℕ, zero, suc, ◌<◌, List, [], ◌∷◌, length, get_or, set, slice_get, Option, Some, None, IsSome, is_some, count_by, Bool, cond, refl, sym, ◌∙◌, ap, subst, arith}
+use Rattle.std.proofs.Common.{◌≡◌, ◌≢◌, inl, inr, ℕ, zero, suc, ◌<◌, List, [], ◌∷◌, length, get_or, set, slice_get, Option, Some, None, IsSome, is_some, count_by, Bool, cond, refl, sym, ◌∙◌, ap, subst, arith}
 use Rattle.std.specs.List.{AllZip}
+use Rattle.std.proofs.lemmas.Bool.{cases_eq}
 use Rattle.std.proofs.lemmas.List.{get_or-set_same, get_or-set_other, length-set}
 use Rattle.std.proofs.lemmas.List.Sums.{sum_by-cons}
-use Rattle.std.proofs.lemmas.Option.{slice_get-get_or, get_or_from_slice_get, unwrap_or-slice_get}
-use Rattle.std.specs.Option.{unwrap_or}
+use Rattle.std.proofs.lemmas.Option.{slice_get_within, slice_get-get_or, get_or_from_slice_get}
 use Rattle.ets_term.specs.declared.term.Term.{Term}
 use Rattle.slab.specs.Slab.{Slab, get, Updates, IsSlotClone, IsSlabClone}
 use Rattle.node_list.specs.declared.node.Item.{Item}
@@ -12,7 +12,7 @@ use Rattle.node_list.specs.declared.node.Node.{Node}
 use Rattle.node_list.specs.declared.front.Front.{Front}
 use Rattle.node_list.specs.declared.slot.Slot.{Slot}
 use Rattle.node_list.specs.declared.slot.Slot.TheVariants.{Dummy, Full}
-use Rattle.node_list.specs.inside.Slots.{slot_of, item_in, whole, node_in, nodes_of, PutsSlot}
+use Rattle.node_list.specs.inside.Slots.{slot_of, slot_at, item_in, whole, node_in, nodes_of, PutsSlot}
 use Rattle.node_list.specs.inside.NodeLending.{node_with}
 use Rattle.node_list.specs.inside.SlotLending.{slot_with}
 
@@ -74,26 +74,35 @@ pub puts-set : (ss : List Slot) (k : ℕ) (s : Slot) → k < length ss → PutsS
 puts-set ss k s h =
     record {
       here = slice_get-get_or (set ss k s) k s (omega (arith, length-set ss k s, h)) ∙ ap Some (get_or-set_same ss k s s h);
-      others = λ j other had.
-          slice_get-get_or (set ss k s) j s (omega (arith, length-set ss k s, had)) ∙ (ap Some (get_or-set_other ss k j s s other) ∙ sym (slice_get-get_or ss j s had));
+      others = λ j other. get_or-set_other ss k j s Dummy other;
+      length = omega (arith, length-set ss k s);
     }
 
-same-slot : (ss ts : List Slot) (j : ℕ) → slice_get ts j ≡ slice_get ss j → get_or ts j Dummy ≡ get_or ss j Dummy
-same-slot ss ts j e = sym (unwrap_or-slice_get ts j Dummy) ∙ (ap (λ (o : Option Slot). unwrap_or o Dummy) e ∙ unwrap_or-slice_get ss j Dummy)
-
--- what stands at a place with no front does not count
-same-node : (o : Option Front) (a b : Slot) → (IsSome o → a ≡ b) → node_in o a ≡ node_in o b
-same-node None a b h = refl
-same-node (Some f) a b h = ap (λ (z : Slot). Some (whole f z)) (h refl)
-
-pub writes : (old new : Slab Front) (ss ts : List Slot) (k : ℕ) (o : Option Front) (s : Slot) → Updates old new k o → PutsSlot ss ts k s → ((j : ℕ) → IsSome (get old j) → j < length ss)
+pub writes : (old new : Slab Front) (ss ts : List Slot) (k : ℕ) (o : Option Front) (s : Slot) → Updates old new k o → PutsSlot ss ts k s
     → (get_or (nodes_of new.slots ts) k None ≡ node_in o s) × ((j : ℕ) → j ≢ k → get_or (nodes_of new.slots ts) j None ≡ get_or (nodes_of old.slots ss) j None)
-writes old new ss ts k o s u p within = (
+writes old new ss ts k o s u p = (
   get-nodes new.slots ts k ∙ (ap (λ (z : Option Front). node_in z (get_or ts k Dummy)) u.changed ∙ ap (node_in o) (get_or_from_slice_get ts k s Dummy p.here)),
   λ j other. get-nodes new.slots ts j
-      ∙ (ap (λ (z : Option Front). node_in z (get_or ts j Dummy)) (u.others j other)
-      ∙ (same-node (get old j) (get_or ts j Dummy) (get_or ss j Dummy) (λ some. same-slot ss ts j (p.others j other (within j some))) ∙ sym (get-nodes old.slots ss j))),
+      ∙ (ap (λ (z : Option Front). node_in z (get_or ts j Dummy)) (u.others j other) ∙ (ap (node_in (get old j)) (p.others j other) ∙ sym (get-nodes old.slots ss j))),
 )
+
+-- a place with a node has a slot again, and one with none a dummy
+pub within-after : (old new : Slab Front) (ss ts : List Slot) (k : ℕ) (o : Option Front) (s : Slot) → Updates old new k o → PutsSlot ss ts k s
+    → ((j : ℕ) → IsSome (get old j) → j < length ss) → (j : ℕ) → IsSome (get new j) → j < length ts
+within-after old new ss ts k o s u p was j some =
+    let P : Option Front → Type 0 = λ z. IsSome z in
+    elim (cases_eq j k) [
+      | inl same ↦ omega (arith, same, slice_get_within ts k s p.here)
+      | inr other ↦ omega (arith, p.length, was j (subst P (u.others j other) some))
+    ]
+
+pub vacant-after : (old new : Slab Front) (ss ts : List Slot) (k : ℕ) (o : Option Front) (s : Slot) → Updates old new k o → PutsSlot ss ts k s → (o ≡ None → s ≡ Dummy)
+    → ((j : ℕ) → get old j ≡ None → slot_at ss j ≡ Dummy) → (j : ℕ) → get new j ≡ None → slot_at ts j ≡ Dummy
+vacant-after old new ss ts k o s u p says was j none =
+    elim (cases_eq j k) [
+      | inl same ↦ ap (slot_at ts) same ∙ (get_or_from_slice_get ts k s Dummy p.here ∙ says (sym u.changed ∙ (ap (get new) (sym same) ∙ none)))
+      | inr other ↦ p.others j other ∙ was j (sym (u.others j other) ∙ none)
+    ]
 
 -- what a read of the second array tells
 pub read : (ss : List Slot) (k : ℕ) (s : Slot) → k < length ss → s ≡ get_or ss k s → s ≡ get_or ss k Dummy

@@ -1,5 +1,5 @@
 -- Where the nodes of a list stand.
-use Rattle.std.specs.Prelude.{◌≡◌, ◌≢◌, ℕ, ◌≤◌, nat_eq, if◌then◌else◌, List, [], ◌∷◌, Option, Some, None}
+use Rattle.std.specs.Prelude.{◌≡◌, ◌≢◌, ℕ, ◌<◌, ◌≤◌, nat_eq, if◌then◌else◌, List, [], ◌∷◌, Option, Some, None}
 use Rattle.node_list.specs.declared.node.Item.{Item}
 use Rattle.node_list.specs.Cells.{Cell}
 
@@ -38,6 +38,17 @@ pub record HasItem (at : ℕ) (cells : List Cell) : Type 0 where
   pub item : Item
   pub is : from at cells ≡ cell ∷ later
   pub has : cell.item ≡ Some item
+
+-- an item stands at this place, and at no place from `start` on before it
+pub record IsLeastItem (start at : ℕ) (cells : List Cell) : Type 0 where
+  pub has : HasItem at cells
+  pub from : start ≤ at
+  pub least : (other : ℕ) → HasItem other cells → start ≤ other → at ≤ other
+
+-- the least place from this one on at which an item stands, None where there is none
+abbrev pub IsItemFrom : ℕ → Option ℕ → List Cell → Type 0
+IsItemFrom start None cells = (other : ℕ) → HasItem other cells → other < start
+IsItemFrom start (Some at) cells = IsLeastItem start at cells
 
 abbrev pub all_but_first : List Cell → List Cell
 all_but_first [] = []

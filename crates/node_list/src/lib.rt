@@ -6,12 +6,14 @@
 //! from its start up to the first that ends it, and counts each.
 //!
 //! *Weakness.* A search and an insertion take a step for each node that they pass, so a caller starts them near
-//! the end: at the dummy of a bucket. A place that was given back is given out again.
+//! the end: at the dummy of a bucket. A place that was given back is given out again. `item_from` passes each place
+//! with no item, so a look at all items takes a step for each place up to the last that was ever given out.
 //!
 //! *Mechanism.* The nodes are linked one way, by the numbers of their places. A slab holds the key and the link of each,
 //! in 24 bytes, and gives out the places; beside it stand the items, of 88 bytes. A search that passes a node reads the
-//! slab alone: terms are looked at where keys are equal. Where the slab has to grow, a copy of it grows, so that a refusal
-//! changes nothing.
+//! slab alone: terms are looked at where keys are equal. `item_from` and `item` read the items alone: a look at all of
+//! them, in the order of their places, runs once through memory. Where the slab has to grow, a copy of it grows, so that
+//! a refusal changes nothing.
 //!
 //! *Limits.* What a place number stands for is the caller's to remember; calls ask that it stands in the list.
 #![tactic(auto)]

@@ -1,4 +1,4 @@
-ghost use Rattle.std.specs.Prelude.{◌≡◌, ◌+◌, ◌-◌, ◌^◌, ◌<◌, ◌≤◌, Some, None, [], ◌∷◌, length, IfOk, OnOk, IsOk, MatchOption, option_map};
+ghost use Rattle.std.specs.Prelude.{◌≡◌, ℕ, ◌+◌, ◌-◌, ◌^◌, ◌<◌, ◌≤◌, Some, None, [], ◌∷◌, length, IfOk, OnOk, IsOk, MatchOption, option_map};
 ghost use Rattle.std.specs.Borrow.{sem};
 
 use crate::chain::Chain;
@@ -47,7 +47,7 @@ impl Model for NodeList {
 
 impl NodeList {
     ghost use Rattle.node_list.specs.Cells.{new_cell, new_item, Sorted, StartsWithDummy};
-    ghost use Rattle.node_list.specs.Places.{first_place, AreApart, from, behind, item_at, key_at, place_after, IsFresh, Stands, StandsUpTo, HasItem};
+    ghost use Rattle.node_list.specs.Places.{first_place, AreApart, from, behind, item_at, key_at, place_after, IsFresh, Stands, StandsUpTo, HasItem, IsItemFrom};
     ghost use Rattle.node_list.specs.Search.{place_of, passed};
     ghost use Rattle.node_list.specs.Changes.{put_cell, without};
     ghost use Rattle.node_list.specs.Listed.{HasRoom};
@@ -69,6 +69,7 @@ impl NodeList {
     }
 
     /// The place of the first node, a dummy of key 0. The list is sorted, and no place is in it twice.
+    #[inline]
     pub fn head(&self) -> At
         ensures first { first_place self.now.cells ≡ Some result }
         ensures place { result < 2 ^ 64 - 1 }
@@ -81,17 +82,21 @@ impl NodeList {
     }
 
     /// What holds of every list, for a caller's proof: it does nothing.
+    #[inline]
     pub fn known(&self)
         ensures dummy { StartsWithDummy self.now.cells }
         ensures sorted { Sorted self.now.cells }
         ensures apart { AreApart self.now.cells }
         ensures few { length self.now.cells < 2 ^ 64 - 1 }
+        ensures places { (at : ℕ) → Stands at self.now.cells → at < 2 ^ 64 - 1 }
     {
         let _head = self.head();
         let _len = self.len();
+        self.nodes.known();
     }
 
     /// How many nodes there are, dummies and items.
+    #[inline]
     pub fn len(&self) -> usize
         ensures value { result ≡ length self.now.cells }
         ensures few { result < 2 ^ 64 - 1 }
@@ -183,14 +188,23 @@ impl NodeList {
     }
 
     /// The term and the chain of an item, or `None` for a dummy.
+    #[inline]
     pub fn item(&self, at: At) -> Option<(&Term, &Chain)>
         requires { Stands at self.now.cells }
         ensures { MatchOption result (item_at at self.now.cells ≡ None) (λ found. item_at at self.now.cells ≡ Some (new_item found.0.now found.1.now)) }
     {
-        match self.nodes.see(at).slot.item() {
+        match self.nodes.item(at) {
             Some(item) => Some((&item.term, &item.chain)),
             None => None,
         }
+    }
+
+    /// The first place from `start` on that has an item, in the order of the places: not that of the keys.
+    #[inline]
+    pub fn item_from(&self, start: At) -> Option<At>
+        ensures { IsItemFrom start result self.now.cells }
+    {
+        self.nodes.item_from(start)
     }
 
     /// The chain of an item, for a change of it alone.

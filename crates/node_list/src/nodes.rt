@@ -1,7 +1,7 @@
-ghost use Rattle.std.specs.Prelude.{◌≡◌, ◌+◌, ◌<◌, ◌≤◌, ◌-◌, ◌^◌, [], Some, None, IsOk, OnOk, vec_capacity};
+ghost use Rattle.std.specs.Prelude.{◌≡◌, ℕ, ◌+◌, ◌<◌, ◌≤◌, ◌-◌, ◌^◌, [], Some, None, IsOk, OnOk, option_copied, vec_capacity};
 ghost use Rattle.std.specs.Borrow.{sem};
 ghost use Rattle.slab.specs.Slab.{get, slab_len, ContainsKey, HasRoomFor, Updates};
-ghost use Rattle.node_list.specs.inside.Slots.{ShowsFront, ShowsChain, Relinks, HasItemIn, PutsSlot};
+ghost use Rattle.node_list.specs.inside.Slots.{ShowsFront, ShowsChain, ShowsItem, Relinks, HasItemIn, IsItemFromIn, PutsSlot};
 ghost use Rattle.node_list.specs.inside.Seen.{seen_node};
 ghost use Rattle.node_list.specs.inside.NodeLending.{LendsChainIn};
 
@@ -161,6 +161,29 @@ impl Nodes {
         }
     }
 
+    /// The item at a place, or `None` for a dummy: a read of the items alone.
+    #[inline]
+    pub fn item(&self, at: usize) -> Option<&Item>
+        requires { ContainsKey self.now at }
+        ensures { ShowsItem self.now at (option_copied result) }
+    {
+        self.items[at].item()
+    }
+
+    /// The first place from `start` on that has an item: a read of the items alone, in the order of their places.
+    #[inline]
+    pub fn item_from(&self, start: usize) -> Option<usize>
+        ensures { IsItemFromIn start result self.now }
+    {
+        for at in start..self.items.len() {
+            if let Slot::Full(_) = &self.items[at] {
+                return Some(at);
+            }
+        }
+        None
+    }
+
+    #[inline]
     pub fn len(&self) -> usize
         ensures value { result ≡ slab_len self.now }
         ensures few { result < 2 ^ 64 - 1 }
@@ -168,6 +191,14 @@ impl Nodes {
         let _capacity = self.nodes.capacity();
         let _places = self.items.capacity();
         self.nodes.len()
+    }
+
+    /// What holds of all nodes, for a caller's proof: it does nothing.
+    #[inline]
+    pub fn known(&self)
+        ensures { (at : ℕ) → ContainsKey self.now at → at < 2 ^ 64 - 1 }
+    {
+        let _places = self.items.len();
     }
 
     #[cfg(test)]

@@ -8,7 +8,6 @@ use Rattle.node_list.specs.Cells.{Cell}
 use Rattle.node_list.specs.Places.{from}
 use Rattle.node_list.specs.Changes.{without}
 use Rattle.node_list.specs.Changes.{cells_with}
-use Rattle.bucket_table.specs.Slots.{slots_behind}
 use Rattle.bucket_table.specs.inside.Nodes.{slots_of}
 
 -- what stands at a place that a search found, and what becomes of the slots where that item goes or gets another chain
@@ -20,6 +19,5 @@ pub record IsFound (term : Term) (at : ℕ) (cs : List Cell) : Type 0 where
   pub has : cell.item ≡ Some item
   pub same_term : item.term ≡ term
   pub objects : lookup (same term) (slots_of cs) ≡ Some item.chain
-  pub behind : slots_behind (slots_of cs) term ≡ Some (slots_of later)
   pub removed : slots_of (without at cs) ≡ remove_entry (same term) (slots_of cs)
   pub replaced : (w : List Term) → slots_of (cells_with at w cs) ≡ set_value (same term) (slots_of cs) w

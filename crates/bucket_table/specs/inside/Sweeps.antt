@@ -15,6 +15,14 @@ swept Purge slots = purged slots
 swept Drop slots = cleared false slots
 swept Hold slots = cleared true slots
 
+-- the slot of the item at a place, if there is one
+abbrev pub slot_at : ℕ → List Cell → List Slot
+slot_at at cs = with_slot (item_at at cs) []
+
+-- a sweep of either list leaves the same at each place
+abbrev pub AreSweptAlike : Sweep → List Cell → List Cell → Type 0
+AreSweptAlike how old new = (at : ℕ) → swept how (slot_at at new) ≡ swept how (slot_at at old)
+
 -- the nodes up to the one at a place
 abbrev pub up_to : ℕ → List Cell → List Cell
 up_to at [] = []

@@ -7,7 +7,6 @@ ghost use Rattle.bucket_table.specs.Split.{key_of_place};
 
 use super::SplitRows;
 use super::find::find_hinted;
-use super::order::item_from;
 use crate::entry::Place;
 use ets_term::{KeyHash, Term};
 use node_list::Steps;
@@ -18,6 +17,7 @@ impl<H: KeyHash + Copy + Drop> SplitRows<H> {
         ensures value { option_copied result ≡ objects_of self.now.slots key.now }
         ensures looked { HasLooked (H.number self.now.hash) self.now.slots self.now.ready key.now steps.old steps.new }
     {
+        self.list.known();
         let number = self.hash.hash32(key);
         let at = find_hinted(
             self.hash,
@@ -38,6 +38,7 @@ impl<H: KeyHash + Copy + Drop> SplitRows<H> {
         requires { number ≡ H.number self.now.hash key.now }
         ensures { MatchOption result (objects_of self.now.slots key.now ≡ None) (λ place. (key_of_place self.now.places place ≡ Some key.now) × IsSome (objects_of self.now.slots key.now)) }
     {
+        self.list.known();
         let mut steps = Steps::new();
         find_hinted(
             self.hash,
@@ -79,8 +80,7 @@ impl<H: KeyHash + Copy + Drop> SplitRows<H> {
     pub(super) fn place_of_first(&self) -> Option<Place>
         ensures { IsFirstPlace (key_of_place self.now.places) self.now.slots result }
     {
-        let head = self.list.head();
-        item_from(&self.list, Some(head))
+        self.list.item_from(0)
     }
 
     /// The place of the slot behind the one at a place.
@@ -89,21 +89,21 @@ impl<H: KeyHash + Copy + Drop> SplitRows<H> {
         ensures { IsNextPlace (key_of_place self.now.places) self.now.slots (key_of_place self.now.places place) result }
     {
         self.list.known();
-        let next = self.list.after(place);
-        item_from(&self.list, next)
+        self.list.item_from(place + 1)
     }
 
     /// The slots have distinct keys.
     pub(super) fn has_distinct_keys(&self)
         ensures { HasDistinctKeys self.now.slots }
     {
-        let _list = &self.list;
+        self.list.known();
     }
 
     /// How many slots there are.
     pub(super) fn count(&self) -> usize
         ensures { result ≡ length self.now.slots }
     {
+        self.list.known();
         self.slots
     }
 }

@@ -2,7 +2,8 @@ ghost use Rattle.std.specs.Prelude.{◌≡◌, ℕ, ◌+◌, ◌≤◌, List, �
 ghost use Rattle.node_list.specs.Places.{Stands, place_after};
 ghost use Rattle.bucket_table.specs.inside.Nodes.{slots_of};
 ghost use Rattle.bucket_table.specs.inside.Firsts.{IsRows};
-ghost use Rattle.bucket_table.specs.inside.Sweeps.{swept, IsSweptOn, IsFateOf};
+ghost use Rattle.bucket_table.specs.declared.split.sweep.Sweep.TheVariants.{Purge};
+ghost use Rattle.bucket_table.specs.inside.Sweeps.{swept, IsSweptOn, IsFateOf, AreSweptAlike};
 ghost use Rattle.bucket_table.specs.inside.Notes.{AreAmong};
 ghost use Rattle.bucket_table.specs.Slots.{purged};
 
@@ -67,6 +68,7 @@ fn sweep_one<H: KeyHash + Copy + Drop>(
     requires next { place_after at list.old.cells ≡ Some next }
     ensures rows { IsRows (H.number hash) dummies.now shift firsts.new.items list.new.cells }
     ensures swept { IsSweptOn how at list.old.cells result list.new.cells }
+    ensures each { AreSweptAlike how list.old.cells list.new.cells }
     ensures len { length list.new.cells + length (slots_of list.old.cells) ≡ length list.old.cells + length (slots_of list.new.cells) }
     ensures fewer { length list.new.cells ≤ length list.old.cells }
     ensures capacity { list.new.capacity ≡ list.old.capacity }
@@ -97,6 +99,7 @@ fn purge_run<H: KeyHash + Copy + Drop>(
     requires rows { IsRows (H.number hash) dummies.now shift firsts.old.items list.old.cells }
     ensures rows { IsRows (H.number hash) dummies.now shift firsts.new.items list.new.cells }
     ensures purged { purged (slots_of list.new.cells) ≡ purged (slots_of list.old.cells) }
+    ensures each { AreSweptAlike Purge list.old.cells list.new.cells }
     ensures gone { (others : List ℕ) → AreAmong (H.number hash) (number ∷ others) (slots_of list.old.cells) → AreAmong (H.number hash) others (slots_of list.new.cells) }
     ensures len { length list.new.cells + length (slots_of list.old.cells) ≡ length list.old.cells + length (slots_of list.new.cells) }
     ensures fewer { length list.new.cells ≤ length list.old.cells }
@@ -127,6 +130,7 @@ pub fn purge_noted<H: KeyHash + Copy + Drop>(
     requires noted { AreAmong (H.number hash) hashes.old.items (slots_of list.old.cells) }
     ensures rows { IsRows (H.number hash) dummies.now shift firsts.new.items list.new.cells }
     ensures slots { slots_of list.new.cells ≡ purged (slots_of list.old.cells) }
+    ensures each { AreSweptAlike Purge list.old.cells list.new.cells }
     ensures len { length list.new.cells + length (slots_of list.old.cells) ≡ length list.old.cells + length (slots_of list.new.cells) }
     ensures fewer { length list.new.cells ≤ length list.old.cells }
     ensures capacity { list.new.capacity ≡ list.old.capacity }
@@ -148,6 +152,7 @@ pub fn sweep_all<H: KeyHash + Copy + Drop>(
     requires rows { IsRows (H.number hash) dummies.now shift firsts.old.items list.old.cells }
     ensures rows { IsRows (H.number hash) dummies.now shift firsts.new.items list.new.cells }
     ensures slots { slots_of list.new.cells ≡ swept how (slots_of list.old.cells) }
+    ensures each { AreSweptAlike how list.old.cells list.new.cells }
     ensures len { length list.new.cells + length (slots_of list.old.cells) ≡ length list.old.cells + length (slots_of list.new.cells) }
     ensures fewer { length list.new.cells ≤ length list.old.cells }
     ensures capacity { list.new.capacity ≡ list.old.capacity }

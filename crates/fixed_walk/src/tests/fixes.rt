@@ -150,13 +150,13 @@ fn a_table_that_nobody_fixes(rt: HostRuntime) -> Result<(), Fail> {
         Row::Insert(2, 1),
         Row::Release(7),
         Row::Has(false, 2, 2),
-        Row::Delete(1),
+        Row::Delete(2),
         Row::Has(false, 1, 1),
-        Row::NoNext(1),
-        Row::Insert(1, 2),
-        Row::First(Some(2)),
-        Row::Next(2, Some(1)),
-        Row::Next(1, None),
+        Row::NoNext(2),
+        Row::Insert(2, 2),
+        Row::First(Some(1)),
+        Row::Next(1, Some(2)),
+        Row::Next(2, None),
     ];
     assert!(rt; both_do(rt.alloc(), &rows)?);
     Ok(())

@@ -1,5 +1,5 @@
 -- How nodes lie in two arrays: their fronts in a slab, and what else they have beside it.
-use Rattle.std.specs.Prelude.{◌≡◌, ◌≤◌, ◌<◌, ◌≢◌, ℕ, List, [], ◌∷◌, length, slice_get, Option, Some, None, IsSome, option_map, Vec, vec_capacity, vec_items}
+use Rattle.std.specs.Prelude.{◌≡◌, ◌≤◌, ◌<◌, ◌≢◌, ℕ, List, [], ◌∷◌, length, slice_get, slice_index_or, Option, Some, None, IsSome, option_map, Vec, vec_capacity, vec_items}
 use Rattle.slab.specs.Slab.{Slab, get, with_value}
 use Rattle.ets_term.specs.declared.term.Term.{Term}
 use Rattle.node_list.specs.declared.node.Item.{Item}
@@ -32,15 +32,21 @@ nodes_of [] ss = []
 nodes_of (o ∷ os) [] = node_in o Dummy ∷ nodes_of os []
 nodes_of (o ∷ os) (s ∷ ss) = node_in o s ∷ nodes_of os ss
 
--- whatever place the slab gives out has room for a slot, and every place with a node has a slot
+-- what stands at a place, a dummy past the end
+abbrev pub slot_at : List Slot → ℕ → Slot
+slot_at slots k = slice_index_or slots k Dummy
+
+-- whatever place the slab gives out has room for a slot, every place with a node has a slot, and any other has a dummy
 pub record AreNodes {A : Type 0} (nodes : Slab Front) (items : Vec Slot A) : Type 0 where
   pub room : nodes.capacity ≤ vec_capacity items
   pub within : (k : ℕ) → IsSome (get nodes k) → k < length (vec_items items)
+  pub vacant : (k : ℕ) → get nodes k ≡ None → slot_at (vec_items items) k ≡ Dummy
 
--- a place has this slot now, and every other that had a slot has that one
+-- a place has this slot now, and every other has what it had
 pub record PutsSlot (old new : List Slot) (at : ℕ) (slot : Slot) : Type 0 where
   pub here : slice_get new at ≡ Some slot
-  pub others : (k : ℕ) → k ≢ at → k < length old → slice_get new k ≡ slice_get old k
+  pub others : (k : ℕ) → k ≢ at → slot_at new k ≡ slot_at old k
+  pub length : length old ≤ length new
 
 -- the node at a place has this key and this link
 pub record ShowsFront (s : Slab Node) (at : ℕ) (f : Front) : Type 0 where
@@ -60,6 +66,23 @@ pub record HasItemIn (s : Slab Node) (at : ℕ) : Type 0 where
   pub node : Node
   pub is : get s at ≡ Some node
   pub has : IsSome node.item
+
+-- the node at a place has this item, or is a dummy
+pub record ShowsItem (s : Slab Node) (at : ℕ) (item : Option Item) : Type 0 where
+  pub node : Node
+  pub is : get s at ≡ Some node
+  pub shows : node.item ≡ item
+
+-- the node at this place is an item, and none at a place from `start` on before it
+pub record IsLeastItemIn (start at : ℕ) (s : Slab Node) : Type 0 where
+  pub has : HasItemIn s at
+  pub from : start ≤ at
+  pub least : (other : ℕ) → HasItemIn s other → start ≤ other → at ≤ other
+
+-- the least place from this one on where the node is an item, None where there is none
+abbrev pub IsItemFromIn : ℕ → Option ℕ → Slab Node → Type 0
+IsItemFromIn start None s = (other : ℕ) → HasItemIn s other → other < start
+IsItemFromIn start (Some at) s = IsLeastItemIn start at s
 
 -- the node at a place is an item with this chain
 pub record ShowsChain (s : Slab Node) (at : ℕ) (w : List Term) : Type 0 where

@@ -2,7 +2,7 @@ ghost use Rattle.std.specs.Prelude.{◌≡◌, [], ◌∷◌, Some, IfOk};
 ghost use Rattle.std.specs.Borrow.{sem};
 ghost use Rattle.ets_term.specs.declared.term.Term.TheVariants.{Int};
 ghost use Rattle.node_list.specs.Cells.{new_cell, new_item};
-ghost use Rattle.node_list.specs.Places.{IsFresh};
+ghost use Rattle.node_list.specs.Places.{IsFresh, HasItem};
 ghost use Rattle.node_list.specs.Changes.{put_cell};
 
 use super::{At, NodeList};
@@ -123,6 +123,69 @@ fn unlinks_an_item(rt: HostRuntime) -> Result<(), Fail> {
     assert!(rt; chain.as_slice() == [Term::Int(1)].as_slice());
     assert_eq!(rt; keys(&list, alloc)?.as_slice(), [0, 8].as_slice());
     assert_eq!(rt; add_item(&mut list, alloc, 9, 1)?, at);
+    Ok(())
+}
+
+fn unlink_item(list: &mut NodeList, at: At)
+    requires { HasItem at list.old.cells }
+{
+    let head = list.head();
+    list.unlink(head, at);
+}
+
+/// What `item_from` gives at each of the first seven places.
+fn items_from_each(list: &NodeList, alloc: Global) -> Result<Vec<Option<At>>, AllocError> {
+    let mut found = Vec::new(alloc);
+    for start in 0..7 {
+        found.push(list.item_from(start))?;
+    }
+    Ok(found)
+}
+
+/// The places 1 to 5 are given out in turn, whatever the keys: to a dummy, two items, a dummy and an item.
+#[test]
+fn finds_items_by_their_places(rt: HostRuntime) -> Result<(), Fail> {
+    let alloc = rt.alloc();
+    let mut list = NodeList::new(alloc)?;
+    add_dummy(&mut list, 8)?;
+    add_item(&mut list, alloc, 9, 1)?;
+    add_item(&mut list, alloc, 5, 2)?;
+    add_dummy(&mut list, 4)?;
+    add_item(&mut list, alloc, 7, 3)?;
+    let found = items_from_each(&list, alloc)?;
+    let wanted = [Some(2), Some(2), Some(2), Some(3), Some(5), Some(5), None];
+    assert_eq!(rt; found.as_slice(), wanted.as_slice());
+    assert_eq!(rt; list.item_from(usize::MAX), None);
+    Ok(())
+}
+
+/// A place that was given back has no item, until a later one gets it.
+#[test]
+fn finds_no_unlinked_items(rt: HostRuntime) -> Result<(), Fail> {
+    let alloc = rt.alloc();
+    let mut list = NodeList::new(alloc)?;
+    let first = add_item(&mut list, alloc, 9, 1)?;
+    add_item(&mut list, alloc, 5, 2)?;
+    unlink_item(&mut list, first);
+    let gap = items_from_each(&list, alloc)?;
+    let wanted = [Some(2), Some(2), Some(2), None, None, None, None];
+    assert_eq!(rt; gap.as_slice(), wanted.as_slice());
+    add_dummy(&mut list, 6)?;
+    let last = add_item(&mut list, alloc, 7, 3)?;
+    unlink_item(&mut list, last);
+    let end = items_from_each(&list, alloc)?;
+    assert_eq!(rt; end.as_slice(), wanted.as_slice());
+    Ok(())
+}
+
+#[test]
+fn finds_no_item_among_dummies(rt: HostRuntime) -> Result<(), Fail> {
+    let alloc = rt.alloc();
+    let mut list = NodeList::new(alloc)?;
+    assert_eq!(rt; list.item_from(0), None);
+    add_dummy(&mut list, 8)?;
+    assert_eq!(rt; list.item_from(0), None);
+    assert_eq!(rt; list.item_from(2), None);
     Ok(())
 }
 

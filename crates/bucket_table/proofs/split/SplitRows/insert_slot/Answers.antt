@@ -14,6 +14,8 @@ use Rattle.bucket_table.proofs.RowsLaws.{rows-put, rows-seen}
 use Rattle.bucket_table.proofs.BelowLaws.{lesser-up-to}
 use Rattle.bucket_table.proofs.SplitLaws.{put-added}
 use Rattle.bucket_table.proofs.SeatLaws.{few-slots}
+use Rattle.bucket_table.specs.inside.Order.{content_of}
+use Rattle.bucket_table.proofs.ReadLaws.{item-put, objects-same}
 use Rattle.bucket_table.proofs.split.SplitRows.insert_slot.Goals as goal
 
 pub insert_item-at-requires-clause-room : goal.insert_item-at-requires-clause-room
@@ -39,7 +41,8 @@ pub invariant_of-self : goal.invariant_of-self
 invariant_of-self g c =
     let number = g.H.KeyHash.number c.self.inside.hash in
     let hash : c.args.number ≡ g.H.KeyHash.number c.self.inside.hash c.args.key = c.requires.number ∙ ap (λ (v : Split g.row.H.Denot). g.H.KeyHash.number v.hash c.args.key) (sym c.self.view_is) in
-    let none : lookup (same c.args.key) (slots_of c.self.inside.list.cells) ≡ None = ap (λ (v : Split g.row.H.Denot). lookup (same c.args.key) v.slots) c.self.view_is ∙ c.requires.new in
+    let none : lookup (same c.args.key) (slots_of c.self.inside.list.cells) ≡ None =
+    sym (objects-same c.self.inside.list.cells c.known.ensures.apart c.self.invariant.rows.split.distinct c.args.key) ∙ (ap (λ (v : Split g.row.H.Denot). lookup (same c.args.key) v.slots) c.self.view_is ∙ c.requires.new) in
     let index = c.item_key-key_of_split.result / 2 ^ c.self.inside.shift in
     let K : List (Option (Option ℕ)) → Type 0 = λ fs. c.becomes_first-moves.result ≡ false → KeepsFirst (2 ^ c.self.inside.shift) index c.self.inside.list.cells c.item_key-key_of_split.result (get_or fs index None) in
     let rows = rows-put number c.self.inside.dummies.items c.self.inside.shift c.self.inside.firsts.items c.self.inside.list.cells c.self.invariant.rows c.note.new.firsts.items c.becomes_first-moves.result c.insert_item-at.result c.item_key-key_of_split.result c.args.key c.args.objects c.insert_item-at.new.self.cells
@@ -61,9 +64,8 @@ invariant_of-self g c =
 
 pub returns-clause-now : goal.returns-clause-now
 returns-clause-now g c =
-    let number = g.H.KeyHash.number c.self.inside.hash in
-    let P : Split g.row.H.Denot → Type 0 = λ v. Enters v.slots c.args.key c.args.objects (slots_of c.insert_item-at.new.self.cells) in
-    subst P c.self.view_is (put-added number c.self.inside.dummies.items c.self.inside.list.cells c.self.invariant.rows.split c.insert_item-at.result c.item_key-key_of_split.result c.args.key c.args.objects c.insert_item-at.new.self.cells c.insert_item-at.ensures.cells)
+    let P : Split g.row.H.Denot → Type 0 = λ v. Enters v.slots c.args.key c.args.objects (content_of c.insert_item-at.new.self.cells) in
+    subst P c.self.view_is (item-put c.insert_item-at.result c.item_key-key_of_split.result c.args.key c.args.objects c.self.inside.list.cells c.insert_item-at.new.self.cells c.insert_item-at.ensures.fresh c.insert_item-at.ensures.cells)
 
 pub returns-clause-room : goal.returns-clause-room
 returns-clause-room g c =

@@ -18,6 +18,8 @@ use Rattle.bucket_table.specs.declared.growth.Readying.TheVariants.{Ready}
 use Rattle.bucket_table.proofs.StartLaws.{dummy-stands}
 use Rattle.bucket_table.proofs.SlotLaws.{slots-put-dummy}
 use Rattle.bucket_table.proofs.SplitLaws.{read-none, ready-none, ready-set}
+use Rattle.bucket_table.specs.inside.Order.{content_of}
+use Rattle.bucket_table.proofs.PlaceLaws.{content-dummy}
 use Rattle.bucket_table.proofs.split.SplitRows.make_ready.Goals as goal
 
 pub insert_dummy-at-requires-clause-stands : goal.insert_dummy-at-requires-clause-stands
@@ -41,8 +43,9 @@ survey_both-requires-clause-rows g c =
 
 pub returns-clause-slots : goal.returns-clause-slots
 returns-clause-slots g c =
-    ap slots_of (c.insert_dummy-at.ensures.cells ∙ ap (put_cell (new_cell c.insert_dummy-at.result c.dummy_key.result None)) c.in_ok-reserve.ensures.cells)
-    ∙ (slots-put-dummy c.insert_dummy-at.result c.dummy_key.result c.self.inside.list.cells ∙ ap (λ (v : Split g.row.H.Denot). v.slots) c.self.view_is)
+    let F : List Cell → Type 0 = λ zs. IsFresh c.insert_dummy-at.result zs in
+    ap content_of (c.insert_dummy-at.ensures.cells ∙ ap (put_cell (new_cell c.insert_dummy-at.result c.dummy_key.result None)) c.in_ok-reserve.ensures.cells)
+    ∙ (content-dummy c.insert_dummy-at.result c.dummy_key.result c.self.inside.list.cells (subst F c.in_ok-reserve.ensures.cells c.insert_dummy-at.ensures.fresh) ∙ ap (λ (v : Split g.row.H.Denot). v.slots) c.self.view_is)
 
 pub returns-clause-ok : goal.returns-clause-ok
 returns-clause-ok g c =

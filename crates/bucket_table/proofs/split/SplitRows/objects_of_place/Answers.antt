@@ -2,7 +2,8 @@ use Rattle.std.proofs.Common.{◌≡◌, IsSome, Some, option_map, sym, ◌∙�
 use Rattle.node_list.specs.declared.node.Item.{Item}
 use Rattle.bucket_table.specs.Entries.{objects_in}
 use Rattle.bucket_table.specs.Split.{Split, key_of_place}
-use Rattle.bucket_table.proofs.SeatLaws.{at-place, place-stands, no-item, objects-read}
+use Rattle.bucket_table.proofs.SeatLaws.{at-place, place-stands, no-item}
+use Rattle.bucket_table.proofs.ReadLaws.{objects-there}
 use Rattle.bucket_table.proofs.split.SplitRows.objects_of_place.Goals as goal
 
 pub item-requires : goal.item-requires
@@ -21,6 +22,6 @@ pub returns : goal.returns
 returns g c =
     let P : Split g.row.H.Denot → Type 0 = λ v. IsSome (key_of_place v.places c.args.place) in
     let p = at-place c.args.place c.self.inside.list.cells c.known.ensures.apart c.self.invariant.rows.split.distinct (subst P (sym c.self.view_is) c.requires) in
-    let read = objects-read c.args.place c.self.inside.list.cells p c.in-Some.chain.now (ap (option_map (λ (item : Item). item.chain)) c.in-Some.ensures) in
+    let read = objects-there c.self.inside.list.cells c.known.ensures.apart c.self.invariant.rows.split.distinct c.args.place p c.in-Some.chain.now (ap (option_map (λ (item : Item). item.chain)) c.in-Some.ensures) in
     let Q : Split g.row.H.Denot → Type 0 = λ v. objects_in v.slots (key_of_place v.places c.args.place) ≡ Some c.in-Some.chain.now in
     subst Q c.self.view_is read ∙ ap Some (sym c.as_slice.ensures)

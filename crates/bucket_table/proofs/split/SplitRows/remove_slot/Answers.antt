@@ -21,6 +21,9 @@ use Rattle.bucket_table.proofs.BelowLaws.{found-behind}
 use Rattle.bucket_table.proofs.SeatLaws.{at-place, place-stands, place-key, read-item}
 use Rattle.bucket_table.proofs.SurveyLaws.{item-small}
 use Rattle.bucket_table.proofs.SweepLaws.{rows-out}
+use Rattle.bucket_table.specs.inside.Order.{content_of}
+use Rattle.bucket_table.proofs.OrderedLaws.{ordered}
+use Rattle.bucket_table.proofs.ReadLaws.{objects-same, keys-distinct}
 use Rattle.bucket_table.proofs.split.SplitRows.remove_slot.Goals as goal
 
 pub key-key-requires : goal.key-key-requires
@@ -87,7 +90,7 @@ returns-clause-was g c =
     let item = read-item c.args.place c.self.inside.list.cells p (new_item c.take_out-slot.result.0 c.take_out-slot.result.1) c.take_out-slot.ensures.item in
     let same_key : p.key ≡ c.take_out-slot.result.0 = sym p.found.same_term ∙ ap (λ (i : Item). i.term) item in
     let Q : Split g.row.H.Denot → Type 0 = λ v. objects_of v.slots c.take_out-slot.result.0 ≡ Some c.take_out-slot.result.1 in
-    subst Q c.self.view_is (ap (objects_of (slots_of c.self.inside.list.cells)) (sym same_key) ∙ (p.found.objects ∙ ap (λ (i : Item). Some i.chain) item))
+    subst Q c.self.view_is (ap (objects_of (content_of c.self.inside.list.cells)) (sym same_key) ∙ (objects-same c.self.inside.list.cells c.known.ensures.apart c.self.invariant.rows.split.distinct p.key ∙ (p.found.objects ∙ ap (λ (i : Item). Some i.chain) item)))
 
 pub returns-clause-now : goal.returns-clause-now
 returns-clause-now g c =
@@ -95,8 +98,9 @@ returns-clause-now g c =
     let p = at-place c.args.place c.self.inside.list.cells c.known.ensures.apart c.self.invariant.rows.split.distinct (subst P (sym c.self.view_is) c.requires) in
     let item = read-item c.args.place c.self.inside.list.cells p (new_item c.take_out-slot.result.0 c.take_out-slot.result.1) c.take_out-slot.ensures.item in
     let same_key : p.key ≡ c.take_out-slot.result.0 = sym p.found.same_term ∙ ap (λ (i : Item). i.term) item in
-    let Q : Split g.row.H.Denot → Type 0 = λ v. slots_of c.take_out-slot.new.list.cells ≡ without v.slots c.take_out-slot.result.0 in
-    subst Q c.self.view_is (ap slots_of c.take_out-slot.ensures.cells ∙ (p.found.removed ∙ ap (without (slots_of c.self.inside.list.cells)) same_key))
+    let Q : Split g.row.H.Denot → Type 0 = λ v. content_of c.take_out-slot.new.list.cells ≡ without v.slots c.take_out-slot.result.0 in
+    let o = ordered p.key c.args.place c.self.inside.list.cells c.known.ensures.apart c.self.invariant.rows.split.distinct p.found in
+    subst Q c.self.view_is (ap content_of c.take_out-slot.ensures.cells ∙ (o.removed ∙ ap (without (content_of c.self.inside.list.cells)) same_key))
 
 pub returns-clause-before : goal.returns-clause-before
 returns-clause-before g c =
@@ -107,7 +111,7 @@ returns-clause-before g c =
     let Q : Split g.row.H.Denot → Type 0 =
     λ v. (other : ℕ) (key : Term) → key_of_place v.places other ≡ Some key → StandsBefore v.slots key c.take_out-slot.result.0 → key_of_place (places_of c.take_out-slot.new.list.cells) other ≡ Some key in
     subst Q c.self.view_is (λ other key e b.
-    let apart = before-other (slots_of c.self.inside.list.cells) key c.take_out-slot.result.0 c.self.invariant.rows.split.distinct b in
+    let apart = before-other (content_of c.self.inside.list.cells) key c.take_out-slot.result.0 (keys-distinct c.self.inside.list.cells c.known.ensures.apart c.self.invariant.rows.split.distinct) b in
     let away : c.args.place ≢ other = λ here. apart (some-key key c.take_out-slot.result.0 (key_of_place (places_of c.self.inside.list.cells) other) e (ap (key_of_place (places_of c.self.inside.list.cells)) (sym here) ∙ (p.is ∙ ap Some same_key))) in
     ap (λ (cs : List Cell). key_of_place (places_of cs) other) c.take_out-slot.ensures.cells ∙ (place-stays c.args.place other c.self.inside.list.cells away ∙ e))
   where

@@ -11,8 +11,10 @@ use Rattle.node_list.specs.Changes.{cells_with}
 use Rattle.bucket_table.proofs.ContentLaws.{found-item}
 use Rattle.bucket_table.proofs.CountedLaws.{length-set_value}
 use Rattle.bucket_table.proofs.RowsLaws.{rows-with}
-use Rattle.bucket_table.proofs.SeatLaws.{at-place, place-stands, place-key, objects-read, objects-written, length-with, places-with}
+use Rattle.bucket_table.proofs.SeatLaws.{at-place, place-stands, place-key, length-with, places-with}
 use Rattle.ets_term.specs.Order.{same}
+use Rattle.bucket_table.specs.inside.Order.{content_of}
+use Rattle.bucket_table.proofs.ReadLaws.{objects-there, objects-put}
 use Rattle.bucket_table.proofs.split.SplitRows.replace_objects.Goals as goal
 
 pub chain_mut-chain-requires : goal.chain_mut-chain-requires
@@ -62,14 +64,14 @@ returns-clause-was g c =
     let P : Split g.row.H.Denot → Type 0 = λ v. IsSome (key_of_place v.places c.args.place) in
     let p = at-place c.args.place c.self.inside.list.cells c.known.ensures.apart c.self.invariant.rows.split.distinct (subst P (sym c.self.view_is) c.requires) in
     let Q : Split g.row.H.Denot → Type 0 = λ v. objects_in v.slots (key_of_place v.places c.args.place) ≡ Some c.chain_mut-chain.result.now in
-    subst Q c.self.view_is (objects-read c.args.place c.self.inside.list.cells p c.chain_mut-chain.result.now c.chain_mut-chain.ensures.value) ∙ ap Some (sym c.replace.ensures.value)
+    subst Q c.self.view_is (objects-there c.self.inside.list.cells c.known.ensures.apart c.self.invariant.rows.split.distinct c.args.place p c.chain_mut-chain.result.now c.chain_mut-chain.ensures.value) ∙ ap Some (sym c.replace.ensures.value)
 
 pub returns-clause-now : goal.returns-clause-now
 returns-clause-now g c =
     let P : Split g.row.H.Denot → Type 0 = λ v. IsSome (key_of_place v.places c.args.place) in
     let p = at-place c.args.place c.self.inside.list.cells c.known.ensures.apart c.self.invariant.rows.split.distinct (subst P (sym c.self.view_is) c.requires) in
-    let Q : Split g.row.H.Denot → Type 0 = λ v. slots_of (cells_with c.args.place c.replace.new.dest c.self.inside.list.cells) ≡ with_objects_in v.slots (key_of_place v.places c.args.place) c.args.objects in
-    subst Q c.self.view_is (objects-written c.args.place c.self.inside.list.cells p c.replace.new.dest ∙ ap (with_objects_in (slots_of c.self.inside.list.cells) (key_of_place (places_of c.self.inside.list.cells) c.args.place)) c.replace.ensures.after)
+    let Q : Split g.row.H.Denot → Type 0 = λ v. content_of (cells_with c.args.place c.replace.new.dest c.self.inside.list.cells) ≡ with_objects_in v.slots (key_of_place v.places c.args.place) c.args.objects in
+    subst Q c.self.view_is (objects-put c.self.inside.list.cells c.known.ensures.apart c.self.invariant.rows.split.distinct c.args.place p c.replace.new.dest ∙ ap (with_objects_in (content_of c.self.inside.list.cells) (key_of_place (places_of c.self.inside.list.cells) c.args.place)) c.replace.ensures.after)
 
 pub returns-clause-places : goal.returns-clause-places
 returns-clause-places g c = places-with c.args.place c.replace.new.dest c.self.inside.list.cells ∙ ap (λ (v : Split g.row.H.Denot). v.places) c.self.view_is

@@ -11,7 +11,9 @@ use Rattle.bucket_table.proofs.CountedLaws.{length-set_value}
 use Rattle.bucket_table.proofs.NoteLaws.{among-with}
 use Rattle.bucket_table.proofs.OneLaws.{one-stands, one-long, swapped, no-held}
 use Rattle.bucket_table.proofs.RowsLaws.{rows-with}
-use Rattle.bucket_table.proofs.SeatLaws.{at-place, objects-read, objects-written, length-with, places-with}
+use Rattle.bucket_table.proofs.SeatLaws.{at-place, length-with, places-with}
+use Rattle.bucket_table.specs.inside.Order.{content_of}
+use Rattle.bucket_table.proofs.ReadLaws.{objects-there, objects-put}
 use Rattle.bucket_table.proofs.split.SplitRows.replace_only.Goals as goal
 
 pub chain_mut-requires : goal.chain_mut-requires
@@ -26,7 +28,7 @@ replace-requires g c =
     let P : Split g.row.H.Denot → Type 0 = λ v. HasOne v.slots (key_of_place v.places c.args.place) in
     let one = subst P (sym c.self.view_is) c.requires in
     let p = at-place c.args.place c.self.inside.list.cells c.known.ensures.apart c.self.invariant.rows.split.distinct (one-stands _ _ one) in
-    one-long _ _ _ one (objects-read c.args.place c.self.inside.list.cells p c.chain_mut.result.now c.chain_mut.ensures.value)
+    one-long _ _ _ one (objects-there c.self.inside.list.cells c.known.ensures.apart c.self.invariant.rows.split.distinct c.args.place p c.chain_mut.result.now c.chain_mut.ensures.value)
 
 pub invariant_of-self : goal.invariant_of-self
 invariant_of-self g c =
@@ -38,7 +40,7 @@ invariant_of-self g c =
     let ss = slots_of c.self.inside.list.cells in
     let hs = c.self.inside.held.hashes.items in
     let N : List Slot → Type 0 = λ zs. AreAmong number hs zs in
-    let was = swapped _ _ c.chain_mut.result.now c.replace.new.self c.replace.result c.args.object one (objects-read c.args.place c.self.inside.list.cells p c.chain_mut.result.now c.chain_mut.ensures.value) c.replace.ensures.old c.replace.ensures.new in
+    let was = swapped _ _ c.chain_mut.result.now c.replace.new.self c.replace.result c.args.object one (objects-there c.self.inside.list.cells c.known.ensures.apart c.self.invariant.rows.split.distinct c.args.place p c.chain_mut.result.now c.chain_mut.ensures.value) c.replace.ensures.old c.replace.ensures.new in
     record {
       rows = rows-with number c.self.inside.dummies.items c.self.inside.shift c.self.inside.firsts.items c.self.inside.list.cells c.self.invariant.rows p.key c.args.place c.replace.new.self h;
       counted = c.self.invariant.counted ∙ sym (ap length (h.replaced c.replace.new.self) ∙ length-set_value (same p.key) ss c.replace.new.self);
@@ -51,7 +53,7 @@ returns-clause-was g c =
     let P : Split g.row.H.Denot → Type 0 = λ v. HasOne v.slots (key_of_place v.places c.args.place) in
     let one = subst P (sym c.self.view_is) c.requires in
     let p = at-place c.args.place c.self.inside.list.cells c.known.ensures.apart c.self.invariant.rows.split.distinct (one-stands _ _ one) in
-    let read = objects-read c.args.place c.self.inside.list.cells p c.chain_mut.result.now c.chain_mut.ensures.value in
+    let read = objects-there c.self.inside.list.cells c.known.ensures.apart c.self.invariant.rows.split.distinct c.args.place p c.chain_mut.result.now c.chain_mut.ensures.value in
     let was = swapped _ _ c.chain_mut.result.now c.replace.new.self c.replace.result c.args.object one read c.replace.ensures.old c.replace.ensures.new in
     let Q : Split g.row.H.Denot → Type 0 = λ v. objects_in v.slots (key_of_place v.places c.args.place) ≡ Some c.chain_mut.result.now in
     subst Q c.self.view_is read ∙ ap Some was.read
@@ -61,9 +63,9 @@ returns-clause-now g c =
     let P : Split g.row.H.Denot → Type 0 = λ v. HasOne v.slots (key_of_place v.places c.args.place) in
     let one = subst P (sym c.self.view_is) c.requires in
     let p = at-place c.args.place c.self.inside.list.cells c.known.ensures.apart c.self.invariant.rows.split.distinct (one-stands _ _ one) in
-    let was = swapped _ _ c.chain_mut.result.now c.replace.new.self c.replace.result c.args.object one (objects-read c.args.place c.self.inside.list.cells p c.chain_mut.result.now c.chain_mut.ensures.value) c.replace.ensures.old c.replace.ensures.new in
-    let Q : Split g.row.H.Denot → Type 0 = λ v. slots_of (cells_with c.args.place c.replace.new.self c.self.inside.list.cells) ≡ with_objects_in v.slots (key_of_place v.places c.args.place) (c.args.object ∷ []) in
-    subst Q c.self.view_is (objects-written c.args.place c.self.inside.list.cells p c.replace.new.self ∙ ap (with_objects_in (slots_of c.self.inside.list.cells) (key_of_place (places_of c.self.inside.list.cells) c.args.place)) was.written)
+    let was = swapped _ _ c.chain_mut.result.now c.replace.new.self c.replace.result c.args.object one (objects-there c.self.inside.list.cells c.known.ensures.apart c.self.invariant.rows.split.distinct c.args.place p c.chain_mut.result.now c.chain_mut.ensures.value) c.replace.ensures.old c.replace.ensures.new in
+    let Q : Split g.row.H.Denot → Type 0 = λ v. content_of (cells_with c.args.place c.replace.new.self c.self.inside.list.cells) ≡ with_objects_in v.slots (key_of_place v.places c.args.place) (c.args.object ∷ []) in
+    subst Q c.self.view_is (objects-put c.self.inside.list.cells c.known.ensures.apart c.self.invariant.rows.split.distinct c.args.place p c.replace.new.self ∙ ap (with_objects_in (content_of c.self.inside.list.cells) (key_of_place (places_of c.self.inside.list.cells) c.args.place)) was.written)
 
 pub returns-clause-places : goal.returns-clause-places
 returns-clause-places g c = places-with c.args.place c.replace.new.self c.self.inside.list.cells ∙ ap (λ (v : Split g.row.H.Denot). v.places) c.self.view_is

@@ -3,8 +3,9 @@ use Rattle.node_list.specs.declared.node.Item.{Item}
 use Rattle.node_list.specs.Cells.{new_item}
 use Rattle.bucket_table.specs.Slots.{objects_of}
 use Rattle.bucket_table.specs.Split.{Split, key_of_place}
-use Rattle.bucket_table.specs.inside.Nodes.{slots_of}
+use Rattle.bucket_table.specs.inside.Order.{content_of}
 use Rattle.bucket_table.proofs.SeatLaws.{at-place, place-stands, no-item, read-item}
+use Rattle.bucket_table.proofs.ReadLaws.{objects-same}
 use Rattle.bucket_table.proofs.split.SplitRows.slot_of_place.Goals as goal
 
 pub item-requires : goal.item-requires
@@ -35,4 +36,4 @@ returns-clause-objects g c =
     let item = read-item c.args.place c.self.inside.list.cells p (new_item c.in-Some.key.now c.in-Some.chain.now) c.in-Some.ensures in
     let same_key : p.key ≡ c.in-Some.key.now = sym p.found.same_term ∙ ap (λ (i : Item). i.term) item in
     let Q : Split g.row.H.Denot → Type 0 = λ v. objects_of v.slots c.in-Some.key.now ≡ Some c.in-Some.chain.now in
-    subst Q c.self.view_is (ap (objects_of (slots_of c.self.inside.list.cells)) (sym same_key) ∙ (p.found.objects ∙ ap (λ (i : Item). Some i.chain) item)) ∙ ap Some (sym c.as_slice.ensures)
+    subst Q c.self.view_is (ap (objects_of (content_of c.self.inside.list.cells)) (sym same_key) ∙ (objects-same c.self.inside.list.cells c.known.ensures.apart c.self.invariant.rows.split.distinct p.key ∙ (p.found.objects ∙ ap (λ (i : Item). Some i.chain) item))) ∙ ap Some (sym c.as_slice.ensures)

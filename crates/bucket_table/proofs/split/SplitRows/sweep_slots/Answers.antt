@@ -1,9 +1,12 @@
-use Rattle.std.proofs.Common.{ℕ, List, Option, sym, subst, arith}
+use Rattle.std.proofs.Common.{ℕ, List, Option, sym, ◌∙◌, ap, subst, arith}
 use Rattle.bucket_table.specs.Slots.{Slot}
 use Rattle.bucket_table.specs.inside.Nodes.{slots_of}
 use Rattle.bucket_table.specs.inside.Notes.{AreAmong}
 use Rattle.bucket_table.proofs.NoteLaws.{among-swept}
 use Rattle.bucket_table.specs.inside.Firsts.{IsRows}
+use Rattle.bucket_table.specs.Split.{Split}
+use Rattle.bucket_table.specs.inside.Sweeps.{swept}
+use Rattle.bucket_table.proofs.SweptLaws.{content-swept}
 use Rattle.bucket_table.proofs.split.SplitRows.sweep_slots.Goals as goal
 
 pub overflow_sub-self : goal.overflow_sub-self
@@ -18,3 +21,8 @@ invariant_of-self g c =
       due = c.self.invariant.due;
       noted = λ kept. (let N : List Slot → Type 0 = λ ss. AreAmong (g.H.KeyHash.number c.self.inside.hash) c.sweep.new.self.hashes.items ss in subst N (sym c.sweep_all.ensures.slots) (among-swept (g.H.KeyHash.number c.self.inside.hash) c.sweep.new.self.hashes.items c.args.how (slots_of c.self.inside.list.cells) (c.sweep.ensures kept)));
     }
+
+pub returns-clause-slots : goal.returns-clause-slots
+returns-clause-slots g c =
+    content-swept c.args.how c.self.inside.list.cells c.sweep_all.new.list.cells c.sweep_all.ensures.each c.sweep_all.ensures.slots
+    ∙ ap (λ (v : Split g.row.H.Denot). swept c.args.how v.slots) c.self.view_is

@@ -21,6 +21,7 @@ loop-number-preserved g c =
       rows = e.rows;
       noted = e.gone c.pop.new.self.items a;
       slots = e.purged ∙ i.slots;
+      each = λ at. e.each at ∙ i.each at;
       len = omega (arith, i.len, e.len);
       fewer = omega (arith, i.fewer, e.fewer);
       capacity = e.capacity ∙ i.capacity;

@@ -16,6 +16,7 @@ loop-next-init g c = record {
   stands = (let b = c.start_below-at.ensures in record { cell = b.cell; later = b.later; is = b.is });
   slots = refl;
   rest = λ hs a. a;
+  each = λ at. refl;
   len = refl;
   fewer = omega arith;
   capacity = refl;
@@ -49,6 +50,7 @@ loop-next-preserved g c =
       stands = e.swept.stands;
       slots = e.swept.same_end ∙ i.slots;
       rest = λ hs a. (let P : List Cell → Type 0 = λ zs. AreAmong number hs (slots_of zs) in subst P (sym e.swept.rest) (among-rest number hs (behind c.loop-next.at c.loop-next.list.cells) (i.rest hs a)));
+      each = λ at. e.each at ∙ i.each at;
       len = omega (arith, i.len, e.len);
       fewer = omega (arith, i.fewer, e.fewer);
       capacity = e.capacity ∙ i.capacity;

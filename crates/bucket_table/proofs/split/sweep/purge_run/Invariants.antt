@@ -4,7 +4,7 @@ use Rattle.bucket_table.specs.declared.split.sweep.Sweep.TheVariants.{Purge}
 use Rattle.bucket_table.specs.inside.Nodes.{slots_of}
 use Rattle.bucket_table.specs.inside.Firsts.{IsRows}
 use Rattle.bucket_table.specs.inside.Notes.{AreAmong}
-use Rattle.bucket_table.specs.inside.Sweeps.{slots_then}
+use Rattle.bucket_table.specs.inside.Sweeps.{slots_then, AreSweptAlike}
 use Rattle.bucket_table.proofs.split.sweep.purge_run.Given as goal
 
 abbrev pub invariant-loop-next : goal.invariant-loop-next
@@ -13,6 +13,7 @@ invariant-loop-next g l = record {
   stands : Stands l.at l.list.cells;
   slots : slots_then Purge l.at l.list.cells ≡ slots_then Purge l.initial.at l.initial.list.cells;
   rest : (hs : List ℕ) → AreAmong (g.H.KeyHash.number l.hash) hs (slots_of (behind l.initial.at l.initial.list.cells)) → AreAmong (g.H.KeyHash.number l.hash) hs (slots_of (behind l.at l.list.cells));
+  each : AreSweptAlike Purge l.initial.list.cells l.list.cells;
   len : length l.list.cells + length (slots_of l.initial.list.cells) ≡ length l.initial.list.cells + length (slots_of l.list.cells);
   fewer : length l.list.cells ≤ length l.initial.list.cells;
   capacity : l.list.capacity ≡ l.initial.list.capacity;

@@ -8,6 +8,7 @@ loop-next-init g c = record {
   rows = c.requires.rows;
   stands = head-is c.head-at.result c.args.list.now.cells c.head-at.ensures.first c.head-at.ensures.dummy;
   slots = start-end c.args.how c.head-at.result c.args.list.now.cells c.head-at.ensures.dummy c.head-at.ensures.first;
+  each = λ at. refl;
   len = refl;
   fewer = omega arith;
   capacity = refl;

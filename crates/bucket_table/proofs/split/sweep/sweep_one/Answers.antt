@@ -6,12 +6,13 @@ use Rattle.bucket_table.specs.declared.split.sweep.Sweep.TheVariants.{Hold}
 use Rattle.ets_term.specs.Order.{same}
 use Rattle.node_list.specs.Changes.{cells_with}
 use Rattle.bucket_table.specs.inside.Nodes.{slots_of}
-use Rattle.bucket_table.specs.inside.Sweeps.{IsSweptOn}
+use Rattle.bucket_table.specs.inside.Sweeps.{IsSweptOn, AreSweptAlike}
 use Rattle.bucket_table.proofs.CountedLaws.{length-set_value}
 use Rattle.bucket_table.proofs.PlacedLaws.{placed-parity}
 use Rattle.bucket_table.proofs.RowsLaws.{rows-with}
 use Rattle.bucket_table.proofs.SeatLaws.{seat-found, length-with}
 use Rattle.bucket_table.proofs.SweepLaws.{neighbour, next-stands, next-item, stays, goes, empties, item-seat, rows-out, length-out}
+use Rattle.bucket_table.proofs.SweptLaws.{alike-gone, alike-emptied}
 use Rattle.bucket_table.proofs.split.sweep.sweep_one.Goals as goal
 
 pub fate_of-requires : goal.fate_of-requires
@@ -63,3 +64,13 @@ returns-in-Goes-clause-fewer g c = omega (arith, c.take_out-slot.ensures.len)
 
 pub returns-in-IsEmptied-clause-fewer : goal.returns-in-IsEmptied-clause-fewer
 returns-in-IsEmptied-clause-fewer g c = let m = length-with c.args.next c.truncate.new.self c.args.list.now.cells in omega (arith, m)
+
+pub returns-in-Goes-clause-each : goal.returns-in-Goes-clause-each
+returns-in-Goes-clause-each g c = alike-gone c.args.how c.args.next c.args.list.now.cells c.take_out-slot.new.list.cells c.known.ensures.apart c.take_out-slot.ensures.cells c.in-Goes.ensures.1
+
+pub returns-in-IsEmptied-clause-each : goal.returns-in-IsEmptied-clause-each
+returns-in-IsEmptied-clause-each g c =
+    let none : c.truncate.new.self ≡ [] = c.truncate.ensures in
+    let W : List Term → Type 0 = λ w. AreSweptAlike Hold c.args.list.now.cells (cells_with c.args.next w c.args.list.now.cells) in
+    let P : Sweep → Type 0 = λ how. AreSweptAlike how c.args.list.now.cells (cells_with c.args.next c.truncate.new.self c.args.list.now.cells) in
+    subst P (sym c.in-IsEmptied.ensures.1) (subst W (sym none) (alike-emptied c.args.next c.args.list.now.cells))

@@ -4,7 +4,7 @@ use Rattle.node_list.specs.declared.front.Front.{Front}
 use Rattle.node_list.specs.declared.slot.Slot.TheVariants.{Dummy}
 use Rattle.slab.specs.Slab.{Slab, get, slab_len, HasRoomFor}
 use Rattle.node_list.specs.inside.Slots.{node_in, item_in}
-use Rattle.node_list.proofs.SlotLaws.{get-nodes, writes, count-nodes, item-slot}
+use Rattle.node_list.proofs.SlotLaws.{get-nodes, writes, within-after, vacant-after, count-nodes, item-slot}
 use Rattle.node_list.proofs.nodes.Nodes.insert_reserved.Goals as goal
 
 pub insert_reserved-at-requires : goal.insert_reserved-at-requires
@@ -20,7 +20,7 @@ returns-clause-was_vacant c =
 
 pub returns-clause-updates : goal.returns-clause-updates
 returns-clause-updates c =
-    let u = writes c.self.inside.nodes c.insert_reserved-at.new.self c.self.inside.items.items c.put_slot.new.items.items c.insert_reserved-at.result (Some (record { key = c.args.node.key; next = c.args.node.next })) c.new.result c.insert_reserved-at.ensures.updates c.put_slot.ensures.puts c.self.invariant.within in
+    let u = writes c.self.inside.nodes c.insert_reserved-at.new.self c.self.inside.items.items c.put_slot.new.items.items c.insert_reserved-at.result (Some (record { key = c.args.node.key; next = c.args.node.next })) c.new.result c.insert_reserved-at.ensures.updates c.put_slot.ensures.puts in
     let item : item_in c.new.result ≡ c.args.node.item = ap item_in c.new.ensures ∙ item-slot c.args.node.item in
     record {
       changed = u.0 ∙ ap (λ o. let n : Node = record { key = c.args.node.key; next = c.args.node.next; item = o } in Some n) item;
@@ -31,3 +31,15 @@ pub returns-clause-len : goal.returns-clause-len
 returns-clause-len c =
     count-nodes c.insert_reserved-at.new.self.slots c.put_slot.new.items.items
     ∙ (c.insert_reserved-at.ensures.len ∙ (ap (λ k. k + 1) (sym (count-nodes c.self.inside.nodes.slots c.self.inside.items.items)) ∙ ap (λ (v : Slab Node). slab_len v + 1) c.self.view_is))
+
+pub invariant_of-self : goal.invariant_of-self
+invariant_of-self c =
+    record {
+      room = omega (arith, c.insert_reserved-at.ensures.capacity, c.put_slot.ensures.capacity, c.self.invariant.room);
+      within =
+          within-after c.self.inside.nodes c.insert_reserved-at.new.self c.self.inside.items.items c.put_slot.new.items.items c.insert_reserved-at.result (Some (record { key = c.args.node.key; next = c.args.node.next })) c.new.result
+          c.insert_reserved-at.ensures.updates c.put_slot.ensures.puts c.self.invariant.within;
+      vacant =
+          vacant-after c.self.inside.nodes c.insert_reserved-at.new.self c.self.inside.items.items c.put_slot.new.items.items c.insert_reserved-at.result (Some (record { key = c.args.node.key; next = c.args.node.next })) c.new.result
+          c.insert_reserved-at.ensures.updates c.put_slot.ensures.puts (λ e. absurd (cc)) c.self.invariant.vacant;
+    }

@@ -23,7 +23,7 @@ pub returns-clause-updates : goal.returns-clause-updates
 returns-clause-updates c =
     let P : Slab Node → Type 0 = λ v. IsSome (get v c.args.at) in
     let inside : c.args.at < length c.self.inside.items.items = c.self.invariant.within c.args.at (has-front c.self.inside.nodes c.self.inside.items.items c.args.at (subst P (sym c.self.view_is) c.requires)) in
-    let u = writes c.self.inside.nodes c.remove-key.new.self c.self.inside.items.items (set c.self.inside.items.items c.args.at c.replace-slot.new.dest) c.args.at None c.replace-slot.new.dest c.remove-key.ensures.updates (puts-set c.self.inside.items.items c.args.at c.replace-slot.new.dest inside) c.self.invariant.within in
+    let u = writes c.self.inside.nodes c.remove-key.new.self c.self.inside.items.items (set c.self.inside.items.items c.args.at c.replace-slot.new.dest) c.args.at None c.replace-slot.new.dest c.remove-key.ensures.updates (puts-set c.self.inside.items.items c.args.at c.replace-slot.new.dest inside) in
     record { changed = u.0; others = λ k other. u.1 k other ∙ ap (λ (v : Slab Node). get v k) c.self.view_is }
 
 pub returns-clause-len : goal.returns-clause-len
