@@ -22,8 +22,6 @@ mod list;
 mod ops;
 mod position;
 mod sum;
-#[cfg(test)]
-mod tests;
 
 pub use counter::{apply_ops, update_counter};
 pub use defaults::{is_default, keyed, start_counter, start_elements};

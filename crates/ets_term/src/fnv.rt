@@ -69,6 +69,3 @@ fn fnv_bytes(start: u32, bytes: &[u8]) -> u32
     }
     hash
 }
-
-#[cfg(test)]
-mod tests;

@@ -14,8 +14,6 @@ mod items;
 mod key_hash;
 mod stored;
 mod term;
-#[cfg(test)]
-mod tests;
 
 pub use atom::{Atom, AtomFault, MAX_CHARACTERS};
 pub use fnv::Fnv;

@@ -19,8 +19,6 @@
 mod fault;
 mod fixes;
 pub mod laws;
-#[cfg(test)]
-mod tests;
 mod walked;
 
 pub use fault::{Badarg, FixFault};

@@ -7,9 +7,6 @@ use std::alloc::{AllocError, Global};
 use std::marker::Model;
 use std::mem;
 
-#[cfg(test)]
-mod tests;
-
 /// The terms of one item, in their order. The first of them has its place in the value itself, so that a chain of
 /// one term takes no memory of its own.
 #[derive(Drop)]

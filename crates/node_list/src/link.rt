@@ -2,9 +2,6 @@ ghost use Rattle.std.specs.Prelude.{◌≡◌, ◌<◌, ◌-◌, ◌^◌, Some, 
 
 use std::marker::Model;
 
-#[cfg(test)]
-mod tests;
-
 /// A place, or none, in one word: an `Option<usize>` takes two. A contract sees it as an option.
 #[derive(Clone, Copy)]
 pub struct Link {

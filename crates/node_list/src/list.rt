@@ -14,9 +14,6 @@ use ets_term::Term;
 use std::alloc::{AllocError, Global};
 use std::marker::Model;
 
-#[cfg(test)]
-mod tests;
-
 /// The place of a node, which stays its own until the node is unlinked.
 pub type At = usize;
 

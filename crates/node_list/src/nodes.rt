@@ -201,11 +201,6 @@ impl Nodes {
         let _places = self.items.len();
     }
 
-    #[cfg(test)]
-    pub(crate) fn front_at(&self, at: usize) -> Option<Front> {
-        self.nodes.get(at).copied()
-    }
-
     /// Changes the link of the node at a place.
     pub fn set_next(&mut self, at: usize, next: Link)
         requires { ContainsKey self.old at }

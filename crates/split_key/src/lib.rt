@@ -31,6 +31,3 @@ pub mod laws;
 
 pub use buckets::{bucket_of, parent};
 pub use keys::{dummy_key, item_key, rev32};
-
-#[cfg(test)]
-mod tests;

@@ -28,8 +28,6 @@ mod quote_form;
 mod quoted;
 mod reading;
 mod sink;
-#[cfg(test)]
-mod tests;
 
 pub use bytes::{is_character_byte, is_digit_byte, is_name_byte, is_small_byte};
 pub use fault::TextFault;
