@@ -27,7 +27,7 @@ use Rattle.clap.specs.declared.error.Error.{Error}
 use Rattle.clap.specs.declared.error.kind.ErrorKind.TheVariants.{OutOfMemory}
 use Rattle.clap.specs.declared.parser.matches.ArgMatches.{ArgMatches}
 use Rattle.ets_script.specs.CommandLine.{Asks, Settles, Spells, TakesNames, command_line, hash_names}
-use Rattle.ets_script.specs.declared.settings.Settings.{Settings}
+use Rattle.ets_script.specs.declared.options.Settings.{Settings}
 
 -- memory ran out
 pub lacks_memory : (hashes : ValueParser) (words : List Text) (r : Result Settings Error) → TakesNames hash_names hashes → IsErrAnd r (λ e. kind_of e ≡ OutOfMemory) → Settles words r

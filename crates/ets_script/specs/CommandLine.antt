@@ -10,7 +10,7 @@ use Rattle.clap.specs.declared.builder.value_parser.ValueParser.TheVariants.{Nam
 use Rattle.clap.specs.declared.error.Error.{Error}
 use Rattle.clap.specs.declared.error.kind.ErrorKind.{ErrorKind}
 use Rattle.clap.specs.declared.error.kind.ErrorKind.TheVariants.{DisplayHelp, OutOfMemory}
-use Rattle.ets_script.specs.declared.settings.Settings.{Settings}
+use Rattle.ets_script.specs.declared.options.Settings.{Settings}
 
 -- the parser takes these names, and nothing else
 abbrev pub TakesNames : List Text → ValueParser → Type 0

@@ -3,7 +3,7 @@ ghost use Rattle.std.specs.Prelude.{IfOk, ◌≡◌, codes, map, option_map};
 ghost use Rattle.clap.specs.Words.{kind_of};
 ghost use Rattle.ets_script.specs.CommandLine.{Settles, is_named, refused_status};
 
-use crate::settings::Settings;
+use crate::options::Settings;
 use clap::error::ErrorKind;
 use clap::{Arg, ArgAction, Command, Error, value_parser};
 use std::alloc::Global;

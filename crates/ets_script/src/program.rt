@@ -2,8 +2,8 @@
 ghost use Rattle.std.specs.Prelude.{IfOk};
 ghost use Rattle.ets_script.specs.Stops.{EndsWithin, ProgramEnds};
 
+use crate::options::Settings;
 use crate::run::run_script;
-use crate::settings::Settings;
 use ets_term::{AllSame, Fnv, KeyHash};
 use node_core::Limits;
 use std::alloc::Global;

@@ -159,13 +159,18 @@ fn does(alloc: Global, world: &mut Tables, event: Event, wanted: &str) -> Result
     }
 }
 
-/// The place of the first row that a new world for three processes and four tables answers otherwise.
-fn wrong(alloc: Global, rows: &[Row]) -> Result<Option<usize>, AllocError> {
-    let mut world = World::new(alloc, 3, 4);
+/// The place of the first row that is answered otherwise.
+fn wrong_in(alloc: Global, world: &mut Tables, rows: &[Row]) -> Result<Option<usize>, AllocError> {
     for (place, (event, wanted)) in rows.iter().enumerate() {
-        if !does(alloc, &mut world, *event, *wanted)? {
+        if !does(alloc, world, *event, *wanted)? {
             return Ok(Some(place));
         }
     }
     Ok(None)
+}
+
+/// The place of the first row that a new world for three processes and four tables answers otherwise.
+fn wrong(alloc: Global, rows: &[Row]) -> Result<Option<usize>, AllocError> {
+    let mut world = World::new(alloc, 3, 4);
+    wrong_in(alloc, &mut world, rows)
 }

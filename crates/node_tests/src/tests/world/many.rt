@@ -68,24 +68,24 @@ fn comes_in_order(messages: &[Term], wanted: u32) -> bool {
     messages.len() == wanted as usize
 }
 
-fn seventy(alloc: Global) -> Result<bool, WorldFault> {
-    let mut world = World::new(alloc, 2, 70);
+/// Whether seventy tables of a process go to its heir, in order, and with the heir.
+fn hands_seventy_on(alloc: Global, world: &mut Tables) -> Result<bool, WorldFault> {
     world.enrol(0)?;
     world.enrol(1)?;
     for _ in 0..70 {
-        make(alloc, &mut world, 0, 1)?;
+        make(alloc, world, 0, 1)?;
     }
     world.end(0)?;
-    if !comes_in_order(world.mailbox(1), 70) || seen(&world, 69) != (1, false) {
+    if !comes_in_order(world.mailbox(1), 70) || seen(world, 69) != (1, false) {
         return Ok(false);
     }
     world.end(1)?;
-    for id in 0..70 {
-        if seen(&world, id) != (GONE, false) {
-            return Ok(false);
-        }
-    }
-    Ok(true)
+    Ok((0..70).all(|id| seen(world, id) == (GONE, false)))
+}
+
+fn seventy(alloc: Global) -> Result<bool, WorldFault> {
+    let mut world = World::new(alloc, 2, 70);
+    hands_seventy_on(alloc, &mut world)
 }
 
 #[test]
@@ -130,35 +130,47 @@ fn wanted(id: u32, turns: u32) -> (u32, bool) {
     (owner, owner != GONE && !is_ended(fixer_of(id), turns))
 }
 
-fn world_of_many(alloc: Global) -> Result<Tables, WorldFault> {
-    let mut world = World::new(alloc, MANY, MANY);
+/// Has each process a table with an heir, and each table fixed by a process.
+fn fill(alloc: Global, world: &mut Tables) -> Result<(), WorldFault> {
     for pid in 0..MANY {
         world.enrol(pid)?;
     }
     for id in 0..MANY {
-        make(alloc, &mut world, id, heir_of(id))?;
+        make(alloc, world, id, heir_of(id))?;
     }
     for id in 0..MANY {
-        fix(&mut world, fixer_of(id), id)?;
+        fix(world, fixer_of(id), id)?;
     }
-    Ok(world)
+    Ok(())
 }
 
-/// After how many ends a table is otherwise than wanted, and which.
-fn wrong_of_many(alloc: Global) -> Result<Option<(u32, u32)>, WorldFault> {
-    let mut world = world_of_many(alloc)?;
+/// The first table that is otherwise than wanted after so many ends.
+fn wrong_after(world: &Tables, turns: u32) -> Option<u32> {
+    for id in 0..MANY {
+        if seen(world, id) != wanted(id, turns) {
+            return Some(id);
+        }
+    }
+    None
+}
+
+/// Ends all processes, one after the other. After how many ends a table is otherwise than wanted, and which.
+fn wrong_while_ending(world: &mut Tables) -> Result<Option<(u32, u32)>, WorldFault> {
     for turn in 0..MANY {
         world.end(ending(turn))?;
-        if turn % 16 != 0 && turn + 1 != MANY {
-            continue;
-        }
-        for id in 0..MANY {
-            if seen(&world, id) != wanted(id, turn + 1) {
+        if turn % 16 == 0 || turn + 1 == MANY {
+            if let Some(id) = wrong_after(world, turn + 1) {
                 return Ok(Some((turn, id)));
             }
         }
     }
     Ok(None)
+}
+
+fn wrong_of_many(alloc: Global) -> Result<Option<(u32, u32)>, WorldFault> {
+    let mut world = World::new(alloc, MANY, MANY);
+    fill(alloc, &mut world)?;
+    wrong_while_ending(&mut world)
 }
 
 #[test]

@@ -167,14 +167,22 @@ fn does_again(
 }
 
 /// The place of the first row that is answered otherwise.
-fn wrong_again(alloc: Global) -> Result<Option<usize>, AllocError> {
-    let mut world = World::new(alloc, 3, 4);
-    for (place, (event, wanted)) in LIFE.iter().enumerate() {
-        if !does_again(alloc, &mut world, *event, wanted)? {
+fn wrong_again_in(
+    alloc: Global,
+    world: &mut Tables,
+    rows: &[Row],
+) -> Result<Option<usize>, AllocError> {
+    for (place, (event, wanted)) in rows.iter().enumerate() {
+        if !does_again(alloc, world, *event, *wanted)? {
             return Ok(Some(place));
         }
     }
     Ok(None)
+}
+
+fn wrong_again(alloc: Global) -> Result<Option<usize>, AllocError> {
+    let mut world = World::new(alloc, 3, 4);
+    wrong_again_in(alloc, &mut world, LIFE.as_slice())
 }
 
 #[test]

@@ -71,6 +71,14 @@ fn done<R: Rows>(rows: &mut R, alloc: Global, key: i64, call: Call) -> Result<Ke
     }
 }
 
+/// Does a call on a list of what each key has, and answers what the key had.
+fn listed_done(list: &mut [Kept], key: u32, call: Call) -> Option<Kept> {
+    let own = list.get_mut(key as usize)?;
+    let had = *own;
+    *own = after(call, had);
+    Some(had)
+}
+
 /// Whether a call on one key answers what the list says.
 fn agrees<R: Rows>(
     rows: &mut R,
@@ -80,15 +88,8 @@ fn agrees<R: Rows>(
 ) -> Result<bool, AllocError> {
     let key = draws.below(KEYS);
     let call = drawn(draws);
-    let was = done(rows, alloc, i64::from(key), call)?;
-    match list.get_mut(key as usize) {
-        Some(own) => {
-            let had = *own;
-            *own = after(call, had);
-            Ok(was == had)
-        }
-        None => Ok(false),
-    }
+    let had = done(rows, alloc, i64::from(key), call)?;
+    Ok(listed_done(list, key, call) == Some(had))
 }
 
 /// What a key has when all slots were cleared or purged.

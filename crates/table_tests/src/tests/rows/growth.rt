@@ -23,50 +23,60 @@ fn readies_each<R: Rows>(rows: &mut R, wanted: &[(u32, Readying)]) -> Result<boo
     Ok(all)
 }
 
-fn doubles(alloc: Global) -> Result<bool, AllocError> {
-    let mut rows = SplitRows::new(alloc, AllSame)?;
+fn doubles<R: Rows>(rows: &mut R) -> Result<bool, AllocError> {
     let two = rows.buckets() == 2;
-    let grown = grows(&mut rows, 19, Growth::Grown)? && grows(&mut rows, 2, Growth::AtMost)?;
+    let grown = grows(rows, 19, Growth::Grown)? && grows(rows, 2, Growth::AtMost)?;
     Ok(two && grown && rows.buckets() == 1_048_576)
 }
 
 #[test]
 fn doubles_nineteen_times(rt: HostRuntime) -> Result<(), Fail> {
-    assert!(rt; doubles(rt.alloc())?);
+    assert!(rt; doubles(&mut SplitRows::new(rt.alloc(), AllSame)?)?);
     Ok(())
 }
 
-fn readies_some(alloc: Global) -> Result<bool, AllocError> {
-    let mut rows = SplitRows::new(alloc, AllSame)?;
-    let grown = grows(&mut rows, 19, Growth::Grown)?;
+const AT_MOST_BUCKETS: [(u32, Readying); 5] = [
+    (1_048_576, Readying::NotABucket),
+    (0, Readying::AlreadyReady),
+    (3, Readying::Ready),
+    (3, Readying::AlreadyReady),
+    (1_048_575, Readying::Ready),
+];
+
+/// Whether buckets are readied so after so many doublings, and bucket 1 is the least that is not ready before and after.
+fn readies_some<R: Rows>(
+    rows: &mut R,
+    times: usize,
+    wanted: &[(u32, Readying)],
+) -> Result<bool, AllocError> {
+    let grown = grows(rows, times, Growth::Grown)?;
     let least = rows.least();
-    let wanted = [
-        (1_048_576, Readying::NotABucket),
-        (0, Readying::AlreadyReady),
-        (3, Readying::Ready),
-        (3, Readying::AlreadyReady),
-        (1_048_575, Readying::Ready),
-    ];
-    let told = readies_each(&mut rows, &wanted)?;
+    let told = readies_each(rows, wanted)?;
     Ok(grown && told && least == Some(1) && rows.least() == Some(1))
 }
 
 #[test]
 fn readies_buckets(rt: HostRuntime) -> Result<(), Fail> {
-    assert!(rt; readies_some(rt.alloc())?);
+    assert!(rt;
+        readies_some(
+            &mut SplitRows::new(rt.alloc(), AllSame)?,
+            19,
+            &AT_MOST_BUCKETS
+        )?
+    );
     Ok(())
 }
 
-fn plain_is_one_bucket(alloc: Global) -> Result<bool, AllocError> {
-    let mut rows = PlainRows::new(alloc);
-    let wanted = [(0, Readying::AlreadyReady), (1, Readying::NotABucket)];
-    let told = readies_each(&mut rows, &wanted)?;
-    let grown = grows(&mut rows, 1, Growth::AtMost)?;
+const ONE_BUCKET: [(u32, Readying); 2] = [(0, Readying::AlreadyReady), (1, Readying::NotABucket)];
+
+fn is_one_bucket<R: Rows>(rows: &mut R, wanted: &[(u32, Readying)]) -> Result<bool, AllocError> {
+    let told = readies_each(rows, wanted)?;
+    let grown = grows(rows, 1, Growth::AtMost)?;
     Ok(told && grown && rows.buckets() == 1 && rows.least() == None)
 }
 
 #[test]
 fn plain_rows_have_one_bucket(rt: HostRuntime) -> Result<(), Fail> {
-    assert!(rt; plain_is_one_bucket(rt.alloc())?);
+    assert!(rt; is_one_bucket(&mut PlainRows::new(rt.alloc()), &ONE_BUCKET)?);
     Ok(())
 }

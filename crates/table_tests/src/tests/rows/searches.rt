@@ -79,23 +79,31 @@ fn put_some<R: Rows>(
     Ok(now)
 }
 
-/// Whether all searches are right, at moments of growth up to so many slots.
+/// Whether all searches of rows with this hash are right, at moments of growth up to so many slots.
+fn finds<H: KeyHash + Copy + Drop>(
+    rows: &mut SplitRows<H>,
+    alloc: Global,
+    hash: H,
+    most: u32,
+) -> Result<bool, AllocError> {
+    let mut draws = Draws::new();
+    let mut slots = 0;
+    let mut all = true;
+    for _ in 0..MOMENTS {
+        slots = put_some(rows, alloc, slots, most, &mut draws)?;
+        ready_some(rows, &mut draws)?;
+        let counts = counted(alloc, hash, rows.buckets(), slots)?;
+        all = are_right(rows, hash, counts.as_slice(), slots, &mut draws) && all;
+    }
+    Ok(all)
+}
+
 fn searches<H: KeyHash + Copy + Drop>(
     alloc: Global,
     hash: H,
     most: u32,
 ) -> Result<bool, AllocError> {
-    let mut rows = SplitRows::new(alloc, hash)?;
-    let mut draws = Draws::new();
-    let mut slots = 0;
-    let mut all = true;
-    for _ in 0..MOMENTS {
-        slots = put_some(&mut rows, alloc, slots, most, &mut draws)?;
-        ready_some(&mut rows, &mut draws)?;
-        let counts = counted(alloc, hash, rows.buckets(), slots)?;
-        all = are_right(&rows, hash, counts.as_slice(), slots, &mut draws) && all;
-    }
-    Ok(all)
+    finds(&mut SplitRows::new(alloc, hash)?, alloc, hash, most)
 }
 
 #[test]
@@ -138,33 +146,32 @@ fn put_process<R: Rows>(rows: &mut R, alloc: Global, number: u32) -> Result<(), 
 }
 
 /// Whether searches for the keys 0 to 7 in 8 ready buckets, and for others, are short.
-fn eight_in_eight(alloc: Global) -> Result<bool, AllocError> {
-    let mut rows = SplitRows::new(alloc, Plain)?;
+fn eight_in_eight(rows: &mut SplitRows<Plain>, alloc: Global) -> Result<bool, AllocError> {
     rows.grow()?;
     rows.grow()?;
     for number in 0..8u32 {
         rows.ready(number)?;
-        put_process(&mut rows, alloc, number)?;
+        put_process(rows, alloc, number)?;
     }
     let mut all = true;
     for number in 0..64u32 {
-        all = steps_for(&rows, &Term::Pid(number)) <= 3 && all;
+        all = steps_for(rows, &Term::Pid(number)) <= 3 && all;
     }
     Ok(all)
 }
 
 #[test]
 fn few_steps_in_ready_buckets(rt: HostRuntime) -> Result<(), Fail> {
-    assert!(rt; eight_in_eight(rt.alloc())?);
+    let alloc = rt.alloc();
+    assert!(rt; eight_in_eight(&mut SplitRows::new(alloc, Plain)?, alloc)?);
     Ok(())
 }
 
 /// Whether readying a bucket tells the first slots of its eighths and of its parent's: a search then looks at no node
 /// where the eighth is empty, and at one alone where the key's slot is the first.
-fn eighths_in_eight(alloc: Global) -> Result<bool, AllocError> {
-    let mut rows = SplitRows::new(alloc, Plain)?;
+fn eighths_in_eight(rows: &mut SplitRows<Plain>, alloc: Global) -> Result<bool, AllocError> {
     for number in 0..8u32 {
-        put_process(&mut rows, alloc, number)?;
+        put_process(rows, alloc, number)?;
     }
     rows.grow()?;
     rows.grow()?;
@@ -174,33 +181,34 @@ fn eighths_in_eight(alloc: Global) -> Result<bool, AllocError> {
     let mut all = true;
     for number in 0..64u32 {
         let most = u64::from(number < 8);
-        all = steps_for(&rows, &Term::Pid(number)) == most && all;
+        all = steps_for(rows, &Term::Pid(number)) == most && all;
     }
     Ok(all)
 }
 
 #[test]
 fn readying_tells_the_eighths(rt: HostRuntime) -> Result<(), Fail> {
-    assert!(rt; eighths_in_eight(rt.alloc())?);
+    let alloc = rt.alloc();
+    assert!(rt; eighths_in_eight(&mut SplitRows::new(alloc, Plain)?, alloc)?);
     Ok(())
 }
 
 /// Whether searches among a thousand keys of one hash pass all of them, and no more.
-fn thousand_in_one(alloc: Global) -> Result<bool, AllocError> {
-    let mut rows = SplitRows::new(alloc, AllSame)?;
+fn thousand_in_one(rows: &mut SplitRows<AllSame>, alloc: Global) -> Result<bool, AllocError> {
     for number in 0..1000i64 {
-        insert(&mut rows, alloc, number, 1)?;
+        insert(rows, alloc, number, 1)?;
     }
     let mut all = true;
     for number in 0..1000i64 {
-        all = steps_for(&rows, &Term::Int(number)) <= 1002 && all;
+        all = steps_for(rows, &Term::Int(number)) <= 1002 && all;
     }
-    let missed = steps_for(&rows, &Term::Int(1000));
+    let missed = steps_for(rows, &Term::Int(1000));
     Ok(all && 1000 <= missed && missed <= 1002)
 }
 
 #[test]
 fn a_thousand_keys_of_one_hash(rt: HostRuntime) -> Result<(), Fail> {
-    assert!(rt; thousand_in_one(rt.alloc())?);
+    let alloc = rt.alloc();
+    assert!(rt; thousand_in_one(&mut SplitRows::new(alloc, AllSame)?, alloc)?);
     Ok(())
 }

@@ -1,10 +1,8 @@
 //! The program's command line, its status, and its line of errors.
 use super::devices::{Devices, GOOD, Seen, Source, Target};
-use crate::command_line::settings;
-use crate::fault::ScriptFault;
-use crate::program::answer_input;
-use crate::settings::Settings;
 use clap::error::ErrorKind;
+use ets_script::options::Settings;
+use ets_script::{ScriptFault, answer_input, settings};
 use std::alloc::{AllocError, Global};
 use std::io;
 use std::test::Fail;

@@ -8,10 +8,8 @@ mod program;
 mod rows;
 mod syntax;
 
-use crate::fault::ScriptFault;
-use crate::feed::MAX_READS;
-use crate::run::run_within;
 use devices::{Devices, Seen, Source, Target};
+use ets_script::{ScriptFault, run_within};
 use ets_term::{AllSame, Fnv, KeyHash};
 use node_core::{Limits, Node};
 use std::alloc::Global;
@@ -39,7 +37,7 @@ fn usual() -> Run {
     Run {
         devices: devices::GOOD,
         limits: Limits::usual(),
-        reads: MAX_READS,
+        reads: 1_000_000_000,
     }
 }
 

@@ -1,25 +1,7 @@
-//! The program: a script's output is the text of a run's replies.
+//! The program: it answers the script on its standard input.
 #![tactic(auto)]
 
-mod answer;
-mod classes;
-mod command;
-mod command_line;
-mod fault;
-mod feed;
-mod lines;
-mod output;
-mod program;
-mod run;
-mod script;
-mod settings;
-mod stop;
-mod terms;
-#[cfg(test)]
-mod tests;
-
-use crate::command_line::{refuse, settings};
-use crate::program::answer_input;
+use ets_script::{answer_input, refuse, settings};
 use std::process::ExitCode;
 use std::{env, io};
 

@@ -1,6 +1,6 @@
 //! What is due of tables is done behind calls, two steps at most.
 use super::devices::{GOOD, Seen, Source, Target};
-use crate::run::run_script;
+use ets_script::run_script;
 use ets_term::Fnv;
 use node_core::Limits;
 use std::alloc::Global;

@@ -1,0 +1,110 @@
+"""One check of a crate with other texts in the place of its own, and what the prover said."""
+import os
+import re
+import shutil
+import signal
+import subprocess
+import sys
+import tempfile
+import threading
+import time
+
+from crates import PARTS
+
+# A function's verdict, where it has a goal of its own that is not proved: not only a call of one that is not, its own or
+# that of another one of its cycle.
+OWN = re.compile(r"^fn (\S+): (?:not proved\b|no proof: (?!(?:in `[^`]*`, of this cycle of calls: )?it calls ))")
+GOAL = re.compile(r"^note: (src/\S+?):(\d+):\d+: it is not proved ")
+ERROR = re.compile(r"^(?:\./)?(\S+?):\d+:\d+: error: (?:(`[^`]*`): )?(.*)")
+COMPILER = re.compile(r"^(?:\./)?(src/\S+?):(\d+):\d+: error")
+# A proof that only names what another body took away says nothing of the contract.
+NAMES_ONLY = re.compile(r"has no field|is not in scope|has no `|was not admitted")
+UNREADABLE = re.compile(r"is not in scope|has no field|is no name|operand is missing|expected the end|cannot continue")
+STALE = re.compile(r"module .Rattle-(\w+)-.*Run the lower steps again")
+
+
+class Said:
+    """What a check said: `own` has the functions with goals of their own, each with the places of these goals."""
+
+    def __init__(self, status, text, wall, used):
+        self.status, self.wall, self.used = status, wall, used
+        self.lines = text.rstrip("\n").split("\n")
+        self.is_stale = bool(STALE.search(text))
+        self.is_judged = status == 1 and self.lines[-1].startswith("logic=not-proved")
+        self.is_proved = status == 0 and self.lines[-1].startswith("logic=proved")
+        self.own, self.proof_folders, goals = {}, [], []
+        for line in self.lines:
+            goal, error, own = GOAL.match(line), ERROR.match(line), OWN.match(line)
+            if goal:
+                goals.append((goal[1], int(goal[2])))
+            elif error and error[1].startswith("proofs/") and not NAMES_ONLY.search(line):
+                self.proof_folders.append(os.path.dirname(error[1]))
+            elif line.startswith("fn "):
+                if own:
+                    self.own[own[1]] = goals
+                goals = []
+
+    def unreadable(self, changed):
+        """A line that says that a text could not be read, so that no contract was tried, or ''."""
+        for line in self.lines:
+            error = ERROR.match(line)
+            if error and (error[1] in changed or error[1].startswith(("src/", "specs/"))):
+                if not error[2] or UNREADABLE.search(re.sub(r"`[^`]*`", "", error[3])):
+                    return line
+        return ""
+
+    def refused_by_compiler(self):
+        return [(it[1], int(it[2])) for it in map(COMPILER.match, self.lines) if it]
+
+
+class Prover:
+    """The kit's prover over the libraries that `rt ci` left in a tree."""
+
+    def __init__(self, libraries):
+        rt = shutil.which("rt") or sys.exit("wrong_bodies: the kit's command rt is not on the path")
+        ask = lambda word: subprocess.run([rt, word], stdout=subprocess.PIPE, text=True, check=True).stdout.strip()
+        self.kit, self.line, self.libraries = os.path.dirname(ask("doc")), ask("version"), libraries
+        # The shell ends all checks, which are of its group, when this program ends, however it ends.
+        reads, self.held = os.pipe()
+        how = {"stdin": reads, "stdout": subprocess.DEVNULL, "stderr": subprocess.DEVNULL, "preexec_fn": os.setpgrp}
+        self.guard = subprocess.Popen(["sh", "-c", "read _; kill -9 0"], **how)
+        self.starting = threading.Lock()
+
+    def rlib(self, name):
+        return f"{self.libraries}/crates/{name}/out/rlib"
+
+    def words(self, crate, jobs, kept):
+        own = {it.name for it in crate.below}
+        words = [f"{self.kit}/bin/rattle", "check", "--crate-name", crate.name, crate.root()]
+        for name in ["std", *crate.uses]:
+            at = self.rlib(name) if name in own else f"{self.kit}/rlibs"
+            words += ["--extern", f"{name}={at}/{name}.rlib"]
+        for at in [f"{self.kit}/rlibs", *[self.rlib(it.name) for it in crate.below]]:
+            words += ["-L", f"dependency={at}"]
+        words += ["--antt-project", f"{self.kit}/rattle/logic/antt-project.json", "--logic-built", f"{self.kit}/logic_built"]
+        words += ["--jobs", str(jobs), "--links", f"{crate.name}="]
+        words += ["--crate-type", "staticlib"] if crate.kind == "staticlib" else []
+        return [*words, "--incremental", kept] if kept else words
+
+    def check(self, crate, texts, jobs, kept):
+        """Checks a copy of the crate with these texts, over the work in `kept` where it is given."""
+        with tempfile.TemporaryDirectory(prefix="wrong-body-") as room, tempfile.TemporaryFile() as out:
+            for part in PARTS:
+                if os.path.isdir(f"{crate.folder}/{part}"):
+                    shutil.copytree(f"{crate.folder}/{part}", f"{room}/{part}")
+            for path, text in texts.items():
+                with open(f"{room}/{path}", "w", encoding="utf-8") as it:
+                    it.write(text)
+            began = time.time()
+            with self.starting:
+                how = {"stdin": subprocess.DEVNULL, "stdout": out, "stderr": subprocess.STDOUT}
+                join = lambda: os.setpgid(0, self.guard.pid)
+                ran = subprocess.Popen(self.words(crate, jobs, kept), cwd=room, preexec_fn=join, **how)
+            _, status, used = os.wait4(ran.pid, 0)
+            ran.returncode = os.waitstatus_to_exitcode(status)
+            out.seek(0)
+            text = out.read().decode(errors="replace")
+        if ran.returncode == -signal.SIGKILL and jobs > 1:
+            # most likely for want of memory
+            return self.check(crate, texts, 1, kept)
+        return Said(ran.returncode, text, time.time() - began, used.ru_utime + used.ru_stime)

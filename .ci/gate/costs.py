@@ -1,0 +1,64 @@
+"""What each crate's checks cost, in seconds of processor, beside the budget in docs/gate.md."""
+import os
+import re
+import threading
+import time
+
+from crates import read
+
+TICKS = os.sysconf("SC_CLK_TCK")
+
+
+class Costs:
+    """Looks at the provers that run below a folder, every two seconds, and remembers what each had used when it was last seen."""
+
+    def __init__(self, folder):
+        self.folder, self.seen = os.path.realpath(folder), {}
+        threading.Thread(target=self.watch, daemon=True).start()
+
+    def watch(self):
+        while True:
+            for pid in filter(str.isdigit, os.listdir("/proc")):
+                try:
+                    self.look(pid)
+                except OSError:
+                    pass
+            time.sleep(2)
+
+    def look(self, pid):
+        with open(f"/proc/{pid}/cmdline", "rb") as it:
+            words = it.read().decode(errors="replace").split("\0")
+        if not words[0].endswith("/rattle") or "--crate-name" not in words:
+            return
+        if not os.readlink(f"/proc/{pid}/cwd").startswith(f"{self.folder}/"):
+            return
+        # (behind the name, which may have blanks: state is the first field, and the four times are the 12th to the 15th)
+        fields = read(f"/proc/{pid}/stat").rpartition(")")[2].split()
+        name, kind = words[words.index("--crate-name") + 1], "tests" if "--test" in words else "proofs"
+        self.seen[pid, name, kind] = sum(map(int, fields[11:15])) / TICKS
+
+    def of(self, crate, kind):
+        return sum(used for (_, name, what), used in self.seen.items() if (name, what) == (crate, kind))
+
+
+KINDS = ("proofs", "tests", "edits")
+
+
+def budget(page):
+    """The budget of each crate: the rows | `name` | proofs | tests | edits | of the page's table."""
+    rows = re.findall(r"^\| `(\w+)` \| *(\d*) *\| *(\d*) *\| *(\d*) *\|", read(page), re.M)
+    return {name: dict(zip(KINDS, (int(it or 0) for it in numbers))) for name, *numbers in rows}
+
+
+def table(names, measured, allowed):
+    """A line for each crate, measured / budget, of what costs anything; and the sums."""
+    lines, sums = [f"{'seconds of processor / budget':30}" + "".join(f"{kind:>16}" for kind in KINDS)], dict.fromkeys(KINDS, 0)
+    for name in names:
+        cells = ""
+        for kind in KINDS:
+            used, may = measured(name, kind), allowed.get(name, {}).get(kind, 0)
+            sums[kind] += used
+            cells += f"{f'{used:.0f} / {may}' if used or may else '':>15}{'!' if used > may and used >= 1 else ' '}"
+        lines.append(f"{name:30}{cells}")
+    lines.append(f"{'all':30}" + "".join(f"{sums[kind]:>15.0f} " for kind in KINDS))
+    return "\n".join(it.rstrip() for it in lines)

@@ -1,0 +1,68 @@
+"""The gate, as .ci/run says."""
+import os
+import re
+import resource
+import subprocess
+import sys
+import tempfile
+import time
+
+from costs import Costs, budget, table
+from crates import crates_of
+from parts import BEGAN, PROGRAM, TOP, Part, end_on_signals, say, side_by_side, unproved
+
+
+def copy_without_edits(to):
+    """The tree with a .git of its own and without must-fail folders, since `rt ci` tries wrong bodies one by one."""
+    listed = subprocess.run(["git", "ls-files", "-z", "--cached", "--others", "--exclude-standard"], cwd=TOP, stdout=subprocess.PIPE, check=True)
+    files = [it for it in listed.stdout.split(b"\0") if it and not re.match(rb"crates/\w+/must-fail/", it)]
+    packed = subprocess.Popen(["tar", "cf", "-", "--null", "-T", "-"], cwd=TOP, stdin=subprocess.PIPE, stdout=subprocess.PIPE)
+    unpacked = subprocess.Popen(["tar", "xf", "-", "-C", to], stdin=packed.stdout)
+    packed.stdin.write(b"\0".join(it for it in files if os.path.lexists(os.path.join(os.fsencode(TOP), it))))
+    packed.stdin.close()
+    if packed.wait() or unpacked.wait():
+        sys.exit("gate: the tree could not be copied")
+    subprocess.run(["git", "init", "-q", to], check=True)
+
+
+def counted(pattern, text):
+    """The two numbers of a last line, or none passed and one failed where it has not that form."""
+    found = re.fullmatch(pattern, text.rstrip("\n").rpartition("\n")[2])
+    return (int(found[1]), int(found[2])) if found else (0, 1)
+
+
+def proved(words, logs):
+    """Proves everything, and tries wrong bodies beside that. Returns how many passed and failed."""
+    copy = f"{logs}/tree"
+    os.mkdir(copy)
+    copy_without_edits(copy)
+    costs = Costs(copy)
+    proofs = Part("every proof, test and program (rt ci)", ["rt", "ci"], copy, show=r"^rt: ")
+    tried = ["nice", "-n", "10", f"{TOP}/.ci/wrong_bodies", "--libraries", copy, "--after", proofs.file(logs), *words]
+    edits = Part("every wrong body", tried, show=r"^wrong bodies: ")
+    door = Part("the front door", [f"{TOP}/.ci/door", f"{copy}/{PROGRAM}/out/ets_script_cli"], after=[proofs])
+    side_by_side([proofs, edits, door], logs)
+    counts = [counted(r"(\d+) passed, (\d+) failed", proofs.text), counted(r"(\d+) refused, (\d+) not", edits.text)]
+    counts += [(1, 0) if door.is_well else (0, 1)]
+    of_edits = dict(re.findall(r"^edits of (\w+): (\d+) s", edits.text, re.M))
+    print(table(crates_of(TOP), lambda name, kind: float(of_edits.get(name, 0)) if kind == "edits" else costs.of(name, kind), budget(f"{TOP}/docs/gate.md")))
+    return [sum(it) for it in zip(*counts)]
+
+
+def main(words):
+    end_on_signals()
+    with tempfile.TemporaryDirectory(prefix="gate-") as logs:
+        first = [*unproved(), Part("the program of wrong bodies", [f"{TOP}/.ci/wrong_bodies", "--self"])]
+        failed = len(side_by_side(first, logs))
+        passed = len(first) - failed
+        if not failed:
+            more, failed = proved(words, logs)
+            passed += more
+    used = resource.getrusage(resource.RUSAGE_CHILDREN)
+    say(f"in all: {(time.time() - BEGAN) / 60:.0f} minutes, {(used.ru_utime + used.ru_stime) / 60:.0f} of processor")
+    print(f"{passed} passed, {failed} failed", flush=True)
+    return 1 if failed else 0
+
+
+if __name__ == "__main__":
+    sys.exit(main(sys.argv[1:]))

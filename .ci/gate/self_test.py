@@ -1,0 +1,79 @@
+"""The test of .ci/wrong_bodies: among the wrong bodies of split_key, edits that it must not pass over."""
+import os
+import re
+import shutil
+import subprocess
+import sys
+import tempfile
+
+from checks import OWN
+
+# Each planted edit: its file, the text before and after, and the verdict that it must get.
+PLANTED = {
+    "a_comment": ("src/keys.rt", "in reverse order.", "in the reverse order.", "NOT REFUSED"),
+    "a_mask_by_name": ("src/buckets.rt", "hash & (size - 1)", "{ let mask = size - 1; hash & mask }", "NOT REFUSED"),
+    # (its callee is broken in the same round, so it has no goal of its own there)
+    "a_sum_turned_round": ("src/keys.rt", "2 * u64::from(rev32(hash)) + 1", "1 + 2 * u64::from(rev32(hash))", "NOT REFUSED"),
+    "a_text_that_is_gone": ("src/keys.rt", "number.swap_bits()", "number", "BAD EDIT"),
+    "a_word_that_is_none": ("src/buckets.rt", "bucket - (1 << top)", "bucket - (1 << tip)", "BAD EDIT"),
+}
+
+
+# Lines of the prover, and whether each says that the function has a goal of its own.
+VERDICTS = {
+    "fn keys::rev32: not proved": True,
+    "fn keys::rev32: no proof: 1 goal is open": True,
+    "fn keys::rev32: no proof: in `keys::item`, of this cycle of calls: 1 goal is open": True,
+    "fn keys::rev32: no proof: it calls `keys::item`, which is not proved": False,
+    "fn keys::rev32: no proof: in `keys::item`, of this cycle of calls: it calls `keys::key`, which is not proved": False,
+    "fn keys::rev32: proved": False,
+}
+
+
+class Room:
+    """A tree of its own with the crate split_key and this program."""
+
+    def __init__(self, top, folder):
+        self.folder, self.edits = folder, f"{folder}/crates/split_key/must-fail"
+        shutil.copytree(f"{top}/.ci", f"{folder}/.ci", ignore=shutil.ignore_patterns("tried"))
+        shutil.copytree(f"{top}/crates/split_key", f"{folder}/crates/split_key", ignore=shutil.ignore_patterns("out"))
+        with open(f"{folder}/crates.txt", "w", encoding="utf-8") as it:
+            it.write("split_key:\n")
+
+    def plant(self):
+        for name, (file, old, new, _) in PLANTED.items():
+            with open(f"{self.edits}/{name}.edit", "w", encoding="utf-8") as it:
+                it.write(f"file: {file}\nold: {old}\nnew: {new}\n")
+
+    def tried(self, *words):
+        """Returns the status of a run and what it printed."""
+        ran = subprocess.run([f"{self.folder}/.ci/wrong_bodies", *words], stdout=subprocess.PIPE, text=True)
+        return ran.returncode, ran.stdout
+
+
+def self_test(top):
+    faults = []
+
+    def expect(is_so, what, text):
+        if not is_so:
+            faults.append(what)
+            print(f"{what}: not so:\n{text}", file=sys.stderr)
+
+    for line, is_own in VERDICTS.items():
+        expect(bool(OWN.match(line)) == is_own, "a line of the prover", line)
+    with tempfile.TemporaryDirectory(prefix="wrong-bodies-self-") as folder:
+        room = Room(top, folder)
+        true = len(os.listdir(room.edits))
+        status, text = room.tried("--write")
+        expect(status == 0 and text.endswith(f"\n{true} refused, 0 not\n"), "the crate's own edits are refused", text)
+        expect(os.path.getsize(f"{folder}/.ci/tried") > 100, "the record has a line", text)
+        room.plant()
+        status, text = room.tried("--write")
+        expect(status == 1 and text.endswith(f"\n{true} refused, {len(PLANTED)} not\n"), "among others, all planted edits are reported", text)
+        for name, (_, _, _, word) in PLANTED.items():
+            expect(re.search(rf"^wrong bodies: must-fail split_key/{name}.edit: {word}: ", text, re.M), f"{name} is {word}", text)
+        expect("split_key " not in open(f"{folder}/.ci/tried", encoding="utf-8").read().split("\n", 1)[1], "the record has no line any more", text)
+        status, text = room.tried("split_key/a_mask_by_name")
+        expect(status == 1 and text.endswith("\n0 refused, 1 not\n"), "a weak edit by itself is reported", text)
+    print(f"wrong_bodies --self: {len(faults)} faults")
+    return 1 if faults else 0

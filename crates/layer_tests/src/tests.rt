@@ -1,0 +1,7 @@
+mod fixes;
+mod hashes;
+mod keys;
+mod lists;
+mod terms;
+mod text;
+mod updates;

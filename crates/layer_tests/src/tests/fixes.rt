@@ -1,0 +1,65 @@
+// Values from outside: each test is a table of rows, each a call and what it is to answer, over both kept forms of rows.
+use bucket_table::{PlainRows, Rows, SplitRows};
+use ets_term::{AllSame, Fnv, Integer, Items, Term};
+use fixed_walk::{Badarg, Walked};
+use std::alloc::Global;
+use std::process::Abort;
+use std::test::Fail;
+use table_ops::{Kind, Table};
+
+mod calls;
+mod held;
+mod walks;
+
+fn plain(alloc: Global, kind: Kind) -> Walked<PlainRows> {
+    let table = Table::new(alloc, PlainRows::new(alloc), kind, 1, 1_000_000);
+    Walked::new(alloc, table)
+}
+
+/// With one hash for all keys. The slots come in the order of insertion until one goes, whose place is taken again.
+fn one_bucket(alloc: Global, kind: Kind) -> Result<Walked<SplitRows<AllSame>>, Fail> {
+    let table = Table::new(alloc, SplitRows::new(alloc, AllSame)?, kind, 1, 1_000_000);
+    Ok(Walked::new(alloc, table))
+}
+
+fn split(alloc: Global, kind: Kind) -> Result<Walked<SplitRows<Fnv>>, Fail> {
+    let table = Table::new(alloc, SplitRows::new(alloc, Fnv)?, kind, 1, 1_000_000);
+    Ok(Walked::new(alloc, table))
+}
+
+/// `{key,value}`.
+fn object(alloc: Global, key: Integer, value: Integer) -> Result<Term, Fail> {
+    let mut items = Items::new(alloc);
+    items.push(Term::Int(key))?;
+    items.push(Term::Int(value))?;
+    Ok(Term::Tuple(items))
+}
+
+fn insert<R: Rows>(
+    alloc: Global,
+    table: &mut Walked<R>,
+    key: Integer,
+    value: Integer,
+) -> Result<bool, Fail> {
+    let object = object(alloc, key, value)?;
+    Ok(table.insert(&[object]).is_ok())
+}
+
+/// Whether a walk came to this key, or to the end.
+fn is(found: Option<&Term>, wanted: Option<Integer>) -> bool {
+    match (found, wanted) {
+        (Some(Term::Int(key)), Some(number)) => *key == number,
+        (None, None) => true,
+        _ => false,
+    }
+}
+
+/// Doubles the buckets, or makes the next one ready.
+fn grow<R: Rows>(table: &mut Walked<R>) -> Result<(), Fail> {
+    if let Some(bucket) = table.least() {
+        let _ = table.ready(bucket)?;
+    } else if table.buckets() < 4096 {
+        let _ = table.grow()?;
+    }
+    Ok(())
+}

@@ -1,0 +1,162 @@
+use super::*;
+
+/// A call and what it is to answer.
+#[derive(Clone, Copy)]
+enum Row {
+    /// Inserts `{key,value}`.
+    Insert(Integer, Integer),
+    Delete(Integer),
+    Fix(u32),
+    Release(u32),
+    ReleaseAll(u32),
+    /// `first` answers this key, or the end.
+    First(Option<Integer>),
+    /// `next` of a key answers this key, or the end.
+    Next(Integer, Option<Integer>),
+    /// `next` of a key is badarg.
+    NoNext(Integer),
+    /// Whether the table is fixed, and how many slots and objects it has.
+    Has(bool, usize, usize),
+}
+
+fn next<R: Rows>(table: &Walked<R>, key: Integer, wanted: Option<Integer>) -> bool {
+    match table.next(&Term::Int(key)) {
+        Ok(found) => is(found, wanted),
+        Err(Badarg) => false,
+    }
+}
+
+fn changes<R: Rows>(table: &mut Walked<R>, row: Row) -> bool {
+    match row {
+        Row::Delete(key) => table.delete_key(&Term::Int(key)),
+        Row::Release(pid) => table.release(pid),
+        Row::ReleaseAll(pid) => table.release_all(pid),
+        _ => {}
+    }
+    true
+}
+
+fn answers<R: Rows>(table: &Walked<R>, row: Row) -> bool {
+    match row {
+        Row::First(wanted) => is(table.first(), wanted),
+        Row::Next(key, wanted) => next(table, key, wanted),
+        Row::NoNext(key) => table.next(&Term::Int(key)).is_err(),
+        Row::Has(fixed, slots, objects) => {
+            table.is_fixed() == fixed && table.slots() == slots && table.size() == objects
+        }
+        _ => true,
+    }
+}
+
+fn does<R: Rows>(alloc: Global, table: &mut Walked<R>, row: Row) -> Result<bool, Fail> {
+    match row {
+        Row::Insert(key, value) => insert(alloc, table, key, value),
+        Row::Fix(pid) => Ok(table.fix(pid).is_ok()),
+        _ => Ok(changes(table, row) && answers(table, row)),
+    }
+}
+
+fn all_do<R: Rows>(alloc: Global, table: &mut Walked<R>, rows: &[Row]) -> Result<bool, Fail> {
+    for row in rows {
+        if !does(alloc, table, *row)? {
+            return Ok(false);
+        }
+    }
+    Ok(true)
+}
+
+fn both_do(alloc: Global, rows: &[Row]) -> Result<bool, Fail> {
+    Ok(
+        all_do(alloc, &mut plain(alloc, Kind::Set), rows)?
+            && all_do(alloc, &mut one_bucket(alloc, Kind::Set)?, rows)?,
+    )
+}
+
+#[test]
+fn deleted_key_keeps_its_place(rt: HostRuntime) -> Result<(), Fail> {
+    let rows = [
+        Row::Insert(1, 1),
+        Row::Insert(2, 1),
+        Row::Fix(7),
+        Row::Delete(1),
+        Row::Has(true, 2, 1),
+        Row::First(Some(2)),
+        Row::Next(1, Some(2)),
+        Row::Insert(1, 2),
+        Row::First(Some(1)),
+        Row::Next(1, Some(2)),
+        Row::Next(2, None),
+    ];
+    assert!(rt; both_do(rt.alloc(), &rows)?);
+    Ok(())
+}
+
+#[test]
+fn last_release_drops_held_slots(rt: HostRuntime) -> Result<(), Fail> {
+    let rows = [
+        Row::Insert(1, 1),
+        Row::Insert(2, 1),
+        Row::Insert(3, 1),
+        Row::Fix(7),
+        Row::Fix(8),
+        Row::Fix(7),
+        Row::Delete(2),
+        Row::Release(8),
+        Row::Has(true, 3, 2),
+        Row::Release(7),
+        Row::Has(true, 3, 2),
+        Row::Next(2, Some(3)),
+        Row::Release(8),
+        Row::Has(true, 3, 2),
+        Row::Release(7),
+        Row::Has(false, 2, 2),
+        Row::NoNext(2),
+        Row::Next(1, Some(3)),
+    ];
+    assert!(rt; both_do(rt.alloc(), &rows)?);
+    Ok(())
+}
+
+#[test]
+fn all_fixes_of_a_process_go(rt: HostRuntime) -> Result<(), Fail> {
+    let rows = [
+        Row::Insert(1, 1),
+        Row::Fix(7),
+        Row::Fix(7),
+        Row::Fix(8),
+        Row::Delete(1),
+        Row::ReleaseAll(7),
+        Row::Has(true, 1, 0),
+        Row::ReleaseAll(7),
+        Row::ReleaseAll(9),
+        Row::Has(true, 1, 0),
+        Row::ReleaseAll(8),
+        Row::Has(false, 0, 0),
+    ];
+    assert!(rt; both_do(rt.alloc(), &rows)?);
+    Ok(())
+}
+
+#[test]
+fn a_table_that_nobody_fixes(rt: HostRuntime) -> Result<(), Fail> {
+    let rows = [
+        Row::First(None),
+        Row::NoNext(1),
+        Row::Release(7),
+        Row::ReleaseAll(7),
+        Row::Has(false, 0, 0),
+        Row::Insert(1, 1),
+        Row::Insert(2, 1),
+        Row::Release(7),
+        Row::Has(false, 2, 2),
+        Row::Delete(2),
+        Row::Has(false, 1, 1),
+        Row::NoNext(2),
+        Row::Insert(2, 2),
+        Row::First(Some(1)),
+        Row::Next(1, Some(2)),
+        Row::Next(2, None),
+    ];
+    assert!(rt; both_do(rt.alloc(), &rows)?);
+    Ok(())
+}
