@@ -28,8 +28,8 @@ less-part a b m wide some h e =
 
 module _ (wide key at : ℕ) (cs : List Cell) (o : Sorted cs) (a : AreApart cs) where
   -- the first item of a lower interval
-  pub first-lesser : (firsts : List (Option (Option ℕ))) → 0 < wide → AreHints wide firsts cs → IsFirstBelow (key / wide) at firsts → StandsBelow key at cs
-  first-lesser firsts some h f =
+  pub first-lesser : (floor : ℕ) (firsts : List (Option (Option ℕ))) → 0 < wide → AreHints wide firsts cs → IsFirstBelow floor (key / wide) at firsts → StandsBelow key at cs
+  first-lesser floor firsts some h f =
       let n = first-node wide f.lower at cs a (h f.lower (Some at) f.known) in
       let i = inside wide f.lower n.cell n.inside in
       let P : ℕ → Type 0 = λ z. z < key / wide in

@@ -185,11 +185,64 @@ border j shift b e within =
     let q : 2 * 2 ^ (32 - j) ≡ 8 * 2 ^ shift = omega (arith, p) in
     ap (λ (z : ℕ). 2 * z) r ∙ aligned (rev j b) (2 ^ (32 - j)) (2 ^ shift) q
 
-passed-one : (key : ℕ) (term : Term) (c : Cell) (cs : List Cell) (b : Bool) → (nat_lt key c.key || is_it key term c) ≡ b → 1 ≤ length (passed key term (c ∷ cs))
+wider : (r x y : ℕ) → y ≡ x * 2 → (r * 8) * x ≡ (r * 4) * y
+wider r x y e = let m : r * y ≡ r * (x * 2) = ap (λ (z : ℕ). r * z) e in omega (arith, m)
+
+double : (s : ℕ) → 2 ^ (s + 1) ≡ 2 ^ s * 2
+double s = let p : 2 ^ (s + 1) ≡ 2 ^ s * 2 ^ 1 = pow-add 2 s 1 in omega (arith, p)
+
+-- a bucket's dummy stands at the border of an interval, and of one twice as wide
+module _ (number : Term → ℕ) (dummies : List (Option ℕ)) (cs : List Cell) (term : Term) (shift : ℕ) (firsts : List (Option (Option ℕ))) (h : IsHinted dummies shift firsts cs) where
+  pub own-edge : (m : ℕ) × (key_of_dummy (number term % length dummies) ≡ m * 2 ^ shift)
+  own-edge =
+      let narrow : shift + h.doublings ≡ 30 = h.narrow in
+      let same-mod : number term % length dummies ≡ number term % 2 ^ h.doublings = ap (λ (n : ℕ). number term % n) h.size in
+      let W : ℕ → Type 0 = λ z. z < 2 ^ h.doublings in
+      let within : number term % length dummies < 2 ^ h.doublings = subst W (sym same-mod) (mod_below (number term) (2 ^ h.doublings) (pow_pos h.doublings)) in
+      (rev h.doublings (number term % length dummies) * 8, border h.doublings shift (number term % length dummies) narrow within)
+
+  pub old-edge : (m : ℕ) × (key_of_dummy (number term % length dummies) ≡ m * 2 ^ (shift + 1))
+  old-edge =
+      let narrow : shift + h.doublings ≡ 30 = h.narrow in
+      let same-mod : number term % length dummies ≡ number term % 2 ^ h.doublings = ap (λ (n : ℕ). number term % n) h.size in
+      let W : ℕ → Type 0 = λ z. z < 2 ^ h.doublings in
+      let within : number term % length dummies < 2 ^ h.doublings = subst W (sym same-mod) (mod_below (number term) (2 ^ h.doublings) (pow_pos h.doublings)) in
+      (rev h.doublings (number term % length dummies) * 4, border h.doublings shift (number term % length dummies) narrow within ∙ wider (rev h.doublings (number term % length dummies)) (2 ^ shift) (2 ^ (shift + 1)) (double shift))
+
+pub passed-one : (key : ℕ) (term : Term) (c : Cell) (cs : List Cell) (b : Bool) → (nat_lt key c.key || is_it key term c) ≡ b → 1 ≤ length (passed key term (c ∷ cs))
 passed-one key term c cs true e = let P : Bool → Type 0 = λ b. 1 ≤ length (cond b (c ∷ []) (c ∷ passed key term cs)) in subst P (sym e) (omega arith)
 passed-one key term c cs false e = let P : Bool → Type 0 = λ b. 1 ≤ length (cond b (c ∷ []) (c ∷ passed key term cs)) in subst P (sym e) (omega arith)
 
-module _ (number : Term → ℕ) (dummies : List (Option ℕ)) (cs : List Cell) (term : Term) (shift first : ℕ) (firsts : List (Option (Option ℕ))) (i : IsSplit number dummies cs) (h : IsHinted dummies shift firsts cs) (o : Sorted cs) (a : AreApart cs)
+-- a search from a node behind a bucket's dummy passes no more items than the bucket has, and one node more
+pub few-above : (number : Term → ℕ) (dummies : List (Option ℕ)) (cs : List Cell) (term : Term) (start : ℕ) (cell : Cell) (later : List Cell) → IsSplit number dummies cs → Sorted cs → from start cs ≡ cell ∷ later → key_of_dummy (number term % length dummies) + 1 ≤ cell.key → length (passed (key_of_item (number term)) term (from start cs)) ≤ bucket_keys number (length dummies) (number term % length dummies) (slots_of cs) + 1
+few-above number dummies cs term start cell later i o is above =
+    let few : i.doublings ≤ 20 = i.few in
+    let full : i.doublings + (32 - i.doublings) ≡ 32 = omega arith in
+    let same-mod : number term % length dummies ≡ number term % 2 ^ i.doublings = ap (λ (n : ℕ). number term % n) i.size in
+    let m : IsItemOf (number term) (number term % length dummies) (2 ^ i.doublings) = item-of i.doublings (32 - i.doublings) (number term) (number term % length dummies) full same-mod in
+    let W : ℕ → Type 0 = λ z. z < 2 ^ i.doublings in
+    let within : number term % length dummies < 2 ^ i.doublings = subst W (sym same-mod) (mod_below (number term) (2 ^ i.doublings) (pow_pos i.doublings)) in
+    let at-least : key_of_dummy (number term % length dummies) ≤ cell.key = omega (arith, above) in
+    let pl = placed-from number dummies start cs i.placed in
+    let so = sorted-from start cs o in
+    let T : List Cell → Type 0 = λ zs. StartsFrom (key_of_dummy (number term % length dummies) + 1) zs in
+    let U : List Cell → Type 0 = λ zs. StartsFrom (key_of_dummy (number term % length dummies)) zs in
+    let starts : StartsFrom (key_of_dummy (number term % length dummies) + 1) (from start cs) = subst T (sym is) above in
+    let starts' : StartsFrom (key_of_dummy (number term % length dummies)) (from start cs) = subst U (sym is) at-least in
+    let alone : (c : ℕ) → c < length dummies → key_of_dummy (number term % length dummies) ≤ key_of_dummy c → key_of_dummy c < key_of_dummy (number term % length dummies) + width (2 ^ i.doublings) → c ≡ number term % length dummies =
+    λ c below l u. (let Q : ℕ → Type 0 = λ z. c < z in dummy-alone i.doublings (32 - i.doublings) (number term % length dummies) c full within (subst Q i.size below) l u) in
+    let items : ItemsBelow (key_of_dummy (number term % length dummies) + width (2 ^ i.doublings)) (from start cs) =
+    items-above number dummies (number term % length dummies) (key_of_dummy (number term % length dummies) + width (2 ^ i.doublings)) alone (from start cs) starts so pl in
+    let most : length (passed (key_of_item (number term)) term (from start cs)) ≤ count_by (is_item_below (key_of_dummy (number term % length dummies) + width (2 ^ i.doublings))) (from start cs) + 1 =
+    length-passed (key_of_item (number term)) term (key_of_dummy (number term % length dummies) + width (2 ^ i.doublings)) (from start cs) so m.high items in
+    let only : (g : ℕ) → key_of_dummy (number term % length dummies) ≤ key_of_item g → key_of_item g < key_of_dummy (number term % length dummies) + width (2 ^ i.doublings) → g % length dummies ≡ number term % length dummies =
+    λ g l u. ap (λ (z : ℕ). g % z) i.size ∙ bucket-of-key i.doublings (32 - i.doublings) g (number term % length dummies) full within l u in
+    let mine : count_by (is_item_below (key_of_dummy (number term % length dummies) + width (2 ^ i.doublings))) (from start cs) ≤ bucket_keys number (length dummies) (number term % length dummies) (slots_of (from start cs)) =
+    below-bucket number dummies (length dummies) (number term % length dummies) (key_of_dummy (number term % length dummies)) (key_of_dummy (number term % length dummies) + width (2 ^ i.doublings)) only (from start cs) starts' so pl in
+    let part = count-from (λ t. nat_eq (number t.0 % length dummies) (number term % length dummies)) start cs in
+    omega (arith, most, mine, part)
+
+module _ (number : Term → ℕ) (dummies : List (Option ℕ)) (cs : List Cell) (term : Term) (shift first m : ℕ) (i : IsSplit number dummies cs) (edge : key_of_dummy (number term % length dummies) ≡ m * 2 ^ shift) (o : Sorted cs) (a : AreApart cs)
     (is : first_in (2 ^ shift) (key_of_item (number term) / 2 ^ shift) cs ≡ Some first) where
   pub node : First (2 ^ shift) (key_of_item (number term) / 2 ^ shift) first cs
   node = first-node (2 ^ shift) (key_of_item (number term) / 2 ^ shift) first cs a is
@@ -206,46 +259,23 @@ module _ (number : Term → ℕ) (dummies : List (Option ℕ)) (cs : List Cell) 
 
   few-first : length (passed (key_of_item (number term)) term (from first cs)) ≤ bucket_keys number (length dummies) (number term % length dummies) (slots_of cs) + 1
   few-first =
-      let j = h.doublings in
-      let b = number term % length dummies in
-      let narrow : shift + h.doublings ≡ 30 = h.narrow in
-      let full : h.doublings + (32 - h.doublings) ≡ 32 = omega arith in
-      let same-mod : number term % length dummies ≡ number term % 2 ^ h.doublings = ap (λ (n : ℕ). number term % n) h.size in
-      let m : IsItemOf (number term) (number term % length dummies) (2 ^ h.doublings) = item-of h.doublings (32 - h.doublings) (number term) (number term % length dummies) full same-mod in
-      let W : ℕ → Type 0 = λ z. z < 2 ^ h.doublings in
-      let within : number term % length dummies < 2 ^ h.doublings = subst W (sym same-mod) (mod_below (number term) (2 ^ h.doublings) (pow_pos h.doublings)) in
-      let edge : key_of_dummy (number term % length dummies) ≡ (rev h.doublings (number term % length dummies) * 8) * 2 ^ shift = border h.doublings shift (number term % length dummies) narrow within in
+      let few : i.doublings ≤ 20 = i.few in
+      let full : i.doublings + (32 - i.doublings) ≡ 32 = omega arith in
+      let same-mod : number term % length dummies ≡ number term % 2 ^ i.doublings = ap (λ (n : ℕ). number term % n) i.size in
+      let it : IsItemOf (number term) (number term % length dummies) (2 ^ i.doublings) = item-of i.doublings (32 - i.doublings) (number term) (number term % length dummies) full same-mod in
       let n = node in
       let ins = inside (2 ^ shift) (key_of_item (number term) / 2 ^ shift) n.cell n.inside in
-      let low : key_of_dummy (number term % length dummies) < key_of_item (number term) = m.low in
+      let low : key_of_dummy (number term % length dummies) < key_of_item (number term) = it.low in
       let L : ℕ → Type 0 = λ z. z ≤ key_of_item (number term) in
       let M : ℕ → Type 0 = λ z. z ≤ n.cell.key in
       let low' : key_of_dummy (number term % length dummies) ≤ key_of_item (number term) = omega arith in
       let at-least : key_of_dummy (number term % length dummies) ≤ n.cell.key =
-      subst M (sym edge) (same-side (rev h.doublings (number term % length dummies) * 8) (2 ^ shift) (key_of_item (number term)) n.cell.key (pow_pos shift) (subst L edge low') (sym ins.key)) in
+      subst M (sym edge) (same-side m (2 ^ shift) (key_of_item (number term)) n.cell.key (pow_pos shift) (subst L edge low') (sym ins.key)) in
       let R : List Cell → Type 0 = λ zs. ArePlaced number dummies zs in
-      let S : List Cell → Type 0 = λ zs. Sorted zs in
       let pl = placed-from number dummies first cs i.placed in
-      let so = sorted-from first cs o in
       let pl' : ArePlaced number dummies (n.cell ∷ n.later) = subst R n.is pl in
       let k : n.cell.key ≡ key_of_item (number ins.item.term) = placed-key number dummies n.cell.at n.cell.key n.cell.item ins.item ins.has pl'.0 in
-      let above : key_of_dummy (number term % length dummies) + 1 ≤ n.cell.key = omega (arith, at-least, k) in
-      let T : List Cell → Type 0 = λ zs. StartsFrom (key_of_dummy (number term % length dummies) + 1) zs in
-      let U : List Cell → Type 0 = λ zs. StartsFrom (key_of_dummy (number term % length dummies)) zs in
-      let starts : StartsFrom (key_of_dummy (number term % length dummies) + 1) (from first cs) = subst T (sym n.is) above in
-      let starts' : StartsFrom (key_of_dummy (number term % length dummies)) (from first cs) = subst U (sym n.is) at-least in
-      let alone : (c : ℕ) → c < length dummies → key_of_dummy (number term % length dummies) ≤ key_of_dummy c → key_of_dummy c < key_of_dummy (number term % length dummies) + width (2 ^ h.doublings) → c ≡ number term % length dummies =
-      λ c below l u. (let Q : ℕ → Type 0 = λ z. c < z in dummy-alone h.doublings (32 - h.doublings) (number term % length dummies) c full within (subst Q h.size below) l u) in
-      let items : ItemsBelow (key_of_dummy (number term % length dummies) + width (2 ^ h.doublings)) (from first cs) =
-      items-above number dummies (number term % length dummies) (key_of_dummy (number term % length dummies) + width (2 ^ h.doublings)) alone (from first cs) starts so pl in
-      let most : length (passed (key_of_item (number term)) term (from first cs)) ≤ count_by (is_item_below (key_of_dummy (number term % length dummies) + width (2 ^ h.doublings))) (from first cs) + 1 =
-      length-passed (key_of_item (number term)) term (key_of_dummy (number term % length dummies) + width (2 ^ h.doublings)) (from first cs) so m.high items in
-      let only : (g : ℕ) → key_of_dummy (number term % length dummies) ≤ key_of_item g → key_of_item g < key_of_dummy (number term % length dummies) + width (2 ^ h.doublings) → g % length dummies ≡ number term % length dummies =
-      λ g l u. ap (λ (z : ℕ). g % z) h.size ∙ bucket-of-key h.doublings (32 - h.doublings) g (number term % length dummies) full within l u in
-      let mine : count_by (is_item_below (key_of_dummy (number term % length dummies) + width (2 ^ h.doublings))) (from first cs) ≤ bucket_keys number (length dummies) (number term % length dummies) (slots_of (from first cs)) =
-      below-bucket number dummies (length dummies) (number term % length dummies) (key_of_dummy (number term % length dummies)) (key_of_dummy (number term % length dummies) + width (2 ^ h.doublings)) only (from first cs) starts' so pl in
-      let part = count-from (λ t. nat_eq (number t.0 % length dummies) (number term % length dummies)) first cs in
-      omega (arith, most, mine, part)
+      few-above number dummies cs term first n.cell n.later i o n.is (omega (arith, at-least, k))
 
   pub first-looked : (old new : ℕ) → new ≡ ticks (length (passed (key_of_item (number term)) term (from first cs))) old → HasLooked number (slots_of cs) (map is_some dummies) term old new
   first-looked old new t =

@@ -14,12 +14,12 @@ use Rattle.bucket_table.proofs.ContentLaws.{fresh-apart}
 use Rattle.bucket_table.proofs.FirstLaws.{first-here, first-on, first-node, first-put-other, first-without-other, first-without-behind, first-with}
 use Rattle.bucket_table.proofs.HintLaws.{is_in-yes}
 
-out-in : (a f : ℕ) (o : Option Item) → a ≢ f → (nat_eq a f && is_some o) ≡ false
+pub out-in : (a f : ℕ) (o : Option Item) → a ≢ f → (nat_eq a f && is_some o) ≡ false
 out-in a f None h = grind (arith, nat_tests)
 out-in a f (Some item) h = grind (arith, nat_tests)
 
 -- ---- an insertion
-others-put : (wide at key f : ℕ) (item : Item) (old : List Cell) → f ≢ key / wide → first_in wide f (put_cell (new_cell at key (Some item)) old) ≡ first_in wide f old
+pub others-put : (wide at key f : ℕ) (item : Item) (old : List Cell) → f ≢ key / wide → first_in wide f (put_cell (new_cell at key (Some item)) old) ≡ first_in wide f old
 others-put wide at key f item old n = first-put-other wide f (new_cell at key (Some item)) old (out-in (key / wide) f (Some item) (λ e. n (sym e)))
 
 true-false : (b : Bool) → b ≡ true → b ≡ false → ⊥

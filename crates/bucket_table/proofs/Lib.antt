@@ -25,6 +25,9 @@ pub mod NoteLaws
 pub mod OneLaws
 pub mod RunLaws
 pub mod BelowLaws
+pub mod NearLaws
+pub mod LearnLaws
+pub mod HalveLaws
 pub mod OrderLaws
 pub mod PlaceLaws
 pub mod OrderedLaws

@@ -30,6 +30,13 @@ rows-like number dummies shift firsts fs cells zs r e f =
     let Q : List Cell → Type 0 = λ cs. IsRows number dummies shift firsts cs in
     subst P (sym e) (subst Q (sym f) r)
 
+-- rows with other hints that are right
+pub rows-hinted : (number : Term → ℕ) (dummies : List (Option ℕ)) (shift : ℕ) (firsts after : List (Option (Option ℕ))) (cells : List Cell) → IsRows number dummies shift firsts cells → AreHints (2 ^ shift) after cells → IsRows number dummies shift after cells
+rows-hinted number dummies shift firsts after cells r h = record {
+  split = r.split;
+  hinted = record { doublings = r.hinted.doublings; size = r.hinted.size; narrow = r.hinted.narrow; hints = h };
+}
+
 -- rows as one reads them who knows no hash
 pub rows-seen : (number : Term → ℕ) (dummies ds : List (Option ℕ)) (shift : ℕ) (firsts fs : List (Option (Option ℕ))) (cells : List Cell) → IsRows number dummies shift firsts cells → ds ≡ dummies → fs ≡ firsts → AreRows ds shift fs cells
 rows-seen number dummies ds shift firsts fs cells r d f =
@@ -162,8 +169,8 @@ module _ (number : Term → ℕ) (dummies : List (Option ℕ)) (shift : ℕ) (fi
     hinted = record { doublings = r.hinted.doublings; size = r.hinted.size; narrow = r.hinted.narrow; hints = hints-none (2 ^ shift) n after cells e };
   }
 
-  pub rows-grown : length dummies < 2 ^ 20 → (after : List (Option ℕ)) (hints : List (Option (Option ℕ))) (n : ℕ) → after ≡ dummies ++ replicate (length dummies) None → hints ≡ replicate n None → IsRows number after (shift - 1) hints cells
-  rows-grown h after hints n e f =
+  pub rows-grown : length dummies < 2 ^ 20 → (after : List (Option ℕ)) (hints : List (Option (Option ℕ))) → after ≡ dummies ++ replicate (length dummies) None → AreHints (2 ^ (shift - 1)) hints cells → IsRows number after (shift - 1) hints cells
+  rows-grown h after hints e f =
       let l : length after ≡ 2 * length dummies = ap length e ∙ grown-length number dummies cells r.split in
       let R : ℕ → Type 0 = λ z. z < 2 ^ 20 in
       let fewer : r.hinted.doublings < 20 = exponent-lt r.hinted.doublings 20 (subst R r.hinted.size h) in
@@ -174,6 +181,6 @@ module _ (number : Term → ℕ) (dummies : List (Option ℕ)) (shift : ℕ) (fi
           doublings = suc r.hinted.doublings;
           size = l ∙ (ap (λ (z : ℕ). 2 * z) r.hinted.size ∙ sym (pow-suc r.hinted.doublings));
           narrow = omega arith;
-          hints = hints-none (2 ^ (shift - 1)) n hints cells f;
+          hints = f;
         };
       }

@@ -10,8 +10,10 @@
 //!
 //! *Mechanism.* The nodes stand in one list, in the order of their split keys; a bucket is a stretch of it, behind its
 //! dummy. For each eighth of a bucket the place of its first item is known, or that it has none, or nothing: a search
-//! begins there, or else at the dummy of the nearest ready bucket. The slots come in the order of their places, and a
-//! walk reads these forward.
+//! begins there, or else at the first item of the nearest lower eighth that is known, or at the dummy of the nearest
+//! ready bucket. An insertion makes what is not known of its eighth known. Where the buckets double, what is known
+//! of the former eighths stays beside, and each insertion tells the halves of two of them. The slots come in the order
+//! of their places, and a walk reads these forward.
 //!
 //! *Limits.* Buckets are 2 to 1,048,576. A place that was given back is given out again.
 #![tactic(auto)]

@@ -7,8 +7,10 @@ mod find;
 mod firsts;
 mod held;
 mod hint;
+mod learn;
 mod places;
 mod rows;
+mod settle;
 mod start;
 mod survey;
 mod sweep;
@@ -27,6 +29,8 @@ pub struct SplitRows<H: KeyHash + Copy + Drop> {
     list: NodeList,
     dummies: Vec<Link>,
     firsts: Vec<Hint>,
+    older: Vec<Hint>,
+    turn: usize,
     shift: u32,
     slots: usize,
     least: usize,
@@ -46,7 +50,7 @@ impl<H: KeyHash + Copy + Drop> Model for SplitRows<H> {
 
     ghost view = { λ s. record { hash = s.hash; slots = content_of s.list.cells; places = places_of s.list.cells; room = s.list.capacity - length s.list.cells; ready = map is_some s.dummies.items } };
 
-    ghost invariant = { λ s. IsTable (H.number s.hash) s.dummies.items s.shift s.firsts.items s.slots s.least s.held.is_lost s.held.hashes.items s.list.cells };
+    ghost invariant = { λ s. IsTable (H.number s.hash) s.dummies.items s.shift s.firsts.items s.older.items s.slots s.least s.held.is_lost s.held.hashes.items s.list.cells };
 }
 
 impl<H: KeyHash + Copy + Drop> SplitRows<H> {
@@ -68,6 +72,8 @@ impl<H: KeyHash + Copy + Drop> SplitRows<H> {
             list,
             dummies,
             firsts,
+            older: Vec::new(alloc),
+            turn: 0,
             shift: 29,
             slots: 0,
             least: 1,

@@ -1,5 +1,5 @@
 -- The first items of the intervals of keys.
-use Rattle.std.specs.Prelude.{◌≡◌, ◌≢◌, ◌⊎◌, ℕ, ◌+◌, ◌<◌, ◌/◌, ◌^◌, Bool, true, false, nat_eq, ◌&&◌, if◌then◌else◌, List, [], ◌∷◌, Option, Some, None, is_some, length, get_or}
+use Rattle.std.specs.Prelude.{◌≡◌, ◌≢◌, ◌⊎◌, ℕ, ◌+◌, ◌<◌, ◌≤◌, ◌/◌, ◌^◌, Bool, true, false, nat_eq, ◌&&◌, if◌then◌else◌, List, [], ◌∷◌, Option, Some, None, is_some, length, get_or}
 use Rattle.ets_term.specs.declared.term.Term.{Term}
 use Rattle.node_list.specs.declared.node.Item.{Item}
 use Rattle.node_list.specs.Cells.{Cell, new_cell}
@@ -37,11 +37,31 @@ pub record IsRows (number : Term → ℕ) (dummies : List (Option ℕ)) (shift :
 abbrev pub AreRows : List (Option ℕ) → ℕ → List (Option (Option ℕ)) → List Cell → Type 0
 AreRows dummies shift firsts cells = (number : Term → ℕ) × IsRows number dummies shift firsts cells
 
--- the first item of a lower interval is known to stand at this place
-pub record IsFirstBelow (index at : ℕ) (firsts : List (Option (Option ℕ))) : Type 0 where
+-- the first item of an interval from `floor` up to `index` is known to stand at this place
+pub record IsFirstBelow (floor index at : ℕ) (firsts : List (Option (Option ℕ))) : Type 0 where
   pub lower : ℕ
+  pub least : floor ≤ lower
   pub less : lower < index
   pub known : get_or firsts lower None ≡ Some (Some at)
+
+-- a node of a lower interval stands at this place
+pub record StandsInFront (wide f at : ℕ) (cells : List Cell) : Type 0 where
+  pub cell : Cell
+  pub later : List Cell
+  pub is : from at cells ≡ cell ∷ later
+  pub front : cell.key / wide < f
+
+-- what is known of one interval is so
+abbrev pub IsRightHint : ℕ → ℕ → List Cell → Option (Option ℕ) → Type 0
+IsRightHint wide f cells hint = (first : Option ℕ) → hint ≡ Some first → first_in wide f cells ≡ first
+
+-- this may be known of one interval now, and else no more is known than before
+abbrev pub IsHintFilled : ℕ → Option (Option ℕ) → List (Option (Option ℕ)) → List (Option (Option ℕ)) → Type 0
+IsHintFilled index hint old new = (f : ℕ) (first : Option ℕ) → get_or new f None ≡ Some first → (get_or old f None ≡ Some first) ⊎ ((f ≡ index) × (hint ≡ Some first))
+
+-- this is known of one interval, and no other hint is changed
+abbrev pub IsHintSet : ℕ → Option (Option ℕ) → List (Option (Option ℕ)) → List (Option (Option ℕ)) → Type 0
+IsHintSet index hint old new = (f : ℕ) (first : Option ℕ) → get_or new f None ≡ Some first → ((f ≢ index) × (get_or old f None ≡ Some first)) ⊎ ((f ≡ index) × (hint ≡ Some first))
 
 -- an item put in with this key is the first of its interval
 abbrev pub IsNewFirst : ℕ → ℕ → List Cell → ℕ → Type 0
@@ -66,9 +86,11 @@ pub record IsItemIn (wide f at : ℕ) (cells : List Cell) : Type 0 where
   pub has : cell.item ≡ Some item
   pub inside : cell.key / wide ≡ f
 
--- rows, how many slots they have, their least bucket that is not ready, and what is noted of held slots
-pub record IsTable (number : Term → ℕ) (dummies : List (Option ℕ)) (shift : ℕ) (firsts : List (Option (Option ℕ))) (slots least : ℕ) (is_lost : Bool) (held : List ℕ) (cells : List Cell) : Type 0 where
+-- rows, what is still known of intervals twice as wide, how many slots there are, the least bucket that is not ready,
+-- and what is noted of held slots
+pub record IsTable (number : Term → ℕ) (dummies : List (Option ℕ)) (shift : ℕ) (firsts older : List (Option (Option ℕ))) (slots least : ℕ) (is_lost : Bool) (held : List ℕ) (cells : List Cell) : Type 0 where
   pub rows : IsRows number dummies shift firsts cells
+  pub wider : AreHints (2 ^ (shift + 1)) older cells
   pub counted : slots ≡ length (slots_of cells)
   pub due : IsLeast dummies least
   pub noted : AreNoted number is_lost held (slots_of cells)

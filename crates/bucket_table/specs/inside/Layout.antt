@@ -43,6 +43,12 @@ pub record IsSplit (number : Term → ℕ) (dummies : List (Option ℕ)) (cells 
   pub placed : ArePlaced number dummies cells
   pub distinct : HasDistinctKeys (slots_of cells)
 
+-- a ready bucket and the place of its dummy: the bucket itself, where that is ready, and else one in front of it
+pub record IsNearest (dummies : List (Option ℕ)) (bucket nearest at : ℕ) : Type 0 where
+  pub entry : get_or dummies nearest None ≡ Some at
+  pub before : key_of_dummy nearest ≤ key_of_dummy bucket
+  pub own : IsSome (get_or dummies bucket None) → nearest ≡ bucket
+
 -- the place of the dummy of the bucket, where that is ready, and else of one in front of it
 pub record IsStartOf (dummies : List (Option ℕ)) (bucket at : ℕ) : Type 0 where
   pub nearest : ℕ

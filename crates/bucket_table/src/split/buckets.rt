@@ -2,14 +2,16 @@ ghost use Rattle.std.specs.Prelude.{◌≡◌, ◌^◌, false, IfOk, OnErr, leng
 ghost use Rattle.bucket_table.specs.Buckets.{IsGrown, IsReadied};
 
 use super::SplitRows;
-use super::directory::{nearest, next_unready};
+use super::directory::next_unready;
 use super::hint::Hint;
+use super::start::start_of_dummy;
 use super::survey::survey_both;
 use crate::growth::{Growth, Readying};
 use ets_term::KeyHash;
 use node_list::Link;
 use split_key::dummy_key;
 use std::alloc::AllocError;
+use std::mem;
 
 /// The greatest number of buckets.
 const MAX_BUCKETS: usize = 1048576;
@@ -29,8 +31,15 @@ impl<H: KeyHash + Copy + Drop> SplitRows<H> {
         if self.dummies[index].get().is_some() {
             return Ok(Readying::AlreadyReady);
         }
+        let start = start_of_dummy(
+            &self.list,
+            &self.dummies,
+            &self.firsts,
+            &self.older,
+            self.shift,
+            bucket,
+        );
         self.list.reserve(1)?;
-        let start = nearest(&self.dummies, bucket);
         let at = self.list.insert_dummy(start, dummy_key(bucket));
         self.dummies[index] = Link::to(at);
         survey_both(
@@ -55,10 +64,12 @@ impl<H: KeyHash + Copy + Drop> SplitRows<H> {
         if buckets >= MAX_BUCKETS {
             return Ok(Growth::AtMost);
         }
-        self.firsts.clear();
-        self.firsts.resize(16 * buckets, Hint::unknown())?;
+        self.older.clear();
+        self.older.resize(16 * buckets, Hint::unknown())?;
         self.dummies.resize(2 * buckets, Link::none())?;
+        mem::swap(&mut self.firsts, &mut self.older);
         self.shift -= 1;
+        self.turn = 0;
         Ok(Growth::Grown)
     }
 

@@ -8,6 +8,8 @@ ghost use Rattle.bucket_table.specs.inside.Sweeps.{swept};
 use super::SplitRows;
 use super::directory::hash_of;
 use super::firsts::{becomes_first, note, take_out};
+use super::learn::learn;
+use super::settle::{settle, settle_two};
 use super::start::start_below;
 use super::sweep::{Sweep, purge_noted, sweep_all};
 use crate::entry::Place;
@@ -46,8 +48,37 @@ impl<H: KeyHash + Copy + Drop> SplitRows<H> {
         ensures buckets { self.new.ready ≡ self.old.ready }
     {
         self.list.known();
-        let start = start_below(&self.list, &self.dummies, &self.firsts, self.shift, number);
         let key_of_split = item_key(number);
+        self.turn = settle_two(
+            &self.list,
+            &mut self.firsts,
+            &mut self.older,
+            self.shift,
+            self.turn,
+        );
+        let pair = (key_of_split >> self.shift) as usize / 2;
+        settle(
+            &self.list,
+            &mut self.firsts,
+            &mut self.older,
+            self.shift,
+            pair,
+        );
+        let before = start_below(
+            &self.list,
+            &self.dummies,
+            &self.firsts,
+            &self.older,
+            self.shift,
+            number,
+        );
+        let start = learn(
+            &self.list,
+            &mut self.firsts,
+            self.shift,
+            key_of_split,
+            before,
+        );
         let moves = becomes_first(&self.list, &self.firsts, self.shift, key_of_split);
         let index = (key_of_split >> self.shift) as usize;
         self.held.mark(objects.len() == 0, number);
@@ -116,10 +147,19 @@ impl<H: KeyHash + Copy + Drop> SplitRows<H> {
     {
         self.list.known();
         let key = self.list.key(place);
+        let pair = (key >> self.shift) as usize / 2;
+        settle(
+            &self.list,
+            &mut self.firsts,
+            &mut self.older,
+            self.shift,
+            pair,
+        );
         let start = start_below(
             &self.list,
             &self.dummies,
             &self.firsts,
+            &self.older,
             self.shift,
             hash_of(key),
         );
@@ -135,6 +175,7 @@ impl<H: KeyHash + Copy + Drop> SplitRows<H> {
         ensures buckets { self.new.ready ≡ self.old.ready }
     {
         self.list.known();
+        self.older.clear();
         let before = self.list.len();
         sweep_all(
             self.hash,
@@ -159,6 +200,7 @@ impl<H: KeyHash + Copy + Drop> SplitRows<H> {
             return;
         }
         self.list.known();
+        self.older.clear();
         let before = self.list.len();
         purge_noted(
             self.hash,

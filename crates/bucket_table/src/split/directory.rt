@@ -1,20 +1,20 @@
 ghost use Rattle.std.specs.Prelude.{◌≡◌, ℕ, ◌%◌, ◌<◌, ◌≤◌, ◌^◌, None, IsSome, length, get_or};
 ghost use Rattle.split_key.specs.Keys.{IsPowerOfTwo, key_of_item};
-ghost use Rattle.bucket_table.specs.inside.Layout.{IsStartOf, AreReady, IsLeast};
+ghost use Rattle.bucket_table.specs.inside.Layout.{IsNearest, AreReady, IsLeast};
 
 use node_list::{At, Link};
 use split_key::{bucket_of, laws, parent, rev32};
 
-/// The place of the dummy of the nearest ready bucket among this one, its parent, that one's parent and so on.
-pub fn nearest(dummies: &[Link], bucket: u32) -> At
+/// The nearest ready bucket among this one, its parent, that one's parent and so on, and the place of its dummy.
+pub fn nearest_ready(dummies: &[Link], bucket: u32) -> (u32, At)
     requires below { bucket < length dummies.now }
     requires first { IsSome (get_or dummies.now 0 None) }
-    ensures { IsStartOf dummies.now bucket result }
+    ensures { IsNearest dummies.now bucket result.0 result.1 }
 {
     let mut at = bucket;
     loop {
         if let Some(place) = dummies[at as usize].get() {
-            return place;
+            return (at, place);
         }
         if at == 0 {
             unreachable!();
@@ -25,15 +25,15 @@ pub fn nearest(dummies: &[Link], bucket: u32) -> At
     }
 }
 
-/// Where a search or an insertion by this hash begins.
-pub fn start_of(dummies: &[Link], number: u32) -> At
+/// The nearest ready bucket of a hash, and the place of its dummy, where a search or an insertion by the hash can begin.
+pub fn start_of(dummies: &[Link], number: u32) -> (u32, At)
     requires size { IsPowerOfTwo (length dummies.now) }
     requires few { length dummies.now < 2 ^ 32 }
     requires first { IsSome (get_or dummies.now 0 None) }
-    ensures { IsStartOf dummies.now (number % length dummies.now) result }
+    ensures { IsNearest dummies.now (number % length dummies.now) result.0 result.1 }
 {
     let bucket = bucket_of(number, dummies.len() as u32);
-    nearest(dummies, bucket)
+    nearest_ready(dummies, bucket)
 }
 
 /// The hash of an item, of 32 bits, from its key.

@@ -107,7 +107,7 @@ fn purge_run<H: KeyHash + Copy + Drop>(
 {
     list.known();
     let key = item_key(number);
-    let mut at = start_below(list, dummies, firsts, shift, number);
+    let mut at = start_below(list, dummies, firsts, &[], shift, number);
     while let Some(next) = list.after(at) {
         list.known();
         if key < list.key(next) {

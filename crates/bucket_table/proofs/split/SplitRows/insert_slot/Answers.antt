@@ -4,18 +4,20 @@ use Rattle.std.proofs.Common.{◌≡◌, ◌+◌, ◌-◌, ◌/◌, ◌^◌, ◌
 use Rattle.std.specs.Map.{lookup}
 use Rattle.ets_term.specs.Order.{same}
 use Rattle.split_key.specs.Keys.{key_of_item}
-use Rattle.node_list.specs.Places.{StandsUpTo}
 use Rattle.bucket_table.specs.Slots.{Enters}
 use Rattle.bucket_table.specs.inside.Nodes.{slots_of}
 use Rattle.bucket_table.specs.inside.Firsts.{KeepsFirst}
 use Rattle.bucket_table.specs.Split.{Split}
 use Rattle.bucket_table.proofs.CountedLaws.{length-added}
-use Rattle.bucket_table.proofs.RowsLaws.{rows-put, rows-seen}
+use Rattle.bucket_table.proofs.RowsLaws.{rows-put, rows-seen, rows-hinted}
 use Rattle.bucket_table.proofs.BelowLaws.{lesser-up-to}
 use Rattle.bucket_table.proofs.SplitLaws.{put-added}
 use Rattle.bucket_table.proofs.SeatLaws.{few-slots}
 use Rattle.bucket_table.specs.inside.Order.{content_of}
 use Rattle.bucket_table.proofs.ReadLaws.{item-put, objects-same}
+use Rattle.bucket_table.proofs.PlacedLaws.{placed-parity}
+use Rattle.bucket_table.proofs.HalveLaws.{older-put}
+use Rattle.node_list.specs.Cells.{new_item}
 use Rattle.bucket_table.proofs.split.SplitRows.insert_slot.Goals as goal
 
 pub insert_item-at-requires-clause-room : goal.insert_item-at-requires-clause-room
@@ -24,15 +26,18 @@ insert_item-at-requires-clause-room g c =
     let r : 1 ≤ c.self.inside.list.capacity - length c.self.inside.list.cells = subst P (sym c.self.view_is) c.requires.room in
     omega arith
 
-pub start_below-start-requires : goal.start_below-start-requires
-start_below-start-requires g c =
-    rows-seen (g.H.KeyHash.number c.self.inside.hash) c.self.inside.dummies.items c.deref.result.now c.self.inside.shift c.self.inside.firsts.items c.deref-2.result.now c.self.inside.list.cells
-    c.self.invariant.rows c.deref.ensures.value c.deref-2.ensures.value
+pub start_below-before-requires-clause-rows : goal.start_below-before-requires-clause-rows
+start_below-before-requires-clause-rows g c =
+    let number = g.H.KeyHash.number c.self.inside.hash in
+    let settled = rows-hinted number c.self.inside.dummies.items c.self.inside.shift c.self.inside.firsts.items c.settle.new.firsts.items c.self.inside.list.cells c.self.invariant.rows c.settle.ensures.hints in
+    rows-seen number c.self.inside.dummies.items c.deref.result.now c.self.inside.shift c.settle.new.firsts.items c.deref-2.result.now c.self.inside.list.cells settled c.deref.ensures.value c.deref-2.ensures.value
 
 pub insert_item-at-requires-clause-stands : goal.insert_item-at-requires-clause-stands
 insert_item-at-requires-clause-stands g c =
-    let B : ℕ → Type 0 = λ k. StandsUpTo k c.start_below-start.result c.self.inside.list.cells in
-    subst B (sym c.item_key-key_of_split.ensures) (lesser-up-to (key_of_item c.args.number) c.start_below-start.result c.self.inside.list.cells c.start_below-start.ensures)
+    lesser-up-to c.item_key-key_of_split.result c.learn-start.result c.self.inside.list.cells c.learn-start.ensures.below
+
+pub learn-start-requires-clause-parity : goal.learn-start-requires-clause-parity
+learn-start-requires-clause-parity g c = placed-parity (g.H.KeyHash.number c.self.inside.hash) c.self.inside.dummies.items c.self.inside.list.cells c.self.invariant.rows.split.placed
 
 pub overflow_add-self : goal.overflow_add-self
 overflow_add-self g c = let l = few-slots c.self.inside.list.cells in omega (arith, l, c.self.invariant.counted, c.known.ensures.few)
@@ -45,9 +50,10 @@ invariant_of-self g c =
     sym (objects-same c.self.inside.list.cells c.known.ensures.apart c.self.invariant.rows.split.distinct c.args.key) ∙ (ap (λ (v : Split g.row.H.Denot). lookup (same c.args.key) v.slots) c.self.view_is ∙ c.requires.new) in
     let index = c.item_key-key_of_split.result / 2 ^ c.self.inside.shift in
     let K : List (Option (Option ℕ)) → Type 0 = λ fs. c.becomes_first-moves.result ≡ false → KeepsFirst (2 ^ c.self.inside.shift) index c.self.inside.list.cells c.item_key-key_of_split.result (get_or fs index None) in
-    let rows = rows-put number c.self.inside.dummies.items c.self.inside.shift c.self.inside.firsts.items c.self.inside.list.cells c.self.invariant.rows c.note.new.firsts.items c.becomes_first-moves.result c.insert_item-at.result c.item_key-key_of_split.result c.args.key c.args.objects c.insert_item-at.new.self.cells
+    let learned = rows-hinted number c.self.inside.dummies.items c.self.inside.shift c.self.inside.firsts.items c.learn-start.new.firsts.items c.self.inside.list.cells c.self.invariant.rows c.learn-start.ensures.hints in
+    let rows = rows-put number c.self.inside.dummies.items c.self.inside.shift c.learn-start.new.firsts.items c.self.inside.list.cells learned c.note.new.firsts.items c.becomes_first-moves.result c.insert_item-at.result c.item_key-key_of_split.result c.args.key c.args.objects c.insert_item-at.new.self.cells
     c.insert_item-at.ensures.fresh (c.item_key-key_of_split.ensures ∙ ap key_of_item hash) none c.insert_item-at.ensures.cells
-    c.note.ensures c.becomes_first-moves.ensures.new (subst K c.deref-3.ensures.value c.becomes_first-moves.ensures.old) in
+    c.note.ensures c.becomes_first-moves.ensures.new (subst K c.deref-4.ensures.value c.becomes_first-moves.ensures.old) in
     let one = length-added (slots_of c.self.inside.list.cells) (slots_of c.insert_item-at.new.self.cells) c.args.key c.args.objects (put-added number c.self.inside.dummies.items c.self.inside.list.cells c.self.invariant.rows.split c.insert_item-at.result c.item_key-key_of_split.result c.args.key c.args.objects c.insert_item-at.new.self.cells c.insert_item-at.ensures.cells) in
     let ss = slots_of c.self.inside.list.cells in
     let enters = put-added number c.self.inside.dummies.items c.self.inside.list.cells c.self.invariant.rows.split c.insert_item-at.result c.item_key-key_of_split.result c.args.key c.args.objects c.insert_item-at.new.self.cells c.insert_item-at.ensures.cells in
@@ -55,6 +61,7 @@ invariant_of-self g c =
     let H : ℕ → Type 0 = λ h. IsAmong h hs in
     record {
       rows = rows;
+      wider = older-put c.self.inside.shift c.insert_item-at.result c.item_key-key_of_split.result (new_item c.args.key c.args.objects) c.settle.new.older.items c.self.inside.list.cells c.insert_item-at.new.self.cells c.settle.ensures.older c.settle.ensures.gone c.insert_item-at.ensures.cells;
       counted = omega (arith, one, c.self.invariant.counted);
       due = c.self.invariant.due;
       noted = λ kept. among-entered number hs ss (slots_of c.insert_item-at.new.self.cells) c.args.key c.args.objects enters

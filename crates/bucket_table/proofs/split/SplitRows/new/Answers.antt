@@ -1,11 +1,12 @@
 use Rattle.bucket_table.specs.inside.Notes.{AreAmong}
 use Rattle.node_list.specs.Cells.{Cell}
-use Rattle.std.proofs.Common.{◌≡◌, length, sym, subst}
+use Rattle.std.proofs.Common.{◌≡◌, length, sym, subst, ◌^◌}
 use Rattle.bucket_table.specs.inside.Layout.{IsLeast}
 use Rattle.bucket_table.proofs.LeastLaws.{least-new}
 use Rattle.bucket_table.specs.inside.Nodes.{slots_of}
 use Rattle.bucket_table.proofs.RowsLaws.{new-rows, cleared-grown}
 use Rattle.std.proofs.Common.{[], List, ◌∷◌, ◌++◌, Option, Some, None, ℕ, ◌∙◌, ap}
+use Rattle.bucket_table.proofs.HalveLaws.{hints-nil}
 use Rattle.bucket_table.proofs.split.SplitRows.new.Goals as goal
 
 pub invariant_of-result : goal.invariant_of-result
@@ -18,4 +19,4 @@ invariant_of-result g c =
     let hints = c.in_ok-resize.ensures.items in
     let unknown = cleared-grown c.new-firsts.result.items c.resize.new.self.items c.empty.result _ 16 _ c.new-firsts.ensures.items c.empty.ensures c.new-firsts.ensures.len hints in
     let rows = new-rows (g.H.KeyHash.number c.args.hash) c.head-head.result c.push_reserved-2.new.self.items c.resize.new.self.items 16 c.in_ok-list.list.cells items c.in_ok-list.ensures c.head-head.ensures.first unknown in
-    record { rows = rows; counted = sym (ap (λ (zs : List Cell). length (slots_of zs)) c.in_ok-list.ensures); due = subst D (sym items) (least-new c.head-head.result); noted = λ _. (let N : List Cell → Type 0 = λ zs. AreAmong (g.H.KeyHash.number c.args.hash) c.new-2.result.hashes.items (slots_of zs) in subst N (sym c.in_ok-list.ensures) tt) }
+    record { rows = rows; wider = hints-nil (2 ^ 30) c.new-2.result.items c.in_ok-list.list.cells c.new-2.ensures.items; counted = sym (ap (λ (zs : List Cell). length (slots_of zs)) c.in_ok-list.ensures); due = subst D (sym items) (least-new c.head-head.result); noted = λ _. (let N : List Cell → Type 0 = λ zs. AreAmong (g.H.KeyHash.number c.args.hash) c.new-3.result.hashes.items (slots_of zs) in subst N (sym c.in_ok-list.ensures) tt) }

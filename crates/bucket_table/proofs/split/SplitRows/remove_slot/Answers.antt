@@ -16,7 +16,7 @@ use Rattle.bucket_table.specs.inside.Nodes.{slots_of, places_of}
 use Rattle.bucket_table.proofs.ContentLaws.{found-item}
 use Rattle.bucket_table.proofs.CountedLaws.{length-removed}
 use Rattle.bucket_table.proofs.PlacedLaws.{placed-parity}
-use Rattle.bucket_table.proofs.RowsLaws.{rows-seen}
+use Rattle.bucket_table.proofs.RowsLaws.{rows-seen, rows-hinted}
 use Rattle.bucket_table.proofs.BelowLaws.{found-behind}
 use Rattle.bucket_table.proofs.SeatLaws.{at-place, place-stands, place-key, read-item}
 use Rattle.bucket_table.proofs.SurveyLaws.{item-small}
@@ -24,6 +24,7 @@ use Rattle.bucket_table.proofs.SweepLaws.{rows-out}
 use Rattle.bucket_table.specs.inside.Order.{content_of}
 use Rattle.bucket_table.proofs.OrderedLaws.{ordered}
 use Rattle.bucket_table.proofs.ReadLaws.{objects-same, keys-distinct}
+use Rattle.bucket_table.proofs.HalveLaws.{older-out}
 use Rattle.bucket_table.proofs.split.SplitRows.remove_slot.Goals as goal
 
 pub key-key-requires : goal.key-key-requires
@@ -43,10 +44,11 @@ hash_of-requires g c =
 pub take_out-slot-requires-clause-parity : goal.take_out-slot-requires-clause-parity
 take_out-slot-requires-clause-parity g c = placed-parity (g.H.KeyHash.number c.self.inside.hash) c.self.inside.dummies.items c.self.inside.list.cells c.self.invariant.rows.split.placed
 
-pub start_below-start-requires : goal.start_below-start-requires
-start_below-start-requires g c =
-    rows-seen (g.H.KeyHash.number c.self.inside.hash) c.self.inside.dummies.items c.deref.result.now c.self.inside.shift c.self.inside.firsts.items c.deref-2.result.now c.self.inside.list.cells
-    c.self.invariant.rows c.deref.ensures.value c.deref-2.ensures.value
+pub start_below-start-requires-clause-rows : goal.start_below-start-requires-clause-rows
+start_below-start-requires-clause-rows g c =
+    let number = g.H.KeyHash.number c.self.inside.hash in
+    let settled = rows-hinted number c.self.inside.dummies.items c.self.inside.shift c.self.inside.firsts.items c.settle.new.firsts.items c.self.inside.list.cells c.self.invariant.rows c.settle.ensures.hints in
+    rows-seen number c.self.inside.dummies.items c.deref.result.now c.self.inside.shift c.settle.new.firsts.items c.deref-2.result.now c.self.inside.list.cells settled c.deref.ensures.value c.deref-2.ensures.value
 
 pub take_out-slot-requires-clause-stands : goal.take_out-slot-requires-clause-stands
 take_out-slot-requires-clause-stands g c =
@@ -72,7 +74,7 @@ invariant_of-self g c =
     let rows = rows-out (g.H.KeyHash.number c.self.inside.hash) c.self.inside.dummies.items c.self.inside.shift c.self.inside.firsts.items c.take_out-slot.new.firsts.items c.args.place c.self.inside.list.cells c.take_out-slot.new.list.cells c.self.invariant.rows c.known.ensures.apart (found-item p.key c.args.place c.self.inside.list.cells p.found) c.take_out-slot.ensures.cells c.take_out-slot.ensures.hints in
     let l = length-removed (same p.key) (slots_of c.self.inside.list.cells) p.found.item.chain p.found.objects in
     let is = ap slots_of c.take_out-slot.ensures.cells ∙ p.found.removed in
-    record { rows = rows; counted = omega (arith, l, ap length is, c.self.invariant.counted); due = c.self.invariant.due; noted = λ kept. (let N : List Slot → Type 0 = λ ss. AreAmong (g.H.KeyHash.number c.self.inside.hash) c.self.inside.held.hashes.items ss in subst N (sym is) (among-without (g.H.KeyHash.number c.self.inside.hash) c.self.inside.held.hashes.items p.key (slots_of c.self.inside.list.cells) (c.self.invariant.noted kept))) }
+    record { rows = rows; wider = older-out c.self.inside.shift c.args.place c.key-key.result c.settle.new.older.items c.self.inside.list.cells c.take_out-slot.new.list.cells (found-item p.key c.args.place c.self.inside.list.cells p.found) c.key-key.ensures c.settle.ensures.older c.settle.ensures.gone c.take_out-slot.ensures.cells; counted = omega (arith, l, ap length is, c.self.invariant.counted); due = c.self.invariant.due; noted = λ kept. (let N : List Slot → Type 0 = λ ss. AreAmong (g.H.KeyHash.number c.self.inside.hash) c.self.inside.held.hashes.items ss in subst N (sym is) (among-without (g.H.KeyHash.number c.self.inside.hash) c.self.inside.held.hashes.items p.key (slots_of c.self.inside.list.cells) (c.self.invariant.noted kept))) }
 
 pub returns-clause-key : goal.returns-clause-key
 returns-clause-key g c =

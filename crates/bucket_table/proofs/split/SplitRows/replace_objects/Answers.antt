@@ -3,7 +3,7 @@ use Rattle.bucket_table.specs.Slots.{Slot, has_objects}
 use Rattle.bucket_table.specs.inside.Notes.{IsAmong, AreAmong}
 use Rattle.bucket_table.proofs.NoteLaws.{among-with, among-more, held-told}
 use Rattle.bucket_table.proofs.SurveyLaws.{item-small}
-use Rattle.std.proofs.Common.{◌≡◌, ◌-◌, ℕ, List, arith, length, IsSome, Some, sym, ◌∙◌, ap, subst}
+use Rattle.std.proofs.Common.{◌≡◌, ◌-◌, ℕ, List, arith, length, IsSome, Some, sym, ◌∙◌, ap, subst, ◌^◌, ◌+◌}
 use Rattle.bucket_table.specs.Entries.{objects_in, with_objects_in}
 use Rattle.bucket_table.specs.Split.{Split, key_of_place}
 use Rattle.bucket_table.specs.inside.Nodes.{slots_of, places_of}
@@ -15,6 +15,7 @@ use Rattle.bucket_table.proofs.SeatLaws.{at-place, place-stands, place-key, leng
 use Rattle.ets_term.specs.Order.{same}
 use Rattle.bucket_table.specs.inside.Order.{content_of}
 use Rattle.bucket_table.proofs.ReadLaws.{objects-there, objects-put}
+use Rattle.bucket_table.proofs.HintedLaws.{hints-with}
 use Rattle.bucket_table.proofs.split.SplitRows.replace_objects.Goals as goal
 
 pub chain_mut-chain-requires : goal.chain_mut-chain-requires
@@ -52,6 +53,7 @@ invariant_of-self g c =
     let hash : c.hash_of-number.result ≡ number p.key = c.hash_of-number.ensures (number p.key) key ∙ mod-eq_of_lt (g.met.H.KeyHash.below c.self.inside.hash p.key) in
     record {
       rows = rows;
+      wider = hints-with (2 ^ (c.self.inside.shift + 1)) c.self.inside.older.items c.args.place c.replace.new.dest c.self.inside.list.cells c.self.invariant.wider;
       counted = c.self.invariant.counted ∙ sym (ap length (h.replaced c.replace.new.dest) ∙ length-set_value (same p.key) ss c.replace.new.dest);
       due = c.self.invariant.due;
       noted = λ kept. subst N (sym (h.replaced c.replace.new.dest)) (among-with number hs p.key c.replace.new.dest ss

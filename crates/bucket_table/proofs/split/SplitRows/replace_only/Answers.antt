@@ -1,4 +1,4 @@
-use Rattle.std.proofs.Common.{◌≡◌, ◌-◌, ℕ, List, [], ◌∷◌, length, Some, sym, ◌∙◌, ap, subst}
+use Rattle.std.proofs.Common.{◌≡◌, ◌-◌, ℕ, List, [], ◌∷◌, length, Some, sym, ◌∙◌, ap, subst, ◌^◌, ◌+◌}
 use Rattle.ets_term.specs.Order.{same}
 use Rattle.node_list.specs.Changes.{cells_with}
 use Rattle.bucket_table.specs.Slots.{Slot}
@@ -14,6 +14,7 @@ use Rattle.bucket_table.proofs.RowsLaws.{rows-with}
 use Rattle.bucket_table.proofs.SeatLaws.{at-place, length-with, places-with}
 use Rattle.bucket_table.specs.inside.Order.{content_of}
 use Rattle.bucket_table.proofs.ReadLaws.{objects-there, objects-put}
+use Rattle.bucket_table.proofs.HintedLaws.{hints-with}
 use Rattle.bucket_table.proofs.split.SplitRows.replace_only.Goals as goal
 
 pub chain_mut-requires : goal.chain_mut-requires
@@ -43,6 +44,7 @@ invariant_of-self g c =
     let was = swapped _ _ c.chain_mut.result.now c.replace.new.self c.replace.result c.args.object one (objects-there c.self.inside.list.cells c.known.ensures.apart c.self.invariant.rows.split.distinct c.args.place p c.chain_mut.result.now c.chain_mut.ensures.value) c.replace.ensures.old c.replace.ensures.new in
     record {
       rows = rows-with number c.self.inside.dummies.items c.self.inside.shift c.self.inside.firsts.items c.self.inside.list.cells c.self.invariant.rows p.key c.args.place c.replace.new.self h;
+      wider = hints-with (2 ^ (c.self.inside.shift + 1)) c.self.inside.older.items c.args.place c.replace.new.self c.self.inside.list.cells c.self.invariant.wider;
       counted = c.self.invariant.counted ∙ sym (ap length (h.replaced c.replace.new.self) ∙ length-set_value (same p.key) ss c.replace.new.self);
       due = c.self.invariant.due;
       noted = λ kept. subst N (sym (h.replaced c.replace.new.self)) (among-with number hs p.key c.replace.new.self ss (λ e. absurd (no-held c.replace.new.self c.args.object was.written e)) (c.self.invariant.noted kept));

@@ -7,8 +7,8 @@ use Rattle.bucket_table.proofs.RowsLaws.{rows-seen}
 use Rattle.bucket_table.proofs.RunLaws.{next-there, beyond-next, nothing-behind, run-purged, run-gone, among-rest}
 use Rattle.bucket_table.proofs.split.sweep.purge_run.Goals as goal
 
-pub start_below-at-requires : goal.start_below-at-requires
-start_below-at-requires g c = rows-seen (g.H.KeyHash.number c.args.hash) c.args.dummies.now c.args.dummies.now c.args.shift c.args.firsts.now.items c.deref.result.now c.args.list.now.cells c.requires.rows refl c.deref.ensures.value
+pub start_below-at-requires-clause-rows : goal.start_below-at-requires-clause-rows
+start_below-at-requires-clause-rows g c = rows-seen (g.H.KeyHash.number c.args.hash) c.args.dummies.now c.args.dummies.now c.args.shift c.args.firsts.now.items c.deref.result.now c.args.list.now.cells c.requires.rows refl c.deref.ensures.value
 
 pub loop-next-init : goal.loop-next-init
 loop-next-init g c = record {

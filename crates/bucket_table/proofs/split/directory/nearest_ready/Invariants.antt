@@ -1,6 +1,6 @@
 use Rattle.std.proofs.Common.{◌≡◌, ◌≤◌, ◌<◌, IsSome, None, get_or, length}
 use Rattle.split_key.specs.Keys.{key_of_dummy}
-use Rattle.bucket_table.proofs.split.directory.nearest.Given as goal
+use Rattle.bucket_table.proofs.split.directory.nearest_ready.Given as goal
 
 abbrev pub invariant-loop-place : goal.invariant-loop-place
 invariant-loop-place l = record {

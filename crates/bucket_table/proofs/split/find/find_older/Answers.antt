@@ -1,0 +1,22 @@
+use Rattle.std.proofs.Common.{inr, ℕ, ◌+◌, ◌^◌, ◌<◌, Some, None, get_or, sym, ◌∙◌, ap, arith}
+use Rattle.split_key.specs.Keys.{key_of_item}
+use Rattle.bucket_table.proofs.HintLaws.{empty-absent, empty-looked, hint-says}
+use Rattle.bucket_table.proofs.HalveLaws.{part-half}
+use Rattle.bucket_table.proofs.split.find.find_older.Goals as goal
+
+pub find_from_first-requires-clause-first : goal.find_from_first-requires-clause-first
+find_from_first-requires-clause-first g c =
+    inr (hint-says (2 ^ (c.args.shift + 1)) c.args.older.now c.args.list.now.cells c.item_key.result (key_of_item c.args.number) c.hint_at.result (Some c.in-Some-Some.first) c.requires.older (c.hint_at.ensures ∙ ap (λ (z : ℕ). get_or c.args.older.now z None) (sym (part-half c.args.shift c.item_key.result))) (c.in-Some-Some.is ∙ ap Some c.in-Some-Some.field-0-is) c.item_key.ensures)
+
+pub returns-in-Some-None-clause-found : goal.returns-in-Some-None-clause-found
+returns-in-Some-None-clause-found g c =
+    let key = c.item_key.ensures ∙ ap key_of_item c.requires.number in
+    let empty = hint-says (2 ^ (c.args.shift + 1)) c.args.older.now c.args.list.now.cells c.item_key.result (key_of_item (g.H.KeyHash.number c.args.hash c.args.key.now)) c.hint_at.result None c.requires.older (c.hint_at.ensures ∙ ap (λ (z : ℕ). get_or c.args.older.now z None) (sym (part-half c.args.shift c.item_key.result))) (c.in-Some-None.is ∙ ap Some c.in-Some-None.field-0-is) key in
+    empty-absent (g.H.KeyHash.number c.args.hash) c.args.dummies.now c.args.list.now.cells c.args.key.now (2 ^ (c.args.shift + 1)) c.requires.rows.split empty
+
+pub returns-in-Some-None-clause-looked : goal.returns-in-Some-None-clause-looked
+returns-in-Some-None-clause-looked g c =
+    let key = c.item_key.ensures ∙ ap key_of_item c.requires.number in
+    let empty = hint-says (2 ^ (c.args.shift + 1)) c.args.older.now c.args.list.now.cells c.item_key.result (key_of_item (g.H.KeyHash.number c.args.hash c.args.key.now)) c.hint_at.result None c.requires.older (c.hint_at.ensures ∙ ap (λ (z : ℕ). get_or c.args.older.now z None) (sym (part-half c.args.shift c.item_key.result))) (c.in-Some-None.is ∙ ap Some c.in-Some-None.field-0-is) key in
+    let few : c.args.steps.now < 2 ^ 64 = omega arith in
+    empty-looked (g.H.KeyHash.number c.args.hash) c.args.dummies.now c.args.list.now.cells c.args.key.now (2 ^ (c.args.shift + 1)) c.requires.rows.split empty c.args.steps.now few
