@@ -1,6 +1,7 @@
 """The parts of a gate: commands, several side by side, each with its output in a file and its time on the screen."""
 import os
 import re
+import shutil
 import signal
 import subprocess
 import sys
@@ -14,19 +15,21 @@ PROGRAM = "crates/ets_script_cli"
 BEGAN = time.time()
 # What a failure's report leaves out.
 PROVED = re.compile(r"(fn|struct|enum|impl|trait) \S+: proved$|statements ")
-running = []
+running, is_over = [], threading.Event()
 
 
 def say(text):
-    print(f"{(time.time() - BEGAN) / 60:5.1f} min  {text}", flush=True)
+    # (in one piece, since parts speak side by side)
+    print(f"{(time.time() - BEGAN) / 60:5.1f} min  {text}\n", end="", flush=True)
 
 
 class Part:
-    """A command in a folder of the tree. It waits until the parts that it comes after have passed."""
+    """A command in a folder of the tree. It waits until the parts that it comes after have passed. Where one that ends all
+    fails, the others are ended: it is cheap, and they are not."""
 
-    def __init__(self, name, words, folder="", after=(), show=None):
-        self.name, self.words, self.folder, self.after, self.show = name, words, folder, after, show
-        self.is_well, self.text = None, ""
+    def __init__(self, name, words, folder="", after=(), show=None, ends_all=False):
+        self.name, self.words, self.folder, self.after, self.show, self.ends_all = name, words, folder, after, show, ends_all
+        self.is_well, self.is_ended, self.text = None, False, ""
 
     def file(self, logs):
         """Where its output stands, below the folder `logs`."""
@@ -38,21 +41,23 @@ class Part:
         how = {"cwd": os.path.join(TOP, self.folder), "stdin": subprocess.DEVNULL, "stderr": subprocess.STDOUT, "process_group": 0}
         with open(file, "w", encoding="utf-8") as it:
             self.ran = subprocess.Popen(self.words, stdout=it, **how)
-        running.append(self.ran)
+        running.append(self)
+        if is_over.is_set():
+            end_running()
         follower = threading.Thread(target=self.follow, args=(file,))
         follower.start()
         _, status, used = os.wait4(self.ran.pid, 0)
         self.ran.returncode = os.waitstatus_to_exitcode(status)
         follower.join()
         self.text, self.is_well = read(file), self.ran.returncode == 0
-        word = "ok" if self.is_well else "FAILED"
+        word = "ok" if self.is_well else "ended" if self.is_ended else "FAILED"
         say(f"{self.name}: {word}, {time.time() - began:.0f} s, {used.ru_utime + used.ru_stime:.0f} s of processor")
 
     def follow(self, file):
-        rest, is_over = "", not self.show
+        rest, has_ended = "", not self.show
         with open(file, encoding="utf-8", errors="replace") as it:
-            while not is_over:
-                is_over = self.ran.returncode is not None
+            while not has_ended:
+                has_ended = self.ran.returncode is not None
                 *whole, rest = (rest + it.read()).split("\n")
                 for line in whole:
                     if re.search(self.show, line):
@@ -64,20 +69,31 @@ class Part:
         return f"== {self.name}\n" + "\n".join(told[-200:])
 
 
-def unproved():
+def scripts(to):
+    """The scripts in one folder, so that the program is compiled once for all: the examples, the rules, and the rules by the other hash."""
+    for prefix, folder, words in ("", "examples", ""), ("rule_", "examples/rules", ""), ("rule_by_one_hash_", "examples/rules", "--hash\nsame\n"):
+        files = [it for it in os.listdir(f"{TOP}/{folder}") if os.path.isfile(f"{TOP}/{folder}/{it}")]
+        for it in files:
+            shutil.copy(f"{TOP}/{folder}/{it}", f"{to}/{prefix}{it}")
+        for it in files if words else ():
+            if it.endswith(".ets"):
+                with open(f"{to}/{prefix}{it}.args", "a", encoding="utf-8") as args:
+                    args.write(words)
+
+
+def unproved(logs):
     """What costs no proof: the tables of calls, the scripts by the sources as they are compiled with checks, and the client."""
-    cases = ["rt", "try", "--cases"]
+    os.mkdir(f"{logs}/scripts")
+    scripts(f"{logs}/scripts")
     return [
-        Part("the tables of calls", [f"{TOP}/.ci/names"]),
-        Part("the examples", [*cases, "../../examples"], PROGRAM),
-        Part("the rules", [*cases, "../../examples/rules"], PROGRAM),
-        Part("the rules, by the other hash", [*cases, "../../examples/rules", "--", "--hash", "same"], PROGRAM),
-        Part("the client", [sys.executable, "examples/python/test_ets.py"]),
+        Part("the tables of calls", [f"{TOP}/.ci/names"], ends_all=True),
+        Part("the client", [sys.executable, "examples/python/test_ets.py"], ends_all=True),
+        Part("the scripts", ["rt", "try", "--seconds", "300", "--cases", f"{logs}/scripts"], PROGRAM, ends_all=True),
     ]
 
 
-def side_by_side(parts, logs):
-    """Runs parts, as many at once as there are processors. One whose turn never comes has failed."""
+def side_by_side(parts, logs, at_once):
+    """Runs parts, so many at once. One whose turn never comes has failed."""
     waiting, lock = list(parts), threading.Lock()
 
     def take():
@@ -93,30 +109,40 @@ def side_by_side(parts, logs):
             part = take()
             if part:
                 part.run(logs)
+                if part.ends_all and not part.is_well:
+                    waiting.clear()
+                    is_over.set()
+                    end_running()
             elif all(each.is_well is not None for each in parts if each not in waiting):
                 return
             else:
                 time.sleep(0.5)
 
-    lanes = [threading.Thread(target=lane) for _ in range(len(os.sched_getaffinity(0)))]
+    lanes = [threading.Thread(target=lane) for _ in range(at_once)]
     for it in lanes:
         it.start()
     for it in lanes:
         it.join()
-    for it in parts:
-        if not it.is_well:
+    failed = [it for it in parts if not it.is_well]
+    for it in failed:
+        if it.text and not it.is_ended:
             print(it.end_of_text(), flush=True)
-    return [it for it in parts if not it.is_well]
+    return failed
+
+
+def end_running():
+    """Ends every part that runs, with all that it began."""
+    for it in running:
+        if it.ran.returncode is None:
+            it.is_ended = True
+            try:
+                os.killpg(it.ran.pid, signal.SIGTERM)
+            except OSError:
+                pass
 
 
 def end_with_all(*_):
-    """Ends every part that runs, with all that it began."""
-    for it in running:
-        if it.returncode is None:
-            try:
-                os.killpg(it.pid, signal.SIGTERM)
-            except OSError:
-                pass
+    end_running()
     os._exit(1)
 
 

@@ -8,22 +8,21 @@ import time
 from crates import crates_of
 from parts import BEGAN, TOP, Part, end_on_signals, say, side_by_side, unproved
 
-ROWS = ["ets_term", "split_key", "node_list", "bucket_table"]
+# The list, its keys, and the terms that both stand on.
+PROVED = ["ets_term", "split_key", "node_list"]
 
 
 def main():
     end_on_signals()
     crates = crates_of(TOP)
-    # (the rows of a table want a processor for some minutes, so two alone are kept for the rest)
-    wanted = ROWS if len(os.sched_getaffinity(0)) > 2 else ROWS[:-1]
     proofs = {}
-    for name in wanted:
+    for name in PROVED:
         below = [proofs[it] for it in crates[name].uses if it in proofs]
         proofs[name] = Part(f"{name} proved", ["rt", "check", "--jobs", "1"], f"crates/{name}", after=below)
-    tests = [Part(f"the tests of {name}", ["rt", "try", "--test"], f"crates/{name}") for name in crates if name.endswith("_tests")]
-    parts = [*proofs.values(), *unproved(), *tests]
+    tests = [Part(f"the tests of {name}", ["rt", "try", "--test", "--seconds", "300"], f"crates/{name}") for name in crates if name.endswith("_tests")]
     with tempfile.TemporaryDirectory(prefix="quick-") as logs:
-        failed = side_by_side(parts, logs)
+        parts = [*proofs.values(), *unproved(logs), *tests]
+        failed = side_by_side(parts, logs, len(os.sched_getaffinity(0)))
     count = lambda part: len(re.findall(r"^fn \S+: proved$", part.text, re.M))
     print(f"proved: {', '.join(f'{name} ({count(it)} functions)' for name, it in proofs.items() if it.is_well)}")
     print("run, unproved: the scripts, the client, the tests")

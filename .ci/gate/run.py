@@ -31,33 +31,40 @@ def counted(pattern, text):
     return (int(found[1]), int(found[2])) if found else (0, 1)
 
 
-def proved(words, logs):
-    """Proves everything, and tries wrong bodies beside that. Returns how many passed and failed."""
-    copy = f"{logs}/tree"
-    os.mkdir(copy)
-    copy_without_edits(copy)
-    costs = Costs(copy)
+def parts_of(words, copy, logs):
+    """What the gate runs: what costs no proof, the test of the program of wrong bodies, `rt ci`, the wrong bodies, and the front door."""
+    politely = ["nice", "-n", "10", f"{TOP}/.ci/wrong_bodies"]
+    itself = Part("the program of wrong bodies", [*politely, "--self"], ends_all=True)
     proofs = Part("every proof, test and program (rt ci)", ["rt", "ci"], copy, show=r"^rt: ")
-    tried = ["nice", "-n", "10", f"{TOP}/.ci/wrong_bodies", "--libraries", copy, "--after", proofs.file(logs), *words]
+    tried = [*politely, "--libraries", copy, "--after", proofs.file(logs), *words]
     edits = Part("every wrong body", tried, show=r"^wrong bodies: ")
     door = Part("the front door", [f"{TOP}/.ci/door", f"{copy}/{PROGRAM}/out/ets_script_cli"], after=[proofs])
-    side_by_side([proofs, edits, door], logs)
-    counts = [counted(r"(\d+) passed, (\d+) failed", proofs.text), counted(r"(\d+) refused, (\d+) not", edits.text)]
-    counts += [(1, 0) if door.is_well else (0, 1)]
-    of_edits = dict(re.findall(r"^edits of (\w+): (\d+) s", edits.text, re.M))
-    print(table(crates_of(TOP), lambda name, kind: float(of_edits.get(name, 0)) if kind == "edits" else costs.of(name, kind), budget(f"{TOP}/docs/gate.md")))
-    return [sum(it) for it in zip(*counts)]
+    return [*unproved(logs), itself, door], proofs, edits
+
+
+def report(edits, costs):
+    """What each crate took beside its budget."""
+    took = {name: float(used) for name, used in re.findall(r"^edits of (\w+): (\d+) s", edits.text, re.M)}
+    measured = lambda name, kind: took.get(name, 0) if kind == "edits" else costs.of(name, kind)
+    return table(crates_of(TOP), measured, budget(f"{TOP}/docs/gate.md"))
 
 
 def main(words):
     end_on_signals()
     with tempfile.TemporaryDirectory(prefix="gate-") as logs:
-        first = [*unproved(), Part("the program of wrong bodies", [f"{TOP}/.ci/wrong_bodies", "--self"])]
-        failed = len(side_by_side(first, logs))
-        passed = len(first) - failed
-        if not failed:
-            more, failed = proved(words, logs)
-            passed += more
+        copy = f"{logs}/tree"
+        os.mkdir(copy)
+        copy_without_edits(copy)
+        costs = Costs(copy)
+        single, proofs, edits = parts_of(words, copy, logs)
+        all_parts = [*single, proofs, edits]
+        side_by_side(all_parts, logs, len(all_parts))
+        counts = [(1, 0) if it.is_well else (0, 1) for it in single]
+        counts += [counted(r"(\d+) passed, (\d+) failed", proofs.text), counted(r"(\d+) refused, (\d+) not", edits.text)]
+        print(report(edits, costs))
+    passed, failed = map(sum, zip(*counts))
+    # (what failed without a count of its own)
+    failed = failed or sum(not it.is_well for it in all_parts)
     used = resource.getrusage(resource.RUSAGE_CHILDREN)
     say(f"in all: {(time.time() - BEGAN) / 60:.0f} minutes, {(used.ru_utime + used.ru_stime) / 60:.0f} of processor")
     print(f"{passed} passed, {failed} failed", flush=True)

@@ -12,16 +12,24 @@ fn eight_buckets_in_order(rt: HostRuntime) {
 }
 
 #[test]
-fn keys_of_dummies_and_items(rt: HostRuntime) {
+fn bits_in_reverse_order(rt: HostRuntime) {
     assert_eq!(rt; rev32(1), 2_147_483_648);
     assert_eq!(rt; rev32(2_147_483_648), 1);
-    assert_eq!(rt; dummy_key(0), 0);
-    assert_eq!(rt; dummy_key(1), 4_294_967_296);
-    assert_eq!(rt; dummy_key(2), 2_147_483_648);
-    assert_eq!(rt; dummy_key(3), 6_442_450_944);
-    assert_eq!(rt; item_key(0), 1);
-    assert_eq!(rt; item_key(1), 4_294_967_297);
-    assert_eq!(rt; item_key(u32::MAX), 8_589_934_591);
+}
+
+#[test]
+fn keys_of_dummies_and_items(rt: HostRuntime) {
+    for (bucket, key) in [
+        (0, 0),
+        (1, 4_294_967_296),
+        (2, 2_147_483_648),
+        (3, 6_442_450_944),
+    ] {
+        assert_eq!(rt; dummy_key(bucket), key);
+    }
+    for (hash, key) in [(0, 1), (1, 4_294_967_297), (u32::MAX, 8_589_934_591)] {
+        assert_eq!(rt; item_key(hash), key);
+    }
 }
 
 #[test]

@@ -41,21 +41,30 @@ fn text_of(alloc: Global, count: usize) -> Result<String, Fail> {
     Ok(text)
 }
 
+/// Whether an atom of so many characters and its copy have its text.
+fn keeps_text(alloc: Global, count: usize) -> Result<bool, Fail> {
+    let text = text_of(alloc, count)?;
+    let made = Atom::new(alloc, text.as_str())?;
+    let copy = made.try_clone(alloc)?;
+    Ok(made.text() == text.as_str() && copy.text() == text.as_str())
+}
+
 #[test]
-fn atoms_have_up_to_255_printable_characters(rt: HostRuntime) -> Result<(), Fail> {
+fn atoms_have_up_to_255_characters(rt: HostRuntime) -> Result<(), Fail> {
     let alloc = rt.alloc();
-    assert_eq!(rt; Atom::new(alloc, "")?.text(), "");
-    for count in [22, 23, 255] {
-        let text = text_of(alloc, count)?;
-        let made = Atom::new(alloc, text.as_str())?;
-        assert_eq!(rt; made.text(), text.as_str());
-        assert_eq!(rt; made.try_clone(alloc)?.text(), text.as_str());
+    for count in [0, 22, 23, 255] {
+        assert!(rt; keeps_text(alloc, count)?, "of {count}");
     }
     let long = text_of(alloc, 256)?;
     assert!(rt; matches!(Atom::new(alloc, long.as_str()), Err(AtomFault::TooLong)));
-    assert!(rt; matches!(Atom::new(alloc, "\t"), Err(AtomFault::BadCharacter)));
-    assert!(rt; matches!(Atom::new(alloc, "é"), Err(AtomFault::BadCharacter)));
     Ok(())
+}
+
+#[test]
+fn characters_of_atoms_are_printable(rt: HostRuntime) {
+    for text in ["\t", "é"] {
+        assert!(rt; matches!(Atom::new(rt.alloc(), text), Err(AtomFault::BadCharacter)), "{text}");
+    }
 }
 
 /// Terms in rising order, each kind in its place.
@@ -113,18 +122,27 @@ fn is_of_depth(rt: &impl Abort, alloc: Global, term: &Term, depth: usize) -> Res
     Ok(())
 }
 
+/// A tuple and a list of these atoms.
+fn are_of_depth(rt: &impl Abort, alloc: Global, letters: &str, depth: usize) -> Result<(), Fail> {
+    is_of_depth(rt, alloc, &tuple(alloc, letters)?, depth)?;
+    is_of_depth(rt, alloc, &list(alloc, letters)?, depth)
+}
+
 #[test]
 fn depths_and_copies(rt: HostRuntime) -> Result<(), Fail> {
     let alloc = rt.alloc();
+    are_of_depth(&rt, alloc, "", 1)?;
+    are_of_depth(&rt, alloc, "ab", 2)?;
     is_of_depth(&rt, alloc, &Term::Int(5), 1)?;
-    is_of_depth(&rt, alloc, &binary(alloc, &[0, 255])?, 1)?;
-    is_of_depth(&rt, alloc, &tuple(alloc, "")?, 1)?;
-    is_of_depth(&rt, alloc, &list(alloc, "")?, 1)?;
-    let pair = tuple(alloc, "ab")?;
-    is_of_depth(&rt, alloc, &pair, 2)?;
+    is_of_depth(&rt, alloc, &binary(alloc, &[0, 255])?, 1)
+}
+
+#[test]
+fn the_deepest_part_counts(rt: HostRuntime) -> Result<(), Fail> {
+    let alloc = rt.alloc();
     let mut parts = Items::new(alloc);
     parts.push(Term::default())?;
-    parts.push(pair)?;
+    parts.push(tuple(alloc, "ab")?)?;
     is_of_depth(&rt, alloc, &Term::List(parts), 3)
 }
 
@@ -165,28 +183,53 @@ fn an_atom_has_its_text_alone(rt: HostRuntime) -> Result<(), Fail> {
 
 #[test]
 fn elements_count_from_one(rt: HostRuntime) -> Result<(), Fail> {
-    let alloc = rt.alloc();
-    let a = atom(alloc, "a")?;
-    let pair = tuple(alloc, "ab")?;
-    assert!(rt; pair.element(1) == Some(&a));
+    let pair = tuple(rt.alloc(), "ab")?;
     assert!(rt; pair.element(0).is_none());
+    assert!(rt; pair.element(1).is_some_and(|it| it.is_atom("a")));
+    assert!(rt; pair.element(2).is_some_and(|it| it.is_atom("b")));
     assert!(rt; pair.element(3).is_none());
-    assert!(rt; list(alloc, "ab")?.element(1).is_none());
     Ok(())
 }
 
 #[test]
+fn lists_have_no_elements(rt: HostRuntime) -> Result<(), Fail> {
+    let two = list(rt.alloc(), "ab")?;
+    assert!(rt; two.element(1).is_none());
+    Ok(())
+}
+
+/// The hash of a term by the library's hasher.
+fn hashed(term: &Term) -> u64 {
+    let mut hasher = DefaultHasher::new();
+    term.hash(&mut hasher);
+    hasher.finish()
+}
+
+#[test]
 fn hashes_take_the_encoding(rt: HostRuntime) -> Result<(), Fail> {
-    let alloc = rt.alloc();
-    let mut by_term = DefaultHasher::new();
-    atom(alloc, "a")?.hash(&mut by_term);
     let mut by_bytes = DefaultHasher::new();
     by_bytes.write(&[2, 1, 97]);
-    assert_eq!(rt; by_term.finish(), by_bytes.finish());
+    let a = atom(rt.alloc(), "a")?;
+    assert_eq!(rt; hashed(&a), by_bytes.finish());
+    Ok(())
+}
+
+#[test]
+fn hashes_tell_tuples_from_lists(rt: HostRuntime) -> Result<(), Fail> {
+    let alloc = rt.alloc();
     let pair = tuple(alloc, "ab")?;
+    let again = tuple(alloc, "ab")?;
+    let other = list(alloc, "ab")?;
     assert_eq!(rt; AllSame.hash32(&pair), 0);
-    assert_eq!(rt; Fnv.hash32(&pair), Fnv.hash32(&tuple(alloc, "ab")?));
-    assert!(rt; Fnv.hash32(&pair) != Fnv.hash32(&list(alloc, "ab")?));
+    assert_eq!(rt; Fnv.hash32(&pair), Fnv.hash32(&again));
+    assert!(rt; Fnv.hash32(&pair) != Fnv.hash32(&other));
+    Ok(())
+}
+
+fn push_all(items: &mut Items<u8>, numbers: &[u8]) -> Result<(), Fail> {
+    for n in numbers {
+        items.push(*n)?;
+    }
     Ok(())
 }
 
@@ -194,9 +237,7 @@ fn hashes_take_the_encoding(rt: HostRuntime) -> Result<(), Fail> {
 fn items_are_a_list(rt: HostRuntime) -> Result<(), Fail> {
     let mut items = Items::new(rt.alloc());
     assert!(rt; items.is_empty());
-    for n in [1, 2, 3] {
-        items.push(n)?;
-    }
+    push_all(&mut items, &[1, 2, 3])?;
     assert_eq!(rt; items.pop(), Some(3));
     assert_eq!(rt; items.len(), 2);
     assert_eq!(rt; items.get(1), Some(&2));

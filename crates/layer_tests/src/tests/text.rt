@@ -3,6 +3,7 @@ mod against_reference;
 mod long;
 mod reference;
 
+use ets_term::Term;
 use std::alloc::Global;
 use std::io::{self, Error, ErrorKind, Write};
 use std::process::Abort;
@@ -126,50 +127,67 @@ fn binaries_pids_and_identifiers(rt: HostRuntime) -> Result<(), Fail> {
     )
 }
 
+/// A start, a part so often and an end, and what the text of them gives.
+type LongRow = (
+    &'static str,
+    &'static str,
+    usize,
+    &'static str,
+    &'static str,
+);
+
+/// Terms of 128 levels, and atoms of 255 characters.
+const LONG: [LongRow; 9] = [
+    ("", "[", 128, "[", "TooDeep(128)"),
+    ("", "[", 128, "A", "Unexpected(128)"),
+    ("", "[", 128, "-", "TooDeep(128)"),
+    ("", "[", 127, "\"\\", "TooDeep(128)"),
+    ("", "[", 127, "\"\t", "Unexpected(128)"),
+    ("", "[", 127, "\"", "Unclosed(128)"),
+    ("", "a", 256, "", "AtomTooLong(0)"),
+    (" '", "a", 256, "", "AtomTooLong(1)"),
+    ("'", "a", 255, "\\", "AtomTooLong(0)"),
+];
+
+fn given_long(
+    alloc: Global,
+    start: &str,
+    part: &str,
+    count: usize,
+    end: &str,
+) -> Result<String, Fail> {
+    let mut text = String::from_str(alloc, start)?;
+    text.push_str(repeated(alloc, part, count)?.as_str())?;
+    text.push_str(end)?;
+    given(alloc, text.as_str())
+}
+
 #[test]
-fn levels_and_lengths(rt: HostRuntime) -> Result<(), Fail> {
+fn past_the_levels_and_lengths(rt: HostRuntime) -> Result<(), Fail> {
+    for (start, part, count, end, want) in LONG {
+        let got = given_long(rt.alloc(), start, part, count, end)?;
+        assert_eq!(rt; got.as_str(), want, "of {start}{part}..{end}");
+    }
+    Ok(())
+}
+
+#[test]
+fn the_longest_atom(rt: HostRuntime) -> Result<(), Fail> {
     let alloc = rt.alloc();
-    let open = repeated(alloc, "[", 128)?;
-    let close = repeated(alloc, "]", 128)?;
-    let whole = format!(in alloc; "{open}{close}")?;
+    let mut printed = repeated(alloc, "a", 255)?;
+    printed.push_str(" 257")?;
+    let got = given_long(alloc, "'", "a", 255, "'")?;
+    assert_eq!(rt; got.as_str(), printed.as_str());
+    Ok(())
+}
+
+#[test]
+fn the_deepest_term(rt: HostRuntime) -> Result<(), Fail> {
+    let alloc = rt.alloc();
+    let mut whole = repeated(alloc, "[", 128)?;
+    whole.push_str(repeated(alloc, "]", 128)?.as_str())?;
     let (term, n) = read_term_bytes(alloc, whole.as_bytes())?;
     assert_eq!(rt; (term.depth(), n), (128, 256));
-    for (end, want) in [
-        ("[", "TooDeep(128)"),
-        ("A", "Unexpected(128)"),
-        ("-", "TooDeep(128)"),
-    ] {
-        assert_eq!(rt;
-            given(alloc, format!(in alloc; "{open}{end}")?.as_str())?.as_str(),
-            want
-        );
-    }
-    let fewer = repeated(alloc, "[", 127)?;
-    for (end, want) in [
-        ("\"\\", "TooDeep(128)"),
-        ("\"\t", "Unexpected(128)"),
-        ("\"", "Unclosed(128)"),
-    ] {
-        assert_eq!(rt;
-            given(alloc, format!(in alloc; "{fewer}{end}")?.as_str())?.as_str(),
-            want
-        );
-    }
-    let long = repeated(alloc, "a", 256)?;
-    assert_eq!(rt; given(alloc, long.as_str())?.as_str(), "AtomTooLong(0)");
-    assert_eq!(rt;
-        given(alloc, format!(in alloc; " '{long}")?.as_str())?.as_str(),
-        "AtomTooLong(1)"
-    );
-    let most = repeated(alloc, "a", 255)?;
-    assert_eq!(rt;
-        given(alloc, format!(in alloc; "'{most}'")?.as_str())?,
-        format!(in alloc; "{most} 257")?
-    );
-    assert_eq!(rt;
-        given(alloc, format!(in alloc; "'{most}\\")?.as_str())?.as_str(),
-        "AtomTooLong(0)"
-    );
     Ok(())
 }
 
@@ -199,28 +217,43 @@ impl Write for Failing {
     }
 }
 
+/// Whether a writer that fails after so many bytes has that front of the text.
+fn leaves_a_front(alloc: Global, term: &Term, text: &str, left: usize) -> bool {
+    let mut out = Failing {
+        taken: Vec::new(alloc),
+        most: 1,
+        left,
+    };
+    matches!(write_term(term, &mut out), Err(WriteFault::Io(_)))
+        && out.taken.len() == left
+        && text.as_bytes().starts_with(out.taken.as_slice())
+}
+
+/// Whether the text of a term is this.
+fn writes(alloc: Global, term: &Term, text: &str) -> Result<bool, Fail> {
+    let mut whole = Vec::new(alloc);
+    write_term(term, &mut whole)?;
+    Ok(whole.as_slice() == text.as_bytes())
+}
+
 #[test]
 fn a_fault_leaves_a_front_of_the_text(rt: HostRuntime) -> Result<(), Fail> {
     let alloc = rt.alloc();
     let text = "{a,'B',[<0.1.0>,#Tid<2>],<<1,2>>,-3}";
     let (term, _) = read_term(alloc, text)?;
-    let mut whole = Vec::new(alloc);
-    write_term(&term, &mut whole)?;
-    assert_eq!(rt; whole.as_slice(), text.as_bytes());
+    assert!(rt; writes(alloc, &term, text)?);
     for left in 0..text.len() {
-        let mut out = Failing {
-            taken: Vec::new(alloc),
-            most: 1,
-            left,
-        };
-        assert!(rt; matches!(write_term(&term, &mut out), Err(WriteFault::Io(_))));
-        assert_eq!(rt; out.taken.as_slice(), &text.as_bytes()[..left]);
+        assert!(rt; leaves_a_front(alloc, &term, text, left), "of {left}");
     }
+    Ok(())
+}
+
+#[test]
+fn a_writer_that_takes_nothing_is_a_fault(rt: HostRuntime) {
     let mut stuck = Failing {
-        taken: Vec::new(alloc),
+        taken: Vec::new(rt.alloc()),
         most: 0,
         left: 9,
     };
-    assert!(rt; matches!(write_term(&term, &mut stuck), Err(WriteFault::Zero)));
-    Ok(())
+    assert!(rt; matches!(write_term(&Term::Int(7), &mut stuck), Err(WriteFault::Zero)));
 }

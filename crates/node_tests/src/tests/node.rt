@@ -1,5 +1,5 @@
-// Values from outside: each test is a table of rows, a step and the reply that the rules want of it. A row that is answered
-// otherwise is named by its place.
+// What no script of examples/rules can say. Values from outside: a test is a table of rows, a step and the reply that the
+// rules want of it. A row that is answered otherwise is named by its place.
 use crate::tests::text::{term, terms};
 use ets_term::{AllSame, Fnv, KeyHash, Term};
 use node_core::{Call, Limits, Node, Reply, Step};
@@ -8,11 +8,8 @@ use std::alloc::{AllocError, Global};
 mod growth;
 mod insertion;
 mod long;
-mod owning;
 mod processes;
-mod reading;
 mod refused;
-mod removal;
 mod searching;
 mod tables;
 mod updates;

@@ -65,11 +65,18 @@ fn all_do<R: Rows>(alloc: Global, table: &mut Walked<R>, rows: &[Row]) -> Result
     Ok(true)
 }
 
+fn plain_does(alloc: Global, rows: &[Row]) -> Result<bool, Fail> {
+    let mut table = plain(alloc, Kind::Set);
+    all_do(alloc, &mut table, rows)
+}
+
+fn one_bucket_does(alloc: Global, rows: &[Row]) -> Result<bool, Fail> {
+    let mut table = one_bucket(alloc, Kind::Set)?;
+    all_do(alloc, &mut table, rows)
+}
+
 fn both_do(alloc: Global, rows: &[Row]) -> Result<bool, Fail> {
-    Ok(
-        all_do(alloc, &mut plain(alloc, Kind::Set), rows)?
-            && all_do(alloc, &mut one_bucket(alloc, Kind::Set)?, rows)?,
-    )
+    Ok(plain_does(alloc, rows)? && one_bucket_does(alloc, rows)?)
 }
 
 #[test]

@@ -304,7 +304,7 @@ fn whole_over_split_rows(rt: HostRuntime) -> Result<(), Fail> {
 fn whole_over_one_bucket(rt: HostRuntime) -> Result<(), Fail> {
     let alloc = rt.alloc();
     assert_eq!(rt;
-        wrong_growing(alloc, &mut one_bucket(alloc, Kind::Bag)?, 1600, 100)?,
+        wrong_growing(alloc, &mut one_bucket(alloc, Kind::Bag)?, 800, 50)?,
         None
     );
     Ok(())

@@ -4,11 +4,8 @@ use std::alloc::{AllocError, Global};
 use std::test::Fail;
 use term_text::{TextFault, print_term, read_term};
 
-/// One more than each power of two up to 65,536, and 70,000.
-const COUNTS: [usize; 18] = [
-    2, 3, 5, 9, 17, 33, 65, 129, 257, 513, 1_025, 2_049, 4_097, 8_193, 16_385, 32_769, 65_537,
-    70_000,
-];
+/// One more than each power of two up to 1,024, and 70,000.
+const COUNTS: [usize; 12] = [2, 3, 5, 9, 17, 33, 65, 129, 257, 513, 1_025, 70_000];
 
 fn is_printed(alloc: Global, term: &Term, printed: &str) -> Result<bool, AllocError> {
     let mut out = String::new(alloc);

@@ -74,30 +74,50 @@ fn thresholds(rt: HostRuntime) -> Result<(), Fail> {
     Ok(())
 }
 
+/// Whether an increment of `{c,before}` gives this.
+fn adds(alloc: Global, before: Integer, increment: Integer, after: Integer) -> Result<bool, Fail> {
+    let answer = Term::Int(after);
+    gives(alloc, before, &Term::Int(increment), &answer, after)
+}
+
 #[test]
 fn integer_alone(rt: HostRuntime) -> Result<(), Fail> {
-    let alloc = rt.alloc();
     for (before, increment, after) in [(5, 3, 8), (5, -7, -2), (MAX, 0, MAX)] {
-        assert!(rt;
-            gives(
-                alloc,
-                before,
-                &Term::Int(increment),
-                &Term::Int(after),
-                after
-            )?
-        );
+        assert!(rt; adds(rt.alloc(), before, increment, after)?);
     }
-    let ops = read_ops(alloc, &Term::Int(4), 2)?;
-    let mut object = Term::Tuple(numbers(alloc, &[1, 2, 3])?);
-    assert!(rt; update_counter(alloc, &mut object, &ops)? == Term::Int(7));
-    assert!(rt; object == Term::Tuple(numbers(alloc, &[1, 2, 7])?));
     Ok(())
+}
+
+/// What an increment by 4 answers of an object whose key stands second.
+fn four_more(alloc: Global, object: &mut Term) -> Result<Term, Fail> {
+    let ops = read_ops(alloc, &Term::Int(4), 2)?;
+    Ok(update_counter(alloc, object, &ops)?)
+}
+
+#[test]
+fn integer_alone_behind_the_key(rt: HostRuntime) -> Result<(), Fail> {
+    let alloc = rt.alloc();
+    let mut object = Term::Tuple(numbers(alloc, &[1, 2, 3])?);
+    assert!(rt; four_more(alloc, &mut object)? == Term::Int(7));
+    let wanted = Term::Tuple(numbers(alloc, &[1, 2, 7])?);
+    assert!(rt; object == wanted);
+    Ok(())
+}
+
+/// Whether operations on `{c,5}` give these values.
+fn list_gives(
+    alloc: Global,
+    ops: &[&[Integer]],
+    answers: &[Integer],
+    after: Integer,
+) -> Result<bool, Fail> {
+    let update = listed(alloc, ops)?;
+    let answer = Term::List(numbers(alloc, answers)?);
+    gives(alloc, 5, &update, &answer, after)
 }
 
 #[test]
 fn lists_answer_each_new_value(rt: HostRuntime) -> Result<(), Fail> {
-    let alloc = rt.alloc();
     let rows: [(&[&[Integer]], &[Integer], Integer); 4] = [
         (&[&[2, 1], &[2, 10]], &[6, 16], 16),
         (&[&[2, 10], &[2, 1, 15, 0]], &[15, 0], 0),
@@ -105,8 +125,7 @@ fn lists_answer_each_new_value(rt: HostRuntime) -> Result<(), Fail> {
         (&[], &[], 5),
     ];
     for (ops, answers, after) in rows {
-        let answer = Term::List(numbers(alloc, answers)?);
-        assert!(rt; gives(alloc, 5, &listed(alloc, ops)?, &answer, after)?);
+        assert!(rt; list_gives(rt.alloc(), ops, answers, after)?);
     }
     Ok(())
 }
@@ -143,13 +162,18 @@ fn elements_that_are_no_counters(rt: HostRuntime) -> Result<(), Fail> {
     Ok(())
 }
 
+/// Whether `{1,1}` is badarg of an object whose key stands second, in place and on a copy.
+fn is_refused(alloc: Global, object: &mut Term) -> Result<bool, Fail> {
+    let update = Term::Tuple(numbers(alloc, &[1, 1])?);
+    let ops = read_ops(alloc, &update, 2)?;
+    Ok(is_badarg(update_counter(alloc, object, &ops)) && is_badarg(apply_ops(alloc, object, &ops)))
+}
+
 #[test]
 fn objects_that_have_no_counter(rt: HostRuntime) -> Result<(), Fail> {
-    let alloc = rt.alloc();
-    let ops = read_ops(alloc, &Term::Tuple(numbers(alloc, &[1, 1])?), 2)?;
-    let mut object = counter(alloc, 5)?;
-    assert!(rt; is_badarg(update_counter(alloc, &mut object, &ops)));
-    assert!(rt; is_badarg(apply_ops(alloc, &Term::Int(5), &ops)));
+    let mut object = counter(rt.alloc(), 5)?;
+    assert!(rt; is_refused(rt.alloc(), &mut object)?);
+    assert!(rt; is_refused(rt.alloc(), &mut Term::Int(5))?);
     Ok(())
 }
 

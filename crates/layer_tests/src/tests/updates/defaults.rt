@@ -74,14 +74,19 @@ fn element_past_the_default(rt: HostRuntime) -> Result<(), Fail> {
     Ok(())
 }
 
-#[test]
-fn elements_of_the_default(rt: HostRuntime) -> Result<(), Fail> {
-    let alloc = rt.alloc();
+/// What the update `{2,9}` makes of the default `{0,1}` under a key.
+fn started(alloc: Global, key: Integer) -> Result<Term, Fail> {
     let default = tuple(alloc, &[Part::Int(0), Part::Int(1)])?;
     let update = tuple(alloc, &[Part::Int(2), Part::Int(9)])?;
     let specs = read_element_specs(alloc, &update, 1)?;
-    let object = start_elements(alloc, &default, 1, &Term::Int(3), specs)?;
-    assert!(rt; object == tuple(alloc, &[Part::Int(3), Part::Int(9)])?);
+    Ok(start_elements(alloc, &default, 1, &Term::Int(key), specs)?)
+}
+
+#[test]
+fn elements_of_the_default(rt: HostRuntime) -> Result<(), Fail> {
+    let alloc = rt.alloc();
+    let wanted = tuple(alloc, &[Part::Int(3), Part::Int(9)])?;
+    assert!(rt; started(alloc, 3)? == wanted);
     Ok(())
 }
 

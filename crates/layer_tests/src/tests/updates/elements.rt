@@ -34,16 +34,28 @@ fn refusal(alloc: Global, update: &Term) -> Result<Option<CounterFault>, Fail> {
     Ok(Some(fault))
 }
 
+/// Whether the update makes `{k,y,2}`.
+fn makes_y(alloc: Global, update: &Term) -> Result<bool, Fail> {
+    let wanted = object(alloc, Part::Atom("y"))?;
+    makes(alloc, update, &wanted)
+}
+
+#[test]
+fn one_value(rt: HostRuntime) -> Result<(), Fail> {
+    let alloc = rt.alloc();
+    let update = tuple(alloc, &[Part::Int(2), Part::Atom("y")])?;
+    assert!(rt; makes_y(alloc, &update)?);
+    Ok(())
+}
+
 #[test]
 fn last_value_stays(rt: HostRuntime) -> Result<(), Fail> {
     let alloc = rt.alloc();
-    let wanted = object(alloc, Part::Atom("y"))?;
     let x = [Part::Int(2), Part::Atom("x")];
     let y = [Part::Int(2), Part::Atom("y")];
-    assert!(rt; makes(alloc, &tuple(alloc, &y)?, &wanted)?);
     let rows: [&[&[Part]]; 3] = [&[&y], &[&x, &y], &[&y, &x, &y]];
     for update in rows {
-        assert!(rt; makes(alloc, &list(alloc, update)?, &wanted)?);
+        assert!(rt; makes_y(alloc, &list(alloc, update)?)?);
     }
     Ok(())
 }

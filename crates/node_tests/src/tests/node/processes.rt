@@ -54,25 +54,3 @@ fn refusals_come_in_their_order(rt: HostRuntime) -> Result<(), Fail> {
     assert_eq!(rt; wrong(rt.alloc(), &ORDER)?, None);
     Ok(())
 }
-
-const ENDED: [Row; 13] = [
-    (Enrol(0), "<0"),
-    (Enrol(1), "<1"),
-    (Ask(0, "new(t,[public,named_table])"), "t"),
-    (Ask(1, "new(u,[public])"), "#1"),
-    (Ask(0, "new(v,[public])"), "#2"),
-    (Ask(1, "insert(t,{a,1})"), "true"),
-    (End(0), "true"),
-    (Ask(1, "lookup(t,a)"), "** badarg"),
-    (Ask(1, "insert(#0,{a,1})"), "** badarg"),
-    (Ask(1, "insert(#2,{a,1})"), "** badarg"),
-    (Ask(1, "insert(#1,{a,1})"), "true"),
-    (Ask(1, "new(t,[named_table])"), "t"),
-    (Ask(1, "tab2list(#3)"), "[]"),
-];
-
-#[test]
-fn the_tables_of_an_ended_process_go(rt: HostRuntime) -> Result<(), Fail> {
-    assert_eq!(rt; wrong(rt.alloc(), &ENDED)?, None);
-    Ok(())
-}

@@ -77,18 +77,27 @@ const LIFE: [Row; 27] = [
 ];
 
 /// The place of the first row that a node answers otherwise, where each want of memory is met again.
-fn wrong_again(alloc: Global) -> Result<Option<usize>, AllocError> {
-    let mut node = Node::new(alloc, Limits::usual(), Fnv);
-    for (place, (event, wanted)) in LIFE.iter().enumerate() {
-        if !does_again(alloc, &mut node, *event, *wanted)? {
+fn wrong_again_in(
+    alloc: Global,
+    node: &mut Node<Fnv>,
+    rows: &[Row],
+) -> Result<Option<usize>, AllocError> {
+    for (place, (event, wanted)) in rows.iter().enumerate() {
+        if !does_again(alloc, node, *event, *wanted)? {
             return Ok(Some(place));
         }
     }
     Ok(None)
 }
 
+/// The same in a new node.
+fn wrong_again(alloc: Global, rows: &[Row]) -> Result<Option<usize>, AllocError> {
+    let mut node = Node::new(alloc, Limits::usual(), Fnv);
+    wrong_again_in(alloc, &mut node, rows)
+}
+
 #[test]
 fn a_refused_step_is_done_again(rt: HostRuntime) -> Result<(), Fail> {
-    assert_eq!(rt; wrong_again(rt.alloc())?, None);
+    assert_eq!(rt; wrong_again(rt.alloc(), &LIFE)?, None);
     Ok(())
 }

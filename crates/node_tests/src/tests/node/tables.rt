@@ -1,34 +1,9 @@
 use super::Event::{Ask, Enrol};
-use super::{Row, term, wrong, wrong_in, wrong_within};
-use ets_term::Fnv;
+use super::{Row, term, wrong_in, wrong_within};
+use ets_term::{Fnv, Term};
 use node_core::{Limits, Node};
 use std::alloc::{AllocError, Global};
 use std::test::Fail;
-
-const OPTIONS: [Row; 16] = [
-    (Enrol(0), "<0"),
-    (Ask(0, "new(t,[set,public,protected,named_table])"), "t"),
-    (Ask(0, "new(t,[])"), "#1"),
-    (Ask(0, "new(u,[{keypos,4294967295},bag,set])"), "#2"),
-    (Ask(0, "new(t,[named_table])"), "** badarg"),
-    (Ask(0, "new(u,[heap])"), "** badarg"),
-    (Ask(0, "new(u,[set,heap])"), "** badarg"),
-    (Ask(0, "new(u,[{keypos,0}])"), "** badarg"),
-    (Ask(0, "new(u,[{keypos,4294967296}])"), "** badarg"),
-    (Ask(0, "new(u,[{keypos,x}])"), "** badarg"),
-    (Ask(0, "new(u,[{keypos,1,1}])"), "** badarg"),
-    (Ask(0, "new(u,set)"), "** badarg"),
-    (Ask(0, "new(u,{})"), "** badarg"),
-    (Ask(0, "new(1,[])"), "** badarg"),
-    (Ask(0, "new(u)"), "** badarg"),
-    (Ask(0, "new(u,[])"), "#3"),
-];
-
-#[test]
-fn tables_are_named_and_numbered(rt: HostRuntime) -> Result<(), Fail> {
-    assert_eq!(rt; wrong(rt.alloc(), &OPTIONS)?, None);
-    Ok(())
-}
 
 const AS_MANY: [Row; 5] = [
     (Enrol(0), "<0"),
@@ -55,12 +30,22 @@ const TWO: [Row; 3] = [
     (Ask(0, "new(u,[])"), "#1"),
 ];
 
-/// The identifier of the table that a term names in a node with a table named t and one that has no name.
+/// The identifier of the table that a term names after these steps.
+fn resolved_after(
+    alloc: Global,
+    node: &mut Node<Fnv>,
+    rows: &[Row],
+    named: &Term,
+) -> Result<Option<u32>, AllocError> {
+    let _made = wrong_in(alloc, node, rows)?;
+    Ok(node.resolve(named))
+}
+
+/// The same in a new node with a table named t and one that has no name.
 fn resolved(alloc: Global, named: &str) -> Result<Option<u32>, AllocError> {
     let named = term(alloc, named)?;
     let mut node = Node::new(alloc, Limits::usual(), Fnv);
-    let _made = wrong_in(alloc, &mut node, &TWO)?;
-    Ok(node.resolve(&named))
+    resolved_after(alloc, &mut node, &TWO, &named)
 }
 
 #[test]
@@ -80,12 +65,23 @@ fn names_and_identifiers_are_resolved(rt: HostRuntime) -> Result<(), Fail> {
     Ok(())
 }
 
+const REFUSED: [Row; 4] = [
+    (Enrol(0), "<0"),
+    (Ask(0, "new(t,[named_table])"), "t"),
+    (Ask(0, "new(u,[])"), "#1"),
+    (Ask(0, "new(t,[named_table])"), "** badarg"),
+];
+
+/// The next identifier after these steps.
+fn next_after(alloc: Global, node: &mut Node<Fnv>, rows: &[Row]) -> Result<u32, AllocError> {
+    let _made = wrong_in(alloc, node, rows)?;
+    Ok(node.next_identifier())
+}
+
 /// The next identifier of a node that made two tables and was refused a third.
 fn next(alloc: Global) -> Result<u32, AllocError> {
     let mut node = Node::new(alloc, Limits::usual(), Fnv);
-    let _made = wrong_in(alloc, &mut node, &TWO)?;
-    let _refused = wrong_in(alloc, &mut node, &[(Ask(0, "new(t,[named_table])"), "")])?;
-    Ok(node.next_identifier())
+    next_after(alloc, &mut node, &REFUSED)
 }
 
 #[test]

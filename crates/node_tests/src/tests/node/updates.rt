@@ -3,41 +3,6 @@ use super::{Row, wrong, wrong_within};
 use node_core::Limits;
 use std::test::Fail;
 
-const COUNTERS: [Row; 20] = [
-    (Enrol(0), "<0"),
-    (Ask(0, "new(t,[named_table])"), "t"),
-    (Ask(0, "insert(t,{c,5})"), "true"),
-    (Ask(0, "update_counter(t,c,{2,3,7,0})"), "0"),
-    (Ask(0, "insert(t,{c,-5})"), "true"),
-    (Ask(0, "update_counter(t,c,{2,-3,-8,1})"), "-8"),
-    (Ask(0, "insert(t,{c,5})"), "true"),
-    (Ask(0, "update_counter(t,c,[{2,1},{1,1}])"), "** badarg"),
-    (Ask(0, "lookup(t,c)"), "[{c,5}]"),
-    (Ask(0, "update_counter(t,c,[{2,1},{2,10}])"), "[6,16]"),
-    (Ask(0, "update_counter(t,c,-6)"), "10"),
-    (Ask(0, "insert(t,{c,9223372036854775807})"), "true"),
-    (Ask(0, "update_counter(t,c,1)"), "** system_limit"),
-    (
-        Ask(0, "update_counter(t,c,[{2,1},{2,-1}])"),
-        "** system_limit",
-    ),
-    (Ask(0, "update_counter(t,c,[{2,1},{9,1}])"), "** badarg"),
-    (Ask(0, "lookup(t,c)"), "[{c,9223372036854775807}]"),
-    (
-        Ask(0, "update_counter(t,c,{2,1,9223372036854775807,0})"),
-        "0",
-    ),
-    (Ask(0, "update_counter(t,no,1)"), "** badarg"),
-    (Ask(0, "update_counter(t,c,[1])"), "** badarg"),
-    (Ask(0, "lookup(t,c)"), "[{c,0}]"),
-];
-
-#[test]
-fn counters_are_updated(rt: HostRuntime) -> Result<(), Fail> {
-    assert_eq!(rt; wrong(rt.alloc(), &COUNTERS)?, None);
-    Ok(())
-}
-
 const DEFAULTS: [Row; 15] = [
     (Enrol(0), "<0"),
     (Ask(0, "new(t,[named_table])"), "t"),

@@ -17,7 +17,27 @@ struct Outcome<H: KeyHash + Copy + Drop> {
     others: Handing,
 }
 
-/// Walks in a new node on which these steps were done, if each was answered as its row says.
+/// Walks after these steps, if each was answered as its row says.
+fn walk<H: KeyHash + Copy + Drop>(
+    alloc: Global,
+    node: &mut Node<H>,
+    rows: &[Row],
+    limit: u32,
+    plan: Plan,
+) -> Result<(Result<Term, WalkFault>, Handing), AllocError> {
+    if wrong_in(alloc, node, rows)?.is_some() {
+        return Err(AllocError);
+    }
+    let table = term(alloc, "t")?;
+    let mut others = Handing::new(alloc, plan);
+    let result = match walk_among(node, 0, &table, limit, &mut others) {
+        Ok(walk) => Ok(Term::List(walk.keys)),
+        Err(fault) => Err(fault),
+    };
+    Ok((result, others))
+}
+
+/// Walks so in a new node.
 fn walked<H: KeyHash + Copy + Drop>(
     alloc: Global,
     hash: H,
@@ -26,15 +46,7 @@ fn walked<H: KeyHash + Copy + Drop>(
     plan: Plan,
 ) -> Result<Outcome<H>, AllocError> {
     let mut node = Node::new(alloc, Limits::usual(), hash);
-    if wrong_in(alloc, &mut node, rows)?.is_some() {
-        return Err(AllocError);
-    }
-    let table = term(alloc, "t")?;
-    let mut others = Handing::new(alloc, plan);
-    let result = match walk_among(&mut node, 0, &table, limit, &mut others) {
-        Ok(walk) => Ok(Term::List(walk.keys)),
-        Err(fault) => Err(fault),
-    };
+    let (result, others) = walk(alloc, &mut node, rows, limit, plan)?;
     Ok(Outcome {
         result,
         node,
@@ -42,21 +54,45 @@ fn walked<H: KeyHash + Copy + Drop>(
     })
 }
 
-/// Whether the walk came to its end with these keys, in any order.
-fn has_keys<H: KeyHash + Copy + Drop>(
+/// Whether a walk comes to its end with these keys, in any order.
+fn comes_to<H: KeyHash + Copy + Drop>(
     alloc: Global,
-    outcome: &Outcome<H>,
+    hash: H,
+    rows: &[Row],
+    limit: u32,
+    plan: Plan,
     wanted: &str,
 ) -> Result<bool, AllocError> {
+    let outcome = walked(alloc, hash, rows, limit, plan)?;
     match &outcome.result {
         Ok(keys) => has_items(alloc, keys, wanted),
         Err(_) => Ok(false),
     }
 }
 
-/// The fault of a walk.
-fn fault_of<H: KeyHash + Copy + Drop>(outcome: &Outcome<H>) -> Option<&WalkFault> {
-    outcome.result.as_ref().err()
+/// The fault of a walk, how many keys the others saw, and whether the table is then fixed no more.
+fn ended<H: KeyHash + Copy + Drop>(
+    alloc: Global,
+    hash: H,
+    rows: &[Row],
+    limit: u32,
+    plan: Plan,
+) -> Result<(Option<WalkFault>, usize, bool), AllocError> {
+    let mut outcome = walked(alloc, hash, rows, limit, plan)?;
+    let is_free = does(alloc, &mut outcome.node, Ask(0, "info(t,fixed)"), "false")?;
+    let seen = outcome.others.seen().len();
+    Ok((outcome.result.err(), seen, is_free))
+}
+
+/// The fault of a walk where nothing needs stand after it.
+fn fault_of(
+    alloc: Global,
+    rows: &[Row],
+    limit: u32,
+    plan: Plan,
+) -> Result<Option<WalkFault>, AllocError> {
+    let outcome = walked(alloc, Fnv, rows, limit, plan)?;
+    Ok(outcome.result.err())
 }
 
 /// The public table t of process 0, beside process 1.
@@ -93,20 +129,16 @@ const NINE: [Row; 4] = [
 #[test]
 fn keys_that_go_and_come_again_are_walked_once(rt: HostRuntime) -> Result<(), Fail> {
     let alloc = rt.alloc();
-    let spread = walked(alloc, Fnv, &NINE, 100, Plan::Again)?;
-    assert!(rt; has_keys(alloc, &spread, "[1,2,3,4,5,6,7,8,9]")?);
-    let same = walked(alloc, AllSame, &NINE, 100, Plan::Again)?;
-    assert!(rt; has_keys(alloc, &same, "[1,2,3,4,5,6,7,8,9]")?);
+    let all = "[1,2,3,4,5,6,7,8,9]";
+    assert!(rt; comes_to(alloc, Fnv, &NINE, 100, Plan::Again, all)?);
+    assert!(rt; comes_to(alloc, AllSame, &NINE, 100, Plan::Again, all)?);
     Ok(())
 }
 
 #[test]
 fn a_key_past_the_limit_ends_the_walk(rt: HostRuntime) -> Result<(), Fail> {
-    let alloc = rt.alloc();
-    let mut outcome = walked(alloc, AllSame, &ONE, 5, Plan::Further)?;
-    assert_eq!(rt; fault_of(&outcome), Some(&WalkFault::LimitReached));
-    assert_eq!(rt; outcome.others.seen().len(), 5);
-    assert!(rt; does(alloc, &mut outcome.node, Ask(0, "info(t,fixed)"), "false")?);
+    let past = (Some(WalkFault::LimitReached), 5, true);
+    assert_eq!(rt; ended(rt.alloc(), AllSame, &ONE, 5, Plan::Further)?, past);
     Ok(())
 }
 
@@ -198,11 +230,8 @@ const CLEARS: [Event; 1] = [Ask(1, "delete_all_objects(t)")];
 
 #[test]
 fn a_table_that_is_emptied_has_one_key(rt: HostRuntime) -> Result<(), Fail> {
-    let alloc = rt.alloc();
-    let mut outcome = walked(alloc, Fnv, &TWO, 9, Plan::Always(&CLEARS))?;
-    assert_eq!(rt; fault_of(&outcome), None);
-    assert_eq!(rt; outcome.others.seen().len(), 1);
-    assert!(rt; does(alloc, &mut outcome.node, Ask(0, "info(t,fixed)"), "false")?);
+    let plan = Plan::Always(&CLEARS);
+    assert_eq!(rt; ended(rt.alloc(), Fnv, &TWO, 9, plan)?, (None, 1, true));
     Ok(())
 }
 
@@ -221,10 +250,9 @@ const ENDED: [Row; 4] = [
 
 #[test]
 fn a_table_that_is_not_to_be_read_is_lost(rt: HostRuntime) -> Result<(), Fail> {
-    let alloc = rt.alloc();
     for rows in [HIDDEN.as_slice(), ENDED.as_slice(), &[]] {
-        let outcome = walked(alloc, Fnv, rows, 9, Plan::Again)?;
-        assert_eq!(rt; fault_of(&outcome), Some(&WalkFault::Lost));
+        let fault = fault_of(rt.alloc(), rows, 9, Plan::Again)?;
+        assert_eq!(rt; fault, Some(WalkFault::Lost));
     }
     Ok(())
 }
@@ -232,9 +260,8 @@ fn a_table_that_is_not_to_be_read_is_lost(rt: HostRuntime) -> Result<(), Fail> {
 #[test]
 fn no_key_is_within_no_limit(rt: HostRuntime) -> Result<(), Fail> {
     let alloc = rt.alloc();
-    let empty = walked(alloc, Fnv, &EMPTY, 0, Plan::Again)?;
-    assert!(rt; has_keys(alloc, &empty, "[]")?);
-    let two = walked(alloc, Fnv, &TWO, 0, Plan::Again)?;
-    assert_eq!(rt; fault_of(&two), Some(&WalkFault::LimitReached));
+    assert!(rt; comes_to(alloc, Fnv, &EMPTY, 0, Plan::Again, "[]")?);
+    let fault = fault_of(alloc, &TWO, 0, Plan::Again)?;
+    assert_eq!(rt; fault, Some(WalkFault::LimitReached));
     Ok(())
 }

@@ -1,0 +1,63 @@
+use super::*;
+
+/// Does what is due, at most so many steps of it, and says how many that were.
+fn tend(node: &mut Node<Fnv>, most: u32) -> Result<u32, AllocError> {
+    for done in 0..most {
+        let Some(step) = node.due() else {
+            return Ok(done);
+        };
+        let _ok = node.step(&step)?;
+    }
+    Ok(most)
+}
+
+/// The first number whose object does not enter the table, which is tended behind each.
+fn not_entered(alloc: Global, node: &mut Node<Fnv>) -> Result<Option<u32>, AllocError> {
+    for number in 0..COUNT {
+        if !does_numbered(alloc, node, "insert(t,{N,x})", "true", number)? {
+            return Ok(Some(number));
+        }
+        let _steps = tend(node, 1)?;
+    }
+    Ok(None)
+}
+
+/// Calls on each number, behind which the table is tended, and their replies.
+const GROWN: [(&str, &str); 5] = [
+    ("lookup(t,N)", "[{N,x}]"),
+    ("insert(t,{N,y})", "true"),
+    ("lookup(t,N)", "[{N,x},{N,y}]"),
+    ("delete_object(t,{N,x})", "true"),
+    ("take(t,N)", "[{N,y}]"),
+];
+
+/// The first number for which one of the calls is answered otherwise.
+fn not_grown(alloc: Global, node: &mut Node<Fnv>) -> Result<Option<u32>, AllocError> {
+    for number in 0..COUNT {
+        for (call, wanted) in GROWN {
+            if !does_numbered(alloc, node, call, wanted, number)? {
+                return Ok(Some(number));
+            }
+        }
+        let _steps = tend(node, 1)?;
+    }
+    Ok(None)
+}
+
+/// Whether a table of many objects, which grows meanwhile, is answered of as one that does not.
+fn grows(alloc: Global, node: &mut Node<Fnv>) -> Result<bool, AllocError> {
+    Ok(starts(alloc, node)?
+        && not_entered(alloc, node)?.is_none()
+        && answers(alloc, node, "info(t,size)", "2100")?
+        && not_grown(alloc, node)?.is_none()
+        && answers(alloc, node, "tab2list(t)", "[]")?
+        && tend(node, COUNT)? < COUNT
+        && node.due().is_none())
+}
+
+#[test]
+fn a_table_of_many_objects_grows(rt: HostRuntime) -> Result<(), Fail> {
+    let mut node = Node::new(rt.alloc(), Limits::usual(), Fnv);
+    assert!(rt; grows(rt.alloc(), &mut node)?);
+    Ok(())
+}

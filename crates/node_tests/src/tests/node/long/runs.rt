@@ -1,0 +1,41 @@
+use super::super::{ask, is, step};
+use super::*;
+use node_core::{Reply, Step};
+
+/// A process, its table, and so many times an object and a lookup of it.
+fn life(alloc: Global, count: u32) -> Result<Vec<Step>, AllocError> {
+    let mut steps = Vec::new(alloc);
+    steps.push(Step::Enrol(0))?;
+    steps.push(ask(alloc, 0, "new(t,[])")?)?;
+    for number in 0..count {
+        let insert = numbered(alloc, "insert(#0,{a,N})", number)?;
+        steps.push(step(alloc, Ask(0, insert.as_str()))?)?;
+        steps.push(ask(alloc, 0, "lookup(#0,a)")?)?;
+    }
+    Ok(steps)
+}
+
+/// The last reply of a run that gives one to each step.
+fn last_reply(node: &mut Node<Fnv>, steps: &[Step]) -> Option<Reply> {
+    let mut replies = node.run(steps).ok()?;
+    if replies.len() != steps.len() {
+        return None;
+    }
+    replies.pop()
+}
+
+/// Whether the last reply of a run of so long a life is what was stored last.
+fn runs(alloc: Global, count: u32, last: &str) -> Result<bool, AllocError> {
+    let steps = life(alloc, count)?;
+    let mut node = Node::new(alloc, Limits::usual(), Fnv);
+    match last_reply(&mut node, steps.as_slice()) {
+        Some(reply) => is(alloc, &reply, last),
+        None => Ok(false),
+    }
+}
+
+#[test]
+fn a_run_is_long(rt: HostRuntime) -> Result<(), Fail> {
+    assert!(rt; runs(rt.alloc(), COUNT, "[{a,2099}]")?);
+    Ok(())
+}

@@ -1,0 +1,14 @@
+% A private table is its owners.
+spawn p
+spawn q
+p new(t,[named_table,private])
+p insert(t,{a,1})
+q lookup(t,a)
+q insert(t,{a,2})
+q tab2list(t)
+q delete(t)
+q info(t,protection)
+q info(t,size)
+q whereis(t)
+p lookup(t,a)
+p delete(t)

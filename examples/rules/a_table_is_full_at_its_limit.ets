@@ -1,0 +1,17 @@
+% A table is full at its limit.
+spawn p
+p new(t,[])
+p insert(#Tid<0>,{a,1})
+p insert(#Tid<0>,[{b,1},{c,1}])
+p insert(#Tid<0>,[{b,1},{a}])
+p insert(#Tid<0>,{c,1})
+p insert_new(#Tid<0>,{c,1})
+p insert_new(#Tid<0>,[{c,1},{a,1}])
+p insert(#Tid<0>,[{c,1},x])
+p lookup(#Tid<0>,a)
+p lookup(#Tid<0>,b)
+p info(#Tid<0>,size)
+p insert(#Tid<0>,[{a,2},{b,2},{a,3}])
+p lookup(#Tid<0>,a)
+p lookup(#Tid<0>,b)
+p info(#Tid<0>,size)

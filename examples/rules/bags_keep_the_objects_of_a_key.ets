@@ -1,0 +1,10 @@
+% Bags keep the objects of a key.
+spawn p
+p new(b,[named_table,bag])
+p new(d,[duplicate_bag,named_table])
+p insert(b,[{a,1},{a,2},{a,1}])
+p insert(d,[{a,1},{a,2},{a,1}])
+p lookup(b,a)
+p lookup(d,a)
+p insert_new(d,{a,3})
+p lookup(d,a)

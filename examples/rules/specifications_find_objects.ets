@@ -1,0 +1,16 @@
+% Specifications find objects.
+spawn p
+p new(t,[named_table])
+p insert(t,[{a,1},{b,2},{c,3}])
+p select(t,[{{'$1','$2'},[{'>','$2',2}],['$$']}])
+p select(t,[{{'$1','$2'},[{div,'$2',0}],['$$']}])
+p select(t,[{'_',[],[{hd,[]}]}])
+p select_count(t,[{{'_','$1'},[{'>','$1',1}],[true]}])
+p select_delete(t,[{{'_','$1'},[],['$1']}])
+p select_delete(t,[{{'_','$1'},[{'>','$1',1}],[true]}])
+p tab2list(t)
+p select(t,[{{'$1','_'},[{'=:=','$1',a}],[first]},{'_',[],[second]}])
+p select(t,[{'_',[],['$01']}])
+p select(t,[{'_',[],[{rem,-9223372036854775808,-1}]}])
+p select(t,[{'_',[],[{andalso,false,{hd,[]}}]}])
+p select(t,[{'_',[],[{and,false,{hd,[]}}]}])
