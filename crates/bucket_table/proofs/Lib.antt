@@ -12,6 +12,7 @@ pub mod HintedLaws
 pub mod BecomesLaws
 pub mod RowsLaws
 pub mod SurveyLaws
+pub mod Sent
 pub mod CountedLaws
 pub mod NextLaws
 pub mod SeatLaws

@@ -9,5 +9,6 @@ pub mod Ascending
 pub mod Owning
 pub mod Noting
 pub mod Settling
+pub mod Sent
 pub mod Ending
 pub mod Keeping
