@@ -7,6 +7,7 @@ import sys
 import tempfile
 
 from checks import OWN
+from lanes import fate
 
 # Each planted edit: its file, the text before and after, and the verdict that it must get.
 PLANTED = {
@@ -27,6 +28,16 @@ VERDICTS = {
     "fn keys::rev32: no proof: it calls `keys::item`, which is not proved": False,
     "fn keys::rev32: no proof: in `keys::item`, of this cycle of calls: it calls `keys::key`, which is not proved": False,
     "fn keys::rev32: proved": False,
+}
+
+# Ends of what `rt ci` says, and whether split_key is proved by it.
+FATES = {
+    "rt: split_key proved\n": True,
+    "rt: split_key is kept: an earlier run on this machine proved the same files\n": True,
+    "rt: split_key NOT PROVED\n": False,
+    "rt: split_key: its tests are proved\n": None,
+    "rt: split_key_more proved\n": None,
+    "rt: node_list proved\n3 passed, 1 failed\n": False,
 }
 
 
@@ -61,6 +72,8 @@ def self_test(top):
 
     for line, is_own in VERDICTS.items():
         expect(bool(OWN.match(line)) == is_own, "a line of the prover", line)
+    for text, is_proved in FATES.items():
+        expect(fate("split_key", text) == is_proved, "what rt ci says", text)
     with tempfile.TemporaryDirectory(prefix="wrong-bodies-self-") as folder:
         room = Room(top, folder)
         true = len(os.listdir(room.edits))

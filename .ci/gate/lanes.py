@@ -1,0 +1,78 @@
+"""Which crate has its wrong bodies tried, and when."""
+import os
+import re
+import threading
+import time
+
+from crates import read
+
+
+def lanes():
+    """One crate a processor, where each has 2 GB of free memory."""
+    free = int(re.search(r"MemAvailable:\s+(\d+)", read("/proc/meminfo"))[1]) // 2_000_000
+    return max(1, min(len(os.sched_getaffinity(0)), free))
+
+
+def fate(name, text):
+    """What `rt ci` has said of a crate so far: whether it is proved, in this run or in one before, or None."""
+    if re.search(rf"^rt: {name} (proved$|is kept: )", text, re.M):
+        return True
+    has_ended = re.search(rf"^rt: {name} NOT PROVED|^\d+ passed, \d+ failed$", text, re.M)
+    return False if has_ended else None
+
+
+class Log:
+    """What `rt ci` says as it runs; without a file, every crate is taken to be proved."""
+
+    def __init__(self, file):
+        self.file = file
+
+    def is_proved(self, name):
+        """Whether a crate is proved: True, False, or None where `rt ci` has not said yet."""
+        if not self.file:
+            return True
+        return fate(name, read(self.file) if os.path.isfile(self.file) else "")
+
+
+class Lanes:
+    """Crates side by side: of those that are proved, the one with most work first."""
+
+    def __init__(self, todo, log, number):
+        self.todo, self.log, self.number = todo, log, number
+        self.running, self.lock = 0, threading.Lock()
+
+    def take(self):
+        """A crate to try and whether it is proved, or None where no more is left."""
+        while True:
+            with self.lock:
+                for crate in self.todo:
+                    is_proved = self.log.is_proved(crate.name)
+                    if is_proved is not None:
+                        self.todo.remove(crate)
+                        self.running += 1
+                        return crate, is_proved
+                if not self.todo:
+                    return None
+            time.sleep(1)
+
+    def jobs(self):
+        """How many jobs a check may have: those of lanes that no other crate needs, four at most."""
+        with self.lock:
+            return max(1, min(4, self.number // max(1, self.running + len(self.todo))))
+
+    def run(self, work):
+        """Has each lane work on one crate after the other."""
+
+        def lane():
+            while (taken := self.take()) is not None:
+                try:
+                    work(*taken)
+                finally:
+                    with self.lock:
+                        self.running -= 1
+
+        threads = [threading.Thread(target=lane) for _ in range(self.number)]
+        for it in threads:
+            it.start()
+        for it in threads:
+            it.join()
