@@ -1,4 +1,4 @@
-% What python/test_ets.py asks by its client, line for line: here the program itself answers it.
+% What python/test_yoyoash.py asks by its client, line for line: here the program itself answers it.
 spawn anna
 spawn ben
 anna new('prices',['named_table'])

@@ -87,7 +87,7 @@ def unproved(logs):
     scripts(f"{logs}/scripts")
     return [
         Part("the tables of calls", [f"{TOP}/.ci/names"], ends_all=True),
-        Part("the client", [sys.executable, "examples/python/test_ets.py"], ends_all=True),
+        Part("the client", [sys.executable, "-B", "examples/python/test_yoyoash.py"], ends_all=True),
         Part("the scripts", ["rt", "try", "--seconds", "300", "--cases", f"{logs}/scripts"], PROGRAM, ends_all=True),
     ]
 

@@ -1,0 +1,164 @@
+"""A running program, its processes, and calls sent together."""
+
+from __future__ import annotations
+
+import pathlib
+import re
+import subprocess
+import threading
+from collections.abc import Iterator, Sequence
+
+from .faults import Fault, Gone, fault
+from .terms import Pid, Term, parse, spell
+
+# The calls of docs/calls.md.
+CALLS = (
+    "new insert insert_new lookup member lookup_element take delete delete_object delete_all_objects tab2list update_counter"
+    " update_element match match_object match_delete select select_count select_delete first next safe_fixtable give_away"
+    " setopts whereis info receive"
+).split()
+# So many bytes of lines are sent before their answers are read: a pipe holds them, so neither side waits for the other.
+TOGETHER = 32_768
+PROGRAM = pathlib.Path(__file__).resolve().parents[3] / "ets_script"
+
+
+class Store:
+    """One running `ets_script`. It may be used by several threads: each line and its answer are one turn."""
+
+    def __init__(self, command: Sequence[str] = (str(PROGRAM),), **options):
+        """Starts the program; `options` are those of subprocess.Popen."""
+        self._program = subprocess.Popen(command, stdin=subprocess.PIPE, stdout=subprocess.PIPE, text=True, encoding="ascii", **options)
+        self._turn = threading.Lock()
+        self._is_gone = False
+
+    def spawn(self, name: str) -> Process:
+        """Enrols a process under a name of the script."""
+        if not re.fullmatch(r"[a-z][A-Za-z0-9_@]{0,254}", name) or name in ("spawn", "exit", "grow", "ready"):
+            raise ValueError(f"{name!r} is no name of a process")
+        return Process(self, name, self.ask(f"spawn {name}"))
+
+    def ask(self, line: str) -> Term:
+        """The answer to a line of the script language."""
+        (answer,) = self.ask_all([line])
+        if isinstance(answer, Fault):
+            raise answer
+        return answer
+
+    def ask_all(self, lines: Sequence[str]) -> list[Term | Fault]:
+        """The answers to lines, in their order, in one turn; a line that was refused has its fault there."""
+        for line in lines:
+            # (a line without an answer would shift all that come after it)
+            if not re.fullmatch(r"[ -~\t]+", line) or not line.strip() or line.lstrip().startswith("%"):
+                raise ValueError(f"{line!r} is no line that is answered")
+        with self._turn:
+            return [answer for part in _parts(lines) for answer in self._exchange(part)]
+
+    def _exchange(self, lines: Sequence[str]) -> Iterator[Term | Fault]:
+        """Sends some lines, and reads as many answers."""
+        if not self._is_gone:
+            try:
+                self._program.stdin.write("".join(f"{line}\n" for line in lines))
+                self._program.stdin.flush()
+            except (BrokenPipeError, ValueError):
+                self._is_gone = True
+        for line in lines:
+            answer = "" if self._is_gone else self._program.stdout.readline()
+            if answer.endswith("\n"):
+                answer = answer[:-1]
+                yield fault(line, answer[3:]) if answer.startswith("** ") else parse(answer)
+            else:
+                self._is_gone = True
+                yield Gone(line, "the program has ended")
+
+    def close(self) -> None:
+        """Ends the program. It may be closed again."""
+        self._is_gone = True
+        try:
+            self._program.stdin.close()
+        except BrokenPipeError:
+            pass
+        self._program.stdout.close()
+        self._program.wait()
+
+    def __enter__(self) -> Store:
+        return self
+
+    def __exit__(self, *raised) -> None:
+        self.close()
+
+
+def _parts(lines: Sequence[str]) -> Iterator[Sequence[str]]:
+    """The lines, as many together as may be sent before their answers are read."""
+    part, size = [], 0
+    for line in lines:
+        if part and size + len(line) >= TOGETHER:
+            yield part
+            part, size = [], 0
+        part.append(line)
+        size += len(line) + 1
+    if part:
+        yield part
+
+
+class _Caller:
+    """Any call of docs/calls.md is a method."""
+
+    name: str
+
+
+class Process(_Caller):
+    """A process of the store: its calls are methods, which answer or raise a Fault."""
+
+    def __init__(self, store: Store, name: str, pid: Pid):
+        self.store, self.name, self.pid = store, name, pid
+
+    def _call(self, line: str) -> Term:
+        return self.store.ask(line)
+
+    def exit(self) -> Term:
+        """Ends the process."""
+        return self.store.ask(f"exit {self.name}")
+
+    def pipeline(self) -> Pipeline:
+        """Calls that are collected, and sent together."""
+        return Pipeline(self)
+
+    def __repr__(self) -> str:
+        return f"<process {self.name} {self.pid!r}>"
+
+
+class Pipeline(_Caller):
+    """Calls of a process that are collected. `run`, or the end of a `with`, sends them; `answers` then has an answer or a
+    Fault for each, in order."""
+
+    def __init__(self, process: Process):
+        self.store, self.name = process.store, process.name
+        self.lines: list[str] = []
+        self.answers: list[Term | Fault] = []
+
+    def _call(self, line: str) -> None:
+        self.lines.append(line)
+
+    def run(self) -> list[Term | Fault]:
+        """Sends what was collected, and answers the answers."""
+        self.answers, self.lines = self.store.ask_all(self.lines), []
+        return self.answers
+
+    def __enter__(self) -> Pipeline:
+        return self
+
+    def __exit__(self, kind, *raised) -> None:
+        if kind is None:
+            self.run()
+
+
+def _method(call: str):
+    def method(self, *terms: Term):
+        return self._call(f"{self.name} {call}({','.join(map(spell, terms))})")
+
+    method.__name__, method.__doc__ = call, f"The call `{call}` of docs/calls.md."
+    return method
+
+
+for _call in CALLS:
+    setattr(_Caller, _call, _method(_call))
