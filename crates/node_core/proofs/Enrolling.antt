@@ -43,7 +43,7 @@ enrolled old new p r granted h = by (is_some (process_at old.world.processes p))
 -- one that is refused leaves all as it was, the buckets too
 pub not-enrolled : (old new : State) (p : ℕ) (r : Reply) → is_value r ≡ false → step (seen old) (Enrol p) r (seen new) → step_on_buckets old (Enrol p) r new → new ≡ old
 not-enrolled old new p r refused h kept =
-    unseen-same old new (by (is_some (process_at (seen old).world.processes p)) (nat_le (seen old).world.most_processes (length (seen old).world.processes)) h.0 h.1 h.2 h.3) kept
+    unseen-same old new (by (is_some (process_at (seen old).world.processes p)) (nat_le (seen old).world.most_processes (length (seen old).world.processes)) h.0 h.1 h.2 h.3) kept.0
   where
     same : (seen new).world ≡ (seen old).world → seen new ≡ record (seen old) { world = (seen new).world } → seen new ≡ seen old
     same w e = e ∙ ap (λ (x : World). record (seen old) { world = x }) w
