@@ -1,5 +1,5 @@
 -- No call sees the buckets of a table, and after it each table stays or is new.
-use Rattle.std.proofs.Common.{◌≡◌, ℕ, Bool, true, false, List, [], ◌∷◌, Option, None, Some, option_map, option_and_then, refl, sym, subst, ap, ◌∙◌, codes}
+use Rattle.std.proofs.Common.{◌≡◌, ℕ, inl, Bool, true, false, List, [], ◌∷◌, Option, None, Some, option_map, option_and_then, refl, sym, subst, ap, ◌∙◌, codes}
 use Rattle.std.specs.Prelude.{MatchOption}
 use Rattle.std.specs.Bool.{MatchBool}
 use Rattle.std.specs.Option.{option_map_or}
@@ -32,7 +32,7 @@ use Rattle.node_core.specs.rules.Searching.{Match, MatchObject, MatchDelete, Sel
 use Rattle.node_core.specs.rules.Updates.{UpdateCounter, UpdateElement}
 use Rattle.node_core.specs.rules.Owning.{GiveAway, SetOptions, Receive, told_or_undefined, Whereis, names_form, told_of, Info}
 use Rattle.node_core.specs.rules.Replies.{true_reply}
-use Rattle.node_core.specs.rules.Tables.{new_table_of, New, DeleteTable}
+use Rattle.node_core.specs.rules.Tables.{new_table_of, IsFresh, New, DeleteTable}
 use Rattle.node_core.specs.rules.Walking.{Fixes, Releases, SafeFixtable, First, Next}
 use Rattle.node_core.proofs.Following.{Follows, follows-same, follows-gone, follows-fixed}
 use Rattle.node_core.proofs.Changes.{usable-there}
@@ -120,19 +120,19 @@ asks-lawful old answer outcome unseen lawful = record {
 }
 
 abbrev Makes : State → ℕ → List ℕ → NewOptions → Outcome
-Makes old p text options reply new = (buckets : List Bool) × asks old Value (tables.New old.world p text options (new_table_of old.limits.objects options buckets)) reply new
+Makes old p text options reply new = (buckets : List Bool) × IsFresh buckets × asks old Value (tables.New old.world p text options (new_table_of old.limits.objects options buckets)) reply new
 
 makes-lawful : (old : State) (p : ℕ) (text : List ℕ) (options : NewOptions) → IsLawfulCall old (Makes old p text options) (Makes (seen old) p text options)
 makes-lawful old p text options = record {
-  seen = λ reply new h. ([], (at h.0).seen reply new h.1);
-  follows = λ reply new h. (at h.0).follows reply new h.1;
+  seen = λ reply new h. ([], inl refl, (at h.0 h.1).seen reply new h.2);
+  follows = λ reply new h. (at h.0 h.1).follows reply new h.2;
 }
   where
-    at : (buckets : List Bool)
+    at : (buckets : List Bool) → IsFresh buckets
         → IsLawfulCall old (asks old Value (tables.New old.world p text options (new_table_of old.limits.objects options buckets))) (asks (seen old) Value (tables.New (seen_world old.world) p text options (new_table_of old.limits.objects options [])))
-    at buckets =
+    at buckets fresh =
         asks-lawful old Value (tables.New old.world p text options (new_table_of old.limits.objects options buckets)) (tables.New (seen_world old.world) p text options (new_table_of old.limits.objects options []))
-        (new-lawful old.world p text options (new_table_of old.limits.objects options buckets) refl)
+        (new-lawful old.world p text options (new_table_of old.limits.objects options buckets) refl fresh)
 
 new_call-lawful : (old : State) (p : ℕ) (name options : Term) → IsLawfulCall old (New old p name options) (New (seen old) p name options)
 new_call-lawful old p name options =

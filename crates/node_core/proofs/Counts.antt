@@ -66,7 +66,7 @@ use Rattle.node_core.specs.rules.Replies.{true_reply, truth_reply}
 use Rattle.node_core.specs.rules.Searching.{Match, MatchObject, Deletes, DeletesMatching, DeletesChosen, MatchDelete, Select, SelectCount, SelectDelete, count_reply}
 use Rattle.node_core.specs.rules.Updates.{Counts, WritesTold, UpdateCounter, UpdateElement}
 use Rattle.node_core.specs.rules.Owning.{GiveAway, SetOptions, Receive, Whereis, Info, told_of, told_or_undefined, names_form}
-use Rattle.node_core.specs.rules.Tables.{new_table_of, New, DeleteTable}
+use Rattle.node_core.specs.rules.Tables.{new_table_of, IsFresh, New, DeleteTable}
 use Rattle.node_core.specs.rules.Walking.{Fixes, Releases, SafeFixtable, First, Next}
 use Rattle.node_core.specs.Woven.{is_step_of}
 use Rattle.node_core.proofs.Changes.{usable-there}
@@ -338,10 +338,10 @@ module _ (w : ℕ) where
     new_call-spares name options =
         where-some old (text_of name) (λ text. Where (options_of options) old (Makes text)) (λ text there.
         where-some old (options_of options) (Makes text) (λ options there reply new h.
-        asks-spares old Value (tables.New old.world p text options (new_table_of old.limits.objects options h.0)) (new-spares old.world p text options (new_table_of old.limits.objects options h.0)) reply new h.1))
+        asks-spares old Value (tables.New old.world p text options (new_table_of old.limits.objects options h.0)) (new-spares old.world p text options (new_table_of old.limits.objects options h.0)) reply new h.2))
       where
         Makes : List ℕ → NewOptions → Outcome
-        Makes text options reply new = (buckets : List Bool) × asks old Value (tables.New old.world p text options (new_table_of old.limits.objects options buckets)) reply new
+        Makes text options reply new = (buckets : List Bool) × IsFresh buckets × asks old Value (tables.New old.world p text options (new_table_of old.limits.objects options buckets)) reply new
 
     delete_table-spares : (term : Term) → SparesCall old (DeleteTable old p term)
     delete_table-spares term =

@@ -4,6 +4,7 @@ use Rattle.std.specs.Prelude.{MatchOption, slice_set}
 use Rattle.fixed_walk.specs.Fixed.{Fixed}
 use Rattle.ownership.specs.World.{Table, Tables, table_at, whereis, with_fixed, fixed_in}
 use Rattle.ownership.specs.Tables.{changed}
+use Rattle.node_core.specs.rules.Tables.{IsFresh}
 use Rattle.node_core.proofs.SeenRules.{IsTame, tame-same}
 
 pub record Stays (was table : Table) : Type 0 where
@@ -11,10 +12,11 @@ pub record Stays (was table : Table) : Type 0 where
   pub named : table.head.named ≡ was.head.named
   pub fixed : IsTame was.fixed table.fixed
 
--- a table that is new stands last, has no slot, and has no name that another has
+-- a table that is new stands last, has no slot and a new table's buckets, and has no name that another has
 pub record Enters (old : Tables) (t : ℕ) (table : Table) : Type 0 where
   pub place : t ≡ length old
   pub bare : table.fixed.content.slots ≡ []
+  pub fresh : IsFresh table.fixed.buckets
   pub free : table.head.named ≡ true → whereis old table.head.name ≡ None
 
 abbrev pub Came : Tables → ℕ → Option Table → Table → Type 0
@@ -86,14 +88,14 @@ push-at (x ∷ xs) (suc t) new table at = up (push-at xs t new table at)
     up (inl h) = inl h
     up (inr h) = inr (ap suc h.0, h.1, h.2)
 
-pub follows-push : (ts : Tables) (new : Table) → new.fixed.content.slots ≡ [] → (new.head.named ≡ true → whereis ts new.head.name ≡ None) → Follows ts (ts ++ Some new ∷ [])
-follows-push ts new bare free t table at = by (push-at ts t new table at)
+pub follows-push : (ts : Tables) (new : Table) → new.fixed.content.slots ≡ [] → IsFresh new.fixed.buckets → (new.head.named ≡ true → whereis ts new.head.name ≡ None) → Follows ts (ts ++ Some new ∷ [])
+follows-push ts new bare fresh free t table at = by (push-at ts t new table at)
   where
     by : (table_at ts t ≡ Some table) ⊎ ((t ≡ length ts) × (table_at ts t ≡ None) × (new ≡ table)) → Came ts t (table_at ts t) table
     by (inl same) = stayed ts t table table same (stays-same table)
     by (inr more) =
         subst (λ (o : Option Table). Came ts t o table) (sym more.1) (
-        subst (Enters ts t) more.2 (record { place = more.0; bare = bare; free = free }))
+        subst (Enters ts t) more.2 (record { place = more.0; bare = bare; fresh = fresh; free = free }))
 
 -- ---- each place is mapped
 pub map-at : (change : Option Table → Option Table) → change None ≡ None → (ts : Tables) (t : ℕ) (table : Table) → table_at (map change ts) t ≡ Some table → (was : Table) × (table_at ts t ≡ Some was) × (change (Some was) ≡ Some table)

@@ -1,5 +1,5 @@
 -- The walker's own calls are steps of the machine, and what they find can be walked on from.
-use Rattle.std.proofs.Common.{◌≡◌, ℕ, zero, suc, ◌+◌, ◌-◌, ◌==◌, ◌&&◌, ◌||◌, not, Bool, true, false, cond, List, [], ◌∷◌, Option, None, Some, option_map, option_and_then, Ok, Err, refl, sym, subst, ap, ◌∙◌, codes, arith, rules, true≢false}
+use Rattle.std.proofs.Common.{◌≡◌, ℕ, zero, suc, ◌+◌, ◌-◌, ◌<◌, ◌==◌, ◌&&◌, ◌||◌, not, Bool, true, false, cond, List, [], ◌∷◌, Option, None, Some, option_map, option_and_then, Ok, Err, refl, sym, subst, ap, ◌∙◌, codes, arith, rules, true≢false}
 use Rattle.std.specs.Prelude.{MatchOption, is_some, slice_get, slice_set, nat_lt, nat_le}
 use Rattle.std.specs.Bool.{MatchBool}
 use Rattle.std.specs.List.{list_any}
@@ -18,7 +18,7 @@ use Rattle.bucket_table.specs.Slots.{Slot, has_objects, slots_behind}
 use Rattle.table_ops.specs.declared.kind.Kind.{Kind}
 use Rattle.table_ops.specs.Content.{IsContent, IsSlot, AreSlots}
 use Rattle.table_ops.proofs.TupleLaws.{fit-of}
-use Rattle.fixed_walk.specs.Fixes.{fix_count, with_count}
+use Rattle.fixed_walk.specs.Fixes.{most_fixes, fix_count, with_count}
 use Rattle.fixed_walk.specs.Fixed.{Fixed, FixesOnce, released}
 use Rattle.fixed_walk.specs.declared.fault.FixFault.TheVariants as fixing
 use Rattle.fixed_walk.specs.Walk.{first_key, next_key}
@@ -304,10 +304,13 @@ module _ (p t : ℕ) where
     pub held-most : FixesOnce p was (Err fixing.SystemLimit) f → Holds p t (seen s) (Err fault.SystemLimit) (seen (with_table s t f))
     held-most h =
         let l = lent s was there can in
-        (count-before s l.table l.at ∙ (ap (λ (g : Fixed). fix_count g.fixes p) (sym l.is) ∙ h.0), ap seen (same-after s f l.table l.at (h.1 ∙ l.is)))
+        (can_read-seen s ∙ can, count-before s l.table l.at ∙ (ap (λ (g : Fixed). fix_count g.fixes p) (sym l.is) ∙ h.0), ap seen (same-after s f l.table l.at (h.1 ∙ l.is)))
 
     pub held-not : FixesOnce p was (Err fixing.Memory) f → Holds p t (seen s) (Err fault.Memory) (seen (with_table s t f))
-    held-not h = let l = lent s was there can in ap seen (same-after s f l.table l.at (h.1 ∙ l.is))
+    held-not h =
+        let l = lent s was there can in
+        let few : fixes_in p t (seen s) < most_fixes = subst (λ n. n < most_fixes) (sym (count-before s l.table l.at ∙ ap (λ (g : Fixed). fix_count g.fixes p) (sym l.is))) h.0 in
+        (can_read-seen s ∙ can, few, ap seen (same-after s f l.table l.at (h.1 ∙ l.is)))
 
     pub let-go : f ≡ released p was → LetsGo p t (seen s) true (seen (with_table s t f))
     let-go h =

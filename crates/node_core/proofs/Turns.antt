@@ -1,13 +1,15 @@
 -- A walk among others' steps, turn by turn: where it stands, where it halts, and what it comes to.
-use Rattle.std.proofs.Common.{◌≡◌, ℕ, zero, suc, ◌<◌, ◌==◌, ◌&&◌, Bool, true, false, cond, List, [], ◌∷◌, ◌++◌, Option, None, Some, Ok, Err, refl, sym, subst, subst₂, ap, ◌∙◌, length, take, drop, codes, arith, append_assoc, true≢false}
+use Rattle.std.proofs.Common.{◌≡◌, ℕ, zero, suc, ◌<◌, ◌≤◌, ◌==◌, ◌&&◌, Bool, true, false, cond, List, [], ◌∷◌, ◌++◌, Option, None, Some, Ok, Err, refl, sym, subst, subst₂, ap, ap₂, ◌∙◌, length, map, take, drop, codes, arith, append_assoc, true≢false}
 use Rattle.std.specs.Prelude.{MatchOption, is_some, option_map}
 use Rattle.std.specs.List.{AllByRecursion, Contains}
 use Rattle.std.specs.Option.{option_map_or}
 use Rattle.std.specs.Str.{bytes_eq}
 use Rattle.std.proofs.lemmas.Bool.Decides.{nat_tests}
+use Rattle.std.proofs.lemmas.List.{map-append}
 use Rattle.std.proofs.lemmas.List.Elements.{Contains-append_right}
 use Rattle.ets_term.specs.declared.term.Term.{Term, out-Term}
 use Rattle.ets_term.specs.declared.term.Term.TheVariants.{Tid}
+use Rattle.ets_term.specs.Atoms.{is_atom}
 use Rattle.ownership.specs.Heads.{may, may_read}
 use Rattle.ownership.specs.World.{Table, table_at, lives}
 use Rattle.node_core.specs.declared.step.Reply.{Reply}
@@ -21,11 +23,15 @@ use Rattle.node_core.specs.rules.Replies.{true_reply}
 use Rattle.node_core.specs.rules.Walking.{key_reply}
 use Rattle.node_core.specs.laws.Kept.{is_fixed_in}
 use Rattle.node_core.specs.laws.Walk.{is_table, walk_step, Answers, Walks}
-use Rattle.node_core.specs.Woven.{is_step_of, Given, fix, first, next, walk, can_read, fixes_in, Reason}
+use Rattle.node_core.specs.Woven.{is_step_of, replies_to, Given, AreTurns, fix, first, next, walk, can_read, fixes_in, Reason}
 use Rattle.node_core.specs.inside.Walker.{is_there, call_of, Finds, Walking, Leads, Stands, Halts, steps_of, OthersDid, StoppedAt}
 use Rattle.node_core.proofs.OthersRuns.{fixed-in, Ran, others-ran}
 use Rattle.node_core.proofs.Runs.{run-push}
+use Rattle.node_core.proofs.Replying.{own-replied, none-replied, replied-append}
 use Rattle.node_core.proofs.Weaving.{paired, walk-more, own-further, more-others, more-turns}
+
+abbrev pub value : Term → Reply
+value key = Value key
 
 -- ---- runs
 pub run-append : (a b c : State) (xs ys : List Step) (rs qs : List Reply) → run a xs rs b → run b ys qs c → run a (xs ++ ys) (rs ++ qs) c
@@ -127,6 +133,7 @@ module _ (p t : ℕ) where
       fix_done = h;
       walk_done = (now, finds.1, refl);
       leads = begun-leads now found (readable-there now finds.0) (fixed-in p t count now more) finds.1;
+      replied = own-replied p (first p t) (key_reply found) [] [] (number-same p);
       others = tt;
       turns = tt;
       fixes = λ here. more;
@@ -135,12 +142,13 @@ module _ (p t : ℕ) where
       goes_on = finds.2;
     }
 
-    find-reason : (call : Option Term) (now : State) (why : WalkFault) (limit : ℕ) (keys : List Term) (given : Given) (done left : List Step) (replies : List Reply) → Finds p t call now (Err why) → Reason p t why old limit keys given done left replies now
-    find-reason call now fault.Lost limit keys given done left replies h = h
-    find-reason call now fault.Memory limit keys given done left replies h = tt
-    find-reason call now fault.OwnStep limit keys given done left replies h = absurd h
-    find-reason call now fault.LimitReached limit keys given done left replies h = absurd h
-    find-reason call now fault.SystemLimit limit keys given done left replies h = absurd h
+    find-reason : (call : Option Term) (now : State) (why : WalkFault) (limit : ℕ) (keys : List Term) (given : Given) (s : Step) (done left : List Step) (replies : List Reply) → Finds p t call now (Err why)
+        → Reason p t why old limit keys given (s ∷ done) left replies now
+    find-reason call now fault.Lost limit keys given s done left replies h = h
+    find-reason call now fault.Memory limit keys given s done left replies h = tt
+    find-reason call now fault.OwnStep limit keys given s done left replies h = absurd h
+    find-reason call now fault.LimitReached limit keys given s done left replies h = absurd h
+    find-reason call now fault.SystemLimit limit keys given s done left replies h = absurd h
 
     pub not-begun : (now : State) (why : WalkFault) (limit : ℕ) → step old (fix p t) true_reply now → fixes_in p t now ≡ suc count → Finds p t None now (Err why) → Halts p t old limit [] [] why now
     not-begun now why limit h more finds = record {
@@ -151,7 +159,9 @@ module _ (p t : ℕ) where
       order = refl;
       own = refl;
       ran = (now, h, refl);
-      reason = find-reason None now why limit [] [] (fix p t ∷ []) (first p t ∷ []) (true_reply ∷ []) finds;
+      tells = ([], omega arith, tt, own-replied p (fix p t) true_reply [] [] (number-same p));
+      turns = tt;
+      reason = find-reason None now why limit [] [] (fix p t) [] (first p t ∷ []) (true_reply ∷ []) finds;
       fixes = λ here. more;
     }
 
@@ -163,10 +173,17 @@ module _ (p t : ℕ) where
       so_far = walk p t keys given
 
       -- ---- the walk halts, some steps of others having been done
+      -- of what the walk found the others were told these keys, and at most one is left
+      pub record Untold (keys' : List Term) : Type 0 where
+        pub more : List Term
+        pub few : length more ≤ 1
+        pub no_end : AllByRecursion (λ key. is_atom (codes "$end_of_table") key ≡ false) more
+        pub told : map value keys ++ key_reply found ∷ [] ≡ map value (keys' ++ more)
+
       pub halts-at : (why : WalkFault) (limit : ℕ) (keys' : List Term) (given' : Given) (xs left own_left : List Step) (replies : List Reply) (mid : State)
           → walk p t keys' given' ≡ (so_far ++ xs) ++ left → walk p t keys' [] ≡ walk p t keys [] ++ own_left → run now xs replies mid → AllByRecursion (λ s. is_step_of p s ≡ false) xs
-          → Reason p t why old limit keys' given' (fix p t ∷ (so_far ++ xs)) left (true_reply ∷ (told ++ replies)) mid → Halts p t old limit keys' given' why mid
-      halts-at why limit keys' given' xs left own_left replies mid order own ran others reason = record {
+          → AreTurns keys' given' → Untold keys' → Reason p t why old limit keys' given' (fix p t ∷ (so_far ++ xs)) left (true_reply ∷ (told ++ replies)) mid → Halts p t old limit keys' given' why mid
+      halts-at why limit keys' given' xs left own_left replies mid order own ran others turns untold reason = record {
         done = so_far ++ xs;
         left = left;
         own_left = own_left;
@@ -174,6 +191,15 @@ module _ (p t : ℕ) where
         order = order;
         own = own ∙ ap (λ ys. ys ++ own_left) (sym (own-further p t keys given xs st.others others));
         ran = (st.fixed, st.fix_done, run-append st.fixed now mid so_far xs told replies st.walk_done ran);
+        tells = (
+          untold.more,
+          untold.few,
+          untold.no_end,
+          own-replied p (fix p t) true_reply (so_far ++ xs) (told ++ replies) (number-same p)
+          ∙ ap (λ rs. true_reply ∷ rs) (replied-append p st.fixed now so_far xs told replies st.walk_done
+          ∙ (ap₂ (λ (rs qs : List Reply). rs ++ qs) st.replied (none-replied p now mid xs replies ran others) ∙ (append-none (map value keys ++ key_reply found ∷ []) ∙ untold.told))),
+        );
+        turns = turns;
         reason = reason;
         fixes = let after = others-ran p t count now xs replies mid ran others st.long st.fixes in after.fixes;
       }
@@ -181,15 +207,21 @@ module _ (p t : ℕ) where
       same-order : so_far ≡ (so_far ++ []) ++ []
       same-order = sym (append-none so_far) ∙ sym (append-none (so_far ++ []))
 
-      -- no memory, before anything more was done
-      pub halts-here : (limit : ℕ) → Halts p t old limit keys given fault.Memory now
-      halts-here limit = halts-at fault.Memory limit keys given [] [] [] [] now same-order (sym (append-none (walk p t keys []))) refl tt tt
+    -- ---- the walk halts before the others are told a key that was found
+    module _ (keys : List Term) (given : Given) (key : Term) (now : State) (limit : ℕ) (st : Stands p t old keys given (Some key) now) where
+      untold : Untold keys given (Some key) now st keys
+      untold = record { more = key ∷ []; few = omega arith; no_end = (st.goes_on.no_end, tt); told = sym (map-append value keys (key ∷ [])) }
 
-    -- a key past the limit
-    pub past-limit : (keys : List Term) (given : Given) (key : Term) (now : State) (limit : ℕ) → Stands p t old keys given (Some key) now → length keys ≡ limit → Halts p t old limit keys given fault.LimitReached now
-    past-limit keys given key now limit st many =
-        halts-at keys given (Some key) now st fault.LimitReached limit keys given [] [] [] [] now (same-order keys given (Some key) now st) (sym (append-none (walk p t keys []))) refl tt
-        (refl, many, (true_reply ∷ st.before, key, ap (λ rs. true_reply ∷ rs) (append-none (st.before ++ Value key ∷ [])), st.goes_on.no_end))
+      -- no memory
+      pub halts-here : Halts p t old limit keys given fault.Memory now
+      halts-here =
+          halts-at keys given (Some key) now st fault.Memory limit keys given [] [] [] [] now (same-order keys given (Some key) now st) (sym (append-none (walk p t keys []))) refl tt st.turns untold tt
+
+      -- a key past the limit
+      pub past-limit : length keys ≡ limit → Halts p t old limit keys given fault.LimitReached now
+      past-limit many =
+          halts-at keys given (Some key) now st fault.LimitReached limit keys given [] [] [] [] now (same-order keys given (Some key) now st) (sym (append-none (walk p t keys []))) refl tt st.turns untold
+          (refl, many, (true_reply ∷ st.before, key, ap (λ rs. true_reply ∷ rs) (append-none (st.before ++ Value key ∷ [])), st.goes_on.no_end))
 
     -- ---- the turn of a key
     module _ (keys : List Term) (given : Given) (key : Term) (now : State) (st : Stands p t old keys given (Some key) now) (steps : List Step) where
@@ -202,14 +234,20 @@ module _ (p t : ℕ) where
       abbrev R : List Reply
       R = st.before ++ Value key ∷ []
 
+      turns-more : AreTurns keys' given'
+      turns-more = subst (λ (m : ℕ). AllByRecursion (λ g. g.0 < m) given') (sym (length-more keys key)) (more-turns given (length keys) steps st.turns)
+
+      all-told : Untold keys given (Some key) now st keys'
+      all-told = record { more = []; few = omega arith; no_end = tt; told = sym (map-append value keys (key ∷ [])) ∙ ap (map value) (sym (append-none keys')) }
+
       own-more : walk p t keys' [] ≡ walk p t keys [] ++ next p t key ∷ []
       own-more = walk-more p t keys key [] [] tt
 
-      stopped-reason : (why : WalkFault) (n limit : ℕ) (done : List Step) (replies : List Reply) (mid : State) (left : Given) → drop n (paired (length keys) steps) ≡ left → StoppedAt p why left
-          → Reason p t why old limit keys' given' done (steps_of left ++ next p t key ∷ []) replies mid
-      stopped-reason fault.Memory n limit done replies mid left e h = tt
-      stopped-reason fault.OwnStep n limit done replies mid [] e h = let none = h.1 in absurd (cc)
-      stopped-reason fault.OwnStep n limit done replies mid (g ∷ left) e h =
+      stopped-reason : (why : WalkFault) (n limit : ℕ) (s : Step) (done : List Step) (replies : List Reply) (mid : State) (left : Given) → drop n (paired (length keys) steps) ≡ left → StoppedAt p why left
+          → Reason p t why old limit keys' given' (s ∷ done) (steps_of left ++ next p t key ∷ []) replies mid
+      stopped-reason fault.Memory n limit s done replies mid left e h = tt
+      stopped-reason fault.OwnStep n limit s done replies mid [] e h = let none = h.1 in absurd (cc)
+      stopped-reason fault.OwnStep n limit s done replies mid (g ∷ left) e h =
           let is : g ≡ h.0 = cc in
           (g.0, g.1, steps_of left ++ next p t key ∷ [], refl, handed-in n (paired (length keys) steps) g left e, ap (λ (x : ℕ × Step). is_step_of p x.1) is ∙ h.2)
         where
@@ -220,9 +258,9 @@ module _ (p t : ℕ) where
 
           handed-in : (n : ℕ) (xs : Given) (g : ℕ × Step) (left : Given) → drop n xs ≡ g ∷ left → Contains (given ++ xs) g
           handed-in n xs g left e = Contains-append_right given xs g (cut n xs g left e)
-      stopped-reason fault.Lost n limit done replies mid left e h = absurd h
-      stopped-reason fault.LimitReached n limit done replies mid left e h = absurd h
-      stopped-reason fault.SystemLimit n limit done replies mid left e h = absurd h
+      stopped-reason fault.Lost n limit s done replies mid left e h = absurd h
+      stopped-reason fault.LimitReached n limit s done replies mid left e h = absurd h
+      stopped-reason fault.SystemLimit n limit s done replies mid left e h = absurd h
 
       -- one of the others' steps is not done
       pub stopped : (why : WalkFault) (n limit : ℕ) (mid : State) → OthersDid p now (take n (paired (length keys) steps)) mid → StoppedAt p why (drop n (paired (length keys) steps)) → Halts p t old limit keys' given' why mid
@@ -235,16 +273,16 @@ module _ (p t : ℕ) where
           walk-more p t keys key given steps st.turns
           ∙ (ap (λ ys. walk p t keys given ++ (ys ++ next p t key ∷ [])) cut
           ∙ (ap (λ ys. walk p t keys given ++ ys) (append_assoc xs left (next p t key ∷ [])) ∙ sym (append_assoc (walk p t keys given) xs (left ++ next p t key ∷ [])))) in
-          halts-at keys given (Some key) now st why limit keys' given' xs (left ++ next p t key ∷ []) (next p t key ∷ []) did.replies mid order own-more did.ran did.others
-          (stopped-reason why n limit (fix p t ∷ (walk p t keys given ++ xs)) (true_reply ∷ (R ++ did.replies)) mid (drop n pairs) refl at)
+          halts-at keys given (Some key) now st why limit keys' given' xs (left ++ next p t key ∷ []) (next p t key ∷ []) did.replies mid order own-more did.ran did.others turns-more all-told
+          (stopped-reason why n limit (fix p t) (walk p t keys given ++ xs) (true_reply ∷ (R ++ did.replies)) mid (drop n pairs) refl at)
 
       -- the key behind is not found
       pub not-found : (why : WalkFault) (limit : ℕ) (mid : State) (replies : List Reply) → run now steps replies mid → AllByRecursion (λ s. is_step_of p s ≡ false) steps → Finds p t (Some key) mid (Err why) → Halts p t old limit keys' given' why mid
       not-found why limit mid replies ran others finds =
           let order : walk p t keys' given' ≡ (walk p t keys given ++ steps) ++ next p t key ∷ [] =
           walk-more p t keys key given steps st.turns ∙ sym (append_assoc (walk p t keys given) steps (next p t key ∷ [])) in
-          halts-at keys given (Some key) now st why limit keys' given' steps (next p t key ∷ []) (next p t key ∷ []) replies mid order own-more ran others
-          (find-reason (Some key) mid why limit keys' given' (fix p t ∷ (walk p t keys given ++ steps)) (next p t key ∷ []) (true_reply ∷ (R ++ replies)) finds)
+          halts-at keys given (Some key) now st why limit keys' given' steps (next p t key ∷ []) (next p t key ∷ []) replies mid order own-more ran others turns-more all-told
+          (find-reason (Some key) mid why limit keys' given' (fix p t) (walk p t keys given ++ steps) (next p t key ∷ []) (true_reply ∷ (R ++ replies)) finds)
 
       module _ (replies : List Reply) (mid : State) (ran : run now steps replies mid) (others : AllByRecursion (λ s. is_step_of p s ≡ false) steps) where
         after : Ran p t count now steps replies mid
@@ -270,6 +308,14 @@ module _ (p t : ℕ) where
             ∙ (append_assoc (walk p t keys given) (steps ++ next p t key ∷ []) more ∙ ap (λ ys. walk p t keys given ++ ys) (append_assoc steps (next p t key ∷ []) more)))
             (append_assoc (R ++ replies) (Value key2 ∷ []) others2 ∙ append_assoc R replies (Value key2 ∷ others2)) all
 
+        replied-on : (found : Option Term) → replies_to p (walk p t keys' given') ((R ++ replies) ++ key_reply found ∷ []) ≡ map value keys' ++ key_reply found ∷ []
+        replied-on found =
+            ap₂ (λ (xs : List Step) (rs : List Reply). replies_to p xs rs) (walk-more p t keys key given steps st.turns) (append_assoc R replies (key_reply found ∷ []))
+            ∙ (replied-append p st.fixed now (walk p t keys given) (steps ++ next p t key ∷ []) R (replies ++ key_reply found ∷ []) st.walk_done
+            ∙ (ap₂ (λ (rs qs : List Reply). rs ++ qs) (st.replied ∙ sym (map-append value keys (key ∷ [])))
+            (replied-append p now mid steps (next p t key ∷ []) replies (key_reply found ∷ []) ran
+            ∙ ap₂ (λ (rs qs : List Reply). rs ++ qs) (none-replied p now mid steps replies ran others) (own-replied p (next p t key) (key_reply found) [] [] (number-same p)))))
+
         pub turned : (found : Option Term) → Finds p t (Some key) mid (Ok found) → Stands p t old keys' given' found mid
         turned found finds = record {
           fixed = st.fixed;
@@ -279,8 +325,9 @@ module _ (p t : ℕ) where
               (run-append st.fixed now mid (walk p t keys given) (steps ++ next p t key ∷ []) R (replies ++ key_reply found ∷ []) st.walk_done
               (run-push now mid mid steps replies (next p t key) (key_reply found) ran finds.1));
           leads = leads-on found finds;
+          replied = replied-on found;
           others = more-others p t given (length keys) steps st.others others;
-          turns = subst (λ (m : ℕ). AllByRecursion (λ g. g.0 < m) given') (sym (length-more keys key)) (more-turns given (length keys) steps st.turns);
+          turns = turns-more;
           fixes = after.fixes;
           long = after.long;
           readable = finds.0;

@@ -65,7 +65,7 @@ module _ (p t : ℕ) where
   -- ---- the turn of a key
   module _ (old now : State) (keys : List Term) (given : Given) (key : Term) (st : Stands p t old keys given (Some key) now) where
     pub halts-before : (keys' : List Term) (given' : Given) → keys' ≡ keys → given' ≡ given → (limit : ℕ) → Halts p t old limit keys' given' fault.Memory now
-    halts-before keys' given' e f limit = subst₂ (λ ks gs. Halts p t old limit ks gs fault.Memory now) (sym e) (sym f) (halts-here p t old keys given (Some key) now st limit)
+    halts-before keys' given' e f limit = subst₂ (λ ks gs. Halts p t old limit ks gs fault.Memory now) (sym e) (sym f) (halts-here p t old keys given key now limit st)
 
     module _ (keys' : List Term) (given' : Given) (adds : Adds keys given key keys' given') (mid : State) where
       last-given : drop (length given) given' ≡ paired (length keys) adds.1.0
@@ -117,6 +117,7 @@ module _ (p t : ℕ) where
             answers = walking.answers;
             held = walking.held;
             others = st.others;
+            turns = st.turns;
             few = e.1;
             fixes = go.2 (fixes_in p t old) (st.fixes (readable-there p t now go.0));
           },
@@ -133,6 +134,8 @@ module _ (p t : ℕ) where
       order = ap (λ xs. fix p t ∷ xs) h.order;
       own = ap (λ xs. fix p t ∷ xs) h.own ∙ ap (λ xs. xs ++ h.own_left) (sym (own-kept p t h.done (fix p t) (own-fix p)));
       ran = h.ran;
+      tells = h.tells;
+      turns = h.turns;
       reason = h.reason;
       after = leaves b go;
     }
@@ -151,21 +154,22 @@ module _ (p t : ℕ) where
         let both = ends-ok b w ends go in
         (both.0, subst (λ (o : Option ℕ). MatchOption o ⊥ (λ u. IsWalked p u old limit keys given new)) (sym e) both.1)
     walked-among term (Err why) b e ends go =
-        subst (λ (o : Option ℕ). MatchOption o ((why ≡ fault.Lost) × (new ≡ old)) (λ u. Stops p u old limit keys given why new)) (sym e) (ends-err b why ends go)
+        subst (λ (o : Option ℕ). MatchOption o ((why ≡ fault.Lost) × (new ≡ old) × (keys ≡ []) × (given ≡ [])) (λ u. Stops p u old limit keys given why new)) (sym e) (ends-err b why ends go)
 
   -- the table is not fixed
   not-held : (old : State) (limit : ℕ) (why : WalkFault) (new : State) → Holds p t old (Err why) new → Stops p t old limit [] [] why new
-  not-held old limit fault.Lost new h = record { done = []; left = woven p t [] []; own_left = woven p t [] []; replies = []; last = old; order = refl; own = refl; ran = refl; reason = h.0; after = h.1 }
-  not-held old limit fault.SystemLimit new h = record { done = []; left = woven p t [] []; own_left = woven p t [] []; replies = []; last = old; order = refl; own = refl; ran = refl; reason = (refl, h.0); after = h.1 }
-  not-held old limit fault.Memory new h = record { done = []; left = woven p t [] []; own_left = woven p t [] []; replies = []; last = old; order = refl; own = refl; ran = refl; reason = tt; after = h }
+  not-held old limit fault.Lost new h = record { done = []; left = woven p t [] []; own_left = woven p t [] []; replies = []; last = old; order = refl; own = refl; ran = refl; tells = (refl, refl); turns = tt; reason = h.0; after = h.1 }
+  not-held old limit fault.SystemLimit new h = record { done = []; left = woven p t [] []; own_left = woven p t [] []; replies = []; last = old; order = refl; own = refl; ran = refl; tells = (refl, refl); turns = tt; reason = (refl, h.0, h.1); after = h.2 }
+  not-held old limit fault.Memory new h = record { done = []; left = woven p t [] []; own_left = woven p t [] []; replies = []; last = old; order = refl; own = refl; ran = refl; tells = (refl, refl); turns = tt; reason = (h.0, h.1); after = h.2 }
   not-held old limit fault.OwnStep new h = absurd h
   not-held old limit fault.LimitReached new h = absurd h
 
   pub not-walked : (old new : State) (term : Term) (limit : ℕ) (keys : List Term) (given : Given) (why : WalkFault) → resolve old.world.tables term ≡ Some t → keys ≡ [] → given ≡ [] → Holds p t old (Err why) new
       → WalksAmong old p term limit keys given (Err why) new
   not-walked old new term limit keys given why e none unasked h =
-      subst (λ (o : Option ℕ). MatchOption o ((why ≡ fault.Lost) × (new ≡ old)) (λ u. Stops p u old limit keys given why new)) (sym e)
+      subst (λ (o : Option ℕ). MatchOption o ((why ≡ fault.Lost) × (new ≡ old) × (keys ≡ []) × (given ≡ [])) (λ u. Stops p u old limit keys given why new)) (sym e)
       (subst₂ (λ ks gs. Stops p t old limit ks gs why new) (sym none) (sym unasked) (not-held old limit why new h))
 
-pub no-table : (p : ℕ) (old : State) (term : Term) (limit : ℕ) (keys : List Term) (given : Given) → resolve old.world.tables term ≡ None → WalksAmong old p term limit keys given (Err fault.Lost) old
-no-table p old term limit keys given e = subst (λ (o : Option ℕ). MatchOption o ((fault.Lost ≡ fault.Lost) × (old ≡ old)) (λ u. Stops p u old limit keys given fault.Lost old)) (sym e) (refl, refl)
+pub no-table : (p : ℕ) (old : State) (term : Term) (limit : ℕ) (keys : List Term) (given : Given) → resolve old.world.tables term ≡ None → keys ≡ [] → given ≡ [] → WalksAmong old p term limit keys given (Err fault.Lost) old
+no-table p old term limit keys given e none unasked =
+    subst (λ (o : Option ℕ). MatchOption o ((fault.Lost ≡ fault.Lost) × (old ≡ old) × (keys ≡ []) × (given ≡ [])) (λ u. Stops p u old limit keys given fault.Lost old)) (sym e) (refl, refl, none, unasked)

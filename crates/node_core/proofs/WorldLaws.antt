@@ -22,6 +22,7 @@ use Rattle.ownership.specs.Outcomes.{Outcome, gives, refused}
 use Rattle.node_core.specs.Seen.{seen_fixed, seen_table, seen_tables}
 use Rattle.node_core.proofs.SeenTables.{seen_world, at-seen, length-seen, whereis-seen, push-seen, changed-seen}
 use Rattle.node_core.proofs.SeenRules.{all_released-seen, all_released-tame}
+use Rattle.node_core.specs.rules.Tables.{IsFresh}
 use Rattle.node_core.proofs.Following.{Follows, Stays, stays-same, follows-same, follows-push, follows-changed, follows-map}
 
 -- an answer, or a refusal, is as good without the buckets, and each table stays or is new
@@ -70,9 +71,9 @@ module _ (old : World) (p : ℕ) (name : List ℕ) (options : NewOptions) where
       Refuses w (nat_le w.most_tables count) SystemLimit (
       gives (told options.named name count) (with_table w (new_head p name options) fixed)))
 
-  made : (fixed : Fixed) → fixed.content.slots ≡ []
+  made : (fixed : Fixed) → fixed.content.slots ≡ [] → IsFresh fixed.buckets
       → IsLawfulOutcome Term old (Makes old (whereis old.tables name) (length old.tables) fixed) (Makes (seen_world old) (whereis old.tables name) (length old.tables) (seen_fixed fixed))
-  made fixed bare =
+  made fixed bare first =
       refuse-lawful Badarg old (options.named && is_some (whereis old.tables name))
       (Refuses old (nat_le old.most_tables (length old.tables)) SystemLimit (gives (told options.named name (length old.tables)) (with_table old (new_head p name options) fixed)))
       (Refuses (seen_world old) (nat_le old.most_tables (length old.tables)) SystemLimit (gives (told options.named name (length old.tables)) (with_table (seen_world old) (new_head p name options) (seen_fixed fixed)))) (λ fresh.
@@ -81,12 +82,12 @@ module _ (old : World) (p : ℕ) (name : List ℕ) (options : NewOptions) where
       (gives (told options.named name (length old.tables)) (with_table (seen_world old) (new_head p name options) (seen_fixed fixed))) (λ room.
       gives-lawful (told options.named name (length old.tables)) old (with_table old (new_head p name options) fixed) (with_table (seen_world old) (new_head p name options) (seen_fixed fixed))
       (ap (λ ts. record old { tables = ts }) (sym (push-seen old.tables (record { head = new_head p name options; fixed = fixed }))))
-      (follows-push old.tables (record { head = new_head p name options; fixed = fixed }) bare (free-of options.named (whereis old.tables name) fresh))))
+      (follows-push old.tables (record { head = new_head p name options; fixed = fixed }) bare first (free-of options.named (whereis old.tables name) fresh))))
 
-  pub new-lawful : (fixed : Fixed) → fixed.content.slots ≡ [] → IsLawfulOutcome Term old (tables.New old p name options fixed) (tables.New (seen_world old) p name options (seen_fixed fixed))
-  new-lawful fixed bare =
+  pub new-lawful : (fixed : Fixed) → fixed.content.slots ≡ [] → IsFresh fixed.buckets → IsLawfulOutcome Term old (tables.New old p name options fixed) (tables.New (seen_world old) p name options (seen_fixed fixed))
+  new-lawful fixed bare first =
       subst₂ (λ (found : Option ℕ) (count : ℕ). IsLawfulOutcome Term old (tables.New old p name options fixed) (Makes (seen_world old) found count (seen_fixed fixed)))
-      (sym (whereis-seen old.tables name)) (sym (length-seen old.tables)) (made fixed bare)
+      (sym (whereis-seen old.tables name)) (sym (length-seen old.tables)) (made fixed bare first)
 
 -- ---- tables change hands
 passed-stays : (q : ℕ) (table : Table) → Stays table (passed_to q table)

@@ -1,6 +1,6 @@
 -- A walk among the steps of others (stdlib manual, module ets, safe_fixtable/2, first/1 and next/2): its steps in their order, and
 -- where it leaves the machine.
-use Rattle.std.specs.Prelude.{◌≡◌, ◌≤◌, ℕ, suc, ◌==◌, ◌&&◌, Bool, true, false, List, [], ◌∷◌, ◌++◌, map, filter, length, None, Result, Ok, Err, MatchOption, codes}
+use Rattle.std.specs.Prelude.{◌≡◌, ◌≤◌, ◌<◌, ℕ, suc, ◌==◌, ◌&&◌, Bool, true, false, if◌then◌else◌, List, [], ◌∷◌, ◌++◌, map, filter, length, None, Result, Ok, Err, MatchOption, codes}
 use Rattle.std.specs.Bool.{MatchBool}
 use Rattle.std.specs.List.{AllByRecursion, Contains}
 use Rattle.std.specs.Option.{option_map_or}
@@ -31,9 +31,18 @@ is_step_of p (Ask q call) = q == p
 is_step_of p (Grow t) = false
 is_step_of p (Ready t bucket) = false
 
+-- the replies to the steps of this process, in their order
+abbrev pub replies_to : ℕ → List Step → List Reply → List Reply
+replies_to p (s ∷ steps) (r ∷ replies) = if is_step_of p s then r ∷ replies_to p steps replies else replies_to p steps replies
+replies_to p _ _ = []
+
 -- steps handed in, each with its turn, which is the place of a key
 abbrev pub Given : Type 0
 Given = List (ℕ × Step)
+
+-- each has the turn of one of these keys
+abbrev pub AreTurns : List Term → Given → Type 0
+AreTurns keys given = AllByRecursion (λ g. g.0 < length keys) given
 
 abbrev pub steps_at : ℕ → Given → List Step
 steps_at turn given = map (λ g. g.1) (filter (λ g. g.0 == turn) given)
@@ -41,6 +50,14 @@ steps_at turn given = map (λ g. g.1) (filter (λ g. g.0 == turn) given)
 -- a key is told to the others: it goes last, and steps of its turn go last of those handed in
 abbrev pub Adds : List Term → Given → Term → List Term → Given → Type 0
 Adds keys given key new_keys new_given = (new_keys ≡ keys ++ key ∷ []) × ((steps : List Step) × (new_given ≡ given ++ map (λ s. (length keys, s)) steps))
+
+-- What the others are told of a process's walk that stopped. The replies to its steps are true, to its fix, then these keys in their
+-- order, and then at most one key that they are not told. Where not even the fix is done they are told nothing, and hand nothing in.
+abbrev pub Tells : ℕ → (keys : List Term) (given : Given) (done : List Step) (replies : List Reply) → Type 0
+Tells p keys given [] replies = (keys ≡ []) × (given ≡ [])
+Tells p keys given (s ∷ done) replies =
+    (more : List Term) × (length more ≤ 1) × AllByRecursion (λ key. is_atom (codes "$end_of_table") key ≡ false) more
+    × (replies_to p (s ∷ done) replies ≡ true_reply ∷ map (λ key. Value key) (keys ++ more))
 
 module _ (p t : ℕ) where
   -- the calls of the walker on the table
@@ -78,7 +95,7 @@ module _ (p t : ℕ) where
   fixes_in s = option_map_or (λ table. fix_count table.fixed.fixes p) (table_at s.world.tables t) 0
 
   -- A walk that came to its end: the steps woven, and then the release, are done. The walker's calls answer these keys and then the
-  -- end, the table stays fixed from the first of them to the last, and no step handed in is the walker's.
+  -- end, the table stays fixed from the first of them to the last, and no step handed in is the walker's or without a turn.
   pub record IsWalked (old : State) (limit : ℕ) (keys : List Term) (given : Given) (new : State) : Type 0 where
     pub fixed : State
     pub last : State
@@ -89,6 +106,7 @@ module _ (p t : ℕ) where
     pub answers : Walks p t None keys fixed (walk keys given) replies last walk_done
     pub held : AllByRecursion (λ s. is_fixed_in t s ≡ true) (states fixed (walk keys given) replies last walk_done)
     pub others : AllByRecursion (λ g. is_step_of p g.1 ≡ false) given
+    pub turns : AreTurns keys given
     pub few : length keys ≤ limit
     pub fixes : fixes_in new ≡ fixes_in old
 
@@ -99,8 +117,9 @@ module _ (p t : ℕ) where
       (turn : ℕ) × (s : Step) × (further : List Step) × (left ≡ s ∷ further) × Contains given (turn, s) × (is_step_of p s ≡ true)
   Reason fault.LimitReached old limit keys given done left replies last =
       (left ≡ []) × (length keys ≡ limit) × ((before : List Reply) × (key : Term) × (replies ≡ before ++ Value key ∷ []) × (is_atom (codes "$end_of_table") key ≡ false))
-  Reason fault.Memory old limit keys given done left replies last = Unit {0}
-  Reason fault.SystemLimit old limit keys given done left replies last = (done ≡ []) × (fixes_in old ≡ most_fixes)
+  Reason fault.Memory old limit keys given [] left replies last = (can_read old ≡ true) × (fixes_in old < most_fixes)
+  Reason fault.Memory old limit keys given (s ∷ done) left replies last = Unit {0}
+  Reason fault.SystemLimit old limit keys given done left replies last = (done ≡ []) × (can_read old ≡ true) × (fixes_in old ≡ most_fixes)
 
   -- after the steps done comes the release, where they begin with the fix and the table may still be read; the walker then has as many
   -- fixes as before
@@ -118,10 +137,13 @@ module _ (p t : ℕ) where
     pub order : woven keys given ≡ done ++ left
     pub own : woven keys [] ≡ filter (is_step_of p) done ++ own_left
     pub ran : run old done replies last
+    pub tells : Tells p keys given done replies
+    pub turns : AreTurns keys given
     pub reason : Reason why old limit keys given done left replies last
     pub after : Leaves old done last new
 
 -- what a walk over the table that a term names comes to, where the others then have these keys and these steps
 abbrev pub WalksAmong : State → ℕ → Term → ℕ → List Term → Given → Result Walk WalkFault → State → Type 0
 WalksAmong old p term limit keys given (Ok walk) new = (walk.keys ≡ keys) × MatchOption (resolve old.world.tables term) ⊥ (λ t. IsWalked p t old limit keys given new)
-WalksAmong old p term limit keys given (Err why) new = MatchOption (resolve old.world.tables term) ((why ≡ fault.Lost) × (new ≡ old)) (λ t. Stops p t old limit keys given why new)
+WalksAmong old p term limit keys given (Err why) new =
+    MatchOption (resolve old.world.tables term) ((why ≡ fault.Lost) × (new ≡ old) × (keys ≡ []) × (given ≡ [])) (λ t. Stops p t old limit keys given why new)

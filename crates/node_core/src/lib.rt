@@ -18,6 +18,7 @@ mod limits;
 mod node;
 mod position;
 mod step;
+mod terms;
 mod walk;
 
 pub use limits::Limits;

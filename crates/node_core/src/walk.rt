@@ -4,7 +4,7 @@ ghost use Rattle.ets_term.specs.declared.term.Term as term;
 ghost use Rattle.node_core.specs.declared.step.Step as event;
 ghost use Rattle.node_core.specs.Seen.{seen};
 ghost use Rattle.node_core.specs.State.{State};
-ghost use Rattle.node_core.specs.Woven.{is_step_of, Adds, WalksAmong};
+ghost use Rattle.node_core.specs.Woven.{Adds, WalksAmong};
 ghost use Rattle.node_core.specs.inside.Walker.{Stands, TurnsTo, EndsIn, Holds, OthersRun};
 
 use crate::node::Node;
@@ -152,7 +152,7 @@ fn run_others<H: KeyHash + Copy + Drop>(
     ensures { OthersRun pid (seen node.old) given.now result (seen node.new) }
 {
     for (_, step) in given {
-        if is_step_of(pid, step) {
+        if step.is_of(pid) {
             return Err(WalkFault::OwnStep);
         }
         if node.step(step).is_err() {
@@ -160,16 +160,6 @@ fn run_others<H: KeyHash + Copy + Drop>(
         }
     }
     Ok(())
-}
-
-/// Whether the step is one of this process.
-fn is_step_of(pid: u32, step: &Step) -> bool
-    ensures { result ≡ is_step_of pid step.now }
-{
-    match step {
-        Step::Enrol(own) | Step::End(own) | Step::Ask(own, _) => *own == pid,
-        Step::Grow(_) | Step::Ready(_, _) => false,
-    }
 }
 
 impl Walk {

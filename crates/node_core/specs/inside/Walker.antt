@@ -10,6 +10,7 @@ use Rattle.fixed_walk.specs.Fixes.{most_fixes}
 use Rattle.ownership.specs.World.{table_at}
 use Rattle.node_core.specs.declared.step.Step.{Step}
 use Rattle.node_core.specs.declared.step.Reply.{Reply}
+use Rattle.node_core.specs.declared.step.Reply.TheVariants.{Value}
 use Rattle.node_core.specs.declared.walk.Walk.{Walk}
 use Rattle.node_core.specs.declared.walk.WalkFault.{WalkFault}
 use Rattle.node_core.specs.declared.walk.WalkFault.TheVariants as fault
@@ -19,7 +20,7 @@ use Rattle.node_core.specs.rules.Replies.{true_reply}
 use Rattle.node_core.specs.rules.Walking.{key_reply}
 use Rattle.node_core.specs.laws.Kept.{slots_in, is_fixed_in}
 use Rattle.node_core.specs.laws.Walk.{states, Walks}
-use Rattle.node_core.specs.Woven.{is_step_of, Given, fix, release, first, next, walk, can_read, fixes_in, Reason}
+use Rattle.node_core.specs.Woven.{is_step_of, replies_to, Given, AreTurns, fix, release, first, next, walk, can_read, fixes_in, Reason, Tells}
 
 abbrev pub is_there : ℕ → State → Bool
 is_there t s = is_some (table_at s.world.tables t)
@@ -50,8 +51,8 @@ module _ (p t : ℕ) where
   abbrev pub Holds : State → Result (Unit {0}) WalkFault → State → Type 0
   Holds old (Ok done) new = step old (fix p t) true_reply new × (fixes_in p t new ≡ suc (fixes_in p t old))
   Holds old (Err fault.Lost) new = (can_read p t old ≡ false) × (new ≡ old)
-  Holds old (Err fault.SystemLimit) new = (fixes_in p t old ≡ most_fixes) × (new ≡ old)
-  Holds old (Err fault.Memory) new = new ≡ old
+  Holds old (Err fault.SystemLimit) new = (can_read p t old ≡ true) × (fixes_in p t old ≡ most_fixes) × (new ≡ old)
+  Holds old (Err fault.Memory) new = (can_read p t old ≡ true) × (fixes_in p t old < most_fixes) × (new ≡ old)
   Holds old (Err _) new = ⊥
 
   -- one fix less, where the table may be read
@@ -79,8 +80,9 @@ module _ (p t : ℕ) where
     pub fix_done : step old (fix p t) true_reply fixed
     pub walk_done : run fixed (walk p t keys given) (before ++ key_reply found ∷ []) now
     pub leads : Leads found keys fixed (walk p t keys given) (before ++ key_reply found ∷ []) now
+    pub replied : replies_to p (walk p t keys given) (before ++ key_reply found ∷ []) ≡ map (λ key. Value key) keys ++ key_reply found ∷ []
     pub others : AllByRecursion (λ g. is_step_of p g.1 ≡ false) given
-    pub turns : AllByRecursion (λ g. g.0 < length keys) given
+    pub turns : AreTurns keys given
     pub fixes : is_there t now ≡ true → fixes_in p t now ≡ suc (fixes_in p t old)
     pub long : t < length now.world.tables
     pub readable : can_read p t now ≡ true
@@ -95,6 +97,8 @@ module _ (p t : ℕ) where
     pub order : walk p t keys given ≡ done ++ left
     pub own : walk p t keys [] ≡ filter (is_step_of p) done ++ own_left
     pub ran : run old (fix p t ∷ done) (true_reply ∷ replies) now
+    pub tells : Tells p keys given (fix p t ∷ done) (true_reply ∷ replies)
+    pub turns : AreTurns keys given
     pub reason : Reason p t why old limit keys given (fix p t ∷ done) left (true_reply ∷ replies) now
     pub fixes : is_there t now ≡ true → fixes_in p t now ≡ suc (fixes_in p t old)
 

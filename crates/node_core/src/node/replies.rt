@@ -7,7 +7,8 @@ ghost use Rattle.node_core.specs.rules.Replies.{true_reply, truth_reply, list_re
 ghost use Rattle.node_core.specs.inside.Refusals.{refused_as};
 
 use crate::step::Reply;
-use ets_term::{Atom, Items, Term};
+use crate::terms;
+use ets_term::{Atom, Term};
 use ownership::WorldFault;
 use std::alloc::{AllocError, Global};
 use table_ops::Refusal;
@@ -46,11 +47,8 @@ pub fn atom_reply(alloc: Global, text: &[u8]) -> Reply
 pub fn list_reply(alloc: Global, objects: &[Term]) -> Result<Reply, AllocError>
     ensures { IfOk result (λ r. r ≡ list_reply objects.now) }
 {
-    let mut copies = Vec::with_capacity(alloc, objects.len())?;
-    for object in objects {
-        copies.push_reserved(object.try_clone(alloc)?);
-    }
-    Ok(Reply::Value(Term::List(Items::from_vec(copies))))
+    let copies = terms::copied(alloc, objects)?;
+    Ok(Reply::Value(Term::List(copies)))
 }
 
 /// The refusal of the world, as a calling method has it.

@@ -12,4 +12,4 @@ loop-step-preserved g c =
     let within : i < length xs = omega arith in
     let more : take (i + 1) xs ≡ take i xs ++ item ∷ [] = take_more xs i item within ∙ ap (λ x. take i xs ++ x ∷ []) (sym c.loop-step-item.is) in
     did-after c.args.pid (seen c.args.node.now) (seen c.loop-step.node) (seen c.step.new.self) (take i xs) (take (i + 1) xs) item c.step.result more c.loop-step.invariant
-    (sym c.if-is_step_of.ensures) c.if-is_err.ensures.value c.step.ensures.ok
+    (sym c.if-is_of.ensures) c.if-is_err.ensures.value c.step.ensures.ok

@@ -8,7 +8,7 @@ use Rattle.node_core.proofs.walk.walk_among.Goals as goal
 pub returns-in_default : goal.returns-in_default
 returns-in_default g c =
     no-table c.args.pid (seen c.args.node.now) c.args.table.now c.args.limit (g.O.Others.keys c.args.others.now) (g.O.Others.steps c.args.others.now)
-    (resolve-seen c.args.node.now.world.tables c.args.table.now ∙ (sym c.resolve.ensures ∙ c.in_default.is))
+    (resolve-seen c.args.node.now.world.tables c.args.table.now ∙ (sym c.resolve.ensures ∙ c.in_default.is)) c.requires.keys c.requires.steps
 
 pub returns-in_err-hold : goal.returns-in_err-hold
 returns-in_err-hold g c =

@@ -1,0 +1,36 @@
+-- What is due is that a table grows, or that one of its buckets is readied.
+use Rattle.std.proofs.Common.{◌≡◌, ℕ, zero, suc, Bool, true, false, not, Option, None, Some, [], ◌∷◌, length, option_map, subst}
+use Rattle.std.specs.Prelude.{◌*◌, nat_lt, ◌&&◌, if◌then◌else◌, position}
+use Rattle.std.specs.Option.{option_map_or}
+use Rattle.fixed_walk.specs.Fixed.{Fixed}
+use Rattle.ownership.specs.World.{Tables}
+use Rattle.node_core.specs.declared.step.Step.{Step}
+use Rattle.node_core.specs.declared.step.Step.TheVariants.{Grow, Ready}
+use Rattle.node_core.specs.State.{State}
+use Rattle.node_core.specs.rules.Growth.{most_buckets, due_of, due_from, due}
+
+module _ (Q : Step → Type 0) (grows : (t : ℕ) → Q (Grow t)) (readies : (t bucket : ℕ) → Q (Ready t bucket)) where
+  abbrev Where : Option Step → Type 0
+  Where None = Unit {0}
+  Where (Some s) = Q s
+
+  of-table : (t : ℕ) (f : Fixed) → Where (due_of t f)
+  of-table t f = by (nat_lt (4 * length f.buckets) (length f.content.slots) && nat_lt (length f.buckets) most_buckets) (position not f.buckets)
+    where
+      by : (crowded : Bool) (bucket : Option ℕ) → Where (if crowded then Some (Grow t) else option_map (λ place. Ready t place) bucket)
+      by true bucket = grows t
+      by false None = tt
+      by false (Some bucket) = readies t bucket
+
+  first : (here behind : Option Step) → Where here → Where behind → Where (option_map_or (λ step. Some step) here behind)
+  first None behind h b = b
+  first (Some s) behind h b = h
+
+  of-tables : (t : ℕ) (tables : Tables) → Where (due_from t tables)
+  of-tables t [] = tt
+  of-tables t (None ∷ tables) = of-tables (suc t) tables
+  of-tables t (Some own ∷ tables) = first (due_of t own.fixed) (due_from (suc t) tables) (of-table t own.fixed) (of-tables (suc t) tables)
+
+  -- so what holds of these steps holds of the step that is due
+  pub due-tends : (s : State) (event : Step) → due s ≡ Some event → Q event
+  due-tends s event e = subst Where e (of-tables 0 s.world.tables)
