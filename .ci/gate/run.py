@@ -32,14 +32,16 @@ def counted(pattern, text):
 
 
 def parts_of(words, copy, logs):
-    """What the gate runs: what costs no proof, the test of the program of wrong bodies, `rt ci`, the wrong bodies, and the front door."""
+    """What the gate runs: what costs no proof, the test of the program of wrong bodies, `rt ci`, the wrong bodies, the front door, and cut scripts."""
     politely = ["nice", "-n", "10", f"{TOP}/.ci/wrong_bodies"]
     itself = Part("the program of wrong bodies", [*politely, "--self"], ends_all=True)
     proofs = Part("every proof, test and program (rt ci)", ["rt", "ci"], copy, show=r"^rt: ")
     tried = [*politely, "--libraries", copy, "--after", proofs.file(logs), *words]
     edits = Part("every wrong body", tried, show=r"^wrong bodies: ")
-    door = Part("the front door", [f"{TOP}/.ci/door", f"{copy}/{PROGRAM}/out/ets_script_cli"], after=[proofs])
-    return [*unproved(logs), itself, door], proofs, edits
+    program = f"{copy}/{PROGRAM}/out/ets_script_cli"
+    door = Part("the front door", [f"{TOP}/.ci/door", program], after=[proofs])
+    cuts = Part("the examples, cut at every byte", [f"{TOP}/.ci/cuts", program], after=[proofs])
+    return [*unproved(logs), itself, door, cuts], proofs, edits
 
 
 def report(edits, costs):

@@ -59,10 +59,12 @@ fn joined(alloc: Global, parts: [&str; 3]) -> Result<String, AllocError> {
 const TABLE: &str = "spawn p\nspawn q\np new(t,[named_table])\n";
 
 /// Nine objects for two buckets, one by one: the last doubles them and readies the third.
-const NINE: &str = "p insert(t,{1})\np insert(t,{2})\np insert(t,{3})\np insert(t,{4})\np insert(t,{5})\np insert(t,{6})\np insert(t,{7})\np insert(t,{8})\np insert(t,{9})\n";
+const NINE: &str =
+    "p insert(t,{1})\np insert(t,{2})\np insert(t,{3})\np insert(t,{4})\np insert(t,{5})\np insert(t,{6})\np insert(t,{7})\np insert(t,{8})\np insert(t,{9})\n";
 
 /// Forty at once, for which the buckets double three times.
-const FORTY: &str = "p insert(t,[{1},{2},{3},{4},{5},{6},{7},{8},{9},{10},{11},{12},{13},{14},{15},{16},{17},{18},{19},{20},{21},{22},{23},{24},{25},{26},{27},{28},{29},{30},{31},{32},{33},{34},{35},{36},{37},{38},{39},{40}])\n";
+const FORTY: &str =
+    "p insert(t,[{1},{2},{3},{4},{5},{6},{7},{8},{9},{10},{11},{12},{13},{14},{15},{16},{17},{18},{19},{20},{21},{22},{23},{24},{25},{26},{27},{28},{29},{30},{31},{32},{33},{34},{35},{36},{37},{38},{39},{40}])\n";
 
 /// Lines behind a new table, what follows them, and what is due then.
 const ROWS: [(&str, &str, Due); 12] = [

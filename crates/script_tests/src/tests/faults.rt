@@ -1,7 +1,9 @@
 //! What has gone out when a reader or a writer is slow, or fails.
 use super::devices::{Devices, GOOD};
-use super::{End, Run, is_run, usual};
-use std::alloc::Global;
+use super::{End, Run, is_run, is_run_by, usual};
+use ets_term::Fnv;
+use std::alloc::{AllocError, Global};
+use std::test::Fail;
 
 const SCRIPT: &[u8] = b"spawn p\nspawn q\nspawn r\nspawn s\n";
 
@@ -115,4 +117,66 @@ fn ends_within(alloc: Global, reads: u32, end: End) -> bool {
 fn the_last_read_must_find_the_end(rt: HostRuntime) {
     assert!(rt; ends_within(rt.alloc(), 4, End::Read));
     assert!(rt; ends_within(rt.alloc(), 5, End::Whole));
+}
+
+/// So many lines of eight bytes, whose answers have ten.
+const LINES: u32 = 300;
+
+fn repeated(alloc: Global, line: &[u8]) -> Result<Vec<u8>, AllocError> {
+    let mut text = Vec::new(alloc);
+    for _ in 0..LINES {
+        text.extend_from_slice(line)?;
+    }
+    Ok(text)
+}
+
+/// The first number of lines, of those that these devices let by one by one, whose answers are not what went out.
+fn wrong_front(
+    alloc: Global,
+    script: &[u8],
+    answers: &[u8],
+    devices: fn(u32) -> Devices,
+    end: End,
+) -> Option<u32> {
+    for lines in 0..LINES {
+        let front = &answers[..10 * lines as usize];
+        if !is_run_by(alloc, &by(devices(lines)), Fnv, script, front, end) {
+            return Some(lines);
+        }
+    }
+    None
+}
+
+fn good_reads(lines: u32) -> Devices {
+    Devices {
+        most_read: 8,
+        good_reads: lines,
+        ..GOOD
+    }
+}
+
+fn good_writes(lines: u32) -> Devices {
+    Devices {
+        most_read: 8,
+        good_writes: lines,
+        ..GOOD
+    }
+}
+
+/// Each read of a long script fails in turn, and each write.
+#[test]
+fn each_call_of_a_device_fails(rt: HostRuntime) -> Result<(), Fail> {
+    let alloc = rt.alloc();
+    let script = repeated(alloc, b"p a(10)\n")?;
+    let answers = repeated(alloc, b"** noproc\n")?;
+    let (script, answers) = (script.as_slice(), answers.as_slice());
+    assert_eq!(rt;
+        wrong_front(alloc, script, answers, good_reads, End::Read),
+        None
+    );
+    assert_eq!(rt;
+        wrong_front(alloc, script, answers, good_writes, End::Write),
+        None
+    );
+    Ok(())
 }
