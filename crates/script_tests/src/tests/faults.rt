@@ -120,7 +120,7 @@ fn the_last_read_must_find_the_end(rt: HostRuntime) {
 }
 
 /// So many lines of eight bytes, whose answers have ten.
-const LINES: u32 = 300;
+const LINES: u32 = 120;
 
 fn repeated(alloc: Global, line: &[u8]) -> Result<Vec<u8>, AllocError> {
     let mut text = Vec::new(alloc);

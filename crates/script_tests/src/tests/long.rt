@@ -1,6 +1,7 @@
 //! Long scripts with known answers.
 use super::devices::{Devices, GOOD};
-use super::{End, Run, is_run, usual};
+use super::{End, Run, is_run, is_run_by, usual};
+use ets_term::Fnv;
 use node_core::Limits;
 use std::alloc::{AllocError, Global};
 use std::test::Fail;
@@ -174,9 +175,10 @@ fn are_names(alloc: Global, count: u32) -> Result<bool, AllocError> {
         objects: 1,
     };
     let run = Run { limits, ..usual() };
-    Ok(is_run(
+    Ok(is_run_by(
         alloc,
         &run,
+        Fnv,
         script.as_slice(),
         answers.as_slice(),
         End::Whole,
