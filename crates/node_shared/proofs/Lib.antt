@@ -1,1 +1,3 @@
 pub mod Numbering
+pub mod Growing
+pub mod Parts
