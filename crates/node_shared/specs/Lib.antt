@@ -4,3 +4,4 @@ pub mod Records
 pub mod Faults
 pub mod Closing
 pub mod inside
+pub mod Working

@@ -17,15 +17,21 @@
 mod book;
 mod client;
 mod entry;
+mod gate;
+mod job;
 mod pids;
 mod share;
 mod shared;
 mod transcript;
+mod workers;
 
 pub use book::{Book, BookFault};
 pub use client::Client;
 pub use entry::Entry;
+pub use gate::Gate;
+pub use job::{Job, Worked};
 pub use pids::{Drawn, MAX_PIDS, Pids, PidsFault, Seat};
 pub use share::Share;
-pub use shared::{JoinFault, Shared};
+pub use shared::{JoinFault, Shared, keep};
 pub use transcript::{CloseFault, Transcript, close};
+pub use workers::run_clients;

@@ -1,4 +1,4 @@
-ghost use Rattle.std.specs.Prelude.{◌≡◌, ◌+◌, [], ◌∷◌, IfOk, IfErr, IfSome};
+ghost use Rattle.std.specs.Prelude.{◌≡◌, ◌≤◌, ◌+◌, [], ◌∷◌, IfOk, IfErr, IfSome};
 ghost use Rattle.std.specs.Bool.{Decides};
 ghost use Rattle.node_core.specs.State.{State};
 ghost use Rattle.node_core.specs.declared.step.Reply.{Reply};
@@ -69,6 +69,11 @@ impl<L: Ledger, H: KeyHash + Copy + Drop> Shared<L, H> {
         }
     }
 
+    /// Does one due step, and says whether it did: not where none is due, and not where memory is refused.
+    fn tend<R: Wait>(&self, rt: &R) -> bool {
+        matches!(self.book.lock(rt).tend(), Ok(true))
+    }
+
     /// The journal, which is a run of the node with these limits. A lock's value is known by its type alone, so the book says once more
     /// which limits it has; they are never others.
     pub(crate) fn into_journal(self) -> Option<Vec<Entry>>
@@ -86,6 +91,25 @@ impl<L: Ledger, H: KeyHash + Copy + Drop> Shared<L, H> {
             None
         }
     }
+}
+
+/// Does due steps, with the lock taken for each anew, until none is due, memory is refused, or so many turns were taken; answers how many it
+/// did. It may wait for the lock.
+pub fn keep<L: Ledger, H: KeyHash + Copy + Drop, R: Wait>(
+    rt: &R,
+    shared: &Shared<L, H>,
+    turns: u32,
+) -> u32
+    ensures { result ≤ turns }
+{
+    let mut done = 0;
+    for _ in 0..turns {
+        if !shared.tend(rt) {
+            break;
+        }
+        done += 1;
+    }
+    done
 }
 
 fn are_same(limits: Limits, own: Limits) -> bool
