@@ -1,0 +1,22 @@
+-- Why a process is not let in.
+use Rattle.std.specs.Prelude.{◌≡◌, ℕ, false}
+use Rattle.node_core.specs.declared.step.Step.TheVariants.{Enrol}
+use Rattle.node_core.specs.State.{State}
+use Rattle.node_core.specs.Seen.{seen}
+use Rattle.node_core.specs.Machine.{step}
+use Rattle.node_core.specs.rules.Replies.{is_value}
+use Rattle.node_shared.specs.declared.book.BookFault.{BookFault}
+use Rattle.node_shared.specs.declared.book.BookFault.TheVariants as book
+use Rattle.node_shared.specs.declared.pids.Drawn.{Drawn}
+use Rattle.node_shared.specs.declared.shared.JoinFault.{JoinFault}
+use Rattle.node_shared.specs.declared.shared.JoinFault.TheVariants as join
+
+-- the machine refuses to enrol p, by this reply
+abbrev pub Refuses : State → ℕ → BookFault → Type 0
+Refuses s p (book.Refused r) = (is_value r ≡ false) × step (seen s) (Enrol p) r (seen s)
+Refuses s p book.Memory = Unit {0}
+
+-- the fault hands this number back
+abbrev pub HandsBack : Drawn → JoinFault → Type 0
+HandsBack drawn (join.Refused r back) = (is_value r ≡ false) × (back ≡ drawn)
+HandsBack drawn (join.Memory back) = back ≡ drawn

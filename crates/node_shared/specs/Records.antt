@@ -1,0 +1,41 @@
+-- What callers see of a book, of a share and of a client.
+use Rattle.std.specs.Prelude.{◌≡◌, ℕ, List, [], ◌∷◌, ◌++◌}
+use Rattle.node_core.specs.declared.step.Step.{Step}
+use Rattle.node_core.specs.declared.step.Step.TheVariants.{Enrol}
+use Rattle.node_core.specs.declared.step.Reply.{Reply}
+use Rattle.node_core.specs.State.{State}
+use Rattle.node_shared.specs.declared.entry.Entry.{Entry}
+use Rattle.node_shared.specs.Journal.{entry, Does}
+
+-- the node's state, the journal, and the ledger's total
+pub record Kept : Type 0 where
+  pub state : State
+  pub journal : List Entry
+  pub total : ℕ
+
+-- the step is done with this reply, and its entry goes last
+abbrev pub Enters : Kept → Step → Reply → Kept → Type 0
+Enters old s r new = Does old.state s r new.state × (new.journal ≡ old.journal ++ entry s r ∷ [])
+
+-- a process, and how many entries are counted for it
+pub record Held : Type 0 where
+  pub pid : ℕ
+  pub amount : ℕ
+
+-- a process, and its record: the steps that its client did, with the replies that it got
+pub record Recorded : Type 0 where
+  pub pid : ℕ
+  pub entries : List Entry
+
+-- the record has one entry more
+abbrev pub records : Recorded → Step → Reply → Recorded
+records client s r = record client { entries = client.entries ++ entry s r ∷ [] }
+
+-- the first entry is the enrolment of p
+abbrev pub Begins : ℕ → List Entry → Type 0
+Begins p [] = ⊥
+Begins p (e ∷ es) = e.step ≡ Enrol p
+
+-- the last entry has this reply
+abbrev pub IsLast : List Entry → Reply → Type 0
+IsLast entries r = (before : List Entry) × (s : Step) × (entries ≡ before ++ entry s r ∷ [])

@@ -1,0 +1,36 @@
+-- What a client's record has of its jobs.
+use Rattle.std.specs.Prelude.{◌≡◌, ℕ, ◌≤◌, ◌-◌, List, [], ◌∷◌, ◌++◌, map, take, length}
+use Rattle.std.specs.declared.vec.Vec.{Vec}
+use Rattle.std.specs.declared.alloc.Global.{Global}
+use Rattle.node_core.specs.declared.step.Step.{Step}
+use Rattle.node_core.specs.declared.step.Step.TheVariants as step
+use Rattle.node_core.specs.declared.step.Reply.{Reply}
+use Rattle.node_shared.specs.declared.entry.Entry.{Entry}
+use Rattle.node_shared.specs.declared.job.Job.{Job}
+use Rattle.node_shared.specs.declared.job.Job.TheVariants.{Ask, End}
+use Rattle.node_shared.specs.declared.job.Worked.{Worked}
+use Rattle.node_shared.specs.Records.{Recorded, records}
+
+-- a job as a step of a process
+abbrev pub job_step : ℕ → Job → Step
+job_step p (Ask call) = step.Ask p call
+job_step p End = step.End p
+
+-- the record has one entry more, that of the job
+abbrev pub DidJob : Recorded → Job → Recorded → Type 0
+DidJob old job new = (r : Reply) × (new ≡ records old (job_step old.pid job) r)
+
+-- the record has entries more, those of the jobs in order, but for the last `left` of them
+abbrev pub DidAll : Recorded → List Job → ℕ → Recorded → Type 0
+DidAll old jobs left new =
+    (left ≤ length jobs) × ((done : List Entry) × (new ≡ record old { entries = old.entries ++ done }) × (map (λ e. e.step) done ≡ map (job_step old.pid) (take (length jobs - left) jobs)))
+
+abbrev pub HasWorked : {T : Type 0} → Recorded → List Job → Worked T → Type 0
+HasWorked old jobs worked = DidAll old jobs worked.left worked.client
+
+-- each client, in their order, did its jobs
+abbrev pub AllWorked : {T : Type 0} → List (Recorded × Vec Job Global) → List (Worked T) → Type 0
+AllWorked [] [] = Unit {0}
+AllWorked (x ∷ xs) (w ∷ ws) = HasWorked x.0 x.1.items w × AllWorked xs ws
+AllWorked [] (w ∷ ws) = ⊥
+AllWorked (x ∷ xs) [] = ⊥

@@ -1,0 +1,4 @@
+pub mod Codes
+pub mod Kept
+pub mod Asking
+pub mod Closing

@@ -1,0 +1,14 @@
+-- What a client is once the reply that it lent is let go.
+use Rattle.std.specs.Prelude.{◌≡◌, ⊤, Result, MatchResult}
+use Rattle.std.specs.Borrow.{Fml, RattleType, Bor, MutBor, follows_so}
+use Rattle.std.specs.declared.sync.ledger.Ledger as ledger
+use mathlib.Core.Option.{none}
+use Rattle.node_core.specs.declared.step.Step.{Step}
+use Rattle.node_core.specs.declared.step.Reply.{Reply}
+use Rattle.node_shared.specs.Records.{Recorded, records}
+use Rattle.node_shared.specs.contracts.client.Client as client
+
+module _ (L : RattleType) (l : ledger.Ghosts L.Denot) where
+  -- its record has one entry more, the step with the reply that was answered; on want of memory it is as it was
+  abbrev pub Answers : {E : Type 0} → MutBor Recorded → Step → Result (Bor Reply) E → Fml
+  Answers c s r = follows_so (client.the_row L l) (client.the_row L l) c.ghost_name none (λ _ _. ⊤) (λ new. MatchResult r (λ reply. new ≡ records c.now s reply.now) (λ _. new ≡ c.now))

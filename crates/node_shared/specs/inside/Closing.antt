@@ -1,0 +1,15 @@
+-- What is found of the journal and the records so far.
+use Rattle.std.specs.Prelude.{ℕ, List, Option, Some, None}
+use Rattle.node_shared.specs.declared.entry.Entry.{Entry}
+use Rattle.node_shared.specs.Records.{Recorded}
+use Rattle.node_shared.specs.Closing.{AreParts, IsFirstOther, NoneMissing, IsLeastMissing}
+
+-- the client that differs, if any
+abbrev pub Strays : List Entry → List Recorded → Option ℕ → Type 0
+Strays journal clients None = AreParts journal clients
+Strays journal clients (Some p) = IsFirstOther journal clients p
+
+-- the process that misses its client, if any
+abbrev pub Misses : List Entry → List Recorded → Option ℕ → Type 0
+Misses journal clients None = NoneMissing journal clients
+Misses journal clients (Some p) = IsLeastMissing journal clients p

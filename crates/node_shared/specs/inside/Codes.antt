@@ -1,0 +1,16 @@
+-- The codes of what contracts see: each stands for a list of numbers, so that a program's value can be seen as it.
+use Rattle.std.specs.Prelude.{ℕ, List, refl}
+use Rattle.std.specs.Coded.{Coded, code_by, coded×, coded_ℕ, coded_list}
+use Rattle.node_core.specs.State.{State}
+use Rattle.node_core.specs.inside.Codes.{state_code}
+use Rattle.node_shared.specs.declared.entry.Entry.{Entry}
+use Rattle.node_shared.specs.contracts.entry.Entry as entry
+use Rattle.node_shared.specs.Records.{Kept, Recorded}
+
+abbrev pub kept_code : Coded Kept
+kept_code =
+    code_by ((State × List Entry) × ℕ) (coded× (coded× state_code (coded_list entry.the_row.coded)) coded_ℕ)
+    (λ k. ((k.state, k.journal), k.total)) (λ p. record { state = p.0.0; journal = p.0.1; total = p.1 }) (λ _. refl)
+
+abbrev pub recorded_code : Coded Recorded
+recorded_code = code_by (ℕ × List Entry) (coded× coded_ℕ (coded_list entry.the_row.coded)) (λ c. (c.pid, c.entries)) (λ p. record { pid = p.0; entries = p.1 }) (λ _. refl)

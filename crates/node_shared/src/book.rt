@@ -1,0 +1,156 @@
+ghost use Rattle.std.specs.Prelude.{◌≡◌, true, ◌+◌, [], IfOk, OnErr, IfErr, MatchBool, None};
+ghost use Rattle.std.specs.Bool.{Decides};
+ghost use Rattle.std.specs.Option.{IsSomeAnd};
+ghost use Rattle.node_core.specs.State.{State, empty};
+ghost use Rattle.node_core.specs.Woven.{is_step_of};
+ghost use Rattle.node_core.specs.rules.Growth.{due};
+ghost use Rattle.node_core.specs.declared.step.Reply.{Reply};
+ghost use Rattle.node_core.specs.declared.step.Step.TheVariants.{Enrol};
+ghost use Rattle.node_shared.specs.Journal.{IsRun};
+ghost use Rattle.node_shared.specs.Records.{Enters};
+ghost use Rattle.node_shared.specs.Faults.{Refuses};
+ghost use Rattle.node_shared.specs.declared.book.BookFault.TheVariants.{Refused};
+
+use crate::entry::Entry;
+use crate::share::Share;
+use ets_term::KeyHash;
+use node_core::{Limits, Node, Reply, Step};
+use std::alloc::{AllocError, Global};
+use std::marker::Model;
+use std::sync::ledger;
+use std::sync::ledger::{Blank, Ledger};
+
+/// What lies under the lock: the node, the journal of the steps that were done, and the ledger that counts the entries of processes. A
+/// contract sees the node's state, the journal and the ledger's total. The journal is a run of the node from its empty state, and the
+/// total is the number of its entries of processes.
+#[derive(Drop)]
+pub struct Book<L: Ledger, H: KeyHash + Copy + Drop> {
+    alloc: Global,
+    limits: Limits,
+    node: Node<H>,
+    journal: Vec<Entry>,
+    counted: ledger::Book<L>,
+    rest: ledger::Share<L>,
+}
+
+impl<L: Ledger, H: KeyHash + Copy + Drop> Model for Book<L, H> {
+    ghost use Rattle.node_shared.specs.Records.{Kept};
+    ghost use Rattle.node_shared.specs.inside.Kept.{Stands};
+    ghost use Rattle.node_shared.specs.inside.Codes.{kept_code};
+
+    ghost Value = { Kept };
+
+    ghost coded = { kept_code };
+
+    ghost view = { λ b. record { state = b.node; journal = b.journal.items; total = b.counted.total } };
+
+    ghost invariant = { λ b. Stands b.limits b.node b.journal.items b.counted.total b.rest.parts };
+}
+
+/// Why a process is not let in. Nothing has changed.
+#[derive(Drop)]
+pub enum BookFault {
+    /// The node refused: `Badarg` for a number enrolled before, else `SystemLimit`.
+    Refused(Reply),
+    /// Memory was refused.
+    Memory,
+}
+
+impl<L: Ledger, H: KeyHash + Copy + Drop> Book<L, H> {
+    /// The opening book: a node without processes and tables, and an empty journal. It takes the blank of `L`, which has a part for each
+    /// process and one more.
+    pub fn new(alloc: Global, blank: Blank, limits: Limits, hash: H) -> Self
+        requires name { blank.name ≡ L.name }
+        requires parts { blank.parts ≡ L.parts }
+        requires enough { blank.parts ≡ limits.processes + 1 }
+        ensures { result ≡ record { state = empty limits; journal = []; total = 0 } }
+    {
+        let (counted, rest) = blank.open::<L>();
+        Book {
+            alloc,
+            limits,
+            node: Node::new(alloc, limits, hash),
+            journal: Vec::new(alloc),
+            counted,
+            rest,
+        }
+    }
+
+    /// Does a step of the share's own process, and writes its entry. Want of memory changes nothing.
+    pub fn step(&mut self, share: &mut Share<L>, event: &Step) -> Result<Reply, AllocError>
+        requires { is_step_of share.old.pid event.now ≡ true }
+        ensures entered { IfOk result (λ r. Enters self.old event.now r self.new) }
+        ensures counted { IfOk result (λ _. self.new.total ≡ self.old.total + 1) }
+        ensures share { IfOk result (λ _. share.new ≡ record share.old { amount = share.old.amount + 1 }) }
+        ensures err { OnErr result ((self.new ≡ self.old) × (share.new ≡ share.old)) }
+    {
+        let step = event.try_clone(self.alloc)?;
+        self.journal.reserve(1)?;
+        let (answer, reply) = self.node.step_twice(event)?;
+        self.journal.push_reserved(Entry { step, reply });
+        self.counted.add(&mut share.tokens, 1);
+        Ok(answer)
+    }
+
+    /// Enrols a process, writes the entry of that, and gives the process its share. A fault changes nothing.
+    pub fn join(&mut self, pid: u32) -> Result<(Share<L>, Reply), BookFault>
+        ensures entered { IfOk result (λ joined. Enters self.old (Enrol pid) joined.1 self.new) }
+        ensures counted { IfOk result (λ _. self.new.total ≡ self.old.total + 1) }
+        ensures share { IfOk result (λ joined. joined.0 ≡ record { pid = pid; amount = 1 }) }
+        ensures err { OnErr result (self.new ≡ self.old) }
+        ensures refused { IfErr result (Refuses self.old.state pid) }
+    {
+        if self.journal.reserve(1).is_err() {
+            return Err(BookFault::Memory);
+        }
+        let enrol = Step::Enrol(pid);
+        let Ok((answer, reply)) = self.node.step_twice(&enrol) else {
+            return Err(BookFault::Memory);
+        };
+        if !answer.is_value() {
+            return Err(refused(answer, reply));
+        }
+        self.journal.push_reserved(Entry { step: enrol, reply });
+        let mut tokens = self.rest.split_off(1, 0);
+        self.counted.add(&mut tokens, 1);
+        Ok((Share { tokens, pid }, answer))
+    }
+
+    /// Does the step that is due, if any, and writes its entry; says whether one was. Want of memory changes nothing.
+    pub fn tend(&mut self) -> Result<bool, AllocError>
+        ensures tended { IfOk result (λ did. MatchBool did (IsSomeAnd (due self.old.state) (λ event. (r : Reply) × Enters self.old event r self.new)) ((due self.old.state ≡ None) × (self.new ≡ self.old))) }
+        ensures counted { self.new.total ≡ self.old.total }
+        ensures err { OnErr result (self.new ≡ self.old) }
+    {
+        let Some(event) = self.node.due() else {
+            return Ok(false);
+        };
+        self.journal.reserve(1)?;
+        let reply = self.node.step(&event)?;
+        self.journal.push_reserved(Entry { step: event, reply });
+        Ok(true)
+    }
+
+    /// The journal, which is a run of the node with the limits that come with it.
+    pub(crate) fn into_run(self) -> (Limits, Vec<Entry>)
+        ensures journal { result.1.items ≡ self.journal }
+        ensures run { IsRun result.0 self.journal self.state }
+    {
+        let Book {
+            alloc: _,
+            limits,
+            node: _,
+            journal,
+            counted: _,
+            rest: _,
+        } = self;
+        (limits, journal)
+    }
+}
+
+/// The reply goes out; its copy goes.
+fn refused(reply: Reply, _again: Reply) -> BookFault
+    ensures { result ≡ Refused reply }
+{
+    BookFault::Refused(reply)
+}

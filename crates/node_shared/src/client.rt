@@ -1,0 +1,122 @@
+ghost use Rattle.std.specs.Prelude.{◌≡◌, true, length, OnErr, IfOk};
+ghost use Rattle.node_core.specs.declared.step.Reply.{Reply};
+ghost use Rattle.node_core.specs.declared.step.Step.TheVariants.{End, Ask};
+ghost use Rattle.node_core.specs.Woven.{is_step_of};
+ghost use Rattle.node_shared.specs.Records.{records, Begins, IsLast};
+
+use crate::entry::Entry;
+use crate::share::Share;
+use crate::shared::Shared;
+use ets_term::KeyHash;
+use node_core::{Call, Reply, Step};
+use std::alloc::{AllocError, Global};
+use std::marker::Model;
+use std::sync::Wait;
+use std::sync::ledger::Ledger;
+
+/// What speaks for one process: its share, and a record of its steps, each with the reply that came. A contract sees the process and the
+/// record, which begins with the enrolment and is as long as the share's count.
+#[derive(Drop)]
+pub struct Client<L: Ledger> {
+    alloc: Global,
+    share: Share<L>,
+    entries: Vec<Entry>,
+}
+
+impl<L: Ledger> Model for Client<L> {
+    ghost use Rattle.std.specs.Prelude.{◌≡◌, length};
+    ghost use Rattle.node_shared.specs.Records.{Recorded, Begins};
+    ghost use Rattle.node_shared.specs.inside.Codes.{recorded_code};
+
+    ghost Value = { Recorded };
+
+    ghost coded = { recorded_code };
+
+    ghost view = { λ c. record { pid = c.share.pid; entries = c.entries.items } };
+
+    ghost invariant = { λ c. (length c.entries.items ≡ c.share.amount) × Begins c.share.pid c.entries.items };
+}
+
+impl<L: Ledger> Client<L> {
+    ghost use Rattle.std.specs.Borrow.{sem};
+    ghost use Rattle.node_shared.specs.inside.Asking.{Answers};
+
+    /// The client of a process that was enrolled.
+    pub(crate) fn of(alloc: Global, share: Share<L>, entries: Vec<Entry>) -> Self
+        requires count { length entries.items ≡ share.amount }
+        requires begins { Begins share.pid entries.items }
+        ensures { result ≡ record { pid = share.pid; entries = entries.items } }
+    {
+        Client {
+            alloc,
+            share,
+            entries,
+        }
+    }
+
+    /// The process. It takes no memory.
+    pub fn pid(&self) -> u32
+        ensures { result ≡ self.now.pid }
+    {
+        self.share.pid()
+    }
+
+    /// The record, from the enrolment on. It takes no memory.
+    pub fn entries(&self) -> &[Entry]
+        ensures { result.now ≡ self.now.entries }
+    {
+        self.entries.as_slice()
+    }
+
+    /// Asks a call, and answers its reply; the record has both. Want of memory changes nothing. It may wait for the lock.
+    pub fn ask<H: KeyHash + Copy + Drop, R: Wait>(
+        &mut self,
+        rt: &R,
+        shared: &Shared<L, H>,
+        call: &Call,
+    ) -> Result<&Reply, AllocError>
+        ensures* answers { sem 𝓛 (Answers L.row L.Ledger self.entry (Ask self.old.pid call.now) result) }
+    {
+        let event = Step::Ask(self.share.pid(), call.try_clone(self.alloc)?);
+        self.step(rt, shared, event)?;
+        Ok(self.last())
+    }
+
+    /// Ends the process, and answers the reply; the record has both. Calls after it answer `NoProcess`. Want of memory changes nothing.
+    /// It may wait for the lock.
+    pub fn end<H: KeyHash + Copy + Drop, R: Wait>(
+        &mut self,
+        rt: &R,
+        shared: &Shared<L, H>,
+    ) -> Result<&Reply, AllocError>
+        ensures* answers { sem 𝓛 (Answers L.row L.Ledger self.entry (End self.old.pid) result) }
+    {
+        let event = Step::End(self.share.pid());
+        self.step(rt, shared, event)?;
+        Ok(self.last())
+    }
+
+    /// Does a step of the process, and keeps it with its reply.
+    fn step<H: KeyHash + Copy + Drop, R: Wait>(
+        &mut self,
+        rt: &R,
+        shared: &Shared<L, H>,
+        event: Step,
+    ) -> Result<(), AllocError>
+        requires { is_step_of self.old.pid event ≡ true }
+        ensures ok { IfOk result (λ _. (r : Reply) × (self.new ≡ records self.old event r)) }
+        ensures err { OnErr result (self.new ≡ self.old) }
+    {
+        self.entries.reserve(1)?;
+        let reply = shared.book.lock(rt).step(&mut self.share, &event)?;
+        self.entries.push_reserved(Entry { step: event, reply });
+        Ok(())
+    }
+
+    /// The reply of the last entry.
+    fn last(&self) -> &Reply
+        ensures { IsLast self.now.entries result.now }
+    {
+        &self.entries[self.entries.len() - 1].reply
+    }
+}

@@ -1,0 +1,38 @@
+ghost use Rattle.std.specs.Prelude.{◌≡◌};
+ghost use Rattle.std.specs.Bool.{Decides};
+ghost use Rattle.node_shared.specs.Journal.{is_entry_of, process_of};
+
+use node_core::{Reply, Step};
+
+/// One entry of a journal: a step that was done, and its reply.
+#[derive(Drop)]
+pub struct Entry {
+    pub step: Step,
+    pub reply: Reply,
+}
+
+impl Entry {
+    /// Whether the entries are the same: steps and replies that are built alike.
+    pub fn same(&self, other: &Entry) -> bool
+        ensures { Decides result (self.now ≡ other.now) }
+    {
+        self.step.same(&other.step) && self.reply.same(&other.reply)
+    }
+
+    /// Whether its step is one of this process.
+    pub fn is_of(&self, pid: u32) -> bool
+        ensures { result ≡ is_entry_of pid self.now }
+    {
+        self.step.is_of(pid)
+    }
+
+    /// The process whose step it has, if it is one of a process.
+    pub fn process(&self) -> Option<u32>
+        ensures { result ≡ process_of self.now.step }
+    {
+        match self.step {
+            Step::Enrol(pid) | Step::End(pid) | Step::Ask(pid, _) => Some(pid),
+            Step::Grow(_) | Step::Ready(_, _) => None,
+        }
+    }
+}

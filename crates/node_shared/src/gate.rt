@@ -1,0 +1,7 @@
+/// What is called around each call of a client, by its thread, with no lock held. Clients, and the calls of each, are numbered from 0.
+pub trait Gate {
+    fn before(&self, client: usize, call: usize);
+
+    /// The reply is in the client's record.
+    fn after(&self, client: usize, call: usize);
+}

@@ -1,0 +1,93 @@
+ghost use Rattle.std.specs.Prelude.{◌≡◌, ◌↔◌, ℕ, ◌<◌, ◌≤◌, [], All, IfOk, IfErr, vec_len};
+ghost use Rattle.node_shared.specs.Numbers.{undrawn, drawn};
+ghost use Rattle.node_shared.specs.declared.pids.PidsFault.TheVariants.{TooMany};
+
+mod rule;
+
+use self::rule::{Draws, SplitsOff};
+use atomic_table::Table;
+pub use rule::{Numbers, View};
+use std::alloc::{AllocError, Global};
+
+/// As many numbers can be drawn at most.
+pub const MAX_PIDS: usize = 4_096;
+
+/// Process numbers that threads draw, from 0 on, each once: one atomic word, which has the next. Drawing waits for nobody.
+#[derive(Drop)]
+pub struct Pids {
+    table: Table<(), View, u64, Numbers, Global>,
+    ghost one_word: { table.shared.table_id.words ≡ 1 },
+}
+
+/// The right to draw one number.
+#[derive(Drop)]
+pub struct Seat {
+    seat: atomic_table::Seat<(), View>,
+    ghost is_undrawn: { seat.me ≡ (undrawn, []) },
+}
+
+/// A number that nobody else has, or gets.
+#[derive(Drop)]
+pub struct Drawn {
+    seat: atomic_table::Seat<(), View>,
+    number: u32,
+    ghost is_drawn: { seat.me ≡ (drawn number, []) },
+}
+
+/// Why no numbers can be drawn.
+#[derive(Debug, Drop)]
+pub enum PidsFault {
+    /// More than `MAX_PIDS` were asked for.
+    TooMany,
+    /// Memory was refused.
+    Memory,
+}
+
+impl Pids {
+    /// The numbers below `n`, and a seat for each.
+    pub fn open(alloc: Global, n: usize) -> Result<(Pids, Vec<Seat>), PidsFault>
+        requires { 0 < n }
+        ensures seats { IfOk result (λ opened. (vec_len opened.1 ≡ n) × All (λ s. s.seat.table_id ≡ opened.0.table.shared.table_id) opened.1.items) }
+        ensures numbers { IfOk result (λ opened. (opened.0.table.shared.key ≡ n) × (n ≤ MAX_PIDS)) }
+        ensures fault { IfErr result (λ fault. (fault ≡ TooMany) ↔ (MAX_PIDS < n)) }
+    {
+        if n > MAX_PIDS {
+            return Err(PidsFault::TooMany);
+        }
+        open_seats(alloc, n).map_err(|_| PidsFault::Memory)
+    }
+
+    /// Draws the seat's number. It waits for nobody and takes no memory.
+    pub fn draw(&self, seat: Seat) -> Drawn
+        requires { seat.seat.table_id ≡ self.now.table.shared.table_id }
+        ensures { result.seat.table_id ≡ self.now.table.shared.table_id }
+    {
+        let Seat { mut seat } = seat;
+        let number = self.table.shared.fetch_add::<Draws>(&mut seat, 0, 1) as u32;
+        Drawn { seat, number }
+    }
+}
+
+impl Drawn {
+    /// The number. It takes no memory.
+    pub fn pid(&self) -> u32
+        ensures seen { self.now.seat.me ≡ (drawn result, []) }
+        ensures number { result ≡ self.now.number }
+    {
+        self.number
+    }
+}
+
+fn open_seats(alloc: Global, n: usize) -> Result<(Pids, Vec<Seat>), AllocError>
+    requires { n ≤ MAX_PIDS }
+    ensures seats { IfOk result (λ opened. (vec_len opened.1 ≡ n) × All (λ s. s.seat.table_id ≡ opened.0.table.shared.table_id) opened.1.items) }
+    ensures numbers { IfOk result (λ opened. opened.0.table.shared.key ≡ n) }
+{
+    let mut seats = Vec::with_capacity(alloc, n)?;
+    let (table, mut first) = Table::of_words(alloc, &[0], &(n as u64))?;
+    for _ in 0..n {
+        let seat = table.shared.split_seat::<SplitsOff>(&mut first);
+        seats.push(Seat { seat })?;
+    }
+    Ok((Pids { table }, seats))
+}

@@ -1,0 +1,43 @@
+//! The one word of the numbers, and the two steps on it: a seat is split off, a number is drawn.
+use atomic_table::{Play, Split, TableRule};
+
+/// What a seat has seen. No value of it is made.
+pub enum View {
+    /// The seat that the table was made with. So many seats are still to be split off it.
+    Opening(u64),
+    /// It has no number yet.
+    Undrawn,
+    /// It drew this number.
+    Drawn(u64),
+}
+
+/// The rule of the word: the numbers drawn are distinct, and they are those below the word.
+pub struct Numbers;
+
+impl TableRule<(), View, u64> for Numbers {
+    ghost use Rattle.node_shared.specs.Numbers.{Numbered, opening};
+
+    ghost holds = { Numbered };
+
+    ghost first = { opening };
+}
+
+/// A seat is split off: the word stays, and the new seat has no number.
+pub struct SplitsOff;
+
+impl Split<View> for SplitsOff {
+    ghost use Rattle.node_shared.specs.Numbers.{one_fewer, undrawn};
+
+    ghost left = { one_fewer };
+
+    ghost right = { λ _. undrawn };
+}
+
+/// A number is drawn: the word is one more, and the number that stood there is the seat's.
+pub struct Draws;
+
+impl Play<(), View> for Draws {
+    ghost use Rattle.node_shared.specs.Numbers.{Drew};
+
+    ghost then = { Drew };
+}

@@ -1,0 +1,32 @@
+ghost use Rattle.std.specs.Prelude.{◌≡◌};
+
+use std::marker::Model;
+use std::sync::ledger;
+use std::sync::ledger::Ledger;
+
+/// The right of one process to do its steps, which counts its entries. A contract sees the process and the count.
+#[derive(Drop)]
+pub struct Share<L: Ledger> {
+    pub(crate) tokens: ledger::Share<L>,
+    pub(crate) pid: u32,
+}
+
+impl<L: Ledger> Model for Share<L> {
+    ghost use Rattle.std.specs.Prelude.{◌≡◌};
+    ghost use Rattle.node_shared.specs.Records.{Held};
+
+    ghost Value = { Held };
+
+    ghost view = { λ s. record { pid = s.pid; amount = s.tokens.amount } };
+
+    ghost invariant = { λ s. s.tokens.parts ≡ 1 };
+}
+
+impl<L: Ledger> Share<L> {
+    /// The process. It takes no memory.
+    pub fn pid(&self) -> u32
+        ensures { result ≡ self.now.pid }
+    {
+        self.pid
+    }
+}

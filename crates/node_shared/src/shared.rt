@@ -1,0 +1,121 @@
+ghost use Rattle.std.specs.Prelude.{◌≡◌, ◌≤◌, ◌+◌, [], ◌∷◌, IfOk, IfErr, IfSome};
+ghost use Rattle.std.specs.Bool.{Decides};
+ghost use Rattle.node_core.specs.State.{State};
+ghost use Rattle.node_core.specs.declared.step.Reply.{Reply};
+ghost use Rattle.node_core.specs.declared.step.Step.TheVariants.{Enrol};
+ghost use Rattle.node_shared.specs.Journal.{IsRun, entry};
+ghost use Rattle.node_shared.specs.Faults.{HandsBack};
+
+use crate::book::{Book, BookFault};
+use crate::client::Client;
+use crate::entry::Entry;
+use crate::pids::Drawn;
+use ets_term::KeyHash;
+use node_core::{Limits, Reply, Step};
+use std::alloc::Global;
+use std::sync::ledger::{Blank, Ledger};
+use std::sync::{Mutex, Wait};
+
+/// A node that threads share: its book behind one lock.
+#[derive(Drop)]
+pub struct Shared<L: Ledger, H: KeyHash + Copy + Drop> {
+    alloc: Global,
+    limits: Limits,
+    pub(crate) book: Mutex<Book<L, H>>,
+}
+
+/// Why no client is made. The number that was drawn comes back.
+#[derive(Drop)]
+pub enum JoinFault {
+    /// The node refused to enrol the number: `SystemLimit`, or `Badarg` for one that was enrolled before.
+    Refused(Reply, Drawn),
+    /// Memory was refused, and nothing has changed.
+    Memory(Drawn),
+}
+
+impl<L: Ledger, H: KeyHash + Copy + Drop> Shared<L, H> {
+    /// The opening book, as `Book::new` makes it, behind the lock.
+    pub fn new(alloc: Global, blank: Blank, limits: Limits, hash: H) -> Self
+        requires name { blank.name ≡ L.name }
+        requires parts { blank.parts ≡ L.parts }
+        requires enough { blank.parts ≡ limits.processes + 1 }
+        ensures { result.limits ≡ limits }
+    {
+        Shared {
+            alloc,
+            limits,
+            book: Mutex::new(Book::new(alloc, blank, limits, hash)),
+        }
+    }
+
+    /// Enrols the number that was drawn, and makes the client of that process. It may wait for the lock.
+    pub fn client<R: Wait>(&self, rt: &R, drawn: Drawn) -> Result<Client<L>, JoinFault>
+        ensures ok { IfOk result (λ c. (r : Reply) × (c ≡ record { pid = drawn.number; entries = entry (Enrol drawn.number) r ∷ [] })) }
+        ensures err { IfErr result (HandsBack drawn) }
+    {
+        let Ok(mut entries) = Vec::with_capacity(self.alloc, 1) else {
+            return Err(JoinFault::Memory(drawn));
+        };
+        let pid = drawn.pid();
+        let joined = self.book.lock(rt).join(pid);
+        match joined {
+            Ok((share, reply)) => {
+                let step = Step::Enrol(pid);
+                entries.push_reserved(Entry { step, reply });
+                Ok(Client::of(self.alloc, share, entries))
+            }
+            Err(BookFault::Refused(reply)) => Err(JoinFault::Refused(reply, drawn)),
+            Err(BookFault::Memory) => Err(JoinFault::Memory(drawn)),
+        }
+    }
+
+    /// Does one due step, and says whether it did: not where none is due, and not where memory is refused.
+    fn tend<R: Wait>(&self, rt: &R) -> bool {
+        matches!(self.book.lock(rt).tend(), Ok(true))
+    }
+
+    /// The journal, which is a run of the node with these limits. A lock's value is known by its type alone, so the book says once more
+    /// which limits it has; they are never others.
+    pub(crate) fn into_journal(self) -> Option<Vec<Entry>>
+        ensures { IfSome result (λ journal. (state : State) × IsRun self.limits journal.items state) }
+    {
+        let Shared {
+            alloc: _,
+            limits,
+            book,
+        } = self;
+        let (own, journal) = book.into_inner().into_run();
+        if are_same(own, limits) {
+            Some(journal)
+        } else {
+            None
+        }
+    }
+}
+
+/// Does due steps, with the lock taken for each anew, until none is due, memory is refused, or so many turns were taken; answers how many it
+/// did. It may wait for the lock.
+pub fn keep<L: Ledger, H: KeyHash + Copy + Drop, R: Wait>(
+    rt: &R,
+    shared: &Shared<L, H>,
+    turns: u32,
+) -> u32
+    ensures { result ≤ turns }
+{
+    let mut done = 0;
+    for _ in 0..turns {
+        if !shared.tend(rt) {
+            break;
+        }
+        done += 1;
+    }
+    done
+}
+
+fn are_same(limits: Limits, own: Limits) -> bool
+    ensures { Decides result (limits ≡ own) }
+{
+    limits.processes == own.processes
+        && limits.tables == own.tables
+        && limits.objects == own.objects
+}

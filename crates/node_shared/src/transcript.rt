@@ -1,0 +1,135 @@
+ghost use Rattle.std.specs.Prelude.{◌≡◌, ◌++◌, [], ◌∷◌, List, map, IfOk};
+ghost use Rattle.std.specs.Bool.{Decides};
+ghost use Rattle.node_shared.specs.declared.entry.Entry as entries;
+ghost use Rattle.node_shared.specs.Journal.{of};
+ghost use Rattle.node_shared.specs.Closing.{Closes, Compares, has_client};
+ghost use Rattle.node_shared.specs.inside.Closing.{Strays, Misses};
+
+use crate::client::Client;
+use crate::entry::Entry;
+use crate::shared::Shared;
+use ets_term::KeyHash;
+use std::alloc::AllocError;
+use std::sync::ledger::Ledger;
+
+/// The journal of a node that is shared no more.
+#[derive(Drop)]
+pub struct Transcript {
+    pub entries: Vec<Entry>,
+}
+
+/// Why a journal is not handed out.
+#[derive(Debug, Drop, PartialEq, Eq)]
+pub enum CloseFault {
+    /// The process of the first client whose record is not its part of the journal.
+    Differs(u32),
+    /// The least process that has entries and no client.
+    Missing(u32),
+    /// Memory was refused.
+    Memory,
+}
+
+/// Ends the sharing: the journal, where the record of each client is its part of it, and each process with entries has a client. It
+/// waits for nobody. A fault hands nothing back.
+pub fn close<L: Ledger, H: KeyHash + Copy + Drop>(
+    shared: Shared<L, H>,
+    clients: Vec<Client<L>>,
+) -> Result<Transcript, CloseFault>
+    ensures { Closes shared.limits clients.items result }
+{
+    let Some(journal) = shared.into_journal() else {
+        return Err(CloseFault::Memory);
+    };
+    compare(journal, clients.as_slice())
+}
+
+fn compare<L: Ledger>(journal: Vec<Entry>, clients: &[Client<L>]) -> Result<Transcript, CloseFault>
+    ensures { Compares journal.items clients.now result }
+{
+    if let Some(pid) = stray(journal.as_slice(), clients) {
+        return Err(CloseFault::Differs(pid));
+    }
+    if let Some(pid) = missing(journal.as_slice(), clients) {
+        return Err(CloseFault::Missing(pid));
+    }
+    Ok(Transcript { entries: journal })
+}
+
+/// The process of the first client whose record is not its part of the journal.
+fn stray<L: Ledger>(journal: &[Entry], clients: &[Client<L>]) -> Option<u32>
+    ensures { Strays journal.now clients.now result }
+{
+    for client in clients {
+        if !is_part(journal, client.pid(), client.entries()) {
+            return Some(client.pid());
+        }
+    }
+    None
+}
+
+/// Whether these are the entries of the process, in order.
+fn is_part(journal: &[Entry], pid: u32, own: &[Entry]) -> bool
+    ensures { Decides result (of pid journal.now ≡ own.now) }
+{
+    let mut at = 0;
+    for entry in journal {
+        if entry.is_of(pid) {
+            if at >= own.len() {
+                return false;
+            }
+            if !entry.same(&own[at]) {
+                return false;
+            }
+            at += 1;
+        }
+    }
+    at == own.len()
+}
+
+/// The least process that has entries and no client.
+fn missing<L: Ledger>(journal: &[Entry], clients: &[Client<L>]) -> Option<u32>
+    ensures { Misses journal.now clients.now result }
+{
+    let mut least = None;
+    for entry in journal {
+        least = lesser(least, entry, clients);
+    }
+    least
+}
+
+/// The least after one entry more.
+fn lesser<L: Ledger>(least: Option<u32>, entry: &Entry, clients: &[Client<L>]) -> Option<u32>
+    ensures { (journal : List entries.Entry) → Misses journal clients.now least → Misses (journal ++ entry.now ∷ []) clients.now result }
+{
+    let Some(pid) = entry.process() else {
+        return least;
+    };
+    if has_client(pid, clients) {
+        return least;
+    }
+    match least {
+        Some(other) if other <= pid => least,
+        _ => Some(pid),
+    }
+}
+
+fn has_client<L: Ledger>(pid: u32, clients: &[Client<L>]) -> bool
+    ensures { result ≡ has_client pid clients.now }
+{
+    clients.iter().any(|client| client.pid() == pid)
+}
+
+impl Transcript {
+    /// The entries of a process, in order.
+    pub fn of(&self, pid: u32) -> Result<Vec<&Entry>, AllocError>
+        ensures { IfOk result (λ own. map (λ e. e.now) own.items ≡ of pid self.now.entries.items) }
+    {
+        let mut own = Vec::new(*self.entries.allocator());
+        for entry in self.entries.as_slice() {
+            if entry.is_of(pid) {
+                own.push(entry)?;
+            }
+        }
+        Ok(own)
+    }
+}

@@ -1,0 +1,114 @@
+ghost use Rattle.std.specs.Prelude.{◌≡◌, IfOk, OnOk, OnErr};
+ghost use Rattle.std.specs.Thread.{IsSync};
+ghost use Rattle.node_shared.specs.Working.{HasWorked, AllWorked, DidJob};
+
+use crate::client::Client;
+use crate::gate::Gate;
+use crate::job::{Job, Worked};
+use crate::shared::Shared;
+use ets_term::KeyHash;
+use std::alloc::{AllocError, Global};
+use std::sync::Wait;
+use std::sync::ledger::Ledger;
+use std::thread;
+use std::thread::Threads;
+
+/// Lets each client do its jobs in order, in a thread of its own. The clients come back in their order. A client stops where memory is
+/// refused to it; the `Err` is want of memory for the threads or for the list, and steps may have been done. It may wait.
+pub fn run_clients<
+    L: Ledger + Send + Sync,
+    H: KeyHash + Copy + Drop + Send + Sync,
+    G: Gate + Sync,
+    R: Threads + Wait + Sync,
+>(
+    rt: &R,
+    alloc: Global,
+    shared: &Shared<L, H>,
+    work: Vec<(Client<L>, Vec<Job>)>,
+    gate: &G,
+) -> Result<Vec<Worked<L>>, AllocError>
+    ensures { IfOk result (λ workers. AllWorked work.items workers.items) }
+{
+    run_from(rt, alloc, shared, 0, work, gate)
+}
+
+/// The same for clients that are numbered from `first` on: one half of them in a new thread, the other here.
+fn run_from<
+    L: Ledger + Send + Sync,
+    H: KeyHash + Copy + Drop + Send + Sync,
+    G: Gate + Sync,
+    R: Threads + Wait + Sync,
+>(
+    rt: &R,
+    alloc: Global,
+    shared: &Shared<L, H>,
+    first: usize,
+    mut work: Vec<(Client<L>, Vec<Job>)>,
+    gate: &G,
+) -> Result<Vec<Worked<L>>, AllocError>
+    ensures { IfOk result (λ workers. AllWorked work.items workers.items) }
+{
+    if work.len() < 2 {
+        let mut done = Vec::with_capacity(alloc, 1)?;
+        if let Some((client, jobs)) = work.pop() {
+            done.push_reserved(run_one(rt, shared, first, client, jobs.as_slice(), gate));
+        }
+        return Ok(done);
+    }
+    let half = work.len() / 2;
+    let back = work.split_off(half)?;
+    let next = first.wrapping_add(half);
+    let (front_done, back_done) = thread::join(
+        rt,
+        move || -> Result<Vec<Worked<L>>, AllocError>
+            requires { IsSync R.row × IsSync G.row }
+            ensures { IfOk result (λ workers. AllWorked work.items workers.items) }
+        { run_from(rt, alloc, shared, first, work, gate) },
+        move || -> Result<Vec<Worked<L>>, AllocError>
+            requires { IsSync R.row × IsSync G.row }
+            ensures { IfOk result (λ workers. AllWorked back.items workers.items) }
+        { run_from(rt, alloc, shared, next, back, gate) },
+    );
+    let mut done = front_done?;
+    let mut others = back_done?;
+    done.append(&mut others)?;
+    Ok(done)
+}
+
+fn run_one<L: Ledger, H: KeyHash + Copy + Drop, G: Gate, R: Wait>(
+    rt: &R,
+    shared: &Shared<L, H>,
+    number: usize,
+    mut client: Client<L>,
+    jobs: &[Job],
+    gate: &G,
+) -> Worked<L>
+    ensures { HasWorked client jobs.now result }
+{
+    let mut left = jobs.len();
+    for (call, job) in jobs.iter().enumerate() {
+        gate.before(number, call);
+        let Ok(()) = work(rt, shared, &mut client, job) else {
+            break;
+        };
+        left -= 1;
+        gate.after(number, call);
+    }
+    Worked { client, left }
+}
+
+fn work<L: Ledger, H: KeyHash + Copy + Drop, R: Wait>(
+    rt: &R,
+    shared: &Shared<L, H>,
+    client: &mut Client<L>,
+    job: &Job,
+) -> Result<(), AllocError>
+    ensures ok { OnOk result (DidJob client.old job.now client.new) }
+    ensures err { OnErr result (client.new ≡ client.old) }
+{
+    match job {
+        Job::Ask(call) => client.ask(rt, shared, call)?,
+        Job::End => client.end(rt, shared)?,
+    };
+    Ok(())
+}
