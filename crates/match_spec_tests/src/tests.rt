@@ -1,14 +1,13 @@
-// Values from the rules, in rows of text; long and deep forms; and random forms against a plain reading of the rules.
+// Bound keys, in rows of text; long and deep forms; and random forms against a plain reading of the rules. None stands
+// for want of memory too.
 use ets_term::{Integer, Items, Term};
-use match_spec::{Pattern, Spec, SpecFault};
+use match_spec::{Pattern, Spec};
 use std::alloc::Global;
 use std::process::Abort;
-use std::test::Fail;
 
 mod agreement;
 mod forms;
+mod keys;
 mod long;
-mod patterns;
 mod plain;
 mod random;
-mod specs;

@@ -12,12 +12,12 @@ struct Tally {
     different: u32,
 }
 
-/// What a pattern finds in an object; None where it does not match.
-fn bindings(alloc: Global, pattern: &Term, object: &Term) -> Result<Option<Term>, Fail> {
-    let pattern = Pattern::compile(alloc, pattern)?;
-    match pattern.bindings(alloc, object)? {
-        Some(values) => Ok(Some(Term::List(Items::from_vec(values)))),
-        None => Ok(None),
+/// What a pattern finds in an object, where it is one: None where it does not match.
+fn bindings(alloc: Global, pattern: &Term, object: &Term) -> Option<Option<Term>> {
+    let pattern = Pattern::compile(alloc, pattern).ok()?;
+    match pattern.bindings(alloc, object).ok()? {
+        Some(values) => Some(Some(Term::List(Items::from_vec(values)))),
+        None => Some(None),
     }
 }
 
@@ -28,94 +28,91 @@ impl Tally {
         }
     }
 
-    fn pattern(&mut self, alloc: Global, pattern: &Term, object: &Term) -> Result<(), Fail> {
-        let found = bindings(alloc, pattern, object)?;
-        self.matched = self.matched.saturating_add(found.is_some() as u32);
-        let same = found == plain::bindings(alloc, pattern, object)?;
-        self.count(same);
-        Ok(())
+    fn pattern(&mut self, alloc: Global, pattern: &Term, object: &Term) {
+        let found = bindings(alloc, pattern, object);
+        self.matched = self
+            .matched
+            .saturating_add(matches!(found, Some(Some(_))) as u32);
+        self.count(found == Some(plain::bindings(alloc, pattern, object)));
     }
 
-    fn result(
-        &mut self,
-        alloc: Global,
-        compiled: &Spec,
-        spec: &Term,
-        object: &Term,
-    ) -> Result<(), Fail> {
-        let result = compiled.result(alloc, object)?;
-        self.given = self.given.saturating_add(result.is_some() as u32);
-        let same = result == plain::result(alloc, spec, object)?;
-        self.count(same);
-        Ok(())
+    fn result(&mut self, alloc: Global, compiled: &Spec, spec: &Term, object: &Term) {
+        let result = compiled.result(alloc, object).ok();
+        self.given = self
+            .given
+            .saturating_add(matches!(result, Some(Some(_))) as u32);
+        self.count(result == Some(plain::result(alloc, spec, object)));
     }
 
-    fn spec(&mut self, alloc: Global, spec: &Term, object: &Term) -> Result<(), Fail> {
-        let is_spec = plain::is_spec(alloc, spec)?;
+    fn spec(&mut self, alloc: Global, spec: &Term, object: &Term) {
+        let is_spec = plain::is_spec(alloc, spec);
         match Spec::compile(alloc, spec) {
             Ok(compiled) => {
                 self.good = self.good.saturating_add(1);
                 self.count(is_spec);
-                self.result(alloc, &compiled, spec, object)
+                self.result(alloc, &compiled, spec, object);
             }
-            Err(_) => {
-                self.count(!is_spec);
-                Ok(())
-            }
+            Err(_) => self.count(!is_spec),
         }
     }
 
+    fn pattern_of(&mut self, alloc: Global, random: &mut Random, object: &Term) -> Option<()> {
+        self.pattern(alloc, &random.pattern(alloc, object)?, object);
+        Some(())
+    }
+
     // A random object with a pattern and a specification of its own.
-    fn one_more(&mut self, alloc: Global, random: &mut Random) -> Result<(), Fail> {
+    fn one_more(&mut self, alloc: Global, random: &mut Random) -> Option<()> {
         let object = random.object(alloc)?;
-        let pattern = random.pattern(alloc, &object)?;
-        self.pattern(alloc, &pattern, &object)?;
-        let spec = random.spec(alloc, &object)?;
-        self.spec(alloc, &spec, &object)
+        self.pattern_of(alloc, random, &object)?;
+        self.spec(alloc, &random.spec(alloc, &object)?, &object);
+        Some(())
+    }
+
+    fn add(&mut self, alloc: Global, random: &mut Random, objects: u32) -> Option<()> {
+        for _ in 0..objects {
+            self.one_more(alloc, random)?;
+        }
+        Some(())
+    }
+
+    fn is_good(&self) -> bool {
+        self.different == 0
+            && self.matched > 2_500
+            && self.good > 1_000
+            && self.good < 4_000
+            && self.given > 500
     }
 }
 
 /// Whether 5,000 random objects, each with a pattern and a specification, agree, and enough of them say something.
-fn agree(alloc: Global, seed: u64) -> Result<bool, Fail> {
-    let mut random = Random::new(seed);
+fn agree(alloc: Global, seed: u64) -> bool {
     let mut tally = Tally {
         matched: 0,
         good: 0,
         given: 0,
         different: 0,
     };
-    for _ in 0..5_000 {
-        tally.one_more(alloc, &mut random)?;
-    }
-    Ok(
-        tally.different == 0
-            && tally.matched > 2_500
-            && tally.good > 1_000
-            && tally.good < 4_000
-            && tally.given > 500,
-    )
+    let done = tally.add(alloc, &mut Random::new(seed), 5_000);
+    done == Some(()) && tally.is_good()
 }
 
 #[test]
-fn first_quarter_agrees_with_a_plain_reading(rt: HostRuntime) -> Result<(), Fail> {
-    assert!(rt; agree(rt.alloc(), 11)?);
-    Ok(())
+fn first_quarter_agrees_with_a_plain_reading(rt: HostRuntime) {
+    assert!(rt; agree(rt.alloc(), 11));
 }
 
 #[test]
-fn second_quarter_agrees_with_a_plain_reading(rt: HostRuntime) -> Result<(), Fail> {
-    assert!(rt; agree(rt.alloc(), 12)?);
-    Ok(())
+fn second_quarter_agrees_with_a_plain_reading(rt: HostRuntime) {
+    assert!(rt; agree(rt.alloc(), 12));
 }
 
 #[test]
-fn third_quarter_agrees_with_a_plain_reading(rt: HostRuntime) -> Result<(), Fail> {
-    assert!(rt; agree(rt.alloc(), 13)?);
-    Ok(())
+fn third_quarter_agrees_with_a_plain_reading(rt: HostRuntime) {
+    assert!(rt; agree(rt.alloc(), 13));
 }
 
 #[test]
-fn fourth_quarter_agrees_with_a_plain_reading(rt: HostRuntime) -> Result<(), Fail> {
-    assert!(rt; agree(rt.alloc(), 14)?);
-    Ok(())
+fn fourth_quarter_agrees_with_a_plain_reading(rt: HostRuntime) {
+    assert!(rt; agree(rt.alloc(), 14));
 }

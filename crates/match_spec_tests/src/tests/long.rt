@@ -1,94 +1,136 @@
 // Patterns, specifications and expressions past the numbers at which a lazy body could stop.
 use super::*;
-use crate::tests::forms::{atom, list, read, tuple};
+use crate::tests::forms::{atom, one, pair, triple};
 
 /// The number of the last variable.
 const LAST: Integer = 9_999;
 
+fn variable(alloc: Global, number: Integer) -> Option<Term> {
+    let text = format!(in alloc; "${number}").ok()?;
+    atom(alloc, text.as_str())
+}
+
 /// `{$9999,..,$0}`.
-fn many_variables(alloc: Global) -> Result<Term, Fail> {
+fn many_variables(alloc: Global) -> Option<Term> {
     let mut variables = Items::new(alloc);
     for n in 0..=LAST {
-        let number = LAST.saturating_sub(n);
-        variables.push(atom(alloc, format!(in alloc; "${number}")?.as_str())?)?;
+        variables
+            .push(variable(alloc, LAST.saturating_sub(n))?)
+            .ok()?;
     }
-    Ok(Term::Tuple(variables))
+    Some(Term::Tuple(variables))
 }
 
 /// `{9999,..,0}`.
-fn many_numbers(alloc: Global) -> Result<Term, Fail> {
+fn many_numbers(alloc: Global) -> Option<Term> {
     let mut numbers = Items::new(alloc);
     for n in 0..=LAST {
-        numbers.push(Term::Int(LAST.saturating_sub(n)))?;
+        numbers.push(Term::Int(LAST.saturating_sub(n))).ok()?;
     }
-    Ok(Term::Tuple(numbers))
+    Some(Term::Tuple(numbers))
 }
 
 /// Whether each value is the number of its place.
 fn are_numbered(values: &[Term]) -> bool {
-    for i in 0..values.len() {
-        if values[i] != Term::Int(i as Integer) {
+    for (i, value) in values.iter().enumerate() {
+        if *value != Term::Int(i as Integer) {
+            return false;
+        }
+    }
+    values.len() == 10_000
+}
+
+fn binds_in_order(alloc: Global, pattern: &Pattern) -> Option<bool> {
+    let values = pattern.bindings(alloc, &many_numbers(alloc)?).ok()??;
+    Some(are_numbered(values.as_slice()))
+}
+
+fn many_bind_in_order(alloc: Global) -> Option<bool> {
+    let pattern = Pattern::compile(alloc, &many_variables(alloc)?).ok()?;
+    binds_in_order(alloc, &pattern)
+}
+
+#[test]
+fn thousands_of_variables_are_bound_in_order(rt: HostRuntime) {
+    assert!(rt; many_bind_in_order(rt.alloc()) == Some(true));
+}
+
+/// `[$1]`.
+fn body(alloc: Global) -> Option<Term> {
+    Some(Term::List(one(alloc, atom(alloc, "$1")?)?))
+}
+
+/// A clause that gives an object with this key its second element.
+fn clause(alloc: Global, key: Integer) -> Option<Term> {
+    let head = pair(alloc, Term::Int(key), atom(alloc, "$1")?)?;
+    triple(alloc, head, Term::List(Items::new(alloc)), body(alloc)?)
+}
+
+fn many_clauses(alloc: Global) -> Option<Term> {
+    let mut clauses = Items::new(alloc);
+    for n in 0..10_000 {
+        clauses.push(clause(alloc, n)?).ok()?;
+    }
+    Some(Term::List(clauses))
+}
+
+fn gives_itself(alloc: Global, spec: &Spec, n: Integer) -> Option<bool> {
+    let object = pair(alloc, Term::Int(n), Term::Int(n))?;
+    Some(spec.result(alloc, &object).ok()?? == Term::Int(n))
+}
+
+fn give_themselves(alloc: Global, spec: &Spec, numbers: &[Integer]) -> bool {
+    for n in numbers {
+        if gives_itself(alloc, spec, *n) != Some(true) {
             return false;
         }
     }
     true
 }
 
-#[test]
-fn thousands_of_variables_are_bound_in_order(rt: HostRuntime) -> Result<(), Fail> {
-    let alloc = rt.alloc();
-    let pattern = Pattern::compile(alloc, &many_variables(alloc)?)?;
-    let values = pattern.bindings(alloc, &many_numbers(alloc)?)?;
-    assert!(rt;
-        values.is_some_and(|values| values.len() == 10_000 && are_numbered(values.as_slice()))
-    );
-    Ok(())
-}
-
-/// A clause that gives an object with this key its second element.
-fn clause(alloc: Global, key: Integer) -> Result<Term, Fail> {
-    let head = tuple(alloc, [Term::Int(key), atom(alloc, "$1")?])?;
-    tuple(alloc, [head, list(alloc, [])?, read(alloc, "[$1]")?])
-}
-
-fn many_clauses(alloc: Global) -> Result<Term, Fail> {
-    let mut clauses = Items::new(alloc);
-    for n in 0..10_000 {
-        clauses.push(clause(alloc, n)?)?;
-    }
-    Ok(Term::List(clauses))
-}
-
-fn gives_itself(alloc: Global, spec: &Spec, n: Integer) -> Result<bool, Fail> {
-    let object = tuple(alloc, [Term::Int(n), Term::Int(n)])?;
-    Ok(spec.result(alloc, &object)? == Some(Term::Int(n)))
+fn many_are_tried(alloc: Global, numbers: &[Integer]) -> Option<bool> {
+    let spec = Spec::compile(alloc, &many_clauses(alloc)?).ok()?;
+    Some(give_themselves(alloc, &spec, numbers))
 }
 
 #[test]
-fn thousands_of_clauses_are_tried_in_order(rt: HostRuntime) -> Result<(), Fail> {
-    let alloc = rt.alloc();
-    let spec = Spec::compile(alloc, &many_clauses(alloc)?)?;
-    for n in [0, 1, 2, 255, 256, 4_096, 8_192, 9_999] {
-        assert!(rt; gives_itself(alloc, &spec, n)?, "clause {n}");
-    }
-    Ok(())
+fn thousands_of_clauses_are_tried_in_order(rt: HostRuntime) {
+    let numbers = [0, 1, 2, 255, 256, 4_096, 8_192, 9_999];
+    assert!(rt; many_are_tried(rt.alloc(), &numbers) == Some(true));
 }
 
 /// `{+,{+,..{+,2,1}..,1},1}`.
-fn deep_sum(alloc: Global, levels: usize) -> Result<Term, Fail> {
+fn deep_sum(alloc: Global, levels: usize) -> Option<Term> {
     let mut sum = Term::Int(2);
     for _ in 0..levels {
-        sum = tuple(alloc, [atom(alloc, "+")?, sum, Term::Int(1)])?;
+        sum = triple(alloc, atom(alloc, "+")?, sum, Term::Int(1))?;
     }
-    Ok(sum)
+    Some(sum)
+}
+
+/// The specification that gives each object the value of an expression.
+fn giving(alloc: Global, expression: Term) -> Option<Term> {
+    let body = Term::List(one(alloc, expression)?);
+    let clause = triple(
+        alloc,
+        atom(alloc, "_")?,
+        Term::List(Items::new(alloc)),
+        body,
+    )?;
+    Some(Term::List(one(alloc, clause)?))
+}
+
+fn value(alloc: Global, expression: Term) -> Option<Term> {
+    let spec = Spec::compile(alloc, &giving(alloc, expression)?).ok()?;
+    spec.result(alloc, &Term::Tuple(one(alloc, Term::Int(1))?))
+        .ok()?
+}
+
+fn deep_value(alloc: Global, levels: usize) -> Option<Term> {
+    value(alloc, deep_sum(alloc, levels)?)
 }
 
 #[test]
-fn an_expression_128_deep_has_its_value(rt: HostRuntime) -> Result<(), Fail> {
-    let alloc = rt.alloc();
-    let body = list(alloc, [deep_sum(alloc, 128)?])?;
-    let only = tuple(alloc, [atom(alloc, "_")?, list(alloc, [])?, body])?;
-    let spec = Spec::compile(alloc, &list(alloc, [only])?)?;
-    assert!(rt; spec.result(alloc, &read(alloc, "{a}")?)? == Some(Term::Int(130)));
-    Ok(())
+fn an_expression_128_deep_has_its_value(rt: HostRuntime) {
+    assert!(rt; deep_value(rt.alloc(), 128) == Some(Term::Int(130)));
 }

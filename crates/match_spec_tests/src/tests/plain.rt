@@ -1,13 +1,13 @@
 // A plain reading of the rules over raw terms. It stands apart from the crate: no place, no compiled form, no shared code.
-use crate::tests::forms::atom;
+use crate::tests::forms::{atom, copy};
 use ets_term::{Items, Term};
 use std::alloc::Global;
-use std::test::Fail;
 
 mod checks;
 mod clauses;
 mod functions;
 mod matching;
+mod operations;
 mod values;
 
 pub(crate) use checks::is_spec;

@@ -1,6 +1,6 @@
 // Random objects, patterns and specifications, made from pools of terms that grow by tuples and lists of what is there.
 use super::*;
-use crate::tests::forms::{atom, list, tuple};
+use crate::tests::forms::{atom, copy, one, triple};
 
 /// Numbers that are the same in each run.
 #[derive(Drop)]
@@ -22,54 +22,74 @@ impl Random {
     }
 
     // One of the terms, again.
-    fn one_of(&mut self, alloc: Global, terms: &[Term]) -> Result<Term, Fail> {
+    fn one_of(&mut self, alloc: Global, terms: &[Term]) -> Option<Term> {
         let at = self.below(terms.len() as u64) as usize;
-        match terms.get(at) {
-            Some(term) => Ok(term.try_clone(alloc)?),
-            None => atom(alloc, "a"),
-        }
+        copy(alloc, terms.get(at)?)
     }
 
-    fn some_of(&mut self, alloc: Global, terms: &[Term], most: u64) -> Result<Items<Term>, Fail> {
+    fn some_of(&mut self, alloc: Global, terms: &[Term], most: u64) -> Option<Items<Term>> {
         let mut some = Items::new(alloc);
-        for _ in 0..self.below(most.saturating_add(1)) {
-            some.push(self.one_of(alloc, terms)?)?;
-        }
-        Ok(some)
+        let count = self.below(most.saturating_add(1));
+        self.push_some(alloc, terms, count, &mut some)?;
+        Some(some)
     }
 
-    fn plain_term(&mut self, alloc: Global) -> Result<Term, Fail> {
+    fn push_some(
+        &mut self,
+        alloc: Global,
+        terms: &[Term],
+        count: u64,
+        some: &mut Items<Term>,
+    ) -> Option<()> {
+        for _ in 0..count {
+            some.push(self.one_of(alloc, terms)?).ok()?;
+        }
+        Some(())
+    }
+
+    fn plain_term(&mut self, alloc: Global) -> Option<Term> {
         match self.below(9) {
             0 => atom(alloc, "true"),
             1 => atom(alloc, "false"),
-            2 => Ok(Term::Int(self.below(3).cast_signed())),
-            3 => Ok(Term::Int(i64::MIN)),
-            4 => Ok(Term::Int(-2)),
-            5 => Ok(Term::Pid(7)),
-            6 => Ok(Term::Tid(7)),
-            7 => Ok(Term::Binary(Items::from_vec(b"ab".to_vec(alloc)?))),
+            2 => Some(Term::Int(self.below(3).cast_signed())),
+            3 => Some(Term::Int(i64::MIN)),
+            4 => Some(Term::Int(-2)),
+            5 => Some(Term::Pid(7)),
+            6 => Some(Term::Tid(7)),
+            7 => Some(Term::Binary(Items::from_vec(b"ab".to_vec(alloc).ok()?))),
             _ => atom(alloc, "a"),
         }
     }
 
-    /// A tuple of up to three elements, some of them tuples and lists.
-    pub(crate) fn object(&mut self, alloc: Global) -> Result<Term, Fail> {
-        let mut pool = Vec::new(alloc);
-        for _ in 0..4 {
-            pool.push(self.plain_term(alloc)?)?;
+    // A tuple or a list of up to two of the terms.
+    fn nested(&mut self, alloc: Global, terms: &[Term]) -> Option<Term> {
+        let inner = self.some_of(alloc, terms, 2)?;
+        if self.below(2) == 0 {
+            Some(Term::Tuple(inner))
+        } else {
+            Some(Term::List(inner))
         }
-        for _ in 0..2 {
-            let inner = self.some_of(alloc, pool.as_slice(), 2)?;
-            pool.push(if self.below(2) == 0 {
-                Term::Tuple(inner)
-            } else {
-                Term::List(inner)
-            })?;
-        }
-        Ok(Term::Tuple(self.some_of(alloc, pool.as_slice(), 3)?))
     }
 
-    fn hole(&mut self, alloc: Global, term: &Term) -> Result<Term, Fail> {
+    fn push_parts(&mut self, alloc: Global, pool: &mut Vec<Term>) -> Option<()> {
+        for _ in 0..4 {
+            pool.push(self.plain_term(alloc)?).ok()?;
+        }
+        for _ in 0..2 {
+            let nested = self.nested(alloc, pool.as_slice())?;
+            pool.push(nested).ok()?;
+        }
+        Some(())
+    }
+
+    /// A tuple of up to three elements, some of them tuples and lists.
+    pub(crate) fn object(&mut self, alloc: Global) -> Option<Term> {
+        let mut pool = Vec::new(alloc);
+        self.push_parts(alloc, &mut pool)?;
+        Some(Term::Tuple(self.some_of(alloc, pool.as_slice(), 3)?))
+    }
+
+    fn hole(&mut self, alloc: Global, term: &Term) -> Option<Term> {
         match self.below(8) {
             0 => atom(alloc, "_"),
             1 => atom(alloc, "$0"),
@@ -77,55 +97,57 @@ impl Random {
             3 => atom(alloc, "$2"),
             4 => self.plain_term(alloc),
             5 => atom(alloc, "$01"),
-            _ => Ok(term.try_clone(alloc)?),
+            _ => copy(alloc, term),
         }
     }
 
-    fn holes(&mut self, alloc: Global, terms: &[Term]) -> Result<Items<Term>, Fail> {
-        let mut parts = Items::new(alloc);
-        for term in terms {
-            parts.push(match term {
-                Term::Tuple(inner) if self.below(2) == 0 => Term::Tuple(self.inner_holes(
-                    alloc,
-                    inner.as_slice(),
-                )?),
-                Term::List(inner) if self.below(2) == 0 => Term::List(self.inner_holes(
-                    alloc,
-                    inner.as_slice(),
-                )?),
-                _ => self.hole(alloc, term)?,
-            })?;
+    // A part of a pattern: half of the tuples and lists have holes inside.
+    fn part(&mut self, alloc: Global, term: &Term) -> Option<Term> {
+        match term {
+            Term::Tuple(inner) if self.below(2) == 0 => {
+                Some(Term::Tuple(self.inner_holes(alloc, inner.as_slice())?))
+            }
+            Term::List(inner) if self.below(2) == 0 => {
+                Some(Term::List(self.inner_holes(alloc, inner.as_slice())?))
+            }
+            _ => self.hole(alloc, term),
         }
-        Ok(parts)
     }
 
-    fn inner_holes(&mut self, alloc: Global, terms: &[Term]) -> Result<Items<Term>, Fail> {
+    fn holes(&mut self, alloc: Global, terms: &[Term]) -> Option<Items<Term>> {
         let mut parts = Items::new(alloc);
         for term in terms {
-            parts.push(self.hole(alloc, term)?)?;
+            parts.push(self.part(alloc, term)?).ok()?;
         }
-        Ok(parts)
+        Some(parts)
+    }
+
+    fn inner_holes(&mut self, alloc: Global, terms: &[Term]) -> Option<Items<Term>> {
+        let mut parts = Items::new(alloc);
+        for term in terms {
+            parts.push(self.hole(alloc, term)?).ok()?;
+        }
+        Some(parts)
     }
 
     /// The object with variables and other terms in place of some of its parts.
-    pub(crate) fn pattern(&mut self, alloc: Global, object: &Term) -> Result<Term, Fail> {
+    pub(crate) fn pattern(&mut self, alloc: Global, object: &Term) -> Option<Term> {
         match object {
-            Term::Tuple(items) if self.below(10) > 0 => Ok(Term::Tuple(self.holes(
-                alloc,
-                items.as_slice(),
-            )?)),
+            Term::Tuple(items) if self.below(10) > 0 => {
+                Some(Term::Tuple(self.holes(alloc, items.as_slice())?))
+            }
             _ => atom(alloc, "_"),
         }
     }
 
-    fn leaf(&mut self, alloc: Global) -> Result<Term, Fail> {
+    fn leaf(&mut self, alloc: Global) -> Option<Term> {
         match self.below(12) {
             0 => atom(alloc, "$0"),
             1 => atom(alloc, "$1"),
             2 => atom(alloc, "$_"),
             3 => atom(alloc, "$$"),
             4 => atom(alloc, "_"),
-            5 => list(alloc, []),
+            5 => Some(Term::List(Items::new(alloc))),
             _ => self.plain_term(alloc),
         }
     }
@@ -170,53 +192,62 @@ impl Random {
     }
 
     // A function, mostly with its number of arguments.
-    fn application(&mut self, alloc: Global, pool: &[Term]) -> Result<Term, Fail> {
+    fn application(&mut self, alloc: Global, pool: &[Term]) -> Option<Term> {
         let (name, count) = self.function();
         let count = if self.below(40) == 0 {
             self.below(4)
         } else {
             count
         };
-        let mut parts = Items::new(alloc);
-        parts.push(atom(alloc, name)?)?;
-        for _ in 0..count {
-            parts.push(self.one_of(alloc, pool)?)?;
-        }
-        Ok(Term::Tuple(parts))
+        let mut parts = one(alloc, atom(alloc, name)?)?;
+        self.push_some(alloc, pool, count, &mut parts)?;
+        Some(Term::Tuple(parts))
     }
 
-    fn expressions(&mut self, alloc: Global, most: u64) -> Result<Term, Fail> {
+    // An expression of those that are there.
+    fn expression(&mut self, alloc: Global, pool: &[Term]) -> Option<Term> {
+        match self.below(8) {
+            0 => Some(Term::List(self.some_of(alloc, pool, 2)?)),
+            1 => Some(Term::List(one(alloc, self.tuple(alloc, pool, 1)?)?)),
+            2 => Some(Term::Tuple(one(alloc, self.tuple(alloc, pool, 2)?)?)),
+            _ => self.application(alloc, pool),
+        }
+    }
+
+    fn tuple(&mut self, alloc: Global, pool: &[Term], most: u64) -> Option<Term> {
+        Some(Term::Tuple(self.some_of(alloc, pool, most)?))
+    }
+
+    fn push_expressions(&mut self, alloc: Global, pool: &mut Vec<Term>) -> Option<()> {
+        for _ in 0..4 {
+            pool.push(self.leaf(alloc)?).ok()?;
+        }
+        for _ in 0..4 {
+            let expression = self.expression(alloc, pool.as_slice())?;
+            pool.push(expression).ok()?;
+        }
+        Some(())
+    }
+
+    fn expressions(&mut self, alloc: Global, most: u64) -> Option<Term> {
         let mut pool = Vec::new(alloc);
-        for _ in 0..4 {
-            pool.push(self.leaf(alloc)?)?;
-        }
-        for _ in 0..4 {
-            let next = match self.below(8) {
-                0 => Term::List(self.some_of(alloc, pool.as_slice(), 2)?),
-                1 => list(
-                    alloc,
-                    [Term::Tuple(self.some_of(alloc, pool.as_slice(), 1)?)],
-                )?,
-                2 => tuple(
-                    alloc,
-                    [Term::Tuple(self.some_of(alloc, pool.as_slice(), 2)?)],
-                )?,
-                _ => self.application(alloc, pool.as_slice())?,
-            };
-            pool.push(next)?;
-        }
-        Ok(Term::List(self.some_of(alloc, pool.as_slice(), most)?))
+        self.push_expressions(alloc, &mut pool)?;
+        Some(Term::List(self.some_of(alloc, pool.as_slice(), most)?))
+    }
+
+    fn clause(&mut self, alloc: Global, object: &Term) -> Option<Term> {
+        let head = self.pattern(alloc, object)?;
+        let conditions = self.expressions(alloc, 1)?;
+        let body = self.expressions(alloc, 2)?;
+        triple(alloc, head, conditions, body)
     }
 
     /// One or two clauses whose heads are made from the object.
-    pub(crate) fn spec(&mut self, alloc: Global, object: &Term) -> Result<Term, Fail> {
+    pub(crate) fn spec(&mut self, alloc: Global, object: &Term) -> Option<Term> {
         let mut clauses = Items::new(alloc);
         for _ in 0..self.below(2).saturating_add(1) {
-            let head = self.pattern(alloc, object)?;
-            let conditions = self.expressions(alloc, 1)?;
-            let body = self.expressions(alloc, 2)?;
-            clauses.push(tuple(alloc, [head, conditions, body])?)?;
+            clauses.push(self.clause(alloc, object)?).ok()?;
         }
-        Ok(Term::List(clauses))
+        Some(Term::List(clauses))
     }
 }

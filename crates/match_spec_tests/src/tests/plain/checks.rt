@@ -1,41 +1,27 @@
 // Which terms are specifications.
 use super::*;
 use crate::tests::plain::clauses::elements;
-use crate::tests::plain::functions::{is_kind_test, is_operation};
-use crate::tests::plain::matching::{Binding, bound, number};
+use crate::tests::plain::functions::{is_kind_test, is_one_of};
+use crate::tests::plain::matching::{Binding, bound, number, push};
+use crate::tests::plain::operations::is_operation;
 
-fn is_one_of(name: &Term, names: &[&str]) -> bool {
-    for own in names {
-        if name.is_atom(own) {
-            return true;
-        }
-    }
-    false
-}
+/// Functions of any number of arguments but none, of one and of two, beside the tests of kinds and the operations.
+const OF_SOME: [&str; 4] = ["and", "or", "andalso", "orelse"];
+
+const OF_ONE: [&str; 7] = ["is_number", "not", "abs", "hd", "tl", "length", "size"];
+
+const OF_TWO: [&str; 10] = [
+    "xor", "element", ">", ">=", "<", "=<", "=:=", "==", "=/=", "/=",
+];
 
 fn is_function(name: &Term, count: usize) -> bool {
-    if is_one_of(name, &["and", "or", "andalso", "orelse"]) {
-        return count > 0;
+    if is_one_of(name, &OF_SOME) {
+        count > 0
+    } else if is_kind_test(name) || is_one_of(name, &OF_ONE) {
+        count == 1
+    } else {
+        count == 2 && (is_operation(name) || is_one_of(name, &OF_TWO))
     }
-    if is_kind_test(name)
-        || is_one_of(
-            name,
-            &["is_number", "not", "abs", "hd", "tl", "length", "size"],
-        )
-    {
-        return count == 1;
-    }
-    if is_operation(name)
-        || is_one_of(
-            name,
-            &[
-                "xor", "element", ">", ">=", "<", "=<", "=:=", "==", "=/=", "/=",
-            ],
-        )
-    {
-        return count == 2;
-    }
-    false
 }
 
 #[cycle(plain_check)]
@@ -81,51 +67,46 @@ fn is_tuple_expression(items: &[Term], bindings: &[Binding]) -> bool {
 
 // The variables of a pattern, each bound to itself.
 #[cycle(plain_variables)]
-fn collect(alloc: Global, pattern: &Term, found: &mut Vec<Binding>) -> Result<(), Fail> {
+fn collect(alloc: Global, pattern: &Term, found: &mut Vec<Binding>) {
     match pattern {
         Term::Tuple(items) => collect_all(alloc, items.as_slice(), found),
         Term::List(items) => collect_all(alloc, items.as_slice(), found),
         _ => {
             if let Some(n) = number(pattern) {
-                found.push(Binding {
-                    number: n,
-                    value: pattern.try_clone(alloc)?,
-                })?;
+                let _pushed = push(alloc, n, pattern, found);
             }
-            Ok(())
         }
     }
 }
 
 #[cycle(plain_variables)]
-fn collect_all(alloc: Global, parts: &[Term], found: &mut Vec<Binding>) -> Result<(), Fail> {
+fn collect_all(alloc: Global, parts: &[Term], found: &mut Vec<Binding>) {
     for part in parts {
-        collect(alloc, part, found)?;
+        collect(alloc, part, found);
     }
-    Ok(())
 }
 
-fn is_clause(alloc: Global, clause: &Term) -> Result<bool, Fail> {
+fn are_good(conditions: &Term, body: &Term, variables: &[Binding]) -> bool {
+    are_expressions(elements(conditions), 0, variables)
+        && are_expressions(elements(body), 0, variables)
+        && !elements(body).is_empty()
+}
+
+fn is_clause(alloc: Global, clause: &Term) -> bool {
     let [head, conditions, body] = elements(clause) else {
-        return Ok(false);
+        return false;
     };
     let mut found = Vec::new(alloc);
-    collect(alloc, head, &mut found)?;
-    let variables = found.as_slice();
-    Ok(
-        matches!(head, Term::Atom(_) | Term::Tuple(_))
-            && are_expressions(elements(conditions), 0, variables)
-            && are_expressions(elements(body), 0, variables)
-            && !elements(body).is_empty(),
-    )
+    collect(alloc, head, &mut found);
+    matches!(head, Term::Atom(_) | Term::Tuple(_)) && are_good(conditions, body, found.as_slice())
 }
 
 /// Whether a list of tuples with lists behind the head is a specification.
-pub(crate) fn is_spec(alloc: Global, spec: &Term) -> Result<bool, Fail> {
+pub(crate) fn is_spec(alloc: Global, spec: &Term) -> bool {
     for clause in elements(spec) {
-        if !is_clause(alloc, clause)? {
-            return Ok(false);
+        if !is_clause(alloc, clause) {
+            return false;
         }
     }
-    Ok(!elements(spec).is_empty())
+    !elements(spec).is_empty()
 }

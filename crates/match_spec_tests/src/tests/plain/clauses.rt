@@ -1,6 +1,6 @@
 // What a specification makes of an object.
 use super::*;
-use crate::tests::plain::matching::matches;
+use crate::tests::plain::matching::{Binding, matches};
 use crate::tests::plain::values::value;
 
 pub(crate) fn elements(term: &Term) -> &[Term] {
@@ -11,35 +11,52 @@ pub(crate) fn elements(term: &Term) -> &[Term] {
     }
 }
 
-fn clause_result(alloc: Global, clause: &Term, object: &Term) -> Result<Option<Term>, Fail> {
-    let [head, conditions, body] = elements(clause) else {
-        return Ok(None);
-    };
-    let mut bindings = Vec::new(alloc);
-    if !matches(alloc, head, object, &mut bindings)? {
-        return Ok(None);
+fn is_true(alloc: Global, condition: &Term, object: &Term, bindings: &[Binding]) -> bool {
+    match value(alloc, condition, object, bindings) {
+        Some(term) => term.is_atom("true"),
+        None => false,
     }
-    for condition in elements(conditions) {
-        match value(alloc, condition, object, bindings.as_slice())? {
-            Some(term) if term.is_atom("true") => {}
-            _ => return Ok(None),
-        }
-    }
-    let mut last = atom(alloc, "EXIT")?;
-    for expression in elements(body) {
-        match value(alloc, expression, object, bindings.as_slice())? {
-            Some(term) => last = term,
-            None => return Ok(Some(atom(alloc, "EXIT")?)),
-        }
-    }
-    Ok(Some(last))
 }
 
-pub(crate) fn result(alloc: Global, spec: &Term, object: &Term) -> Result<Option<Term>, Fail> {
-    for clause in elements(spec) {
-        if let Some(given) = clause_result(alloc, clause, object)? {
-            return Ok(Some(given));
+fn all_true(alloc: Global, conditions: &[Term], object: &Term, bindings: &[Binding]) -> bool {
+    for condition in conditions {
+        if !is_true(alloc, condition, object, bindings) {
+            return false;
         }
     }
-    Ok(None)
+    true
+}
+
+// The last of the values; None where one of them fails.
+fn last_value(alloc: Global, body: &[Term], object: &Term, bindings: &[Binding]) -> Option<Term> {
+    let mut last = Term::default();
+    for expression in body {
+        last = value(alloc, expression, object, bindings)?;
+    }
+    Some(last)
+}
+
+fn clause_result(alloc: Global, clause: &Term, object: &Term) -> Option<Term> {
+    let [head, conditions, body] = elements(clause) else {
+        return None;
+    };
+    let mut bindings = Vec::new(alloc);
+    if !matches(alloc, head, object, &mut bindings)
+        || !all_true(alloc, elements(conditions), object, bindings.as_slice())
+    {
+        return None;
+    }
+    match last_value(alloc, elements(body), object, bindings.as_slice()) {
+        Some(last) => Some(last),
+        None => atom(alloc, "EXIT"),
+    }
+}
+
+pub(crate) fn result(alloc: Global, spec: &Term, object: &Term) -> Option<Term> {
+    for clause in elements(spec) {
+        if let Some(given) = clause_result(alloc, clause, object) {
+            return Some(given);
+        }
+    }
+    None
 }

@@ -32,74 +32,62 @@ pub(crate) fn matches(
     pattern: &Term,
     term: &Term,
     bindings: &mut Vec<Binding>,
-) -> Result<bool, Fail> {
-    if pattern.is_atom("_") {
-        return Ok(true);
-    }
+) -> bool {
     if let Some(n) = number(pattern) {
         return bind(alloc, n, term, bindings);
     }
     match (pattern, term) {
-        (Term::Tuple(parts), Term::Tuple(items)) => all_match(
-            alloc,
-            parts.as_slice(),
-            items.as_slice(),
-            bindings,
-        ),
-        (Term::List(parts), Term::List(items)) => all_match(
-            alloc,
-            parts.as_slice(),
-            items.as_slice(),
-            bindings,
-        ),
-        _ => Ok(*pattern == *term),
+        (Term::Tuple(parts), Term::Tuple(items)) => {
+            all_match(alloc, parts.as_slice(), items.as_slice(), bindings)
+        }
+        (Term::List(parts), Term::List(items)) => {
+            all_match(alloc, parts.as_slice(), items.as_slice(), bindings)
+        }
+        _ => pattern.is_atom("_") || *pattern == *term,
     }
 }
 
 #[cycle(plain_match)]
-fn all_match(
-    alloc: Global,
-    parts: &[Term],
-    items: &[Term],
-    bindings: &mut Vec<Binding>,
-) -> Result<bool, Fail> {
-    if parts.len() != items.len() {
-        return Ok(false);
-    }
+fn all_match(alloc: Global, parts: &[Term], items: &[Term], bindings: &mut Vec<Binding>) -> bool {
     for i in 0..parts.len() {
-        if !matches(alloc, &parts[i], &items[i], bindings)? {
-            return Ok(false);
+        let matched = match (parts.get(i), items.get(i)) {
+            (Some(part), Some(item)) => matches(alloc, part, item, bindings),
+            _ => false,
+        };
+        if !matched {
+            return false;
         }
     }
-    Ok(true)
+    parts.len() == items.len()
 }
 
-fn bind(alloc: Global, n: u32, term: &Term, bindings: &mut Vec<Binding>) -> Result<bool, Fail> {
-    if let Some(value) = bound(n, bindings.as_slice()) {
-        return Ok(*value == *term);
+pub(crate) fn push(alloc: Global, n: u32, term: &Term, bindings: &mut Vec<Binding>) -> Option<()> {
+    let value = copy(alloc, term)?;
+    bindings.push(Binding { number: n, value }).ok()
+}
+
+fn bind(alloc: Global, n: u32, term: &Term, bindings: &mut Vec<Binding>) -> bool {
+    match bound(n, bindings.as_slice()) {
+        Some(value) => *value == *term,
+        None => push(alloc, n, term, bindings) == Some(()),
     }
-    bindings.push(Binding {
-        number: n,
-        value: term.try_clone(alloc)?,
-    })?;
-    Ok(true)
 }
 
 // The values in order of number.
-pub(crate) fn in_order(alloc: Global, bindings: &[Binding]) -> Result<Term, Fail> {
+pub(crate) fn in_order(alloc: Global, bindings: &[Binding]) -> Option<Term> {
     let mut values = Items::new(alloc);
     for n in 0..3 {
         if let Some(value) = bound(n, bindings) {
-            values.push(value.try_clone(alloc)?)?;
+            values.push(copy(alloc, value)?).ok()?;
         }
     }
-    Ok(Term::List(values))
+    Some(Term::List(values))
 }
 
-pub(crate) fn bindings(alloc: Global, pattern: &Term, object: &Term) -> Result<Option<Term>, Fail> {
+pub(crate) fn bindings(alloc: Global, pattern: &Term, object: &Term) -> Option<Term> {
     let mut bindings = Vec::new(alloc);
-    if !matches(alloc, pattern, object, &mut bindings)? {
-        return Ok(None);
+    if !matches(alloc, pattern, object, &mut bindings) {
+        return None;
     }
-    Ok(Some(in_order(alloc, bindings.as_slice())?))
+    in_order(alloc, bindings.as_slice())
 }

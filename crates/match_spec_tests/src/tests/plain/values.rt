@@ -9,37 +9,28 @@ pub(crate) fn value(
     expression: &Term,
     object: &Term,
     bindings: &[Binding],
-) -> Result<Option<Term>, Fail> {
+) -> Option<Term> {
     match expression {
         Term::Atom(_) => named(alloc, expression, object, bindings),
-        Term::List(items) => match values(alloc, items.as_slice(), 0, object, bindings)? {
-            Some(values) => Ok(Some(Term::List(values))),
-            None => Ok(None),
-        },
+        Term::List(items) => {
+            let values = values(alloc, items.as_slice(), 0, object, bindings)?;
+            Some(Term::List(values))
+        }
         Term::Tuple(items) => tuple_value(alloc, items.as_slice(), object, bindings),
-        _ => Ok(Some(expression.try_clone(alloc)?)),
+        _ => copy(alloc, expression),
     }
 }
 
-fn named(
-    alloc: Global,
-    name: &Term,
-    object: &Term,
-    bindings: &[Binding],
-) -> Result<Option<Term>, Fail> {
+fn named(alloc: Global, name: &Term, object: &Term, bindings: &[Binding]) -> Option<Term> {
     if let Some(n) = number(name) {
-        return match bound(n, bindings) {
-            Some(value) => Ok(Some(value.try_clone(alloc)?)),
-            None => Ok(None),
-        };
+        copy(alloc, bound(n, bindings)?)
+    } else if name.is_atom("$_") {
+        copy(alloc, object)
+    } else if name.is_atom("$$") {
+        in_order(alloc, bindings)
+    } else {
+        copy(alloc, name)
     }
-    if name.is_atom("$_") {
-        return Ok(Some(object.try_clone(alloc)?));
-    }
-    if name.is_atom("$$") {
-        return Ok(Some(in_order(alloc, bindings)?));
-    }
-    Ok(Some(name.try_clone(alloc)?))
 }
 
 #[cycle(plain_value)]
@@ -49,43 +40,35 @@ fn values(
     start: usize,
     object: &Term,
     bindings: &[Binding],
-) -> Result<Option<Items<Term>>, Fail> {
+) -> Option<Items<Term>> {
     let mut values = Items::new(alloc);
     for i in start..items.len() {
-        match value(alloc, &items[i], object, bindings)? {
-            Some(value) => values.push(value)?,
-            None => return Ok(None),
-        }
+        values
+            .push(value(alloc, &items[i], object, bindings)?)
+            .ok()?;
     }
-    Ok(Some(values))
+    Some(values)
 }
 
 #[cycle(plain_value)]
-fn tuple_value(
-    alloc: Global,
-    items: &[Term],
-    object: &Term,
-    bindings: &[Binding],
-) -> Result<Option<Term>, Fail> {
+fn tuple_value(alloc: Global, items: &[Term], object: &Term, bindings: &[Binding]) -> Option<Term> {
     if items.is_empty() {
-        return Ok(None);
+        return None;
     }
     match &items[0] {
-        Term::Tuple(parts) => match values(alloc, parts.as_slice(), 0, object, bindings)? {
-            Some(values) => Ok(Some(Term::Tuple(values))),
-            None => Ok(None),
-        },
+        Term::Tuple(parts) => {
+            let values = values(alloc, parts.as_slice(), 0, object, bindings)?;
+            Some(Term::Tuple(values))
+        }
         name => {
-            if name.is_atom("const") && items.len() == 2 {
-                return Ok(Some(items[1].try_clone(alloc)?));
+            if name.is_atom("const") {
+                return copy(alloc, items.get(1)?);
             }
             if name.is_atom("andalso") || name.is_atom("orelse") {
                 return decided(alloc, items, name.is_atom("orelse"), object, bindings);
             }
-            match values(alloc, items, 1, object, bindings)? {
-                Some(values) => applied(alloc, name, values.as_slice()),
-                None => Ok(None),
-            }
+            let values = values(alloc, items, 1, object, bindings)?;
+            applied(alloc, name, values.as_slice())
         }
     }
 }
@@ -97,15 +80,11 @@ fn decided(
     stop: bool,
     object: &Term,
     bindings: &[Binding],
-) -> Result<Option<Term>, Fail> {
+) -> Option<Term> {
     for i in 1..items.len() {
-        let Some(term) = value(alloc, &items[i], object, bindings)? else {
-            return Ok(None);
-        };
-        match boolean(&term) {
-            Some(b) if b == stop => return truth(alloc, stop),
-            Some(_) => {}
-            None => return Ok(None),
+        let term = value(alloc, &items[i], object, bindings)?;
+        if boolean(&term)? == stop {
+            return truth(alloc, stop);
         }
     }
     truth(alloc, !stop)

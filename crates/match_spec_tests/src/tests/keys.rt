@@ -1,0 +1,83 @@
+// The keys that patterns and specifications bind.
+use super::*;
+use term_text::read_term;
+
+fn read(alloc: Global, text: &str) -> Option<Term> {
+    Some(read_term(alloc, text).ok()?.0)
+}
+
+/// Whether a key that was found is that of a text, or there is none and no text.
+fn is_key(alloc: Global, found: Option<&Term>, wanted: Option<&'static str>) -> Option<bool> {
+    match (found, wanted) {
+        (Some(key), Some(text)) => Some(*key == read(alloc, text)?),
+        (found, wanted) => Some(found.is_none() && wanted.is_none()),
+    }
+}
+
+/// A pattern, where the key stands, and the key that it binds.
+type PatternRow = (&'static str, usize, Option<&'static str>);
+
+const PATTERNS: [PatternRow; 10] = [
+    ("{7,'_'}", 1, Some("7")),
+    ("{7,'_'}", 2, None),
+    ("{7,'_'}", 3, None),
+    ("{7,'_'}", 0, None),
+    ("{'$1',{a,[b]}}", 2, Some("{a,[b]}")),
+    ("{{a,'_'},b}", 1, None),
+    ("{{a,['$1']},b}", 1, None),
+    ("'_'", 1, None),
+    ("'$1'", 1, None),
+    ("a", 1, None),
+];
+
+fn pattern_binds(alloc: Global, row: PatternRow) -> Option<bool> {
+    let (text, keypos, wanted) = row;
+    let pattern = Pattern::compile(alloc, &read(alloc, text)?).ok()?;
+    is_key(alloc, pattern.bound_key(keypos), wanted)
+}
+
+fn patterns_bind(alloc: Global, rows: &[PatternRow]) -> bool {
+    for row in rows {
+        if pattern_binds(alloc, *row) != Some(true) {
+            return false;
+        }
+    }
+    true
+}
+
+#[test]
+fn a_pattern_binds_its_key(rt: HostRuntime) {
+    assert!(rt; patterns_bind(rt.alloc(), &PATTERNS));
+}
+
+/// A specification, and the key at position 1 that it binds.
+type SpecRow = (&'static str, Option<&'static str>);
+
+const SPECS: [SpecRow; 6] = [
+    ("[{{7,'_'},[],[1]}]", Some("7")),
+    ("[{{7,'_'},[],[1]},{{7,a,b},[],[2]}]", Some("7")),
+    ("[{{7,'_'},[],[1]},{{8,'_'},[],[1]}]", None),
+    ("[{{7,'_'},[],[1]},{'_',[],[1]}]", None),
+    ("[{{7,'_'},[],[1]},{{'$1','_'},[],[1]}]", None),
+    ("[{{'$1',7},[],[1]}]", None),
+];
+
+fn spec_binds(alloc: Global, row: SpecRow) -> Option<bool> {
+    let (text, wanted) = row;
+    let spec = Spec::compile(alloc, &read(alloc, text)?).ok()?;
+    is_key(alloc, spec.bound_key(1), wanted)
+}
+
+fn specs_bind(alloc: Global, rows: &[SpecRow]) -> bool {
+    for row in rows {
+        if spec_binds(alloc, *row) != Some(true) {
+            return false;
+        }
+    }
+    true
+}
+
+#[test]
+fn keys_are_bound_by_all_clauses(rt: HostRuntime) {
+    assert!(rt; specs_bind(rt.alloc(), &SPECS));
+}
