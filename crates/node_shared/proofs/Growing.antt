@@ -1,5 +1,5 @@
 -- A journal that grows by an entry.
-use Rattle.std.proofs.Common.{◌≡◌, ℕ, ◌+◌, ◌<◌, ◌≤◌, List, [], ◌∷◌, ◌++◌, map, length, Bool, true, false, cond, refl, sym, ap, ◌∙◌, subst, arith, length-append}
+use Rattle.std.proofs.Common.{◌≡◌, ℕ, ◌+◌, ◌<◌, ◌≤◌, List, [], ◌∷◌, ◌++◌, map, length, Bool, true, false, cond, refl, ap, ◌∙◌, arith, length-append}
 use Rattle.std.specs.Prelude.{filter, Some, is_some}
 use Rattle.std.proofs.lemmas.List.{map-append}
 use Rattle.std.proofs.lemmas.List.Elements.{filter-append}
@@ -14,7 +14,7 @@ use Rattle.node_core.specs.Woven.{is_step_of}
 use Rattle.node_core.specs.rules.Growth.{due}
 use Rattle.node_core.specs.rules.Replies.{is_value}
 use Rattle.node_core.proofs.Runs.{run-on-buckets-push}
-use Rattle.node_core.proofs.Table.{Remembers, step-remembers}
+use Rattle.node_core.proofs.Table.{step-remembers}
 use Rattle.node_core.proofs.Enrolling.{enrolled}
 use Rattle.node_core.proofs.Tending.{due-tends}
 use Rattle.node_shared.specs.declared.entry.Entry.{Entry}

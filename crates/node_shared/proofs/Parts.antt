@@ -1,8 +1,6 @@
 -- Journals by their entries, one after another.
-use Rattle.std.proofs.Common.{◌≡◌, ℕ, zero, suc, ◌+◌, ◌<◌, ◌≤◌, ◌==◌, ◌⊎◌, inl, inr, ⊎_elim, Bool, true, false, cond, List, [], ◌∷◌, ◌++◌, Option, None, Some, length, take, drop, get_or, refl, sym, ap, ◌∙◌, subst, arith, rules, append_assoc}
-use Rattle.std.specs.Prelude.{◌||◌, filter, ◌⊎◌}
-use Rattle.std.specs.Bool.{Decides}
-use Rattle.std.specs.List.{list_any}
+use Rattle.std.proofs.Common.{◌≡◌, ℕ, zero, suc, ◌+◌, ◌<◌, ◌≤◌, ◌⊎◌, inl, inr, ⊎_elim, Bool, true, false, cond, List, [], ◌∷◌, ◌++◌, Option, None, Some, length, take, drop, get_or, refl, sym, ap, ◌∙◌, subst, arith}
+use Rattle.std.specs.Prelude.{◌||◌, ◌⊎◌}
 use Rattle.std.proofs.lemmas.List.{take-append-drop, append_cancel_left, append-nil}
 use Rattle.std.proofs.lemmas.List.Elements.{filter-append, filter_more}
 use Rattle.std.proofs.lemmas.List.Folds.{list_any-append}

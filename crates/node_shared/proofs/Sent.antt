@@ -1,6 +1,6 @@
 -- Threads may share the node behind its lock where its hash may go from one to another.
 use denote.RattleType.{RattleType}
-use denote.Param.Send.{IsSend, IsSync, sendable, view_send, recorded_send, recorded_sync, struct_send, struct_sync}
+use denote.Param.Send.{IsSend, IsSync, sendable, view_send, recorded_send, struct_send}
 use mir.Syntax.{Sym}
 use mathlib.Core.List.{List, [], ◌∷◌}
 use base.Fml.{Lft}

@@ -1,5 +1,5 @@
 -- The journal of a shared node: each step that was done, with its reply, in their order.
-use Rattle.std.specs.Prelude.{◌≡◌, ℕ, Bool, List, [], ◌∷◌, ◌++◌, map, filter, length, Option, Some, None, is_some}
+use Rattle.std.specs.Prelude.{ℕ, Bool, List, map, filter, length, Option, Some, None, is_some}
 use Rattle.std.specs.List.{list_any}
 use Rattle.node_core.specs.declared.limits.Limits.{Limits}
 use Rattle.node_core.specs.declared.step.Step.{Step}

@@ -1,9 +1,12 @@
 -- What callers see of a book, of a share and of a client.
-use Rattle.std.specs.Prelude.{◌≡◌, ℕ, List, [], ◌∷◌, ◌++◌}
+use Rattle.std.specs.Prelude.{◌≡◌, ℕ, Bool, List, [], ◌∷◌, ◌++◌, None}
+use Rattle.std.specs.Bool.{MatchBool}
+use Rattle.std.specs.Option.{IsSomeAnd}
 use Rattle.node_core.specs.declared.step.Step.{Step}
 use Rattle.node_core.specs.declared.step.Step.TheVariants.{Enrol}
 use Rattle.node_core.specs.declared.step.Reply.{Reply}
 use Rattle.node_core.specs.State.{State}
+use Rattle.node_core.specs.rules.Growth.{due}
 use Rattle.node_shared.specs.declared.entry.Entry.{Entry}
 use Rattle.node_shared.specs.Journal.{entry, Does}
 
@@ -16,6 +19,10 @@ pub record Kept : Type 0 where
 -- the step is done with this reply, and its entry goes last
 abbrev pub Enters : Kept → Step → Reply → Kept → Type 0
 Enters old s r new = Does old.state s r new.state × (new.journal ≡ old.journal ++ entry s r ∷ [])
+
+-- the step that is due is done, and entered; or none is due
+abbrev pub Tends : Kept → Kept → Bool → Type 0
+Tends old new did = MatchBool did (IsSomeAnd (due old.state) (λ event. (r : Reply) × Enters old event r new)) ((due old.state ≡ None) × (new ≡ old))
 
 -- a process, and how many entries are counted for it
 pub record Held : Type 0 where

@@ -1,13 +1,11 @@
-ghost use Rattle.std.specs.Prelude.{◌≡◌, true, ◌+◌, [], IfOk, OnErr, IfErr, MatchBool, None};
-ghost use Rattle.std.specs.Bool.{Decides};
-ghost use Rattle.std.specs.Option.{IsSomeAnd};
+ghost use Rattle.std.specs.Prelude.{◌≡◌, true, ◌+◌, [], IfOk, OnErr, IfErr};
 ghost use Rattle.node_core.specs.State.{State, empty};
 ghost use Rattle.node_core.specs.Woven.{is_step_of};
-ghost use Rattle.node_core.specs.rules.Growth.{due};
+ghost use Rattle.node_core.specs.rules.Replies.{is_value};
 ghost use Rattle.node_core.specs.declared.step.Reply.{Reply};
 ghost use Rattle.node_core.specs.declared.step.Step.TheVariants.{Enrol};
 ghost use Rattle.node_shared.specs.Journal.{IsRun};
-ghost use Rattle.node_shared.specs.Records.{Enters};
+ghost use Rattle.node_shared.specs.Records.{Enters, Tends};
 ghost use Rattle.node_shared.specs.Faults.{Refuses};
 ghost use Rattle.node_shared.specs.declared.book.BookFault.TheVariants.{Refused};
 
@@ -95,6 +93,7 @@ impl<L: Ledger, H: KeyHash + Copy + Drop> Book<L, H> {
     /// Enrols a process, writes the entry of that, and gives the process its share. A fault changes nothing.
     pub fn join(&mut self, pid: u32) -> Result<(Share<L>, Reply), BookFault>
         ensures entered { IfOk result (λ joined. Enters self.old (Enrol pid) joined.1 self.new) }
+        ensures granted { IfOk result (λ joined. is_value joined.1 ≡ true) }
         ensures counted { IfOk result (λ _. self.new.total ≡ self.old.total + 1) }
         ensures share { IfOk result (λ joined. joined.0 ≡ record { pid = pid; amount = 1 }) }
         ensures err { OnErr result (self.new ≡ self.old) }
@@ -118,7 +117,7 @@ impl<L: Ledger, H: KeyHash + Copy + Drop> Book<L, H> {
 
     /// Does the step that is due, if any, and writes its entry; says whether one was. Want of memory changes nothing.
     pub fn tend(&mut self) -> Result<bool, AllocError>
-        ensures tended { IfOk result (λ did. MatchBool did (IsSomeAnd (due self.old.state) (λ event. (r : Reply) × Enters self.old event r self.new)) ((due self.old.state ≡ None) × (self.new ≡ self.old))) }
+        ensures tended { IfOk result (Tends self.old self.new) }
         ensures counted { self.new.total ≡ self.old.total }
         ensures err { OnErr result (self.new ≡ self.old) }
     {

@@ -1,7 +1,8 @@
-ghost use Rattle.std.specs.Prelude.{◌≡◌, ◌≤◌, ◌+◌, [], ◌∷◌, IfOk, IfErr, IfSome};
+ghost use Rattle.std.specs.Prelude.{◌≡◌, ◌≤◌, true, ◌+◌, [], ◌∷◌, IfOk, IfErr, IfSome};
 ghost use Rattle.std.specs.Bool.{Decides};
 ghost use Rattle.node_core.specs.State.{State};
 ghost use Rattle.node_core.specs.declared.step.Reply.{Reply};
+ghost use Rattle.node_core.specs.rules.Replies.{is_value};
 ghost use Rattle.node_core.specs.declared.step.Step.TheVariants.{Enrol};
 ghost use Rattle.node_shared.specs.Journal.{IsRun, entry};
 ghost use Rattle.node_shared.specs.Faults.{HandsBack};
@@ -50,7 +51,7 @@ impl<L: Ledger, H: KeyHash + Copy + Drop> Shared<L, H> {
 
     /// Enrols the number that was drawn, and makes the client of that process. It may wait for the lock.
     pub fn client<R: Wait>(&self, rt: &R, drawn: Drawn) -> Result<Client<L>, JoinFault>
-        ensures ok { IfOk result (λ c. (r : Reply) × (c ≡ record { pid = drawn.number; entries = entry (Enrol drawn.number) r ∷ [] })) }
+        ensures ok { IfOk result (λ c. (r : Reply) × (is_value r ≡ true) × (c ≡ record { pid = drawn.number; entries = entry (Enrol drawn.number) r ∷ [] })) }
         ensures err { IfErr result (HandsBack drawn) }
     {
         let Ok(mut entries) = Vec::with_capacity(self.alloc, 1) else {

@@ -4,7 +4,7 @@ use denote.Param.Send.{IsSend, IsSync, param_send, param_sync, arg_send}
 use mathlib.Core.List.{[], ◌∷◌}
 use mir.Syntax.{named}
 use Rattle.node_shared.proofs.Sent.{work_send}
-use Rattle.std.proofs.Common.{◌≡◌, ◌++◌, ◌/◌, List, take, drop, sym, ap, ◌∙◌, subst, rules, arith, IfOk}
+use Rattle.std.proofs.Common.{◌≡◌, ◌++◌, ◌/◌, take, drop, ◌∙◌, subst, rules, IfOk}
 use Rattle.std.proofs.lemmas.List.{take-append-drop}
 use Rattle.node_shared.specs.Working.{AllWorked}
 use Rattle.node_shared.proofs.Jobs.{all-append}

@@ -1,5 +1,4 @@
-use Rattle.std.proofs.Common.{◌≡◌, ◌+◌, ◌<◌, length, arith, refl, rules}
-use Rattle.node_shared.specs.Working.{DidAll}
+use Rattle.std.proofs.Common.{arith}
 use Rattle.node_shared.proofs.Jobs.{did-none, did-more}
 use Rattle.node_shared.proofs.workers.run_one.Goals as goal
 

@@ -1,7 +1,7 @@
 use Rattle.std.proofs.Common.{◌≡◌, ◌++◌, ◌∷◌, [], Some, rules, arith}
 use Rattle.std.proofs.lemmas.Grind.{common_steps}
 use Rattle.node_core.specs.rules.Growth.{due}
-use Rattle.node_shared.specs.Journal.{entry, process_entries}
+use Rattle.node_shared.specs.Journal.{entry}
 use Rattle.node_shared.proofs.Growing.{stands, due-weighs}
 use Rattle.node_shared.proofs.book.Book.tend.Goals as goal
 
