@@ -19,7 +19,7 @@ use Rattle.node_core.proofs.Enrolling.{enrolled}
 use Rattle.node_core.proofs.Tending.{due-tends}
 use Rattle.node_shared.specs.declared.entry.Entry.{Entry}
 use Rattle.node_shared.specs.Journal.{entry, Does, IsRun, process_of, process_entries}
-use Rattle.node_shared.specs.inside.Kept.{Stands}
+use Rattle.node_shared.specs.Kept.{Stands}
 
 abbrev step_of : Entry → Step
 step_of e = e.step

@@ -1,7 +1,9 @@
 pub mod Numbers
 pub mod Journal
 pub mod Records
+pub mod Kept
+pub mod Asking
 pub mod Faults
 pub mod Closing
-pub mod inside
 pub mod Working
+pub mod inside

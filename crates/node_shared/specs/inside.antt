@@ -1,4 +1,2 @@
-pub mod Codes
-pub mod Kept
-pub mod Asking
 pub mod Closing
+pub mod Codes

@@ -4,7 +4,7 @@ ghost use Rattle.node_core.specs.Woven.{is_step_of};
 ghost use Rattle.node_core.specs.rules.Replies.{is_value};
 ghost use Rattle.node_core.specs.declared.step.Reply.{Reply};
 ghost use Rattle.node_core.specs.declared.step.Step.TheVariants.{Enrol};
-ghost use Rattle.node_shared.specs.Journal.{IsRun};
+ghost use Rattle.node_shared.specs.Journal.{IsRun, process_entries};
 ghost use Rattle.node_shared.specs.Records.{Enters, Tends};
 ghost use Rattle.node_shared.specs.Faults.{Refuses};
 ghost use Rattle.node_shared.specs.declared.book.BookFault.TheVariants.{Refused};
@@ -33,7 +33,7 @@ pub struct Book<L: Ledger, H: KeyHash + Copy + Drop> {
 
 impl<L: Ledger, H: KeyHash + Copy + Drop> Model for Book<L, H> {
     ghost use Rattle.node_shared.specs.Records.{Kept};
-    ghost use Rattle.node_shared.specs.inside.Kept.{Stands};
+    ghost use Rattle.node_shared.specs.Kept.{Stands};
     ghost use Rattle.node_shared.specs.inside.Codes.{kept_code};
 
     ghost Value = { Kept };
@@ -128,6 +128,16 @@ impl<L: Ledger, H: KeyHash + Copy + Drop> Book<L, H> {
         let reply = self.node.step(&event)?;
         self.journal.push_reserved(Entry { step: event, reply });
         Ok(true)
+    }
+
+    /// The journal: a run of the node from its empty state to the state that it has. The total counts its entries of processes. It takes
+    /// no memory.
+    pub fn journal(&self) -> &[Entry]
+        ensures entries { result.now ≡ self.now.journal }
+        ensures run { IsRun self.now.state.limits self.now.journal self.now.state }
+        ensures counted { self.now.total ≡ process_entries self.now.journal }
+    {
+        self.journal.as_slice()
     }
 
     /// The journal, which is a run of the node with the limits that come with it.

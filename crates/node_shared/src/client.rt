@@ -39,7 +39,7 @@ impl<L: Ledger> Model for Client<L> {
 
 impl<L: Ledger> Client<L> {
     ghost use Rattle.std.specs.Borrow.{sem};
-    ghost use Rattle.node_shared.specs.inside.Asking.{Answers};
+    ghost use Rattle.node_shared.specs.Asking.{Answers};
 
     /// The client of a process that was enrolled.
     pub(crate) fn of(alloc: Global, share: Share<L>, entries: Vec<Entry>) -> Self
@@ -63,7 +63,8 @@ impl<L: Ledger> Client<L> {
 
     /// The record, from the enrolment on. It takes no memory.
     pub fn entries(&self) -> &[Entry]
-        ensures { result.now ≡ self.now.entries }
+        ensures entries { result.now ≡ self.now.entries }
+        ensures begins { Begins self.now.pid self.now.entries }
     {
         self.entries.as_slice()
     }
