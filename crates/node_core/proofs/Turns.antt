@@ -196,8 +196,8 @@ module _ (p t : ℕ) where
           untold.few,
           untold.no_end,
           own-replied p (fix p t) true_reply (so_far ++ xs) (told ++ replies) (number-same p)
-          ∙ ap (λ rs. true_reply ∷ rs) (replied-append p st.fixed now so_far xs told replies st.walk_done
-          ∙ (ap₂ (λ (rs qs : List Reply). rs ++ qs) st.replied (none-replied p now mid xs replies ran others) ∙ (append-none (map value keys ++ key_reply found ∷ []) ∙ untold.told))),
+              ∙ ap (λ rs. true_reply ∷ rs) (replied-append p st.fixed now so_far xs told replies st.walk_done
+              ∙ (ap₂ (λ (rs qs : List Reply). rs ++ qs) st.replied (none-replied p now mid xs replies ran others) ∙ (append-none (map value keys ++ key_reply found ∷ []) ∙ untold.told))),
         );
         turns = turns;
         reason = reason;
