@@ -29,11 +29,12 @@ class Record:
     def stands(self, name, made):
         return self.sums.get(name) == made
 
-    def write(self, sums, refused):
-        """Writes the lines that still stand, and those of the crates whose edits were all refused now."""
-        lines = {name: made for name, made in sums.items() if self.stands(name, made) or name in refused}
+    def write(self, sums, name, is_refused):
+        """Writes what is known of a crate now, and the lines that still stand."""
+        known = {**self.sums, name: sums[name] if is_refused else ""}
+        self.sums = {it: made for it, made in sums.items() if known.get(it) == made}
         with open(self.file, "w", encoding="utf-8") as it:
-            it.write(HEAD + "".join(f"{name} {made}\n" for name, made in sorted(lines.items())))
+            it.write(HEAD + "".join(f"{name} {made}\n" for name, made in sorted(self.sums.items())))
 
 
 def in_turn(sums):
