@@ -1,10 +1,10 @@
 // Values from outside: each test is a table of rows, each a call and what it is to answer, over both kept forms of rows.
+// None stands for want of memory.
 use bucket_table::{PlainRows, Rows, SplitRows};
 use ets_term::{AllSame, Fnv, Integer, Items, Term};
 use fixed_walk::{Badarg, Walked};
 use std::alloc::Global;
 use std::process::Abort;
-use std::test::Fail;
 use table_ops::{Kind, Table};
 
 mod calls;
@@ -17,22 +17,28 @@ fn plain(alloc: Global, kind: Kind) -> Walked<PlainRows> {
 }
 
 /// With one hash for all keys. The slots come in the order of insertion until one goes, whose place is taken again.
-fn one_bucket(alloc: Global, kind: Kind) -> Result<Walked<SplitRows<AllSame>>, Fail> {
-    let table = Table::new(alloc, SplitRows::new(alloc, AllSame)?, kind, 1, 1_000_000);
-    Ok(Walked::new(alloc, table))
+fn one_bucket(alloc: Global, kind: Kind) -> Option<Walked<SplitRows<AllSame>>> {
+    let table = Table::new(
+        alloc,
+        SplitRows::new(alloc, AllSame).ok()?,
+        kind,
+        1,
+        1_000_000,
+    );
+    Some(Walked::new(alloc, table))
 }
 
-fn split(alloc: Global, kind: Kind) -> Result<Walked<SplitRows<Fnv>>, Fail> {
-    let table = Table::new(alloc, SplitRows::new(alloc, Fnv)?, kind, 1, 1_000_000);
-    Ok(Walked::new(alloc, table))
+fn split(alloc: Global, kind: Kind) -> Option<Walked<SplitRows<Fnv>>> {
+    let table = Table::new(alloc, SplitRows::new(alloc, Fnv).ok()?, kind, 1, 1_000_000);
+    Some(Walked::new(alloc, table))
 }
 
 /// `{key,value}`.
-fn object(alloc: Global, key: Integer, value: Integer) -> Result<Term, Fail> {
+fn object(alloc: Global, key: Integer, value: Integer) -> Option<Term> {
     let mut items = Items::new(alloc);
-    items.push(Term::Int(key))?;
-    items.push(Term::Int(value))?;
-    Ok(Term::Tuple(items))
+    items.push(Term::Int(key)).ok()?;
+    items.push(Term::Int(value)).ok()?;
+    Some(Term::Tuple(items))
 }
 
 fn insert<R: Rows>(
@@ -40,9 +46,9 @@ fn insert<R: Rows>(
     table: &mut Walked<R>,
     key: Integer,
     value: Integer,
-) -> Result<bool, Fail> {
+) -> Option<bool> {
     let object = object(alloc, key, value)?;
-    Ok(table.insert(&[object]).is_ok())
+    Some(table.insert(&[object]).is_ok())
 }
 
 /// Whether a walk came to this key, or to the end.
@@ -55,11 +61,11 @@ fn is(found: Option<&Term>, wanted: Option<Integer>) -> bool {
 }
 
 /// Doubles the buckets, or makes the next one ready.
-fn grow<R: Rows>(table: &mut Walked<R>) -> Result<(), Fail> {
+fn grow<R: Rows>(table: &mut Walked<R>) -> Option<()> {
     if let Some(bucket) = table.least() {
-        let _ = table.ready(bucket)?;
+        let _ = table.ready(bucket).ok()?;
     } else if table.buckets() < 4096 {
-        let _ = table.grow()?;
+        let _ = table.grow().ok()?;
     }
-    Ok(())
+    Some(())
 }

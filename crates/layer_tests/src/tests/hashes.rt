@@ -1,6 +1,7 @@
 //! FNV-1a, beside a plain reading of it.
 use ets_term::{Atom, Fnv, KeyHash, Term};
-use std::test::Fail;
+use std::alloc::Global;
+use std::process::Abort;
 
 /// FNV-1a of 32 bits, as its authors have it.
 fn fnv_1a(bytes: &[u8]) -> u32 {
@@ -12,21 +13,29 @@ fn fnv_1a(bytes: &[u8]) -> u32 {
 }
 
 /// The vectors that the authors of FNV-1a publish.
-#[test]
-fn published_vectors(rt: HostRuntime) {
-    for (text, want) in [("", 0x811c9dc5), ("a", 0xe40c292c), ("foobar", 0xbf9cf968)] {
-        assert_eq!(rt; fnv_1a(text.as_bytes()), want, "of {text}");
+const PUBLISHED: [(&str, u32); 3] = [("", 0x811c9dc5), ("a", 0xe40c292c), ("foobar", 0xbf9cf968)];
+
+fn are_hashed(rows: &[(&'static str, u32)]) -> bool {
+    for (text, wanted) in rows {
+        if fnv_1a(text.as_bytes()) != *wanted {
+            return false;
+        }
     }
+    true
 }
 
 #[test]
-fn runs_over_the_encoding(rt: HostRuntime) -> Result<(), Fail> {
-    let atom = Term::Atom(Atom::new(rt.alloc(), "a")?);
-    assert_eq!(rt; fnv_1a(&[2, 1, 97]), 58490007);
-    assert_eq!(rt; Fnv.hash32(&atom), 58490007);
-    assert_eq!(rt;
-        Fnv.hash32(&Term::Int(1)),
-        fnv_1a(&[1, 0, 0, 0, 0, 0, 0, 0, 1])
-    );
-    Ok(())
+fn published_vectors(rt: HostRuntime) {
+    assert!(rt; are_hashed(&PUBLISHED));
+}
+
+fn hash_of_an_atom(alloc: Global, text: &str) -> Option<u32> {
+    Some(Fnv.hash32(&Term::Atom(Atom::new(alloc, text).ok()?)))
+}
+
+#[test]
+fn runs_over_the_encoding(rt: HostRuntime) {
+    assert!(rt; fnv_1a(&[2, 1, 97]) == 58490007);
+    assert!(rt; hash_of_an_atom(rt.alloc(), "a") == Some(58490007));
+    assert!(rt; Fnv.hash32(&Term::Int(1)) == fnv_1a(&[1, 0, 0, 0, 0, 0, 0, 0, 1]));
 }

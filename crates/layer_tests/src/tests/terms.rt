@@ -4,198 +4,271 @@ use std::alloc::Global;
 use std::hash::{DefaultHasher, Hash, Hasher};
 use std::mem::size_of;
 use std::process::Abort;
-use std::test::Fail;
 
-fn atom(alloc: Global, text: &str) -> Result<Term, Fail> {
-    Ok(Term::Atom(Atom::new(alloc, text)?))
+fn atom(alloc: Global, text: &str) -> Option<Term> {
+    Some(Term::Atom(Atom::new(alloc, text).ok()?))
+}
+
+fn atom_of(alloc: Global, letter: char) -> Option<Term> {
+    let mut text = String::new(alloc);
+    text.push(letter).ok()?;
+    atom(alloc, text.as_str())
 }
 
 /// An atom for each letter.
-fn atoms(alloc: Global, letters: &str) -> Result<Items<Term>, Fail> {
+fn atoms(alloc: Global, letters: &str) -> Option<Items<Term>> {
     let mut items = Items::new(alloc);
     for letter in letters.chars() {
-        let mut text = String::new(alloc);
-        text.push(letter)?;
-        items.push(atom(alloc, text.as_str())?)?;
+        items.push(atom_of(alloc, letter)?).ok()?;
     }
-    Ok(items)
+    Some(items)
 }
 
-fn tuple(alloc: Global, letters: &str) -> Result<Term, Fail> {
-    Ok(Term::Tuple(atoms(alloc, letters)?))
+fn tuple(alloc: Global, letters: &str) -> Option<Term> {
+    Some(Term::Tuple(atoms(alloc, letters)?))
 }
 
-fn list(alloc: Global, letters: &str) -> Result<Term, Fail> {
-    Ok(Term::List(atoms(alloc, letters)?))
+fn list(alloc: Global, letters: &str) -> Option<Term> {
+    Some(Term::List(atoms(alloc, letters)?))
 }
 
-fn binary(alloc: Global, bytes: &[u8]) -> Result<Term, Fail> {
-    Ok(Term::Binary(Items::from_vec(bytes.to_vec(alloc)?)))
+fn binary(alloc: Global, bytes: &[u8]) -> Option<Term> {
+    Some(Term::Binary(Items::from_vec(bytes.to_vec(alloc).ok()?)))
 }
 
-fn text_of(alloc: Global, count: usize) -> Result<String, Fail> {
+fn text_of(alloc: Global, count: usize) -> Option<String> {
     let mut text = String::new(alloc);
     for _ in 0..count {
-        text.push('a')?;
+        text.push('a').ok()?;
     }
-    Ok(text)
+    Some(text)
 }
 
 /// Whether an atom of so many characters and its copy have its text.
-fn keeps_text(alloc: Global, count: usize) -> Result<bool, Fail> {
+fn keeps_text(alloc: Global, count: usize) -> Option<bool> {
     let text = text_of(alloc, count)?;
-    let made = Atom::new(alloc, text.as_str())?;
-    let copy = made.try_clone(alloc)?;
-    Ok(made.text() == text.as_str() && copy.text() == text.as_str())
+    let made = Atom::new(alloc, text.as_str()).ok()?;
+    let copy = made.try_clone(alloc).ok()?;
+    Some(made.text() == text.as_str() && copy.text() == text.as_str())
+}
+
+fn keep_text(alloc: Global, counts: &[usize]) -> Option<bool> {
+    for count in counts {
+        if !keeps_text(alloc, *count)? {
+            return Some(false);
+        }
+    }
+    Some(true)
+}
+
+fn is_too_long(alloc: Global, count: usize) -> Option<bool> {
+    let long = text_of(alloc, count)?;
+    Some(matches!(Atom::new(alloc, long.as_str()), Err(AtomFault::TooLong)))
 }
 
 #[test]
-fn atoms_have_up_to_255_characters(rt: HostRuntime) -> Result<(), Fail> {
+fn atoms_have_up_to_255_characters(rt: HostRuntime) {
     let alloc = rt.alloc();
-    for count in [0, 22, 23, 255] {
-        assert!(rt; keeps_text(alloc, count)?, "of {count}");
-    }
-    let long = text_of(alloc, 256)?;
-    assert!(rt; matches!(Atom::new(alloc, long.as_str()), Err(AtomFault::TooLong)));
-    Ok(())
+    assert!(rt; keep_text(alloc, &[0, 22, 23, 255]) == Some(true));
+    assert!(rt; is_too_long(alloc, 256) == Some(true));
+}
+
+fn is_unprintable(alloc: Global, text: &str) -> bool {
+    matches!(Atom::new(alloc, text), Err(AtomFault::BadCharacter))
 }
 
 #[test]
 fn characters_of_atoms_are_printable(rt: HostRuntime) {
-    for text in ["\t", "é"] {
-        assert!(rt; matches!(Atom::new(rt.alloc(), text), Err(AtomFault::BadCharacter)), "{text}");
-    }
+    assert!(rt; is_unprintable(rt.alloc(), "\t") && is_unprintable(rt.alloc(), "é"));
 }
 
 /// Terms in rising order, each kind in its place.
-fn rising_parts(alloc: Global, terms: &mut Vec<Term>) -> Result<(), Fail> {
+fn push_parts(alloc: Global, terms: &mut Vec<Term>) -> Option<()> {
     for letters in ["", "z", "aa"] {
-        terms.push(tuple(alloc, letters)?)?;
+        terms.push(tuple(alloc, letters)?).ok()?;
     }
     for letters in ["", "a", "aa", "b"] {
-        terms.push(list(alloc, letters)?)?;
+        terms.push(list(alloc, letters)?).ok()?;
     }
     for text in ["", "1~", "2"] {
-        terms.push(binary(alloc, text.as_bytes())?)?;
+        terms.push(binary(alloc, text.as_bytes())?).ok()?;
     }
-    Ok(())
+    Some(())
 }
 
-fn rising(alloc: Global) -> Result<Vec<Term>, Fail> {
-    let mut terms = Vec::new(alloc);
+fn push_plain(alloc: Global, terms: &mut Vec<Term>) -> Option<()> {
     for n in [-1, 7] {
-        terms.push(Term::Int(n))?;
+        terms.push(Term::Int(n)).ok()?;
     }
     for text in ["", "a", "aa", "b"] {
-        terms.push(atom(alloc, text)?)?;
+        terms.push(atom(alloc, text)?).ok()?;
     }
     for n in [0, 1] {
-        terms.push(Term::Tid(n))?;
+        terms.push(Term::Tid(n)).ok()?;
     }
     for n in [0, 1] {
-        terms.push(Term::Pid(n))?;
+        terms.push(Term::Pid(n)).ok()?;
     }
-    rising_parts(alloc, &mut terms)?;
-    Ok(terms)
+    Some(())
 }
 
-#[test]
-fn terms_rise(rt: HostRuntime) -> Result<(), Fail> {
-    let terms = rising(rt.alloc())?;
-    assert_eq!(rt; terms.len(), 20);
+/// Whether terms compare as their places do.
+fn compare(low: (usize, &Term), high: (usize, &Term)) -> bool {
+    let (i, first) = low;
+    let (j, second) = high;
+    first.cmp_terms(second) == i.cmp(&j)
+        && (*first == *second) == (i == j)
+        && (*first < *second) == (i < j)
+}
+
+fn compares_with_all(terms: &[Term], i: usize, low: &Term) -> bool {
+    let mut all = true;
+    for (j, high) in terms.iter().enumerate() {
+        all = compare((i, low), (j, high)) && all;
+    }
+    all
+}
+
+/// The first of the terms that does not compare with all of them as its place says.
+fn misplaced(terms: &[Term]) -> Option<usize> {
     for (i, low) in terms.iter().enumerate() {
-        for (j, high) in terms.iter().enumerate() {
-            assert_eq!(rt; low.cmp_terms(high), i.cmp(&j), "{i} and {j}");
-            assert_eq!(rt; low == high, i == j);
-            assert_eq!(rt; low < high, i < j);
+        if !compares_with_all(terms, i, low) {
+            return Some(i);
         }
     }
-    Ok(())
+    None
 }
 
-/// Depth, and a copy that equals the term.
-fn is_of_depth(rt: &impl Abort, alloc: Global, term: &Term, depth: usize) -> Result<(), Fail> {
-    assert_eq!(rt; term.depth(), depth);
-    assert!(rt; term.try_clone(alloc)? == *term);
+fn rise(alloc: Global) -> Option<bool> {
+    let mut terms = Vec::new(alloc);
+    push_plain(alloc, &mut terms)?;
+    push_parts(alloc, &mut terms)?;
+    Some(terms.len() == 20 && misplaced(terms.as_slice()) == None)
+}
+
+#[test]
+fn terms_rise(rt: HostRuntime) {
+    assert!(rt; rise(rt.alloc()) == Some(true));
+}
+
+/// Whether a term is so deep, and a copy equals it.
+fn is_of_depth(alloc: Global, term: &Term, depth: usize) -> Option<bool> {
     term.fits();
     term.hashes_its_encoding();
-    Ok(())
+    Some(term.depth() == depth && term.try_clone(alloc).ok()? == *term)
 }
 
-/// A tuple and a list of these atoms.
-fn are_of_depth(rt: &impl Abort, alloc: Global, letters: &str, depth: usize) -> Result<(), Fail> {
-    is_of_depth(rt, alloc, &tuple(alloc, letters)?, depth)?;
-    is_of_depth(rt, alloc, &list(alloc, letters)?, depth)
+/// Whether a tuple and a list of these atoms are so deep.
+fn are_of_depth(alloc: Global, letters: &str, depth: usize) -> Option<bool> {
+    let tuple = is_of_depth(alloc, &tuple(alloc, letters)?, depth)?;
+    Some(tuple && is_of_depth(alloc, &list(alloc, letters)?, depth)?)
 }
 
-#[test]
-fn depths_and_copies(rt: HostRuntime) -> Result<(), Fail> {
-    let alloc = rt.alloc();
-    are_of_depth(&rt, alloc, "", 1)?;
-    are_of_depth(&rt, alloc, "ab", 2)?;
-    is_of_depth(&rt, alloc, &Term::Int(5), 1)?;
-    is_of_depth(&rt, alloc, &binary(alloc, &[0, 255])?, 1)
-}
-
-#[test]
-fn the_deepest_part_counts(rt: HostRuntime) -> Result<(), Fail> {
-    let alloc = rt.alloc();
+/// A list of an integer and a tuple of atoms.
+fn uneven(alloc: Global) -> Option<Term> {
     let mut parts = Items::new(alloc);
-    parts.push(Term::default())?;
-    parts.push(tuple(alloc, "ab")?)?;
-    is_of_depth(&rt, alloc, &Term::List(parts), 3)
+    parts.push(Term::default()).ok()?;
+    parts.push(tuple(alloc, "ab")?).ok()?;
+    Some(Term::List(parts))
+}
+
+/// The deepest part counts.
+fn other_terms_are_of_depth(alloc: Global) -> Option<bool> {
+    let int = is_of_depth(alloc, &Term::Int(5), 1)?;
+    let binary = is_of_depth(alloc, &binary(alloc, &[0, 255])?, 1)?;
+    Some(int && binary && is_of_depth(alloc, &uneven(alloc)?, 3)?)
+}
+
+#[test]
+fn depths_and_copies(rt: HostRuntime) {
+    let alloc = rt.alloc();
+    assert!(rt; are_of_depth(alloc, "", 1) == Some(true));
+    assert!(rt; are_of_depth(alloc, "ab", 2) == Some(true));
+    assert!(rt; other_terms_are_of_depth(alloc) == Some(true));
 }
 
 /// A list within a list, so many levels deep.
-fn nested(alloc: Global, levels: usize) -> Result<Term, Fail> {
+fn nested(alloc: Global, levels: usize) -> Option<Term> {
     let mut term = Term::List(Items::new(alloc));
     for _ in 1..levels {
         let mut outer = Items::new(alloc);
-        outer.push(term)?;
+        outer.push(term).ok()?;
         term = Term::List(outer);
     }
-    Ok(term)
+    Some(term)
 }
 
-#[test]
-fn deep_and_long_terms_are_copied(rt: HostRuntime) -> Result<(), Fail> {
-    let alloc = rt.alloc();
-    for levels in [4, 9, 17, 33, 65, 128, 129, 2000] {
-        let term = nested(alloc, levels)?;
-        is_of_depth(&rt, alloc, &term, levels)?;
-        assert_eq!(rt; term.is_too_deep(), levels > MAX_DEPTH);
+fn is_nested(alloc: Global, term: &Term, levels: usize) -> Option<bool> {
+    Some(is_of_depth(alloc, term, levels)? && term.is_too_deep() == (levels > MAX_DEPTH))
+}
+
+/// The first of these numbers of levels at which a nested term is not so deep.
+fn misnested(alloc: Global, rows: &[usize]) -> Option<Option<usize>> {
+    for levels in rows {
+        if !is_nested(alloc, &nested(alloc, *levels)?, *levels)? {
+            return Some(Some(*levels));
+        }
     }
-    let mut long = Items::new(alloc);
-    for n in 0..70_000 {
-        long.push(Term::Int(n))?;
+    Some(None)
+}
+
+const LEVELS: [usize; 8] = [4, 9, 17, 33, 65, 128, 129, 2000];
+
+#[test]
+fn deep_terms_are_copied(rt: HostRuntime) {
+    assert!(rt; misnested(rt.alloc(), &LEVELS) == Some(None));
+}
+
+fn long_tuple(alloc: Global, count: i64) -> Option<Term> {
+    let mut items = Items::new(alloc);
+    for n in 0..count {
+        items.push(Term::Int(n)).ok()?;
     }
-    is_of_depth(&rt, alloc, &Term::Tuple(long), 2)
+    Some(Term::Tuple(items))
+}
+
+fn long_tuple_is_copied(alloc: Global) -> Option<bool> {
+    is_of_depth(alloc, &long_tuple(alloc, 70_000)?, 2)
 }
 
 #[test]
-fn an_atom_has_its_text_alone(rt: HostRuntime) -> Result<(), Fail> {
-    let alloc = rt.alloc();
-    assert!(rt; atom(alloc, "ab")?.is_atom("ab"));
-    assert!(rt; !atom(alloc, "ab")?.is_atom("a"));
-    assert!(rt; !tuple(alloc, "a")?.is_atom("a"));
-    Ok(())
+fn long_terms_are_copied(rt: HostRuntime) {
+    assert!(rt; long_tuple_is_copied(rt.alloc()) == Some(true));
+}
+
+fn has_text_alone(alloc: Global) -> Option<bool> {
+    let own = atom(alloc, "ab")?;
+    Some(own.is_atom("ab") && !own.is_atom("a") && !tuple(alloc, "a")?.is_atom("a"))
 }
 
 #[test]
-fn elements_count_from_one(rt: HostRuntime) -> Result<(), Fail> {
-    let pair = tuple(rt.alloc(), "ab")?;
-    assert!(rt; pair.element(0).is_none());
-    assert!(rt; pair.element(1).is_some_and(|it| it.is_atom("a")));
-    assert!(rt; pair.element(2).is_some_and(|it| it.is_atom("b")));
-    assert!(rt; pair.element(3).is_none());
-    Ok(())
+fn an_atom_has_its_text_alone(rt: HostRuntime) {
+    assert!(rt; has_text_alone(rt.alloc()) == Some(true));
+}
+
+fn is_atom_at(term: &Term, position: usize, text: &str) -> bool {
+    match term.element(position) {
+        Some(element) => element.is_atom(text),
+        None => false,
+    }
+}
+
+fn pair_has_two(pair: &Term) -> bool {
+    pair.element(0).is_none()
+        && is_atom_at(pair, 1, "a")
+        && is_atom_at(pair, 2, "b")
+        && pair.element(3).is_none()
+}
+
+/// Whether a pair of atoms has two elements, and a list has none.
+fn have_elements(alloc: Global) -> Option<bool> {
+    let pair = pair_has_two(&tuple(alloc, "ab")?);
+    Some(pair && list(alloc, "ab")?.element(1).is_none())
 }
 
 #[test]
-fn lists_have_no_elements(rt: HostRuntime) -> Result<(), Fail> {
-    let two = list(rt.alloc(), "ab")?;
-    assert!(rt; two.element(1).is_none());
-    Ok(())
+fn elements_count_from_one(rt: HostRuntime) {
+    assert!(rt; have_elements(rt.alloc()) == Some(true));
 }
 
 /// The hash of a term by the library's hasher.
@@ -205,49 +278,60 @@ fn hashed(term: &Term) -> u64 {
     hasher.finish()
 }
 
-#[test]
-fn hashes_take_the_encoding(rt: HostRuntime) -> Result<(), Fail> {
-    let mut by_bytes = DefaultHasher::new();
-    by_bytes.write(&[2, 1, 97]);
-    let a = atom(rt.alloc(), "a")?;
-    assert_eq!(rt; hashed(&a), by_bytes.finish());
-    Ok(())
+fn hashed_bytes(bytes: &[u8]) -> u64 {
+    let mut hasher = DefaultHasher::new();
+    hasher.write(bytes);
+    hasher.finish()
+}
+
+fn hash_of_an_atom(alloc: Global, text: &str) -> Option<u64> {
+    Some(hashed(&atom(alloc, text)?))
 }
 
 #[test]
-fn hashes_tell_tuples_from_lists(rt: HostRuntime) -> Result<(), Fail> {
-    let alloc = rt.alloc();
+fn hashes_take_the_encoding(rt: HostRuntime) {
+    assert!(rt; hash_of_an_atom(rt.alloc(), "a") == Some(hashed_bytes(&[2, 1, 97])));
+}
+
+fn hash_apart(pair: &Term, again: &Term, other: &Term) -> bool {
+    AllSame.hash32(pair) == 0
+        && Fnv.hash32(pair) == Fnv.hash32(again)
+        && Fnv.hash32(pair) != Fnv.hash32(other)
+}
+
+fn tuple_and_list_hash_apart(alloc: Global) -> Option<bool> {
     let pair = tuple(alloc, "ab")?;
     let again = tuple(alloc, "ab")?;
-    let other = list(alloc, "ab")?;
-    assert_eq!(rt; AllSame.hash32(&pair), 0);
-    assert_eq!(rt; Fnv.hash32(&pair), Fnv.hash32(&again));
-    assert!(rt; Fnv.hash32(&pair) != Fnv.hash32(&other));
-    Ok(())
-}
-
-fn push_all(items: &mut Items<u8>, numbers: &[u8]) -> Result<(), Fail> {
-    for n in numbers {
-        items.push(*n)?;
-    }
-    Ok(())
+    Some(hash_apart(&pair, &again, &list(alloc, "ab")?))
 }
 
 #[test]
-fn items_are_a_list(rt: HostRuntime) -> Result<(), Fail> {
-    let mut items = Items::new(rt.alloc());
-    assert!(rt; items.is_empty());
-    push_all(&mut items, &[1, 2, 3])?;
-    assert_eq!(rt; items.pop(), Some(3));
-    assert_eq!(rt; items.len(), 2);
-    assert_eq!(rt; items.get(1), Some(&2));
-    assert_eq!(rt; items.as_slice(), [1, 2].as_slice());
-    assert_eq!(rt; items.into_vec().as_slice(), [1, 2].as_slice());
-    Ok(())
+fn hashes_tell_tuples_from_lists(rt: HostRuntime) {
+    assert!(rt; tuple_and_list_hash_apart(rt.alloc()) == Some(true));
+}
+
+/// Whether items grow by three numbers and lose the last.
+fn grow_and_shrink(items: &mut Items<u8>) -> Option<bool> {
+    let empty = items.is_empty();
+    for n in [1, 2, 3] {
+        items.push(n).ok()?;
+    }
+    let last = items.pop() == Some(3) && items.len() == 2;
+    Some(empty && last && items.get(1) == Some(&2) && items.as_slice() == [1, 2].as_slice())
+}
+
+fn are_a_list(alloc: Global) -> Option<bool> {
+    let mut items = Items::new(alloc);
+    let grown = grow_and_shrink(&mut items)?;
+    Some(grown && items.into_vec().as_slice() == [1, 2].as_slice())
+}
+
+#[test]
+fn items_are_a_list(rt: HostRuntime) {
+    assert!(rt; are_a_list(rt.alloc()) == Some(true));
 }
 
 #[test]
 fn sizes(rt: HostRuntime) {
-    assert_eq!(rt; size_of::<Atom>(), 24);
-    assert_eq!(rt; size_of::<Term>(), 32);
+    assert!(rt; size_of::<Atom>() == 24 && size_of::<Term>() == 32);
 }

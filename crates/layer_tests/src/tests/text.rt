@@ -4,33 +4,43 @@ mod long;
 mod reference;
 
 use ets_term::Term;
-use std::alloc::Global;
+use std::alloc::{AllocError, Global};
 use std::io::{self, Error, ErrorKind, Write};
 use std::process::Abort;
-use std::test::Fail;
 use term_text::{WriteFault, print_term, read_term, read_term_bytes, write_term};
 
+fn printed(alloc: Global, term: &Term, taken: usize) -> Result<String, AllocError> {
+    let mut text = String::new(alloc);
+    print_term(alloc, term, &mut text)?;
+    format!(in alloc; "{text} {taken}")
+}
+
 /// What the text gives: the printed term and how many bytes it took, or the fault.
-fn given(alloc: Global, text: &str) -> Result<String, Fail> {
-    match read_term(alloc, text) {
-        Ok((term, n)) => {
-            let mut printed = String::new(alloc);
-            print_term(alloc, &term, &mut printed)?;
-            Ok(format!(in alloc; "{printed} {n}")?)
+fn given(alloc: Global, text: &[u8]) -> Result<String, AllocError> {
+    match read_term_bytes(alloc, text) {
+        Ok((term, taken)) => printed(alloc, &term, taken),
+        Err(fault) => format!(in alloc; "{fault:?}"),
+    }
+}
+
+fn gives(alloc: Global, text: &str, wanted: &str) -> Result<bool, AllocError> {
+    Ok(given(alloc, text.as_bytes())?.as_str() == wanted)
+}
+
+/// The first text that gives another than is wanted of it.
+fn wrong(
+    alloc: Global,
+    rows: &[(&'static str, &'static str)],
+) -> Result<Option<&'static str>, AllocError> {
+    for (text, wanted) in rows {
+        if !gives(alloc, *text, *wanted)? {
+            return Ok(Some(*text));
         }
-        Err(fault) => Ok(format!(in alloc; "{fault:?}")?),
     }
+    Ok(None)
 }
 
-fn gives(rt: &impl Abort, alloc: Global, rows: &[(&str, &str)]) -> Result<(), Fail> {
-    for (text, want) in rows {
-        let got = given(alloc, text)?;
-        assert_eq!(rt; got.as_str(), *want, "of {text}");
-    }
-    Ok(())
-}
-
-fn repeated(alloc: Global, part: &str, count: usize) -> Result<String, Fail> {
+fn repeated(alloc: Global, part: &str, count: usize) -> Result<String, AllocError> {
     let mut text = String::new(alloc);
     for _ in 0..count {
         text.push_str(part)?;
@@ -38,93 +48,84 @@ fn repeated(alloc: Global, part: &str, count: usize) -> Result<String, Fail> {
     Ok(text)
 }
 
-#[test]
-fn numbers_and_atoms(rt: HostRuntime) -> Result<(), Fail> {
-    let alloc = rt.alloc();
-    gives(
-        &rt,
-        alloc,
-        &[
-            ("007 ", "7 3"),
-            ("-0", "0 2"),
-            ("-", "Unclosed(1)"),
-            ("- 1", "Unexpected(1)"),
-            ("9223372036854775807", "9223372036854775807 19"),
-            ("9223372036854775808", "OutOfRange(0)"),
-            ("-9223372036854775808", "-9223372036854775808 20"),
-            (" -9223372036854775809", "OutOfRange(1)"),
-            ("a@B_9-", "a@B_9 5"),
-            ("aé", "a 1"),
-            ("é", "Unexpected(0)"),
-            ("Ab", "Unexpected(0)"),
-            ("'Hello World'", "'Hello World' 13"),
-            ("'plain'", "plain 7"),
-            ("''", "'' 2"),
-            ("'\\\\\\''", "'\\\\\\'' 6"),
-            ("'abc", "Unclosed(4)"),
-            ("'a\\n'", "Unexpected(3)"),
-            ("'a\\\"'", "Unexpected(3)"),
-            ("'a\t'", "Unexpected(2)"),
-            ("", "Unclosed(0)"),
-            (" \t\r\n", "Unclosed(4)"),
-        ],
-    )
-}
+const NUMBERS_AND_ATOMS: [(&str, &str); 22] = [
+    ("007 ", "7 3"),
+    ("-0", "0 2"),
+    ("-", "Unclosed(1)"),
+    ("- 1", "Unexpected(1)"),
+    ("9223372036854775807", "9223372036854775807 19"),
+    ("9223372036854775808", "OutOfRange(0)"),
+    ("-9223372036854775808", "-9223372036854775808 20"),
+    (" -9223372036854775809", "OutOfRange(1)"),
+    ("a@B_9-", "a@B_9 5"),
+    ("aé", "a 1"),
+    ("é", "Unexpected(0)"),
+    ("Ab", "Unexpected(0)"),
+    ("'Hello World'", "'Hello World' 13"),
+    ("'plain'", "plain 7"),
+    ("''", "'' 2"),
+    ("'\\\\\\''", "'\\\\\\'' 6"),
+    ("'abc", "Unclosed(4)"),
+    ("'a\\n'", "Unexpected(3)"),
+    ("'a\\\"'", "Unexpected(3)"),
+    ("'a\t'", "Unexpected(2)"),
+    ("", "Unclosed(0)"),
+    (" \t\r\n", "Unclosed(4)"),
+];
 
 #[test]
-fn brackets_and_strings(rt: HostRuntime) -> Result<(), Fail> {
-    let alloc = rt.alloc();
-    gives(
-        &rt,
-        alloc,
-        &[
-            (" {}x", "{} 3"),
-            ("[a,]", "Unexpected(3)"),
-            ("[,a]", "Unexpected(1)"),
-            ("[a}", "Unexpected(2)"),
-            ("[a,", "Unclosed(3)"),
-            ("[ 1 ,{ } , [] ]", "[1,{},[]] 15"),
-            (
-                "{key123,456,[1,2,3],'Hello World'}",
-                "{key123,456,[1,2,3],'Hello World'} 34",
-            ),
-            ("\"ab\"", "[97,98] 4"),
-            ("\"\"", "[] 2"),
-            ("\"a\\'\"", "Unexpected(3)"),
-            ("\"a\\\"\"", "[97,34] 5"),
-        ],
-    )
+fn numbers_and_atoms(rt: HostRuntime) {
+    assert_eq!(rt; wrong(rt.alloc(), &NUMBERS_AND_ATOMS), Ok(None));
 }
 
+const BRACKETS_AND_STRINGS: [(&str, &str); 11] = [
+    (" {}x", "{} 3"),
+    ("[a,]", "Unexpected(3)"),
+    ("[,a]", "Unexpected(1)"),
+    ("[a}", "Unexpected(2)"),
+    ("[a,", "Unclosed(3)"),
+    ("[ 1 ,{ } , [] ]", "[1,{},[]] 15"),
+    (
+        "{key123,456,[1,2,3],'Hello World'}",
+        "{key123,456,[1,2,3],'Hello World'} 34",
+    ),
+    ("\"ab\"", "[97,98] 4"),
+    ("\"\"", "[] 2"),
+    ("\"a\\'\"", "Unexpected(3)"),
+    ("\"a\\\"\"", "[97,34] 5"),
+];
+
 #[test]
-fn binaries_pids_and_identifiers(rt: HostRuntime) -> Result<(), Fail> {
-    let alloc = rt.alloc();
-    gives(
-        &rt,
-        alloc,
-        &[
-            ("<<256>>", "OutOfRange(2)"),
-            ("<< 1, 2 >>", "<<1,2>> 10"),
-            ("<<0255>>", "<<255>> 8"),
-            ("<< >>", "<<>> 5"),
-            ("<<1 >", "Unclosed(5)"),
-            ("<<1> >", "Unexpected(4)"),
-            ("<<-1>>", "Unexpected(2)"),
-            ("<<\"hi\" >>", "<<104,105>> 9"),
-            ("<<\"a\",1>>", "Unexpected(5)"),
-            ("<<1,\"a\">>", "Unexpected(4)"),
-            ("<0.007.0>", "<0.7.0> 9"),
-            ("<0.7.1>", "Unexpected(5)"),
-            ("<00.7.0>", "Unexpected(2)"),
-            ("<0.7.00>", "Unexpected(6)"),
-            ("<0.4294967296.0>", "OutOfRange(3)"),
-            ("<0.", "Unclosed(3)"),
-            ("< 0", "Unexpected(1)"),
-            ("#Tid<4294967295>", "#Tid<4294967295> 16"),
-            ("#Tid<4294967296>", "OutOfRange(5)"),
-            ("#tid", "Unexpected(1)"),
-        ],
-    )
+fn brackets_and_strings(rt: HostRuntime) {
+    assert_eq!(rt; wrong(rt.alloc(), &BRACKETS_AND_STRINGS), Ok(None));
+}
+
+const BINARIES_PIDS_AND_IDENTIFIERS: [(&str, &str); 20] = [
+    ("<<256>>", "OutOfRange(2)"),
+    ("<< 1, 2 >>", "<<1,2>> 10"),
+    ("<<0255>>", "<<255>> 8"),
+    ("<< >>", "<<>> 5"),
+    ("<<1 >", "Unclosed(5)"),
+    ("<<1> >", "Unexpected(4)"),
+    ("<<-1>>", "Unexpected(2)"),
+    ("<<\"hi\" >>", "<<104,105>> 9"),
+    ("<<\"a\",1>>", "Unexpected(5)"),
+    ("<<1,\"a\">>", "Unexpected(4)"),
+    ("<0.007.0>", "<0.7.0> 9"),
+    ("<0.7.1>", "Unexpected(5)"),
+    ("<00.7.0>", "Unexpected(2)"),
+    ("<0.7.00>", "Unexpected(6)"),
+    ("<0.4294967296.0>", "OutOfRange(3)"),
+    ("<0.", "Unclosed(3)"),
+    ("< 0", "Unexpected(1)"),
+    ("#Tid<4294967295>", "#Tid<4294967295> 16"),
+    ("#Tid<4294967296>", "OutOfRange(5)"),
+    ("#tid", "Unexpected(1)"),
+];
+
+#[test]
+fn binaries_pids_and_identifiers(rt: HostRuntime) {
+    assert_eq!(rt; wrong(rt.alloc(), &BINARIES_PIDS_AND_IDENTIFIERS), Ok(None));
 }
 
 /// A start, a part so often and an end, and what the text of them gives.
@@ -149,46 +150,66 @@ const LONG: [LongRow; 9] = [
     ("'", "a", 255, "\\", "AtomTooLong(0)"),
 ];
 
-fn given_long(
+fn long_text(
     alloc: Global,
     start: &str,
     part: &str,
     count: usize,
     end: &str,
-) -> Result<String, Fail> {
+) -> Result<String, AllocError> {
     let mut text = String::from_str(alloc, start)?;
     text.push_str(repeated(alloc, part, count)?.as_str())?;
     text.push_str(end)?;
-    given(alloc, text.as_str())
+    Ok(text)
 }
 
-#[test]
-fn past_the_levels_and_lengths(rt: HostRuntime) -> Result<(), Fail> {
-    for (start, part, count, end, want) in LONG {
-        let got = given_long(rt.alloc(), start, part, count, end)?;
-        assert_eq!(rt; got.as_str(), want, "of {start}{part}..{end}");
+fn gives_long(alloc: Global, row: LongRow) -> Result<bool, AllocError> {
+    let (start, part, count, end, wanted) = row;
+    let text = long_text(alloc, start, part, count, end)?;
+    gives(alloc, text.as_str(), wanted)
+}
+
+/// The first long text that gives another than is wanted of it: which one it is.
+fn wrong_long(alloc: Global, rows: &[LongRow]) -> Result<Option<usize>, AllocError> {
+    for (i, row) in rows.iter().enumerate() {
+        if !gives_long(alloc, *row)? {
+            return Ok(Some(i));
+        }
     }
-    Ok(())
+    Ok(None)
 }
 
 #[test]
-fn the_longest_atom(rt: HostRuntime) -> Result<(), Fail> {
-    let alloc = rt.alloc();
-    let mut printed = repeated(alloc, "a", 255)?;
-    printed.push_str(" 257")?;
-    let got = given_long(alloc, "'", "a", 255, "'")?;
-    assert_eq!(rt; got.as_str(), printed.as_str());
-    Ok(())
+fn past_the_levels_and_lengths(rt: HostRuntime) {
+    assert_eq!(rt; wrong_long(rt.alloc(), &LONG), Ok(None));
+}
+
+fn longest_atom_is_read(alloc: Global) -> Result<bool, AllocError> {
+    let text = long_text(alloc, "'", "a", 255, "'")?;
+    let printed = long_text(alloc, "", "a", 255, " 257")?;
+    gives(alloc, text.as_str(), printed.as_str())
 }
 
 #[test]
-fn the_deepest_term(rt: HostRuntime) -> Result<(), Fail> {
-    let alloc = rt.alloc();
-    let mut whole = repeated(alloc, "[", 128)?;
-    whole.push_str(repeated(alloc, "]", 128)?.as_str())?;
-    let (term, n) = read_term_bytes(alloc, whole.as_bytes())?;
-    assert_eq!(rt; (term.depth(), n), (128, 256));
-    Ok(())
+fn the_longest_atom(rt: HostRuntime) {
+    assert!(rt; longest_atom_is_read(rt.alloc()) == Ok(true));
+}
+
+fn deepest_term(alloc: Global) -> Result<String, AllocError> {
+    let closing = repeated(alloc, "]", 128)?;
+    long_text(alloc, "", "[", 128, closing.as_str())
+}
+
+/// The depth of a term and how many bytes it took.
+fn depth_of_deepest(alloc: Global) -> Option<(usize, usize)> {
+    let text = deepest_term(alloc).ok()?;
+    let (term, taken) = read_term_bytes(alloc, text.as_bytes()).ok()?;
+    Some((term.depth(), taken))
+}
+
+#[test]
+fn the_deepest_term(rt: HostRuntime) {
+    assert!(rt; depth_of_deepest(rt.alloc()) == Some((128, 256)));
 }
 
 /// A writer that takes at most so many bytes a write, and fails at its k-th.
@@ -230,30 +251,44 @@ fn leaves_a_front(alloc: Global, term: &Term, text: &str, left: usize) -> bool {
 }
 
 /// Whether the text of a term is this.
-fn writes(alloc: Global, term: &Term, text: &str) -> Result<bool, Fail> {
+fn writes(alloc: Global, term: &Term, text: &str) -> bool {
     let mut whole = Vec::new(alloc);
-    write_term(term, &mut whole)?;
-    Ok(whole.as_slice() == text.as_bytes())
+    write_term(term, &mut whole).is_ok() && whole.as_slice() == text.as_bytes()
+}
+
+fn leaves_each_front(alloc: Global, term: &Term, text: &str) -> bool {
+    for left in 0..text.len() {
+        if !leaves_a_front(alloc, term, text, left) {
+            return false;
+        }
+    }
+    true
+}
+
+/// Whether a term of a text is written as this text, and a fault leaves a front of it.
+fn is_written(alloc: Global, text: &str) -> bool {
+    match read_term(alloc, text) {
+        Ok((term, _)) => writes(alloc, &term, text) && leaves_each_front(alloc, &term, text),
+        Err(_) => false,
+    }
 }
 
 #[test]
-fn a_fault_leaves_a_front_of_the_text(rt: HostRuntime) -> Result<(), Fail> {
-    let alloc = rt.alloc();
-    let text = "{a,'B',[<0.1.0>,#Tid<2>],<<1,2>>,-3}";
-    let (term, _) = read_term(alloc, text)?;
-    assert!(rt; writes(alloc, &term, text)?);
-    for left in 0..text.len() {
-        assert!(rt; leaves_a_front(alloc, &term, text, left), "of {left}");
-    }
-    Ok(())
+fn a_fault_leaves_a_front_of_the_text(rt: HostRuntime) {
+    assert!(rt; is_written(rt.alloc(), "{a,'B',[<0.1.0>,#Tid<2>],<<1,2>>,-3}"));
+}
+
+/// Whether a writer that takes nothing is a fault.
+fn is_stuck(alloc: Global) -> bool {
+    let mut stuck = Failing {
+        taken: Vec::new(alloc),
+        most: 0,
+        left: 9,
+    };
+    matches!(write_term(&Term::Int(7), &mut stuck), Err(WriteFault::Zero))
 }
 
 #[test]
 fn a_writer_that_takes_nothing_is_a_fault(rt: HostRuntime) {
-    let mut stuck = Failing {
-        taken: Vec::new(rt.alloc()),
-        most: 0,
-        left: 9,
-    };
-    assert!(rt; matches!(write_term(&Term::Int(7), &mut stuck), Err(WriteFault::Zero)));
+    assert!(rt; is_stuck(rt.alloc()));
 }

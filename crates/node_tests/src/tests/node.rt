@@ -5,16 +5,13 @@ use ets_term::{AllSame, Fnv, KeyHash, Term};
 use node_core::{Call, Limits, Node, Reply, Step};
 use std::alloc::{AllocError, Global};
 
+mod depths;
 mod growth;
-mod insertion;
 mod long;
 mod processes;
 mod refused;
-mod searching;
 mod tables;
-mod updates;
 mod walk_among;
-mod walking;
 
 /// A step, told.
 #[derive(Clone, Copy)]

@@ -174,3 +174,16 @@ fn wrong(alloc: Global, rows: &[Row]) -> Result<Option<usize>, AllocError> {
     let mut world = World::new(alloc, 3, 4);
     wrong_in(alloc, &mut world, rows)
 }
+
+/// The places of the first life, and of the row in it, that a new world answers otherwise.
+fn wrong_life(
+    alloc: Global,
+    lives: &[&'static [Row]],
+) -> Result<Option<(usize, usize)>, AllocError> {
+    for (life, rows) in lives.iter().enumerate() {
+        if let Some(row) = wrong(alloc, *rows)? {
+            return Ok(Some((life, row)));
+        }
+    }
+    Ok(None)
+}

@@ -5,7 +5,7 @@ use bucket_table::{Entry, Growth, PlainRows, Readying, Rows, SplitRows};
 use ets_term::{AllSame, Fnv, KeyHash, Term};
 use node_list::{Chain, Steps};
 use std::alloc::{AllocError, Global};
-use std::test::Fail;
+use std::process::Abort;
 
 mod calls;
 mod growth;

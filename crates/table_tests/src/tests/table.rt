@@ -3,7 +3,6 @@
 use bucket_table::{PlainRows, Rows, SplitRows};
 use ets_term::{AllSame, Fnv};
 use std::alloc::Global;
-use std::test::Fail;
 use steps::change;
 use table_ops::{Kind, Table};
 
@@ -75,42 +74,47 @@ fn plain(alloc: Global, kind: Kind, keypos: u32, limit: u32) -> Table<PlainRows>
     Table::new(alloc, PlainRows::new(alloc), kind, keypos.max(1), limit)
 }
 
-fn split(
-    alloc: Global,
-    kind: Kind,
-    keypos: u32,
-    limit: u32,
-) -> Result<Table<SplitRows<Fnv>>, Fail> {
-    let rows = SplitRows::new(alloc, Fnv)?;
-    Ok(Table::new(alloc, rows, kind, keypos.max(1), limit))
+fn split(alloc: Global, kind: Kind, keypos: u32, limit: u32) -> Option<Table<SplitRows<Fnv>>> {
+    let rows = SplitRows::new(alloc, Fnv).ok()?;
+    Some(Table::new(alloc, rows, kind, keypos.max(1), limit))
 }
 
 /// With one hash for all keys.
-fn same(
-    alloc: Global,
-    kind: Kind,
-    keypos: u32,
-    limit: u32,
-) -> Result<Table<SplitRows<AllSame>>, Fail> {
-    let rows = SplitRows::new(alloc, AllSame)?;
-    Ok(Table::new(alloc, rows, kind, keypos.max(1), limit))
+fn same(alloc: Global, kind: Kind, keypos: u32, limit: u32) -> Option<Table<SplitRows<AllSame>>> {
+    let rows = SplitRows::new(alloc, AllSame).ok()?;
+    Some(Table::new(alloc, rows, kind, keypos.max(1), limit))
 }
 
-/// Whether each step has its answer over each form of rows.
-fn all_run_at(
-    alloc: Global,
-    kind: Kind,
-    keypos: u32,
-    limit: u32,
-    steps: &[(Step, i64)],
-) -> Result<bool, Fail> {
-    let on_plain = runs(alloc, &mut plain(alloc, kind, keypos, limit), steps);
-    let on_split = runs(alloc, &mut split(alloc, kind, keypos, limit)?, steps);
-    let on_same = runs(alloc, &mut same(alloc, kind, keypos, limit)?, steps);
-    Ok(on_plain && on_split && on_same)
+/// A table, by its kind, where the key stands and how many objects it may have; and steps on it, with their answers.
+type Life = (Kind, u32, u32, &'static [(Step, i64)]);
+
+fn plain_runs(alloc: Global, life: Life) -> bool {
+    let (kind, keypos, limit, steps) = life;
+    runs(alloc, &mut plain(alloc, kind, keypos, limit), steps)
 }
 
-/// The same where the key stands first.
-fn all_run(alloc: Global, kind: Kind, limit: u32, steps: &[(Step, i64)]) -> Result<bool, Fail> {
-    all_run_at(alloc, kind, 1, limit, steps)
+fn split_runs(alloc: Global, life: Life) -> Option<bool> {
+    let (kind, keypos, limit, steps) = life;
+    Some(runs(alloc, &mut split(alloc, kind, keypos, limit)?, steps))
+}
+
+fn same_runs(alloc: Global, life: Life) -> Option<bool> {
+    let (kind, keypos, limit, steps) = life;
+    Some(runs(alloc, &mut same(alloc, kind, keypos, limit)?, steps))
+}
+
+fn all_run(alloc: Global, life: Life) -> bool {
+    plain_runs(alloc, life)
+        && split_runs(alloc, life) == Some(true)
+        && same_runs(alloc, life) == Some(true)
+}
+
+/// The place of the first life that goes otherwise over one of the forms of rows.
+fn wrong(alloc: Global, lives: &[Life]) -> Option<usize> {
+    for (place, life) in lives.iter().enumerate() {
+        if !all_run(alloc, *life) {
+            return Some(place);
+        }
+    }
+    None
 }

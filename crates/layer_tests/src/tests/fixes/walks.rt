@@ -19,21 +19,25 @@ struct Beside {
 }
 
 impl Beside {
-    fn new(alloc: Global, keys: u32) -> Result<Beside, Fail> {
-        let mut values = Vec::new(alloc);
-        let mut stayed = Vec::new(alloc);
-        let mut came = Vec::new(alloc);
-        for key in 0..keys {
-            values.push(u32::from(key < keys / 2))?;
-            stayed.push(key < keys / 2)?;
-            came.push(false)?;
-        }
-        Ok(Beside {
+    fn new(alloc: Global, keys: u32) -> Option<Beside> {
+        let mut beside = Beside {
             keys,
-            values,
-            stayed,
-            came,
-        })
+            values: Vec::new(alloc),
+            stayed: Vec::new(alloc),
+            came: Vec::new(alloc),
+        };
+        beside.fill()?;
+        Some(beside)
+    }
+
+    fn fill(&mut self) -> Option<()> {
+        for key in 0..self.keys {
+            let has = key < self.keys / 2;
+            self.values.push(u32::from(has)).ok()?;
+            self.stayed.push(has).ok()?;
+            self.came.push(false).ok()?;
+        }
+        Some(())
     }
 
     fn values(&self, key: u32) -> u32 {
@@ -85,7 +89,7 @@ fn put<R: Rows>(
     beside: &mut Beside,
     key: u32,
     value: u32,
-) -> Result<bool, Fail> {
+) -> Option<bool> {
     let before = if table.kind() == Kind::Set {
         0
     } else {
@@ -102,10 +106,10 @@ fn delete_object<R: Rows>(
     beside: &mut Beside,
     key: u32,
     value: u32,
-) -> Result<bool, Fail> {
+) -> Option<bool> {
     beside.set(key, beside.values(key) & !value);
     let object = object(alloc, Integer::from(key), Integer::from(value))?;
-    Ok(table.delete_object(&object).is_ok())
+    Some(table.delete_object(&object).is_ok())
 }
 
 fn delete<R: Rows>(table: &mut Walked<R>, beside: &mut Beside, key: u32) -> bool {
@@ -121,7 +125,7 @@ fn renew<R: Rows>(
     beside: &mut Beside,
     key: u32,
     value: u32,
-) -> Result<bool, Fail> {
+) -> Option<bool> {
     table.delete_key(&Term::Int(Integer::from(key)));
     beside.set(key, value);
     insert(alloc, table, Integer::from(key), Integer::from(value))
@@ -133,39 +137,40 @@ fn meddle<R: Rows>(
     table: &mut Walked<R>,
     beside: &mut Beside,
     seed: u64,
-) -> Result<bool, Fail> {
+) -> Option<bool> {
     let key = ((seed >> 33) as u32).checked_rem(beside.keys).unwrap_or(0);
     let value = 1u32 << ((seed >> 30) % 3);
     match (seed >> 20) % 10 {
         0 | 1 => put(alloc, table, beside, key, value),
-        2 | 3 => Ok(delete(table, beside, key)),
+        2 | 3 => Some(delete(table, beside, key)),
         4 => delete_object(alloc, table, beside, key, value),
         5 | 6 => renew(alloc, table, beside, key, value),
         7 => {
-            let _ = table.ready((seed >> 52) as u32)?;
-            Ok(true)
+            let _ = table.ready((seed >> 52) as u32).ok()?;
+            Some(true)
         }
         _ => {
             grow(table)?;
-            Ok(true)
+            Some(true)
         }
     }
 }
 
+/// Ten steps, and the seed behind them; None where one fails.
 fn meddle_often<R: Rows>(
     alloc: Global,
     table: &mut Walked<R>,
     beside: &mut Beside,
     seed: u64,
-) -> Result<Option<u64>, Fail> {
+) -> Option<u64> {
     let mut seed = seed;
     for _ in 0..10 {
         seed = stirred(seed);
         if !meddle(alloc, table, beside, seed)? {
-            return Ok(None);
+            return None;
         }
     }
-    Ok(Some(seed))
+    Some(seed)
 }
 
 /// The key behind one, or the first; None at the end.
@@ -186,30 +191,21 @@ fn next<R: Rows>(table: &Walked<R>, last: Option<u32>) -> Result<Option<u32>, Ba
 
 /// How many keys came, with ten steps of others between any two of them; None where a call failed, or a key came for
 /// the second time or without objects.
-fn walked<R: Rows>(
-    alloc: Global,
-    table: &mut Walked<R>,
-    beside: &mut Beside,
-) -> Result<Option<u32>, Fail> {
+fn walked<R: Rows>(alloc: Global, table: &mut Walked<R>, beside: &mut Beside) -> Option<u32> {
     let mut seed = 20251122;
     let mut last = None;
     for count in 0..=beside.keys {
-        let Ok(found) = next(table, last) else {
-            return Ok(None);
-        };
+        let found = next(table, last).ok()?;
         let Some(key) = found else {
-            return Ok(Some(count));
+            return Some(count);
         };
         if !beside.comes(key) {
-            return Ok(None);
+            return None;
         }
-        let Some(after) = meddle_often(alloc, table, beside, seed)? else {
-            return Ok(None);
-        };
-        seed = after;
+        seed = meddle_often(alloc, table, beside, seed)?;
         last = found;
     }
-    Ok(None)
+    None
 }
 
 /// Whether each key has as many objects as it should.
@@ -232,80 +228,70 @@ fn is_purged<R: Rows>(table: &mut Walked<R>, present: usize) -> bool {
     held && kept && !table.is_fixed() && table.slots() == present
 }
 
-/// Why a walk over a table of half of so many keys is not whole; None where it is.
-fn wrong<R: Rows>(
-    alloc: Global,
-    table: &mut Walked<R>,
-    keys: u32,
-) -> Result<Option<&'static str>, Fail> {
-    let mut beside = Beside::new(alloc, keys)?;
-    for key in 0..keys / 2 {
+fn fill<R: Rows>(alloc: Global, table: &mut Walked<R>, keys: u32) -> Option<bool> {
+    for key in 0..keys {
         if !insert(alloc, table, Integer::from(key), 1)? {
-            return Ok(Some("a key is not inserted"));
+            return Some(false);
         }
     }
-    table.fix(7)?;
-    table.fix(8)?;
-    let Some(count) = walked(alloc, table, &mut beside)? else {
-        return Ok(Some("a key comes twice, or without objects, or a call fails"));
-    };
-    let (stayed, came) = beside.stayed();
-    if came != stayed {
-        return Ok(Some("a key that stayed does not come"));
-    }
-    if stayed < keys as usize / 20 || count < keys / 2 {
-        return Ok(Some("too few keys stay or come"));
-    }
-    if !agrees(table, &beside) {
-        return Ok(Some("a key has other objects"));
-    }
-    if !is_purged(table, beside.present()) {
-        return Ok(Some("held slots go too early, or stay"));
-    }
-    Ok(None)
+    Some(true)
 }
 
-/// The same of a table that should have more than so many buckets at the end.
-fn wrong_growing<R: Rows>(
+/// Whether a walk that came to so many keys came to each that stayed, and enough of them stayed and came.
+fn came_to_all(beside: &Beside, count: u32) -> bool {
+    let (stayed, came) = beside.stayed();
+    came == stayed && stayed >= beside.keys as usize / 20 && count >= beside.keys / 2
+}
+
+/// Whether a walk over a fixed table is whole, the keys have their objects and the held slots go in time.
+fn walks_whole<R: Rows>(alloc: Global, table: &mut Walked<R>, beside: &mut Beside) -> Option<bool> {
+    let fixed = table.fix(7).is_ok() && table.fix(8).is_ok();
+    let count = walked(alloc, table, beside)?;
+    Some(
+        fixed
+            && came_to_all(beside, count)
+            && agrees(table, beside)
+            && is_purged(table, beside.present()),
+    )
+}
+
+/// Whether a walk over a table of half of so many keys is whole.
+fn is_whole<R: Rows>(alloc: Global, table: &mut Walked<R>, keys: u32) -> Option<bool> {
+    let filled = fill(alloc, table, keys / 2)?;
+    Some(filled && walks_whole(alloc, table, &mut Beside::new(alloc, keys)?)?)
+}
+
+/// The same of a table that has more than so many buckets at the end.
+fn is_whole_growing<R: Rows>(
     alloc: Global,
     table: &mut Walked<R>,
     keys: u32,
     buckets: u32,
-) -> Result<Option<&'static str>, Fail> {
-    let why = wrong(alloc, table, keys)?;
-    if why.is_some() || table.buckets() > buckets {
-        return Ok(why);
-    }
-    Ok(Some("the table does not grow"))
+) -> Option<bool> {
+    Some(is_whole(alloc, table, keys)? && table.buckets() > buckets)
 }
 
 #[test]
-fn whole_over_plain_rows(rt: HostRuntime) -> Result<(), Fail> {
+fn whole_over_plain_rows(rt: HostRuntime) {
     let alloc = rt.alloc();
-    assert_eq!(rt; wrong(alloc, &mut plain(alloc, Kind::Bag), 4000)?, None);
-    Ok(())
+    assert!(rt; is_whole(alloc, &mut plain(alloc, Kind::Bag), 4000) == Some(true));
+}
+
+fn is_whole_split(alloc: Global, kind: Kind) -> Option<bool> {
+    is_whole_growing(alloc, &mut split(alloc, kind)?, 4000, 1000)
 }
 
 #[test]
-fn whole_over_split_rows(rt: HostRuntime) -> Result<(), Fail> {
-    let alloc = rt.alloc();
-    assert_eq!(rt;
-        wrong_growing(alloc, &mut split(alloc, Kind::Set)?, 4000, 1000)?,
-        None
-    );
-    assert_eq!(rt;
-        wrong_growing(alloc, &mut split(alloc, Kind::Bag)?, 4000, 1000)?,
-        None
-    );
-    Ok(())
+fn whole_over_split_rows(rt: HostRuntime) {
+    assert!(rt; is_whole_split(rt.alloc(), Kind::Set) == Some(true));
+    assert!(rt; is_whole_split(rt.alloc(), Kind::Bag) == Some(true));
+}
+
+fn is_whole_in_one_bucket(alloc: Global) -> Option<bool> {
+    is_whole_growing(alloc, &mut one_bucket(alloc, Kind::Bag)?, 800, 50)
 }
 
 #[test]
-fn whole_over_one_bucket(rt: HostRuntime) -> Result<(), Fail> {
-    let alloc = rt.alloc();
-    assert_eq!(rt;
-        wrong_growing(alloc, &mut one_bucket(alloc, Kind::Bag)?, 800, 50)?,
-        None
-    );
-    Ok(())
+fn whole_over_one_bucket(rt: HostRuntime) {
+    assert!(rt; is_whole_in_one_bucket(rt.alloc()) == Some(true));
 }

@@ -1,7 +1,7 @@
 use ets_term::Term;
 use node_list::Chain;
 use std::alloc::{AllocError, Global};
-use std::test::Fail;
+use std::process::Abort;
 
 fn chain_of(alloc: Global, numbers: &[i64]) -> Result<Chain, AllocError> {
     let mut chain = Chain::new(alloc);
@@ -11,60 +11,87 @@ fn chain_of(alloc: Global, numbers: &[i64]) -> Result<Chain, AllocError> {
     Ok(chain)
 }
 
+fn has(terms: &[Term], numbers: &[i64]) -> bool {
+    for (term, number) in terms.iter().zip(numbers.iter()) {
+        if *term != Term::Int(*number) {
+            return false;
+        }
+    }
+    terms.len() == numbers.len()
+}
+
 #[test]
 fn a_chain_may_be_empty(rt: HostRuntime) {
-    let chain = Chain::new(rt.alloc());
-    assert_eq!(rt; chain.len(), 0);
-    assert_eq!(rt; Chain::one(rt.alloc(), Term::Int(1)).len(), 1);
+    assert!(rt; Chain::new(rt.alloc()).len() == 0);
+    assert!(rt; Chain::one(rt.alloc(), Term::Int(1)).len() == 1);
 }
 
-#[test]
-fn pushes_and_pops(rt: HostRuntime) -> Result<(), Fail> {
-    let mut chain = Chain::new(rt.alloc());
-    for number in 0..5_000 {
+fn push_all(chain: &mut Chain, count: i64) -> Result<(), AllocError> {
+    for number in 0..count {
         chain.push(Term::Int(number))?;
     }
-    assert_eq!(rt; chain.len(), 5_000);
-    assert!(rt; chain.pop().ok_or("no term")? == Term::Int(4_999));
-    assert!(rt; chain.pop().ok_or("no term")? == Term::Int(4_998));
     Ok(())
 }
 
-#[test]
-fn replaces_a_term(rt: HostRuntime) -> Result<(), Fail> {
-    let mut chain = Chain::one(rt.alloc(), Term::Int(1));
-    chain.push(Term::Int(2))?;
-    assert!(rt; chain.replace(0, Term::Int(7)) == Term::Int(1));
-    assert!(rt; chain.as_slice() == [Term::Int(7), Term::Int(2)].as_slice());
-    Ok(())
+fn pops(chain: &mut Chain, number: i64) -> bool {
+    chain.pop() == Some(Term::Int(number))
+}
+
+/// Whether what is pushed is popped, the last first.
+fn pushes_and_pops(chain: &mut Chain) -> Result<bool, AllocError> {
+    push_all(chain, 5_000)?;
+    Ok(chain.len() == 5_000 && pops(chain, 4_999) && pops(chain, 4_998))
 }
 
 #[test]
-fn truncates(rt: HostRuntime) -> Result<(), Fail> {
-    let mut chain = chain_of(rt.alloc(), &[1, 2, 3])?;
-    chain.truncate(4);
-    assert_eq!(rt; chain.len(), 3);
-    chain.truncate(2);
-    assert!(rt; chain.as_slice() == [Term::Int(1), Term::Int(2)].as_slice());
-    Ok(())
+fn pushed_terms_are_popped(rt: HostRuntime) {
+    assert!(rt; pushes_and_pops(&mut Chain::new(rt.alloc())) == Ok(true));
+}
+
+fn removes(chain: &mut Chain) -> bool {
+    let none = chain.remove_all(&Term::Int(4)) == 0;
+    none && chain.remove_all(&Term::Int(1)) == 3 && has(chain.as_slice(), &[2, 3])
+}
+
+fn replaces(chain: &mut Chain) -> bool {
+    let old = chain.len() == 2 && chain.replace(0, Term::Int(7)) == Term::Int(2);
+    old && has(chain.as_slice(), &[7, 3])
+}
+
+fn cuts_off(chain: &mut Chain) -> bool {
+    chain.truncate(3);
+    let whole = chain.len() == 2;
+    chain.truncate(1);
+    whole && has(chain.as_slice(), &[7])
+}
+
+/// Whether changes of a chain of 1, 2, 1, 3 and 1 leave what they must.
+fn changes(alloc: Global) -> Result<bool, AllocError> {
+    let mut chain = chain_of(alloc, &[1, 2, 1, 3, 1])?;
+    Ok(removes(&mut chain) && replaces(&mut chain) && cuts_off(&mut chain))
 }
 
 #[test]
-fn removes_all_equal_terms(rt: HostRuntime) -> Result<(), Fail> {
-    let mut chain = chain_of(rt.alloc(), &[1, 2, 1, 3, 1])?;
-    assert_eq!(rt; chain.remove_all(&Term::Int(4)), 0);
-    assert_eq!(rt; chain.remove_all(&Term::Int(1)), 3);
-    assert!(rt; chain.as_slice() == [Term::Int(2), Term::Int(3)].as_slice());
-    Ok(())
+fn terms_are_removed_replaced_and_cut_off(rt: HostRuntime) {
+    assert!(rt; changes(rt.alloc()) == Ok(true));
 }
 
-#[test]
-fn moves_into_a_list(rt: HostRuntime) -> Result<(), Fail> {
-    let chain = chain_of(rt.alloc(), &[2, 3])?;
-    let mut terms = Vec::new(rt.alloc());
+/// Puts the terms of a chain behind one of a list.
+fn move_behind(terms: &mut Vec<Term>, chain: Chain) -> Result<(), AllocError> {
     terms.push(Term::Int(1))?;
     terms.reserve(chain.len())?;
-    chain.move_into(&mut terms);
-    assert!(rt; terms.as_slice() == [Term::Int(1), Term::Int(2), Term::Int(3)].as_slice());
+    chain.move_into(terms);
     Ok(())
+}
+
+fn moves(alloc: Global) -> Result<bool, AllocError> {
+    let chain = chain_of(alloc, &[2, 3])?;
+    let mut terms = Vec::new(alloc);
+    move_behind(&mut terms, chain)?;
+    Ok(has(terms.as_slice(), &[1, 2, 3]))
+}
+
+#[test]
+fn moves_into_a_list(rt: HostRuntime) {
+    assert!(rt; moves(rt.alloc()) == Ok(true));
 }

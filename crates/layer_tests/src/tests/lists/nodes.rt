@@ -2,13 +2,12 @@ ghost use Rattle.std.specs.Prelude.{◌≡◌, [], ◌∷◌, Some, IfOk};
 ghost use Rattle.std.specs.Borrow.{sem};
 ghost use Rattle.ets_term.specs.declared.term.Term.TheVariants.{Int};
 ghost use Rattle.node_list.specs.Cells.{new_cell, new_item};
-ghost use Rattle.node_list.specs.Places.{IsFresh, HasItem};
+ghost use Rattle.node_list.specs.Places.{IsFresh, HasItem, Stands};
 ghost use Rattle.node_list.specs.Changes.{put_cell};
 
 use ets_term::Term;
 use node_list::{At, Chain, NodeList, Steps};
 use std::alloc::{AllocError, Global};
-use std::test::Fail;
 
 /// What a search from the head finds of a key and a term, and how many nodes it reads.
 fn search(list: &NodeList, key: u64, term: &Term) -> (Option<At>, u64) {
@@ -67,14 +66,14 @@ fn misread(list: &NodeList, wanted: &[(u64, u64)]) -> Option<u64> {
     None
 }
 
-#[test]
-fn keys_in_split_order(rt: HostRuntime) -> Result<(), Fail> {
-    let alloc = rt.alloc();
-    let mut list = NodeList::new(alloc)?;
-    add_in_split_order(&mut list, alloc)?;
-    assert_eq!(rt; misread(&list, &SPLIT_ORDER), None);
-    assert_eq!(rt; list.len(), 5);
-    Ok(())
+/// Whether keys stand in split order.
+fn has_split_order(
+    list: &mut NodeList,
+    alloc: Global,
+    wanted: &[(u64, u64)],
+) -> Result<bool, AllocError> {
+    add_in_split_order(list, alloc)?;
+    Ok(misread(list, wanted) == None && list.len() == 5)
 }
 
 /// Puts two items of key 5 and one of key 7. Returns the places of the two.
@@ -85,44 +84,59 @@ fn add_equal(list: &mut NodeList, alloc: Global) -> Result<(At, At), AllocError>
     Ok((first, second))
 }
 
-/// Two items of one key stand in the order in which they came, and a search counts what it passes.
-#[test]
-fn finds_among_equal_keys(rt: HostRuntime) -> Result<(), Fail> {
-    let alloc = rt.alloc();
-    let mut list = NodeList::new(alloc)?;
-    let (first, second) = add_equal(&mut list, alloc)?;
-    let head = list.head();
-    assert_eq!(rt; list.after(head), Some(first));
-    assert_eq!(rt; search(&list, 5, &Term::Int(2)), (Some(second), 3));
-    assert_eq!(rt; search(&list, 5, &Term::Int(3)), (None, 4));
-    assert_eq!(rt; search(&list, 9, &Term::Int(1)), (None, 4));
-    Ok(())
+/// The place behind the head.
+fn second_place(list: &NodeList) -> Option<At> {
+    list.after(list.head())
 }
 
-#[test]
-fn reads_an_item(rt: HostRuntime) -> Result<(), Fail> {
-    let alloc = rt.alloc();
-    let mut list = NodeList::new(alloc)?;
-    let at = add_item(&mut list, alloc, 5, 1)?;
-    let (term, chain) = list.item(at).ok_or("a dummy")?;
-    assert!(rt; *term == Term::Int(1));
-    assert_eq!(rt; chain.len(), 1);
-    let head = list.head();
-    assert!(rt; list.item(head).is_none());
-    Ok(())
+/// Whether two items of one key stand in the order in which they came, and a search counts what it passes.
+fn finds_equal_keys(list: &mut NodeList, alloc: Global) -> Result<bool, AllocError> {
+    let (first, second) = add_equal(list, alloc)?;
+    Ok(
+        second_place(list) == Some(first)
+            && search(list, 5, &Term::Int(2)) == (Some(second), 3)
+            && search(list, 5, &Term::Int(3)) == (None, 4)
+            && search(list, 9, &Term::Int(1)) == (None, 4),
+    )
 }
 
-#[test]
-fn changes_a_chain(rt: HostRuntime) -> Result<(), Fail> {
-    let alloc = rt.alloc();
-    let mut list = NodeList::new(alloc)?;
-    let at = add_item(&mut list, alloc, 5, 1)?;
-    let chain = list.chain_mut(at);
+/// Whether the node at a place is an item with this number as its term and as its chain.
+fn is_item(list: &NodeList, at: At, number: i64) -> bool
+    requires { Stands at list.now.cells }
+{
+    match list.item(at) {
+        Some((term, chain)) => {
+            *term == Term::Int(number) && chain.as_slice() == [Term::Int(number)].as_slice()
+        }
+        None => false,
+    }
+}
+
+/// Whether the head has the key 0 and no item.
+fn has_head(list: &NodeList) -> bool {
+    let head = list.head();
+    list.key(head) == 0 && list.item(head).is_none()
+}
+
+/// Whether an item that was put is read at its place, with its key.
+fn reads_item(list: &mut NodeList, alloc: Global) -> Result<bool, AllocError> {
+    let at = add_item(list, alloc, 5, 1)?;
+    list.known();
+    Ok(list.key(at) == 5 && is_item(list, at, 1) && has_head(list))
+}
+
+/// Whether a chain of 1 grows by two terms and gives one back.
+fn changes(chain: &mut Chain) -> Result<bool, AllocError> {
     chain.push(Term::Int(2))?;
     chain.push(Term::Int(3))?;
-    assert!(rt; chain.pop().ok_or("no term")? == Term::Int(3));
-    assert!(rt; chain.as_slice() == [Term::Int(1), Term::Int(2)].as_slice());
-    Ok(())
+    let last = chain.pop();
+    Ok(last == Some(Term::Int(3)) && chain.as_slice() == [Term::Int(1), Term::Int(2)].as_slice())
+}
+
+/// Whether the chain of an item can be changed.
+fn changes_chain(list: &mut NodeList, alloc: Global) -> Result<bool, AllocError> {
+    let at = add_item(list, alloc, 5, 1)?;
+    changes(list.chain_mut(at))
 }
 
 /// Unlinks the item at a place. Whether it had this number as its term and as its chain.
@@ -134,18 +148,16 @@ fn unlinks(list: &mut NodeList, at: At, number: i64) -> bool
     term == Term::Int(number) && chain.as_slice() == [Term::Int(number)].as_slice()
 }
 
-/// A place that was given back is given out again.
-#[test]
-fn unlinks_an_item(rt: HostRuntime) -> Result<(), Fail> {
-    let alloc = rt.alloc();
-    let mut list = NodeList::new(alloc)?;
-    add_dummy(&mut list, 8)?;
-    let at = add_item(&mut list, alloc, 5, 1)?;
-    assert!(rt; unlinks(&mut list, at, 1));
-    assert_eq!(rt; misread(&list, &[(4, 2), (8, 2)]), None);
-    assert_eq!(rt; list.len(), 2);
-    assert_eq!(rt; add_item(&mut list, alloc, 9, 1)?, at);
-    Ok(())
+/// Whether an item is unlinked, and its place is given out again.
+fn unlinks_item(
+    list: &mut NodeList,
+    alloc: Global,
+    wanted: &[(u64, u64)],
+) -> Result<bool, AllocError> {
+    add_dummy(list, 8)?;
+    let at = add_item(list, alloc, 5, 1)?;
+    let unlinked = unlinks(list, at, 1) && misread(list, wanted) == None && list.len() == 2;
+    Ok(add_item(list, alloc, 9, 1)? == at && unlinked)
 }
 
 /// The first place at which `item_from` gives another than is wanted there.
@@ -158,95 +170,135 @@ fn misfound(list: &NodeList, wanted: &[Option<At>]) -> Option<usize> {
     None
 }
 
-/// The places 1 to 5 are given out in turn, whatever the keys: to a dummy, two items, a dummy and an item.
-#[test]
-fn finds_items_by_their_places(rt: HostRuntime) -> Result<(), Fail> {
-    let alloc = rt.alloc();
-    let mut list = NodeList::new(alloc)?;
-    add_dummy(&mut list, 8)?;
-    add_item(&mut list, alloc, 9, 1)?;
-    add_item(&mut list, alloc, 5, 2)?;
-    add_dummy(&mut list, 4)?;
-    add_item(&mut list, alloc, 7, 3)?;
-    let wanted = [Some(2), Some(2), Some(2), Some(3), Some(5), Some(5), None];
-    assert_eq!(rt; misfound(&list, &wanted), None);
-    assert_eq!(rt; list.item_from(usize::MAX), None);
+/// Puts a dummy, two items, a dummy and an item. The places 1 to 5 are given out in turn, whatever the keys.
+fn add_five(list: &mut NodeList, alloc: Global) -> Result<(), AllocError> {
+    add_dummy(list, 8)?;
+    add_item(list, alloc, 9, 1)?;
+    add_item(list, alloc, 5, 2)?;
+    add_dummy(list, 4)?;
+    add_item(list, alloc, 7, 3)?;
     Ok(())
 }
 
-/// A place that was given back has no item, until a later one gets it.
-#[test]
-fn finds_no_unlinked_items(rt: HostRuntime) -> Result<(), Fail> {
-    let alloc = rt.alloc();
-    let mut list = NodeList::new(alloc)?;
-    let first = add_item(&mut list, alloc, 9, 1)?;
-    add_item(&mut list, alloc, 5, 2)?;
-    assert!(rt; unlinks(&mut list, first, 1));
-    let wanted = [Some(2), Some(2), Some(2), None, None, None, None];
-    assert_eq!(rt; misfound(&list, &wanted), None);
-    add_dummy(&mut list, 6)?;
-    let last = add_item(&mut list, alloc, 7, 3)?;
-    assert!(rt; unlinks(&mut list, last, 3));
-    assert_eq!(rt; misfound(&list, &wanted), None);
-    Ok(())
+const PLACES_OF_FIVE: [Option<At>; 7] = [
+    Some(2),
+    Some(2),
+    Some(2),
+    Some(3),
+    Some(5),
+    Some(5),
+    None,
+];
+
+/// Whether items are found by their places.
+fn finds_places(
+    list: &mut NodeList,
+    alloc: Global,
+    wanted: &[Option<At>],
+) -> Result<bool, AllocError> {
+    add_five(list, alloc)?;
+    Ok(misfound(list, wanted) == None && list.item_from(usize::MAX) == None)
 }
 
-#[test]
-fn finds_no_item_among_dummies(rt: HostRuntime) -> Result<(), Fail> {
-    let alloc = rt.alloc();
-    let mut list = NodeList::new(alloc)?;
-    assert_eq!(rt; list.item_from(0), None);
-    add_dummy(&mut list, 8)?;
-    assert_eq!(rt; list.item_from(0), None);
-    assert_eq!(rt; list.item_from(2), None);
-    Ok(())
+/// Puts two items and unlinks the first: the place 2 alone has an item.
+fn leaves_second(list: &mut NodeList, alloc: Global) -> Result<bool, AllocError> {
+    let first = add_item(list, alloc, 9, 1)?;
+    add_item(list, alloc, 5, 2)?;
+    Ok(unlinks(list, first, 1))
 }
 
-#[test]
-fn want_of_memory_changes_nothing(rt: HostRuntime) -> Result<(), Fail> {
-    let alloc = rt.alloc();
-    let mut list = NodeList::new(alloc)?;
-    add_dummy(&mut list, 8)?;
-    assert!(rt; list.reserve(usize::MAX).is_err());
-    assert_eq!(rt; reads(&list, 4), 2);
-    assert_eq!(rt; reads(&list, 8), 2);
-    assert_eq!(rt; list.len(), 2);
-    Ok(())
+/// Puts a dummy and an item, and unlinks the item.
+fn comes_and_goes(list: &mut NodeList, alloc: Global) -> Result<bool, AllocError> {
+    add_dummy(list, 6)?;
+    let last = add_item(list, alloc, 7, 3)?;
+    Ok(unlinks(list, last, 3))
 }
 
-/// Each node at the head, from 2,099 down to 1: the slab grows many times, and the keys stand in order.
-#[test]
-fn holds_many_nodes(rt: HostRuntime) -> Result<(), Fail> {
-    let alloc = rt.alloc();
-    let mut list = NodeList::new(alloc)?;
+const PLACE_OF_SECOND: [Option<At>; 7] = [Some(2), Some(2), Some(2), None, None, None, None];
+
+/// Whether a place that was given back has no item, until a later one gets it.
+fn finds_no_unlinked(
+    list: &mut NodeList,
+    alloc: Global,
+    wanted: &[Option<At>],
+) -> Result<bool, AllocError> {
+    let left = leaves_second(list, alloc)? && misfound(list, wanted) == None;
+    Ok(comes_and_goes(list, alloc)? && left && misfound(list, wanted) == None)
+}
+
+/// Whether dummies are no items, and want of memory changes nothing.
+fn has_dummies_alone(list: &mut NodeList) -> Result<bool, AllocError> {
+    let none = list.item_from(0) == None;
+    add_dummy(list, 8)?;
+    let dummies = list.item_from(0) == None && list.item_from(2) == None;
+    let refused = list.reserve(usize::MAX).is_err();
+    Ok(none && dummies && refused && reads(list, 4) == 2 && reads(list, 8) == 2 && list.len() == 2)
+}
+
+/// Puts each node at the head, from 2,099 down to 1: the slab grows many times.
+fn add_many(list: &mut NodeList, alloc: Global) -> Result<(), AllocError> {
     for number in 1..2_100 {
-        add_item(&mut list, alloc, 2_100 - number, 1)?;
+        add_item(list, alloc, 2_100 - number, 1)?;
     }
-    assert_eq!(rt; list.len(), 2_100);
-    for key in 0..2_099 {
-        assert_eq!(rt; reads(&list, key), key + 2);
-    }
-    assert_eq!(rt; reads(&list, 2_099), 2_100);
     Ok(())
 }
 
-#[test]
-fn reserves_much_room(rt: HostRuntime) -> Result<(), Fail> {
-    let mut list = NodeList::new(rt.alloc())?;
+/// Whether the keys stand in order, so that each search reads one node more.
+fn reads_many(list: &NodeList) -> bool {
+    for key in 0..2_099 {
+        if reads(list, key) != key + 2 {
+            return false;
+        }
+    }
+    reads(list, 2_099) == 2_100
+}
+
+/// Whether many nodes are held, in order.
+fn has_many(list: &mut NodeList, alloc: Global) -> Result<bool, AllocError> {
+    add_many(list, alloc)?;
+    Ok(list.len() == 2_100 && reads_many(list))
+}
+
+/// Whether room for many nodes is there for the asking.
+fn has_much_room(list: &mut NodeList) -> Result<bool, AllocError> {
     list.reserve(5_000)?;
     list.reserve(100_000)?;
-    assert_eq!(rt; list.len(), 1);
-    Ok(())
+    Ok(list.len() == 1)
 }
 
-#[test]
-fn tells_a_key(rt: HostRuntime) -> Result<(), Fail> {
-    let alloc = rt.alloc();
-    let mut list = NodeList::new(alloc)?;
-    let at = add_item(&mut list, alloc, 5, 1)?;
-    list.known();
-    assert_eq!(rt; list.key(at), 5);
-    let head = list.head();
-    assert_eq!(rt; list.key(head), 0);
-    Ok(())
+const UNLINKED: [(u64, u64); 2] = [(4, 2), (8, 2)];
+
+/// What a new list is tried with.
+#[derive(Clone, Copy)]
+pub enum Trial {
+    SplitOrder,
+    EqualKeys,
+    ReadItem,
+    ChangedChain,
+    UnlinkedItem,
+    PlacesOfItems,
+    PlacesOfUnlinked,
+    DummiesAlone,
+    ManyNodes,
+    MuchRoom,
+}
+
+fn passes_on(list: &mut NodeList, alloc: Global, trial: Trial) -> Result<bool, AllocError> {
+    match trial {
+        Trial::SplitOrder => has_split_order(list, alloc, &SPLIT_ORDER),
+        Trial::EqualKeys => finds_equal_keys(list, alloc),
+        Trial::ReadItem => reads_item(list, alloc),
+        Trial::ChangedChain => changes_chain(list, alloc),
+        Trial::UnlinkedItem => unlinks_item(list, alloc, &UNLINKED),
+        Trial::PlacesOfItems => finds_places(list, alloc, &PLACES_OF_FIVE),
+        Trial::PlacesOfUnlinked => finds_no_unlinked(list, alloc, &PLACE_OF_SECOND),
+        Trial::DummiesAlone => has_dummies_alone(list),
+        Trial::ManyNodes => has_many(list, alloc),
+        Trial::MuchRoom => has_much_room(list),
+    }
+}
+
+/// Whether a new list passes a trial.
+pub fn passes(alloc: Global, trial: Trial) -> Result<bool, AllocError> {
+    passes_on(&mut NodeList::new(alloc)?, alloc, trial)
 }

@@ -1,25 +1,20 @@
 //! The reader's answers beside those of the reference, on every front of good texts and on texts with one byte changed.
-use super::reference::reader::by_rules;
-use std::alloc::Global;
+use super::given;
+use super::reference::by_rules;
+use std::alloc::{AllocError, Global};
 use std::process::Abort;
-use std::test::Fail;
-use term_text::{print_term, read_term_bytes};
 
-fn alike(rt: &impl Abort, alloc: Global, text: &[u8]) -> Result<(), Fail> {
-    let got = match read_term_bytes(alloc, text) {
-        Ok((term, n)) => {
-            let mut printed = String::new(alloc);
-            print_term(alloc, &term, &mut printed)?;
-            format!(in alloc; "{printed} {n}")?
-        }
-        Err(fault) => format!(in alloc; "{fault:?}")?,
-    };
-    let want = match by_rules(alloc, text) {
-        Ok((printed, n)) => format!(in alloc; "{printed} {n}")?,
-        Err(fault) => format!(in alloc; "{fault:?}")?,
-    };
-    assert_eq!(rt; got.as_str(), want.as_str(), "of {text:?}");
-    Ok(())
+/// What the rules say that the text gives.
+fn wanted(alloc: Global, text: &[u8]) -> Result<String, AllocError> {
+    match by_rules(alloc, text) {
+        Ok((printed, taken)) => format!(in alloc; "{printed} {taken}"),
+        Err(fault) => format!(in alloc; "{fault:?}"),
+    }
+}
+
+fn is_alike(alloc: Global, text: &[u8]) -> Result<bool, AllocError> {
+    let wanted = wanted(alloc, text)?;
+    Ok(given(alloc, text)?.as_str() == wanted.as_str())
 }
 
 const GOOD: [&str; 30] = [
@@ -68,32 +63,71 @@ const CHANGED: [&str; 10] = [
     "#Tid<3>",
 ];
 
-#[test]
-fn every_front_of_good_texts(rt: HostRuntime) -> Result<(), Fail> {
-    let alloc = rt.alloc();
-    for text in GOOD {
-        let bytes = text.as_bytes();
-        for n in 0..=bytes.len() {
-            alike(&rt, alloc, &bytes[..n])?;
+fn fronts_are_alike(alloc: Global, text: &[u8]) -> Result<bool, AllocError> {
+    for n in 0..=text.len() {
+        if !is_alike(alloc, text.get(..n).unwrap_or(text))? {
+            return Ok(false);
         }
     }
-    Ok(())
+    Ok(true)
+}
+
+/// The first text of which a front is read otherwise than by the rules.
+fn wrong_fronts(alloc: Global, texts: &[&'static str]) -> Result<Option<&'static str>, AllocError> {
+    for text in texts {
+        if !fronts_are_alike(alloc, text.as_bytes())? {
+            return Ok(Some(*text));
+        }
+    }
+    Ok(None)
 }
 
 #[test]
-fn every_changed_byte(rt: HostRuntime) -> Result<(), Fail> {
-    let alloc = rt.alloc();
-    for text in CHANGED {
-        let mut bytes = Vec::new(alloc);
-        bytes.extend_from_slice(text.as_bytes())?;
-        for at in 0..bytes.len() {
-            let kept = bytes[at];
-            for b in 0..=255 {
-                bytes[at] = b;
-                alike(&rt, alloc, bytes.as_slice())?;
-            }
-            bytes[at] = kept;
+fn every_front_of_good_texts(rt: HostRuntime) {
+    assert_eq!(rt; wrong_fronts(rt.alloc(), &GOOD), Ok(None));
+}
+
+fn put_byte(text: &mut [u8], at: usize, b: u8) {
+    if let Some(own) = text.get_mut(at) {
+        *own = b;
+    }
+}
+
+/// Whether each other byte at a place is read by the rules.
+fn changes_are_alike(alloc: Global, text: &mut [u8], at: usize) -> Result<bool, AllocError> {
+    let kept = text.get(at).copied().unwrap_or(0);
+    let mut all = true;
+    for b in 0..=255 {
+        put_byte(text, at, b);
+        all = is_alike(alloc, text)? && all;
+    }
+    put_byte(text, at, kept);
+    Ok(all)
+}
+
+fn all_changes_are_alike(alloc: Global, text: &mut [u8]) -> Result<bool, AllocError> {
+    let mut all = true;
+    for at in 0..text.len() {
+        all = changes_are_alike(alloc, text, at)? && all;
+    }
+    Ok(all)
+}
+
+/// The first text that is read otherwise than by the rules once a byte of it is changed.
+fn wrong_changes(
+    alloc: Global,
+    texts: &[&'static str],
+) -> Result<Option<&'static str>, AllocError> {
+    for text in texts {
+        let mut bytes = text.as_bytes().to_vec(alloc)?;
+        if !all_changes_are_alike(alloc, bytes.as_mut_slice())? {
+            return Ok(Some(*text));
         }
     }
-    Ok(())
+    Ok(None)
+}
+
+#[test]
+fn every_changed_byte(rt: HostRuntime) {
+    assert_eq!(rt; wrong_changes(rt.alloc(), &CHANGED), Ok(None));
 }

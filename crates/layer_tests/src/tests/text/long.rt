@@ -1,7 +1,6 @@
 //! Long and deep texts with known terms.
 use ets_term::{MAX_DEPTH, Term};
 use std::alloc::{AllocError, Global};
-use std::test::Fail;
 use term_text::{TextFault, print_term, read_term};
 
 /// One more than each power of two up to 1,024, and 70,000.
@@ -60,20 +59,23 @@ const TUPLE: Repeated = Repeated {
     printed: ["{'A b'", ",'A b'", "}"],
 };
 
+fn repeats(alloc: Global, parts: [&'static str; 3], count: usize) -> Result<String, AllocError> {
+    let [front, part, end] = parts;
+    with_repeats(alloc, front, part, count, end)
+}
+
 fn is_long(alloc: Global, row: Repeated, count: usize) -> Result<bool, AllocError> {
-    let [front, part, end] = row.text;
-    let text = with_repeats(alloc, front, part, count, end)?;
-    let [front, part, end] = row.printed;
-    let printed = with_repeats(alloc, front, part, count, end)?;
+    let printed = repeats(alloc, row.printed, count)?;
+    let text = repeats(alloc, row.text, count)?;
     Ok(
         is_read_whole(alloc, text.as_str(), printed.as_str())?
             && is_read_whole(alloc, printed.as_str(), printed.as_str())?,
     )
 }
 
-fn are_long(alloc: Global, row: Repeated) -> Result<bool, AllocError> {
-    for count in COUNTS {
-        if !is_long(alloc, row, count)? {
+fn is_long_at_each(alloc: Global, row: Repeated, counts: &[usize]) -> Result<bool, AllocError> {
+    for count in counts {
+        if !is_long(alloc, row, *count)? {
             return Ok(false);
         }
     }
@@ -81,21 +83,10 @@ fn are_long(alloc: Global, row: Repeated) -> Result<bool, AllocError> {
 }
 
 #[test]
-fn long_strings(rt: HostRuntime) -> Result<(), Fail> {
-    assert!(rt; are_long(rt.alloc(), STRING)?);
-    Ok(())
-}
-
-#[test]
-fn long_binaries(rt: HostRuntime) -> Result<(), Fail> {
-    assert!(rt; are_long(rt.alloc(), BYTES)?);
-    Ok(())
-}
-
-#[test]
-fn long_tuples(rt: HostRuntime) -> Result<(), Fail> {
-    assert!(rt; are_long(rt.alloc(), TUPLE)?);
-    Ok(())
+fn long_texts(rt: HostRuntime) {
+    assert!(rt; is_long_at_each(rt.alloc(), STRING, &COUNTS) == Ok(true));
+    assert!(rt; is_long_at_each(rt.alloc(), BYTES, &COUNTS) == Ok(true));
+    assert!(rt; is_long_at_each(rt.alloc(), TUPLE, &COUNTS) == Ok(true));
 }
 
 /// Brackets in brackets, so many deep.
@@ -104,15 +95,9 @@ fn nested(alloc: Global, open: &str, close: &str, levels: usize) -> Result<Strin
     with_repeats(alloc, "", open, levels, closing.as_str())
 }
 
-/// Whether brackets are read and printed at every depth that a term may have.
-fn are_nested(alloc: Global, open: &str, close: &str) -> Result<bool, AllocError> {
-    for levels in 1..=MAX_DEPTH {
-        let text = nested(alloc, open, close, levels)?;
-        if !is_read_whole(alloc, text.as_str(), text.as_str())? {
-            return Ok(false);
-        }
-    }
-    Ok(true)
+fn is_nested(alloc: Global, open: &str, close: &str, levels: usize) -> Result<bool, AllocError> {
+    let text = nested(alloc, open, close, levels)?;
+    is_read_whole(alloc, text.as_str(), text.as_str())
 }
 
 /// Whether brackets one level past that are refused at the last that opens.
@@ -124,11 +109,18 @@ fn is_too_deep(alloc: Global, open: &str, close: &str) -> Result<bool, AllocErro
     ))
 }
 
-#[test]
-fn deep_texts(rt: HostRuntime) -> Result<(), Fail> {
-    for (open, close) in [("[", "]"), ("{", "}")] {
-        assert!(rt; are_nested(rt.alloc(), open, close)?);
-        assert!(rt; is_too_deep(rt.alloc(), open, close)?);
+/// Whether brackets are read and printed at every depth that a term may have, and refused at the next.
+fn are_nested(alloc: Global, open: &str, close: &str) -> Result<bool, AllocError> {
+    for levels in 1..=MAX_DEPTH {
+        if !is_nested(alloc, open, close, levels)? {
+            return Ok(false);
+        }
     }
-    Ok(())
+    is_too_deep(alloc, open, close)
+}
+
+#[test]
+fn deep_texts(rt: HostRuntime) {
+    assert!(rt; are_nested(rt.alloc(), "[", "]") == Ok(true));
+    assert!(rt; are_nested(rt.alloc(), "{", "}") == Ok(true));
 }

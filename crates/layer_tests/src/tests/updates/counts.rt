@@ -1,232 +1,125 @@
+use super::rows::{Call, wrong};
 use super::*;
 
-const MAX: Integer = Integer::MAX;
-
-const MIN: Integer = Integer::MIN;
-
-/// The object `{c,value}`.
-fn counter(alloc: Global, value: Integer) -> Result<Term, Fail> {
-    tuple(alloc, &[Part::Atom("c"), Part::Int(value)])
+/// Whether operations answer this, and leave the object of the row where they are refused.
+fn counts_in_place(alloc: Global, object: &mut Term, ops: &Ops, told: (&Term, &Term)) -> bool {
+    is_told(&update_counter(alloc, object, ops), told.0) && *object == *told.1
 }
 
-fn numbers(alloc: Global, values: &[Integer]) -> Result<Items<Term>, Fail> {
-    let mut items = Items::new(alloc);
-    for value in values {
-        items.push(Term::Int(*value))?;
+fn counts_on_a_copy(alloc: Global, object: &Term, ops: &Ops, told: (&Term, &Term)) -> bool {
+    match apply_ops(alloc, object, ops) {
+        Ok((copy, answer)) => answer == *told.0 && copy == *told.1,
+        Err(fault) => is_refusal(&fault, told.0),
     }
-    Ok(items)
 }
 
-/// The list of these operations.
-fn listed(alloc: Global, ops: &[&[Integer]]) -> Result<Term, Fail> {
-    let mut items = Items::new(alloc);
-    for op in ops {
-        items.push(Term::Tuple(numbers(alloc, *op)?))?;
-    }
-    Ok(Term::List(items))
+fn counts_both(alloc: Global, object: &Term, ops: &Ops, told: (&Term, &Term)) -> Option<bool> {
+    let in_place = counts_in_place(alloc, &mut object.try_clone(alloc).ok()?, ops, told);
+    Some(in_place && counts_on_a_copy(alloc, object, ops, told))
 }
 
-/// Whether the update of `{c,before}` answers this and leaves `{c,after}`, in place and on a copy.
-fn gives(
+/// Whether the operations answer and make this, in place and on a copy.
+pub fn counts(
     alloc: Global,
-    before: Integer,
-    update: &Term,
-    answer: &Term,
-    after: Integer,
-) -> Result<bool, Fail> {
-    let ops = read_ops(alloc, update, 1)?;
-    let mut object = counter(alloc, before)?;
-    let (copy, told) = apply_ops(alloc, &object, &ops)?;
-    let also = update_counter(alloc, &mut object, &ops)?;
-    Ok(told == *answer && also == *answer && copy == object && object == counter(alloc, after)?)
+    keypos: u32,
+    object: &Term,
+    updates: &Term,
+    told: (&Term, &Term),
+) -> Option<bool> {
+    match read_ops(alloc, updates, keypos) {
+        Ok(ops) => counts_both(alloc, object, &ops, told),
+        Err(_) => Some(false),
+    }
 }
 
-/// Why the update of `{c,before}` is refused; None where it is done or the object has changed.
-fn refusal(alloc: Global, before: Integer, update: &Term) -> Result<Option<CounterFault>, Fail> {
-    let ops = read_ops(alloc, update, 1)?;
-    let mut object = counter(alloc, before)?;
-    let Err(fault) = update_counter(alloc, &mut object, &ops) else {
-        return Ok(None);
-    };
-    if object != counter(alloc, before)? {
-        return Ok(None);
-    }
-    Ok(Some(fault))
-}
+const COUNTED: [&str; 16] = [
+    "[{c,5},3,8,{c,8}]",
+    "[{c,5},-7,-2,{c,-2}]",
+    "[{c,9223372036854775807},0,9223372036854775807,{c,9223372036854775807}]",
+    "[{c,5},{2,3,7,0},0,{c,0}]",
+    "[{c,5},{2,3,8,0},8,{c,8}]",
+    "[{c,-5},{2,-3,-8,1},-8,{c,-8}]",
+    "[{c,-5},{2,-3,-7,1},1,{c,1}]",
+    "[{c,9},{2,0,8,4},4,{c,4}]",
+    "[{c,9223372036854775807},{2,1,9223372036854775807,0},0,{c,0}]",
+    "[{c,9223372036854775807},{2,0,9223372036854775807,0},9223372036854775807,{c,9223372036854775807}]",
+    "[{c,-9223372036854775808},{2,-1,0,5},5,{c,5}]",
+    "[{c,5},[{2,1},{2,10}],[6,16],{c,16}]",
+    "[{c,5},[{2,10},{2,1,15,0}],[15,0],{c,0}]",
+    "[{c,5},[{2,1}],[6],{c,6}]",
+    "[{c,5},[],[],{c,5}]",
+    "[{c,5,6},[{3,1},{2,-1}],[7,4],{c,4,7}]",
+];
 
 #[test]
-fn thresholds(rt: HostRuntime) -> Result<(), Fail> {
-    let alloc = rt.alloc();
-    let rows = [
-        (5, [2, 3, 7, 0], 0),
-        (5, [2, 3, 8, 0], 8),
-        (-5, [2, -3, -8, 1], -8),
-        (-5, [2, -3, -7, 1], 1),
-        (9, [2, 0, 8, 4], 4),
-        (MAX, [2, 1, MAX, 0], 0),
-        (MAX, [2, 0, MAX, 0], MAX),
-        (MIN, [2, -1, 0, 5], 5),
-    ];
-    for (before, op, after) in rows {
-        let update = Term::Tuple(numbers(alloc, &op)?);
-        assert!(rt; gives(alloc, before, &update, &Term::Int(after), after)?);
-    }
-    Ok(())
+fn operations_on_counters(rt: HostRuntime) {
+    assert_eq!(rt; wrong(rt.alloc(), Call::Count(1), &COUNTED), Some(None));
 }
 
-/// Whether an increment of `{c,before}` gives this.
-fn adds(alloc: Global, before: Integer, increment: Integer, after: Integer) -> Result<bool, Fail> {
-    let answer = Term::Int(after);
-    gives(alloc, before, &Term::Int(increment), &answer, after)
-}
+/// A sum past the integers, in any step of a list, and an element that is no counter of the object.
+const REFUSED: [&str; 10] = [
+    "[{c,9223372036854775807},1,system_limit,{c,9223372036854775807}]",
+    "[{c,-9223372036854775808},-1,system_limit,{c,-9223372036854775808}]",
+    "[{c,2},9223372036854775807,system_limit,{c,2}]",
+    "[{c,9223372036854775807},[{2,1}],system_limit,{c,9223372036854775807}]",
+    "[{c,9223372036854775807},[{2,1},{2,-1}],system_limit,{c,9223372036854775807}]",
+    "[{c,9223372036854775807},[{2,-3},{2,2},{2,2}],system_limit,{c,9223372036854775807}]",
+    "[{c,9223372036854775807},[{2,1},{9,1}],badarg,{c,9223372036854775807}]",
+    "[{c,9223372036854775807},[{3,1},{2,1}],badarg,{c,9223372036854775807}]",
+    "[{c,9223372036854775807},[{3,1}],badarg,{c,9223372036854775807}]",
+    "[{c,5},{3,1},badarg,{c,5}]",
+];
 
 #[test]
-fn integer_alone(rt: HostRuntime) -> Result<(), Fail> {
-    for (before, increment, after) in [(5, 3, 8), (5, -7, -2), (MAX, 0, MAX)] {
-        assert!(rt; adds(rt.alloc(), before, increment, after)?);
-    }
-    Ok(())
+fn refused_operations(rt: HostRuntime) {
+    assert_eq!(rt; wrong(rt.alloc(), Call::Count(1), &REFUSED), Some(None));
 }
 
-/// What an increment by 4 answers of an object whose key stands second.
-fn four_more(alloc: Global, object: &mut Term) -> Result<Term, Fail> {
-    let ops = read_ops(alloc, &Term::Int(4), 2)?;
-    Ok(update_counter(alloc, object, &ops)?)
-}
+/// An integer alone counts behind the key. An atom and what is no tuple have no counter.
+const KEY_SECOND: [&str; 3] = [
+    "[{1,2,3},4,7,{1,2,7}]",
+    "[{c,5},{1,1},badarg,{c,5}]",
+    "[5,{1,1},badarg,5]",
+];
 
 #[test]
-fn integer_alone_behind_the_key(rt: HostRuntime) -> Result<(), Fail> {
-    let alloc = rt.alloc();
-    let mut object = Term::Tuple(numbers(alloc, &[1, 2, 3])?);
-    assert!(rt; four_more(alloc, &mut object)? == Term::Int(7));
-    let wanted = Term::Tuple(numbers(alloc, &[1, 2, 7])?);
-    assert!(rt; object == wanted);
-    Ok(())
+fn operations_where_the_key_stands_second(rt: HostRuntime) {
+    assert_eq!(rt; wrong(rt.alloc(), Call::Count(2), &KEY_SECOND), Some(None));
 }
 
-/// Whether operations on `{c,5}` give these values.
-fn list_gives(
-    alloc: Global,
-    ops: &[&[Integer]],
-    answers: &[Integer],
-    after: Integer,
-) -> Result<bool, Fail> {
-    let update = listed(alloc, ops)?;
-    let answer = Term::List(numbers(alloc, answers)?);
-    gives(alloc, 5, &update, &answer, after)
+/// The first text that is read as operations on an object whose key stands first.
+fn read_as_updates(alloc: Global, texts: &[&'static str]) -> Option<Option<&'static str>> {
+    for text in texts {
+        let (update, _) = read_term(alloc, *text).ok()?;
+        if !matches!(read_ops(alloc, &update, 1), Err(CounterFault::Badarg)) {
+            return Some(Some(*text));
+        }
+    }
+    Some(None)
 }
+
+const WRONG: [&str; 18] = [
+    "{0,1}",
+    "{-1,1}",
+    "{1,1}",
+    "{2}",
+    "{2,1,1}",
+    "{2,a}",
+    "{a,1}",
+    "{}",
+    "[{2,1},{0,1}]",
+    "[{2,1},{-1,1}]",
+    "[{2,1},{1,1}]",
+    "[{2,1},{2}]",
+    "[{2,1},{2,1,1}]",
+    "[{2,1},{2,a}]",
+    "[{2,1},{a,1}]",
+    "[{2,1},{}]",
+    "[1]",
+    "a",
+];
 
 #[test]
-fn lists_answer_each_new_value(rt: HostRuntime) -> Result<(), Fail> {
-    let rows: [(&[&[Integer]], &[Integer], Integer); 4] = [
-        (&[&[2, 1], &[2, 10]], &[6, 16], 16),
-        (&[&[2, 10], &[2, 1, 15, 0]], &[15, 0], 0),
-        (&[&[2, 1]], &[6], 6),
-        (&[], &[], 5),
-    ];
-    for (ops, answers, after) in rows {
-        assert!(rt; list_gives(rt.alloc(), ops, answers, after)?);
-    }
-    Ok(())
-}
-
-#[test]
-fn sums_past_the_integers(rt: HostRuntime) -> Result<(), Fail> {
-    let alloc = rt.alloc();
-    for (before, increment) in [(MAX, 1), (MIN, -1), (2, MAX)] {
-        let fault = refusal(alloc, before, &Term::Int(increment))?;
-        assert!(rt; matches!(fault, Some(CounterFault::SystemLimit)));
-    }
-    let rows: [&[&[Integer]]; 3] = [
-        &[&[2, 1]],
-        &[&[2, 1], &[2, -1]],
-        &[&[2, -3], &[2, 2], &[2, 2]],
-    ];
-    for ops in rows {
-        let fault = refusal(alloc, MAX, &listed(alloc, ops)?)?;
-        assert!(rt; matches!(fault, Some(CounterFault::SystemLimit)));
-    }
-    Ok(())
-}
-
-#[test]
-fn elements_that_are_no_counters(rt: HostRuntime) -> Result<(), Fail> {
-    let alloc = rt.alloc();
-    let rows: [&[&[Integer]]; 3] = [&[&[2, 1], &[9, 1]], &[&[3, 1], &[2, 1]], &[&[3, 1]]];
-    for ops in rows {
-        let fault = refusal(alloc, MAX, &listed(alloc, ops)?)?;
-        assert!(rt; matches!(fault, Some(CounterFault::Badarg)));
-    }
-    let past = Term::Tuple(numbers(alloc, &[3, 1])?);
-    assert!(rt; matches!(refusal(alloc, 5, &past)?, Some(CounterFault::Badarg)));
-    Ok(())
-}
-
-/// Whether `{1,1}` is badarg of an object whose key stands second, in place and on a copy.
-fn is_refused(alloc: Global, object: &mut Term) -> Result<bool, Fail> {
-    let update = Term::Tuple(numbers(alloc, &[1, 1])?);
-    let ops = read_ops(alloc, &update, 2)?;
-    Ok(is_badarg(update_counter(alloc, object, &ops)) && is_badarg(apply_ops(alloc, object, &ops)))
-}
-
-#[test]
-fn objects_that_have_no_counter(rt: HostRuntime) -> Result<(), Fail> {
-    let mut object = counter(rt.alloc(), 5)?;
-    assert!(rt; is_refused(rt.alloc(), &mut object)?);
-    assert!(rt; is_refused(rt.alloc(), &mut Term::Int(5))?);
-    Ok(())
-}
-
-#[test]
-fn wrong_operations(rt: HostRuntime) -> Result<(), Fail> {
-    let alloc = rt.alloc();
-    let rows: [&[Part]; 8] = [
-        &[Part::Int(0), Part::Int(1)],
-        &[Part::Int(-1), Part::Int(1)],
-        &[Part::Int(1), Part::Int(1)],
-        &[Part::Int(2)],
-        &[Part::Int(2), Part::Int(1), Part::Int(1)],
-        &[Part::Int(2), Part::Atom("a")],
-        &[Part::Atom("a"), Part::Int(1)],
-        &[],
-    ];
-    for wrong in rows {
-        assert!(rt; is_badarg(read_ops(alloc, &tuple(alloc, wrong)?, 1)));
-        let good = [Part::Int(2), Part::Int(1)];
-        assert!(rt; is_badarg(read_ops(alloc, &list(alloc, &[&good, wrong])?, 1)));
-    }
-    Ok(())
-}
-
-#[test]
-fn wrong_updates(rt: HostRuntime) -> Result<(), Fail> {
-    let alloc = rt.alloc();
-    let integers = Term::List(numbers(alloc, &[1])?);
-    assert!(rt; is_badarg(read_ops(alloc, &integers, 1)));
-    let word = term(alloc, Part::Atom("a"))?;
-    assert!(rt; is_badarg(read_ops(alloc, &word, 1)));
-    Ok(())
-}
-
-/// The list of so many operations `{2,1}`.
-fn ones(alloc: Global, count: usize) -> Result<Term, Fail> {
-    let mut items = Items::new(alloc);
-    for _ in 0..count {
-        items.push(Term::Tuple(numbers(alloc, &[2, 1])?))?;
-    }
-    Ok(Term::List(items))
-}
-
-#[test]
-fn five_thousand_operations(rt: HostRuntime) -> Result<(), Fail> {
-    let alloc = rt.alloc();
-    let mut answers = Items::new(alloc);
-    for n in 6..5006 {
-        answers.push(Term::Int(n))?;
-    }
-    let update = ones(alloc, 5000)?;
-    assert!(rt; gives(alloc, 5, &update, &Term::List(answers), 5005)?);
-    let fault = refusal(alloc, MAX - 4999, &update)?;
-    assert!(rt; matches!(fault, Some(CounterFault::SystemLimit)));
-    Ok(())
+fn what_is_no_operation(rt: HostRuntime) {
+    assert_eq!(rt; read_as_updates(rt.alloc(), &WRONG), Some(None));
 }

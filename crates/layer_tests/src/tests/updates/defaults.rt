@@ -1,115 +1,117 @@
+use super::rows::{Call, wrong};
 use super::*;
 
-/// Whether the Default with the key `h` makes this and answers that.
-fn starts(
+/// Whether what is started is told by a row: `{Answer,Made}`.
+fn is_started(told: &Term, answer: &Term, made: &Term) -> bool {
+    told.element(1) == Some(answer) && told.element(2) == Some(made)
+}
+
+/// Whether a Default makes an object of the key, as both calls have it.
+fn is_object(alloc: Global, keypos: u32, default: &Term, key: &Term) -> bool {
+    is_default(default, keypos, key) && keyed(alloc, default, keypos, key).is_ok()
+}
+
+fn is_no_object(alloc: Global, keypos: u32, default: &Term, key: &Term) -> bool {
+    !is_default(default, keypos, key)
+        && matches!(
+            keyed(alloc, default, keypos, key),
+            Err(CounterFault::Badarg)
+        )
+}
+
+/// Whether a Default with a key and the operations done gives this.
+pub fn starts(
     alloc: Global,
-    default: &[Part],
-    update: &Term,
-    made: &[Part],
-    answer: &Term,
-) -> Result<bool, Fail> {
-    let default = tuple(alloc, default)?;
-    let key = term(alloc, Part::Atom("h"))?;
-    let ops = read_ops(alloc, update, 1)?;
-    let (object, told) = start_counter(alloc, &default, 1, &key, &ops)?;
-    Ok(told == *answer && object == tuple(alloc, made)?)
-}
-
-#[test]
-fn counts_from_the_default(rt: HostRuntime) -> Result<(), Fail> {
-    let alloc = rt.alloc();
-    let default = [Part::Atom("x"), Part::Int(10)];
-    let made = [Part::Atom("h"), Part::Int(11)];
-    let update = tuple(alloc, &[Part::Int(2), Part::Int(1)])?;
-    assert!(rt; starts(alloc, &default, &update, &made, &Term::Int(11))?);
-    assert!(rt; starts(alloc, &default, &Term::Int(1), &made, &Term::Int(11))?);
-    Ok(())
-}
-
-#[test]
-fn no_operation_keeps_the_default(rt: HostRuntime) -> Result<(), Fail> {
-    let alloc = rt.alloc();
-    let none = Term::List(Items::new(alloc));
-    let x = [Part::Atom("x")];
-    let h = [Part::Atom("h")];
-    assert!(rt; starts(alloc, &x, &none, &h, &none)?);
-    Ok(())
-}
-
-/// Whether this with the key at keypos is an object, as both calls have it.
-fn is_object(alloc: Global, default: &Term, keypos: u32, key: Part) -> Result<bool, Fail> {
-    let key = term(alloc, key)?;
-    let is_one = is_default(default, keypos, &key);
-    let is_refused = is_badarg(keyed(alloc, default, keypos, &key));
-    Ok(is_one && !is_refused)
-}
-
-#[test]
-fn defaults(rt: HostRuntime) -> Result<(), Fail> {
-    let alloc = rt.alloc();
-    let x = tuple(alloc, &[Part::Atom("x")])?;
-    let rows = [
-        (1, "h", true),
-        (2, "h", false),
-        (0, "h", false),
-        (1, "$end_of_table", false),
-    ];
-    for (keypos, key, wanted) in rows {
-        assert!(rt; is_object(alloc, &x, keypos, Part::Atom(key))? == wanted);
+    keypos: u32,
+    object: (&Term, &Term),
+    updates: &Term,
+    told: &Term,
+) -> Option<bool> {
+    let Ok(ops) = read_ops(alloc, updates, keypos) else {
+        return Some(false);
+    };
+    let (default, key) = object;
+    match start_counter(alloc, default, keypos, key, &ops) {
+        Ok((made, answer)) => {
+            Some(is_started(told, &answer, &made) && is_object(alloc, keypos, default, key))
+        }
+        Err(fault) => Some(is_refusal(&fault, told)),
     }
-    assert!(rt; !is_object(alloc, &Term::Int(7), 1, Part::Atom("h"))?);
-    Ok(())
 }
 
-#[test]
-fn element_past_the_default(rt: HostRuntime) -> Result<(), Fail> {
-    let alloc = rt.alloc();
-    let x = tuple(alloc, &[Part::Atom("x")])?;
-    let ops = read_ops(alloc, &Term::Int(1), 1)?;
-    assert!(rt; is_badarg(start_counter(alloc, &x, 1, &x, &ops)));
-    assert!(rt; is_badarg(start_counter(alloc, &Term::Int(7), 1, &x, &ops)));
-    let update = tuple(alloc, &[Part::Int(2), Part::Int(9)])?;
-    let specs = read_element_specs(alloc, &update, 1)?;
-    assert!(rt; is_badarg(start_elements(alloc, &x, 1, &x, specs)));
-    Ok(())
-}
-
-/// What the update `{2,9}` makes of the default `{0,1}` under a key.
-fn started(alloc: Global, key: Integer) -> Result<Term, Fail> {
-    let default = tuple(alloc, &[Part::Int(0), Part::Int(1)])?;
-    let update = tuple(alloc, &[Part::Int(2), Part::Int(9)])?;
-    let specs = read_element_specs(alloc, &update, 1)?;
-    Ok(start_elements(alloc, &default, 1, &Term::Int(key), specs)?)
-}
-
-#[test]
-fn elements_of_the_default(rt: HostRuntime) -> Result<(), Fail> {
-    let alloc = rt.alloc();
-    let wanted = tuple(alloc, &[Part::Int(3), Part::Int(9)])?;
-    assert!(rt; started(alloc, 3)? == wanted);
-    Ok(())
-}
-
-#[test]
-fn keys_too_deep(rt: HostRuntime) -> Result<(), Fail> {
-    let alloc = rt.alloc();
-    let default = tuple(alloc, &[Part::Int(0), Part::Int(1)])?;
-    let ops = read_ops(alloc, &Term::Int(1), 1)?;
-    for (levels, is_refused) in [(MAX_DEPTH - 1, false), (MAX_DEPTH, true)] {
-        let key = nested(alloc, levels)?;
-        let started = start_counter(alloc, &default, 1, &key, &ops);
-        assert!(rt; is_limit(started) == is_refused);
+/// Whether a Default with a key and the values written is this.
+pub fn writes_default(
+    alloc: Global,
+    default: &Term,
+    key: &Term,
+    values: &Term,
+    made: &Term,
+) -> Option<bool> {
+    match read_element_specs(alloc, values, 1) {
+        Ok(specs) => Some(is_told(&start_elements(alloc, default, 1, key, specs), made)),
+        Err(_) => Some(false),
     }
-    Ok(())
+}
+
+const STARTED: [&str; 7] = [
+    "[{x,10},h,{2,1},{11,{h,11}}]",
+    "[{x,10},h,1,{11,{h,11}}]",
+    "[{x,10},h,[{2,1},{2,-5}],{[11,6],{h,6}}]",
+    "[{x},h,[],{[],{h}}]",
+    "[{x},h,1,badarg]",
+    "[{x},{x},1,badarg]",
+    "[7,h,1,badarg]",
+];
+
+#[test]
+fn counters_begin_at_their_defaults(rt: HostRuntime) {
+    assert_eq!(rt; wrong(rt.alloc(), Call::Start(1), &STARTED), Some(None));
+}
+
+const WRITTEN: [&str; 4] = [
+    "[{0,1},3,{2,9},{3,9}]",
+    "[{0,1},3,[],{3,1}]",
+    "[{x},{x},{2,9},badarg]",
+    "[7,3,{2,9},badarg]",
+];
+
+#[test]
+fn values_of_a_default(rt: HostRuntime) {
+    assert_eq!(rt; wrong(rt.alloc(), Call::WriteDefault, &WRITTEN), Some(None));
+}
+
+/// Whether a Default is an object with a key, or is none: as the text says.
+fn is_object_of(alloc: Global, keypos: u32, default: &str, key: &str) -> Option<bool> {
+    let (default, _) = read_term(alloc, default).ok()?;
+    let (key, _) = read_term(alloc, key).ok()?;
+    Some(is_object(alloc, keypos, &default, &key))
+}
+
+fn is_no_object_of(alloc: Global, keypos: u32, default: &str, key: &str) -> Option<bool> {
+    let (default, _) = read_term(alloc, default).ok()?;
+    let (key, _) = read_term(alloc, key).ok()?;
+    Some(is_no_object(alloc, keypos, &default, &key))
+}
+
+/// What is no object with a key: where the key stands, what there is, and the key.
+const NO_OBJECTS: [(u32, &str, &str); 4] = [
+    (2, "{x}", "h"),
+    (0, "{x}", "h"),
+    (1, "{x}", "'$end_of_table'"),
+    (1, "7", "h"),
+];
+
+fn are_no_objects(alloc: Global, rows: &[(u32, &'static str, &'static str)]) -> Option<bool> {
+    for (keypos, default, key) in rows {
+        if !is_no_object_of(alloc, *keypos, *default, *key)? {
+            return Some(false);
+        }
+    }
+    Some(true)
 }
 
 #[test]
-fn badarg_goes_before_the_depth(rt: HostRuntime) -> Result<(), Fail> {
-    let alloc = rt.alloc();
-    let default = tuple(alloc, &[Part::Int(0), Part::Int(1)])?;
-    let key = nested(alloc, MAX_DEPTH)?;
-    let past = tuple(alloc, &[Part::Int(3), Part::Int(1)])?;
-    let ops = read_ops(alloc, &past, 1)?;
-    assert!(rt; is_badarg(start_counter(alloc, &default, 1, &key, &ops)));
-    Ok(())
+fn defaults(rt: HostRuntime) {
+    assert!(rt; is_object_of(rt.alloc(), 1, "{x}", "h") == Some(true));
+    assert!(rt; are_no_objects(rt.alloc(), &NO_OBJECTS) == Some(true));
 }

@@ -1,170 +1,83 @@
+use super::rows::{Call, wrong};
 use super::*;
 
-/// `{k,second,2}`.
-fn object(alloc: Global, second: Part) -> Result<Term, Fail> {
-    tuple(alloc, &[Part::Atom("k"), second, Part::Int(2)])
+/// Whether values make this of the object, or are refused and leave it.
+fn writes_in_place(object: &mut Term, specs: ElementSpecs, before: &Term, made: &Term) -> bool {
+    match update_elements(object, specs) {
+        Ok(()) => *object == *made,
+        Err(fault) => is_refusal(&fault, made) && *object == *before,
+    }
 }
 
-/// `{position,value}`.
-fn written(alloc: Global, position: Integer, value: Term) -> Result<Term, Fail> {
-    let mut items = Items::new(alloc);
-    items.push(Term::Int(position))?;
-    items.push(value)?;
-    Ok(Term::Tuple(items))
+fn writes_on_a_copy(alloc: Global, object: &Term, values: &Term, made: &Term) -> bool {
+    match read_element_specs(alloc, values, 1) {
+        Ok(specs) => is_told(&apply_elements(alloc, object, specs), made),
+        Err(_) => false,
+    }
 }
 
-/// Whether the update of `{k,1,2}` makes this, in place and on a copy.
-fn makes(alloc: Global, update: &Term, wanted: &Term) -> Result<bool, Fail> {
-    let mut changed = object(alloc, Part::Int(1))?;
-    let copy = apply_elements(alloc, &changed, read_element_specs(alloc, update, 1)?)?;
-    update_elements(&mut changed, read_element_specs(alloc, update, 1)?)?;
-    Ok(copy == *wanted && changed == *wanted)
-}
-
-/// Why the update of `{k,1,2}` is refused; None where it is done or the object has changed.
-fn refusal(alloc: Global, update: &Term) -> Result<Option<CounterFault>, Fail> {
-    let specs = read_element_specs(alloc, update, 1)?;
-    let mut changed = object(alloc, Part::Int(1))?;
-    let Err(fault) = update_elements(&mut changed, specs) else {
-        return Ok(None);
+/// Whether the values make this, in place and on a copy.
+pub fn writes(alloc: Global, object: &Term, values: &Term, made: &Term) -> Option<bool> {
+    let Ok(specs) = read_element_specs(alloc, values, 1) else {
+        return Some(false);
     };
-    if changed != object(alloc, Part::Int(1))? {
-        return Ok(None);
+    let in_place = writes_in_place(&mut object.try_clone(alloc).ok()?, specs, object, made);
+    Some(in_place && writes_on_a_copy(alloc, object, values, made))
+}
+
+/// Of several values for a position the last stays. A position past the tuple is refused, wherever it stands.
+const WRITTEN: [&str; 11] = [
+    "[{k,1,2},{2,y},{k,y,2}]",
+    "[{k,1,2},[{2,y}],{k,y,2}]",
+    "[{k,1,2},[{2,x},{2,y}],{k,y,2}]",
+    "[{k,1,2},[{2,y},{2,x},{2,y}],{k,y,2}]",
+    "[{k,1,2},[{3,x},{2,y}],{k,y,x}]",
+    "[{k,1,2},[],{k,1,2}]",
+    "[{k,1,2},{4,x},badarg]",
+    "[{k,1,2},[{4,x}],badarg]",
+    "[{k,1,2},[{2,x},{4,x}],badarg]",
+    "[{k,1,2},[{4,x},{2,x}],badarg]",
+    "[1,[],badarg]",
+];
+
+#[test]
+fn values_of_elements(rt: HostRuntime) {
+    assert_eq!(rt; wrong(rt.alloc(), Call::Write, &WRITTEN), Some(None));
+}
+
+/// The first text that is read as values for an object whose key stands first.
+fn read_as_values(alloc: Global, texts: &[&'static str]) -> Option<Option<&'static str>> {
+    for text in texts {
+        let (values, _) = read_term(alloc, *text).ok()?;
+        if !matches!(
+            read_element_specs(alloc, &values, 1),
+            Err(CounterFault::Badarg)
+        ) {
+            return Some(Some(*text));
+        }
     }
-    Ok(Some(fault))
+    Some(None)
 }
 
-/// Whether the update makes `{k,y,2}`.
-fn makes_y(alloc: Global, update: &Term) -> Result<bool, Fail> {
-    let wanted = object(alloc, Part::Atom("y"))?;
-    makes(alloc, update, &wanted)
-}
+const WRONG: [&str; 15] = [
+    "{0,x}",
+    "{1,x}",
+    "{-2,x}",
+    "{x,2}",
+    "{2}",
+    "{2,3,4}",
+    "{}",
+    "[{2,3},{0,x}]",
+    "[{2,3},{1,x}]",
+    "[{2,3},{-2,x}]",
+    "[{2,3},{x,2}]",
+    "[{2,3},{2}]",
+    "[{2,3},{2,3,4}]",
+    "[{2,3},{}]",
+    "2",
+];
 
 #[test]
-fn one_value(rt: HostRuntime) -> Result<(), Fail> {
-    let alloc = rt.alloc();
-    let update = tuple(alloc, &[Part::Int(2), Part::Atom("y")])?;
-    assert!(rt; makes_y(alloc, &update)?);
-    Ok(())
-}
-
-#[test]
-fn last_value_stays(rt: HostRuntime) -> Result<(), Fail> {
-    let alloc = rt.alloc();
-    let x = [Part::Int(2), Part::Atom("x")];
-    let y = [Part::Int(2), Part::Atom("y")];
-    let rows: [&[&[Part]]; 3] = [&[&y], &[&x, &y], &[&y, &x, &y]];
-    for update in rows {
-        assert!(rt; makes_y(alloc, &list(alloc, update)?)?);
-    }
-    Ok(())
-}
-
-#[test]
-fn no_value(rt: HostRuntime) -> Result<(), Fail> {
-    let alloc = rt.alloc();
-    let none = Term::List(Items::new(alloc));
-    assert!(rt; makes(alloc, &none, &object(alloc, Part::Int(1))?)?);
-    Ok(())
-}
-
-#[test]
-fn wrong_values(rt: HostRuntime) -> Result<(), Fail> {
-    let alloc = rt.alloc();
-    let rows: [&[Part]; 7] = [
-        &[Part::Int(0), Part::Atom("x")],
-        &[Part::Int(1), Part::Atom("x")],
-        &[Part::Int(-2), Part::Atom("x")],
-        &[Part::Atom("x"), Part::Int(2)],
-        &[Part::Int(2)],
-        &[Part::Int(2), Part::Int(3), Part::Int(4)],
-        &[],
-    ];
-    for wrong in rows {
-        assert!(rt; is_badarg(read_element_specs(alloc, &tuple(alloc, wrong)?, 1)));
-        let good = [Part::Int(2), Part::Int(3)];
-        assert!(rt; is_badarg(read_element_specs(alloc, &list(alloc, &[&good, wrong])?, 1)));
-    }
-    assert!(rt; is_badarg(read_element_specs(alloc, &Term::Int(2), 1)));
-    Ok(())
-}
-
-/// Whether the update of `{k,1,2}` is refused with badarg.
-fn is_refused(alloc: Global, update: &Term) -> Result<bool, Fail> {
-    Ok(matches!(refusal(alloc, update)?, Some(CounterFault::Badarg)))
-}
-
-const GOOD: [Part; 2] = [Part::Int(2), Part::Atom("x")];
-
-const PAST: [Part; 2] = [Part::Int(4), Part::Atom("x")];
-
-#[test]
-fn past_the_tuple(rt: HostRuntime) -> Result<(), Fail> {
-    let alloc = rt.alloc();
-    assert!(rt; is_refused(alloc, &tuple(alloc, &PAST)?)?);
-    assert!(rt; is_refused(alloc, &list(alloc, &[&PAST])?)?);
-    assert!(rt; is_refused(alloc, &list(alloc, &[&GOOD, &PAST])?)?);
-    assert!(rt; is_refused(alloc, &list(alloc, &[&PAST, &GOOD])?)?);
-    Ok(())
-}
-
-#[test]
-fn no_tuple(rt: HostRuntime) -> Result<(), Fail> {
-    let alloc = rt.alloc();
-    let none = Term::List(Items::new(alloc));
-    let specs = read_element_specs(alloc, &none, 1)?;
-    assert!(rt; is_badarg(apply_elements(alloc, &Term::Int(1), specs)));
-    Ok(())
-}
-
-/// The list of these values for the second element, in turn, each of so many levels.
-fn of_depths(alloc: Global, depths: &[usize]) -> Result<Term, Fail> {
-    let mut items = Items::new(alloc);
-    for levels in depths {
-        items.push(written(alloc, 2, nested(alloc, *levels)?)?)?;
-    }
-    Ok(Term::List(items))
-}
-
-#[test]
-fn values_too_deep(rt: HostRuntime) -> Result<(), Fail> {
-    let alloc = rt.alloc();
-    let rows: [&[usize]; 3] = [&[MAX_DEPTH], &[1, MAX_DEPTH], &[MAX_DEPTH + 1]];
-    for depths in rows {
-        let fault = refusal(alloc, &of_depths(alloc, depths)?)?;
-        assert!(rt; matches!(fault, Some(CounterFault::SystemLimit)));
-    }
-    let alone = written(alloc, 2, nested(alloc, MAX_DEPTH)?)?;
-    assert!(rt; matches!(refusal(alloc, &alone)?, Some(CounterFault::SystemLimit)));
-    Ok(())
-}
-
-#[test]
-fn values_just_deep_enough(rt: HostRuntime) -> Result<(), Fail> {
-    let alloc = rt.alloc();
-    let rows: [&[usize]; 2] = [&[MAX_DEPTH - 1], &[MAX_DEPTH, MAX_DEPTH - 1]];
-    for depths in rows {
-        let specs = read_element_specs(alloc, &of_depths(alloc, depths)?, 1)?;
-        let mut changed = object(alloc, Part::Int(1))?;
-        update_elements(&mut changed, specs)?;
-        assert!(rt; changed.depth() == MAX_DEPTH);
-    }
-    Ok(())
-}
-
-/// The list of so many values for the second element, from 0 on.
-fn of_values(alloc: Global, count: Integer) -> Result<Term, Fail> {
-    let mut items = Items::new(alloc);
-    for n in 0..count {
-        items.push(written(alloc, 2, Term::Int(n))?)?;
-    }
-    Ok(Term::List(items))
-}
-
-#[test]
-fn five_thousand_values(rt: HostRuntime) -> Result<(), Fail> {
-    let alloc = rt.alloc();
-    let wanted = object(alloc, Part::Int(4999))?;
-    assert!(rt; makes(alloc, &of_values(alloc, 5000)?, &wanted)?);
-    Ok(())
+fn what_is_no_value(rt: HostRuntime) {
+    assert_eq!(rt; read_as_values(rt.alloc(), &WRONG), Some(None));
 }

@@ -3,7 +3,7 @@ use super::{Row, wrong_in};
 use ets_term::{AllSame, Fnv, KeyHash};
 use node_core::{Limits, Node, Step};
 use std::alloc::{AllocError, Global};
-use std::test::Fail;
+use std::process::Abort;
 
 /// What is due, if anything: a table's growth, or that one of its buckets be made ready.
 fn due<H: KeyHash + Copy + Drop>(node: &Node<H>) -> Option<(u32, Option<u32>)> {
@@ -66,8 +66,7 @@ fn wrong_due<H: KeyHash + Copy + Drop>(
 }
 
 #[test]
-fn the_first_table_with_work_is_due(rt: HostRuntime) -> Result<(), Fail> {
-    assert_eq!(rt; wrong_due(rt.alloc(), Fnv, &DUE)?, None);
-    assert_eq!(rt; wrong_due(rt.alloc(), AllSame, &DUE)?, None);
-    Ok(())
+fn the_first_table_with_work_is_due(rt: HostRuntime) {
+    assert_eq!(rt; wrong_due(rt.alloc(), Fnv, &DUE), Ok(None));
+    assert_eq!(rt; wrong_due(rt.alloc(), AllSame, &DUE), Ok(None));
 }

@@ -10,7 +10,7 @@ use super::{Row, does, wrong_in};
 use ets_term::Fnv;
 use node_core::{Limits, Node};
 use std::alloc::{AllocError, Global};
-use std::test::Fail;
+use std::process::Abort;
 
 /// Past 2,048, at which what doubles is moved.
 const COUNT: u32 = 2_100;
@@ -53,6 +53,31 @@ const STARTED: [Row; 2] = [
     (Enrol(0), "<0"),
     (Ask(0, "new(t,[named_table,duplicate_bag])"), "t"),
 ];
+
+/// What is tried with a new node.
+#[derive(Clone, Copy)]
+enum Trial {
+    Growth,
+    Objects,
+    Processes,
+    Tables,
+    Names,
+}
+
+fn passes_on(alloc: Global, node: &mut Node<Fnv>, trial: Trial) -> Result<bool, AllocError> {
+    match trial {
+        Trial::Growth => growth::grows(alloc, node),
+        Trial::Objects => objects::has_objects(alloc, node),
+        Trial::Processes => processes::serves(alloc, node, 4_096),
+        Trial::Tables => processes::has_tables(alloc, node, COUNT),
+        Trial::Names => processes::takes_names(alloc, node),
+    }
+}
+
+/// Whether a new node passes a trial.
+fn passes(alloc: Global, trial: Trial) -> Result<bool, AllocError> {
+    passes_on(alloc, &mut Node::new(alloc, Limits::usual(), Fnv), trial)
+}
 
 /// Whether both start in a node.
 fn starts(alloc: Global, node: &mut Node<Fnv>) -> Result<bool, AllocError> {

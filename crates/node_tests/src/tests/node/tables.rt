@@ -3,7 +3,7 @@ use super::{Row, term, wrong_in, wrong_within};
 use ets_term::{Fnv, Term};
 use node_core::{Limits, Node};
 use std::alloc::{AllocError, Global};
-use std::test::Fail;
+use std::process::Abort;
 
 const AS_MANY: [Row; 5] = [
     (Enrol(0), "<0"),
@@ -14,14 +14,13 @@ const AS_MANY: [Row; 5] = [
 ];
 
 #[test]
-fn as_many_are_made_as_the_limit(rt: HostRuntime) -> Result<(), Fail> {
+fn as_many_are_made_as_the_limit(rt: HostRuntime) {
     let limits = Limits {
         processes: 1,
         tables: 1,
         objects: 1,
     };
-    assert_eq!(rt; wrong_within(rt.alloc(), limits, &AS_MANY)?, None);
-    Ok(())
+    assert_eq!(rt; wrong_within(rt.alloc(), limits, &AS_MANY), Ok(None));
 }
 
 const TWO: [Row; 3] = [
@@ -48,21 +47,33 @@ fn resolved(alloc: Global, named: &str) -> Result<Option<u32>, AllocError> {
     resolved_after(alloc, &mut node, &TWO, &named)
 }
 
-#[test]
-fn names_and_identifiers_are_resolved(rt: HostRuntime) -> Result<(), Fail> {
-    let rows = [
-        ("t", Some(0)),
-        ("#0", Some(0)),
-        ("#1", Some(1)),
-        ("u", None),
-        ("#2", None),
-        ("0", None),
-        ("[t]", None),
-    ];
+/// What a term names in a node with these two tables.
+const NAMED: [(&str, Option<u32>); 7] = [
+    ("t", Some(0)),
+    ("#0", Some(0)),
+    ("#1", Some(1)),
+    ("u", None),
+    ("#2", None),
+    ("0", None),
+    ("[t]", None),
+];
+
+/// The first term that names another table than is wanted.
+fn wrong_named(
+    alloc: Global,
+    rows: &[(&'static str, Option<u32>)],
+) -> Result<Option<&'static str>, AllocError> {
     for (named, wanted) in rows {
-        assert_eq!(rt; resolved(rt.alloc(), named)?, wanted, "{named}");
+        if resolved(alloc, *named)? != *wanted {
+            return Ok(Some(*named));
+        }
     }
-    Ok(())
+    Ok(None)
+}
+
+#[test]
+fn names_and_identifiers_are_resolved(rt: HostRuntime) {
+    assert_eq!(rt; wrong_named(rt.alloc(), &NAMED), Ok(None));
 }
 
 const REFUSED: [Row; 4] = [
@@ -85,7 +96,6 @@ fn next(alloc: Global) -> Result<u32, AllocError> {
 }
 
 #[test]
-fn a_refused_table_takes_no_identifier(rt: HostRuntime) -> Result<(), Fail> {
-    assert_eq!(rt; next(rt.alloc())?, 2);
-    Ok(())
+fn a_refused_table_takes_no_identifier(rt: HostRuntime) {
+    assert_eq!(rt; next(rt.alloc()), Ok(2));
 }

@@ -1,99 +1,101 @@
 // Walks among the steps of others: what each comes to, and what then stands. The wanted values are those of the rules.
-use super::Event::{Ask, End, Enrol};
+use super::Event::{Ask, Enrol};
 use super::{Event, Row, does, has_items, term, wrong_in};
 use ets_term::{AllSame, Fnv, KeyHash, Term};
 use handing::{Handing, Plan};
 use node_core::{Limits, Node, Others, WalkFault, walk_among};
 use std::alloc::{AllocError, Global};
-use std::test::Fail;
+use std::process::Abort;
 
 mod handing;
 
-/// What a walk of process 0 over the table t came to: its keys as a list, or its fault. And the node and the others after it.
-#[derive(Drop)]
-struct Outcome<H: KeyHash + Copy + Drop> {
-    result: Result<Term, WalkFault>,
-    node: Node<H>,
-    others: Handing,
+/// A walk of process 0 over the table t: the steps before it, its limit, and what others do meanwhile.
+#[derive(Clone, Copy)]
+struct Tried<'a> {
+    rows: &'a [Row],
+    limit: u32,
+    plan: Plan,
 }
 
-/// Walks after these steps, if each was answered as its row says.
+/// What a walk came to: its keys as a list, or its fault. And how many keys the others saw.
+type Outcome = (Result<Term, WalkFault>, usize);
+
+/// Walks, if each step before it is answered as its row says.
 fn walk<H: KeyHash + Copy + Drop>(
     alloc: Global,
     node: &mut Node<H>,
-    rows: &[Row],
-    limit: u32,
-    plan: Plan,
-) -> Result<(Result<Term, WalkFault>, Handing), AllocError> {
-    if wrong_in(alloc, node, rows)?.is_some() {
+    tried: Tried,
+) -> Result<Outcome, AllocError> {
+    if wrong_in(alloc, node, tried.rows)?.is_some() {
         return Err(AllocError);
     }
     let table = term(alloc, "t")?;
-    let mut others = Handing::new(alloc, plan);
-    let result = match walk_among(node, 0, &table, limit, &mut others) {
+    let mut others = Handing::new(alloc, tried.plan);
+    let result = match walk_among(node, 0, &table, tried.limit, &mut others) {
         Ok(walk) => Ok(Term::List(walk.keys)),
         Err(fault) => Err(fault),
     };
-    Ok((result, others))
+    Ok((result, others.seen().len()))
 }
 
-/// Walks so in a new node.
-fn walked<H: KeyHash + Copy + Drop>(
+fn comes_to_in<H: KeyHash + Copy + Drop>(
     alloc: Global,
-    hash: H,
-    rows: &[Row],
-    limit: u32,
-    plan: Plan,
-) -> Result<Outcome<H>, AllocError> {
-    let mut node = Node::new(alloc, Limits::usual(), hash);
-    let (result, others) = walk(alloc, &mut node, rows, limit, plan)?;
-    Ok(Outcome {
-        result,
-        node,
-        others,
-    })
-}
-
-/// Whether a walk comes to its end with these keys, in any order.
-fn comes_to<H: KeyHash + Copy + Drop>(
-    alloc: Global,
-    hash: H,
-    rows: &[Row],
-    limit: u32,
-    plan: Plan,
+    node: &mut Node<H>,
+    tried: Tried,
     wanted: &str,
 ) -> Result<bool, AllocError> {
-    let outcome = walked(alloc, hash, rows, limit, plan)?;
-    match &outcome.result {
-        Ok(keys) => has_items(alloc, keys, wanted),
-        Err(_) => Ok(false),
+    match walk(alloc, node, tried)? {
+        (Ok(keys), _) => has_items(alloc, &keys, wanted),
+        (Err(_), _) => Ok(false),
     }
 }
 
-/// The fault of a walk, how many keys the others saw, and whether the table is then fixed no more.
-fn ended<H: KeyHash + Copy + Drop>(
+/// Whether a walk in a new node comes to its end with these keys, in any order.
+fn comes_to<H: KeyHash + Copy + Drop>(
     alloc: Global,
     hash: H,
-    rows: &[Row],
-    limit: u32,
-    plan: Plan,
-) -> Result<(Option<WalkFault>, usize, bool), AllocError> {
-    let mut outcome = walked(alloc, hash, rows, limit, plan)?;
-    let is_free = does(alloc, &mut outcome.node, Ask(0, "info(t,fixed)"), "false")?;
-    let seen = outcome.others.seen().len();
-    Ok((outcome.result.err(), seen, is_free))
+    tried: Tried,
+    wanted: &str,
+) -> Result<bool, AllocError> {
+    comes_to_in(
+        alloc,
+        &mut Node::new(alloc, Limits::usual(), hash),
+        tried,
+        wanted,
+    )
 }
 
-/// The fault of a walk where nothing needs stand after it.
-fn fault_of(
+/// The fault of a walk, how many keys the others saw, and whether a step is then answered so.
+type End = (Option<WalkFault>, usize, bool);
+
+fn end_in<H: KeyHash + Copy + Drop>(
     alloc: Global,
-    rows: &[Row],
-    limit: u32,
-    plan: Plan,
-) -> Result<Option<WalkFault>, AllocError> {
-    let outcome = walked(alloc, Fnv, rows, limit, plan)?;
-    Ok(outcome.result.err())
+    node: &mut Node<H>,
+    tried: Tried,
+    then: Row,
+) -> Result<End, AllocError> {
+    let (result, seen) = walk(alloc, node, tried)?;
+    let (event, wanted) = then;
+    Ok((result.err(), seen, does(alloc, node, event, wanted)?))
 }
+
+/// The same in a new node.
+fn end<H: KeyHash + Copy + Drop>(
+    alloc: Global,
+    hash: H,
+    tried: Tried,
+    then: Row,
+) -> Result<End, AllocError> {
+    end_in(
+        alloc,
+        &mut Node::new(alloc, Limits::usual(), hash),
+        tried,
+        then,
+    )
+}
+
+/// The table is fixed no more.
+const FREE: Row = (Ask(0, "info(t,fixed)"), "false");
 
 /// The public table t of process 0, beside process 1.
 const EMPTY: [Row; 3] = [
@@ -126,32 +128,29 @@ const NINE: [Row; 4] = [
     ),
 ];
 
+const KEYS_AGAIN: Tried<'static> = Tried {
+    rows: &NINE,
+    limit: 100,
+    plan: Plan::Again,
+};
+
 #[test]
-fn keys_that_go_and_come_again_are_walked_once(rt: HostRuntime) -> Result<(), Fail> {
-    let alloc = rt.alloc();
+fn keys_that_go_and_come_again_are_walked_once(rt: HostRuntime) {
     let all = "[1,2,3,4,5,6,7,8,9]";
-    assert!(rt; comes_to(alloc, Fnv, &NINE, 100, Plan::Again, all)?);
-    assert!(rt; comes_to(alloc, AllSame, &NINE, 100, Plan::Again, all)?);
-    Ok(())
+    assert!(rt; comes_to(rt.alloc(), Fnv, KEYS_AGAIN, all) == Ok(true));
+    assert!(rt; comes_to(rt.alloc(), AllSame, KEYS_AGAIN, all) == Ok(true));
 }
+
+const FURTHER: Tried<'static> = Tried {
+    rows: &ONE,
+    limit: 5,
+    plan: Plan::Further,
+};
 
 #[test]
-fn a_key_past_the_limit_ends_the_walk(rt: HostRuntime) -> Result<(), Fail> {
+fn a_key_past_the_limit_ends_the_walk(rt: HostRuntime) {
     let past = (Some(WalkFault::LimitReached), 5, true);
-    assert_eq!(rt; ended(rt.alloc(), AllSame, &ONE, 5, Plan::Further)?, past);
-    Ok(())
-}
-
-/// The fault of a walk over two keys, and whether a step is then answered so.
-fn stopped(
-    alloc: Global,
-    plan: Plan,
-    event: Event,
-    wanted: &str,
-) -> Result<(Option<WalkFault>, bool), AllocError> {
-    let mut outcome = walked(alloc, Fnv, &TWO, 9, plan)?;
-    let stands = does(alloc, &mut outcome.node, event, wanted)?;
-    Ok((outcome.result.err(), stands))
+    assert!(rt; end(rt.alloc(), AllSame, FURTHER, FREE) == Ok(past));
 }
 
 const GONE: [Event; 1] = [Ask(1, "delete(t)")];
@@ -162,28 +161,6 @@ const MADE_ANEW: [Event; 3] = [
     Ask(1, "insert(t,[{1,a},{2,b}])"),
 ];
 
-#[test]
-fn a_table_that_goes_is_lost(rt: HostRuntime) -> Result<(), Fail> {
-    let alloc = rt.alloc();
-    let lost = (Some(WalkFault::Lost), true);
-    assert_eq!(rt;
-        stopped(
-            alloc,
-            Plan::Always(&GONE),
-            Ask(0, "whereis(t)"),
-            "undefined"
-        )?,
-        lost
-    );
-    let anew = Plan::Always(&MADE_ANEW);
-    assert_eq!(rt;
-        stopped(alloc, anew, Ask(0, "info(t,fixed)"), "false")?,
-        lost
-    );
-    assert_eq!(rt; stopped(alloc, anew, Ask(0, "info(t,size)"), "2")?, lost);
-    Ok(())
-}
-
 /// A step of the walker among others.
 const ENROLS: [Event; 3] = [
     Ask(1, "insert(t,{3,c})"),
@@ -191,7 +168,11 @@ const ENROLS: [Event; 3] = [
     Ask(1, "insert(t,{4,d})"),
 ];
 
-const ENDS: [Event; 3] = [Ask(1, "insert(t,{3,c})"), End(0), Ask(1, "insert(t,{4,d})")];
+const ENDS: [Event; 3] = [
+    Ask(1, "insert(t,{3,c})"),
+    Event::End(0),
+    Ask(1, "insert(t,{4,d})"),
+];
 
 const ASKS: [Event; 3] = [
     Ask(1, "insert(t,{3,c})"),
@@ -199,40 +180,81 @@ const ASKS: [Event; 3] = [
     Ask(1, "insert(t,{4,d})"),
 ];
 
-#[test]
-fn a_step_of_the_walker_is_not_done(rt: HostRuntime) -> Result<(), Fail> {
-    let alloc = rt.alloc();
-    let own = (Some(WalkFault::OwnStep), true);
-    for events in [&ENROLS, &ENDS, &ASKS] {
-        let plan = Plan::Always(events.as_slice());
-        let left = Ask(0, "tab2list(t)");
-        assert_eq!(rt; stopped(alloc, plan, left, "~[{1,a},{2,b},{3,c}]")?, own);
-        assert_eq!(rt;
-            stopped(alloc, plan, Ask(0, "info(t,fixed)"), "false")?,
-            own
-        );
+/// What others do in a walk over two keys, and a step that is then answered so.
+type Stop = (Plan, Row);
+
+/// The place of the first row of which the walk does not end with this fault, or the step is answered otherwise.
+fn wrong_stop(
+    alloc: Global,
+    wanted: &WalkFault,
+    rows: &[Stop],
+) -> Result<Option<usize>, AllocError> {
+    for (place, stop) in rows.iter().enumerate() {
+        if !stops(alloc, *stop, wanted)? {
+            return Ok(Some(place));
+        }
     }
-    Ok(())
+    Ok(None)
+}
+
+fn stops(alloc: Global, stop: Stop, wanted: &WalkFault) -> Result<bool, AllocError> {
+    let (plan, then) = stop;
+    let tried = Tried {
+        rows: &TWO,
+        limit: 9,
+        plan,
+    };
+    let (fault, _, stands) = end(alloc, Fnv, tried, then)?;
+    Ok(fault.as_ref() == Some(wanted) && stands)
+}
+
+const LOST: [Stop; 3] = [
+    (Plan::Always(&GONE), (Ask(0, "whereis(t)"), "undefined")),
+    (Plan::Always(&MADE_ANEW), FREE),
+    (Plan::Always(&MADE_ANEW), (Ask(0, "info(t,size)"), "2")),
+];
+
+#[test]
+fn a_table_that_goes_is_lost(rt: HostRuntime) {
+    assert_eq!(rt; wrong_stop(rt.alloc(), &WalkFault::Lost, &LOST), Ok(None));
+}
+
+const LEFT: Row = (Ask(0, "tab2list(t)"), "~[{1,a},{2,b},{3,c}]");
+
+const OWN_STEPS: [Stop; 6] = [
+    (Plan::Always(&ENROLS), LEFT),
+    (Plan::Always(&ENROLS), FREE),
+    (Plan::Always(&ENDS), LEFT),
+    (Plan::Always(&ENDS), FREE),
+    (Plan::Always(&ASKS), LEFT),
+    (Plan::Always(&ASKS), FREE),
+];
+
+#[test]
+fn a_step_of_the_walker_is_not_done(rt: HostRuntime) {
+    assert_eq!(rt;
+        wrong_stop(rt.alloc(), &WalkFault::OwnStep, &OWN_STEPS),
+        Ok(None)
+    );
 }
 
 #[test]
-fn want_of_memory_ends_the_walk(rt: HostRuntime) -> Result<(), Fail> {
-    let memory = (Some(WalkFault::Memory), true);
-    let fixed = Ask(0, "info(t,fixed)");
-    assert_eq!(rt;
-        stopped(rt.alloc(), Plan::NoMemory, fixed, "false")?,
-        memory
-    );
-    Ok(())
+fn want_of_memory_ends_the_walk(rt: HostRuntime) {
+    let rows = [(Plan::NoMemory, FREE)];
+    assert_eq!(rt; wrong_stop(rt.alloc(), &WalkFault::Memory, &rows), Ok(None));
 }
 
 const CLEARS: [Event; 1] = [Ask(1, "delete_all_objects(t)")];
 
+const EMPTIED: Tried<'static> = Tried {
+    rows: &TWO,
+    limit: 9,
+    plan: Plan::Always(&CLEARS),
+};
+
 #[test]
-fn a_table_that_is_emptied_has_one_key(rt: HostRuntime) -> Result<(), Fail> {
-    let plan = Plan::Always(&CLEARS);
-    assert_eq!(rt; ended(rt.alloc(), Fnv, &TWO, 9, plan)?, (None, 1, true));
-    Ok(())
+fn a_table_that_is_emptied_has_one_key(rt: HostRuntime) {
+    assert!(rt; end(rt.alloc(), Fnv, EMPTIED, FREE) == Ok((None, 1, true)));
 }
 
 const HIDDEN: [Row; 3] = [
@@ -245,23 +267,36 @@ const ENDED: [Row; 4] = [
     (Enrol(0), "<0"),
     (Enrol(1), "<1"),
     (Ask(1, "new(t,[named_table])"), "t"),
-    (End(0), "true"),
+    (Event::End(0), "true"),
 ];
 
-#[test]
-fn a_table_that_is_not_to_be_read_is_lost(rt: HostRuntime) -> Result<(), Fail> {
-    for rows in [HIDDEN.as_slice(), ENDED.as_slice(), &[]] {
-        let fault = fault_of(rt.alloc(), rows, 9, Plan::Again)?;
-        assert_eq!(rt; fault, Some(WalkFault::Lost));
-    }
-    Ok(())
+/// The fault of a walk, where the steps after it need no answer.
+fn fault_of(alloc: Global, rows: &[Row], limit: u32) -> Result<Option<WalkFault>, AllocError> {
+    let tried = Tried {
+        rows,
+        limit,
+        plan: Plan::Again,
+    };
+    let (fault, _, _) = end(alloc, Fnv, tried, FREE)?;
+    Ok(fault)
 }
 
 #[test]
-fn no_key_is_within_no_limit(rt: HostRuntime) -> Result<(), Fail> {
-    let alloc = rt.alloc();
-    assert!(rt; comes_to(alloc, Fnv, &EMPTY, 0, Plan::Again, "[]")?);
-    let fault = fault_of(alloc, &TWO, 0, Plan::Again)?;
-    assert_eq!(rt; fault, Some(WalkFault::LimitReached));
-    Ok(())
+fn a_table_that_is_not_to_be_read_is_lost(rt: HostRuntime) {
+    let lost = Ok(Some(WalkFault::Lost));
+    assert!(rt; fault_of(rt.alloc(), &HIDDEN, 9) == lost);
+    assert!(rt; fault_of(rt.alloc(), &ENDED, 9) == lost);
+    assert!(rt; fault_of(rt.alloc(), &[], 9) == lost);
+}
+
+const NO_LIMIT: Tried<'static> = Tried {
+    rows: &EMPTY,
+    limit: 0,
+    plan: Plan::Again,
+};
+
+#[test]
+fn no_key_is_within_no_limit(rt: HostRuntime) {
+    assert!(rt; comes_to(rt.alloc(), Fnv, NO_LIMIT, "[]") == Ok(true));
+    assert!(rt; fault_of(rt.alloc(), &TWO, 0) == Ok(Some(WalkFault::LimitReached)));
 }

@@ -1,7 +1,8 @@
 use super::Event::{End, Enrol, Fix, Info, New, Receive, Resolve, Set};
-use super::{Row, wrong};
-use std::test::Fail;
+use super::{Row, wrong_life};
+use std::process::Abort;
 
+/// A living heir inherits.
 const INHERITED: [Row; 11] = [
     (Enrol(0), "{}"),
     (Enrol(1), "{}"),
@@ -16,12 +17,7 @@ const INHERITED: [Row; 11] = [
     (End(1), "** noproc"),
 ];
 
-#[test]
-fn a_living_heir_inherits(rt: HostRuntime) -> Result<(), Fail> {
-    assert_eq!(rt; wrong(rt.alloc(), &INHERITED)?, None);
-    Ok(())
-}
-
+/// Without a living heir tables go.
 const NO_HEIR: [Row; 12] = [
     (Enrol(0), "{}"),
     (Enrol(1), "{}"),
@@ -37,12 +33,7 @@ const NO_HEIR: [Row; 12] = [
     (Resolve("#3"), "none"),
 ];
 
-#[test]
-fn without_a_living_heir_tables_go(rt: HostRuntime) -> Result<(), Fail> {
-    assert_eq!(rt; wrong(rt.alloc(), &NO_HEIR)?, None);
-    Ok(())
-}
-
+/// Messages come in order of creation.
 const IN_ORDER: [Row; 11] = [
     (Enrol(0), "{}"),
     (Enrol(1), "{}"),
@@ -60,12 +51,7 @@ const IN_ORDER: [Row; 11] = [
     (Info(3, "heir"), "<1"),
 ];
 
-#[test]
-fn messages_come_in_order_of_creation(rt: HostRuntime) -> Result<(), Fail> {
-    assert_eq!(rt; wrong(rt.alloc(), &IN_ORDER)?, None);
-    Ok(())
-}
-
+/// An end ends the fixes of its process.
 const FIXES: [Row; 12] = [
     (Enrol(0), "{}"),
     (Enrol(1), "{}"),
@@ -81,12 +67,7 @@ const FIXES: [Row; 12] = [
     (Info(0, "owner"), "<2"),
 ];
 
-#[test]
-fn an_end_ends_the_fixes_of_its_process(rt: HostRuntime) -> Result<(), Fail> {
-    assert_eq!(rt; wrong(rt.alloc(), &FIXES)?, None);
-    Ok(())
-}
-
+/// A number is enrolled once.
 const ENROLLED: [Row; 8] = [
     (Enrol(7), "{}"),
     (Enrol(7), "** badarg"),
@@ -98,8 +79,9 @@ const ENROLLED: [Row; 8] = [
     (End(1), "** noproc"),
 ];
 
+const LIVES: [&[Row]; 5] = [&INHERITED, &NO_HEIR, &IN_ORDER, &FIXES, &ENROLLED];
+
 #[test]
-fn a_number_is_enrolled_once(rt: HostRuntime) -> Result<(), Fail> {
-    assert_eq!(rt; wrong(rt.alloc(), &ENROLLED)?, None);
-    Ok(())
+fn processes_enrol_and_end(rt: HostRuntime) {
+    assert_eq!(rt; wrong_life(rt.alloc(), &LIVES), Ok(None));
 }

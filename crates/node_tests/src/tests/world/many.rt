@@ -2,34 +2,36 @@
 use super::Tables;
 use crate::tests::text::term;
 use bucket_table::PlainRows;
-use ets_term::{Items, Term};
+use ets_term::{Atom, Items, Term};
 use fixed_walk::Walked;
 use ownership::{NewOptions, World, WorldFault};
-use std::alloc::Global;
-use std::test::Fail;
+use std::alloc::{AllocError, Global};
+use std::process::Abort;
 use table_ops::Table;
 
 const MANY: u32 = 300;
 
 const GONE: u32 = 1_000;
 
-/// The option of an heir, as the only one of the list.
-fn heir_options(alloc: Global, heir: u32) -> Result<Term, WorldFault> {
+/// `{heir,Heir,1}`.
+fn heir_entry(alloc: Global, heir: u32) -> Result<Term, AllocError> {
     let mut entry = Items::new(alloc);
     entry.push(term(alloc, "heir")?)?;
     entry.push(Term::Pid(heir))?;
     entry.push(Term::Int(1))?;
+    Ok(Term::Tuple(entry))
+}
+
+fn options(alloc: Global, heir: u32) -> Result<NewOptions, WorldFault> {
     let mut list = Items::new(alloc);
-    list.push(Term::Tuple(entry))?;
-    Ok(Term::List(list))
+    list.push(heir_entry(alloc, heir)?)?;
+    NewOptions::read(alloc, &Term::List(list))
 }
 
 /// A table of the process, with this heir.
 fn make(alloc: Global, world: &mut Tables, pid: u32, heir: u32) -> Result<(), WorldFault> {
-    let options = NewOptions::read(alloc, &heir_options(alloc, heir)?)?;
-    let Term::Atom(name) = term(alloc, "t")? else {
-        return Err(WorldFault::Badarg);
-    };
+    let options = options(alloc, heir)?;
+    let name = Atom::new(alloc, "t").map_err(|_| AllocError)?;
     let rows = PlainRows::new(alloc);
     let table = Table::new(alloc, rows, options.kind, options.keypos, 10);
     world.new_table(pid, &name, options, Walked::new(alloc, table))?;
@@ -68,19 +70,32 @@ fn comes_in_order(messages: &[Term], wanted: u32) -> bool {
     messages.len() == wanted as usize
 }
 
-/// Whether seventy tables of a process go to its heir, in order, and with the heir.
-fn hands_seventy_on(alloc: Global, world: &mut Tables) -> Result<bool, WorldFault> {
+/// Process 0 makes seventy tables, whose heir is process 1.
+fn make_seventy(alloc: Global, world: &mut Tables) -> Result<(), WorldFault> {
     world.enrol(0)?;
     world.enrol(1)?;
     for _ in 0..70 {
         make(alloc, world, 0, 1)?;
     }
-    world.end(0)?;
-    if !comes_in_order(world.mailbox(1), 70) || seen(world, 69) != (1, false) {
-        return Ok(false);
+    Ok(())
+}
+
+fn have_gone(world: &Tables) -> bool {
+    for id in 0..70 {
+        if seen(world, id) != (GONE, false) {
+            return false;
+        }
     }
+    true
+}
+
+/// Whether the seventy go to their heir, in order, and with the heir.
+fn hands_seventy_on(alloc: Global, world: &mut Tables) -> Result<bool, WorldFault> {
+    make_seventy(alloc, world)?;
+    world.end(0)?;
+    let come = comes_in_order(world.mailbox(1), 70) && seen(world, 69) == (1, false);
     world.end(1)?;
-    Ok((0..70).all(|id| seen(world, id) == (GONE, false)))
+    Ok(come && have_gone(world))
 }
 
 fn seventy(alloc: Global) -> Result<bool, WorldFault> {
@@ -89,9 +104,8 @@ fn seventy(alloc: Global) -> Result<bool, WorldFault> {
 }
 
 #[test]
-fn seventy_tables_go_to_one_heir(rt: HostRuntime) -> Result<(), Fail> {
-    assert_eq!(rt; seventy(rt.alloc()), Ok(true));
-    Ok(())
+fn seventy_tables_go_to_one_heir(rt: HostRuntime) {
+    assert!(rt; seventy(rt.alloc()) == Ok(true));
 }
 
 /// The heir of a table, and the process that fixes it.
@@ -174,7 +188,6 @@ fn wrong_of_many(alloc: Global) -> Result<Option<(u32, u32)>, WorldFault> {
 }
 
 #[test]
-fn three_hundred_end(rt: HostRuntime) -> Result<(), Fail> {
-    assert_eq!(rt; wrong_of_many(rt.alloc()), Ok(None));
-    Ok(())
+fn three_hundred_end(rt: HostRuntime) {
+    assert!(rt; wrong_of_many(rt.alloc()) == Ok(None));
 }

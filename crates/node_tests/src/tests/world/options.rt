@@ -1,7 +1,8 @@
 use super::Event::{Info, New};
-use super::{Row, wrong};
-use std::test::Fail;
+use super::{Row, wrong_life};
+use std::process::Abort;
 
+/// Options are read.
 const READ: [Row; 12] = [
     (
         New(
@@ -24,12 +25,7 @@ const READ: [Row; 12] = [
     (Info(1, "name"), "undefined"),
 ];
 
-#[test]
-fn options_are_read(rt: HostRuntime) -> Result<(), Fail> {
-    assert_eq!(rt; wrong(rt.alloc(), &READ)?, None);
-    Ok(())
-}
-
+/// Tuning options change nothing.
 const TUNING: [Row; 4] = [
     (
         New(
@@ -51,36 +47,7 @@ const TUNING: [Row; 4] = [
     (Info(1, "protection"), "protected"),
 ];
 
-#[test]
-fn tuning_options_change_nothing(rt: HostRuntime) -> Result<(), Fail> {
-    assert_eq!(rt; wrong(rt.alloc(), &TUNING)?, None);
-    Ok(())
-}
-
-#[test]
-fn other_options_are_refused(rt: HostRuntime) -> Result<(), Fail> {
-    let options = [
-        "set",
-        "{}",
-        "[heap]",
-        "[set,heap]",
-        "[1]",
-        "[{keypos,0}]",
-        "[{keypos,4294967296}]",
-        "[{keypos,x}]",
-        "[{read_concurrency,auto}]",
-        "[{write_concurrency,on}]",
-        "[{heir,<1}]",
-        "[{heir,1,a}]",
-        "[{heir,none,a}]",
-    ];
-    for text in options {
-        let rows = [(New(0, "t", text), "** badarg")];
-        assert_eq!(rt; wrong(rt.alloc(), &rows)?, None, "{text}");
-    }
-    Ok(())
-}
-
+/// As many tables are made as the limit.
 const AS_MANY: [Row; 6] = [
     (New(0, "a", "[]"), "#0"),
     (New(0, "b", "[]"), "#1"),
@@ -90,8 +57,9 @@ const AS_MANY: [Row; 6] = [
     (New(0, "e", "[]"), "** system_limit"),
 ];
 
+const LIVES: [&[Row]; 3] = [&READ, &TUNING, &AS_MANY];
+
 #[test]
-fn as_many_tables_are_made_as_the_limit(rt: HostRuntime) -> Result<(), Fail> {
-    assert_eq!(rt; wrong(rt.alloc(), &AS_MANY)?, None);
-    Ok(())
+fn options_and_items(rt: HostRuntime) {
+    assert_eq!(rt; wrong_life(rt.alloc(), &LIVES), Ok(None));
 }

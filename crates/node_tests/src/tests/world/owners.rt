@@ -1,7 +1,8 @@
 use super::Event::{Drop, End, Enrol, Give, Info, May, New, Receive, Resolve, Set};
-use super::{Row, wrong};
-use std::test::Fail;
+use super::{Row, wrong_life};
+use std::process::Abort;
 
+/// An owner gives its table away.
 const GIVEN: [Row; 14] = [
     (Enrol(0), "{}"),
     (Enrol(1), "{}"),
@@ -19,12 +20,7 @@ const GIVEN: [Row; 14] = [
     (Info(0, "owner"), "<1"),
 ];
 
-#[test]
-fn an_owner_gives_its_table_away(rt: HostRuntime) -> Result<(), Fail> {
-    assert_eq!(rt; wrong(rt.alloc(), &GIVEN)?, None);
-    Ok(())
-}
-
+/// An owner sets the heir.
 const HEIRS: [Row; 13] = [
     (Enrol(0), "{}"),
     (Enrol(1), "{}"),
@@ -41,12 +37,7 @@ const HEIRS: [Row; 13] = [
     (Info(0, "heir"), "<1"),
 ];
 
-#[test]
-fn an_owner_sets_the_heir(rt: HostRuntime) -> Result<(), Fail> {
-    assert_eq!(rt; wrong(rt.alloc(), &HEIRS)?, None);
-    Ok(())
-}
-
+/// Protection says who uses a table.
 const RIGHTS: [Row; 9] = [
     (New(0, "a", "[public]"), "#0"),
     (New(0, "b", "[]"), "#1"),
@@ -59,12 +50,7 @@ const RIGHTS: [Row; 9] = [
     (Info(2, "protection"), "private"),
 ];
 
-#[test]
-fn protection_says_who_uses_a_table(rt: HostRuntime) -> Result<(), Fail> {
-    assert_eq!(rt; wrong(rt.alloc(), &RIGHTS)?, None);
-    Ok(())
-}
-
+/// A name is free once its table is gone.
 const NAMES: [Row; 12] = [
     (New(0, "t", "[named_table]"), "t"),
     (New(0, "t", "[]"), "#1"),
@@ -80,8 +66,9 @@ const NAMES: [Row; 12] = [
     (Drop(0), "{}"),
 ];
 
+const LIVES: [&[Row]; 4] = [&GIVEN, &HEIRS, &RIGHTS, &NAMES];
+
 #[test]
-fn a_name_is_free_once_its_table_is_gone(rt: HostRuntime) -> Result<(), Fail> {
-    assert_eq!(rt; wrong(rt.alloc(), &NAMES)?, None);
-    Ok(())
+fn owners_names_and_rights(rt: HostRuntime) {
+    assert_eq!(rt; wrong_life(rt.alloc(), &LIVES), Ok(None));
 }

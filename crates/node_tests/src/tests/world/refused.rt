@@ -7,7 +7,7 @@ use crate::tests::text::term;
 use ets_term::{Integer, Term};
 use ownership::{InfoItem, World, WorldFault};
 use std::alloc::{AllocError, Global};
-use std::test::Fail;
+use std::process::Abort;
 
 const LIFE: [Row; 28] = [
     (Enrol(0), "{}"),
@@ -83,14 +83,24 @@ fn see_process(
     Ok(())
 }
 
-/// What there is to say of the table, and who may use it.
-fn see_table(world: &Tables, id: u32, seen: &mut Vec<Term>) -> Result<(), AllocError> {
+/// What there is to say of the table.
+fn see_items(
+    world: &Tables,
+    id: u32,
+    items: &[InfoItem],
+    seen: &mut Vec<Term>,
+) -> Result<(), AllocError> {
     seen.push(flag(world.resolve(&Term::Tid(id)).is_some()))?;
-    for item in ITEMS {
-        if let Some(told) = world.info(id, item)? {
+    for item in items {
+        if let Some(told) = world.info(id, *item)? {
             seen.push(told)?;
         }
     }
+    Ok(())
+}
+
+/// Who may use the table.
+fn see_rights(world: &Tables, id: u32, seen: &mut Vec<Term>) -> Result<(), AllocError> {
     for pid in 0..4 {
         seen.push(flag(world.may_read(pid, id)))?;
         seen.push(flag(world.may_write(pid, id)))?;
@@ -114,19 +124,31 @@ fn see_name(
     Ok(())
 }
 
+const NAMES: [&str; 5] = ["a_name_longer_than_its_place", "u", "v", "w", "x"];
+
+/// All that can be seen of processes, tables and these names.
+fn see(
+    alloc: Global,
+    world: &Tables,
+    names: &[&'static str],
+    seen: &mut Vec<Term>,
+) -> Result<(), AllocError> {
+    seen.push(Term::Int(Integer::from(world.made())))?;
+    for number in 0..4 {
+        see_process(alloc, world, number, seen)?;
+        see_items(world, number, &ITEMS, seen)?;
+        see_rights(world, number, seen)?;
+    }
+    for name in names {
+        see_name(alloc, world, *name, seen)?;
+    }
+    Ok(())
+}
+
 /// All that can be seen of a world.
 fn seen(alloc: Global, world: &Tables) -> Result<Vec<Term>, AllocError> {
     let mut seen = Vec::with_capacity(alloc, 128)?;
-    seen.push(Term::Int(Integer::from(world.made())))?;
-    for pid in 0..4 {
-        see_process(alloc, world, pid, &mut seen)?;
-    }
-    for id in 0..4 {
-        see_table(world, id, &mut seen)?;
-    }
-    for name in ["a_name_longer_than_its_place", "u", "v", "w", "x"] {
-        see_name(alloc, world, name, &mut seen)?;
-    }
+    see(alloc, world, &NAMES, &mut seen)?;
     Ok(seen)
 }
 
@@ -144,6 +166,22 @@ fn term_again(alloc: Global, text: &str) -> Result<Term, AllocError> {
     }
 }
 
+/// Whether what was answered is told so.
+fn is_answer(
+    alloc: Global,
+    answered: Result<Term, WorldFault>,
+    wanted: &str,
+) -> Result<bool, AllocError> {
+    match answered {
+        Ok(told) => Ok(told == term_again(alloc, wanted)?),
+        Err(fault) => Ok(refusal(&fault) == wanted),
+    }
+}
+
+fn is_unchanged(alloc: Global, world: &Tables, before: &[Term]) -> Result<bool, AllocError> {
+    Ok(seen_again(alloc, world)?.as_slice() == before)
+}
+
 /// Whether a call is answered so, at once or, where it was refused memory and has changed nothing, when it is called
 /// again.
 fn does_again(
@@ -153,16 +191,12 @@ fn does_again(
     wanted: &str,
 ) -> Result<bool, AllocError> {
     let before = seen_again(alloc, world)?;
-    let mut answered = answer(alloc, world, event);
-    if answered == Err(WorldFault::Memory) {
-        if seen_again(alloc, world)? != before {
-            return Ok(false);
-        }
-        answered = answer(alloc, world, event);
-    }
-    match answered {
-        Ok(told) => Ok(told == term_again(alloc, wanted)?),
-        Err(fault) => Ok(refusal(&fault) == wanted),
+    match answer(alloc, world, event) {
+        Err(WorldFault::Memory) => Ok(
+            is_unchanged(alloc, world, before.as_slice())?
+                && is_answer(alloc, answer(alloc, world, event), wanted)?,
+        ),
+        answered => is_answer(alloc, answered, wanted),
     }
 }
 
@@ -180,13 +214,11 @@ fn wrong_again_in(
     Ok(None)
 }
 
-fn wrong_again(alloc: Global) -> Result<Option<usize>, AllocError> {
-    let mut world = World::new(alloc, 3, 4);
-    wrong_again_in(alloc, &mut world, LIFE.as_slice())
+fn wrong_again(alloc: Global, rows: &[Row]) -> Result<Option<usize>, AllocError> {
+    wrong_again_in(alloc, &mut World::new(alloc, 3, 4), rows)
 }
 
 #[test]
-fn a_refused_call_is_called_again(rt: HostRuntime) -> Result<(), Fail> {
-    assert_eq!(rt; wrong_again(rt.alloc())?, None);
-    Ok(())
+fn a_refused_call_is_called_again(rt: HostRuntime) {
+    assert_eq!(rt; wrong_again(rt.alloc(), &LIFE), Ok(None));
 }

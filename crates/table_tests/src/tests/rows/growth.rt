@@ -29,10 +29,13 @@ fn doubles<R: Rows>(rows: &mut R) -> Result<bool, AllocError> {
     Ok(two && grown && rows.buckets() == 1_048_576)
 }
 
+fn split_doubles(alloc: Global) -> Result<bool, AllocError> {
+    doubles(&mut SplitRows::new(alloc, AllSame)?)
+}
+
 #[test]
-fn doubles_nineteen_times(rt: HostRuntime) -> Result<(), Fail> {
-    assert!(rt; doubles(&mut SplitRows::new(rt.alloc(), AllSame)?)?);
-    Ok(())
+fn doubles_nineteen_times(rt: HostRuntime) {
+    assert!(rt; split_doubles(rt.alloc()) == Ok(true));
 }
 
 const AT_MOST_BUCKETS: [(u32, Readying); 5] = [
@@ -55,16 +58,13 @@ fn readies_some<R: Rows>(
     Ok(grown && told && least == Some(1) && rows.least() == Some(1))
 }
 
+fn split_readies(alloc: Global, wanted: &[(u32, Readying)]) -> Result<bool, AllocError> {
+    readies_some(&mut SplitRows::new(alloc, AllSame)?, 19, wanted)
+}
+
 #[test]
-fn readies_buckets(rt: HostRuntime) -> Result<(), Fail> {
-    assert!(rt;
-        readies_some(
-            &mut SplitRows::new(rt.alloc(), AllSame)?,
-            19,
-            &AT_MOST_BUCKETS
-        )?
-    );
-    Ok(())
+fn readies_buckets(rt: HostRuntime) {
+    assert!(rt; split_readies(rt.alloc(), &AT_MOST_BUCKETS) == Ok(true));
 }
 
 const ONE_BUCKET: [(u32, Readying); 2] = [(0, Readying::AlreadyReady), (1, Readying::NotABucket)];
@@ -76,7 +76,6 @@ fn is_one_bucket<R: Rows>(rows: &mut R, wanted: &[(u32, Readying)]) -> Result<bo
 }
 
 #[test]
-fn plain_rows_have_one_bucket(rt: HostRuntime) -> Result<(), Fail> {
-    assert!(rt; is_one_bucket(&mut PlainRows::new(rt.alloc()), &ONE_BUCKET)?);
-    Ok(())
+fn plain_rows_have_one_bucket(rt: HostRuntime) {
+    assert!(rt; is_one_bucket(&mut PlainRows::new(rt.alloc()), &ONE_BUCKET) == Ok(true));
 }

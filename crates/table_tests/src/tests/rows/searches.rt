@@ -107,27 +107,23 @@ fn searches<H: KeyHash + Copy + Drop>(
 }
 
 #[test]
-fn by_fnv(rt: HostRuntime) -> Result<(), Fail> {
-    assert!(rt; searches(rt.alloc(), Fnv, 10_000)?);
-    Ok(())
+fn by_fnv(rt: HostRuntime) {
+    assert!(rt; searches(rt.alloc(), Fnv, 10_000) == Ok(true));
 }
 
 #[test]
-fn by_even_hashes(rt: HostRuntime) -> Result<(), Fail> {
-    assert!(rt; searches(rt.alloc(), Even, 10_000)?);
-    Ok(())
+fn by_even_hashes(rt: HostRuntime) {
+    assert!(rt; searches(rt.alloc(), Even, 10_000) == Ok(true));
 }
 
 #[test]
-fn by_one_hash(rt: HostRuntime) -> Result<(), Fail> {
-    assert!(rt; searches(rt.alloc(), AllSame, 50)?);
-    Ok(())
+fn by_one_hash(rt: HostRuntime) {
+    assert!(rt; searches(rt.alloc(), AllSame, 50) == Ok(true));
 }
 
 #[test]
-fn by_the_greatest_hash_alone(rt: HostRuntime) -> Result<(), Fail> {
-    assert!(rt; searches(rt.alloc(), Last, 8)?);
-    Ok(())
+fn by_the_greatest_hash_alone(rt: HostRuntime) {
+    assert!(rt; searches(rt.alloc(), Last, 8) == Ok(true));
 }
 
 /// How many nodes a search looks at.
@@ -160,11 +156,13 @@ fn eight_in_eight(rows: &mut SplitRows<Plain>, alloc: Global) -> Result<bool, Al
     Ok(all)
 }
 
+fn new_eight_in_eight(alloc: Global) -> Result<bool, AllocError> {
+    eight_in_eight(&mut SplitRows::new(alloc, Plain)?, alloc)
+}
+
 #[test]
-fn few_steps_in_ready_buckets(rt: HostRuntime) -> Result<(), Fail> {
-    let alloc = rt.alloc();
-    assert!(rt; eight_in_eight(&mut SplitRows::new(alloc, Plain)?, alloc)?);
-    Ok(())
+fn few_steps_in_ready_buckets(rt: HostRuntime) {
+    assert!(rt; new_eight_in_eight(rt.alloc()) == Ok(true));
 }
 
 /// Whether readying a bucket tells the first slots of its eighths and of its parent's: a search then looks at no node
@@ -186,11 +184,13 @@ fn eighths_in_eight(rows: &mut SplitRows<Plain>, alloc: Global) -> Result<bool, 
     Ok(all)
 }
 
+fn new_eighths_in_eight(alloc: Global) -> Result<bool, AllocError> {
+    eighths_in_eight(&mut SplitRows::new(alloc, Plain)?, alloc)
+}
+
 #[test]
-fn readying_tells_the_eighths(rt: HostRuntime) -> Result<(), Fail> {
-    let alloc = rt.alloc();
-    assert!(rt; eighths_in_eight(&mut SplitRows::new(alloc, Plain)?, alloc)?);
-    Ok(())
+fn readying_tells_the_eighths(rt: HostRuntime) {
+    assert!(rt; new_eighths_in_eight(rt.alloc()) == Ok(true));
 }
 
 /// Whether searches among a thousand keys of one hash pass all of them, and no more.
@@ -206,9 +206,11 @@ fn thousand_in_one(rows: &mut SplitRows<AllSame>, alloc: Global) -> Result<bool,
     Ok(all && 1000 <= missed && missed <= 1002)
 }
 
+fn new_thousand_in_one(alloc: Global) -> Result<bool, AllocError> {
+    thousand_in_one(&mut SplitRows::new(alloc, AllSame)?, alloc)
+}
+
 #[test]
-fn a_thousand_keys_of_one_hash(rt: HostRuntime) -> Result<(), Fail> {
-    let alloc = rt.alloc();
-    assert!(rt; thousand_in_one(&mut SplitRows::new(alloc, AllSame)?, alloc)?);
-    Ok(())
+fn a_thousand_keys_of_one_hash(rt: HostRuntime) {
+    assert!(rt; new_thousand_in_one(rt.alloc()) == Ok(true));
 }

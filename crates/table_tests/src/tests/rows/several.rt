@@ -47,18 +47,15 @@ fn puts_three_by_three<R: Rows>(rows: &mut R, alloc: Global) -> Result<bool, All
     Ok(all && rows.len() == 3 * TIMES as usize)
 }
 
-#[test]
-fn plain_rows_take_three_at_once(rt: HostRuntime) -> Result<(), Fail> {
-    let alloc = rt.alloc();
-    assert!(rt; puts_three_by_three(&mut PlainRows::new(alloc), alloc)?);
-    Ok(())
+fn split_puts<H: KeyHash + Copy + Drop>(alloc: Global, hash: H) -> Result<bool, AllocError> {
+    puts_three_by_three(&mut SplitRows::new(alloc, hash)?, alloc)
 }
 
 #[test]
-fn split_rows_take_three_at_once(rt: HostRuntime) -> Result<(), Fail> {
+fn three_rows_are_put_at_once(rt: HostRuntime) {
     let alloc = rt.alloc();
-    assert!(rt; puts_three_by_three(&mut SplitRows::new(alloc, Fnv)?, alloc)?);
-    assert!(rt; puts_three_by_three(&mut SplitRows::new(alloc, Even)?, alloc)?);
-    assert!(rt; puts_three_by_three(&mut SplitRows::new(alloc, Last)?, alloc)?);
-    Ok(())
+    assert!(rt; puts_three_by_three(&mut PlainRows::new(alloc), alloc) == Ok(true));
+    assert!(rt; split_puts(alloc, Fnv) == Ok(true));
+    assert!(rt; split_puts(alloc, Even) == Ok(true));
+    assert!(rt; split_puts(alloc, Last) == Ok(true));
 }

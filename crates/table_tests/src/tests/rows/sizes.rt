@@ -63,30 +63,30 @@ fn sweeps<R: Rows>(rows: &mut R, alloc: Global) -> Result<bool, AllocError> {
     Ok(filled && held && purged && again && rows.len() == 0)
 }
 
-#[test]
-fn split_rows_serve(rt: HostRuntime) -> Result<(), Fail> {
-    let alloc = rt.alloc();
-    assert!(rt; serves(&mut SplitRows::new(alloc, Fnv)?, alloc)?);
-    Ok(())
+fn split_serves(alloc: Global) -> Result<bool, AllocError> {
+    serves(&mut SplitRows::new(alloc, Fnv)?, alloc)
 }
 
 #[test]
-fn plain_rows_serve(rt: HostRuntime) -> Result<(), Fail> {
-    let alloc = rt.alloc();
-    assert!(rt; serves(&mut PlainRows::new(alloc), alloc)?);
-    Ok(())
+fn split_rows_serve(rt: HostRuntime) {
+    assert!(rt; split_serves(rt.alloc()) == Ok(true));
 }
 
 #[test]
-fn split_rows_are_swept(rt: HostRuntime) -> Result<(), Fail> {
-    let alloc = rt.alloc();
-    assert!(rt; sweeps(&mut SplitRows::new(alloc, Fnv)?, alloc)?);
-    Ok(())
+fn plain_rows_serve(rt: HostRuntime) {
+    assert!(rt; serves(&mut PlainRows::new(rt.alloc()), rt.alloc()) == Ok(true));
+}
+
+fn split_sweeps(alloc: Global) -> Result<bool, AllocError> {
+    sweeps(&mut SplitRows::new(alloc, Fnv)?, alloc)
 }
 
 #[test]
-fn plain_rows_are_swept(rt: HostRuntime) -> Result<(), Fail> {
-    let alloc = rt.alloc();
-    assert!(rt; sweeps(&mut PlainRows::new(alloc), alloc)?);
-    Ok(())
+fn split_rows_are_swept(rt: HostRuntime) {
+    assert!(rt; split_sweeps(rt.alloc()) == Ok(true));
+}
+
+#[test]
+fn plain_rows_are_swept(rt: HostRuntime) {
+    assert!(rt; sweeps(&mut PlainRows::new(rt.alloc()), rt.alloc()) == Ok(true));
 }

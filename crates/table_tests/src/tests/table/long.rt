@@ -1,9 +1,8 @@
 // Long runs: the same answers over each form of rows, past every power of two.
-use super::{Step, answer, plain, same, split};
+use super::{Step, answer, plain, runs, same, split};
 use bucket_table::Rows;
 use std::alloc::Global;
 use std::process::Abort;
-use std::test::Fail;
 use table_ops::{Kind, Table};
 
 const CALLS: u32 = 10_000;
@@ -61,45 +60,36 @@ fn agree<A: Rows, B: Rows>(
     true
 }
 
-fn fnv_agrees(alloc: Global, kind: Kind) -> Result<bool, Fail> {
-    let mut second = split(alloc, kind, 1, 1_000_000)?;
-    Ok(agree(
-        alloc,
-        &mut plain(alloc, kind, 1, 1_000_000),
-        &mut second,
-        CALLS,
-    ))
+fn agrees_with_plain<B: Rows>(alloc: Global, second: &mut Table<B>) -> bool {
+    let mut first = plain(alloc, second.kind(), 1, 1_000_000);
+    agree(alloc, &mut first, second, CALLS)
 }
 
-fn same_agrees(alloc: Global, kind: Kind) -> Result<bool, Fail> {
-    let mut second = same(alloc, kind, 1, 1_000_000)?;
-    Ok(agree(
-        alloc,
-        &mut plain(alloc, kind, 1, 1_000_000),
-        &mut second,
-        CALLS,
-    ))
+fn fnv_agrees(alloc: Global, kind: Kind) -> Option<bool> {
+    Some(agrees_with_plain(alloc, &mut split(alloc, kind, 1, 1_000_000)?))
+}
+
+fn same_agrees(alloc: Global, kind: Kind) -> Option<bool> {
+    Some(agrees_with_plain(alloc, &mut same(alloc, kind, 1, 1_000_000)?))
+}
+
+fn both_agree(alloc: Global, kind: Kind) -> bool {
+    fnv_agrees(alloc, kind) == Some(true) && same_agrees(alloc, kind) == Some(true)
 }
 
 #[test]
-fn sets_answer_alike(rt: HostRuntime) -> Result<(), Fail> {
-    assert!(rt; fnv_agrees(rt.alloc(), Kind::Set)?);
-    assert!(rt; same_agrees(rt.alloc(), Kind::Set)?);
-    Ok(())
+fn sets_answer_alike(rt: HostRuntime) {
+    assert!(rt; both_agree(rt.alloc(), Kind::Set));
 }
 
 #[test]
-fn bags_answer_alike(rt: HostRuntime) -> Result<(), Fail> {
-    assert!(rt; fnv_agrees(rt.alloc(), Kind::Bag)?);
-    assert!(rt; same_agrees(rt.alloc(), Kind::Bag)?);
-    Ok(())
+fn bags_answer_alike(rt: HostRuntime) {
+    assert!(rt; both_agree(rt.alloc(), Kind::Bag));
 }
 
 #[test]
-fn duplicate_bags_answer_alike(rt: HostRuntime) -> Result<(), Fail> {
-    assert!(rt; fnv_agrees(rt.alloc(), Kind::DuplicateBag)?);
-    assert!(rt; same_agrees(rt.alloc(), Kind::DuplicateBag)?);
-    Ok(())
+fn duplicate_bags_answer_alike(rt: HostRuntime) {
+    assert!(rt; both_agree(rt.alloc(), Kind::DuplicateBag));
 }
 
 /// Whether a table of one more object each time has what it must, and gives it all up again.
@@ -142,22 +132,16 @@ fn has_all<R: Rows>(alloc: Global, table: &mut Table<R>, last: i64) -> bool {
         (Step::Insert(last, 1), 1),
         (Step::Slots, count),
     ];
-    for (step, wanted) in rows {
-        if answer(alloc, table, step) != wanted {
-            return false;
-        }
-    }
-    true
+    runs(alloc, table, &rows)
 }
 
-fn fnv_fills(alloc: Global) -> Result<bool, Fail> {
-    Ok(fills(alloc, &mut split(alloc, Kind::Set, 1, 1_000_000)?, 10_000))
+fn fnv_fills(alloc: Global) -> Option<bool> {
+    Some(fills(alloc, &mut split(alloc, Kind::Set, 1, 1_000_000)?, 10_000))
 }
 
 #[test]
-fn fills_and_empties(rt: HostRuntime) -> Result<(), Fail> {
+fn fills_and_empties(rt: HostRuntime) {
     let alloc = rt.alloc();
     assert!(rt; fills(alloc, &mut plain(alloc, Kind::Set, 1, 1_000_000), 10_000));
-    assert!(rt; fnv_fills(alloc)?);
-    Ok(())
+    assert!(rt; fnv_fills(alloc) == Some(true));
 }

@@ -7,7 +7,6 @@ use bucket_table::{Rows, SplitRows};
 use ets_term::{AllSame, Fnv, KeyHash};
 use std::alloc::Global;
 use std::process::Abort;
-use std::test::Fail;
 use table_ops::{Kind, Table};
 
 const LIFE: [(Step, i64); 26] = [
@@ -83,18 +82,14 @@ fn wrong_again<R: Rows>(
     None
 }
 
+fn wrong_plain(alloc: Global, kind: Kind, steps: &[(Step, i64)]) -> Option<usize> {
+    wrong_again(alloc, &mut plain(alloc, kind, 1, 9), steps)
+}
+
 #[test]
-fn refused_steps_of_plain_rows(rt: HostRuntime) -> Result<(), Fail> {
-    let alloc = rt.alloc();
-    assert_eq!(rt;
-        wrong_again(alloc, &mut plain(alloc, Kind::Set, 1, 9), &LIFE),
-        None
-    );
-    assert_eq!(rt;
-        wrong_again(alloc, &mut plain(alloc, Kind::Bag, 1, 9), &BAG_LIFE),
-        None
-    );
-    Ok(())
+fn refused_steps_of_plain_rows(rt: HostRuntime) {
+    assert_eq!(rt; wrong_plain(rt.alloc(), Kind::Set, &LIFE), None);
+    assert_eq!(rt; wrong_plain(rt.alloc(), Kind::Bag, &BAG_LIFE), None);
 }
 
 fn try_split<H: KeyHash + Copy>(alloc: Global, hash: H, kind: Kind) -> Option<Table<SplitRows<H>>> {
@@ -116,15 +111,21 @@ fn split_again<H: KeyHash + Copy>(
     }
 }
 
-/// The place of the first step of a set or a bag that is answered otherwise.
-fn wrong_split(alloc: Global) -> Option<usize> {
-    let mut set = split_again(alloc, Fnv, Kind::Set)?;
-    let mut bag = split_again(alloc, AllSame, Kind::Bag)?;
-    wrong_again(alloc, &mut set, &LIFE).or(wrong_again(alloc, &mut bag, &BAG_LIFE))
+/// The place of the first step that is answered otherwise over split rows.
+fn wrong_split<H: KeyHash + Copy + Drop>(
+    alloc: Global,
+    hash: H,
+    kind: Kind,
+    steps: &[(Step, i64)],
+) -> Option<usize> {
+    wrong_again(alloc, &mut split_again(alloc, hash, kind)?, steps)
 }
 
 #[test]
-fn refused_steps_of_split_rows(rt: HostRuntime) -> Result<(), Fail> {
-    assert_eq!(rt; wrong_split(rt.alloc()), None);
-    Ok(())
+fn refused_steps_of_split_rows(rt: HostRuntime) {
+    assert_eq!(rt; wrong_split(rt.alloc(), Fnv, Kind::Set, &LIFE), None);
+    assert_eq!(rt;
+        wrong_split(rt.alloc(), AllSame, Kind::Bag, &BAG_LIFE),
+        None
+    );
 }

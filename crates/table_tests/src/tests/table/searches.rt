@@ -7,7 +7,6 @@ use ets_term::Term;
 use match_spec::Pattern;
 use std::alloc::Global;
 use std::process::Abort;
-use std::test::Fail;
 use table_ops::{Kind, Looks, Table};
 
 /// What a search answers: how many it finds by either of two calls, and how many objects the two try.
@@ -37,19 +36,19 @@ fn selected<R: Rows>(alloc: Global, table: &Table<R>, keys: &[i64]) -> Found {
     Some((results.len(), count, looks.count()))
 }
 
-fn matches_all<R: Rows>(alloc: Global, table: &Table<R>) -> Option<bool> {
-    let rows = [
-        (under(alloc, 7)?, (1, 1, 2)),
-        (under(alloc, 2_000)?, (0, 0, 0)),
-        (with_value(alloc, 7)?, (0, 0, 2_000)),
-        (with_value(alloc, 0)?, (1_000, 1_000, 2_000)),
-    ];
-    for (pattern, wanted) in &rows {
-        if matched(table, pattern) != Some(*wanted) {
-            return Some(false);
-        }
-    }
-    Some(true)
+fn matches_key<R: Rows>(alloc: Global, table: &Table<R>, key: i64) -> Found {
+    matched(table, &under(alloc, key)?)
+}
+
+fn matches_value<R: Rows>(alloc: Global, table: &Table<R>, value: i64) -> Found {
+    matched(table, &with_value(alloc, value)?)
+}
+
+fn matches_all<R: Rows>(alloc: Global, table: &Table<R>) -> bool {
+    matches_key(alloc, table, 7) == Some((1, 1, 2))
+        && matches_key(alloc, table, 2_000) == Some((0, 0, 0))
+        && matches_value(alloc, table, 7) == Some((0, 0, 2_000))
+        && matches_value(alloc, table, 0) == Some((1_000, 1_000, 2_000))
 }
 
 /// `{7,'$1'}` answers `[[0]]`.
@@ -98,29 +97,35 @@ fn tries_three<R: Rows>(alloc: Global, table: &mut Table<R>) -> Option<bool> {
     for key in [6, 7, 7, 7, 8] {
         table.insert(&[tuple(alloc, &[key, 0])?]).ok()?;
     }
-    let three = matched(table, &under(alloc, 7)?) == Some((3, 3, 6));
+    let three = matches_key(alloc, table, 7) == Some((3, 3, 6));
     let all = selected(alloc, table, &[7, 6]) == Some((4, 4, 10));
     Some(three && all)
 }
 
 fn searches<R: Rows>(alloc: Global, table: &mut Table<R>) -> Option<bool> {
     fill(alloc, table)?;
-    let reads = matches_all(alloc, table)? && answers_bindings(alloc, table)?;
+    let reads = matches_all(alloc, table) && answers_bindings(alloc, table)?;
     Some(reads && selects_all(alloc, table) && deletes_all(alloc, table))
 }
 
-#[test]
-fn bound_keys(rt: HostRuntime) -> Result<(), Fail> {
-    let alloc = rt.alloc();
-    assert!(rt; searches(alloc, &mut plain(alloc, Kind::Set, 1, 1_000)) == Some(true));
-    assert!(rt; searches(alloc, &mut split(alloc, Kind::Set, 1, 1_000)?) == Some(true));
-    Ok(())
+fn split_searches(alloc: Global) -> Option<bool> {
+    searches(alloc, &mut split(alloc, Kind::Set, 1, 1_000)?)
+}
+
+fn split_tries_three(alloc: Global) -> Option<bool> {
+    tries_three(alloc, &mut split(alloc, Kind::DuplicateBag, 1, 10)?)
 }
 
 #[test]
-fn bound_keys_of_bags(rt: HostRuntime) -> Result<(), Fail> {
+fn bound_keys(rt: HostRuntime) {
+    let alloc = rt.alloc();
+    assert!(rt; searches(alloc, &mut plain(alloc, Kind::Set, 1, 1_000)) == Some(true));
+    assert!(rt; split_searches(alloc) == Some(true));
+}
+
+#[test]
+fn bound_keys_of_bags(rt: HostRuntime) {
     let alloc = rt.alloc();
     assert!(rt; tries_three(alloc, &mut plain(alloc, Kind::DuplicateBag, 1, 10)) == Some(true));
-    assert!(rt; tries_three(alloc, &mut split(alloc, Kind::DuplicateBag, 1, 10)?) == Some(true));
-    Ok(())
+    assert!(rt; split_tries_three(alloc) == Some(true));
 }

@@ -1,5 +1,5 @@
 use Rattle.std.proofs.Common.{refl}
-use Rattle.layer_tests.proofs.tests.keys.buckets_of_a_hash.Goals as goal
+use Rattle.layer_tests.proofs.tests.keys.is_in_buckets.Goals as goal
 
-pub bucket_of-requires-2 : goal.bucket_of-requires-2
-bucket_of-requires-2 g c = (2, refl)
+pub bucket_of-four-requires : goal.bucket_of-four-requires
+bucket_of-four-requires c = (2, refl)

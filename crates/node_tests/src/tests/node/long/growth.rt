@@ -31,13 +31,30 @@ const GROWN: [(&str, &str); 5] = [
     ("take(t,N)", "[{N,y}]"),
 ];
 
+/// Whether the calls on a number are answered so.
+fn does_calls(
+    alloc: Global,
+    node: &mut Node<Fnv>,
+    rows: &[(&str, &str)],
+    number: u32,
+) -> Result<bool, AllocError> {
+    for (call, wanted) in rows {
+        if !does_numbered(alloc, node, *call, *wanted, number)? {
+            return Ok(false);
+        }
+    }
+    Ok(true)
+}
+
 /// The first number for which one of the calls is answered otherwise.
-fn not_grown(alloc: Global, node: &mut Node<Fnv>) -> Result<Option<u32>, AllocError> {
+fn not_grown(
+    alloc: Global,
+    node: &mut Node<Fnv>,
+    rows: &[(&str, &str)],
+) -> Result<Option<u32>, AllocError> {
     for number in 0..COUNT {
-        for (call, wanted) in GROWN {
-            if !does_numbered(alloc, node, call, wanted, number)? {
-                return Ok(Some(number));
-            }
+        if !does_calls(alloc, node, rows, number)? {
+            return Ok(Some(number));
         }
         let _steps = tend(node, 1)?;
     }
@@ -45,19 +62,19 @@ fn not_grown(alloc: Global, node: &mut Node<Fnv>) -> Result<Option<u32>, AllocEr
 }
 
 /// Whether a table of many objects, which grows meanwhile, is answered of as one that does not.
-fn grows(alloc: Global, node: &mut Node<Fnv>) -> Result<bool, AllocError> {
-    Ok(starts(alloc, node)?
-        && not_entered(alloc, node)?.is_none()
-        && answers(alloc, node, "info(t,size)", "2100")?
-        && not_grown(alloc, node)?.is_none()
-        && answers(alloc, node, "tab2list(t)", "[]")?
-        && tend(node, COUNT)? < COUNT
-        && node.due().is_none())
+pub fn grows(alloc: Global, node: &mut Node<Fnv>) -> Result<bool, AllocError> {
+    Ok(
+        starts(alloc, node)?
+            && not_entered(alloc, node)?.is_none()
+            && answers(alloc, node, "info(t,size)", "2100")?
+            && not_grown(alloc, node, &GROWN)?.is_none()
+            && answers(alloc, node, "tab2list(t)", "[]")?
+            && tend(node, COUNT)? < COUNT
+            && node.due().is_none(),
+    )
 }
 
 #[test]
-fn a_table_of_many_objects_grows(rt: HostRuntime) -> Result<(), Fail> {
-    let mut node = Node::new(rt.alloc(), Limits::usual(), Fnv);
-    assert!(rt; grows(rt.alloc(), &mut node)?);
-    Ok(())
+fn a_table_of_many_objects_grows(rt: HostRuntime) {
+    assert!(rt; passes(rt.alloc(), Trial::Growth) == Ok(true));
 }

@@ -11,23 +11,26 @@ const OBJECTS: [(&str, &str); 6] = [
 ];
 
 /// Whether each of the calls is answered so for each number.
-fn has_objects(
+fn answers_each(
     alloc: Global,
     node: &mut Node<Fnv>,
     rows: &[(&str, &str)],
 ) -> Result<bool, AllocError> {
-    let mut all = starts(alloc, node)?;
     for (call, wanted) in rows {
-        all = all && wrong_number(alloc, node, *call, *wanted)?.is_none();
+        if wrong_number(alloc, node, *call, *wanted)?.is_some() {
+            return Ok(false);
+        }
     }
-    Ok(all)
+    Ok(true)
+}
+
+pub fn has_objects(alloc: Global, node: &mut Node<Fnv>) -> Result<bool, AllocError> {
+    Ok(starts(alloc, node)? && answers_each(alloc, node, &OBJECTS)?)
 }
 
 #[test]
-fn a_table_has_many_objects(rt: HostRuntime) -> Result<(), Fail> {
-    let mut node = Node::new(rt.alloc(), Limits::usual(), Fnv);
-    assert!(rt; has_objects(rt.alloc(), &mut node, &OBJECTS)?);
-    Ok(())
+fn a_table_has_many_objects(rt: HostRuntime) {
+    assert!(rt; passes(rt.alloc(), Trial::Objects) == Ok(true));
 }
 
 /// Whether all are inserted by this call and listed.
@@ -37,11 +40,13 @@ fn inserts_and_lists(
     insert: &str,
     listed: &str,
 ) -> Result<bool, AllocError> {
-    Ok(starts(alloc, node)?
-        && answers(alloc, node, insert, "true")?
-        && answers(alloc, node, "tab2list(t)", listed)?
-        && answers(alloc, node, "delete_all_objects(t)", "true")?
-        && answers(alloc, node, "tab2list(t)", "[]")?)
+    Ok(
+        starts(alloc, node)?
+            && answers(alloc, node, insert, "true")?
+            && answers(alloc, node, "tab2list(t)", listed)?
+            && answers(alloc, node, "delete_all_objects(t)", "true")?
+            && answers(alloc, node, "tab2list(t)", "[]")?,
+    )
 }
 
 /// Whether so many objects are inserted by one call, of many keys or of one.
@@ -52,14 +57,14 @@ fn inserts(alloc: Global, start: &str, object: &str) -> Result<bool, AllocError>
     inserts_and_lists(alloc, &mut node, insert.as_str(), listed.as_str())
 }
 
+fn inserts_both(alloc: Global, start: &str) -> Result<bool, AllocError> {
+    Ok(inserts(alloc, start, "{N,x},")? && inserts(alloc, start, "{x,N},")?)
+}
+
 #[test]
-fn many_objects_are_inserted_at_once(rt: HostRuntime) -> Result<(), Fail> {
-    for start in ["insert(t,[", "insert_new(t,["] {
-        for object in ["{N,x},", "{x,N},"] {
-            assert!(rt; inserts(rt.alloc(), start, object)?, "{start} {object}");
-        }
-    }
-    Ok(())
+fn many_objects_are_inserted_at_once(rt: HostRuntime) {
+    assert!(rt; inserts_both(rt.alloc(), "insert(t,[") == Ok(true));
+    assert!(rt; inserts_both(rt.alloc(), "insert_new(t,[") == Ok(true));
 }
 
 /// Whether what a pattern and a specification find of many objects is this.
@@ -69,11 +74,13 @@ fn finds(
     bound: &str,
     results: &str,
 ) -> Result<bool, AllocError> {
-    Ok(starts(alloc, node)?
-        && wrong_number(alloc, node, "insert(t,{N,x})", "true")?.is_none()
-        && answers(alloc, node, "match(t,{$1,x})", bound)?
-        && answers(alloc, node, "select(t,[{{$1,_},[],[$1]}])", results)?
-        && answers(alloc, node, "select_delete(t,[{_,[],[true]}])", "2100")?)
+    Ok(
+        starts(alloc, node)?
+            && wrong_number(alloc, node, "insert(t,{N,x})", "true")?.is_none()
+            && answers(alloc, node, "match(t,{$1,x})", bound)?
+            && answers(alloc, node, "select(t,[{{$1,_},[],[$1]}])", results)?
+            && answers(alloc, node, "select_delete(t,[{_,[],[true]}])", "2100")?,
+    )
 }
 
 /// Whether each of many objects is found.
@@ -85,9 +92,8 @@ fn finds_all(alloc: Global) -> Result<bool, AllocError> {
 }
 
 #[test]
-fn many_objects_are_found(rt: HostRuntime) -> Result<(), Fail> {
-    assert!(rt; finds_all(rt.alloc())?);
-    Ok(())
+fn many_objects_are_found(rt: HostRuntime) {
+    assert!(rt; finds_all(rt.alloc()) == Ok(true));
 }
 
 /// Whether a call on a new table s is answered so.
@@ -97,9 +103,11 @@ fn answers_on_set(
     call: &str,
     wanted: &str,
 ) -> Result<bool, AllocError> {
-    Ok(starts(alloc, node)?
-        && answers(alloc, node, "new(s,[named_table])", "s")?
-        && answers(alloc, node, call, wanted)?)
+    Ok(
+        starts(alloc, node)?
+            && answers(alloc, node, "new(s,[named_table])", "s")?
+            && answers(alloc, node, call, wanted)?,
+    )
 }
 
 /// Whether a counter is counted up so often by one call.
@@ -111,7 +119,6 @@ fn counts(alloc: Global) -> Result<bool, AllocError> {
 }
 
 #[test]
-fn many_operations_are_done_at_once(rt: HostRuntime) -> Result<(), Fail> {
-    assert!(rt; counts(rt.alloc())?);
-    Ok(())
+fn many_operations_are_done_at_once(rt: HostRuntime) {
+    assert!(rt; counts(rt.alloc()) == Ok(true));
 }

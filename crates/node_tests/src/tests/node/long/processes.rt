@@ -35,7 +35,7 @@ fn some_end(alloc: Global, node: &mut Node<Fnv>, count: u32) -> Result<bool, All
 }
 
 /// Whether so many processes enrol, and the tables of those that end go.
-fn serves(alloc: Global, node: &mut Node<Fnv>, count: u32) -> Result<bool, AllocError> {
+pub fn serves(alloc: Global, node: &mut Node<Fnv>, count: u32) -> Result<bool, AllocError> {
     if !all_enter(alloc, node, count)? || !some_end(alloc, node, count)? {
         return Ok(false);
     }
@@ -43,10 +43,8 @@ fn serves(alloc: Global, node: &mut Node<Fnv>, count: u32) -> Result<bool, Alloc
 }
 
 #[test]
-fn a_node_has_many_processes(rt: HostRuntime) -> Result<(), Fail> {
-    let mut node = Node::new(rt.alloc(), Limits::usual(), Fnv);
-    assert!(rt; serves(rt.alloc(), &mut node, 4_096)?);
-    Ok(())
+fn a_node_has_many_processes(rt: HostRuntime) {
+    assert!(rt; passes(rt.alloc(), Trial::Processes) == Ok(true));
 }
 
 /// Whether process 0 makes tables up to so many.
@@ -60,7 +58,7 @@ fn makes_all(alloc: Global, node: &mut Node<Fnv>, count: u32) -> Result<bool, Al
 }
 
 /// Whether a process has so many tables, and all go at its end.
-fn has_tables(alloc: Global, node: &mut Node<Fnv>, count: u32) -> Result<bool, AllocError> {
+pub fn has_tables(alloc: Global, node: &mut Node<Fnv>, count: u32) -> Result<bool, AllocError> {
     if !starts(alloc, node)?
         || !makes_all(alloc, node, count)?
         || !does(alloc, node, End(0), "true")?
@@ -74,10 +72,8 @@ fn has_tables(alloc: Global, node: &mut Node<Fnv>, count: u32) -> Result<bool, A
 }
 
 #[test]
-fn a_process_has_many_tables(rt: HostRuntime) -> Result<(), Fail> {
-    let mut node = Node::new(rt.alloc(), Limits::usual(), Fnv);
-    assert!(rt; has_tables(rt.alloc(), &mut node, COUNT)?);
-    Ok(())
+fn a_process_has_many_tables(rt: HostRuntime) {
+    assert!(rt; passes(rt.alloc(), Trial::Tables) == Ok(true));
 }
 
 /// Whether a table is named so, and its name leads to it.
@@ -105,13 +101,11 @@ fn wrong_name(alloc: Global, node: &mut Node<Fnv>) -> Result<Option<u32>, AllocE
 }
 
 /// Whether tables are named by names of every length.
-fn takes_names(alloc: Global, node: &mut Node<Fnv>) -> Result<bool, AllocError> {
+pub fn takes_names(alloc: Global, node: &mut Node<Fnv>) -> Result<bool, AllocError> {
     Ok(starts(alloc, node)? && wrong_name(alloc, node)?.is_none())
 }
 
 #[test]
-fn names_have_every_length(rt: HostRuntime) -> Result<(), Fail> {
-    let mut node = Node::new(rt.alloc(), Limits::usual(), Fnv);
-    assert!(rt; takes_names(rt.alloc(), &mut node)?);
-    Ok(())
+fn names_have_every_length(rt: HostRuntime) {
+    assert!(rt; passes(rt.alloc(), Trial::Names) == Ok(true));
 }

@@ -1,8 +1,8 @@
-use Rattle.node_list.proofs.CallerLaws.{head-is, item-placed, item-stands}
-use Rattle.layer_tests.proofs.tests.lists.nodes.tells_a_key.Goals as goal
+use Rattle.node_list.proofs.CallerLaws.{head-is}
+use Rattle.layer_tests.proofs.tests.lists.nodes.has_head.Goals as goal
 
 pub key-requires : goal.key-requires
-key-requires g c = item-stands _ _ (item-placed _ _ _ _ _ c.in_ok-at.ensures.cells c.in_ok-at.ensures.fresh)
+key-requires c = head-is c.head-head.result c.args.list.now.cells c.head-head.ensures.first c.head-head.ensures.dummy
 
-pub key-requires-2 : goal.key-requires-2
-key-requires-2 g c = head-is c.head-head.result c.add_item.new.list.cells c.head-head.ensures.first c.head-head.ensures.dummy
+pub item-requires : goal.item-requires
+item-requires c = head-is c.head-head.result c.args.list.now.cells c.head-head.ensures.first c.head-head.ensures.dummy

@@ -1,5 +1,5 @@
 use Rattle.node_list.proofs.CallerLaws.{head-is}
-use Rattle.layer_tests.proofs.tests.lists.nodes.finds_among_equal_keys.Goals as goal
+use Rattle.layer_tests.proofs.tests.lists.nodes.second_place.Goals as goal
 
 pub after-requires : goal.after-requires
-after-requires g c = head-is c.head-head.result c.add_equal.new.list.cells c.head-head.ensures.first c.head-head.ensures.dummy
+after-requires c = head-is c.head.result c.args.list.now.cells c.head.ensures.first c.head.ensures.dummy

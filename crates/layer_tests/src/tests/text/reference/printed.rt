@@ -1,0 +1,48 @@
+//! Parts of the text of terms, printed plainly.
+use super::pieces::is_name;
+use std::alloc::{AllocError, Global};
+
+pub(super) fn put_number(alloc: Global, out: &mut String, n: u64) -> Result<(), AllocError> {
+    let text = format!(in alloc; "{n}")?;
+    out.push_str(text.as_str())
+}
+
+/// Numbers, with a comma between two.
+pub(super) fn put_row(alloc: Global, out: &mut String, row: &[u8]) -> Result<(), AllocError> {
+    for (i, n) in row.iter().enumerate() {
+        if i > 0 {
+            out.push(',')?;
+        }
+        put_number(alloc, out, u64::from(*n))?;
+    }
+    Ok(())
+}
+
+fn is_plain(text: &[u8]) -> bool {
+    for b in text {
+        if !is_name(*b) {
+            return false;
+        }
+    }
+    matches!(text.first(), Some(b'a'..=b'z'))
+}
+
+/// Characters, each quote and backslash of them behind a backslash.
+fn put_characters(out: &mut String, text: &[u8]) -> Result<(), AllocError> {
+    for b in text {
+        if *b == b'\'' || *b == b'\\' {
+            out.push('\\')?;
+        }
+        out.push(*b as char)?;
+    }
+    Ok(())
+}
+
+pub(super) fn put_atom(out: &mut String, text: &[u8]) -> Result<(), AllocError> {
+    if is_plain(text) {
+        return put_characters(out, text);
+    }
+    out.push('\'')?;
+    put_characters(out, text)?;
+    out.push('\'')
+}

@@ -1,0 +1,51 @@
+use super::counts::counts;
+use super::defaults::{starts, writes_default};
+use super::elements::writes;
+use super::*;
+
+/// What a row of text is about.
+#[derive(Clone, Copy)]
+pub enum Call {
+    /// Operations on an object whose key stands here: `[Object,Updates,Answer,Made]`.
+    Count(u32),
+    /// Values for an object whose key stands first: `[Object,Values,Made]`.
+    Write,
+    /// Operations on a Default whose key stands here: `[Default,Key,Updates,Answer]`, where the answer is
+    /// `{Answer,Made}`, or a refusal.
+    Start(u32),
+    /// Values for a Default whose key stands first: `[Default,Key,Values,Made]`.
+    WriteDefault,
+}
+
+fn holds(alloc: Global, call: Call, row: &[Term]) -> Option<bool> {
+    match (call, row) {
+        (Call::Count(keypos), [object, updates, answer, made]) => {
+            counts(alloc, keypos, object, updates, (answer, made))
+        }
+        (Call::Write, [object, values, made]) => writes(alloc, object, values, made),
+        (Call::Start(keypos), [default, key, updates, answer]) => {
+            starts(alloc, keypos, (default, key), updates, answer)
+        }
+        (Call::WriteDefault, [default, key, values, made]) => {
+            writes_default(alloc, default, key, values, made)
+        }
+        _ => Some(false),
+    }
+}
+
+fn holds_read(alloc: Global, call: Call, row: &str) -> Option<bool> {
+    match read_term(alloc, row).ok()? {
+        (Term::List(parts), _) => holds(alloc, call, parts.as_slice()),
+        _ => Some(false),
+    }
+}
+
+/// The first row that does not hold.
+pub fn wrong(alloc: Global, call: Call, rows: &[&'static str]) -> Option<Option<&'static str>> {
+    for row in rows {
+        if !holds_read(alloc, call, *row)? {
+            return Some(Some(*row));
+        }
+    }
+    Some(None)
+}

@@ -1,0 +1,15 @@
+% Values for elements where the key stands second.
+spawn p
+p new(t,[named_table,{keypos,2}])
+p insert(t,{1,k,2})
+p update_element(t,k,[{3,x},{3,y}])
+p lookup(t,k)
+p update_element(t,k,{1,z})
+p update_element(t,no,{9,x})
+p update_element(t,no,[])
+p update_element(t,no,{2,x})
+p update_element(t,k,[{1,x},{9,x}])
+p update_element(t,k,{0,x})
+p update_element(t,k,3)
+p update_element(t,k,{1,[[[[[[[[[[[[[[[[[[[[[[[[[[[[[[[[[[[[[[[[[[[[[[[[[[[[[[[[[[[[[[[[[[[[[[[[[[[[[[[[[[[[[[[[[[[[[[[[[[[[[[[[[[[[[[[[[[[[[[[[[[[[[[[]]]]]]]]]]]]]]]]]]]]]]]]]]]]]]]]]]]]]]]]]]]]]]]]]]]]]]]]]]]]]]]]]]]]]]]]]]]]]]]]]]]]]]]]]]]]]]]]]]]]]]]]]]]]]]]]]]]]]]]]]]]]]]]})
+p lookup(t,k)
