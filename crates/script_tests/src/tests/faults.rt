@@ -139,7 +139,7 @@ fn wrong_front(
     end: End,
 ) -> Option<u32> {
     for lines in 0..LINES {
-        let front = &answers[..10 * lines as usize];
+        let front = &answers[..answers.len().min(10 * lines as usize)];
         if !is_run_by(alloc, &by(devices(lines)), Fnv, script, front, end) {
             return Some(lines);
         }
