@@ -130,37 +130,34 @@ fn repeated(alloc: Global, line: &[u8]) -> Result<Vec<u8>, AllocError> {
     Ok(text)
 }
 
-/// The first number of lines, of those that these devices let by one by one, whose answers are not what went out.
-fn wrong_front(
-    alloc: Global,
-    script: &[u8],
-    answers: &[u8],
-    devices: fn(u32) -> Devices,
-    end: End,
-) -> Option<u32> {
+/// Devices that give a line a read, and of which a read or a write fails behind so many, as the end says.
+fn failing(end: End, lines: u32) -> Devices {
+    let slow = Devices {
+        most_read: 8,
+        ..GOOD
+    };
+    match end {
+        End::Write => Devices {
+            good_writes: lines,
+            ..slow
+        },
+        _ => Devices {
+            good_reads: lines,
+            ..slow
+        },
+    }
+}
+
+/// The first number of lines behind which the device fails, and the answers to them are not what went out.
+fn wrong_front(alloc: Global, script: &[u8], answers: &[u8], end: End) -> Option<u32> {
     for lines in 0..LINES {
         let front = &answers[..answers.len().min(10 * lines as usize)];
-        if !is_run_by(alloc, &by(devices(lines)), Fnv, script, front, end) {
+        let run = by(failing(end, lines));
+        if !is_run_by(alloc, &run, Fnv, script, front, end) {
             return Some(lines);
         }
     }
     None
-}
-
-fn good_reads(lines: u32) -> Devices {
-    Devices {
-        most_read: 8,
-        good_reads: lines,
-        ..GOOD
-    }
-}
-
-fn good_writes(lines: u32) -> Devices {
-    Devices {
-        most_read: 8,
-        good_writes: lines,
-        ..GOOD
-    }
 }
 
 /// Each read of a long script fails in turn, and each write.
@@ -170,13 +167,7 @@ fn each_call_of_a_device_fails(rt: HostRuntime) -> Result<(), Fail> {
     let script = repeated(alloc, b"p a(10)\n")?;
     let answers = repeated(alloc, b"** noproc\n")?;
     let (script, answers) = (script.as_slice(), answers.as_slice());
-    assert_eq!(rt;
-        wrong_front(alloc, script, answers, good_reads, End::Read),
-        None
-    );
-    assert_eq!(rt;
-        wrong_front(alloc, script, answers, good_writes, End::Write),
-        None
-    );
+    assert_eq!(rt; wrong_front(alloc, script, answers, End::Read), None);
+    assert_eq!(rt; wrong_front(alloc, script, answers, End::Write), None);
     Ok(())
 }
