@@ -22,15 +22,16 @@ fn heir_entry(alloc: Global, heir: u32) -> Result<Term, AllocError> {
     Ok(Term::Tuple(entry))
 }
 
-fn options(alloc: Global, heir: u32) -> Result<NewOptions, WorldFault> {
+/// The same as the only one of the options.
+fn heir_options(alloc: Global, heir: u32) -> Result<Term, AllocError> {
     let mut list = Items::new(alloc);
     list.push(heir_entry(alloc, heir)?)?;
-    NewOptions::read(alloc, &Term::List(list))
+    Ok(Term::List(list))
 }
 
 /// A table of the process, with this heir.
 fn make(alloc: Global, world: &mut Tables, pid: u32, heir: u32) -> Result<(), WorldFault> {
-    let options = options(alloc, heir)?;
+    let options = NewOptions::read(alloc, &heir_options(alloc, heir)?)?;
     let name = Atom::new(alloc, "t").map_err(|_| AllocError)?;
     let rows = PlainRows::new(alloc);
     let table = Table::new(alloc, rows, options.kind, options.keypos, 10);
