@@ -1,0 +1,184 @@
+"""The scripts whose lines are refused memory, and the calls that take none, as .ci/refusals says."""
+import re
+from dataclasses import dataclass
+
+KINDS = "set", "bag", "duplicate_bag"
+ITEMS = "name", "named_table", "owner", "protection", "heir", "size", "type", "keypos", "fixed"
+SPAWN = re.compile(rb"[ \t]*spawn[ \t]+([a-z][a-z0-9_@]*)[ \t\r]*")
+NEW = re.compile(rb"[ \t]*[a-z][a-z0-9_@]*[ \t]+new[ \t]*\(.*")
+# Scripts of the examples that are larger are left to those that are made here.
+LARGE = 8_000
+
+
+@dataclass
+class Script:
+    """A script, the words of its command line, and what is asked besides where the node is looked at."""
+
+    name: str
+    words: list
+    lines: list
+    asks: list
+
+
+def text_of(lines):
+    return b"".join(it + b"\n" for it in lines)
+
+
+def is_answered(line):
+    """Whether a line is none of those that print nothing."""
+    return bool(line.strip(b" \t\r")) and not line.lstrip(b" \t").startswith(b"%")
+
+
+def spawned(script):
+    return [found[1].decode() for it in script.lines if (found := SPAWN.fullmatch(it))]
+
+
+def look(script, answers):
+    """Lines that look at the node: each process reads each table of the script, whether it is there or not."""
+    told = zip(filter(is_answered, script.lines), answers, strict=True)
+    tables = dict.fromkeys(answer.decode() for line, answer in told if NEW.fullmatch(line) and not answer.startswith(b"**"))
+    calls = [call for it in tables for call in (f"tab2list({it})", f"first({it})", *(f"info({it},{item})" for item in ITEMS))]
+    return [f"{who} {call}".encode() for who in spawned(script) for call in calls] + script.asks
+
+
+def receives(script):
+    """Lines that empty each mailbox."""
+    return [f"{who} receive()".encode() for who in spawned(script)]
+
+
+def of_folder(folder, prefix):
+    """The scripts of a folder that are not large."""
+    for file in sorted(folder.glob("*.ets")):
+        text, args = file.read_bytes(), file.with_name(file.name + ".args")
+        if len(text) <= LARGE:
+            yield Script(prefix + file.stem, args.read_text().splitlines() if args.exists() else [], text.splitlines(), [])
+
+
+def made(name, words, lines, asks=()):
+    return Script(" ".join([name, *words]), words, [it.encode() for it in lines], [it.encode() for it in asks])
+
+
+def listed(objects):
+    return f"[{','.join(objects)}]"
+
+
+PROCESSES = ["spawn p", "spawn q", "spawn r"]
+LONG = "'a key that is long, and stands in memory of its own'"
+# Each call, on a table of p's that all may write; and then its end, with its owner's.
+CALLS = f"""\
+p insert(t,{{last,0}})
+p insert(t,[{{a,1}},{{0,1}},{{b,1}}])
+p insert_new(t,[{{c,1}},{{d,1}}])
+p insert_new(t,[{{f,1}},{{0,7}}])
+q insert_new(t,{{{LONG},"text"}})
+p lookup(t,0)
+p lookup(t,{LONG})
+p member(t,{LONG})
+p lookup_element(t,0,2)
+p update_counter(t,0,{{2,1}})
+p update_counter(t,0,[{{2,1}},{{2,5,4,0}},{{2,-1}}])
+p update_counter(t,e,2,{{x,40}})
+p update_counter(t,[g],[{{2,1}},{{3,1}}],{{x,0,0,[]}})
+p update_element(t,0,{{2,[1,2]}})
+p update_element(t,0,[{{2,<<"binary">>}},{{2,{{3}}}}])
+p match(t,{{'$1','$0'}})
+p match_object(t,{{'_',1}})
+p match_object(t,{{0,'_'}})
+p select(t,[{{{{'$1','$2'}},[{{'>','$2',2}}],[{{{{'$2','$1'}}}}]}},{{{{0,'_'}},[],['$_','$$']}}])
+p select_count(t,[{{{{'$1',1}},[{{is_atom,'$1'}}],[true]}}])
+p tab2list(t)
+q safe_fixtable(t,true)
+p first(t)
+p take(t,0)
+p delete(t,1)
+p delete_object(t,{{c,1}})
+p next(t,1)
+p next(t,f)
+p match_delete(t,{{2,'_'}})
+p match_delete(t,{{'_',1}})
+p select_delete(t,[{{{{'$1','$2'}},[{{'<','$1',5}}],[{{'<','$2',5}}]}}])
+p insert(t,{{1,again}})
+grow t
+ready t 3
+q safe_fixtable(t,true)
+q safe_fixtable(t,false)
+p setopts(t,[{{heir,none}},{{heir,<0.2.0>,[the,data]}}])
+p info(t,heir)
+p whereis(t)
+p give_away(t,<0.1.0>,{{the,[gift]}})
+q receive()
+q insert(t,[{{0,0}},{{1,1}}])
+q give_away(t,<0.0.0>,back)
+exit q
+p insert(t,{{0,2}})
+p delete_all_objects(t)
+p insert(t,{{0,3}})
+p new(t2,[bag,{{keypos,2}},{{heir,<0.2.0>,"a text"}}])
+p delete(t)
+p new(t,[named_table,public,KIND,{{heir,<0.2.0>,<<"data">>}}])
+p insert(t,{{left,1}})
+exit p
+r tab2list(t)
+""".splitlines()
+KEYS = ["a", "b", "c", "d", "e", "f", "[g]", "last", LONG]
+
+
+def of_calls(kind, count, words, key=None):
+    """Each call on a table of so many objects: under so many numbers, or all under one key."""
+    objects = listed(f"{{{it if key is None else key},{it}}}" for it in range(count))
+    lines = [*PROCESSES, f"p new(t,[{kind},named_table,public])", f"p insert(t,{objects})", *(it.replace("KIND", kind) for it in CALLS)]
+    name = f"calls on a {kind} of {count}{'' if key is None else ' under one key'}"
+    return made(name, words, lines, [f"r lookup(t,{it})" for it in [*range(count), *KEYS]])
+
+
+def of_growth(words):
+    """A table that is doubled from 2 buckets to 128, with buckets that are made ready."""
+    lines = [*PROCESSES, "p new(t,[named_table])", f"p insert(t,{listed(f'{{{it}}}' for it in range(300))})", "ready t 1"]
+    for size in 2, 4, 8, 16, 32, 64:
+        lines += ["grow t", f"ready t {size + 1}", f"ready t {size}", f"p insert(t,{{{size},new}})", f"ready t {2 * size - 1}"]
+    return made("2 to 128 buckets", words, lines, [f"r lookup(t,{it})" for it in range(0, 300, 7)])
+
+
+def of_ends():
+    """Owners that end: of tables with three heirs that live, of one whose heir has ended, of one with none."""
+    lines = [*PROCESSES, "spawn s", "spawn u", "p new(e,[named_table])"]
+    lines += [f"p new({name},[named_table,{{heir,<0.{pid}.0>,{{data,of,{name}}}}}])" for pid, name in enumerate("abcd", 1)]
+    lines += [f"p insert({name},[{{1,{name}}},{{2,{name}}}])" for name in "abcd"]
+    lines += ["q safe_fixtable(a,true)", "p safe_fixtable(b,true)", "exit u", "exit p", "q receive()", "exit q", "r tab2list(b)", "exit r", "exit s"]
+    return made("owners that end", [], lines)
+
+
+def of_numbers(count):
+    """So many processes, tables, fixes and messages."""
+    each = range(count)
+    lines = [f"spawn p{it}" for it in each] + [f"p0 new(t{it},[named_table,public,{{heir,<0.1.0>,{it}}}])" for it in each]
+    lines += [f"p{it} safe_fixtable(t0,true)" for it in each] + [f"p0 give_away(t{it},<0.1.0>,{it})" for it in each]
+    lines += ["p1 insert(t0,[{1},{2}])", "p1 delete(t0,1)", f"exit p{count - 1}", "p1 receive()", "exit p1"]
+    return made(f"{count} processes, tables, fixes and messages", [], lines)
+
+
+def own():
+    """The scripts that are made here."""
+    for words in [], ["--hash", "same"]:
+        for kind in KINDS:
+            yield from (of_calls(kind, count, words) for count in (7, 8, 9, 63, 64, 65))
+        for kind in "bag", "duplicate_bag":
+            yield from (of_calls(kind, count, words, key=0) for count in (8, 64))
+        yield of_growth(words)
+    yield of_ends()
+    yield from (of_numbers(count) for count in (3, 4, 5, 8, 9))
+
+
+def free(kind, calls):
+    """Calls that take no memory, behind a script that leaves a table of this kind."""
+    lines = [*PROCESSES, f"p new(t,[{kind},named_table,{{heir,<0.1.0>,x}}])", "p insert(t,[{a,1},{b,2},{a,3}])", "p safe_fixtable(t,true)", "p delete(t,b)"]
+    return [it.encode() for it in lines], [it.encode() for it in calls]
+
+
+OF_ANY = """\
+member(t,a) member(t,c) lookup(t,b) take(t,b) first(t) next(t,a) delete(t,a) delete(t,c) delete_object(t,{a,3}) delete_all_objects(t)
+delete(t) insert_new(t,[{c,1},{a,1}]) safe_fixtable(t,true) safe_fixtable(t,false) setopts(t,{heir,none}) setopts(t,{heir,<0.2.0>,y})
+whereis(t) info(t,name) info(t,named_table) info(t,owner) info(t,protection) info(t,heir) info(t,id) info(t,size) info(t,type) info(t,keypos)
+info(t,fixed) receive() no_call(t)""".split()
+OF_SET = "lookup_element(t,a,2) update_counter(t,a,1) update_counter(t,a,{2,1,0,0}) update_element(t,a,{2,5}) update_element(t,c,{2,5})".split()
+FREE = [free("set", [*OF_ANY, *OF_SET]), free("bag", OF_ANY), free("duplicate_bag", OF_ANY)]
