@@ -47,11 +47,12 @@ def receives(script):
 
 
 def of_folder(folder, prefix):
-    """The scripts of a folder that are not large."""
+    """The scripts of a folder that are not large. One that runs in threads reads all its lines before it answers one."""
     for file in sorted(folder.glob("*.ets")):
         text, args = file.read_bytes(), file.with_name(file.name + ".args")
-        if len(text) <= LARGE:
-            yield Script(prefix + file.stem, args.read_text().splitlines() if args.exists() else [], text.splitlines(), [])
+        words = args.read_text().splitlines() if args.exists() else []
+        if len(text) <= LARGE and "--threads" not in words:
+            yield Script(prefix + file.stem, words, text.removesuffix(b"\n").split(b"\n"), [])
 
 
 def made(name, words, lines, asks=()):

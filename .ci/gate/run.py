@@ -32,7 +32,7 @@ def counted(pattern, text):
 
 
 def parts_of(words, copy, logs):
-    """What the gate runs: what costs no proof, the test of the program of wrong bodies, `rt ci`, the wrong bodies, the front door, and cut scripts."""
+    """What the gate runs: what costs no proof, the test of the program of wrong bodies, `rt ci`, the wrong bodies, and what is tried on the program."""
     politely = ["nice", "-n", "10", f"{TOP}/.ci/wrong_bodies"]
     itself = Part("the program of wrong bodies", [*politely, "--self"], ends_all=True)
     proofs = Part("every proof, test and program (rt ci)", ["rt", "ci"], copy, show=r"^rt: ")
@@ -41,7 +41,9 @@ def parts_of(words, copy, logs):
     program = f"{copy}/{PROGRAM}/out/ets_script_cli"
     door = Part("the front door", [f"{TOP}/.ci/door", program], after=[proofs])
     cuts = Part("the examples, cut at every byte", [f"{TOP}/.ci/cuts", program], after=[proofs])
-    return [*unproved(logs), itself, door, cuts], proofs, edits
+    refusals = Part("memory refused", [f"{TOP}/.ci/refusals", program], after=[proofs], show=r"^refusals: ")
+    pace = Part("the program beside itself", [f"{TOP}/.ci/pace", program], after=[proofs], show=r"^pace: ")
+    return [*unproved(logs), itself, door, cuts, refusals, pace], proofs, edits
 
 
 def report(edits, costs):
