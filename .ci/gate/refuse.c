@@ -4,7 +4,7 @@
    .ci/refusals says what is to become of it.
 
    REFUSED is "FROM TO", the places of the line's first byte and of the first behind it; "0 0" stands for what comes before
-   the first read, "-1 -1" for nothing. Each run is told on standard output by a line "STATUS OUTPUT ERRORS", the status that
+   the first read, "0 -1" for all that the program allocates, "-1 -1" for nothing. Each run is told on standard output by a line "STATUS OUTPUT ERRORS", the status that
    waits say and two numbers of bytes, and then by those bytes: what the run wrote, and what it said on standard error. */
 #define _GNU_SOURCE
 #include <errno.h>
@@ -85,6 +85,10 @@ static int run(long which) {
     close(output);
     close(errors);
     return 0;
+}
+
+__attribute__((destructor)) static void end(void) {
+    if (counted && !refused && from == 0 && to == -1) counted->end = taken;
 }
 
 __attribute__((constructor)) static void run_all(void) {
