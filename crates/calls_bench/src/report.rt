@@ -101,20 +101,20 @@ pub(crate) fn times(rt: &(impl Print + Alloc<A = Global> + Clock), count: u32) -
 /// Prints nanoseconds a step of a mixture of so many, of one caller.
 pub(crate) fn alone(rt: &(impl Print + Alloc<A = Global> + Clock), calls: u32) -> io::Result<()> {
     let mut node = with_table(rt.alloc())?;
-    mixed(rt, &mut node, calls)?.show(rt, "alone", 1, calls)
+    mixed(rt, &mut node, calls)
 }
 
 fn mixed(
-    rt: &(impl Alloc<A = Global> + Clock),
+    rt: &(impl Print + Alloc<A = Global> + Clock),
     node: &mut Node<Fnv>,
     calls: u32,
-) -> io::Result<Outcome> {
+) -> io::Result<()> {
     fill(rt.alloc(), node)?;
     let steps = mixed_steps(rt.alloc(), calls)?;
     let start = Instant::now(rt)?;
     let found = ask_all(node, steps.as_slice())?;
     let nanoseconds = nanoseconds(start.elapsed(rt)?);
-    Ok(Outcome { nanoseconds, found })
+    Outcome { nanoseconds, found }.show(rt, "alone", 1, calls)
 }
 
 /// Prints nanoseconds a call of so many clients, which ask so many each at once.
@@ -137,13 +137,17 @@ pub(crate) fn check<R: Print + Alloc<A = Global> + Clock + Threads + Wait + Sync
     rt: &R,
     count: u32,
 ) -> io::Result<()> {
-    let mut node = with_table(rt.alloc())?;
-    check_phases(rt, &mut node, count)?;
+    check_phases(rt, count)?;
     let outcome = crowd(rt, CLIENTS, count)?;
     println!(rt; "clients found {}", outcome.found)
 }
 
-fn check_phases(
+fn check_phases(rt: &(impl Print + Alloc<A = Global>), count: u32) -> io::Result<()> {
+    let mut node = with_table(rt.alloc())?;
+    check_life(rt, &mut node, count)
+}
+
+fn check_life(
     rt: &(impl Print + Alloc<A = Global>),
     node: &mut Node<Fnv>,
     count: u32,
