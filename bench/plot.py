@@ -3,7 +3,7 @@
 import math
 
 PANELS = {"insert": "insert", "hit": "lookup, there", "miss": "lookup, not there", "counter": "counter", "delete": "delete"}
-COLOURS = ["#0a3d2c", "#27ae60", "#a3d9b1", "#7f7f7f", "#c0392b", "#2e6fb7"]
+COLOURS = ["#0a3d2c", "#27ae60", "#a3d9b1", "#7f7f7f", "#c0392b", "#2e6fb7", "#e0a030"]
 WIDTH, HEIGHT, MARGIN = 250, 230, 46  # of a panel, and the room on its left and below it
 LOW, HIGH = 10, 3_000  # nanoseconds
 

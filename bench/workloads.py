@@ -1,5 +1,6 @@
 """The script workloads: each a name, what it shows, a probe and its lines, the same at every run."""
 
+import random
 from dataclasses import dataclass
 from typing import Callable, Iterator
 
@@ -21,16 +22,11 @@ class Workload:
         return "\n".join(self.lines(8)) + "\n"
 
 
-def shuffled(count: int) -> Iterator[int]:
-    """The numbers below count, each once, in an order that jumps about."""
-    step = next(s for s in range(count * 2 // 3 | 1, count * 3, 2) if _coprime(s, count))
-    return ((i * step) % count for i in range(count))
-
-
-def _coprime(a: int, b: int) -> bool:
-    while b:
-        a, b = b, a % b
-    return a == 1
+def mixed(count: int) -> list[int]:
+    """The numbers below count, each once, in an order that chance gives, the same at every run."""
+    numbers = list(range(count))
+    random.Random(count).shuffle(numbers)
+    return numbers
 
 
 def table(options: str = "") -> list[str]:
@@ -46,7 +42,7 @@ def one_key(count: int) -> Iterator[str]:
 
 def many_keys(count: int) -> Iterator[str]:
     yield from table()
-    for i in shuffled(count // 2):
+    for i in mixed(count // 2):
         yield f"p insert(t,{{{i},{i * 7}}})"
         yield f"p lookup(t,{i})"
 
@@ -69,7 +65,7 @@ def counters(count: int) -> Iterator[str]:
 def select(count: int) -> Iterator[str]:
     yield from table()
     objects = min(count * 10, 10_000)
-    for i in shuffled(objects):
+    for i in mixed(objects):
         yield f"p insert(t,{{{i},{i * 3}}})"
     for i in range(count):
         yield f"p select(t,[{{{{{i % objects},'$1'}},[],['$1']}}])"
@@ -107,7 +103,7 @@ def walk(count: int) -> Iterator[str]:
 
     So each key but the first is answered once by `next`, in whatever order a table has."""
     yield from table()
-    for i in shuffled(count):
+    for i in mixed(count):
         yield f"p insert(t,{{{i},0}})"
     yield "p safe_fixtable(t,true)"
     yield "p first(t)"
@@ -134,7 +130,7 @@ def routes(count: int) -> Iterator[str]:
     yield from table(",bag")
     keys = min(count, 50_000)
     for i in range(4):
-        for key in shuffled(keys):
+        for key in mixed(keys):
             yield f"p insert(t,{{d{key},hop{i},{key % 16 + i}}})"
     for i in range(count):
         yield f"p match(t,{{d{i * 31 % keys},'$1','$2'}})"
@@ -157,25 +153,31 @@ class Search:
 
     name: str
     call: str
-    passes: int  # how often the call stands in the script
-
-
-def filled(count: int) -> list[str]:
-    """Objects {K,V} with V = 3 K, a hundred a line."""
-    numbers = list(shuffled(count))
-    rows = (numbers[i : i + 100] for i in range(0, count, 100))
-    return table() + ["p insert(t,[" + ",".join(f"{{{k},{3 * k}}}" for k in row) + "])" for row in rows]
-
-
-def rounds(count: int, fixed: bool) -> list[str]:
-    """Deletions of so many objects, each in a table that is fixed for it alone, or between two calls that fix nothing."""
-    before, after = ("safe_fixtable(t,true)", "safe_fixtable(t,false)") if fixed else ("member(t,none)", "member(t,none)")
-    return [line for i in range(count) for line in (f"p {before}", f"p delete(t,{i})", f"p {after}")]
+    passes: int  # how often it is asked of one table
 
 
 def singly(count: int) -> list[str]:
     """Objects {K,V} with V = 3 K, one a line."""
-    return table() + [f"p insert(t,{{{k},{3 * k}}})" for k in shuffled(count)]
+    return table() + [f"p insert(t,{{{k},{3 * k}}})" for k in mixed(count)]
+
+
+def by_lists(count: int) -> list[str]:
+    """The same objects in the same order, a hundred a line."""
+    numbers = mixed(count)
+    rows = (numbers[i : i + 100] for i in range(0, count, 100))
+    return table() + ["p insert(t,[" + ",".join(f"{{{k},{3 * k}}}" for k in row) + "])" for row in rows]
+
+
+def lookups(count: int, lines: int) -> list[str]:
+    """So many lookups in a table of so many objects, in an order that has nothing to do with that of the insertions."""
+    chance = random.Random(lines)
+    return [f"p lookup(t,{chance.randrange(count)})" for _ in range(lines)]
+
+
+def rounds(keys: list[int], is_fixed: bool) -> list[str]:
+    """Deletions of these keys, each in a table that is fixed for it alone, or between two calls that fix nothing."""
+    before, after = ("safe_fixtable(t,true)", "safe_fixtable(t,false)") if is_fixed else ("member(t,none)", "member(t,none)")
+    return [line for k in keys for line in (f"p {before}", f"p delete(t,{k})", f"p {after}")]
 
 
 def searches(count: int) -> list[Search]:
@@ -200,7 +202,7 @@ class Shape:
 
     def lines(self, count: int) -> Iterator[str]:
         yield from table(self.options)
-        for i in shuffled(count):
+        for i in mixed(count):
             yield f"p insert(t,{self.object(i)})"
 
 

@@ -1,5 +1,5 @@
 //! A split-ordered list in straight Rust, laid out as `node_list` is: keys and links in one arena, items in another.
-use crate::shuffled;
+use crate::order::shuffled;
 use crate::term::Term;
 
 const NONE: usize = usize::MAX;

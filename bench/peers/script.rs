@@ -280,11 +280,17 @@ impl Node {
 }
 
 fn main() -> io::Result<()> {
-    let mut input = io::stdin().lock();
+    let mut input = io::BufReader::with_capacity(1 << 16, io::stdin().lock());
     let mut output = io::BufWriter::new(io::stdout().lock());
     let mut node = Node::default();
     let (mut line, mut text) = (Vec::new(), Vec::new());
-    while input.read_until(b'\n', &mut line)? > 0 {
+    loop {
+        if input.buffer().is_empty() {
+            output.flush()?; // the next read may wait
+        }
+        if input.read_until(b'\n', &mut line)? == 0 {
+            return Ok(());
+        }
         let bytes = line.strip_suffix(b"\n").unwrap_or(&line);
         if let Some(term) = node.answer(bytes) {
             text.clear();
@@ -294,5 +300,4 @@ fn main() -> io::Result<()> {
         }
         line.clear();
     }
-    output.flush()
 }

@@ -1,7 +1,6 @@
-//! Times a node's calls, a table and its rows, phase by phase, and prints lines of WHO OPERATION FIGURE: table_bench times|longest|bytes|check rows|table|calls COUNT.
+//! Times a table and its rows, phase by phase, and prints lines of WHO OPERATION FIGURE: table_bench times|longest|bytes|check rows|table COUNT.
 #![tactic(auto)]
 
-mod calls;
 mod order;
 mod phases;
 mod report;
@@ -10,7 +9,6 @@ mod store;
 mod table;
 
 use bucket_table::SplitRows;
-use calls::Calls;
 use ets_term::Fnv;
 use report::{check, longest, measure, times};
 use std::alloc::Global;
@@ -48,7 +46,6 @@ fn main(rt: HostRuntime) -> io::Result<()> {
     let part = part.as_deref().unwrap_or("check");
     match store.as_deref() {
         Some("table") => run::<Table<SplitRows<Fnv>>>(&rt, part, count),
-        Some("calls") => run::<Calls>(&rt, part, count),
         _ => run::<SplitRows<Fnv>>(&rt, part, count),
     }
 }

@@ -1,0 +1,118 @@
+%% Erlang/OTP's own ets asked by calls, in one run of erl: ets_calls:main(["times", Count]), or ["clients", Clients, Calls].
+%%
+%% Prints lines of WHO OPERATION FIGURE, in nanoseconds a call. Keys, objects and their order are made before the clock
+%% runs, and stand as persistent terms, which no collection of garbage copies.
+-module(ets_calls).
+-export([main/1]).
+
+-define(WORD, 16#FFFFFFFFFFFFFFFF).
+-define(PHASES, [insert, hit, miss, counter, delete]).
+-define(KEYS, 10000).
+
+main(["times", Count]) ->
+    times(list_to_integer(Count)),
+    halt(0);
+main(["clients", Clients, Calls]) ->
+    clients("ets", [public], list_to_integer(Clients), list_to_integer(Calls)),
+    clients("ets,concurrent", [public, {read_concurrency, true}, {write_concurrency, true}], list_to_integer(Clients), list_to_integer(Calls)),
+    halt(0).
+
+%% ---- one process, phase by phase ----
+
+times(Count) ->
+    [persistent_term:put(Phase, given(Phase, Count)) || Phase <- ?PHASES],
+    Lives = [life() || _ <- lists:seq(1, max(1, 300000 div Count))],
+    [show("ets", Phase, lists:min([maps:get(Phase, Life) || Life <- Lives]) / Count) || Phase <- ?PHASES].
+
+given(insert, Count) -> [{K, 1} || K <- shuffled(Count, 1)];
+given(hit, Count) -> shuffled(Count, 2);
+given(miss, Count) -> [K + Count || K <- shuffled(Count, 3)];
+given(counter, Count) -> shuffled(Count, 4);
+given(delete, Count) -> shuffled(Count, 5).
+
+%% The nanoseconds of each phase of a new table.
+life() ->
+    Table = ets:new(t, [public]),
+    Life = maps:from_list([{Phase, timed(Phase, Table, persistent_term:get(Phase))} || Phase <- ?PHASES]),
+    ets:delete(Table),
+    Life.
+
+timed(Phase, Table, Given) ->
+    Start = erlang:monotonic_time(nanosecond),
+    ok = run(Phase, Given, Table),
+    erlang:monotonic_time(nanosecond) - Start.
+
+run(insert, Given, Table) -> insert(Given, Table);
+run(hit, Given, Table) -> hit(Given, Table);
+run(miss, Given, Table) -> miss(Given, Table);
+run(counter, Given, Table) -> counter(Given, Table);
+run(delete, Given, Table) -> delete(Given, Table).
+
+insert([Object | Rest], Table) -> true = ets:insert(Table, Object), insert(Rest, Table);
+insert([], _) -> ok.
+
+hit([Key | Rest], Table) -> [{_, _}] = ets:lookup(Table, Key), hit(Rest, Table);
+hit([], _) -> ok.
+
+miss([Key | Rest], Table) -> false = ets:member(Table, Key), miss(Rest, Table);
+miss([], _) -> ok.
+
+counter([Key | Rest], Table) -> 2 = ets:update_counter(Table, Key, 1), counter(Rest, Table);
+counter([], _) -> ok.
+
+delete([Key | Rest], Table) -> true = ets:delete(Table, Key), delete(Rest, Table);
+delete([], _) -> ok.
+
+%% ---- processes that share a table ----
+
+%% Nine lookups, then an insertion, and so on, in an order of each client's own.
+clients(Who, Options, Clients, Calls) ->
+    Table = ets:new(t, Options),
+    [ets:insert(Table, {Key, 1}) || Key <- lists:seq(0, ?KEYS - 1)],
+    [persistent_term:put(Client, mixture(Calls, Client)) || Client <- lists:seq(1, Clients)],
+    Here = self(),
+    Pids = [spawn_link(fun() -> client(Here, Table, Client) end) || Client <- lists:seq(1, Clients)],
+    [receive {ready, Pid} -> ok end || Pid <- Pids],
+    Start = erlang:monotonic_time(nanosecond),
+    [Pid ! go || Pid <- Pids],
+    Found = lists:sum([receive {found, Pid, Count} -> Count end || Pid <- Pids]),
+    Spent = erlang:monotonic_time(nanosecond) - Start,
+    Found = Clients * (Calls - Calls div 10),
+    ets:delete(Table),
+    show(Who, mixture, Spent / (Clients * Calls)).
+
+mixture(Calls, Client) ->
+    Keys = lists:zip(lists:seq(0, Calls - 1), shuffled(Calls, Client)),
+    [case At rem 10 of 9 -> {K rem ?KEYS, 1}; _ -> K rem ?KEYS end || {At, K} <- Keys].
+
+client(Parent, Table, Client) ->
+    Mixture = persistent_term:get(Client),
+    Parent ! {ready, self()},
+    receive go -> ok end,
+    Parent ! {found, self(), ask(Mixture, Table, 0)}.
+
+%% How many lookups found an object.
+ask([{_, _} = Object | Rest], Table, Found) -> true = ets:insert(Table, Object), ask(Rest, Table, Found);
+ask([Key | Rest], Table, Found) -> [{_, _}] = ets:lookup(Table, Key), ask(Rest, Table, Found + 1);
+ask([], _, Found) -> Found.
+
+%% ---- the order of keys, as the store and all peers have it ----
+
+shuffled(Count, Seed) ->
+    Mask = power_of_two(Count, 1) - 1,
+    Odd = ((Seed * 16#D6E8FEB86659FD92) band ?WORD) bor 1,
+    By = [Odd band Mask, (16#85EBCA6B bxor ((Seed * 16#2C1B3C6C) band ?WORD)) band Mask, (Odd bxor 16#9E3779B8) band Mask,
+          (16#C2B2AE35 bxor ((Seed * 16#165667B0) band ?WORD)) band Mask],
+    [K || I <- lists:seq(0, Mask), K <- [jump(I, By, Mask)], K < Count].
+
+jump(I, [By, More, Again, Last], Mask) ->
+    A = (I * By) band Mask,
+    B = ((A bxor (A bsr 9)) * More) band Mask,
+    C = ((B bxor (B bsr 7)) * Again) band Mask,
+    D = ((C bxor (C bsr 11)) * Last) band Mask,
+    D bxor (D bsr 8).
+
+power_of_two(Count, Power) when Power >= Count -> Power;
+power_of_two(Count, Power) -> power_of_two(Count, Power * 2).
+
+show(Who, Operation, Figure) -> io:format("~s ~s ~.1f~n", [Who, Operation, float(Figure)]).

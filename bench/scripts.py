@@ -1,0 +1,158 @@
+"""What scripts show: workloads, memory, passes over a whole table, lists that fill one, and fixes."""
+
+import pathlib
+import re
+import subprocess
+
+from building import OUT, stop
+from timing import LIMIT, Runs, Talk, ratio, spread, timed
+from workloads import SHAPES, WORKLOADS, Shape, Workload, by_lists, lookups, mixed, rounds, searches, singly
+
+Commands = dict[str, list[str]]
+MARKS = (25_000, 50_000, 100_000, 200_000)  # lookups behind lists, while growth catches up
+
+
+def workloads(word: str, quick: bool, programs: Commands) -> list[list[str]]:
+    """The workloads whose name has this word: the store beside each peer."""
+    rows = [["script", "this store", "peer", "its time", "ratio"]]
+    for workload in WORKLOADS:
+        if word in workload.name:
+            rows += row(workload, quick, programs, 2 if quick else 5)
+    return rows
+
+
+def row(workload: Workload, quick: bool, programs: Commands, times: int) -> list[list[str]]:
+    if "** badarg" in answers(programs["store"], workload.probe()):
+        return [[workload.name, "not yet", "", "", ""]]
+    script = OUT / "script.txt"
+    script.write_text(workload.script(quick))
+    runs = {name: Runs() for name in programs}
+    turn = lambda name: timed(runs[name], programs[name], script, OUT / f"{name}.answers")
+    rivals = [name for name in programs if name != "store"]
+    for _ in range(times):  # store, peer, store, .. so that each sees the same machine
+        for name in rivals:
+            turn("store")
+            turn(name)
+    ours, rows = runs["store"], []
+    for name in rivals:
+        theirs = runs[name]
+        ended = not (ours.failed or theirs.failed)
+        agree = not ended or same(workload, OUT / "store.answers", OUT / f"{name}.answers")
+        shown = ratio(ours.wall, theirs.wall) if ended else "-"
+        rows.append([workload.name, ours.show(), name, theirs.show(), shown + ("" if agree else "  ANSWERS DIFFER")])
+    return rows
+
+
+def same(workload: Workload, ours: pathlib.Path, theirs: pathlib.Path) -> bool:
+    """Equal answers, byte for byte; where they hold keys in the table's order, up to that order."""
+    if not workload.sorted_parts:
+        return ours.read_bytes() == theirs.read_bytes()
+    parts = lambda path: sorted(re.split(rb"[\n,\[\]]", path.read_bytes()))
+    return parts(ours) == parts(theirs)
+
+
+def answers(command: list[str], text: str) -> str:
+    try:
+        return subprocess.run(command, input=text, capture_output=True, text=True, timeout=LIMIT).stdout
+    except subprocess.TimeoutExpired:
+        return ""
+
+
+def with_erlang(programs: Commands) -> Commands:
+    return {name: command for name, command in programs.items() if name in ("store", "Erlang")}
+
+
+def memory(quick: bool, programs: Commands) -> list[list[str]]:
+    """Bytes an object of several shapes: by how much the peak of a program grows where it gets twice as many objects."""
+    count = 150_000 if quick else 300_000
+    rivals = [name for name in programs if name != "store"]
+    rows = [[f"{2 * count:,} objects beside {count:,}, bytes an object", "this store", *rivals, *(f"to {name}" for name in rivals)]]
+    for shape in SHAPES:
+        each = {name: [(peak(command, shape, 2 * count) - peak(command, shape, count)) / count] for name, command in programs.items()}
+        rows.append([shape.name, *map(spread, each.values()), *(ratio(each["store"], each[name]) for name in rivals)])
+    return rows
+
+
+def peak(command: list[str], shape: Shape, count: int) -> float:
+    """The peak of a program's memory as it fills a table with so many objects."""
+    script, runs = OUT / "memory.txt", Runs()
+    with open(script, "w") as given:
+        given.writelines(line + "\n" for line in shape.lines(count))
+    timed(runs, command, script, OUT / "memory.answers")
+    return runs.peak[0]
+
+
+def passes(quick: bool, programs: Commands) -> list[list[str]]:
+    """Calls that look at all objects of a table that was filled one by one, an object: from the line's way in to the end of
+    its answer."""
+    count, turns = (20_000, 1) if quick else (1_000_000, 3)
+    programs, fill, asked = with_erlang(programs), singly(count), searches(count)
+    spent = {(search.name, name): [] for search in asked for name in programs}
+    for _ in range(turns):
+        lengths = {name: [] for name in programs}
+        for name, command in programs.items():
+            with Talk(command) as talk:
+                talk.ask(fill)
+                for search in asked:
+                    told = [talk.ask([search.call]) for _ in range(search.passes)]
+                    spent[search.name, name] += [1e9 * seconds / count for seconds, _, _ in told]
+                    lengths[name].append(told[0][1])
+        if len(set(map(tuple, lengths.values()))) > 1:
+            stop(f"the answers to searches differ in length: {lengths}")
+    rows = [[f"all of {count:,} objects {{K,V}}, ns an object", *programs, "ratio"]]
+    for search in asked:
+        each = [spent[search.name, name] for name in programs]
+        rows.append([search.name, *map(spread, each), ratio(each[0], each[-1])])
+    return rows
+
+
+def lists(quick: bool, programs: Commands) -> list[list[str]]:
+    """A table filled by lists of 100 in a true shuffle beside one filled one by one, and lookups behind it, a line each:
+    growth, of which a line does two steps, catches up meanwhile."""
+    count, turns = (30_000, 1) if quick else (300_000, 3)
+    marks = [mark * count // 300_000 for mark in MARKS]
+    keys = lookups(count, marks[-1])
+    parts = {f"lookups {start + 1:,} to {end:,} behind lists": keys[start:end] for start, end in zip([0, *marks], marks)}
+    spent: dict[tuple[str, str], list[float]] = {}
+    for _ in range(turns):
+        checks = {name: [] for name in programs}
+        for name, command in programs.items():
+            note = lambda part, talk, lines, each: checks[name].append(noted(spent, part, name, talk.ask(lines), each))
+            with Talk(command) as talk:
+                note("put one by one, an object", talk, singly(count), count)
+                note("lookups behind that", talk, keys[: marks[0]], marks[0])
+            with Talk(command) as talk:
+                note("put by lists of 100, an object", talk, by_lists(count), count)
+                for part, lines in parts.items():
+                    note(part, talk, lines, len(lines))
+        if len(set(map(tuple, checks.values()))) > 1:
+            stop("the answers behind lists differ")
+    rivals = [name for name in programs if name != "store"]
+    rows = [[f"{count:,} objects {{K,V}}, ns", *programs, *(f"to {name}" for name in rivals)]]
+    for part in dict.fromkeys(part for part, _ in spent):
+        each = {name: spent[part, name] for name in programs}
+        rows.append([part, *map(spread, each.values()), *(ratio(each["store"], each[name]) for name in rivals)])
+    return rows
+
+
+def noted(spent: dict, part: str, name: str, told: tuple[float, int, str], each: int) -> str:
+    """Keeps the nanoseconds of a part, and answers the checksum of what was answered."""
+    seconds, _, checksum = told
+    spent.setdefault((part, name), []).append(1e9 * seconds / each)
+    return checksum
+
+
+def releases(quick: bool, programs: Commands) -> list[list[str]]:
+    """What it costs to fix a table, delete one object and release it: the held slot alone, not the table."""
+    count, deleted, turns = (20_000, 2_000, 1) if quick else (1_000_000, 100_000, 3)
+    programs, keys = with_erlang(programs), mixed(count)[:deleted]
+    rows = [[f"one of {count:,} objects deleted, ns", "fixed for it, and released", "between two calls of member", "ratio"]]
+    for name, command in programs.items():
+        spent = {True: [], False: []}
+        for _ in range(turns):
+            for is_fixed, figures in spent.items():
+                with Talk(command) as talk:
+                    talk.ask(singly(count))
+                    figures.append(1e9 * talk.ask(rounds(keys, is_fixed))[0] / deleted)
+        rows.append([name, spread(spent[True]), spread(spent[False]), ratio(spent[True], spent[False])])
+    return rows

@@ -1,0 +1,102 @@
+"""What programs of their own show: layers, rows, tables, whole calls, and clients in threads."""
+
+from building import Programs, erlang, layers as built_layers, rust, tables as built_tables
+from timing import Figures, least, ratio, spread
+
+LAYERS = {
+    "read": "read and drop a term, ns",
+    "print": "print a term, ns",
+    "list-insert": "insert into the sorted list, ns",
+    "list-find": "find in the sorted list, ns",
+    "list-bytes": "an item of the sorted list, bytes",
+}
+OPERATIONS = {
+    "insert": "insert, ns",
+    "hit": "lookup of a key that is there, ns",
+    "miss": "lookup of a key that is not, ns",
+    "counter": "update of a counter, ns",
+    "delete": "delete, ns",
+    "bytes": "an object, bytes",
+    "longest": "the longest insertion, its growth included, ns",
+    "doubling": "a doubling of its buckets, ns",
+}
+COUNTS = (1_000, 100_000, 1_000_000, 4_000_000)  # objects in a table
+FIELD = ("Mutex<HashMap>", "HashMap", "cds_lfht", "oneTBB")
+OURS = {"calls": "Node::step", "table": "Table<SplitRows<Fnv>>", "rows": "SplitRows<Fnv>"}
+PEERS = {"calls": ("Mutex<HashMap>,copies", "HashMap,copies", "ets"), "table": FIELD, "rows": FIELD}
+CLIENTS = (1, 2, 4)
+CROWD = {
+    "shared": "Shared",
+    "Mutex<HashMap>,journal": "Mutex<HashMap>, a journal",
+    "Mutex<HashMap>,copies": "Mutex<HashMap>",
+    "ets": "ets",
+    "ets,concurrent": "ets, concurrent",
+}
+
+
+def layers(quick: bool, programs: Programs) -> list[list[str]]:
+    """The store's layers beside straight Rust."""
+    count, driver = "100000" if quick else "1000000", built_layers(programs)
+    commands = [[driver, part, count] for part in ("text", "store-list", "rust-list", "chase")] if driver else []
+    found = least(commands, 1 if quick else 3)
+    rows = [["layer", "this store", "straight Rust", "ratio"]]
+    for operation, shows in LAYERS.items():
+        ours, theirs = found.get(("store", operation)), found.get(("Rust", operation))
+        rows.append([shows, spread(ours), spread(theirs), ratio(ours, theirs)])
+    return rows + [["one dependent miss of the cache, ns", spread(found.get(("machine", "miss"))), "", ""]]
+
+
+def curve(wanted: list[str], quick: bool, programs: Programs) -> dict[int, Figures]:
+    """The figures of these of ours and of their peers, with each number of objects, by turns."""
+    sides = [side for name in wanted for side in (ours_of(name, programs), *peers_of(name))]
+    parts = list(dict.fromkeys(part for side in sides for part in side))
+    counts, turns = (COUNTS[:2], 1) if quick else (COUNTS, 3)
+    return {count: least([[*part, str(count)] for part in parts], turns) for count in counts}
+
+
+Part = tuple[str, ...]  # the words that run one part of a program, but for the number of objects
+
+
+def ours_of(name: str, programs: Programs) -> list[Part]:
+    if name == "calls":
+        return [(programs.program("calls_bench"), "times")]
+    return [(programs.program("table_bench"), part, name) for part in ("times", "bytes", "longest")]
+
+
+def peers_of(name: str) -> list[list[Part]]:
+    maps, field, ets = rust("maps"), built_tables(), erlang("ets_calls")
+    if name == "calls":
+        return [[(maps, "copies")] if maps else [], [(*ets, "times")] if ets else []]
+    ours = [(maps, part) for part in ("times", "bytes", "longest")] if maps else []
+    theirs = ("cds_lfht", "cds_lfht-bytes", "oneTBB", "oneTBB-bytes", "oneTBB-longest")
+    return [ours, [(field, part) for part in theirs] if field else []]
+
+
+def beside_the_field(found: Figures, who: str, count: int) -> list[list[str]]:
+    """The figures of one of ours and of each peer, and their ratios."""
+    peers = PEERS[who]
+    rows = [[f"{OURS[who]}, {count:,} objects {{K,V}}", "ours", *peers, *(f"to {name}" for name in peers)]]
+    for operation, shows in OPERATIONS.items():
+        ours, theirs = found.get((who, operation)), [found.get((name, operation)) for name in peers]
+        if ours:
+            rows.append([shows, spread(ours), *(spread(peer) if peer else "" for peer in theirs), *(ratio(ours, peer) for peer in theirs)])
+    return rows
+
+
+def clients(quick: bool, programs: Programs) -> list[list[str]]:
+    """Threads that ask one node, each through a client of its own: nanoseconds a call of all together."""
+    calls, turns = (20_000, 1) if quick else (200_000, 3)
+    ours, maps, ets = programs.program("calls_bench"), rust("maps"), erlang("ets_calls")
+    sides = [[ours], *([[maps]] if maps else []), *([ets] if ets else [])]
+    peers = [name for name in CROWD if name != "shared"]
+    rows = [[f"{calls:,} calls each, 90 lookups to 10 insertions, ns", *CROWD.values(), *(f"to {CROWD[name]}" for name in peers)]]
+    single = None
+    for threads in CLIENTS:
+        found = least([[*side, "clients", str(threads), str(calls)] for side in sides], turns)
+        figures = [found.get((name, "mixture")) for name in CROWD]
+        single = single or figures[0]
+        rows.append([f"{threads} client{'s' * (threads > 1)}", *map(spread, figures), *(ratio(figures[0], peer) for peer in figures[1:])])
+    alone = least([[ours, "alone", str(calls)]], turns)["alone", "mixture"]
+    blank = [""] * (len(rows[0]) - 2)
+    rows.append(["the same calls as steps of a node, one caller", spread(alone), *blank])
+    return rows + [["one ask over one step", f"{min(single) - min(alone):.0f}", *blank]]

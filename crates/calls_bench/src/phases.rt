@@ -1,0 +1,90 @@
+//! The phases of the life of a table: one step for each key, in an order of the phase's own.
+use crate::calls::{count_up, has_found, insert, is_atom, of_key};
+use crate::node::{asks, tend};
+use crate::order::shuffled;
+use ets_term::{Fnv, Term};
+use node_core::{Call, Node, Reply, Step};
+use std::alloc::{AllocError, Global};
+
+#[derive(Clone, Copy)]
+pub enum Phase {
+    Insert,
+    Hit,
+    Miss,
+    Counter,
+    Delete,
+}
+
+/// All phases, in the order in which a table goes through them.
+pub const PHASES: [Phase; 5] = [
+    Phase::Insert,
+    Phase::Hit,
+    Phase::Miss,
+    Phase::Counter,
+    Phase::Delete,
+];
+
+impl Phase {
+    pub(crate) fn name(self) -> &'static str {
+        match self {
+            Phase::Insert => "insert",
+            Phase::Hit => "hit",
+            Phase::Miss => "miss",
+            Phase::Counter => "counter",
+            Phase::Delete => "delete",
+        }
+    }
+
+    /// The steps, of so many keys.
+    pub(crate) fn steps(self, alloc: Global, count: u32) -> Result<Vec<Step>, AllocError> {
+        let mut steps = Vec::new(alloc);
+        for k in shuffled(alloc, u64::from(count), self.seed())? {
+            steps.push(asks(self.call(alloc, k, count)?))?;
+        }
+        Ok(steps)
+    }
+
+    /// Does the steps, each insertion with two steps of growth, and answers how many were answered as they should be.
+    pub(crate) fn run(self, node: &mut Node<Fnv>, steps: &[Step]) -> Result<u64, AllocError> {
+        let mut done: u64 = 0;
+        for step in steps {
+            let reply = node.step(step)?;
+            if matches!(self, Phase::Insert) {
+                tend(node)?;
+                tend(node)?;
+            }
+            done = done.wrapping_add(u64::from(self.is_right(&reply)));
+        }
+        Ok(done)
+    }
+
+    fn seed(self) -> u64 {
+        match self {
+            Phase::Insert => 1,
+            Phase::Hit => 2,
+            Phase::Miss => 3,
+            Phase::Counter => 4,
+            Phase::Delete => 5,
+        }
+    }
+
+    /// The call of a key. The keys of a miss are not among those of the others.
+    fn call(self, alloc: Global, k: u64, count: u32) -> Result<Call, AllocError> {
+        match self {
+            Phase::Insert => insert(alloc, k),
+            Phase::Hit => of_key(alloc, "lookup", k),
+            Phase::Miss => of_key(alloc, "member", k.wrapping_add(u64::from(count))),
+            Phase::Counter => count_up(alloc, k),
+            Phase::Delete => of_key(alloc, "delete", k),
+        }
+    }
+
+    fn is_right(self, reply: &Reply) -> bool {
+        match self {
+            Phase::Insert | Phase::Delete => is_atom(reply, "true"),
+            Phase::Hit => has_found(reply),
+            Phase::Miss => is_atom(reply, "false"),
+            Phase::Counter => matches!(reply, Reply::Value(Term::Int(2))),
+        }
+    }
+}

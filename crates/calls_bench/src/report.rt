@@ -1,0 +1,161 @@
+ghost use Rattle.std.specs.Prelude.{◌<◌};
+
+use crate::clients::crowd;
+use crate::mixture::Outcome;
+use crate::node::{ask_all, fill, mixed_steps, with_table};
+use crate::phases::{PHASES, Phase};
+use ets_term::Fnv;
+use node_core::Node;
+use std::alloc::{AllocError, Global};
+use std::io;
+use std::rt::Clock;
+use std::sync::Wait;
+use std::thread::Threads;
+use std::time::{Duration, Instant};
+
+/// Small tables are made again and again, and each figure is the least.
+const STEPS: u32 = 300_000;
+
+/// As many clients as are checked.
+const CLIENTS: u32 = 3;
+
+fn repeats(count: u32) -> u32 {
+    (STEPS / count.max(1)).max(1)
+}
+
+/// A phase, and the least time that it has taken, in nanoseconds.
+#[derive(Drop)]
+struct Timed {
+    phase: Phase,
+    best: u64,
+}
+
+impl Timed {
+    /// Does the phase once more. Its steps are made before the clock runs.
+    fn turn(
+        &mut self,
+        rt: &(impl Print + Alloc<A = Global> + Clock),
+        node: &mut Node<Fnv>,
+        count: u32,
+    ) -> io::Result<()> {
+        let steps = self.phase.steps(rt.alloc(), count)?;
+        let start = Instant::now(rt)?;
+        let done = self.phase.run(node, steps.as_slice())?;
+        self.best = self.best.min(nanoseconds(start.elapsed(rt)?));
+        if done != u64::from(count) {
+            println!(rt; "calls {} went wrong", self.phase.name())?;
+        }
+        Ok(())
+    }
+}
+
+fn all_phases(alloc: Global) -> Result<Vec<Timed>, AllocError> {
+    let mut all = Vec::new(alloc);
+    for phase in PHASES {
+        let best = u64::MAX;
+        all.push(Timed { phase, best })?;
+    }
+    Ok(all)
+}
+
+/// Takes a table through all phases.
+fn one_life(
+    rt: &(impl Print + Alloc<A = Global> + Clock),
+    phases: &mut [Timed],
+    count: u32,
+) -> io::Result<()> {
+    let mut node = with_table(rt.alloc())?;
+    live(rt, &mut node, phases, count)
+}
+
+fn live(
+    rt: &(impl Print + Alloc<A = Global> + Clock),
+    node: &mut Node<Fnv>,
+    phases: &mut [Timed],
+    count: u32,
+) -> io::Result<()> {
+    for timed in phases {
+        timed.turn(rt, node, count)?;
+    }
+    Ok(())
+}
+
+/// Prints nanoseconds a step of each phase of a table of so many objects.
+pub(crate) fn times(rt: &(impl Print + Alloc<A = Global> + Clock), count: u32) -> io::Result<()> {
+    let mut phases = all_phases(rt.alloc())?;
+    for _turn in 0..repeats(count) {
+        one_life(rt, phases.as_mut_slice(), count)?;
+    }
+    for timed in phases.as_slice() {
+        let tenths = timed.best.saturating_mul(10) / u64::from(count.max(1));
+        println!(rt;
+            "calls {} {}.{}",
+            timed.phase.name(),
+            tenths / 10,
+            tenths % 10
+        )?;
+    }
+    Ok(())
+}
+
+/// Prints nanoseconds a step of a mixture of so many, of one caller.
+pub(crate) fn alone(rt: &(impl Print + Alloc<A = Global> + Clock), calls: u32) -> io::Result<()> {
+    let mut node = with_table(rt.alloc())?;
+    mixed(rt, &mut node, calls)
+}
+
+fn mixed(
+    rt: &(impl Print + Alloc<A = Global> + Clock),
+    node: &mut Node<Fnv>,
+    calls: u32,
+) -> io::Result<()> {
+    fill(rt.alloc(), node)?;
+    let steps = mixed_steps(rt.alloc(), calls)?;
+    let start = Instant::now(rt)?;
+    let found = ask_all(node, steps.as_slice())?;
+    let nanoseconds = nanoseconds(start.elapsed(rt)?);
+    Outcome { nanoseconds, found }.show(rt, "alone", 1, calls)
+}
+
+/// Prints nanoseconds a call of so many clients, which ask so many each at once.
+pub(crate) fn crowded<R: Print + Alloc<A = Global> + Clock + Threads + Wait + Sync>(
+    rt: &R,
+    clients: u32,
+    calls: u32,
+) -> io::Result<()>
+    requires { 0 < clients }
+{
+    crowd(rt, clients, calls)?.show(rt, "shared", clients, calls)
+}
+
+pub(crate) fn nanoseconds(spent: Duration) -> u64 {
+    u64::try_from(spent.as_nanos()).unwrap_or(u64::MAX)
+}
+
+/// Prints how many steps of each phase, and lookups of some clients, did what they should.
+pub(crate) fn check<R: Print + Alloc<A = Global> + Clock + Threads + Wait + Sync>(
+    rt: &R,
+    count: u32,
+) -> io::Result<()> {
+    check_phases(rt, count)?;
+    let outcome = crowd(rt, CLIENTS, count)?;
+    println!(rt; "clients found {}", outcome.found)
+}
+
+fn check_phases(rt: &(impl Print + Alloc<A = Global>), count: u32) -> io::Result<()> {
+    let mut node = with_table(rt.alloc())?;
+    check_life(rt, &mut node, count)
+}
+
+fn check_life(
+    rt: &(impl Print + Alloc<A = Global>),
+    node: &mut Node<Fnv>,
+    count: u32,
+) -> io::Result<()> {
+    for phase in PHASES {
+        let steps = phase.steps(rt.alloc(), count)?;
+        let done = phase.run(node, steps.as_slice())?;
+        println!(rt; "calls {} {}", phase.name(), done)?;
+    }
+    Ok(())
+}
