@@ -2,7 +2,7 @@
 ghost use Rattle.std.specs.Prelude.{◌≡◌};
 
 use super::{call, entries_of, limits, two_seats};
-use ets_term::Fnv;
+use ets_term::{Fnv, KeyHash};
 use node_core::Call;
 use node_shared::{Client, Pids, Seat, Shared};
 use std::alloc::Global;
@@ -14,9 +14,9 @@ use std::thread;
 use std::thread::Threads;
 
 /// The client of the seat's number, after its first call.
-fn visit<L: Ledger, R: Wait>(
+fn visit<L: Ledger, H: KeyHash + Copy + Drop, R: Wait>(
     rt: &R,
-    shared: &Shared<L, Fnv>,
+    shared: &Shared<L, H>,
     pids: &Pids,
     seat: Seat,
     asked: &Call,
@@ -29,9 +29,13 @@ fn visit<L: Ledger, R: Wait>(
 }
 
 /// The clients of two seats, each from a thread of its own.
-fn visits<L: Ledger + Send + Sync, R: Threads + Wait + Sync>(
+fn visits<
+    L: Ledger + Send + Sync,
+    H: KeyHash + Copy + Drop + Send + Sync,
+    R: Threads + Wait + Sync,
+>(
     rt: &R,
-    shared: &Shared<L, Fnv>,
+    shared: &Shared<L, H>,
     pids: &Pids,
     one: Seat,
     other: Seat,
