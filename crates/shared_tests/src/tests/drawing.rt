@@ -59,9 +59,9 @@ fn visitors<L: Ledger + Send + Sync, R: Threads + Wait + Sync>(
 ) -> Result<Vec<Client<L>>, Fail> {
     let (pids, one, other) = two_seats(alloc)?;
     let asked = call(alloc, "receive", "[]")?;
-    let (Some(one), Some(other)) = visits(rt, shared, &pids, one, other, &asked) else {
-        return Err("two clients")?;
-    };
+    let (one, other) = visits(rt, shared, &pids, one, other, &asked);
+    let one = one.ok_or("a client")?;
+    let other = other.ok_or("a client")?;
     if !matches!((one.pid(), other.pid()), (0, 1) | (1, 0)) {
         return Err("the numbers 0 and 1")?;
     }
