@@ -9,12 +9,8 @@ use std::sync::ledger::Ledger;
 use std::test::Fail;
 use term_text::read_term;
 
-mod drawing;
-mod ending;
-mod enduring;
 mod entering;
 mod joining;
-mod keeper;
 mod keeping;
 mod meeting;
 
