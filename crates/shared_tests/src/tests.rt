@@ -1,13 +1,18 @@
-ghost use Rattle.std.specs.Prelude.{◌≡◌};
+ghost use Rattle.std.specs.Prelude.{◌≡◌, ◌<◌, IfOk};
 
-use ets_term::{Atom, Term};
+use ets_term::{Atom, KeyHash, Term};
 use node_core::{Call, Limits};
+use node_shared::{Client, Job, Pids, Seat, Shared, Worked, close};
 use std::alloc::Global;
+use std::sync::Wait;
+use std::sync::ledger::Ledger;
 use std::test::Fail;
 use term_text::read_term;
 
 mod entering;
 mod joining;
+mod keeping;
+mod meeting;
 
 /// The call of this name, with the terms of this list.
 fn call(alloc: Global, name: &str, arguments: &str) -> Result<Call, Fail> {
@@ -19,6 +24,15 @@ fn call(alloc: Global, name: &str, arguments: &str) -> Result<Call, Fail> {
     }
 }
 
+/// The jobs in which these calls are asked.
+fn asks(alloc: Global, calls: &[(&str, &str)]) -> Result<Vec<Job>, Fail> {
+    let mut jobs = Vec::new(alloc);
+    for (name, arguments) in calls {
+        jobs.push(Job::Ask(call(alloc, name, arguments)?))?;
+    }
+    Ok(jobs)
+}
+
 /// So many processes, and all else as usual.
 fn limits(processes: u32) -> Limits
     ensures { result.processes ≡ processes }
@@ -27,4 +41,55 @@ fn limits(processes: u32) -> Limits
         processes,
         ..Limits::usual()
     }
+}
+
+/// Two numbers are open; a seat for each.
+fn two_seats(alloc: Global) -> Result<(Pids, Seat, Seat), Fail>
+    ensures one { IfOk result (λ opened. opened.1.seat.table_id ≡ opened.0.table.shared.table_id) }
+    ensures other { IfOk result (λ opened. opened.2.seat.table_id ≡ opened.0.table.shared.table_id) }
+{
+    let (pids, mut seats) = Pids::open(alloc, 2).map_err(|_| "open")?;
+    let one = seats.pop().ok_or("a seat")?;
+    let other = seats.pop().ok_or("a seat")?;
+    Ok((pids, one, other))
+}
+
+/// So many clients, which join by the numbers from 0 on.
+fn joined<L: Ledger, H: KeyHash + Copy + Drop, R: Wait>(
+    rt: &R,
+    alloc: Global,
+    shared: &Shared<L, H>,
+    count: usize,
+) -> Result<Vec<Client<L>>, Fail>
+    requires { 0 < count }
+{
+    let (pids, seats) = Pids::open(alloc, count).map_err(|_| "open")?;
+    let mut clients = Vec::with_capacity(alloc, count)?;
+    for seat in seats {
+        let drawn = pids.draw(seat);
+        clients.push(shared.client(rt, drawn).map_err(|_| "a client")?)?;
+    }
+    Ok(clients)
+}
+
+/// The clients that did all their jobs.
+fn done<L: Ledger>(alloc: Global, workers: Vec<Worked<L>>) -> Result<Vec<Client<L>>, Fail> {
+    if workers.iter().any(|worked| worked.left > 0) {
+        return Err("a job is left")?;
+    }
+    let mut clients = Vec::with_capacity(alloc, workers.len())?;
+    for worked in workers {
+        clients.push(worked.client)?;
+    }
+    Ok(clients)
+}
+
+/// How many entries of the process the transcript has, with which the sharing ends.
+fn entries_of<L: Ledger, H: KeyHash + Copy + Drop>(
+    shared: Shared<L, H>,
+    clients: Vec<Client<L>>,
+    pid: u32,
+) -> Result<usize, Fail> {
+    let transcript = close(shared, clients).map_err(|_| "close")?;
+    Ok(transcript.of(pid)?.len())
 }

@@ -1,0 +1,65 @@
+// Due steps are done in turns.
+ghost use Rattle.std.specs.Prelude.{◌≡◌};
+
+use super::{call, joined, limits};
+use ets_term::Fnv;
+use node_shared::{Client, Shared, keep};
+use std::alloc::Global;
+use std::marker::Brand;
+use std::sync::Wait;
+use std::sync::ledger::{Blank, Ledger};
+use std::test::Fail;
+
+const NINE: &str = "[t,[{1},{2},{3},{4},{5},{6},{7},{8},{9}]]";
+
+/// The client makes a table, and gives it nine objects.
+fn fill<L: Ledger, R: Wait>(
+    rt: &R,
+    alloc: Global,
+    shared: &Shared<L, Fnv>,
+    client: &mut Client<L>,
+) -> Result<(), Fail> {
+    let _name = client.ask(rt, shared, &call(alloc, "new", "[t,[named_table]]")?)?;
+    let _true = client.ask(rt, shared, &call(alloc, "insert", NINE)?)?;
+    Ok(())
+}
+
+/// How many due steps are done in 3, 9 and 9 turns.
+fn kept<L: Ledger, R: Wait>(
+    rt: &R,
+    alloc: Global,
+    shared: &Shared<L, Fnv>,
+) -> Result<(u32, u32, u32), Fail> {
+    let mut clients = joined(rt, alloc, shared, 1)?;
+    fill(rt, alloc, shared, clients.first_mut().ok_or("a client")?)?;
+    Ok((
+        keep(rt, shared, 3),
+        keep(rt, shared, 9),
+        keep(rt, shared, 9),
+    ))
+}
+
+fn due_steps<L: Ledger, R: Wait>(
+    rt: &R,
+    alloc: Global,
+    blank: Blank,
+) -> Result<(u32, u32, u32), Fail>
+    requires name { blank.name ≡ L.name }
+    requires parts { blank.parts ≡ L.parts }
+    requires enough { blank.parts ≡ 2 }
+{
+    kept(
+        rt,
+        alloc,
+        &Shared::<L, Fnv>::new(alloc, blank, limits(1), Fnv),
+    )
+}
+
+#[test]
+fn due_steps_are_done_in_turns(rt: HostRuntime) -> Result<(), Fail> {
+    assert_eq!(rt;
+        due_steps::<Brand, _>(&rt, rt.alloc(), Blank::new(2))?,
+        (3, 1, 0)
+    );
+    Ok(())
+}

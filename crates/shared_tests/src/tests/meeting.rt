@@ -1,0 +1,133 @@
+// Two clients run at once: the first call of each waits until the other is at its own, and a later one until a reply is there.
+ghost use Rattle.std.specs.Prelude.{◌≡◌};
+
+use super::{asks, call, done, entries_of, joined, limits};
+use ets_term::Fnv;
+use node_core::Reply;
+use node_shared::{Client, Gate, Job, Shared, run_clients};
+use std::alloc::Global;
+use std::marker::Brand;
+use std::sync::Wait;
+use std::sync::atomic::{AtomicBool, Ordering};
+use std::sync::ledger::{Blank, Ledger};
+use std::test::Fail;
+use std::thread;
+use std::thread::Threads;
+use term_text::read_term;
+
+/// The first calls of the clients 0 and 1 wait for each other, and the second of 0 for the reply to the second of 1.
+#[derive(Drop)]
+struct Meeting {
+    zero_is_there: AtomicBool,
+    one_is_there: AtomicBool,
+    one_has_its_reply: AtomicBool,
+    failed: AtomicBool,
+}
+
+impl Meeting {
+    fn new() -> Meeting {
+        Meeting {
+            zero_is_there: AtomicBool::new(false),
+            one_is_there: AtomicBool::new(false),
+            one_has_its_reply: AtomicBool::new(false),
+            failed: AtomicBool::new(false),
+        }
+    }
+
+    /// Waits for a flag, and fails after a million turns.
+    fn wait_for(&self, flag: &AtomicBool) {
+        for _ in 0..1_000_000u32 {
+            if flag.load(Ordering::SeqCst) {
+                return;
+            }
+            thread::yield_now();
+        }
+        self.failed.store(true, Ordering::SeqCst);
+    }
+}
+
+impl Gate for Meeting {
+    fn before(&self, client: usize, call: usize) {
+        match (client, call) {
+            (0, 0) => {
+                self.zero_is_there.store(true, Ordering::SeqCst);
+                self.wait_for(&self.one_is_there);
+            }
+            (1, 0) => {
+                self.one_is_there.store(true, Ordering::SeqCst);
+                self.wait_for(&self.zero_is_there);
+            }
+            (0, 1) => self.wait_for(&self.one_has_its_reply),
+            _ => {}
+        }
+    }
+
+    fn after(&self, client: usize, call: usize) {
+        if client == 1 && call == 1 {
+            self.one_has_its_reply.store(true, Ordering::SeqCst);
+        }
+    }
+}
+
+/// Two clients with their jobs: the first, which has made the table, reads what the second inserts.
+fn reader_and_writer<L: Ledger, R: Wait>(
+    rt: &R,
+    alloc: Global,
+    shared: &Shared<L, Fnv>,
+) -> Result<Vec<(Client<L>, Vec<Job>)>, Fail> {
+    let mut clients = joined(rt, alloc, shared, 2)?;
+    let writer = clients.pop().ok_or("a client")?;
+    let mut reader = clients.pop().ok_or("a client")?;
+    let new = call(alloc, "new", "[t,[named_table,public]]")?;
+    let _name = reader.ask(rt, shared, &new)?;
+    let reads = asks(alloc, &[("lookup", "[t,b]"), ("lookup", "[t,a]")])?;
+    let writes = asks(alloc, &[("lookup", "[t,b]"), ("insert", "[t,{a,1}]")])?;
+    Ok(vec![in alloc; (reader, reads), (writer, writes)]?)
+}
+
+/// Whether the last reply to the client is this term.
+fn is_last<L: Ledger>(alloc: Global, client: &Client<L>, wanted: &str) -> Result<bool, Fail> {
+    let (wanted, _) = read_term(alloc, wanted).map_err(|_| "a term")?;
+    match client.entries().last() {
+        Some(entry) => Ok(matches!(&entry.reply, Reply::Value(term) if *term == wanted)),
+        None => Ok(false),
+    }
+}
+
+/// The clients, after the first has read what the second inserted meanwhile.
+fn met<L: Ledger + Send + Sync, R: Threads + Wait + Sync>(
+    rt: &R,
+    alloc: Global,
+    shared: &Shared<L, Fnv>,
+) -> Result<Vec<Client<L>>, Fail> {
+    let work = reader_and_writer(rt, alloc, shared)?;
+    let meeting = Meeting::new();
+    let clients = done(alloc, run_clients(rt, alloc, shared, work, &meeting)?)?;
+    if meeting.failed.load(Ordering::SeqCst) {
+        return Err("one client waited in vain")?;
+    }
+    if !is_last(alloc, clients.first().ok_or("a client")?, "[{a,1}]")? {
+        return Err("the object is not read")?;
+    }
+    Ok(clients)
+}
+
+fn two_meet<L: Ledger + Send + Sync, R: Threads + Wait + Sync>(
+    rt: &R,
+    alloc: Global,
+    blank: Blank,
+) -> Result<usize, Fail>
+    requires name { blank.name ≡ L.name }
+    requires parts { blank.parts ≡ L.parts }
+    requires enough { blank.parts ≡ 3 }
+{
+    let shared = Shared::<L, Fnv>::new(alloc, blank, limits(2), Fnv);
+    let clients = met(rt, alloc, &shared)?;
+    entries_of(shared, clients, 0)
+}
+
+#[test]
+fn one_client_reads_what_another_inserts_meanwhile(rt: HostRuntime) -> Result<(), Fail> {
+    assert_eq!(rt; two_meet::<Brand, _>(&rt, rt.alloc(), Blank::new(3))?, 4);
+    Ok(())
+}
