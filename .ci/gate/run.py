@@ -43,8 +43,7 @@ def parts_of(words, copy, logs):
     cuts = Part("the examples, cut at every byte", [f"{TOP}/.ci/cuts", program], after=[proofs])
     tests = [f"{copy}/crates/{name}/out/{name}_tests" for name in ("table_tests", "node_tests")]
     refusals = Part("memory refused", [f"{TOP}/.ci/refusals", program, *tests], after=[proofs], show=r"^refusals: ")
-    pace = Part("the program beside itself", [f"{TOP}/.ci/pace", program], after=[proofs], show=r"^pace: ")
-    return [*unproved(logs), itself, door, cuts, refusals, pace], proofs, edits
+    return [*unproved(logs), itself, door, cuts, refusals], proofs, edits
 
 
 def report(edits, costs):

@@ -6,6 +6,7 @@ help() {
 Usage: ets_script [OPTIONS]
 
 Options:
+      --threads                    Run each process in a thread of its own
       --hash <hash>                The hash of keys: FNV-1a, or one for all [default: fnv] [possible values: fnv, same]
       --max-objects <max-objects>  The most objects in one table [default: 1000000]
   -h, --help                       Print help
@@ -20,27 +21,48 @@ refuse() {
 }
 refuse_word() { refuse "unexpected argument '$1' found" '' 'Usage: ets_script [OPTIONS]'; }
 
+# The option as a refusal shows it.
+shown() { [ "$1" = --threads ] && printf %s "$1" || printf '%s <%s>' "$1" "${1#--}"; }
+
+# A value for an option that takes none, behind the options that were given before.
+refuse_value() {
+  local given=$1 usage='Usage: ets_script' option
+  case $given in *' --threads '*) ;; *) given+=--threads ;; esac
+  for option in $given; do
+    usage+=" $(shown "$option")"
+  done
+  refuse "unexpected value '$2' for '--threads' found; no more were expected" '' "$usage"
+}
+
+# An option whose value is the next word counts as given only when another option comes.
 look_at() {
-  local seen=' ' word option
+  local seen=' ' given=' ' waits='' word option
   while [ $# -gt 0 ]; do
     word=$1 option=${1%%=*}
     shift
     case $word in
       -h* | --help) help ;;
-      --hash | --hash=* | --max-objects | --max-objects=*) ;;
+      --threads=*) refuse_value "$given" "${word#*=}" ;;
+      --threads | --hash | --hash=* | --max-objects | --max-objects=*) ;;
       *) refuse_word "$word" ;;
     esac
-    case $seen in *" $option "*) refuse "the argument '$option <${option#--}>' cannot be used multiple times" '' 'Usage: ets_script [OPTIONS]' ;; esac
+    case $seen in *" $option "*) refuse "the argument '$(shown "$option")' cannot be used multiple times" '' 'Usage: ets_script [OPTIONS]' ;; esac
     seen+="$option "
-    if [ "$word" = "$option" ]; then
+    given+=$waits waits=''
+    if [ "$option" = --threads ]; then
+      given+="$option "
+    elif [ "$word" = "$option" ]; then
+      waits="$option "
       case ${1-} in
-        -h* | --help | --hash | --hash=* | --max-objects | --max-objects=*) set -- ;;
+        --threads=*) refuse_value "$given" "${1#*=}" ;;
+        -h* | --help | --threads | --hash | --hash=* | --max-objects | --max-objects=*) set -- ;;
         -?*) refuse_word "$1" ;;
       esac
       [ $# -gt 0 ] || needs_value "$option"
       look_at_value "$option" "$1"
       shift
     else
+      given+="$option "
       look_at_value "$option" "${word#*=}"
     fi
   done

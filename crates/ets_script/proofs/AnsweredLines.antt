@@ -7,12 +7,7 @@ use Rattle.ets_script.specs.inside.Feeds.{PassedOver}
 use Rattle.ets_script.specs.inside.Answered.{AnswersPart}
 use Rattle.ets_script.specs.declared.answer.Answer.{Answer}
 use Rattle.ets_script.proofs.KnownBytes.{the_none}
-
-pub weaker_line : (bytes : List ℕ) (line : Line) (L M : Type 0) → (L → M) → IsLine bytes line L → IsLine bytes line M
-weaker_line bytes (text t) L M f (before, one, short, inl p) = (before, one, short, inl p)
-weaker_line bytes (text t) L M f (before, one, short, inr (p, some, last, q)) = (before, one, short, inr (p, some, f last, q))
-weaker_line bytes too_long L M f (before, one, long, inl p) = (before, one, long, inl p)
-weaker_line bytes too_long L M f (before, one, long, inr (p, some, last)) = (before, one, long, inr (p, some, f last))
+use Rattle.ets_script.proofs.HeldLines.{none_or_some, weaker_line}
 
 weaker : (old new : Scripted) (bytes said : List ℕ) (L M : Type 0) → (L → M) → IsAnswered old bytes said new L → IsAnswered old bytes said new M
 weaker old new bytes said L M f a = record { line = a.line; answer = a.answer; is_line = weaker_line bytes a.line L M f a.is_line; answers = a.answers; prints = a.prints }
@@ -49,10 +44,6 @@ pub no_more : (n : ℕ) (a b : Scripted) (input out : List ℕ) (M : Type 0) →
 no_more zero a b input out M w = w
 no_more (suc n) a b input out M (mid, first, rest, answer, others, i, o, x, more) =
     (mid, first, rest, answer, others, i, o, weaker a mid first answer ((rest ≡ []) × ⊥) ((rest ≡ []) × M) (λ z. absurd z.1) x, no_more n mid b rest others M more)
-
-none_or_some : (bytes : List ℕ) → (bytes ≡ []) ⊎ (0 < length bytes)
-none_or_some [] = inl refl
-none_or_some (b ∷ bs) = inr (omega arith)
 
 -- the input ended in a line that is too long
 last_long : (start s1 s2 : Scripted) (n : ℕ) (input out skipped bytes : List ℕ) (answer : Answer) (M : Type 0) → M → ScriptText n ⊥ start input out s1 → IsOneLine skipped → 65536 < length skipped → bytes ≡ []

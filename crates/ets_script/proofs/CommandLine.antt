@@ -81,49 +81,55 @@ not_added (inr e) =
     let bad : suc 3 ≡ zero = ap (λ (t : List ℕ). length t - 7) e in
     cc
 
--- of two arguments with these ids, the second alone has its own
-the_second : (xs : List Arg) (a b d : Arg) → xs ≡ a ∷ b ∷ [] → a.id.now ≡ codes "hash" → b.id.now ≡ codes "max-objects" → (j : ℕ) (e : Arg) → j < length xs
-    → bytes_eq (slice_index_or xs j e).id.now (slice_index_or xs 1 d).id.now ≡ true → j ≡ 1
-the_second xs a b d list ia ib zero e lt same =
-    let here : bytes_eq a.id.now b.id.now ≡ true = subst (λ (l : List Arg). bytes_eq (slice_index_or l 0 e).id.now (slice_index_or l 1 d).id.now ≡ true) list same in
-    let bad : bytes_eq (codes "hash") (codes "max-objects") ≡ true = rw (ia, ib) at here in
+-- of three arguments with these ids, the third alone has its own
+the_third : (xs : List Arg) (a b c d : Arg) → xs ≡ a ∷ b ∷ c ∷ [] → a.id.now ≡ codes "threads" → b.id.now ≡ codes "hash" → c.id.now ≡ codes "max-objects" → (j : ℕ) (e : Arg) → j < length xs
+    → bytes_eq (slice_index_or xs j e).id.now (slice_index_or xs 2 d).id.now ≡ true → j ≡ 2
+the_third xs a b c d list ia ib ic zero e lt same =
+    let here : bytes_eq a.id.now c.id.now ≡ true = subst (λ (l : List Arg). bytes_eq (slice_index_or l 0 e).id.now (slice_index_or l 2 d).id.now ≡ true) list same in
+    let bad : bytes_eq (codes "threads") (codes "max-objects") ≡ true = rw (ia, ic) at here in
     cc
-the_second xs a b d list ia ib (suc zero) e lt same = refl
-the_second xs a b d list ia ib (suc (suc j)) e lt same =
-    let short : suc (suc j) < 2 = subst (λ (l : List Arg). suc (suc j) < length l) list lt in
+the_third xs a b c d list ia ib ic (suc zero) e lt same =
+    let here : bytes_eq b.id.now c.id.now ≡ true = subst (λ (l : List Arg). bytes_eq (slice_index_or l 1 e).id.now (slice_index_or l 2 d).id.now ≡ true) list same in
+    let bad : bytes_eq (codes "hash") (codes "max-objects") ≡ true = rw (ib, ic) at here in
+    cc
+the_third xs a b c d list ia ib ic (suc (suc zero)) e lt same = refl
+the_third xs a b c d list ia ib ic (suc (suc (suc j))) e lt same =
+    let short : suc (suc (suc j)) < 3 = subst (λ (l : List Arg). suc (suc (suc j)) < length l) list lt in
     absurd (omega arith)
 
--- the number that the second argument's text spells, of two that are added in turn
-pub objects_read : (start middle cmd : Command) (hash objects : Arg) (m : ArgMatches) → AddsArg start hash middle → AddsArg middle objects cmd
+-- the number that the third argument's text spells, of three that are added in turn
+pub objects_read : (start one two cmd : Command) (threads hash objects : Arg) (m : ArgMatches) → AddsArg start threads one → AddsArg one hash two → AddsArg two objects cmd
     → args_of start ≡ [] → groups_of start ≡ [] → (out-Command start).has_globals ≡ false
-    → IsPlainArg hash → IsPlainArg objects → hash.global ≡ false → objects.global ≡ false
-    → hash.id.now ≡ codes "hash" → objects.id.now ≡ codes "max-objects" → WantsDefault objects
+    → IsPlainArg threads → IsPlainArg hash → IsPlainArg objects → threads.global ≡ false → hash.global ≡ false → objects.global ≡ false
+    → threads.id.now ≡ codes "threads" → hash.id.now ≡ codes "hash" → objects.id.now ≡ codes "max-objects" → WantsDefault objects
     → objects.action ≡ Some Set → objects.val_delim ≡ None → 1 ≤ least_values objects
     → (q : ValueParser) → objects.value_parser ≡ Some q → IsParsedFrom cmd m
     → (t : List ℕ) × (one_text (found_of m) (codes "max-objects") ≡ Some (read_as (reading_of q) t)) × Accepts objects.ignore_case q t
-objects_read start middle cmd hash objects m first second args groups globals plain1 plain2 global1 global2 id1 id2 wants set delim least q parser p =
-    let list : args_of cmd ≡ first.arg ∷ second.arg ∷ [] = second.args ∙ ap (λ l. l ++ second.arg ∷ []) (first.args ∙ ap (λ l. l ++ first.arg ∷ []) args) in
+objects_read start one two cmd threads hash objects m first second third args groups globals plain0 plain1 plain2 global0 global1 global2 id0 id1 id2 wants set delim least q parser p =
+    let list : args_of cmd ≡ first.arg ∷ second.arg ∷ third.arg ∷ [] = third.args ∙ ap (λ l. l ++ third.arg ∷ []) (second.args ∙ ap (λ l. l ++ second.arg ∷ []) (first.args ∙ ap (λ l. l ++ first.arg ∷ []) args)) in
     let start-plain : IsPlain start = (subst (All IsPlainArg) (sym args) (All-nil IsPlainArg), groups) in
-    let plain : IsPlain cmd = added_plain middle cmd objects second (added_plain start middle hash first start-plain plain1) plain2 in
-    let no-globals1 : (out-Command middle).has_globals ≡ false = first.globals ∙ (ap (λ b. b || hash.global) globals ∙ ap (λ b. false || b) global1) in
-    let no-globals : (out-Command cmd).has_globals ≡ false = second.globals ∙ (ap (λ b. b || objects.global) no-globals1 ∙ ap (λ b. false || b) global2) in
-    let elem : slice_index_or (args_of cmd) 1 objects ≡ second.arg = ap (λ l. slice_index_or l 1 objects) list in
-    let lt : 1 < length (args_of cmd) = subst (λ l. 1 < length l) (sym list) (omega arith) in
-    let there : second.arg.id.now ≡ codes "max-objects" = ap (λ x. x.now) second.rules.id ∙ id2 in
-    let before : first.arg.id.now ≡ codes "hash" = ap (λ x. x.now) first.rules.id ∙ id1 in
-    let same-id : (slice_index_or (args_of cmd) 1 objects).id.now ≡ codes "max-objects" = ap (λ x. x.id.now) elem ∙ there in
-    let wanted : WantsDefault second.arg = (second.rules.ifs ∙ wants.0, rw (second.rules.defaults wants.1) wants.1) in
-    let got = default_reads cmd m p plain no-globals 1 objects lt (subst WantsDefault (sym elem) wanted)
-    (ap (λ x. x.action) elem ∙ second.rules.action Set set)
-    (ap (λ x. x.val_delim) elem ∙ (second.rules.val_delim ∙ delim))
-    (subst (λ x. 1 ≤ least_values x) (sym elem) (second.rules.least set least))
-    (λ j e low same. the_second (args_of cmd) first.arg second.arg objects list before there j e low same)
+    let plain : IsPlain cmd = added_plain two cmd objects third (added_plain one two hash second (added_plain start one threads first start-plain plain0) plain1) plain2 in
+    let no-globals0 : (out-Command one).has_globals ≡ false = first.globals ∙ (ap (λ b. b || threads.global) globals ∙ ap (λ b. false || b) global0) in
+    let no-globals1 : (out-Command two).has_globals ≡ false = second.globals ∙ (ap (λ b. b || hash.global) no-globals0 ∙ ap (λ b. false || b) global1) in
+    let no-globals : (out-Command cmd).has_globals ≡ false = third.globals ∙ (ap (λ b. b || objects.global) no-globals1 ∙ ap (λ b. false || b) global2) in
+    let elem : slice_index_or (args_of cmd) 2 objects ≡ third.arg = ap (λ l. slice_index_or l 2 objects) list in
+    let lt : 2 < length (args_of cmd) = subst (λ l. 2 < length l) (sym list) (omega arith) in
+    let there : third.arg.id.now ≡ codes "max-objects" = ap (λ x. x.now) third.rules.id ∙ id2 in
+    let before0 : first.arg.id.now ≡ codes "threads" = ap (λ x. x.now) first.rules.id ∙ id0 in
+    let before1 : second.arg.id.now ≡ codes "hash" = ap (λ x. x.now) second.rules.id ∙ id1 in
+    let same-id : (slice_index_or (args_of cmd) 2 objects).id.now ≡ codes "max-objects" = ap (λ x. x.id.now) elem ∙ there in
+    let wanted : WantsDefault third.arg = (third.rules.ifs ∙ wants.0, rw (third.rules.defaults wants.1) wants.1) in
+    let got = default_reads cmd m p plain no-globals 2 objects lt (subst WantsDefault (sym elem) wanted)
+    (ap (λ x. x.action) elem ∙ third.rules.action Set set)
+    (ap (λ x. x.val_delim) elem ∙ (third.rules.val_delim ∙ delim))
+    (subst (λ x. 1 ≤ least_values x) (sym elem) (third.rules.least set least))
+    (λ j e low same. the_third (args_of cmd) first.arg second.arg third.arg objects list before0 before1 there j e low same)
     (λ empty. absurd (not_empty (sym same-id ∙ empty)))
     (λ auto. absurd (not_added (elim auto [ inl h ↦ inl (sym same-id ∙ h) | inr h ↦ inr (sym same-id ∙ h) ])))
-    q (ap (λ x. x.value_parser) elem ∙ second.rules.parser q parser) in (
+    q (ap (λ x. x.value_parser) elem ∙ third.rules.parser q parser) in (
       got.0,
       subst (λ (w : List ℕ). one_text (found_of m) w ≡ Some (read_as (reading_of q) got.0)) same-id got.1,
-      subst (λ (b : Bool). Accepts b q got.0) (ap (λ x. x.ignore_case) elem ∙ second.rules.ignore_case) got.2,
+      subst (λ (b : Bool). Accepts b q got.0) (ap (λ x. x.ignore_case) elem ∙ third.rules.ignore_case) got.2,
     )
 
 -- what the getter reads of that text is the number that it spells
@@ -143,6 +149,6 @@ spelled E G f rows q t case r n same parser text passes reads only is =
     let value : n ≡ got.0 = is ∙ ap (λ (o : Option ℕ). unwrap_or o 1000000) got.1 in
     subst (λ (o : Option (List ℕ)). Spells o n) (sym row) (number.0.0, value ∙ number.1)
 
--- the text of the hash, by the rows
-pub hash_text : (f : Found) (rows : List Row) → rows_of f ≡ rows → first_value f (codes "hash") ≡ first_of (codes "hash") rows
-hash_text f rows same = first_value-rows f (codes "hash") ∙ ap (first_of (codes "hash")) same
+-- the text of an argument, by the rows
+pub text_of : (f : Found) (rows : List Row) (id : List ℕ) → rows_of f ≡ rows → first_value f id ≡ first_of id rows
+text_of f rows id same = first_value-rows f id ∙ ap (first_of id) same

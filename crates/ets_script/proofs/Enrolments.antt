@@ -1,25 +1,11 @@
--- Places in a list of names.
-use Rattle.std.proofs.Common.{◌≡◌, ℕ, ◌+◌, Bool, cond, List, [], ◌∷◌, length, map, Some, None, refl, ap, ◌∙◌}
-use Rattle.std.proofs.lemmas.List.{length-map}
-use Rattle.std.specs.Prelude.{nat_lt, not, position}
-use Rattle.std.specs.List.{prefix_len}
-use Rattle.std.proofs.Common.{subst, inl, inr}
-use Rattle.std.specs.Prelude.{◌⊎◌}
+-- An enrolment under a name.
+use Rattle.std.proofs.Common.{◌≡◌, ℕ, ◌⊎◌, List, length, None, ap, subst, inl, inr, ◌∙◌}
 use Rattle.node_core.specs.Machine.{step}
 use Rattle.node_core.specs.declared.step.Step.TheVariants.{Enrol}
 use Rattle.ets_script.specs.Script.{Scripted, Spawns, Unchanged, names_after}
 use Rattle.ets_script.specs.inside.Enrolments.{Enrols}
 use Rattle.ets_script.specs.declared.answer.Answer.{Answer}
 use Rattle.ets_script.specs.declared.answer.Answer.TheVariants.{NoMemory}
-
-prefix_map : {X Y : Type 0} (p : Y → Bool) (f : X → Y) (xs : List X) → prefix_len p (map f xs) ≡ prefix_len (λ x. p (f x)) xs
-prefix_map p f [] = refl
-prefix_map p f (x ∷ xs) = ap (λ n. cond (p (f x)) (1 + n) 0) (prefix_map p f xs)
-
-pub position_map : {X Y : Type 0} (p : Y → Bool) (f : X → Y) (xs : List X) → position p (map f xs) ≡ position (λ x. p (f x)) xs
-position_map p f xs =
-    ap (λ n. cond (nat_lt n (length (map f xs))) (Some n) None) (prefix_map (λ y. not (p y)) f xs)
-    ∙ ap (λ m. cond (nat_lt (prefix_len (λ x. not (p (f x))) xs) m) (Some (prefix_len (λ x. not (p (f x))) xs)) None) (length-map xs f)
 
 same_state : (old new : Scripted) → new.names ≡ old.names → new.node ≡ old.node → new ≡ old
 same_state old new p q = λ i. record { names = p i; node = q i }

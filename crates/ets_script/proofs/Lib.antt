@@ -1,8 +1,10 @@
 mod KnownBytes
 mod Feeds
+mod HeldLines
 mod AnsweredLines
 mod Progress
 mod ScriptEnds
+mod Places
 mod Enrolments
 mod Words
 mod Arguments
@@ -11,3 +13,10 @@ mod Defaults
 mod CommandLine
 mod Tending
 mod Asking
+mod Jobs
+mod Spawning
+mod PlannedLines
+mod Printing
+mod Clients
+mod ThreadsEnds
+mod Sent

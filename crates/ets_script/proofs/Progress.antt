@@ -1,6 +1,5 @@
 -- A script on its way: the lines so far and their answers.
 use Rattle.std.proofs.Common.{◌≡◌, ℕ, suc, ◌<◌, ◌⊎◌, Bool, true, false, List, [], ◌++◌, length, take, drop, refl, sym, ap, ◌∙◌, subst, arith, Option, inl, inr, append-nil, append_assoc, length-append}
-use Rattle.std.proofs.lemmas.List.Elements.{All-append}
 use Rattle.std.specs.Io.KnownBytes.{Consumes, prepend_known}
 use Rattle.ets_script.specs.Lines.{Line, IsOneLine}
 use Rattle.ets_script.specs.Replies.{printed}
@@ -8,8 +7,8 @@ use Rattle.ets_script.specs.Script.{Scripted, AnswersLine, AreWholeLines}
 use Rattle.ets_script.specs.inside.Feeds.{Held, rest_of, Refills, PassedOver, EndsLine, Waits}
 use Rattle.ets_script.specs.inside.Output.{Sends}
 use Rattle.ets_script.specs.declared.answer.Answer.{Answer}
-use Rattle.ets_script.proofs.Feeds.{no_byte}
 use Rattle.ets_script.proofs.KnownBytes.{sends_on, sends_more, sends_none, nothing_held, read_more, same_known, taken_front, the_none, unheld}
+use Rattle.ets_script.proofs.HeldLines.{both_one_line, one_line_of}
 use Rattle.ets_script.proofs.AnsweredLines.{then_line}
 
 -- the lines so far and their answers, of which some still wait; of a line that is too long a part was passed over
@@ -49,13 +48,6 @@ answered_line start s1 s2 before old w1 w2 h1 h2 left p1 p2 n line answer g ends
       sent = sends_more old w1 w2 g.out p1 (printed answer) p2 g.sent sent;
     }
 
-pub one_line_of : (b : Bool) (skipped : List ℕ) → PassedOver b skipped → IsOneLine skipped
-one_line_of false skipped p = subst IsOneLine (sym p) no_byte
-one_line_of true skipped p = p.0
-
-pub both_one_line : (xs ys : List ℕ) → IsOneLine xs → IsOneLine ys → IsOneLine (xs ++ ys)
-both_one_line xs ys p q = All-append (λ b. b ≡ 10 → ⊥) xs ys p q
-
 -- more is needed to find the end of the line
 pub waited : (start now : Scripted) (before old w : Option (List ℕ)) (h1 h2 : Held) (left : Option (List ℕ)) (p : List ℕ) → Progress start before old h1 left p w now → IsOneLine h1.bytes → Waits h1 h2 → Progress start before old h2 left p w now
 waited start now before old w h1 h2 left p g one waits = kept waits.kept
@@ -87,13 +79,6 @@ waited start now before old w h1 h2 left p g one waits = kept waits.kept
         enough : (h1.is_skipping ≡ true) ⊎ (65536 < length h1.bytes) → 65536 < length (g.skipped ++ h1.bytes)
         enough (inl was) = let lt = (subst (λ (b : Bool). PassedOver b g.skipped) was g.passed).1 in omega (arith, lt, length-append g.skipped h1.bytes)
         enough (inr lt) = omega (arith, lt, length-append g.skipped h1.bytes)
-
-pub one_line_held : (h1 h2 : Held) → IsOneLine h1.bytes → Waits h1 h2 → IsOneLine h2.bytes
-one_line_held h1 h2 one waits = held waits.kept
-  where
-    held : ((h2.bytes ≡ h1.bytes) × (h1.is_skipping ≡ false) × (h2.is_skipping ≡ false)) ⊎ ((h2.bytes ≡ []) × (h2.is_skipping ≡ true) × ((h1.is_skipping ≡ true) ⊎ (65536 < length h1.bytes))) → IsOneLine h2.bytes
-    held (inl (same, was, is)) = subst IsOneLine (sym same) one
-    held (inr (none, is, long)) = subst IsOneLine (sym none) no_byte
 
 -- what waited went out
 pub flushed : (start now : Scripted) (before old w1 w2 : Option (List ℕ)) (h : Held) (left : Option (List ℕ)) (p1 p2 : List ℕ) → Progress start before old h left p1 w1 now → Sends w1 w2 p1 p2 → Progress start before old h left p2 w2 now

@@ -2,22 +2,21 @@
 use Rattle.std.proofs.Common.{◌≡◌, ℕ, suc, ◌≤◌, ◌<◌, ◌⊎◌, true, false, List, [], ◌++◌, length, take, drop, refl, sym, ap, ◌∙◌, subst, Option, inl, inr, append-nil, append_assoc}
 use Rattle.std.specs.Prelude.{⊤, Result, Ok, Err, IfErr, OnOk, OnErr}
 use Rattle.std.specs.Result.{IsErrAnd}
-use Rattle.std.proofs.lemmas.List.{nil_from_length}
-use Rattle.std.proofs.lemmas.Bool.{true≢false}
 use Rattle.std.specs.Io.KnownBytes.{Appends, Consumes, Keeps, IsAtEnd}
 use Rattle.ets_script.specs.Lines.{Line, IsOneLine}
 use Rattle.ets_script.specs.Replies.{printed}
 use Rattle.ets_script.specs.Script.{Scripted, AnswersLine, ScriptText, AreLines}
 use Rattle.ets_script.specs.Stops.{Stops, Completes}
-use Rattle.ets_script.specs.inside.Feeds.{Held, Refills, EndsLine, Waits}
+use Rattle.ets_script.specs.inside.Feeds.{Held, EndsLine, Waits}
 use Rattle.ets_script.specs.inside.Output.{Sends, Breaks}
 use Rattle.ets_script.specs.inside.Answered.{AnswersPart, EndsAll, BreaksAtEnd}
 use Rattle.ets_script.specs.declared.answer.Answer.{Answer}
 use Rattle.ets_script.specs.declared.fault.ScriptFault.{ScriptFault}
 use Rattle.ets_script.specs.declared.fault.ScriptFault.TheVariants as faults
 use Rattle.ets_script.proofs.KnownBytes.{sends_on, breaks_on, breaks_more, appends_same, appends_more, kept_left, same_known, taken_front, the_none, unheld}
-use Rattle.ets_script.proofs.AnsweredLines.{last_lines, no_more, none_is, then_line, weaker_line}
-use Rattle.ets_script.proofs.Progress.{Progress, both_one_line, flushed, one_line_held, one_line_of, waited}
+use Rattle.ets_script.proofs.AnsweredLines.{last_lines, no_more, none_is, then_line}
+use Rattle.ets_script.proofs.HeldLines.{Ended, both_one_line, one_line_held, one_line_of, weaker_line}
+use Rattle.ets_script.proofs.Progress.{Progress, flushed, waited}
 
 -- the writer failed at the answer to a line
 pub broken_line : (start s1 s2 : Scripted) (before old w1 w2 : Option (List ℕ)) (h1 : Held) (left : Option (List ℕ)) (p1 : List ℕ) (n : ℕ) (line : Line) (answer : Answer) → Progress start before old h1 left p1 w1 s1
@@ -69,27 +68,6 @@ read_failed start now before old w h l1 l2 p g none one kept =
       subst (λ (k : List ℕ). Appends old w k) (sym (all.parts ∙ append-nil all.sent)) all.written,
       g.lines,
     )
-
--- what is held when the input has ended
-pub record Ended (h : Held) (left : Option (List ℕ)) : Type 0 where
-  pub one_line : IsOneLine h.bytes
-  pub short : length h.bytes ≤ 65536
-  pub skipping : h.is_skipping ≡ true → h.bytes ≡ []
-  pub end : IsAtEnd left
-
-pub ended : (h1 h2 h3 : Held) (l1 l2 : Option (List ℕ)) (n : ℕ) → IsOneLine h1.bytes → Waits h1 h2 → Refills h2 h3 l1 l2 n → n ≡ 0 → Ended h3 l2
-ended h1 h2 h3 l1 l2 n one waits r zero_read =
-    let same : h3.bytes ≡ h2.bytes = r.added ∙ ap (λ k. h2.bytes ++ k) (nil_from_length r.more (r.counted ∙ zero_read)) ∙ append-nil h2.bytes in
-    record {
-      one_line = subst IsOneLine (sym same) (one_line_held h1 h2 one waits);
-      short = subst (λ (k : List ℕ). length k ≤ 65536) (sym same) waits.short;
-      skipping = λ skips. same ∙ empty waits.kept (sym r.skipping ∙ skips);
-      end = r.end zero_read;
-    }
-  where
-    empty : ((h2.bytes ≡ h1.bytes) × (h1.is_skipping ≡ false) × (h2.is_skipping ≡ false)) ⊎ ((h2.bytes ≡ []) × (h2.is_skipping ≡ true) × ((h1.is_skipping ≡ true) ⊎ (65536 < length h1.bytes))) → h2.is_skipping ≡ true → h2.bytes ≡ []
-    empty (inl (same, was, is)) skips = absurd (true≢false (sym skips ∙ is))
-    empty (inr (none, is, long)) skips = none
 
 -- the last line was answered, and all went out
 pub completed : (start s1 s2 : Scripted) (before old w1 w2 : Option (List ℕ)) (h : Held) (left : Option (List ℕ)) (p : List ℕ) → Progress start before old h left p w1 s1 → Ended h left → EndsAll h s1 s2 p w1 w2 → Completes start before left old w2 s2

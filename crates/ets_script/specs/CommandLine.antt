@@ -4,7 +4,7 @@ use Rattle.std.specs.Option.{option_map_or}
 use Rattle.std.specs.Str.{bytes_eq}
 use Rattle.std.specs.Str.Parse.{IsNumeral, digits_value, without_leading_plus}
 use Rattle.clap.specs.Words.{App, FailsBy, Row, Rule, Text, fault_of, first_of, matches_of, new_app, new_rule, one_of, with_rule}
-use Rattle.clap.specs.declared.builder.ArgAction.TheVariants.{Set}
+use Rattle.clap.specs.declared.builder.ArgAction.TheVariants.{Set, SetTrue}
 use Rattle.clap.specs.declared.builder.value_parser.ValueParser.{ValueParser}
 use Rattle.clap.specs.declared.builder.value_parser.ValueParser.TheVariants.{Names, Signed}
 use Rattle.clap.specs.declared.error.Error.{Error}
@@ -20,6 +20,10 @@ TakesNames names _ = ⊥
 abbrev pub hash_names : List Text
 hash_names = codes "fnv" ∷ codes "same" ∷ []
 
+-- `--threads`, which takes no value
+abbrev pub threads_option : Rule
+threads_option = record (new_rule (codes "threads")) { long = Some (codes "threads"); action = Some SetTrue }
+
 -- `--hash`, whose values a parser takes, and without which it is fnv
 abbrev pub hash_option : ValueParser → Rule
 hash_option hashes = record (new_rule (codes "hash")) { long = Some (codes "hash"); action = Some Set; parser = Some hashes; defaults = codes "fnv" ∷ [] }
@@ -29,7 +33,7 @@ abbrev pub objects_option : Rule
 objects_option = record (new_rule (codes "max-objects")) { long = Some (codes "max-objects"); action = Some Set; parser = Some (Signed (pos 0) (pos 4294967295)); defaults = codes "1000000" ∷ [] }
 
 abbrev pub command_line : ValueParser → App
-command_line hashes = with_rule (with_rule (new_app (codes "ets_script")) (hash_option hashes)) objects_option
+command_line hashes = with_rule (with_rule (with_rule (new_app (codes "ets_script")) threads_option) (hash_option hashes)) objects_option
 
 -- the text of a number in decimal digits, before which a plus may stand
 abbrev pub Spells : Option Text → ℕ → Type 0
@@ -40,9 +44,9 @@ Spells None n = ⊥
 abbrev pub is_named : Text → Option Text → Bool
 is_named name text = option_map_or (λ t. bytes_eq t name) text false
 
--- what the matches ask
+-- what the matches ask; the value of `--threads` is true where it is given, and else false
 pub record Asks (rows : List Row) (settings : Settings) : Type 0 where
-  pub threads : settings.threads ≡ false
+  pub threads : settings.threads ≡ is_named (codes "true") (first_of (codes "threads") rows)
   pub same : settings.same ≡ is_named (codes "same") (first_of (codes "hash") rows)
   pub objects : Spells (one_of (codes "max-objects") rows) settings.objects
 

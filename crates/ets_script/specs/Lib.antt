@@ -6,5 +6,7 @@ pub mod Commands
 pub mod Replies
 pub mod Script
 pub mod Stops
+pub mod Plan
+pub mod Threads
 pub mod CommandLine
 pub mod inside

@@ -23,3 +23,8 @@ abbrev pub IsLine : List ℕ → Line → Type 0 → Type 0
 IsLine bytes (text t) last = (before : List ℕ) × IsOneLine before × (length before ≤ MAX_LINE)
     × (((bytes ≡ before ++ 10 ∷ []) × (t ≡ strip_last 13 before)) ⊎ ((bytes ≡ before) × (0 < length before) × last × (t ≡ before)))
 IsLine bytes too_long last = (before : List ℕ) × IsOneLine before × (MAX_LINE < length before) × Ends before bytes last
+
+-- these bytes are these lines, of which the last may lack its LF
+abbrev pub IsCutInto : List ℕ → List Line → Type 0
+IsCutInto input [] = input ≡ []
+IsCutInto input (line ∷ lines) = (bytes : List ℕ) × (rest : List ℕ) × (input ≡ bytes ++ rest) × IsLine bytes line (rest ≡ []) × IsCutInto rest lines

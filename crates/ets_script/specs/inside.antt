@@ -4,3 +4,8 @@ pub mod Answered
 pub mod Says
 pub mod Codes
 pub mod Enrolments
+pub mod PlanCodes
+pub mod Planning
+pub mod Journal
+pub mod Processes
+pub mod Options

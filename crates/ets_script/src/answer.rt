@@ -38,7 +38,8 @@ impl Answer {
     }
 }
 
-fn print_reply<W: Write>(
+/// Prints a reply, and an LF.
+pub fn print_reply<W: Write>(
     reply: &Reply,
     pending: &mut Pending,
     writer: &mut W,

@@ -1,7 +1,8 @@
 //! The command line, as clap reads it.
-ghost use Rattle.std.specs.Prelude.{IfOk, ◌≡◌, codes, map, option_map};
+ghost use Rattle.std.specs.Prelude.{IfOk, ◌≡◌, map, option_map};
 ghost use Rattle.clap.specs.Words.{kind_of};
 ghost use Rattle.ets_script.specs.CommandLine.{Settles, is_named, refused_status};
+ghost use Rattle.ets_script.specs.inside.Options.{IsThreads, IsObjects};
 
 use crate::options::Settings;
 use clap::error::ErrorKind;
@@ -24,27 +25,44 @@ pub fn settings<S: AsStr>(alloc: Global, words: &[S]) -> Result<Settings, Error>
         .action(ArgAction::Set)
         .value_parser(HASHES.as_slice())
         .default_value("fnv");
-    let objects = Arg::new(alloc, "max-objects")
-        .long("max-objects")
-        .help("The most objects in one table")
-        .action(ArgAction::Set)
-        .value_parser(value_parser!(u32))
-        .default_value("1000000");
-    let command = Command::new(alloc, "ets_script").arg(hash)?.arg(objects)?;
+    let command = Command::new(alloc, "ets_script")
+        .arg(threads_option(alloc))?
+        .arg(hash)?
+        .arg(objects_option(alloc))?;
     let matches = command.try_get_matches_from(words)?;
     Ok(Settings {
-        threads: false,
-        same: is_same(matches.get_str("hash")),
+        threads: is_named("true", matches.get_str("threads")),
+        same: is_named("same", matches.get_str("hash")),
         objects: matches.get_one::<u32>("max-objects").unwrap_or(1_000_000),
     })
 }
 
-/// Whether a hash is named, and is the one for all keys.
-fn is_same(hash: Option<&str>) -> bool
-    ensures { result ≡ is_named (codes "same") (option_map (λ name. name.now) hash.entry) }
+fn threads_option<'a>(alloc: Global) -> Arg<'a>
+    ensures { IsThreads result }
 {
-    match hash {
-        Some(name) => name == "same",
+    Arg::new(alloc, "threads")
+        .long("threads")
+        .help("Run each process in a thread of its own")
+        .action(ArgAction::SetTrue)
+}
+
+fn objects_option<'a>(alloc: Global) -> Arg<'a>
+    ensures { IsObjects result }
+{
+    Arg::new(alloc, "max-objects")
+        .long("max-objects")
+        .help("The most objects in one table")
+        .action(ArgAction::Set)
+        .value_parser(value_parser!(u32))
+        .default_value("1000000")
+}
+
+/// Whether there is a value, and it is this name.
+fn is_named(name: &str, value: Option<&str>) -> bool
+    ensures { result ≡ is_named name.now (option_map (λ text. text.now) value.entry) }
+{
+    match value {
+        Some(text) => text == name,
         None => false,
     }
 }

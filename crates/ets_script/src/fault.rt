@@ -1,6 +1,7 @@
 //! Why a script stops.
 use crate::feed::ReadFault;
 use crate::output::WriteFault;
+use std::alloc::AllocError;
 use thiserror::Error;
 
 /// Why a script stops before its end.
@@ -12,9 +13,27 @@ pub enum ScriptFault {
     /// The writer failed, or took no byte. What went out is a prefix of the answers.
     #[error("write fault")]
     Write,
-    /// There was no memory to begin with; nothing was read.
+    /// There was no memory to begin with, and nothing was read; or a script whose processes run in threads could not go on, and
+    /// nothing was written.
     #[error("** nomem")]
     Memory,
+    /// What the client of this process saw is not the process's part of the journal. Nothing was written.
+    #[error("differs <0.{0}.0>")]
+    Differs(u32),
+    /// This process has entries in the journal and no client. Nothing was written.
+    #[error("missing <0.{0}.0>")]
+    Missing(u32),
+}
+
+impl From<AllocError> for ScriptFault {
+    ghost use Rattle.std.specs.Prelude.{◌≡◌};
+    ghost use Rattle.ets_script.specs.declared.fault.ScriptFault.TheVariants.{Memory};
+
+    ghost from_gives = { λ _ e. e ≡ Memory };
+
+    fn from(_fault: AllocError) -> ScriptFault {
+        ScriptFault::Memory
+    }
 }
 
 impl From<ReadFault> for ScriptFault {

@@ -1,17 +1,41 @@
 //! The program between its settings, its input, its output and its errors.
-ghost use Rattle.std.specs.Prelude.{IfOk};
-ghost use Rattle.ets_script.specs.Stops.{EndsWithin, ProgramEnds};
+ghost use Rattle.std.specs.Prelude.{◌≡◌, false, true, IfOk, OnOk, IfErr};
+ghost use Rattle.ets_script.specs.Stops.{EndsWithin, ProgramEnds, usual};
+ghost use Rattle.ets_script.specs.Threads.{ThreadsEnd, ThreadsStop, ThreadsStatus, ProgramThreads};
 
+use crate::fault::ScriptFault;
 use crate::options::Settings;
 use crate::run::run_script;
+use crate::threads::run_threads;
 use ets_term::{AllSame, Fnv, KeyHash};
 use node_core::Limits;
 use std::alloc::Global;
 use std::io::{self, Read, Write};
+use std::sync::Wait;
+use std::thread::Threads;
 
-/// Answers a script as the settings ask, by the usual limits else, and says the program's status: 0 at the end of the
-/// input; else 1, with one line of errors.
-pub fn answer_input<R: Read, W: Write, E: Write>(
+/// Answers a script as the settings ask, in threads or alone, and says the program's status: 0 at the end of the input; else 1, with
+/// one line of errors. In threads it may wait.
+pub fn answer_input<T: Threads + Wait + Sync, R: Read, W: Write, E: Write>(
+    rt: &T,
+    alloc: Global,
+    settings: &Settings,
+    input: &mut R,
+    output: &mut W,
+    errors: &mut E,
+) -> io::Result<u8>
+    ensures alone { settings.now.threads ≡ false → IfOk result (ProgramEnds settings.now.objects (R.remaining input.old) (R.remaining input.new) (W.contents output.old) (W.contents output.new)) }
+    ensures threads { settings.now.threads ≡ true → IfOk result (ProgramThreads settings.now.objects (R.remaining input.old) (R.remaining input.new) (W.contents output.old) (W.contents output.new)) }
+{
+    if settings.threads {
+        answer_in_threads(rt, alloc, settings, input, output, errors)
+    } else {
+        answer_alone(alloc, settings, input, output, errors)
+    }
+}
+
+/// Answers a script line by line, each when it was read, by the usual limits but for that of the settings, and says the program's status.
+pub fn answer_alone<R: Read, W: Write, E: Write>(
     alloc: Global,
     settings: &Settings,
     input: &mut R,
@@ -20,10 +44,7 @@ pub fn answer_input<R: Read, W: Write, E: Write>(
 ) -> io::Result<u8>
     ensures { IfOk result (ProgramEnds settings.now.objects (R.remaining input.old) (R.remaining input.new) (W.contents output.old) (W.contents output.new)) }
 {
-    let limits = Limits {
-        objects: settings.objects,
-        ..Limits::usual()
-    };
+    let limits = limits_of(settings);
     if settings.same {
         answer_by(alloc, limits, AllSame, input, output, errors)
     } else {
@@ -44,9 +65,60 @@ fn answer_by<H: KeyHash + Copy + Drop, R: Read, W: Write, E: Write>(
 {
     match run_script(alloc, input, output, limits, hash) {
         Ok(_) => Ok(0),
-        Err(fault) => {
-            writeln!(errors, "{fault}")?;
-            Ok(1)
-        }
+        Err(fault) => tell(&fault, errors),
+    }
+}
+
+/// Tells a fault on a line of errors, and says the status.
+fn tell<E: Write>(fault: &ScriptFault, errors: &mut E) -> io::Result<u8>
+    ensures { IfOk result (λ status. status ≡ 1) }
+{
+    writeln!(errors, "{fault}")?;
+    Ok(1)
+}
+
+/// Answers a script whose processes run in threads of their own, and says the program's status.
+fn answer_in_threads<T: Threads + Wait + Sync, R: Read, W: Write, E: Write>(
+    rt: &T,
+    alloc: Global,
+    settings: &Settings,
+    input: &mut R,
+    output: &mut W,
+    errors: &mut E,
+) -> io::Result<u8>
+    ensures { IfOk result (ProgramThreads settings.now.objects (R.remaining input.old) (R.remaining input.new) (W.contents output.old) (W.contents output.new)) }
+{
+    match run_by(rt, alloc, settings, input, output) {
+        Ok(()) => Ok(0),
+        Err(fault) => tell(&fault, errors),
+    }
+}
+
+/// Runs a script in threads by the hash and the limits of the settings.
+fn run_by<T: Threads + Wait + Sync, R: Read, W: Write>(
+    rt: &T,
+    alloc: Global,
+    settings: &Settings,
+    input: &mut R,
+    output: &mut W,
+) -> Result<(), ScriptFault>
+    ensures ok { OnOk result (ThreadsEnd (usual settings.now.objects) (R.remaining input.old) (R.remaining input.new) (W.contents output.old) (W.contents output.new)) }
+    ensures err { IfErr result (ThreadsStop (usual settings.now.objects) (R.remaining input.old) (R.remaining input.new) (W.contents output.old) (W.contents output.new)) }
+{
+    let limits = limits_of(settings);
+    if settings.same {
+        run_threads(rt, alloc, input, output, limits, AllSame)
+    } else {
+        run_threads(rt, alloc, input, output, limits, Fnv)
+    }
+}
+
+/// The usual limits, but for the objects of a table.
+fn limits_of(settings: &Settings) -> Limits
+    ensures { result ≡ usual settings.now.objects }
+{
+    Limits {
+        objects: settings.objects,
+        ..Limits::usual()
     }
 }

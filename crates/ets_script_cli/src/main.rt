@@ -10,6 +10,7 @@ fn main(rt: HostRuntime) -> io::Result<ExitCode> {
     let words: Vec<String> = env::args(&rt)?.collect(alloc)?;
     let status = match settings(alloc, words.as_slice()) {
         Ok(settings) => answer_input(
+            &rt,
             alloc,
             &settings,
             &mut rt.reader(),

@@ -7,6 +7,7 @@ mod long;
 mod program;
 mod rows;
 mod syntax;
+mod threads;
 
 use devices::{Devices, Seen, Source, Target};
 use ets_script::{ScriptFault, run_within};
@@ -21,6 +22,8 @@ enum End {
     Read,
     Write,
     Memory,
+    /// Its journal could not be closed.
+    Unclosed,
 }
 
 /// How a script is run.
@@ -44,9 +47,16 @@ fn usual() -> Run {
 fn end_of<H: KeyHash + Copy + Drop>(done: Result<Node<H>, ScriptFault>) -> End {
     match done {
         Ok(_) => End::Whole,
-        Err(ScriptFault::Read) => End::Read,
-        Err(ScriptFault::Write) => End::Write,
-        Err(ScriptFault::Memory) => End::Memory,
+        Err(fault) => end_at(&fault),
+    }
+}
+
+fn end_at(fault: &ScriptFault) -> End {
+    match fault {
+        ScriptFault::Read => End::Read,
+        ScriptFault::Write => End::Write,
+        ScriptFault::Memory => End::Memory,
+        ScriptFault::Differs(_) | ScriptFault::Missing(_) => End::Unclosed,
     }
 }
 

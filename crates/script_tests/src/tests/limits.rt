@@ -29,3 +29,12 @@ fn three_objects(rt: HostRuntime) {
     )];
     assert_eq!(rt; answered(rt.alloc(), &within(1, 1, 3), &rows), rows.len());
 }
+
+#[test]
+fn one_process(rt: HostRuntime) {
+    let rows: [(&[u8], &[u8]); 1] = [(
+        b"spawn p\nspawn q\nq receive()\n",
+        b"<0.0.0>\n** system_limit\n** noproc\n",
+    )];
+    assert_eq!(rt; answered(rt.alloc(), &within(1, 1, 1), &rows), rows.len());
+}

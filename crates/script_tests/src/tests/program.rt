@@ -2,7 +2,7 @@
 use super::devices::{Devices, GOOD, Seen, Source, Target};
 use clap::error::ErrorKind;
 use ets_script::options::Settings;
-use ets_script::{ScriptFault, answer_input, settings};
+use ets_script::{ScriptFault, answer_alone, settings};
 use std::alloc::{AllocError, Global};
 use std::io;
 use std::test::Fail;
@@ -31,7 +31,7 @@ fn status(alloc: Global, devices: &Devices, words: &[u8]) -> io::Result<(u8, boo
         seen: &seen,
     };
     let mut errors = Vec::new(alloc);
-    let status = answer_input(alloc, &USUAL, &mut source, &mut target, &mut errors)?;
+    let status = answer_alone(alloc, &USUAL, &mut source, &mut target, &mut errors)?;
     Ok((status, errors.as_slice() == words))
 }
 
@@ -46,6 +46,8 @@ fn faults_in_words(rt: HostRuntime) -> Result<(), Fail> {
     assert!(rt; is_told(alloc, &ScriptFault::Read, "read fault")?);
     assert!(rt; is_told(alloc, &ScriptFault::Write, "write fault")?);
     assert!(rt; is_told(alloc, &ScriptFault::Memory, "** nomem")?);
+    assert!(rt; is_told(alloc, &ScriptFault::Differs(7), "differs <0.7.0>")?);
+    assert!(rt; is_told(alloc, &ScriptFault::Missing(4095), "missing <0.4095.0>")?);
     Ok(())
 }
 
@@ -66,10 +68,11 @@ fn status_and_errors(rt: HostRuntime) -> Result<(), Fail> {
     Ok(())
 }
 
-/// Whether the hash is the one for all keys, and the most objects, as these words ask; or the kind of the refusal.
-fn asked(alloc: Global, words: &[&str]) -> Result<(bool, u32), ErrorKind> {
+/// Whether there are threads, whether the hash is the one for all keys, and the most objects, as these words ask; or the kind of the
+/// refusal.
+fn asked(alloc: Global, words: &[&str]) -> Result<(bool, bool, u32), ErrorKind> {
     match settings(alloc, words) {
-        Ok(settings) => Ok((settings.same, settings.objects)),
+        Ok(settings) => Ok((settings.threads, settings.same, settings.objects)),
         Err(error) => Err(error.kind()),
     }
 }
@@ -77,24 +80,35 @@ fn asked(alloc: Global, words: &[&str]) -> Result<(bool, u32), ErrorKind> {
 #[test]
 fn settings_of_words(rt: HostRuntime) {
     let alloc = rt.alloc();
-    let rows: [(&[&str], (bool, u32)); 9] = [
-        (&["ets_script"], (false, 1_000_000)),
-        (&["ets_script", "--hash", "fnv"], (false, 1_000_000)),
-        (&["ets_script", "--hash", "same"], (true, 1_000_000)),
-        (&["ets_script", "--hash=same"], (true, 1_000_000)),
-        (&["ets_script", "--max-objects", "3"], (false, 3)),
-        (&["ets_script", "--max-objects=0"], (false, 0)),
+    let rows: [(&[&str], (bool, bool, u32)); 11] = [
+        (&["ets_script"], (false, false, 1_000_000)),
+        (&["ets_script", "--threads"], (true, false, 1_000_000)),
+        (
+            &[
+                "ets_script",
+                "--hash=same",
+                "--threads",
+                "--max-objects",
+                "3",
+            ],
+            (true, true, 3),
+        ),
+        (&["ets_script", "--hash", "fnv"], (false, false, 1_000_000)),
+        (&["ets_script", "--hash", "same"], (false, true, 1_000_000)),
+        (&["ets_script", "--hash=same"], (false, true, 1_000_000)),
+        (&["ets_script", "--max-objects", "3"], (false, false, 3)),
+        (&["ets_script", "--max-objects=0"], (false, false, 0)),
         (
             &["ets_script", "--max-objects", "4294967295"],
-            (false, u32::MAX),
+            (false, false, u32::MAX),
         ),
         (
             &["ets_script", "--max-objects", "007", "--hash", "same"],
-            (true, 7),
+            (false, true, 7),
         ),
         (
             &["another_name", "--hash", "same", "--max-objects", "3"],
-            (true, 3),
+            (false, true, 3),
         ),
     ];
     for (words, wanted) in rows {
@@ -105,7 +119,7 @@ fn settings_of_words(rt: HostRuntime) {
 #[test]
 fn words_that_are_refused(rt: HostRuntime) {
     let alloc = rt.alloc();
-    let rows: [(&[&str], ErrorKind); 11] = [
+    let rows: [(&[&str], ErrorKind); 12] = [
         (&["ets_script", "--hash", "md5"], ErrorKind::InvalidValue),
         (&["ets_script", "--hash", "SAME"], ErrorKind::InvalidValue),
         (&["ets_script", "--hash"], ErrorKind::InvalidValue),
@@ -129,7 +143,11 @@ fn words_that_are_refused(rt: HostRuntime) {
             &["ets_script", "--hash", "same", "--hash", "fnv"],
             ErrorKind::ArgumentConflict,
         ),
-        (&["ets_script", "--threads"], ErrorKind::UnknownArgument),
+        (
+            &["ets_script", "--threads", "--threads"],
+            ErrorKind::ArgumentConflict,
+        ),
+        (&["ets_script", "--threads=true"], ErrorKind::TooManyValues),
         (&["ets_script", "script"], ErrorKind::UnknownArgument),
         (&["ets_script", "--help"], ErrorKind::DisplayHelp),
     ];

@@ -1,8 +1,9 @@
 use Rattle.std.proofs.Common.{◌≡◌, ℕ, drop, sym, subst}
 use Rattle.std.proofs.lemmas.Result.{err_from_is_err_and}
 use Rattle.ets_script.specs.Script.{Scripted}
+use Rattle.ets_script.proofs.HeldLines.{ended}
 use Rattle.ets_script.proofs.Progress.{Progress, nothing_yet, answered_line, read_on}
-use Rattle.ets_script.proofs.ScriptEnds.{broken_line, flush_broken, read_broken, ended, completed, end_broken}
+use Rattle.ets_script.proofs.ScriptEnds.{broken_line, flush_broken, read_broken, completed, end_broken}
 use Rattle.ets_script.proofs.run.answer_all.Goals as goal
 
 pub loop-next-init : goal.loop-next-init

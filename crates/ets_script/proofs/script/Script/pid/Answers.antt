@@ -2,7 +2,7 @@ use Rattle.std.proofs.Common.{sym, ap, ◌∙◌}
 use Rattle.std.specs.Prelude.{vec_items}
 use Rattle.std.specs.Str.{bytes_eq}
 use Rattle.ets_script.specs.Script.{Scripted, pid_of}
-use Rattle.ets_script.proofs.Enrolments.{position_map}
+use Rattle.ets_script.proofs.Places.{position_map}
 use Rattle.ets_script.proofs.script.Script.pid.Goals as goal
 
 pub returns-in-Some : goal.returns-in-Some

@@ -6,7 +6,8 @@ use Rattle.node_core.specs.Seen.{seen}
 use Rattle.node_core.specs.State.{State}
 use Rattle.ets_script.specs.Script.{Scripted, pid_of}
 use Rattle.ets_script.specs.inside.Enrolments.{Enrols}
-use Rattle.ets_script.proofs.Enrolments.{position_map, spawned}
+use Rattle.ets_script.proofs.Places.{position_map}
+use Rattle.ets_script.proofs.Enrolments.{spawned}
 use Rattle.ets_script.proofs.script.Script.spawn.Goals as goal
 
 pub returns-in-Some : goal.returns-in-Some

@@ -1,0 +1,93 @@
+-- What a script prints whose processes run in threads of their own.
+use Rattle.std.specs.Prelude.{◌≡◌, ◌⊎◌, ℕ, zero, suc, ◌-◌, ◌≤◌, ◌<◌, true, List, [], ◌∷◌, ◌++◌, map, flat_map, take, length, Option, Some, None, Err, slice_index_or, codes, min}
+use Rattle.std.specs.Io.KnownBytes.{Appends, Consumes, IsAtEnd}
+use Rattle.node_core.specs.declared.limits.Limits.{Limits}
+use Rattle.node_core.specs.declared.step.Step.TheVariants.{Enrol}
+use Rattle.node_core.specs.declared.step.Reply.{Reply}
+use Rattle.node_core.specs.State.{State}
+use Rattle.node_shared.specs.declared.entry.Entry.{Entry}
+use Rattle.node_shared.specs.declared.job.Job.{Job}
+use Rattle.node_shared.specs.declared.pids.TheConstants.{MAX_PIDS}
+use Rattle.node_shared.specs.declared.transcript.CloseFault.TheVariants as close
+use Rattle.node_shared.specs.Closing.{Closes}
+use Rattle.node_shared.specs.Journal.{IsRun, of, has_entries, process_of}
+use Rattle.node_shared.specs.Records.{Recorded}
+use Rattle.node_shared.specs.Working.{job_step}
+use Rattle.ets_script.specs.Lines.{Line, IsCutInto}
+use Rattle.ets_script.specs.Plan.{Planned, nothing, lines_plan}
+use Rattle.ets_script.specs.Replies.{printed, reply_text}
+use Rattle.ets_script.specs.Stops.{usual}
+use Rattle.ets_script.specs.declared.answer.Answer.{Answer}
+use Rattle.ets_script.specs.declared.fault.ScriptFault.{ScriptFault}
+use Rattle.ets_script.specs.declared.fault.ScriptFault.TheVariants.{Read, Write, Memory, Differs, Missing}
+
+-- a line of the output: the name, a space, and what follows
+abbrev pub line_of : List ℕ → List ℕ → List ℕ
+line_of name said = name ++ (codes " " ++ (said ++ codes "\n"))
+
+-- the line of a process's reply; what is no step of a process has none
+abbrev pub own_text : List (List ℕ) → Option ℕ → Reply → List ℕ
+own_text names None r = []
+own_text names (Some p) r = line_of (slice_index_or names p []) (reply_text r)
+
+abbrev pub entry_text : List (List ℕ) → Entry → List ℕ
+entry_text names e = own_text names (process_of e.step) e.reply
+
+-- the lines of those that memory stopped: the names, in order, of which some jobs are left
+abbrev pub stopped_text : List (List ℕ) → List ℕ → List ℕ
+stopped_text (name ∷ names) (zero ∷ left) = stopped_text names left
+stopped_text (name ∷ names) (suc n ∷ left) = line_of name (codes "** nomem") ++ stopped_text names left
+stopped_text names left = []
+
+-- the answers known before, the replies of the processes in the order of the journal, and those that were stopped
+abbrev pub threads_text : List Answer → List (List ℕ) → List Entry → List ℕ → List ℕ
+threads_text answers names done left = flat_map printed answers ++ (flat_map (entry_text names) done ++ stopped_text names left)
+
+-- From process p on, each is enrolled and then does its jobs, in order, all but the last of them that are left.
+abbrev pub AreDone : List Entry → ℕ → List (List Job) → List ℕ → Type 0
+AreDone done p [] [] = Unit {0}
+AreDone done p (jobs ∷ others) (n ∷ left) =
+    (n ≤ length jobs) × (map (λ e. e.step) (of p done) ≡ Enrol p ∷ map (job_step p) (take (length jobs - n) jobs)) × AreDone done (suc p) others left
+AreDone done p [] (n ∷ left) = ⊥
+AreDone done p (jobs ∷ others) [] = ⊥
+
+-- The journal is a run of the node from its empty state, in which each process does its jobs, and none but these has entries.
+pub record RunsJobs (limits : Limits) (jobs : List (List Job)) (done : List Entry) (left : List ℕ) : Type 0 where
+  pub end : State
+  pub run : IsRun limits done end
+  pub each : AreDone done 0 jobs left
+  pub no_others : (p : ℕ) → has_entries p done ≡ true → p < length jobs
+
+-- The input's lines are planned, and what they ask of the processes is done in one run. That run is printed behind the answers
+-- that were known before.
+pub record ThreadsText (limits : Limits) (input output : List ℕ) : Type 0 where
+  pub lines : List Line
+  pub plan : Planned
+  pub done : List Entry
+  pub left : List ℕ
+  pub cut : IsCutInto input lines
+  pub planned : plan ≡ lines_plan (min limits.processes MAX_PIDS) lines nothing
+  pub runs : RunsJobs limits plan.jobs done left
+  pub prints : output ≡ threads_text plan.answers plan.names done left
+
+-- the reader had all of a script, which was read to its end, and all that it prints was written
+abbrev pub ThreadsEnd : Limits → Option (List ℕ) → Option (List ℕ) → Option (List ℕ) → Option (List ℕ) → Type 0
+ThreadsEnd limits before after old new = (input : List ℕ) × (output : List ℕ) × Consumes before after input × IsAtEnd after × Appends old new output × ThreadsText limits input output
+
+-- At a write fault a prefix of the text of a whole script was written. At any other nothing was. A process differs, or is missing,
+-- only where the journal of a run of the node and the records of its clients say so.
+abbrev pub ThreadsStop : Limits → Option (List ℕ) → Option (List ℕ) → Option (List ℕ) → Option (List ℕ) → ScriptFault → Type 0
+ThreadsStop limits before after old new Write = (input : List ℕ) × (output : List ℕ) × (unsent : List ℕ)
+    × Consumes before after input × IsAtEnd after × Appends old new output × ThreadsText limits input (output ++ unsent)
+ThreadsStop limits before after old new Read = Appends old new []
+ThreadsStop limits before after old new Memory = Appends old new []
+ThreadsStop limits before after old new (Differs p) = Appends old new [] × ((clients : List Recorded) × Closes limits clients (Err (close.Differs p)))
+ThreadsStop limits before after old new (Missing p) = Appends old new [] × ((clients : List Recorded) × Closes limits clients (Err (close.Missing p)))
+
+-- the program's status: 0 after a whole script, else 1
+abbrev pub ThreadsStatus : Limits → Option (List ℕ) → Option (List ℕ) → Option (List ℕ) → Option (List ℕ) → ℕ → Type 0
+ThreadsStatus limits before after old new status = ((status ≡ 0) × ThreadsEnd limits before after old new) ⊎ ((status ≡ 1) × (fault : ScriptFault) × ThreadsStop limits before after old new fault)
+
+-- the same by the limits that are usual, with this number of objects in one table
+abbrev pub ProgramThreads : ℕ → Option (List ℕ) → Option (List ℕ) → Option (List ℕ) → Option (List ℕ) → ℕ → Type 0
+ProgramThreads objects = ThreadsStatus (usual objects)

@@ -1,0 +1,55 @@
+-- What private contracts say of the planning of lines that are read part by part.
+use Rattle.std.specs.Prelude.{◌≡◌, ℕ, ◌≤◌, ◌<◌, Bool, true, false, List, [], ◌∷◌, ◌++◌, length, Option, Some, None, ⊤}
+use Rattle.std.specs.Io.KnownBytes.{Consumes, IsAtEnd}
+use Rattle.ets_script.specs.Lines.{Line, text, too_long, IsOneLine, IsLine, IsCutInto}
+use Rattle.ets_script.specs.Plan.{Planned, line_plan, lines_plan}
+use Rattle.ets_script.specs.declared.plan.Known.{Known}
+use Rattle.ets_script.specs.declared.plan.Work.{Work}
+use Rattle.ets_script.specs.declared.fault.ScriptFault.{ScriptFault}
+use Rattle.ets_script.specs.declared.fault.ScriptFault.TheVariants.{Read, Memory}
+use Rattle.ets_script.specs.inside.Feeds.{Held, EndsLine}
+use Rattle.ets_script.specs.inside.PlanCodes.{Limited}
+
+-- a line is added, and lines in order
+abbrev pub with_line : Line → Limited → Limited
+with_line line l = record l { plan = line_plan l.most line l.plan }
+
+abbrev pub with_lines : List Line → Limited → Limited
+with_lines lines l = record l { plan = lines_plan l.most lines l.plan }
+
+-- the bytes held begin with a line of this many bytes, which was added
+pub record PlansHeld (h : Held) (old new : Limited) (taken : ℕ) : Type 0 where
+  pub line : Line
+  pub some : 0 < taken
+  pub within : taken ≤ length h.bytes
+  pub ends : EndsLine h.bytes h.is_skipping taken line
+  pub plans : new ≡ with_line line old
+
+-- the next line was added, or the bytes held have no LF
+abbrev pub PlansNext : Held → Limited → Limited → Option ℕ → Type 0
+PlansNext h old new (Some taken) = PlansHeld h old new taken
+PlansNext h old new None = IsOneLine h.bytes × (new ≡ old)
+
+-- what is held when the input ends, as a line
+abbrev pub last_line : Bool → List ℕ → Line
+last_line true bytes = too_long
+last_line false bytes = text bytes
+
+-- lines that all have their LF
+abbrev pub AreWhole : List ℕ → List Line → Type 0
+AreWhole input [] = input ≡ []
+AreWhole input (line ∷ lines) = (bytes : List ℕ) × (rest : List ℕ) × (input ≡ bytes ++ rest) × IsLine bytes line ⊥ × AreWhole rest lines
+
+-- the reader had these lines and no more, and they were added
+abbrev pub PlansAll : Limited → Option (List ℕ) → Option (List ℕ) → Limited → Type 0
+PlansAll start before after now = (input : List ℕ) × (lines : List Line) × Consumes before after input × IsAtEnd after × IsCutInto input lines × (now ≡ with_lines lines start)
+
+-- a plan's parts
+abbrev pub AreParts : Known → Work → Planned → Type 0
+AreParts known work plan = (known.answers ≡ plan.answers) × (known.names ≡ plan.names) × (work.jobs ≡ plan.jobs)
+
+-- what stops the planning of a script
+abbrev pub IsUnplanned : ScriptFault → Type 0
+IsUnplanned Read = ⊤
+IsUnplanned Memory = ⊤
+IsUnplanned _ = ⊥

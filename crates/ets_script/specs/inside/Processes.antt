@@ -1,0 +1,74 @@
+-- What private contracts say of a script's processes, from their enrolment to the end of their jobs.
+use Rattle.std.specs.Prelude.{◌≡◌, ℕ, suc, ◌-◌, ◌≤◌, List, [], ◌∷◌, map, take, length, Err, All, Option, ⊤, min}
+use Rattle.std.specs.Io.KnownBytes.{Consumes, IsAtEnd}
+use Rattle.std.specs.declared.vec.Vec.{Vec}
+use Rattle.std.specs.declared.alloc.Global.{Global}
+use Rattle.node_core.specs.declared.limits.Limits.{Limits}
+use Rattle.node_core.specs.declared.step.Reply.{Reply}
+use Rattle.node_core.specs.declared.step.Step.TheVariants.{Enrol}
+use Rattle.node_shared.specs.declared.job.Job.{Job}
+use Rattle.node_shared.specs.declared.pids.Pids.{Pids}
+use Rattle.node_shared.specs.declared.pids.Seat.{Seat}
+use Rattle.node_shared.specs.declared.pids.TheConstants.{MAX_PIDS}
+use Rattle.node_shared.specs.declared.transcript.CloseFault.TheVariants as close
+use Rattle.node_shared.specs.Closing.{Closes}
+use Rattle.node_shared.specs.Journal.{entry}
+use Rattle.node_shared.specs.Records.{Recorded}
+use Rattle.node_shared.specs.Working.{job_step}
+use Rattle.ets_script.specs.Lines.{Line, IsCutInto}
+use Rattle.ets_script.specs.Plan.{Planned, nothing, lines_plan}
+use Rattle.ets_script.specs.Threads.{RunsJobs}
+use Rattle.ets_script.specs.declared.fault.ScriptFault.{ScriptFault}
+use Rattle.ets_script.specs.declared.fault.ScriptFault.TheVariants.{Read, Write, Memory, Differs, Missing}
+use Rattle.ets_script.specs.declared.plan.Known.{Known}
+use Rattle.ets_script.specs.declared.processes.Ran.{Ran}
+
+-- the seats draw numbers of this word
+abbrev pub AreSeatsOf : Pids → List Seat → Type 0
+AreSeatsOf pids seats = All (λ s. s.seat.table_id ≡ pids.table.shared.table_id) seats
+
+-- the client of a process that was enrolled, and did nothing yet
+abbrev pub IsNew : ℕ → Recorded → Type 0
+IsNew p client = (r : Reply) × (client ≡ record { pid = p; entries = entry (Enrol p) r ∷ [] })
+
+-- from process p on, each has a client and its jobs
+abbrev pub AreEnrolled : ℕ → List (List Job) → List (Recorded × Vec Job Global) → Type 0
+AreEnrolled p [] [] = Unit {0}
+AreEnrolled p (jobs ∷ others) (x ∷ xs) = IsNew p x.0 × (x.1.items ≡ jobs) × AreEnrolled (suc p) others xs
+AreEnrolled p [] (x ∷ xs) = ⊥
+AreEnrolled p (jobs ∷ others) [] = ⊥
+
+-- a process did its jobs, in order, all but the last n
+abbrev pub DidJobs : ℕ → List Job → Recorded → ℕ → Type 0
+DidJobs p jobs client n = (client.pid ≡ p) × (n ≤ length jobs) × (map (λ e. e.step) client.entries ≡ Enrol p ∷ map (job_step p) (take (length jobs - n) jobs))
+
+-- from process p on, each did
+abbrev pub HaveRun : ℕ → List (List Job) → List Recorded → List ℕ → Type 0
+HaveRun p [] [] [] = Unit {0}
+HaveRun p (jobs ∷ others) (client ∷ clients) (n ∷ left) = DidJobs p jobs client n × HaveRun (suc p) others clients left
+HaveRun p [] [] (n ∷ left) = ⊥
+HaveRun p [] (client ∷ clients) left = ⊥
+HaveRun p (jobs ∷ others) [] left = ⊥
+HaveRun p (jobs ∷ others) (client ∷ clients) [] = ⊥
+
+-- what may stop a script before anything is printed
+abbrev pub Stops : Limits → ScriptFault → Type 0
+Stops limits Read = ⊤
+Stops limits Write = ⊥
+Stops limits Memory = ⊤
+Stops limits (Differs p) = (clients : List Recorded) × Closes limits clients (Err (close.Differs p))
+Stops limits (Missing p) = (clients : List Recorded) × Closes limits clients (Err (close.Missing p))
+
+-- the reader had a whole script, and what it asks of its processes was done
+pub record RunsInput (limits : Limits) (before after : Option (List ℕ)) (known : Known) (ran : Ran) : Type 0 where
+  pub input : List ℕ
+  pub lines : List Line
+  pub plan : Planned
+  pub consumed : Consumes before after input
+  pub end : IsAtEnd after
+  pub cut : IsCutInto input lines
+  pub planned : plan ≡ lines_plan (min limits.processes MAX_PIDS) lines nothing
+  pub answers : known.answers ≡ plan.answers
+  pub names : known.names ≡ plan.names
+  pub runs : RunsJobs limits plan.jobs ran.entries.items ran.left.items
+  pub named : length ran.left.items ≤ length known.names

@@ -1,0 +1,72 @@
+//! The plan of a whole script, which is read to its end.
+ghost use Rattle.std.specs.Prelude.{◌≡◌, [], false, IfOk, IfErr};
+ghost use Rattle.ets_script.specs.Plan.{nothing};
+ghost use Rattle.ets_script.specs.inside.Planning.{with_line, last_line, PlansNext, PlansAll, IsUnplanned};
+
+use crate::fault::ScriptFault;
+use crate::feed::{Feed, MAX_READS};
+use crate::lines::NextLine;
+use crate::plan::Plan;
+use std::alloc::{AllocError, Global};
+use std::io::Read;
+
+/// Reads a script to its end, and plans its lines. At most so many names are spawned.
+pub fn plan_input<R: Read>(alloc: Global, reader: &mut R, most: u32) -> Result<Plan, ScriptFault>
+    ensures ok { IfOk result (PlansAll (record { most = most; plan = nothing }) (R.remaining reader.old) (R.remaining reader.new)) }
+    ensures err { IfErr result IsUnplanned }
+{
+    let mut feed = Feed::new(alloc, MAX_READS)?;
+    let mut plan = Plan::new(alloc, most);
+    plan_all(reader, &mut feed, &mut plan)?;
+    Ok(plan)
+}
+
+/// Plans all lines.
+fn plan_all<R: Read>(reader: &mut R, feed: &mut Feed, plan: &mut Plan) -> Result<(), ScriptFault>
+    requires { (feed.old.bytes ≡ []) × (feed.old.is_skipping ≡ false) }
+    ensures ok { IfOk result (λ _. PlansAll plan.old (R.remaining reader.old) (R.remaining reader.new) plan.new) }
+    ensures err { IfErr result IsUnplanned }
+{
+    loop {
+        let Some(taken) = plan_next(feed, plan)? else {
+            feed.skip_long();
+            if feed.refill(reader)? == 0 {
+                plan_last(feed, plan)?;
+                return Ok(());
+            }
+            continue;
+        };
+        feed.consume(taken);
+        plan.count();
+    }
+}
+
+/// Plans the next line, if its end is held, and says how many of the bytes held it takes.
+fn plan_next(feed: &Feed, plan: &mut Plan) -> Result<Option<usize>, AllocError>
+    ensures { IfOk result (PlansNext feed.now plan.old plan.new) }
+{
+    match feed.next_line() {
+        NextLine::Text { text, taken } => {
+            plan.line(&feed.held()[..text])?;
+            Ok(Some(taken))
+        }
+        NextLine::TooLong { taken } => {
+            plan.too_long()?;
+            Ok(Some(taken))
+        }
+        NextLine::NeedsMore => Ok(None),
+    }
+}
+
+/// Plans what is held as the last line, which has no LF. An empty one is silent, and does not count.
+fn plan_last(feed: &Feed, plan: &mut Plan) -> Result<(), AllocError>
+    ensures { IfOk result (λ _. plan.new ≡ with_line (last_line feed.now.is_skipping feed.now.bytes) plan.old) }
+{
+    if feed.is_skipping() || !feed.held().is_empty() {
+        plan.count();
+    }
+    if feed.is_skipping() {
+        return plan.too_long();
+    }
+    plan.line(feed.held())
+}

@@ -1,0 +1,215 @@
+//! The processes of a script in threads of their own, over one node.
+ghost use Rattle.std.specs.Prelude.{◌≡◌, ◌+◌, map, IfOk, IfErr};
+ghost use Rattle.std.specs.Thread.{IsSync};
+ghost use Rattle.node_shared.specs.Working.{AllWorked};
+ghost use Rattle.ets_script.specs.Threads.{RunsJobs};
+ghost use Rattle.ets_script.specs.inside.Processes.{AreSeatsOf, AreEnrolled, HaveRun, IsNew, Stops};
+
+use crate::fault::ScriptFault;
+use crate::plan::Work;
+use ets_term::{Items, KeyHash};
+use node_core::Limits;
+use node_shared::{
+    Client, CloseFault, Drawn, Entry, Gate, Job, Pids, Seat, Shared, Worked, close, keep,
+    run_clients,
+};
+use std::alloc::{AllocError, Global};
+use std::marker::Brand;
+use std::sync::Wait;
+use std::sync::ledger::{Blank, Ledger};
+use std::thread;
+use std::thread::Threads;
+
+/// What the processes came to: the journal, and how many jobs of each were left, because memory was refused to it.
+#[derive(Drop)]
+pub struct Ran {
+    pub entries: Vec<Entry>,
+    pub left: Vec<usize>,
+}
+
+/// Nothing is done around a call.
+struct Quiet;
+
+impl Gate for Quiet {
+    fn before(&self, _client: usize, _call: usize) {}
+
+    fn after(&self, _client: usize, _call: usize) {}
+}
+
+/// Does the work of a script on a node with these limits: each process in a thread of its own, and one more that keeps the node.
+pub fn run_work<T: Threads + Wait + Sync, H: KeyHash + Copy + Drop + Send + Sync>(
+    rt: &T,
+    alloc: Global,
+    limits: Limits,
+    hash: H,
+    work: Work,
+) -> Result<Ran, ScriptFault>
+    ensures ok { IfOk result (λ ran. RunsJobs limits work.jobs ran.entries.items ran.left.items) }
+    ensures err { IfErr result (Stops limits) }
+{
+    let blank = Blank::new(limits.processes as u64 + 1);
+    run_counted::<Brand, T, H>(rt, alloc, blank, limits, hash, work)
+}
+
+/// The same, with the blank of the ledger that counts the entries.
+fn run_counted<
+    L: Ledger + Send + Sync,
+    T: Threads + Wait + Sync,
+    H: KeyHash + Copy + Drop + Send + Sync,
+>(
+    rt: &T,
+    alloc: Global,
+    blank: Blank,
+    limits: Limits,
+    hash: H,
+    work: Work,
+) -> Result<Ran, ScriptFault>
+    requires name { blank.name ≡ L.name }
+    requires parts { blank.parts ≡ L.parts }
+    requires enough { blank.parts ≡ limits.processes + 1 }
+    ensures ok { IfOk result (λ ran. RunsJobs limits work.jobs ran.entries.items ran.left.items) }
+    ensures err { IfErr result (Stops limits) }
+{
+    let shared = Shared::<L, H>::new(alloc, blank, limits, hash);
+    let Ok((clients, left)) = run_shared(rt, alloc, &shared, work) else {
+        return Err(ScriptFault::Memory);
+    };
+    match close(shared, clients) {
+        Ok(transcript) => Ok(Ran {
+            entries: transcript.entries,
+            left,
+        }),
+        Err(CloseFault::Differs(pid)) => Err(ScriptFault::Differs(pid)),
+        Err(CloseFault::Missing(pid)) => Err(ScriptFault::Missing(pid)),
+        Err(CloseFault::Memory) => Err(ScriptFault::Memory),
+    }
+}
+
+/// Enrols the processes, lets them do their jobs, and gives their clients, with how many jobs of each were left.
+fn run_shared<
+    L: Ledger + Send + Sync,
+    T: Threads + Wait + Sync,
+    H: KeyHash + Copy + Drop + Send + Sync,
+>(
+    rt: &T,
+    alloc: Global,
+    shared: &Shared<L, H>,
+    work: Work,
+) -> Result<(Vec<Client<L>>, Vec<usize>), AllocError>
+    ensures { IfOk result (λ r. HaveRun 0 work.jobs r.0.items r.1.items) }
+{
+    let enrolled = enrol_all(rt, alloc, shared, work.jobs)?;
+    let workers = run_kept(rt, alloc, shared, enrolled, work.turns)?;
+    part(alloc, workers)
+}
+
+/// Enrols a process for each list of jobs, in order. Nothing is drawn where there is none.
+fn enrol_all<L: Ledger, T: Wait, H: KeyHash + Copy + Drop>(
+    rt: &T,
+    alloc: Global,
+    shared: &Shared<L, H>,
+    jobs: Items<Items<Job>>,
+) -> Result<Vec<(Client<L>, Vec<Job>)>, AllocError>
+    ensures { IfOk result (λ work. AreEnrolled 0 jobs work.items) }
+{
+    if jobs.is_empty() {
+        return Ok(Vec::new(alloc));
+    }
+    let Ok((pids, seats)) = Pids::open(alloc, jobs.len()) else {
+        return Err(AllocError);
+    };
+    enrol_each(rt, shared, &pids, seats, jobs)
+}
+
+/// Enrols a process for each list of jobs, by the numbers that the seats draw.
+fn enrol_each<L: Ledger, T: Wait, H: KeyHash + Copy + Drop>(
+    rt: &T,
+    shared: &Shared<L, H>,
+    pids: &Pids,
+    mut seats: Vec<Seat>,
+    jobs: Items<Items<Job>>,
+) -> Result<Vec<(Client<L>, Vec<Job>)>, AllocError>
+    requires { AreSeatsOf pids.now seats.items }
+    ensures { IfOk result (λ work. AreEnrolled 0 jobs work.items) }
+{
+    let mut work = Vec::with_capacity(*seats.allocator(), jobs.len())?;
+    let lists = jobs.into_vec();
+    for own in lists {
+        let client = enrol(rt, shared, draw(pids, &mut seats), work.len())?;
+        work.push((client, own.into_vec()))?;
+    }
+    Ok(work)
+}
+
+/// Draws the next number, if a seat is left. It waits for nobody.
+fn draw(pids: &Pids, seats: &mut Vec<Seat>) -> Option<Drawn>
+    requires { AreSeatsOf pids.now seats.old.items }
+    ensures { AreSeatsOf pids.now seats.new.items }
+{
+    match seats.pop() {
+        Some(seat) => Some(pids.draw(seat)),
+        None => None,
+    }
+}
+
+/// The client of the process with this number, which was drawn. The numbers come in order, and the node has room for each: that none
+/// was drawn, or another, or was refused, is told as want of memory, and never comes.
+fn enrol<L: Ledger, T: Wait, H: KeyHash + Copy + Drop>(
+    rt: &T,
+    shared: &Shared<L, H>,
+    drawn: Option<Drawn>,
+    number: usize,
+) -> Result<Client<L>, AllocError>
+    ensures { IfOk result (IsNew number) }
+{
+    match drawn {
+        Some(drawn) if drawn.pid() as usize == number => match shared.client(rt, drawn) {
+            Ok(client) => Ok(client),
+            Err(_) => Err(AllocError),
+        },
+        _ => Err(AllocError),
+    }
+}
+
+/// Lets the clients do their jobs, each in a thread of its own, while another does so many due steps at most.
+fn run_kept<
+    L: Ledger + Send + Sync,
+    T: Threads + Wait + Sync,
+    H: KeyHash + Copy + Drop + Send + Sync,
+>(
+    rt: &T,
+    alloc: Global,
+    shared: &Shared<L, H>,
+    work: Vec<(Client<L>, Vec<Job>)>,
+    turns: u32,
+) -> Result<Vec<Worked<L>>, AllocError>
+    ensures { IfOk result (λ workers. AllWorked work.items workers.items) }
+{
+    let (_kept, workers) = thread::join(
+        rt,
+        move || -> u32
+            requires { IsSync T.row }
+        { keep(rt, shared, turns) },
+        move || -> Result<Vec<Worked<L>>, AllocError>
+            requires { IsSync T.row }
+            ensures { IfOk result (λ workers. AllWorked work.items workers.items) }
+        { run_clients(rt, alloc, shared, work, &Quiet) },
+    );
+    workers
+}
+
+/// The clients apart from how many jobs of each were left.
+fn part<L: Ledger>(
+    alloc: Global,
+    workers: Vec<Worked<L>>,
+) -> Result<(Vec<Client<L>>, Vec<usize>), AllocError>
+    ensures { IfOk result (λ parts. (parts.0.items ≡ map (λ w. w.client) workers.items) × (parts.1.items ≡ map (λ w. w.left) workers.items)) }
+{
+    let mut clients = Vec::with_capacity(alloc, workers.len())?;
+    let mut left = Vec::with_capacity(alloc, workers.len())?;
+    for worked in workers {
+        clients.push(worked.client)?;
+        left.push(worked.left)?;
+    }
+    Ok((clients, left))
+}

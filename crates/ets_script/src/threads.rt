@@ -1,0 +1,70 @@
+//! A script whose processes run in threads of their own.
+ghost use Rattle.std.specs.Prelude.{◌≡◌, min, IfOk, IfErr, OnOk};
+ghost use Rattle.node_shared.specs.declared.pids.TheConstants.{MAX_PIDS};
+ghost use Rattle.ets_script.specs.Threads.{ThreadsEnd, ThreadsStop};
+ghost use Rattle.ets_script.specs.inside.Processes.{RunsInput, Stops};
+
+use crate::fault::ScriptFault;
+use crate::journal::print_out;
+use crate::output::Pending;
+use crate::plan::Known;
+use crate::planning::plan_input;
+use crate::processes::{Ran, run_work};
+use ets_term::KeyHash;
+use node_core::Limits;
+use node_shared::MAX_PIDS;
+use std::alloc::Global;
+use std::io::{Read, Write};
+use std::sync::Wait;
+use std::thread::Threads;
+
+/// Reads a script to its end, lets each of its processes do its lines in a thread of its own, on a node with these limits, and prints
+/// what came of it: the answers that were known before, the replies in the order of the journal, and the names of those that want of
+/// memory stopped. It may wait.
+pub fn run_threads<
+    T: Threads + Wait + Sync,
+    R: Read,
+    W: Write,
+    H: KeyHash + Copy + Drop + Send + Sync,
+>(
+    rt: &T,
+    alloc: Global,
+    reader: &mut R,
+    writer: &mut W,
+    limits: Limits,
+    hash: H,
+) -> Result<(), ScriptFault>
+    ensures ok { OnOk result (ThreadsEnd limits (R.remaining reader.old) (R.remaining reader.new) (W.contents writer.old) (W.contents writer.new)) }
+    ensures err { IfErr result (ThreadsStop limits (R.remaining reader.old) (R.remaining reader.new) (W.contents writer.old) (W.contents writer.new)) }
+{
+    let Ok(mut pending) = Pending::new(alloc) else {
+        return Err(ScriptFault::Memory);
+    };
+    let (known, ran) = run_input(rt, alloc, reader, limits, hash)?;
+    print_out(&known, &ran, &mut pending, writer)?;
+    Ok(())
+}
+
+/// Reads a script to its end, and does what it asks of its processes.
+fn run_input<T: Threads + Wait + Sync, R: Read, H: KeyHash + Copy + Drop + Send + Sync>(
+    rt: &T,
+    alloc: Global,
+    reader: &mut R,
+    limits: Limits,
+    hash: H,
+) -> Result<(Known, Ran), ScriptFault>
+    ensures ok { IfOk result (λ r. RunsInput limits (R.remaining reader.old) (R.remaining reader.new) r.0 r.1) }
+    ensures err { IfErr result (Stops limits) }
+{
+    let plan = plan_input(alloc, reader, most_names(limits))?;
+    let (known, work) = plan.into_parts();
+    let ran = run_work(rt, alloc, limits, hash, work)?;
+    Ok((known, ran))
+}
+
+/// The most names that are spawned.
+fn most_names(limits: Limits) -> u32
+    ensures { result ≡ min limits.processes MAX_PIDS }
+{
+    limits.processes.min(MAX_PIDS as u32)
+}
