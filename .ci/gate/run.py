@@ -41,8 +41,7 @@ def parts_of(words, copy, logs):
     program = f"{copy}/{PROGRAM}/out/ets_script_cli"
     door = Part("the front door", [f"{TOP}/.ci/door", program], after=[proofs])
     cuts = Part("the examples, cut at every byte", [f"{TOP}/.ci/cuts", program], after=[proofs])
-    tests = [f"{copy}/crates/{name}/out/{name}_tests" for name in ("table_tests", "node_tests")]
-    refusals = Part("memory refused", [f"{TOP}/.ci/refusals", program, *tests], after=[proofs], show=r"^refusals: ")
+    refusals = Part("memory refused", [f"{TOP}/.ci/refusals", program], after=[proofs], show=r"^refusals: ")
     return [*unproved(logs), itself, door, cuts, refusals], proofs, edits
 
 
