@@ -24,7 +24,7 @@ use Rattle.node_core.specs.rules.Walking.{key_reply}
 use Rattle.node_core.specs.laws.Kept.{is_fixed_in}
 use Rattle.node_core.specs.laws.Walk.{is_table, walk_step, Answers, Walks}
 use Rattle.node_core.specs.Woven.{is_step_of, replies_to, Given, AreTurns, fix, first, next, walk, can_read, fixes_in, Reason}
-use Rattle.node_core.specs.inside.Walker.{is_there, call_of, Finds, Walking, Leads, Stands, Halts, steps_of, OthersDid, StoppedAt}
+use Rattle.node_core.specs.inside.Walker.{is_there, call_of, Finds, Walking, Leads, Stands, Halts, steps_of, StoppedAt}
 use Rattle.node_core.proofs.OthersRuns.{fixed-in, Ran, others-ran}
 use Rattle.node_core.proofs.Runs.{run-push}
 use Rattle.node_core.proofs.Replying.{own-replied, none-replied, replied-append}
@@ -40,7 +40,7 @@ run-append a b c (x ∷ xs) ys (r ∷ rs) qs h k = (h.0, h.1, run-append h.0 b c
 run-append a b c [] ys (r ∷ rs) qs h k = absurd h
 run-append a b c (x ∷ xs) ys [] qs h k = absurd h
 
-append-none : {X : Type 0} (xs : List X) → xs ++ [] ≡ xs
+pub append-none : {X : Type 0} (xs : List X) → xs ++ [] ≡ xs
 append-none [] = refl
 append-none (x ∷ xs) = ap (λ ys. x ∷ ys) (append-none xs)
 
@@ -52,7 +52,7 @@ pub steps-paired : (n : ℕ) (steps : List Step) → steps_of (paired n steps) �
 steps-paired n [] = refl
 steps-paired n (s ∷ steps) = ap (λ xs. s ∷ xs) (steps-paired n steps)
 
-steps-cut : (n : ℕ) (given : Given) → steps_of (take n given) ++ steps_of (drop n given) ≡ steps_of given
+pub steps-cut : (n : ℕ) (given : Given) → steps_of (take n given) ++ steps_of (drop n given) ≡ steps_of given
 steps-cut zero given = refl
 steps-cut (suc n) [] = refl
 steps-cut (suc n) (g ∷ given) = ap (λ xs. g.1 ∷ xs) (steps-cut n given)
@@ -263,8 +263,9 @@ module _ (p t : ℕ) where
       stopped-reason fault.SystemLimit n limit s done replies mid left e h = absurd h
 
       -- one of the others' steps is not done
-      pub stopped : (why : WalkFault) (n limit : ℕ) (mid : State) → OthersDid p now (take n (paired (length keys) steps)) mid → StoppedAt p why (drop n (paired (length keys) steps)) → Halts p t old limit keys' given' why mid
-      stopped why n limit mid did at =
+      pub stopped : (why : WalkFault) (n limit : ℕ) (mid : State) (replies : List Reply) → run now (steps_of (take n (paired (length keys) steps))) replies mid
+          → AllByRecursion (λ s. is_step_of p s ≡ false) (steps_of (take n (paired (length keys) steps))) → StoppedAt p why (drop n (paired (length keys) steps)) → Halts p t old limit keys' given' why mid
+      stopped why n limit mid replies ran others at =
           let pairs = paired (length keys) steps in
           let xs = steps_of (take n pairs) in
           let left = steps_of (drop n pairs) in
@@ -273,8 +274,8 @@ module _ (p t : ℕ) where
           walk-more p t keys key given steps st.turns
           ∙ (ap (λ ys. walk p t keys given ++ (ys ++ next p t key ∷ [])) cut
           ∙ (ap (λ ys. walk p t keys given ++ ys) (append_assoc xs left (next p t key ∷ [])) ∙ sym (append_assoc (walk p t keys given) xs (left ++ next p t key ∷ [])))) in
-          halts-at keys given (Some key) now st why limit keys' given' xs (left ++ next p t key ∷ []) (next p t key ∷ []) did.replies mid order own-more did.ran did.others turns-more all-told
-          (stopped-reason why n limit (fix p t) (walk p t keys given ++ xs) (true_reply ∷ (R ++ did.replies)) mid (drop n pairs) refl at)
+          halts-at keys given (Some key) now st why limit keys' given' xs (left ++ next p t key ∷ []) (next p t key ∷ []) replies mid order own-more ran others turns-more all-told
+          (stopped-reason why n limit (fix p t) (walk p t keys given ++ xs) (true_reply ∷ (R ++ replies)) mid (drop n pairs) refl at)
 
       -- the key behind is not found
       pub not-found : (why : WalkFault) (limit : ℕ) (mid : State) (replies : List Reply) → run now steps replies mid → AllByRecursion (λ s. is_step_of p s ≡ false) steps → Finds p t (Some key) mid (Err why) → Halts p t old limit keys' given' why mid

@@ -13,12 +13,14 @@ use Rattle.node_core.specs.declared.walk.Walk.{Walk}
 use Rattle.node_core.specs.declared.walk.WalkFault.{WalkFault}
 use Rattle.node_core.specs.declared.walk.WalkFault.TheVariants as fault
 use Rattle.node_core.specs.State.{State}
+use Rattle.node_core.specs.Seen.{seen}
 use Rattle.node_core.specs.Machine.{step, run}
 use Rattle.node_core.specs.rules.Replies.{true_reply}
 use Rattle.node_core.specs.rules.Walking.{key_reply}
 use Rattle.node_core.specs.Woven.{is_step_of, Given, Adds, fix, release, woven, can_read, fixes_in, IsWalked, Stops, WalksAmong}
-use Rattle.node_core.specs.inside.Walker.{CanGoOn, Finds, Holds, LetsGo, Stands, Halts, EndsIn, OthersDid, OthersRun}
+use Rattle.node_core.specs.inside.Walker.{CanGoOn, Finds, Holds, LetsGo, Stands, Halts, EndsIn, steps_of, OthersDid, OthersRun}
 use Rattle.node_core.proofs.OthersRuns.{others-ran}
+use Rattle.node_core.proofs.Runs.{run-seen}
 use Rattle.node_core.proofs.Weaving.{number-same, paired, own-kept}
 use Rattle.node_core.proofs.Turns.{steps-paired, readable-there, begun, not-begun, halts-here, stopped, not-found, turned}
 
@@ -35,6 +37,9 @@ on-refused (Err error) e h = h
 drop-all : (xs ys : Given) → drop (length xs) (xs ++ ys) ≡ ys
 drop-all [] ys = refl
 drop-all (x ∷ xs) ys = drop-all xs ys
+
+pub last-given : (keys : List Term) (given : Given) (key : Term) (keys' : List Term) (given' : Given) (adds : Adds keys given key keys' given') → drop (length given) given' ≡ paired (length keys) adds.1.0
+last-given keys given key keys' given' adds = ap (λ gs. drop (length given) gs) adds.1.1 ∙ drop-all given (paired (length keys) adds.1.0)
 
 -- the slice from where those before end
 pub sliced : (before now given given' : Given) → before ≡ given → now ≡ given' → take (length now - length before) (drop (length before) now) ≡ drop (length given) given'
@@ -63,42 +68,42 @@ module _ (p t : ℕ) where
   halts-first old now why limit held finds = not-begun p t old now why limit held.0 held.1 finds
 
   -- ---- the turn of a key
-  module _ (old now : State) (keys : List Term) (given : Given) (key : Term) (st : Stands p t old keys given (Some key) now) where
-    pub halts-before : (keys' : List Term) (given' : Given) → keys' ≡ keys → given' ≡ given → (limit : ℕ) → Halts p t old limit keys' given' fault.Memory now
-    halts-before keys' given' e f limit = subst₂ (λ ks gs. Halts p t old limit ks gs fault.Memory now) (sym e) (sym f) (halts-here p t old keys given key now limit st)
+  module _ (old now : State) (keys : List Term) (given : Given) (key : Term) (st : Stands p t old keys given (Some key) (seen now)) where
+    pub halts-before : (keys' : List Term) (given' : Given) → keys' ≡ keys → given' ≡ given → (limit : ℕ) → Halts p t old limit keys' given' fault.Memory (seen now)
+    halts-before keys' given' e f limit = subst₂ (λ ks gs. Halts p t old limit ks gs fault.Memory (seen now)) (sym e) (sym f) (halts-here p t old keys given key (seen now) limit st)
 
     module _ (keys' : List Term) (given' : Given) (adds : Adds keys given key keys' given') (mid : State) where
-      last-given : drop (length given) given' ≡ paired (length keys) adds.1.0
-      last-given = ap (λ gs. drop (length given) gs) adds.1.1 ∙ drop-all given (paired (length keys) adds.1.0)
-
-      pub halts-among : (why : WalkFault) → OthersRun p now (drop (length given) given') (Err why) mid → (limit : ℕ) → Halts p t old limit keys' given' why mid
+      pub halts-among : (why : WalkFault) → OthersRun p now (drop (length given) given') (Err why) mid → (limit : ℕ) → Halts p t old limit keys' given' why (seen mid)
       halts-among why ran limit =
-          let own : OthersRun p now (paired (length keys) adds.1.0) (Err why) mid = subst (λ gs. OthersRun p now gs (Err why) mid) last-given ran in
-          subst₂ (λ ks gs. Halts p t old limit ks gs why mid) (sym adds.0) (sym adds.1.1) (stopped p t old keys given key now st adds.1.0 why own.0 limit mid own.1 own.2)
+          let pairs = paired (length keys) adds.1.0 in
+          let own : OthersRun p now pairs (Err why) mid = subst (λ gs. OthersRun p now gs (Err why) mid) (last-given keys given key keys' given' adds) ran in
+          let did = own.1 in
+          subst₂ (λ ks gs. Halts p t old limit ks gs why (seen mid)) (sym adds.0) (sym adds.1.1)
+          (stopped p t old keys given key (seen now) st adds.1.0 why own.0 limit (seen mid) did.replies (run-seen now mid (steps_of (take own.0 pairs)) did.replies did.ran) did.others own.2)
 
       module _ (ran : OthersRun p now (drop (length given) given') (Ok tt) mid) where
         did : OthersDid p now (paired (length keys) adds.1.0) mid
-        did = subst (λ gs. OthersDid p now gs mid) last-given ran
+        did = subst (λ gs. OthersDid p now gs mid) (last-given keys given key keys' given' adds) ran
 
-        did-run : run now adds.1.0 did.replies mid
-        did-run = subst (λ xs. run now xs did.replies mid) (steps-paired (length keys) adds.1.0) did.ran
+        did-run : run (seen now) adds.1.0 did.replies (seen mid)
+        did-run = subst (λ xs. run (seen now) xs did.replies (seen mid)) (steps-paired (length keys) adds.1.0) (run-seen now mid (steps_of (paired (length keys) adds.1.0)) did.replies did.ran)
 
         did-others : AllByRecursion (λ s. is_step_of p s ≡ false) adds.1.0
         did-others = subst (λ xs. AllByRecursion (λ s. is_step_of p s ≡ false) xs) (steps-paired (length keys) adds.1.0) did.others
 
         -- the walk can go on from the key
-        pub goes-further : CanGoOn t mid (Some key)
+        pub goes-further : CanGoOn t (seen mid) (Some key)
         goes-further =
-            let after = others-ran p t (fixes_in p t old) now adds.1.0 did.replies mid did-run did-others st.long st.fixes in
+            let after = others-ran p t (fixes_in p t old) (seen now) adds.1.0 did.replies (seen mid) did-run did-others st.long st.fixes in
             record { slot = after.place key st.goes_on.slot; shallow = st.goes_on.shallow; no_end = st.goes_on.no_end }
 
-        pub halts-after : (why : WalkFault) → Finds p t (Some key) mid (Err why) → (limit : ℕ) → Halts p t old limit keys' given' why mid
+        pub halts-after : (why : WalkFault) → Finds p t (Some key) (seen mid) (Err why) → (limit : ℕ) → Halts p t old limit keys' given' why (seen mid)
         halts-after why finds limit =
-            subst₂ (λ ks gs. Halts p t old limit ks gs why mid) (sym adds.0) (sym adds.1.1) (not-found p t old keys given key now st adds.1.0 why limit mid did.replies did-run did-others finds)
+            subst₂ (λ ks gs. Halts p t old limit ks gs why (seen mid)) (sym adds.0) (sym adds.1.1) (not-found p t old keys given key (seen now) st adds.1.0 why limit (seen mid) did.replies did-run did-others finds)
 
-        pub stands-next : (found : Option Term) → Finds p t (Some key) mid (Ok found) → Stands p t old keys' given' found mid
+        pub stands-next : (found : Option Term) → Finds p t (Some key) (seen mid) (Ok found) → Stands p t old keys' given' found (seen mid)
         stands-next found finds =
-            subst₂ (λ ks gs. Stands p t old ks gs found mid) (sym adds.0) (sym adds.1.1) (turned p t old keys given key now st adds.1.0 did.replies mid did-run did-others found finds)
+            subst₂ (λ ks gs. Stands p t old ks gs found (seen mid)) (sym adds.0) (sym adds.1.1) (turned p t old keys given key (seen now) st adds.1.0 did.replies (seen mid) did-run did-others found finds)
 
   -- ---- the walk ends
   module _ (old now : State) (limit : ℕ) (keys : List Term) (given : Given) (new : State) where

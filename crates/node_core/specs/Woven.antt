@@ -1,9 +1,10 @@
 -- A walk among the steps of others (stdlib manual, module ets, safe_fixtable/2, first/1 and next/2): its steps in their order, and
 -- where it leaves the machine.
-use Rattle.std.specs.Prelude.{◌≡◌, ◌≤◌, ◌<◌, ℕ, suc, ◌==◌, ◌&&◌, Bool, true, false, if◌then◌else◌, List, [], ◌∷◌, ◌++◌, map, filter, length, None, Result, Ok, Err, MatchOption, codes}
+use Rattle.std.specs.Prelude.{◌≡◌, ◌≤◌, ◌<◌, ◌⊎◌, ℕ, suc, ◌==◌, ◌&&◌, Bool, true, false, if◌then◌else◌, List, [], ◌∷◌, ◌++◌, map, filter, length, None, Result, Ok, Err, MatchOption, codes}
 use Rattle.std.specs.Bool.{MatchBool}
 use Rattle.std.specs.List.{AllByRecursion, Contains}
 use Rattle.std.specs.Option.{option_map_or}
+use Rattle.std.specs.Result.{is_ok}
 use Rattle.ets_term.specs.declared.term.Term.{Term}
 use Rattle.ets_term.specs.declared.term.Term.TheVariants.{Atom, Tid}
 use Rattle.ets_term.specs.Atoms.{is_atom}
@@ -19,6 +20,7 @@ use Rattle.node_core.specs.declared.walk.WalkFault.{WalkFault}
 use Rattle.node_core.specs.declared.walk.WalkFault.TheVariants as fault
 use Rattle.node_core.specs.State.{State}
 use Rattle.node_core.specs.Machine.{step, run}
+use Rattle.node_core.specs.Buckets.{run_on_buckets}
 use Rattle.node_core.specs.rules.Replies.{true_reply}
 use Rattle.node_core.specs.laws.Kept.{is_fixed_in}
 use Rattle.node_core.specs.laws.Walk.{states, Walks}
@@ -147,3 +149,18 @@ abbrev pub WalksAmong : State → ℕ → Term → ℕ → List Term → Given �
 WalksAmong old p term limit keys given (Ok walk) new = (walk.keys ≡ keys) × MatchOption (resolve old.world.tables term) ⊥ (λ t. IsWalked p t old limit keys given new)
 WalksAmong old p term limit keys given (Err why) new =
     MatchOption (resolve old.world.tables term) ((why ≡ fault.Lost) × (new ≡ old) × (keys ≡ []) × (given ≡ [])) (λ t. Stops p t old limit keys given why new)
+
+-- What a walk does to the buckets, which no call sees: of the steps woven the first are done, all where the walk came to its end, and
+-- then the release or nothing, and no step besides.
+pub record RunsWoven (p t : ℕ) (old : State) (keys : List Term) (given : Given) (whole : Bool) (new : State) : Type 0 where
+  pub done : List Step
+  pub left : List Step
+  pub after : List Step
+  pub replies : List Reply
+  pub order : woven p t keys given ≡ done ++ left
+  pub all : whole ≡ true → left ≡ []
+  pub last : (after ≡ []) ⊎ (after ≡ release p t ∷ [])
+  pub ran : run_on_buckets old (done ++ after) replies new
+
+abbrev pub WalksOnBuckets : State → ℕ → Term → List Term → Given → Result Walk WalkFault → State → Type 0
+WalksOnBuckets old p term keys given result new = MatchOption (resolve old.world.tables term) (new ≡ old) (λ t. RunsWoven p t old keys given (is_ok result) new)

@@ -15,7 +15,10 @@ use Rattle.node_core.specs.declared.walk.Walk.{Walk}
 use Rattle.node_core.specs.declared.walk.WalkFault.{WalkFault}
 use Rattle.node_core.specs.declared.walk.WalkFault.TheVariants as fault
 use Rattle.node_core.specs.State.{State}
+use Rattle.node_core.specs.Seen.{seen}
 use Rattle.node_core.specs.Machine.{step, run}
+use Rattle.node_core.specs.Buckets.{run_on_buckets}
+use Rattle.node_core.specs.rules.Growth.{step_on_buckets}
 use Rattle.node_core.specs.rules.Replies.{true_reply}
 use Rattle.node_core.specs.rules.Walking.{key_reply}
 use Rattle.node_core.specs.laws.Kept.{slots_in, is_fixed_in}
@@ -112,6 +115,32 @@ module _ (p t : ℕ) where
   EndsIn old limit keys given (Ok walk) now = (walk.keys ≡ keys) × (length keys ≤ limit) × Stands old keys given None now
   EndsIn old limit keys given (Err why) now = Halts old limit keys given why now
 
+-- ---- what they do to the buckets
+module _ (p t : ℕ) where
+  -- the fix is done
+  abbrev pub IsHeld : State → State → Type 0
+  IsHeld old new = step (seen old) (fix p t) true_reply (seen new) × step_on_buckets old (fix p t) true_reply new
+
+  abbrev pub HoldsOn : State → Result (Unit {0}) WalkFault → State → Type 0
+  HoldsOn old (Ok done) new = step_on_buckets old (fix p t) true_reply new
+  HoldsOn old (Err why) new = new ≡ old
+
+  abbrev pub LetsGoOn : State → Bool → State → Type 0
+  LetsGoOn old true new = step_on_buckets old (release p t) true_reply new
+  LetsGoOn old false new = new ≡ old
+
+  -- the fix is done, and of the steps of the walk these
+  pub record Weaves (old : State) (keys : List Term) (given : Given) (left : List Step) (now : State) : Type 0 where
+    pub done : List Step
+    pub replies : List Reply
+    pub order : walk p t keys given ≡ done ++ left
+    pub ran : run_on_buckets old (fix p t ∷ done) replies now
+
+  -- all of them, unless the walk halts
+  abbrev pub WeavesOn : {X : Type 0} → State → List Term → Given → Result X WalkFault → State → Type 0
+  WeavesOn old keys given (Ok x) now = Weaves old keys given [] now
+  WeavesOn old keys given (Err why) now = (left : List Step) × Weaves old keys given left now
+
 -- the steps handed in are done in order, none of them of this process: all, or those before one that is its own or that memory was
 -- refused for
 abbrev pub steps_of : Given → List Step
@@ -119,7 +148,7 @@ steps_of given = map (λ g. g.1) given
 
 pub record OthersDid (p : ℕ) (old : State) (given : Given) (new : State) : Type 0 where
   pub replies : List Reply
-  pub ran : run old (steps_of given) replies new
+  pub ran : run_on_buckets old (steps_of given) replies new
   pub others : AllByRecursion (λ s. is_step_of p s ≡ false) (steps_of given)
 
 abbrev pub StoppedAt : ℕ → WalkFault → Given → Type 0

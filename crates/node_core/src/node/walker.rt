@@ -6,7 +6,7 @@ ghost use Rattle.table_ops.specs.Content.{IsContent};
 ghost use Rattle.ownership.specs.World as model;
 ghost use Rattle.node_core.specs.Seen.{seen};
 ghost use Rattle.node_core.specs.Woven.{can_read};
-ghost use Rattle.node_core.specs.inside.Walker.{CanGoOn, Finds, Holds, LetsGo};
+ghost use Rattle.node_core.specs.inside.Walker.{CanGoOn, Finds, Holds, HoldsOn, LetsGo, LetsGoOn};
 
 use super::Node;
 use crate::walk::WalkFault;
@@ -28,7 +28,8 @@ impl<H: KeyHash + Copy + Drop> Node<H> {
 
     /// One fix more of the table.
     pub fn hold(&mut self, pid: u32, id: u32) -> Result<(), WalkFault>
-        ensures { Holds pid id (seen self.old) result (seen self.new) }
+        ensures holds { Holds pid id (seen self.old) result (seen self.new) }
+        ensures buckets { HoldsOn pid id self.old result self.new }
     {
         if !self.can_read(pid, id) {
             return Err(WalkFault::Lost);
@@ -45,7 +46,8 @@ impl<H: KeyHash + Copy + Drop> Node<H> {
 
     /// One fix less, where the process may read the table; whether it may. It takes no memory.
     pub fn let_go(&mut self, pid: u32, id: u32) -> bool
-        ensures { LetsGo pid id (seen self.old) result (seen self.new) }
+        ensures lets_go { LetsGo pid id (seen self.old) result (seen self.new) }
+        ensures buckets { LetsGoOn pid id self.old result self.new }
     {
         if !self.can_read(pid, id) {
             return false;
