@@ -24,6 +24,15 @@ fn last_reply(node: &mut Node<Fnv>, steps: &[Step]) -> Option<Reply> {
     replies.pop()
 }
 
+/// The last reply of a run that passes over no step.
+fn last_answer(node: &mut Node<Fnv>, steps: &[Step]) -> Option<Reply> {
+    let mut answers = node.run_through(steps).ok()?;
+    if answers.iter().any(|answer| answer.is_none()) {
+        return None;
+    }
+    answers.pop()?
+}
+
 /// Whether the last reply of a run of so long a life is what was stored last.
 fn runs(alloc: Global, count: u32, last: &str) -> Result<bool, AllocError> {
     let steps = life(alloc, count)?;
@@ -34,7 +43,22 @@ fn runs(alloc: Global, count: u32, last: &str) -> Result<bool, AllocError> {
     }
 }
 
+/// The same of a run that goes past want of memory.
+fn runs_through(alloc: Global, count: u32, last: &str) -> Result<bool, AllocError> {
+    let steps = life(alloc, count)?;
+    let mut node = Node::new(alloc, Limits::usual(), Fnv);
+    match last_answer(&mut node, steps.as_slice()) {
+        Some(reply) => is(alloc, &reply, last),
+        None => Ok(false),
+    }
+}
+
 #[test]
 fn a_run_is_long(rt: HostRuntime) {
     assert!(rt; runs(rt.alloc(), COUNT, "[{a,2099}]") == Ok(true));
+}
+
+#[test]
+fn a_run_past_want_of_memory_is_long(rt: HostRuntime) {
+    assert!(rt; runs_through(rt.alloc(), COUNT, "[{a,2099}]") == Ok(true));
 }
