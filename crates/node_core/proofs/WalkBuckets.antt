@@ -1,11 +1,8 @@
 -- What a walk among others' steps does to the buckets, turn by turn: what the steps woven do, and nothing besides.
-use Rattle.std.proofs.Common.{◌≡◌, ℕ, inl, inr, Bool, true, false, true≢false, List, [], ◌∷◌, ◌++◌, Option, Some, None, Result, Ok, Err, refl, sym, subst, subst₂, ap, ap₂, ◌∙◌, length, take, drop, append_assoc}
-use Rattle.std.specs.Result.{is_ok}
+use Rattle.std.proofs.Common.{◌≡◌, ℕ, inl, inr, Bool, true, false, List, [], ◌∷◌, ◌++◌, Option, Some, None, Ok, refl, sym, subst, subst₂, ap, ap₂, ◌∙◌, length, take, drop, append_assoc}
 use Rattle.ets_term.specs.declared.term.Term.{Term}
 use Rattle.node_core.specs.declared.step.Reply.{Reply}
 use Rattle.node_core.specs.declared.step.Step.{Step}
-use Rattle.node_core.specs.declared.walk.Walk.{Walk}
-use Rattle.node_core.specs.declared.walk.WalkFault.{WalkFault}
 use Rattle.node_core.specs.State.{State}
 use Rattle.node_core.specs.Seen.{seen, KeepsBuckets}
 use Rattle.node_core.specs.Buckets.{run_on_buckets}
@@ -13,7 +10,7 @@ use Rattle.node_core.specs.rules.Growth.{HasFreshBuckets}
 use Rattle.node_core.specs.rules.Replies.{true_reply}
 use Rattle.node_core.specs.rules.Walking.{key_reply}
 use Rattle.node_core.specs.Woven.{Given, AreTurns, Adds, fix, release, first, next, walk, woven, RunsWoven}
-use Rattle.node_core.specs.inside.Walker.{Finds, LetsGo, IsHeld, LetsGoOn, Weaves, WeavesOn, steps_of, OthersDid, OthersRun}
+use Rattle.node_core.specs.inside.Walker.{Finds, LetsGo, IsHeld, LetsGoOn, Weaves, steps_of, OthersDid, OthersRun}
 use Rattle.node_core.proofs.Following.{follows-same}
 use Rattle.node_core.proofs.Runs.{run-on-buckets-push, run-on-buckets-append}
 use Rattle.node_core.proofs.Seen.{buckets-follow}
@@ -62,14 +59,12 @@ module _ (p t : ℕ) (old : State) where
       }
 
       -- one of the others' steps is not done
-      pub weaves-among : (why : WalkFault) → OthersRun p now (drop (length given) given') (Err why) mid → (left : List Step) × Weaves p t old keys' given' left mid
-      weaves-among why ran =
-          let own : OthersRun p now pairs (Err why) mid = subst (λ gs. OthersRun p now gs (Err why) mid) (last-given keys given key keys' given' adds) ran in
-          let did = own.1 in
-          let xs = steps_of (take own.0 pairs) in
-          let left = steps_of (drop own.0 pairs) in
-          let cut : steps ≡ xs ++ left = sym (steps-paired (length keys) steps) ∙ sym (steps-cut own.0 pairs) in
-          (left ++ next p t key ∷ [], weaves-more xs (left ++ next p t key ∷ []) did.replies (ap (λ ys. ys ++ next p t key ∷ []) cut ∙ append_assoc xs left (next p t key ∷ [])) did.ran)
+      pub weaves-among : (n : ℕ) → OthersDid p now (take n pairs) mid → Weaves p t old keys' given' (steps_of (drop n pairs) ++ next p t key ∷ []) mid
+      weaves-among n did =
+          let xs = steps_of (take n pairs) in
+          let left = steps_of (drop n pairs) in
+          let cut : steps ≡ xs ++ left = sym (steps-paired (length keys) steps) ∙ sym (steps-cut n pairs) in
+          weaves-more xs (left ++ next p t key ∷ []) did.replies (ap (λ ys. ys ++ next p t key ∷ []) cut ∙ append_assoc xs left (next p t key ∷ [])) did.ran
 
       module _ (ran : OthersRun p now (drop (length given) given') (Ok tt) mid) where
         did : OthersDid p now pairs mid
@@ -88,42 +83,25 @@ module _ (p t : ℕ) (old : State) where
             (run-on-buckets-push now mid mid steps did.replies (next p t key) (key_reply found) did-run finds.1 (reads mid))
 
   -- ---- the walk ends
-  module _ (keys : List Term) (given : Given) (now new : State) where
-    goes : (left : List Step) (whole b : Bool) → (whole ≡ true → left ≡ []) → Weaves p t old keys given left now → LetsGo p t (seen now) b (seen new) → LetsGoOn p t now b new → RunsWoven p t old keys given whole new
-    goes left whole true all w go on = record {
+  module _ (keys : List Term) (given : Given) (left : List Step) (now new : State) (w : Weaves p t old keys given left now) where
+    pub runs-woven : (b : Bool) → LetsGo p t (seen now) b (seen new) → LetsGoOn p t now b new → RunsWoven p t old keys given left new
+    runs-woven true go on = record {
       done = fix p t ∷ w.done;
-      left = left;
       after = release p t ∷ [];
       replies = w.replies ++ true_reply ∷ [];
       order = ap (λ xs. fix p t ∷ xs) w.order;
-      all = all;
       last = inr refl;
       ran = run-on-buckets-push old now new (fix p t ∷ w.done) w.replies (release p t) true_reply w.ran go.1 on;
     }
-    goes left whole false all w go on = record {
+    runs-woven false go on = record {
       done = fix p t ∷ w.done;
-      left = left;
       after = [];
       replies = w.replies;
       order = ap (λ xs. fix p t ∷ xs) w.order;
-      all = all;
       last = inl refl;
       ran = subst₂ (λ (xs : List Step) (s : State). run_on_buckets old xs w.replies s) (sym (append-none (fix p t ∷ w.done))) (sym on) w.ran;
     }
 
-    pub runs-woven : (result : Result Walk WalkFault) (b : Bool) → WeavesOn p t old keys given result now → LetsGo p t (seen now) b (seen new) → LetsGoOn p t now b new → RunsWoven p t old keys given (is_ok result) new
-    runs-woven (Ok walk) b w go on = goes [] true b (λ e. refl) w go on
-    runs-woven (Err why) b w go on = goes w.0 false b (λ e. absurd (true≢false (sym e))) w.1 go on
-
   -- the table is not fixed
-  pub runs-none : (keys : List Term) (given : Given) (new : State) → new ≡ old → RunsWoven p t old keys given false new
-  runs-none keys given new same = record {
-    done = [];
-    left = woven p t keys given;
-    after = [];
-    replies = [];
-    order = refl;
-    all = λ e. absurd (true≢false (sym e));
-    last = inl refl;
-    ran = same;
-  }
+  pub runs-none : (new : State) → new ≡ old → RunsWoven p t old [] [] (woven p t [] []) new
+  runs-none new same = record { done = []; after = []; replies = []; order = refl; last = inl refl; ran = same }

@@ -4,8 +4,8 @@ ghost use Rattle.ets_term.specs.declared.term.Term as term;
 ghost use Rattle.node_core.specs.declared.step.Step as event;
 ghost use Rattle.node_core.specs.Seen.{seen};
 ghost use Rattle.node_core.specs.State.{State};
-ghost use Rattle.node_core.specs.Woven.{Adds, WalksAmong, WalksOnBuckets};
-ghost use Rattle.node_core.specs.inside.Walker.{Stands, TurnsTo, EndsIn, Holds, IsHeld, Weaves, WeavesOn, OthersRun};
+ghost use Rattle.node_core.specs.Woven.{Adds, WalksAmong};
+ghost use Rattle.node_core.specs.inside.Walker.{Stands, TurnsTo, EndsIn, Holds, OthersRun};
 
 use crate::node::Node;
 use crate::step::Step;
@@ -78,8 +78,7 @@ pub fn walk_among<H: KeyHash + Copy + Drop, O: Others>(
 ) -> Result<Walk, WalkFault>
     requires keys { O.keys others.old ≡ [] }
     requires steps { O.steps others.old ≡ [] }
-    ensures walk { WalksAmong (seen node.old) pid table.now limit (O.keys others.new) (O.steps others.new) result (seen node.new) }
-    ensures buckets { WalksOnBuckets node.old pid table.now (O.keys others.new) (O.steps others.new) result node.new }
+    ensures { WalksAmong node.old pid table.now limit (O.keys others.new) (O.steps others.new) result node.new }
 {
     let Some(id) = node.resolve(table) else {
         return Err(WalkFault::Lost);
@@ -101,8 +100,7 @@ fn walk_held<H: KeyHash + Copy + Drop, O: Others>(
     requires keys { O.keys others.old ≡ [] }
     requires steps { O.steps others.old ≡ [] }
     requires held { (old : State) × Holds pid id old (Ok tt) (seen node.old) }
-    ensures walk { (old : State) → Holds pid id old (Ok tt) (seen node.old) → EndsIn pid id old limit (O.keys others.new) (O.steps others.new) result (seen node.new) }
-    ensures buckets { (old : State) → IsHeld pid id old node.old → WeavesOn pid id old (O.keys others.new) (O.steps others.new) result node.new }
+    ensures { EndsIn pid id limit node.old (O.keys others.new) (O.steps others.new) result node.new }
 {
     let mut keys = Vec::new(node.allocator());
     let mut found = node.key_behind(pid, id, None)?;
@@ -131,8 +129,7 @@ fn turn<H: KeyHash + Copy + Drop, O: Others>(
     requires stands { (old : State) × Stands pid id old (O.keys others.old) (O.steps others.old) (Some key) (seen node.old) }
     ensures keys { OnOk result (keys.new.items ≡ O.keys others.new) }
     ensures count { OnOk result (vec_len keys.new ≡ vec_len keys.old + 1) }
-    ensures turn { (old : State) → Stands pid id old (O.keys others.old) (O.steps others.old) (Some key) (seen node.old) → TurnsTo pid id old (O.keys others.new) (O.steps others.new) result (seen node.new) }
-    ensures buckets { (old : State) → Weaves pid id old (O.keys others.old) (O.steps others.old) [] node.old → WeavesOn pid id old (O.keys others.new) (O.steps others.new) result node.new }
+    ensures turn { TurnsTo pid id (O.keys others.old) (O.steps others.old) key node.old (O.keys others.new) (O.steps others.new) result node.new }
 {
     if keys.reserve(1).is_err() {
         return Err(WalkFault::Memory);
