@@ -1,4 +1,4 @@
-use Rattle.std.proofs.Common.{rules, arith, Err, [], ◌∙◌, sym, subst, subst₂}
+use Rattle.std.proofs.Common.{rules, arith, ◌≤◌, Err, [], ◌∙◌, sym, subst, subst₂, length}
 use Rattle.std.proofs.lemmas.Result.{err_from_is_err_and}
 use Rattle.node_core.specs.Seen.{seen}
 use Rattle.node_core.specs.inside.Walker.{Stands, Weaves, EndsIn}
@@ -55,6 +55,32 @@ loop-at-preserved g c =
       weaves = λ old held. subst (λ ks. Weaves c.args.pid c.args.id old ks given' [] c.turn.new.node) (sym next.ensures.keys)
           (turned.1 old (subst (λ ks. Weaves c.args.pid c.args.id old ks given [] at.node) (sym at.invariant.told) (at.invariant.weaves old held)));
     }
+
+pub returns-in_default : goal.returns-in_default
+returns-in_default g c =
+    let at = c.loop-at in
+    let given = g.O.Others.steps at.others in
+    let few : length (g.O.Others.keys at.others) ≤ c.args.limit = search rules in (
+      λ old held. (
+        c.over.ensures ∙ sym at.invariant.told,
+        few,
+        subst₂ (λ ks found. Stands c.args.pid c.args.id old ks given found (seen at.node)) (sym at.invariant.told) c.in_default.is (at.invariant.stands old held),
+      ),
+      λ old held. subst (λ ks. Weaves c.args.pid c.args.id old ks given [] at.node) (sym at.invariant.told) (at.invariant.weaves old held),
+    )
+
+pub returns-in-None : goal.returns-in-None
+returns-in-None g c =
+    let at = c.loop-at in
+    let given = g.O.Others.steps at.others in
+    let few : length (g.O.Others.keys at.others) ≤ c.args.limit = search rules in (
+      λ old held. (
+        c.over-in-None.ensures ∙ sym at.invariant.told,
+        few,
+        subst₂ (λ ks found. Stands c.args.pid c.args.id old ks given found (seen at.node)) (sym at.invariant.told) c.in-None.is (at.invariant.stands old held),
+      ),
+      λ old held. subst (λ ks. Weaves c.args.pid c.args.id old ks given [] at.node) (sym at.invariant.told) (at.invariant.weaves old held),
+    )
 
 pub returns-in-Some-found : goal.returns-in-Some-found
 returns-in-Some-found g c =
