@@ -15,22 +15,30 @@
 #![tactic(auto)]
 
 mod book;
+mod caller;
 mod client;
 mod entry;
 mod gate;
+mod history;
 mod job;
 mod pids;
+mod served;
+mod server;
 mod share;
 mod shared;
 mod transcript;
 mod workers;
 
 pub use book::{Book, BookFault};
+pub use caller::Caller;
 pub use client::Client;
 pub use entry::Entry;
 pub use gate::Gate;
+pub use history::{Author, Keeper, Opening, Room, Word};
 pub use job::{Job, Worked};
 pub use pids::{Drawn, MAX_PIDS, Pids, PidsFault, Seat};
+pub use served::Served;
+pub use server::Server;
 pub use share::Share;
 pub use shared::{JoinFault, Shared, keep};
 pub use transcript::{CloseFault, Transcript, close};
