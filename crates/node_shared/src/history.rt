@@ -148,17 +148,14 @@ impl<B: Room> Keeper<B> {
         ensures reply { result ≡ reply }
     {
         let added = Entry { step, reply };
-        let spare = self.author(word);
-        let Author { seat, room: _ } = mem::replace(author, spare);
-        word.shared.join_seat::<Own>(&mut self.seat, seat);
+        let spare = word.shared.split_seat::<Own>(&mut self.seat);
+        let own = mem::replace(&mut author.seat, spare);
+        word.shared.join_seat::<Own>(&mut self.seat, own);
         let _zero = word
             .shared
             .compare_exchange_with::<Adds>(&mut self.seat, 0, 0, 0, &added);
-        let seat = word.shared.split_seat::<Own>(&mut self.seat);
-        *author = Author {
-            seat,
-            room: PhantomData,
-        };
+        let given = word.shared.split_seat::<Own>(&mut self.seat);
+        author.seat = given;
         let Entry { step: _, reply } = added;
         reply
     }

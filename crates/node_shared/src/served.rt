@@ -97,12 +97,12 @@ impl<B: Room, H: KeyHash + Copy + Drop> Served<B, H> {
         ensures tended { IfOk result (Tended self.old self.new) }
         ensures err { OnErr result (self.new ≡ self.old) }
     {
-        let Some(event) = self.node.due() else {
+        let Some(due) = self.node.due() else {
             return Ok(false);
         };
-        let reply = self.node.step(&event)?;
+        let reply = self.node.step(&due)?;
         let mut nobody = self.keeper.author(word);
-        let _reply = self.keeper.enter(word, &mut nobody, event, reply);
+        let _reply = self.keeper.enter(word, &mut nobody, due, reply);
         Ok(true)
     }
 }
