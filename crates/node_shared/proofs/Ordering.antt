@@ -26,7 +26,7 @@ within-on (x ∷ xs) (y ∷ ys) e h = ⊎_elim (λ (t : (x ≡ y) × Within xs y
 abbrev Knows : ℕ → List Entry → ℕ → Known → Type 0
 Knows seat all i v = (v.keeps ≡ true → (i ≡ seat) × (v.all ≡ all)) × Within v.own all
 
-abbrev Holds : State Entry Known → Type 0
+abbrev pub Holds : State Entry Known → Type 0
 Holds s = IsOrdered s.views
 
 pub begins : IsOrdered (opening ∷ [])
@@ -37,7 +37,7 @@ begins = (0, [], first)
     first (suc i) v at = absurd (some-ne-none v (sym at))
 
 no-keeper : (i seat : ℕ) (all : List Entry) → false ≡ true → (i ≡ seat) × ([] ≡ all)
-no-keeper i seat all no = absurd (cc no)
+no-keeper i seat all lies = absurd (cc lies)
 
 -- the views after a change of one
 set_knows : (seat : ℕ) (all : List Entry) (views : List Known) (id : ℕ) (w : Known)
@@ -69,8 +69,8 @@ joins id other v w s h at ne theirs =
     let mine = k id v at in
     let both = set s.views id (joined v w) in
     let stood : get_elem? s.views other ≡ some w = ⊎_elim (λ (t : (other ≡ id) × (joined v w ≡ w)). absurd (ne t.0)) (λ (t : (other ≢ id) × (get_elem? s.views other ≡ some w)). t.1) (at_set s.views id other (joined v w) w theirs) in
-    let before = set_knows h.0 h.1 s.views id (joined v w) (mine.0, (k other w stood).1) (λ j u no a. k j u a) in
-    (h.0, h.1, set_knows h.0 h.1 both other spent (no-keeper other h.0 h.1, tt) (λ j u no a. before j u a))
+    let before = set_knows h.0 h.1 s.views id (joined v w) (mine.0, (k other w stood).1) (λ j u apart a. k j u a) in
+    (h.0, h.1, set_knows h.0 h.1 both other spent (no-keeper other h.0 h.1, tt) (λ j u apart a. before j u a))
 
 pub adds : (slots id : ℕ) (all own : List Entry) (e : Entry) → Allows Holds slots id (keeper all own, []) 0 (λ n. either (n == 0) 0 n) (Added (step slots 0 0 0 (some e)) (keeper all own, []))
 adds slots id all own e s h homes at fits =
