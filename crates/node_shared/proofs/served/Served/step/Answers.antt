@@ -9,4 +9,4 @@ invariant_of-self-2 g c =
 pub returns-clause-order : goal.returns-clause-order
 returns-clause-order g c =
     let did = c.in_ok-reply.ensures in
-    rw c.enter.ensures.reply (continues g.B.Room.limits c.self.inside.node c.step.new.self c.self.inside.keeper c.args.author.old c.args.event c.in_ok-reply.reply c.enter.ensures.order c.self.invariant (did.ok, did.buckets))
+    rw c.enter.ensures.reply (continues g.B.Room.limits c.self.inside.node c.step.new.self c.self.inside.keeper c.args.author.now c.args.event c.in_ok-reply.reply c.enter.ensures.order c.self.invariant (did.ok, did.buckets))
