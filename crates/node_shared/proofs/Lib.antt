@@ -4,3 +4,4 @@ pub mod Parts
 pub mod Jobs
 pub mod Ordering
 pub mod Sent
+pub mod SentServers

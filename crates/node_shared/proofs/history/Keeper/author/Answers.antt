@@ -1,4 +1,4 @@
-use Rattle.std.proofs.Common.{◌<◌, sym, ◌∙◌, arith}
+use Rattle.std.proofs.Common.{sym, ◌∙◌, arith}
 use Rattle.node_shared.proofs.Ordering.{splits}
 use Rattle.node_shared.proofs.history.Keeper.author.Goals as goal
 

@@ -1,4 +1,4 @@
-use Rattle.std.proofs.Common.{◌≡◌, true, false, [], rules, ◌∙◌}
+use Rattle.std.proofs.Common.{◌≡◌, false, [], rules, ◌∙◌}
 use Rattle.node_core.specs.declared.step.Step.TheVariants.{Enrol}
 use Rattle.node_core.specs.rules.Replies.{is_value}
 use Rattle.node_core.proofs.Enrolling.{not-enrolled}
