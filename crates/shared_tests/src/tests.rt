@@ -8,7 +8,6 @@ use term_text::read_term;
 
 mod entering;
 mod joining;
-mod serving;
 
 /// The call of this name, with the terms of this list.
 fn call(alloc: Global, name: &str, arguments: &str) -> Result<Call, Fail> {
