@@ -131,7 +131,7 @@ module _ (old new : State) (q t : ℕ) (r : Reply) (table : Table) (at : table_a
       subst (λ (a : Option Term × Bool). Replies a.1 a.0 table.fixed.content.slots r) is replies
 
   first-replies : (name : List ℕ) (term : Term) (asked : Option Term × Bool) (here own lookup : Bool) → is_table old t term ≡ here → bytes_eq name (codes "first") ≡ own → bytes_eq name (codes "first_lookup") ≡ lookup
-      → cond here (option_map (λ (objects : Bool). (None, objects)) (cond own (Some false) (cond lookup (Some true) None))) None ≡ Some asked → call old q name (term ∷ []) r new → Replies asked.1 asked.0 table.fixed.content.slots r
+      → cond here (option_map {U = Option Term × Bool} (λ objects. (None, objects)) (cond own (Some false) (cond lookup (Some true) None))) None ≡ Some asked → call old q name (term ∷ []) r new → Replies asked.1 asked.0 table.fixed.content.slots r
   first-replies name term asked false own lookup is a b e h = cc
   first-replies name term asked true true lookup is a b e h =
       asked-is asked None false e (reading-replies term First false None refl is (subst (λ (n : List ℕ). call old q n (term ∷ []) r new) (same-name name (codes "first") a) h))
@@ -140,7 +140,7 @@ module _ (old new : State) (q t : ℕ) (r : Reply) (table : Table) (at : table_a
   first-replies name term asked true false false is a b e h = cc
 
   next-replies : (name : List ℕ) (term key : Term) (asked : Option Term × Bool) (here own lookup : Bool) → is_table old t term ≡ here → bytes_eq name (codes "next") ≡ own → bytes_eq name (codes "next_lookup") ≡ lookup
-      → cond here (option_map (λ (objects : Bool). (Some key, objects)) (cond own (Some false) (cond lookup (Some true) None))) None ≡ Some asked → call old q name (term ∷ key ∷ []) r new → Replies asked.1 asked.0 table.fixed.content.slots r
+      → cond here (option_map {U = Option Term × Bool} (λ objects. (Some key, objects)) (cond own (Some false) (cond lookup (Some true) None))) None ≡ Some asked → call old q name (term ∷ key ∷ []) r new → Replies asked.1 asked.0 table.fixed.content.slots r
   next-replies name term key asked false own lookup is a b e h = cc
   next-replies name term key asked true true lookup is a b e h =
       asked-is asked (Some key) false e (reading-replies term (Next key) false (Some key) refl is (subst (λ (n : List ℕ). call old q n (term ∷ key ∷ []) r new) (same-name name (codes "next") a) h))
