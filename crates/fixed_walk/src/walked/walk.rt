@@ -23,7 +23,8 @@ impl<R: Rows> Walked<R> {
         ensures ok { IfOk result (λ found. next_key self.now.content.slots key.now ≡ Some (option_copied found)) }
         ensures err { OnErr result (next_key self.now.content.slots key.now ≡ None) }
     {
-        Ok(key_of(self.next_lookup(key)?))
+        let found = self.next_lookup(key)?;
+        Ok(key_of(found))
     }
 
     /// The first key that has objects, with these, oldest first; None at the end (stdlib manual, ets:first_lookup/1). It
