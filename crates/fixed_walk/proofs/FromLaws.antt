@@ -163,13 +163,13 @@ next-absent ss k h = ap (option_map first_slot) (behind-absent k ss h)
 abbrev pub key_in : Option Slot → Option Term
 key_in o = option_map (λ (slot : Slot). slot.0) o
 
+first-key-at : (b : Bool) (s : Slot) (ss : List Slot) → key_in (first_slot ss) ≡ first_key ss → key_in (cond b (Some s) (first_slot ss)) ≡ cond b (Some s.0) (first_key ss)
+first-key-at true s ss rest = refl
+first-key-at false s ss rest = rest
+
 pub first-key : (ss : List Slot) → key_in (first_slot ss) ≡ first_key ss
 first-key [] = refl
-first-key (s ∷ ss) = at (has_objects s.1)
-  where
-    at : (b : Bool) → key_in (cond b (Some s) (first_slot ss)) ≡ cond b (Some s.0) (first_key ss)
-    at true = refl
-    at false = first-key ss
+first-key (s ∷ ss) = first-key-at (has_objects s.1) s ss (first-key ss)
 
 pub next-key : (ss : List Slot) (k : Term) → option_map key_in (next_slot ss k) ≡ next_key ss k
 next-key ss k = at (slots_behind ss k)
