@@ -1,6 +1,6 @@
 // Calls that read a table.
 ghost use Rattle.node_core.specs.Access.{reads};
-ghost use Rattle.node_core.specs.rules.Reading.{Lookup, Member, LookupElement, Tab2list};
+ghost use Rattle.node_core.specs.rules.Reading.{Lookup, Member, LookupElement, LookupElementOr, Tab2list};
 ghost use Rattle.node_core.specs.inside.Refusals.{Comes};
 
 use super::Node;
@@ -11,21 +11,21 @@ use ets_term::{KeyHash, Term};
 use table_ops::Refusal;
 
 impl<H: KeyHash + Copy + Drop> Node<H> {
-    pub fn lookup(&self, pid: u32, table: &Term, key: &Term) -> Result<Reply, Refusal>
+    pub(crate) fn lookup(&self, pid: u32, table: &Term, key: &Term) -> Result<Reply, Refusal>
         ensures { Comes (reads self.now pid table.now (Lookup key.now)) self.now result self.now }
     {
         let table = self.readable(pid, table).ok_or(Refusal::Badarg)?;
         Ok(list_reply(self.alloc, table.lookup(key))?)
     }
 
-    pub fn member(&self, pid: u32, table: &Term, key: &Term) -> Result<Reply, Refusal>
+    pub(crate) fn member(&self, pid: u32, table: &Term, key: &Term) -> Result<Reply, Refusal>
         ensures { Comes (reads self.now pid table.now (Member key.now)) self.now result self.now }
     {
         let table = self.readable(pid, table).ok_or(Refusal::Badarg)?;
         Ok(truth_reply(self.alloc, table.member(key)))
     }
 
-    pub fn lookup_element(
+    pub(crate) fn lookup_element(
         &self,
         pid: u32,
         table: &Term,
@@ -40,7 +40,23 @@ impl<H: KeyHash + Copy + Drop> Node<H> {
         Ok(Reply::Value(element))
     }
 
-    pub fn tab2list(&self, pid: u32, table: &Term) -> Result<Reply, Refusal>
+    pub(crate) fn lookup_element_or(
+        &self,
+        pid: u32,
+        table: &Term,
+        key: &Term,
+        position: &Term,
+        default: &Term,
+    ) -> Result<Reply, Refusal>
+        ensures { Comes (reads self.now pid table.now (LookupElementOr key.now position.now default.now)) self.now result self.now }
+    {
+        let table = self.readable(pid, table).ok_or(Refusal::Badarg)?;
+        let position = position_of(position).ok_or(Refusal::Badarg)?;
+        let element = table.lookup_element_or(key, position, default)?;
+        Ok(Reply::Value(element))
+    }
+
+    pub(crate) fn tab2list(&self, pid: u32, table: &Term) -> Result<Reply, Refusal>
         ensures { Comes (reads self.now pid table.now Tab2list) self.now result self.now }
     {
         let table = self.readable(pid, table).ok_or(Refusal::Badarg)?;
