@@ -15,6 +15,8 @@ OPERATIONS = {
     "hit": "lookup of a key that is there, ns",
     "miss": "lookup of a key that is not, ns",
     "counter": "update of a counter, ns",
+    "write": "update of an element, ns",
+    "write-or": "the same with a Default, of a key that is there, ns",
     "delete": "delete, ns",
     "bytes": "an object, bytes",
     "longest": "the longest insertion, its growth included, ns",
@@ -81,6 +83,17 @@ def beside_the_field(found: Figures, who: str, count: int) -> list[list[str]]:
         if ours:
             rows.append([shows, spread(ours), *(spread(peer) if peer else "" for peer in theirs), *(ratio(ours, peer) for peer in theirs)])
     return rows
+
+
+def walks(quick: bool, programs: Programs) -> list[list[str]]:
+    """A walk over a whole table, as calls: nanoseconds an object."""
+    count, turns = (10_000, 1) if quick else (1_000_000, 3)
+    ets = erlang("ets_calls")
+    found = least([[*side, "walks", str(count)] for side in ([programs.program("calls_bench")], ets) if side], turns)
+    apart, together, theirs = found["calls", "next+lookup"], found["calls", "next_lookup"], found.get(("ets", "next+lookup"))
+    rows = [[f"a walk over {count:,} objects, an object, ns", "ours", "ets", "to ets"]]
+    rows.append(["next, then lookup", spread(apart), spread(theirs), ratio(apart, theirs)])
+    return rows + [["next_lookup", spread(together), "", ""], ["next_lookup over next and lookup", ratio(together, apart), "", ""]]
 
 
 def clients(quick: bool, programs: Programs) -> list[list[str]]:

@@ -1,4 +1,5 @@
-%% Erlang/OTP's own ets asked by calls, in one run of erl: ets_calls:main(["times", Count]), or ["clients", Clients, Calls].
+%% Erlang/OTP's own ets asked by calls, in one run of erl: ets_calls:main(["times", Count]), ["walks", Count], or
+%% ["clients", Clients, Calls].
 %%
 %% Prints lines of WHO OPERATION FIGURE, in nanoseconds a call. Keys, objects and their order are made before the clock
 %% runs, and stand as persistent terms, which no collection of garbage copies.
@@ -6,11 +7,14 @@
 -export([main/1]).
 
 -define(WORD, 16#FFFFFFFFFFFFFFFF).
--define(PHASES, [insert, hit, miss, counter, delete]).
+-define(PHASES, [insert, hit, miss, counter, write, delete]).
 -define(KEYS, 10000).
 
 main(["times", Count]) ->
     times(list_to_integer(Count)),
+    halt(0);
+main(["walks", Count]) ->
+    walks(list_to_integer(Count)),
     halt(0);
 main(["clients", Clients, Calls]) ->
     clients("ets", [public], list_to_integer(Clients), list_to_integer(Calls)),
@@ -28,6 +32,7 @@ given(insert, Count) -> [{K, 1} || K <- shuffled(Count, 1)];
 given(hit, Count) -> shuffled(Count, 2);
 given(miss, Count) -> [K + Count || K <- shuffled(Count, 3)];
 given(counter, Count) -> shuffled(Count, 4);
+given(write, Count) -> shuffled(Count, 6);
 given(delete, Count) -> shuffled(Count, 5).
 
 %% The nanoseconds of each phase of a new table.
@@ -46,6 +51,7 @@ run(insert, Given, Table) -> insert(Given, Table);
 run(hit, Given, Table) -> hit(Given, Table);
 run(miss, Given, Table) -> miss(Given, Table);
 run(counter, Given, Table) -> counter(Given, Table);
+run(write, Given, Table) -> write(Given, Table);
 run(delete, Given, Table) -> delete(Given, Table).
 
 insert([Object | Rest], Table) -> true = ets:insert(Table, Object), insert(Rest, Table);
@@ -60,8 +66,31 @@ miss([], _) -> ok.
 counter([Key | Rest], Table) -> 2 = ets:update_counter(Table, Key, 1), counter(Rest, Table);
 counter([], _) -> ok.
 
+write([Key | Rest], Table) -> true = ets:update_element(Table, Key, {2, 7}), write(Rest, Table);
+write([], _) -> ok.
+
 delete([Key | Rest], Table) -> true = ets:delete(Table, Key), delete(Rest, Table);
 delete([], _) -> ok.
+
+%% ---- a walk over a whole table ----
+
+walks(Count) ->
+    Table = ets:new(t, [public]),
+    [ets:insert(Table, {Key, 1}) || Key <- shuffled(Count, 1)],
+    show("ets", "next+lookup", lists:min([walked(Table, Count) || _ <- lists:seq(1, 3)]) / Count).
+
+%% The nanoseconds of one walk, behind the first key.
+walked(Table, Count) ->
+    Key = ets:first(Table),
+    Start = erlang:monotonic_time(nanosecond),
+    Count = walk(Table, Key, 1),
+    erlang:monotonic_time(nanosecond) - Start.
+
+walk(Table, Before, Told) ->
+    case ets:next(Table, Before) of
+        '$end_of_table' -> Told;
+        Key -> [{_, _}] = ets:lookup(Table, Key), walk(Table, Key, Told + 1)
+    end.
 
 %% ---- processes that share a table ----
 

@@ -26,9 +26,49 @@ pub(crate) fn count_up(alloc: Global, k: u64) -> Result<Call, AllocError> {
     call(alloc, "update_counter", args)
 }
 
+/// Writes the value 7 into the key's object.
+pub(crate) fn write(alloc: Global, k: u64) -> Result<Call, AllocError> {
+    let args = vec![in alloc; Term::Tid(TABLE), key(k), at_two(alloc)?]?;
+    call(alloc, "update_element", args)
+}
+
+/// The same, with a Default, which is for a key that is not there.
+pub(crate) fn write_or(alloc: Global, k: u64) -> Result<Call, AllocError> {
+    let fields = vec![in alloc; key(k), Term::Int(1)]?;
+    let default = Term::Tuple(Items::from_vec(fields));
+    let args = vec![in alloc; Term::Tid(TABLE), key(k), at_two(alloc)?, default]?;
+    call(alloc, "update_element", args)
+}
+
+/// The element `{2,7}` of an update.
+fn at_two(alloc: Global) -> Result<Term, AllocError> {
+    Ok(Term::Tuple(Items::from_vec(vec![in alloc; Term::Int(2), Term::Int(7)]?)))
+}
+
+/// Asks for the first key.
+pub(crate) fn first(alloc: Global) -> Result<Call, AllocError> {
+    call(alloc, "first", vec![in alloc; Term::Tid(TABLE)]?)
+}
+
 /// A call that has the table and a key as its arguments.
 pub(crate) fn of_key(alloc: Global, name: &str, k: u64) -> Result<Call, AllocError> {
     call(alloc, name, vec![in alloc; Term::Tid(TABLE), key(k)]?)
+}
+
+/// The integer that a reply is.
+pub(crate) fn number_in(reply: &Reply) -> Option<u64> {
+    match reply {
+        Reply::Value(Term::Int(k)) => Some(k.cast_unsigned()),
+        _ => None,
+    }
+}
+
+/// Whether a key was told with its objects.
+pub(crate) fn is_entry(reply: &Reply) -> bool {
+    match reply {
+        Reply::Value(Term::Tuple(parts)) => parts.len() == 2,
+        _ => false,
+    }
 }
 
 /// Whether a lookup found an object.

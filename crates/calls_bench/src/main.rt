@@ -1,4 +1,4 @@
-//! Times whole calls of a node, of one caller and of clients in threads, and prints lines of WHO OPERATION FIGURE: calls_bench times|alone|clients|check COUNT CALLS.
+//! Times whole calls of a node, of one caller and of clients in threads, and prints lines of WHO OPERATION FIGURE: calls_bench times|walks|alone|clients|check COUNT CALLS.
 #![tactic(auto)]
 
 mod calls;
@@ -8,6 +8,7 @@ mod node;
 mod order;
 mod phases;
 mod report;
+mod walks;
 
 use report::{alone, check, crowded, times};
 use std::alloc::Global;
@@ -28,6 +29,7 @@ fn run<R: Print + Alloc<A = Global> + Clock + Threads + Wait + Sync>(
 ) -> io::Result<()> {
     match part {
         "times" => times(rt, count),
+        "walks" => walks::time_walks(rt, count),
         "alone" => alone(rt, count),
         "clients" => crowded(rt, count.max(1), calls),
         _ => check(rt, count),

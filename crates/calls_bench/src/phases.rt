@@ -1,5 +1,5 @@
 //! The phases of the life of a table: one step for each key, in an order of the phase's own.
-use crate::calls::{count_up, has_found, insert, is_atom, of_key};
+use crate::calls::{count_up, has_found, insert, is_atom, of_key, write, write_or};
 use crate::node::{asks, tend};
 use crate::order::shuffled;
 use ets_term::{Fnv, Term};
@@ -12,15 +12,19 @@ pub enum Phase {
     Hit,
     Miss,
     Counter,
+    Write,
+    WriteOr,
     Delete,
 }
 
 /// All phases, in the order in which a table goes through them.
-pub const PHASES: [Phase; 5] = [
+pub const PHASES: [Phase; 7] = [
     Phase::Insert,
     Phase::Hit,
     Phase::Miss,
     Phase::Counter,
+    Phase::Write,
+    Phase::WriteOr,
     Phase::Delete,
 ];
 
@@ -31,6 +35,8 @@ impl Phase {
             Phase::Hit => "hit",
             Phase::Miss => "miss",
             Phase::Counter => "counter",
+            Phase::Write => "write",
+            Phase::WriteOr => "write-or",
             Phase::Delete => "delete",
         }
     }
@@ -64,6 +70,8 @@ impl Phase {
             Phase::Hit => 2,
             Phase::Miss => 3,
             Phase::Counter => 4,
+            Phase::Write => 6,
+            Phase::WriteOr => 7,
             Phase::Delete => 5,
         }
     }
@@ -75,13 +83,15 @@ impl Phase {
             Phase::Hit => of_key(alloc, "lookup", k),
             Phase::Miss => of_key(alloc, "member", k.wrapping_add(u64::from(count))),
             Phase::Counter => count_up(alloc, k),
+            Phase::Write => write(alloc, k),
+            Phase::WriteOr => write_or(alloc, k),
             Phase::Delete => of_key(alloc, "delete", k),
         }
     }
 
     fn is_right(self, reply: &Reply) -> bool {
         match self {
-            Phase::Insert | Phase::Delete => is_atom(reply, "true"),
+            Phase::Insert | Phase::Write | Phase::WriteOr | Phase::Delete => is_atom(reply, "true"),
             Phase::Hit => has_found(reply),
             Phase::Miss => is_atom(reply, "false"),
             Phase::Counter => matches!(reply, Reply::Value(Term::Int(2))),

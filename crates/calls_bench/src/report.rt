@@ -4,6 +4,7 @@ use crate::clients::crowd;
 use crate::mixture::Outcome;
 use crate::node::{ask_all, fill, mixed_steps, with_table};
 use crate::phases::{PHASES, Phase};
+use crate::walks;
 use ets_term::Fnv;
 use node_core::Node;
 use std::alloc::{AllocError, Global};
@@ -138,6 +139,7 @@ pub(crate) fn check<R: Print + Alloc<A = Global> + Clock + Threads + Wait + Sync
     count: u32,
 ) -> io::Result<()> {
     check_phases(rt, count)?;
+    walks::check(rt, count)?;
     let outcome = crowd(rt, CLIENTS, count)?;
     println!(rt; "clients found {}", outcome.found)
 }

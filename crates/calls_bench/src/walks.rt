@@ -1,0 +1,135 @@
+//! Walks over a whole table: by the next key and then a lookup of it, or by both in one call.
+use crate::calls::{first, has_found, insert, is_entry, number_in, of_key};
+use crate::node::{asks, tend, with_table};
+use crate::order::shuffled;
+use crate::report::nanoseconds;
+use ets_term::Fnv;
+use node_core::{Node, Step};
+use std::alloc::{AllocError, Global};
+use std::io;
+use std::rt::Clock;
+use std::time::Instant;
+
+/// How often each walk is timed; the least counts.
+const TURNS: u32 = 3;
+
+/// Two walks over one table, as steps that are made before the clock runs: each begins behind the first key.
+#[derive(Drop)]
+struct Walks {
+    apart: Vec<Step>,
+    together: Vec<Step>,
+}
+
+impl Walks {
+    /// The steps, after the order in which the table has its keys.
+    fn over(alloc: Global, node: &mut Node<Fnv>, count: u32) -> Result<Walks, AllocError> {
+        let keys = keys_in_order(alloc, node, count)?;
+        let mut apart = Vec::new(alloc);
+        let mut together = Vec::new(alloc);
+        let mut before = None;
+        for key in keys {
+            if let Some(before) = before {
+                apart.push(asks(of_key(alloc, "next", before)?))?;
+                apart.push(asks(of_key(alloc, "lookup", key)?))?;
+                together.push(asks(of_key(alloc, "next_lookup", before)?))?;
+            }
+            before = Some(key);
+        }
+        Ok(Walks { apart, together })
+    }
+}
+
+/// All keys, as `first` and `next` tell them.
+fn keys_in_order(alloc: Global, node: &mut Node<Fnv>, count: u32) -> Result<Vec<u64>, AllocError> {
+    let mut keys = Vec::new(alloc);
+    let mut reply = node.step(&asks(first(alloc)?))?;
+    for _key in 0..count {
+        let Some(key) = number_in(&reply) else {
+            return Ok(keys);
+        };
+        keys.push(key)?;
+        reply = node.step(&asks(of_key(alloc, "next", key)?))?;
+    }
+    Ok(keys)
+}
+
+/// Puts so many objects in, in an order that jumps about.
+fn fill(alloc: Global, node: &mut Node<Fnv>, count: u32) -> Result<(), AllocError> {
+    for k in shuffled(alloc, u64::from(count), 1)? {
+        node.step(&asks(insert(alloc, k)?))?;
+        tend(node)?;
+        tend(node)?;
+    }
+    Ok(())
+}
+
+/// Does the steps, and answers how many told an object.
+fn told(node: &mut Node<Fnv>, steps: &[Step]) -> Result<u64, AllocError> {
+    let mut told: u64 = 0;
+    for step in steps {
+        let reply = node.step(step)?;
+        told = told.wrapping_add(u64::from(has_found(&reply) || is_entry(&reply)));
+    }
+    Ok(told)
+}
+
+/// Prints nanoseconds an object of either walk over a table of so many.
+pub(crate) fn time_walks(
+    rt: &(impl Print + Alloc<A = Global> + Clock),
+    count: u32,
+) -> io::Result<()> {
+    let mut node = with_table(rt.alloc())?;
+    walked(rt, &mut node, count)
+}
+
+fn walked(
+    rt: &(impl Print + Alloc<A = Global> + Clock),
+    node: &mut Node<Fnv>,
+    count: u32,
+) -> io::Result<()> {
+    fill(rt.alloc(), node, count)?;
+    let walks = Walks::over(rt.alloc(), node, count)?;
+    let (mut apart, mut together) = (u64::MAX, u64::MAX);
+    for _turn in 0..TURNS {
+        apart = apart.min(timed(rt, node, walks.apart.as_slice(), count)?);
+        together = together.min(timed(rt, node, walks.together.as_slice(), count)?);
+    }
+    println!(rt; "calls next+lookup {}", apart / u64::from(count.max(1)))?;
+    println!(rt; "calls next_lookup {}", together / u64::from(count.max(1)))
+}
+
+/// The nanoseconds that these steps take.
+fn timed(
+    rt: &(impl Print + Alloc<A = Global> + Clock),
+    node: &mut Node<Fnv>,
+    steps: &[Step],
+    count: u32,
+) -> io::Result<u64> {
+    let start = Instant::now(rt)?;
+    let told = told(node, steps)?;
+    let spent = nanoseconds(start.elapsed(rt)?);
+    if told.wrapping_add(1) != u64::from(count) {
+        println!(rt; "a walk went wrong")?;
+    }
+    Ok(spent)
+}
+
+/// Prints how many objects either walk tells behind the first.
+pub(crate) fn check(rt: &(impl Print + Alloc<A = Global>), count: u32) -> io::Result<()> {
+    let mut node = with_table(rt.alloc())?;
+    checked(rt, &mut node, count)
+}
+
+fn checked(
+    rt: &(impl Print + Alloc<A = Global>),
+    node: &mut Node<Fnv>,
+    count: u32,
+) -> io::Result<()> {
+    fill(rt.alloc(), node, count)?;
+    let walks = Walks::over(rt.alloc(), node, count)?;
+    println!(rt; "calls next+lookup {}", told(node, walks.apart.as_slice())?)?;
+    println!(rt;
+        "calls next_lookup {}",
+        told(node, walks.together.as_slice())?
+    )
+}
