@@ -1,7 +1,8 @@
-//! A caller of the library: it makes a node, asks three calls in a process, and reads the last reply.
+//! A caller of the library: it makes a node, asks three calls in a process, does the growth that is due behind each, and
+//! reads the last reply.
 #![tactic(auto)]
 
-use ets_term::{AllSame, Atom, Items, Term};
+use ets_term::{Atom, Fnv, Items, Term};
 use node_core::{Call, Limits, Node, Reply, Step};
 use std::alloc::{AllocError, Global};
 use std::io;
@@ -27,27 +28,36 @@ fn main(rt: HostRuntime) -> io::Result<ExitCode> {
     }
 }
 
-/// Stores a price in a table of its own, and looks it up.
+/// Makes a node, and asks it.
 fn price_of_tea(alloc: Global) -> Result<Option<i64>, AllocError> {
-    let mut node = Node::new(alloc, Limits::usual(), AllSame);
+    let mut node = Node::new(alloc, Limits::usual(), Fnv);
+    let found = store_and_look(alloc, &mut node)?;
+    Ok(price_in(&found))
+}
+
+/// Stores a price in a table of its own, and looks it up.
+fn store_and_look(alloc: Global, node: &mut Node<Fnv>) -> Result<Reply, AllocError> {
     let _pid = node.step(&Step::Enrol(PID))?;
-    let prices = atom(alloc, "prices")?;
     let options = Term::List(Items::from_vec(vec![in alloc; atom(alloc, "named_table")?]?));
-    let _name = ask(alloc, &mut node, "new", vec![in alloc; prices, options]?)?;
+    let _name = ask(
+        alloc,
+        node,
+        "new",
+        vec![in alloc; atom(alloc, "prices")?, options]?,
+    )?;
     let row = Term::Tuple(Items::from_vec(vec![in alloc; atom(alloc, "tea")?, Term::Int(3)]?));
     let _true = ask(
         alloc,
-        &mut node,
+        node,
         "insert",
         vec![in alloc; atom(alloc, "prices")?, row]?,
     )?;
-    let found = ask(
+    ask(
         alloc,
-        &mut node,
+        node,
         "lookup",
         vec![in alloc; atom(alloc, "prices")?, atom(alloc, "tea")?]?,
-    )?;
-    Ok(price_in(&found))
+    )
 }
 
 /// The second element of the only object of a reply to `lookup`.
@@ -61,14 +71,24 @@ fn price_in(reply: &Reply) -> Option<i64> {
     }
 }
 
-/// One call, as one step of the node.
+/// One call, as one step of the node, and behind it at most two steps of the growth that is due.
 fn ask(
     alloc: Global,
-    node: &mut Node<AllSame>,
+    node: &mut Node<Fnv>,
     call: &str,
     args: Vec<Term>,
 ) -> Result<Reply, AllocError> {
-    node.step(&Step::Ask(PID, Call::new(name(alloc, call)?, args)))
+    let reply = node.step(&Step::Ask(PID, Call::new(name(alloc, call)?, args)))?;
+    tend(node);
+    tend(node);
+    Ok(reply)
+}
+
+/// Does the step of growth that is due, if one is. Where it is refused memory, it stays due.
+fn tend(node: &mut Node<Fnv>) {
+    if let Some(step) = node.due() {
+        let _grown = node.step(&step);
+    }
 }
 
 fn atom(alloc: Global, text: &str) -> Result<Term, AllocError> {
