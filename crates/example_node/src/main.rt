@@ -38,26 +38,26 @@ fn price_of_tea(alloc: Global) -> Result<Option<i64>, AllocError> {
 /// Stores a price in a table of its own, and looks it up.
 fn store_and_look(alloc: Global, node: &mut Node<Fnv>) -> Result<Reply, AllocError> {
     let _pid = node.step(&Step::Enrol(PID))?;
-    let options = Term::List(Items::from_vec(vec![in alloc; atom(alloc, "named_table")?]?));
-    let _name = ask(
-        alloc,
-        node,
-        "new",
-        vec![in alloc; atom(alloc, "prices")?, options]?,
-    )?;
-    let row = Term::Tuple(Items::from_vec(vec![in alloc; atom(alloc, "tea")?, Term::Int(3)]?));
-    let _true = ask(
-        alloc,
-        node,
-        "insert",
-        vec![in alloc; atom(alloc, "prices")?, row]?,
-    )?;
-    ask(
-        alloc,
-        node,
-        "lookup",
-        vec![in alloc; atom(alloc, "prices")?, atom(alloc, "tea")?]?,
-    )
+    new_table(alloc, node)?;
+    insert(alloc, node)?;
+    lookup(alloc, node)
+}
+
+fn new_table(alloc: Global, node: &mut Node<Fnv>) -> Result<Reply, AllocError> {
+    let options = Items::from_vec(vec![in alloc; atom(alloc, "named_table")?]?);
+    let args = vec![in alloc; atom(alloc, "prices")?, Term::List(options)]?;
+    ask(alloc, node, "new", args)
+}
+
+fn insert(alloc: Global, node: &mut Node<Fnv>) -> Result<Reply, AllocError> {
+    let row = Items::from_vec(vec![in alloc; atom(alloc, "tea")?, Term::Int(3)]?);
+    let args = vec![in alloc; atom(alloc, "prices")?, Term::Tuple(row)]?;
+    ask(alloc, node, "insert", args)
+}
+
+fn lookup(alloc: Global, node: &mut Node<Fnv>) -> Result<Reply, AllocError> {
+    let args = vec![in alloc; atom(alloc, "prices")?, atom(alloc, "tea")?]?;
+    ask(alloc, node, "lookup", args)
 }
 
 /// The second element of the only object of a reply to `lookup`.
