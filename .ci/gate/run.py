@@ -42,7 +42,8 @@ def parts_of(words, copy, logs):
     door = Part("the front door", [f"{TOP}/.ci/door", program], after=[proofs])
     cuts = Part("the examples, cut at every byte", [f"{TOP}/.ci/cuts", program], after=[proofs])
     refusals = Part("memory refused", [f"{TOP}/.ci/refusals", program], after=[proofs], show=r"^refusals: ")
-    return [*unproved(logs), itself, door, cuts, refusals], proofs, edits
+    erlang = Part("Erlang over the program", [f"{TOP}/.ci/door_erlang", program], after=[proofs])
+    return [*unproved(logs), itself, door, cuts, refusals, erlang], proofs, edits
 
 
 def report(edits, costs):
