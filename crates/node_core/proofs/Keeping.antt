@@ -1,20 +1,20 @@
 -- What the world does keeps the index of what is due.
-use Rattle.std.proofs.Common.{◌≡◌, ℕ, Bool, true, false, Option, None, Some, List, [], ◌∷◌, ◌++◌, refl, sym, subst, length}
-use Rattle.std.specs.Prelude.{Result, Ok, Err, MatchOption, option_map, ◌&&◌, ◌==◌, not, is_some, nat_le}
+use Rattle.std.proofs.Common.{◌≡◌, ℕ, Bool, true, false, Option, None, Some, List, refl, sym, subst, length}
+use Rattle.std.specs.Prelude.{Result, Ok, Err, MatchOption, ◌&&◌, ◌==◌, not, is_some, nat_le}
 use Rattle.ets_term.specs.declared.term.Term.{Term}
 use Rattle.fixed_walk.specs.Fixed.{Fixed}
 use Rattle.ownership.specs.declared.fault.WorldFault.{WorldFault}
 use Rattle.ownership.specs.declared.fault.WorldFault.TheVariants.{Badarg, SystemLimit, NoProcess, Memory}
 use Rattle.ownership.specs.declared.head.Heir.{Heir}
 use Rattle.ownership.specs.declared.options.NewOptions.{NewOptions}
-use Rattle.ownership.specs.World.{Table, Tables, World, process_at, lives, table_at, whereis}
+use Rattle.ownership.specs.World.{Table, World, process_at, lives, table_at, whereis}
 use Rattle.ownership.specs.Heads.{owned_by}
 use Rattle.ownership.specs.Messages.{post, transfer, told}
 use Rattle.ownership.specs.Options.{heir_after}
 use Rattle.ownership.specs.Outcomes.{Outcome, gives, refused, refuse, Comes}
 use Rattle.ownership.specs.Tables.{Enrol, after_enrol, New, GiveAway, SetOptions, new_head, with_table, passed_to, with_heir, changed}
 use Rattle.ownership.specs.End.{End, ended, handed_over}
-use Rattle.node_core.specs.inside.Identifiers.{Identifiers, IsAmong, AreBelow}
+use Rattle.node_core.specs.inside.Identifiers.{Identifiers}
 use Rattle.node_core.specs.inside.Due.{IsIndex}
 use Rattle.node_core.proofs.Index as index
 

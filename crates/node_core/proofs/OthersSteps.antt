@@ -6,10 +6,13 @@ use Rattle.std.specs.declared.alloc.AllocError.{AllocError}
 use Rattle.node_core.specs.declared.step.Reply.{Reply}
 use Rattle.node_core.specs.declared.step.Step.{Step}
 use Rattle.node_core.specs.State.{State}
-use Rattle.node_core.specs.Machine.{step, run}
+use Rattle.node_core.specs.Seen.{seen}
+use Rattle.node_core.specs.Machine.{step}
+use Rattle.node_core.specs.rules.Growth.{step_on_buckets}
+use Rattle.node_core.specs.Buckets.{run_on_buckets}
 use Rattle.node_core.specs.Woven.{is_step_of, Given}
 use Rattle.node_core.specs.inside.Walker.{steps_of, OthersDid}
-use Rattle.node_core.proofs.Runs.{run-push}
+use Rattle.node_core.proofs.Runs.{run-on-buckets-push}
 
 steps-push : (xs : Given) (g : ℕ × Step) → steps_of (xs ++ g ∷ []) ≡ steps_of xs ++ g.1 ∷ []
 steps-push [] g = refl
@@ -19,14 +22,15 @@ all-push : (p : ℕ) (xs : List Step) (s : Step) → AllByRecursion (λ s. is_st
 all-push p [] s h k = (k, tt)
 all-push p (x ∷ xs) s h k = (h.0, all-push p xs s h.1 k)
 
-pub did-more : (p : ℕ) (old mid new : State) (xs ys : Given) (g : ℕ × Step) (r : Reply) → ys ≡ xs ++ g ∷ [] → OthersDid p old xs mid → is_step_of p g.1 ≡ false → step mid g.1 r new → OthersDid p old ys new
-did-more p old mid new xs ys g r e did other h = subst (λ (zs : Given). OthersDid p old zs new) (sym e) (record {
+pub did-more : (p : ℕ) (old mid new : State) (xs ys : Given) (g : ℕ × Step) (r : Reply) → ys ≡ xs ++ g ∷ [] → OthersDid p old xs mid → is_step_of p g.1 ≡ false → step (seen mid) g.1 r (seen new) → step_on_buckets mid g.1 r new → OthersDid p old ys new
+did-more p old mid new xs ys g r e did other h b = subst (λ (zs : Given). OthersDid p old zs new) (sym e) (record {
   replies = did.replies ++ r ∷ [];
-  ran = subst (λ (ss : List Step). run old ss (did.replies ++ r ∷ []) new) (sym (steps-push xs g)) (run-push old mid new (steps_of xs) did.replies g.1 r did.ran h);
+  ran = subst (λ (ss : List Step). run_on_buckets old ss (did.replies ++ r ∷ []) new) (sym (steps-push xs g)) (run-on-buckets-push old mid new (steps_of xs) did.replies g.1 r did.ran h b);
   others = subst (λ (ss : List Step). AllByRecursion (λ s. is_step_of p s ≡ false) ss) (sym (steps-push xs g)) (all-push p (steps_of xs) g.1 did.others other);
 })
 
 -- the same of a step that memory was not refused for
-pub did-after : (p : ℕ) (old mid new : State) (xs ys : Given) (g : ℕ × Step) (result : Result Reply AllocError) → ys ≡ xs ++ g ∷ [] → OthersDid p old xs mid → is_step_of p g.1 ≡ false → false ≡ is_err result → IfOk result (λ r. step mid g.1 r new) → OthersDid p old ys new
-did-after p old mid new xs ys g (Ok r) e did other good h = did-more p old mid new xs ys g r e did other h
-did-after p old mid new xs ys g (Err error) e did other good h = absurd (true≢false (sym good))
+pub did-after : (p : ℕ) (old mid new : State) (xs ys : Given) (g : ℕ × Step) (result : Result Reply AllocError) → ys ≡ xs ++ g ∷ [] → OthersDid p old xs mid → is_step_of p g.1 ≡ false → false ≡ is_err result
+    → IfOk result (λ r. step (seen mid) g.1 r (seen new)) → IfOk result (λ r. step_on_buckets mid g.1 r new) → OthersDid p old ys new
+did-after p old mid new xs ys g (Ok r) e did other good h b = did-more p old mid new xs ys g r e did other h b
+did-after p old mid new xs ys g (Err error) e did other good h b = absurd (true≢false (sym good))

@@ -36,6 +36,7 @@ use Rattle.node_core.specs.Seen.{seen_table, seen}
 use Rattle.node_core.specs.Access.{allowed, usable, with_table, Rule, changes}
 use Rattle.node_core.specs.Calls.{call}
 use Rattle.node_core.specs.Machine.{step}
+use Rattle.node_core.specs.rules.Growth.{step_on_buckets}
 use Rattle.node_core.specs.rules.Replies.{true_reply}
 use Rattle.node_core.specs.rules.Walking.{Fixes, Releases, key_reply, First, Next}
 use Rattle.node_core.specs.laws.Kept.{slots_in}
@@ -43,7 +44,7 @@ use Rattle.node_core.specs.Woven.{fix, release, first, next, can_read, fixes_in}
 use Rattle.node_core.specs.inside.Walker.{is_there, CanGoOn, call_of, Finds, Holds, LetsGo}
 use Rattle.node_core.proofs.Counts.{own-count, settled-fixes}
 use Rattle.node_core.proofs.SeenTables.{at-seen}
-use Rattle.node_core.proofs.Steps.{done-seen}
+use Rattle.node_core.proofs.Steps.{done-seen, done-buckets}
 
 -- ---- what a walk finds in the slots
 or-left : (a b : Bool) → a ≡ true → (a || b) ≡ true
@@ -311,6 +312,21 @@ module _ (p t : ℕ) where
         let l = lent s was there can in
         let few : fixes_in p t (seen s) < most_fixes = subst (λ n. n < most_fixes) (sym (count-before s l.table l.at ∙ ap (λ (g : Fixed). fix_count g.fixes p) (sym l.is))) h.0 in
         (can_read-seen s ∙ can, few, ap seen (same-after s f l.table l.at (h.1 ∙ l.is)))
+
+    pub held-buckets : FixesOnce p was (Ok tt) f → step_on_buckets s (fix p t) true_reply (with_table s t f)
+    held-buckets h =
+        let l = lent s was there can in
+        let once : FixesOnce p l.table.fixed (Ok tt) f = subst (λ g. FixesOnce p g (Ok tt) f) l.is h in
+        done-buckets s (with_table s t f) (fix p t) true_reply (fix-done s l.table l.at l.living l.readable f once)
+
+    pub held-same : f ≡ was → with_table s t f ≡ s
+    held-same same = let l = lent s was there can in same-after s f l.table l.at (same ∙ l.is)
+
+    pub let-go-buckets : f ≡ released p was → step_on_buckets s (release p t) true_reply (with_table s t f)
+    let-go-buckets h =
+        let l = lent s was there can in
+        let once : f ≡ released p l.table.fixed = h ∙ ap (released p) l.is in
+        done-buckets s (with_table s t f) (release p t) true_reply (release-done s l.table l.at l.living l.readable f once)
 
     pub let-go : f ≡ released p was → LetsGo p t (seen s) true (seen (with_table s t f))
     let-go h =

@@ -1,5 +1,5 @@
 -- What is due is that a table grows, or that one of its buckets is readied.
-use Rattle.std.proofs.Common.{◌≡◌, ℕ, zero, suc, Bool, true, false, not, Option, None, Some, [], ◌∷◌, length, option_map, subst}
+use Rattle.std.proofs.Common.{◌≡◌, ℕ, suc, Bool, true, false, not, Option, None, Some, [], ◌∷◌, length, option_map, subst}
 use Rattle.std.specs.Prelude.{◌*◌, nat_lt, ◌&&◌, if◌then◌else◌, position}
 use Rattle.std.specs.Option.{option_map_or}
 use Rattle.fixed_walk.specs.Fixed.{Fixed}

@@ -24,7 +24,7 @@ use Rattle.node_core.specs.rules.Walking.{key_reply}
 use Rattle.node_core.specs.laws.Kept.{is_fixed_in}
 use Rattle.node_core.specs.laws.Walk.{is_table, walk_step, Answers, Walks}
 use Rattle.node_core.specs.Woven.{is_step_of, replies_to, Given, AreTurns, fix, first, next, walk, can_read, fixes_in, Reason}
-use Rattle.node_core.specs.inside.Walker.{is_there, call_of, Finds, Walking, Leads, Stands, Halts, steps_of, OthersDid, StoppedAt}
+use Rattle.node_core.specs.inside.Walker.{is_there, call_of, Finds, Walking, Leads, Stands, Halts, steps_of, StoppedAt}
 use Rattle.node_core.proofs.OthersRuns.{fixed-in, Ran, others-ran}
 use Rattle.node_core.proofs.Runs.{run-push}
 use Rattle.node_core.proofs.Replying.{own-replied, none-replied, replied-append}
@@ -40,7 +40,7 @@ run-append a b c (x ∷ xs) ys (r ∷ rs) qs h k = (h.0, h.1, run-append h.0 b c
 run-append a b c [] ys (r ∷ rs) qs h k = absurd h
 run-append a b c (x ∷ xs) ys [] qs h k = absurd h
 
-append-none : {X : Type 0} (xs : List X) → xs ++ [] ≡ xs
+pub append-none : {X : Type 0} (xs : List X) → xs ++ [] ≡ xs
 append-none [] = refl
 append-none (x ∷ xs) = ap (λ ys. x ∷ ys) (append-none xs)
 
@@ -52,7 +52,7 @@ pub steps-paired : (n : ℕ) (steps : List Step) → steps_of (paired n steps) �
 steps-paired n [] = refl
 steps-paired n (s ∷ steps) = ap (λ xs. s ∷ xs) (steps-paired n steps)
 
-steps-cut : (n : ℕ) (given : Given) → steps_of (take n given) ++ steps_of (drop n given) ≡ steps_of given
+pub steps-cut : (n : ℕ) (given : Given) → steps_of (take n given) ++ steps_of (drop n given) ≡ steps_of given
 steps-cut zero given = refl
 steps-cut (suc n) [] = refl
 steps-cut (suc n) (g ∷ given) = ap (λ xs. g.1 ∷ xs) (steps-cut n given)
@@ -150,10 +150,9 @@ module _ (p t : ℕ) where
     find-reason call now fault.LimitReached limit keys given s done left replies h = absurd h
     find-reason call now fault.SystemLimit limit keys given s done left replies h = absurd h
 
-    pub not-begun : (now : State) (why : WalkFault) (limit : ℕ) → step old (fix p t) true_reply now → fixes_in p t now ≡ suc count → Finds p t None now (Err why) → Halts p t old limit [] [] why now
+    pub not-begun : (now : State) (why : WalkFault) (limit : ℕ) → step old (fix p t) true_reply now → fixes_in p t now ≡ suc count → Finds p t None now (Err why) → Halts p t old limit [] [] why (first p t ∷ []) now
     not-begun now why limit h more finds = record {
       done = [];
-      left = first p t ∷ [];
       own_left = first p t ∷ [];
       replies = [];
       order = refl;
@@ -182,10 +181,9 @@ module _ (p t : ℕ) where
 
       pub halts-at : (why : WalkFault) (limit : ℕ) (keys' : List Term) (given' : Given) (xs left own_left : List Step) (replies : List Reply) (mid : State)
           → walk p t keys' given' ≡ (so_far ++ xs) ++ left → walk p t keys' [] ≡ walk p t keys [] ++ own_left → run now xs replies mid → AllByRecursion (λ s. is_step_of p s ≡ false) xs
-          → AreTurns keys' given' → Untold keys' → Reason p t why old limit keys' given' (fix p t ∷ (so_far ++ xs)) left (true_reply ∷ (told ++ replies)) mid → Halts p t old limit keys' given' why mid
+          → AreTurns keys' given' → Untold keys' → Reason p t why old limit keys' given' (fix p t ∷ (so_far ++ xs)) left (true_reply ∷ (told ++ replies)) mid → Halts p t old limit keys' given' why left mid
       halts-at why limit keys' given' xs left own_left replies mid order own ran others turns untold reason = record {
         done = so_far ++ xs;
-        left = left;
         own_left = own_left;
         replies = told ++ replies;
         order = order;
@@ -213,12 +211,12 @@ module _ (p t : ℕ) where
       untold = record { more = key ∷ []; few = omega arith; no_end = (st.goes_on.no_end, tt); told = sym (map-append value keys (key ∷ [])) }
 
       -- no memory
-      pub halts-here : Halts p t old limit keys given fault.Memory now
+      pub halts-here : Halts p t old limit keys given fault.Memory [] now
       halts-here =
           halts-at keys given (Some key) now st fault.Memory limit keys given [] [] [] [] now (same-order keys given (Some key) now st) (sym (append-none (walk p t keys []))) refl tt st.turns untold tt
 
       -- a key past the limit
-      pub past-limit : length keys ≡ limit → Halts p t old limit keys given fault.LimitReached now
+      pub past-limit : length keys ≡ limit → Halts p t old limit keys given fault.LimitReached [] now
       past-limit many =
           halts-at keys given (Some key) now st fault.LimitReached limit keys given [] [] [] [] now (same-order keys given (Some key) now st) (sym (append-none (walk p t keys []))) refl tt st.turns untold
           (refl, many, (true_reply ∷ st.before, key, ap (λ rs. true_reply ∷ rs) (append-none (st.before ++ Value key ∷ [])), st.goes_on.no_end))
@@ -263,8 +261,10 @@ module _ (p t : ℕ) where
       stopped-reason fault.SystemLimit n limit s done replies mid left e h = absurd h
 
       -- one of the others' steps is not done
-      pub stopped : (why : WalkFault) (n limit : ℕ) (mid : State) → OthersDid p now (take n (paired (length keys) steps)) mid → StoppedAt p why (drop n (paired (length keys) steps)) → Halts p t old limit keys' given' why mid
-      stopped why n limit mid did at =
+      pub stopped : (why : WalkFault) (n limit : ℕ) (mid : State) (replies : List Reply) → run now (steps_of (take n (paired (length keys) steps))) replies mid
+          → AllByRecursion (λ s. is_step_of p s ≡ false) (steps_of (take n (paired (length keys) steps))) → StoppedAt p why (drop n (paired (length keys) steps))
+          → Halts p t old limit keys' given' why (steps_of (drop n (paired (length keys) steps)) ++ next p t key ∷ []) mid
+      stopped why n limit mid replies ran others at =
           let pairs = paired (length keys) steps in
           let xs = steps_of (take n pairs) in
           let left = steps_of (drop n pairs) in
@@ -273,11 +273,12 @@ module _ (p t : ℕ) where
           walk-more p t keys key given steps st.turns
           ∙ (ap (λ ys. walk p t keys given ++ (ys ++ next p t key ∷ [])) cut
           ∙ (ap (λ ys. walk p t keys given ++ ys) (append_assoc xs left (next p t key ∷ [])) ∙ sym (append_assoc (walk p t keys given) xs (left ++ next p t key ∷ [])))) in
-          halts-at keys given (Some key) now st why limit keys' given' xs (left ++ next p t key ∷ []) (next p t key ∷ []) did.replies mid order own-more did.ran did.others turns-more all-told
-          (stopped-reason why n limit (fix p t) (walk p t keys given ++ xs) (true_reply ∷ (R ++ did.replies)) mid (drop n pairs) refl at)
+          halts-at keys given (Some key) now st why limit keys' given' xs (left ++ next p t key ∷ []) (next p t key ∷ []) replies mid order own-more ran others turns-more all-told
+          (stopped-reason why n limit (fix p t) (walk p t keys given ++ xs) (true_reply ∷ (R ++ replies)) mid (drop n pairs) refl at)
 
       -- the key behind is not found
-      pub not-found : (why : WalkFault) (limit : ℕ) (mid : State) (replies : List Reply) → run now steps replies mid → AllByRecursion (λ s. is_step_of p s ≡ false) steps → Finds p t (Some key) mid (Err why) → Halts p t old limit keys' given' why mid
+      pub not-found : (why : WalkFault) (limit : ℕ) (mid : State) (replies : List Reply) → run now steps replies mid → AllByRecursion (λ s. is_step_of p s ≡ false) steps → Finds p t (Some key) mid (Err why)
+          → Halts p t old limit keys' given' why (next p t key ∷ []) mid
       not-found why limit mid replies ran others finds =
           let order : walk p t keys' given' ≡ (walk p t keys given ++ steps) ++ next p t key ∷ [] =
           walk-more p t keys key given steps st.turns ∙ sym (append_assoc (walk p t keys given) steps (next p t key ∷ [])) in

@@ -1,6 +1,6 @@
 -- The turn of a key, and the end of a walk, as its functions tell them.
-use Rattle.std.proofs.Common.{◌≡◌, ℕ, zero, suc, ◌<◌, Bool, true, false, List, [], ◌∷◌, ◌++◌, Option, None, Some, Result, Ok, Err, OnOk, OnErr, refl, sym, subst, subst₂, ap, ap₂, ◌∙◌, ◌-◌, length, take, drop, arith, true≢false}
-use Rattle.std.specs.Prelude.{MatchOption, is_some}
+use Rattle.std.proofs.Common.{◌≡◌, ℕ, zero, suc, ◌<◌, ◌≤◌, Bool, true, false, List, [], ◌∷◌, ◌++◌, Option, None, Some, Result, Ok, Err, OnOk, OnErr, refl, sym, subst, subst₂, ap, ap₂, ◌∙◌, ◌-◌, length, take, drop, arith, true≢false}
+use Rattle.std.specs.Prelude.{is_some}
 use Rattle.std.specs.Bool.{MatchBool}
 use Rattle.std.specs.List.{AllByRecursion}
 use Rattle.std.specs.Option.{option_map_or}
@@ -8,17 +8,20 @@ use Rattle.std.specs.Result.{is_err}
 use Rattle.std.proofs.lemmas.List.{take_all, length-drop}
 use Rattle.ets_term.specs.declared.term.Term.{Term}
 use Rattle.fixed_walk.specs.Fixes.{fix_count}
-use Rattle.ownership.specs.World.{Table, Tables, table_at, resolve}
+use Rattle.ownership.specs.World.{Table, Tables, table_at}
+use Rattle.node_core.specs.declared.step.Step.{Step}
 use Rattle.node_core.specs.declared.walk.Walk.{Walk}
 use Rattle.node_core.specs.declared.walk.WalkFault.{WalkFault}
 use Rattle.node_core.specs.declared.walk.WalkFault.TheVariants as fault
 use Rattle.node_core.specs.State.{State}
+use Rattle.node_core.specs.Seen.{seen}
 use Rattle.node_core.specs.Machine.{step, run}
 use Rattle.node_core.specs.rules.Replies.{true_reply}
 use Rattle.node_core.specs.rules.Walking.{key_reply}
-use Rattle.node_core.specs.Woven.{is_step_of, Given, Adds, fix, release, woven, can_read, fixes_in, IsWalked, Stops, WalksAmong}
-use Rattle.node_core.specs.inside.Walker.{CanGoOn, Finds, Holds, LetsGo, Stands, Halts, EndsIn, OthersDid, OthersRun}
+use Rattle.node_core.specs.Woven.{is_step_of, Given, Adds, fix, release, first, next, woven, can_read, fixes_in, IsWalked, Stops}
+use Rattle.node_core.specs.inside.Walker.{CanGoOn, Finds, Holds, LetsGo, Stands, Halts, steps_of, OthersDid, StoppedAt, OthersRun}
 use Rattle.node_core.proofs.OthersRuns.{others-ran}
+use Rattle.node_core.proofs.Runs.{run-seen}
 use Rattle.node_core.proofs.Weaving.{number-same, paired, own-kept}
 use Rattle.node_core.proofs.Turns.{steps-paired, readable-there, begun, not-begun, halts-here, stopped, not-found, turned}
 
@@ -35,6 +38,9 @@ on-refused (Err error) e h = h
 drop-all : (xs ys : Given) → drop (length xs) (xs ++ ys) ≡ ys
 drop-all [] ys = refl
 drop-all (x ∷ xs) ys = drop-all xs ys
+
+pub last-given : (keys : List Term) (given : Given) (key : Term) (keys' : List Term) (given' : Given) (adds : Adds keys given key keys' given') → drop (length given) given' ≡ paired (length keys) adds.1.0
+last-given keys given key keys' given' adds = ap (λ gs. drop (length given) gs) adds.1.1 ∙ drop-all given (paired (length keys) adds.1.0)
 
 -- the slice from where those before end
 pub sliced : (before now given given' : Given) → before ≡ given → now ≡ given' → take (length now - length before) (drop (length before) now) ≡ drop (length given) given'
@@ -59,50 +65,50 @@ module _ (p t : ℕ) where
   pub stands-first : (old now : State) (found : Option Term) → Holds p t old (Ok tt) now → Finds p t None now (Ok found) → Stands p t old [] [] found now
   stands-first old now found held finds = begun p t old now found held.0 held.1 (within now (fixes_in p t old) held.1) finds
 
-  pub halts-first : (old now : State) (why : WalkFault) (limit : ℕ) → Holds p t old (Ok tt) now → Finds p t None now (Err why) → Halts p t old limit [] [] why now
+  pub halts-first : (old now : State) (why : WalkFault) (limit : ℕ) → Holds p t old (Ok tt) now → Finds p t None now (Err why) → Halts p t old limit [] [] why (first p t ∷ []) now
   halts-first old now why limit held finds = not-begun p t old now why limit held.0 held.1 finds
 
   -- ---- the turn of a key
-  module _ (old now : State) (keys : List Term) (given : Given) (key : Term) (st : Stands p t old keys given (Some key) now) where
-    pub halts-before : (keys' : List Term) (given' : Given) → keys' ≡ keys → given' ≡ given → (limit : ℕ) → Halts p t old limit keys' given' fault.Memory now
-    halts-before keys' given' e f limit = subst₂ (λ ks gs. Halts p t old limit ks gs fault.Memory now) (sym e) (sym f) (halts-here p t old keys given key now limit st)
+  module _ (old now : State) (keys : List Term) (given : Given) (key : Term) (st : Stands p t old keys given (Some key) (seen now)) where
+    pub halts-before : (keys' : List Term) (given' : Given) → keys' ≡ keys → given' ≡ given → (limit : ℕ) → Halts p t old limit keys' given' fault.Memory [] (seen now)
+    halts-before keys' given' e f limit = subst₂ (λ ks gs. Halts p t old limit ks gs fault.Memory [] (seen now)) (sym e) (sym f) (halts-here p t old keys given key (seen now) limit st)
 
     module _ (keys' : List Term) (given' : Given) (adds : Adds keys given key keys' given') (mid : State) where
-      last-given : drop (length given) given' ≡ paired (length keys) adds.1.0
-      last-given = ap (λ gs. drop (length given) gs) adds.1.1 ∙ drop-all given (paired (length keys) adds.1.0)
-
-      pub halts-among : (why : WalkFault) → OthersRun p now (drop (length given) given') (Err why) mid → (limit : ℕ) → Halts p t old limit keys' given' why mid
-      halts-among why ran limit =
-          let own : OthersRun p now (paired (length keys) adds.1.0) (Err why) mid = subst (λ gs. OthersRun p now gs (Err why) mid) last-given ran in
-          subst₂ (λ ks gs. Halts p t old limit ks gs why mid) (sym adds.0) (sym adds.1.1) (stopped p t old keys given key now st adds.1.0 why own.0 limit mid own.1 own.2)
+      -- one of the others' steps is not done
+      pub halts-among : (why : WalkFault) (n : ℕ) → OthersDid p now (take n (paired (length keys) adds.1.0)) mid → StoppedAt p why (drop n (paired (length keys) adds.1.0)) → (limit : ℕ)
+          → Halts p t old limit keys' given' why (steps_of (drop n (paired (length keys) adds.1.0)) ++ next p t key ∷ []) (seen mid)
+      halts-among why n did at limit =
+          let pairs = paired (length keys) adds.1.0 in
+          subst₂ (λ ks gs. Halts p t old limit ks gs why (steps_of (drop n pairs) ++ next p t key ∷ []) (seen mid)) (sym adds.0) (sym adds.1.1)
+          (stopped p t old keys given key (seen now) st adds.1.0 why n limit (seen mid) did.replies (run-seen now mid (steps_of (take n pairs)) did.replies did.ran) did.others at)
 
       module _ (ran : OthersRun p now (drop (length given) given') (Ok tt) mid) where
         did : OthersDid p now (paired (length keys) adds.1.0) mid
-        did = subst (λ gs. OthersDid p now gs mid) last-given ran
+        did = subst (λ gs. OthersDid p now gs mid) (last-given keys given key keys' given' adds) ran
 
-        did-run : run now adds.1.0 did.replies mid
-        did-run = subst (λ xs. run now xs did.replies mid) (steps-paired (length keys) adds.1.0) did.ran
+        did-run : run (seen now) adds.1.0 did.replies (seen mid)
+        did-run = subst (λ xs. run (seen now) xs did.replies (seen mid)) (steps-paired (length keys) adds.1.0) (run-seen now mid (steps_of (paired (length keys) adds.1.0)) did.replies did.ran)
 
         did-others : AllByRecursion (λ s. is_step_of p s ≡ false) adds.1.0
         did-others = subst (λ xs. AllByRecursion (λ s. is_step_of p s ≡ false) xs) (steps-paired (length keys) adds.1.0) did.others
 
         -- the walk can go on from the key
-        pub goes-further : CanGoOn t mid (Some key)
+        pub goes-further : CanGoOn t (seen mid) (Some key)
         goes-further =
-            let after = others-ran p t (fixes_in p t old) now adds.1.0 did.replies mid did-run did-others st.long st.fixes in
+            let after = others-ran p t (fixes_in p t old) (seen now) adds.1.0 did.replies (seen mid) did-run did-others st.long st.fixes in
             record { slot = after.place key st.goes_on.slot; shallow = st.goes_on.shallow; no_end = st.goes_on.no_end }
 
-        pub halts-after : (why : WalkFault) → Finds p t (Some key) mid (Err why) → (limit : ℕ) → Halts p t old limit keys' given' why mid
+        pub halts-after : (why : WalkFault) → Finds p t (Some key) (seen mid) (Err why) → (limit : ℕ) → Halts p t old limit keys' given' why (next p t key ∷ []) (seen mid)
         halts-after why finds limit =
-            subst₂ (λ ks gs. Halts p t old limit ks gs why mid) (sym adds.0) (sym adds.1.1) (not-found p t old keys given key now st adds.1.0 why limit mid did.replies did-run did-others finds)
+            subst₂ (λ ks gs. Halts p t old limit ks gs why (next p t key ∷ []) (seen mid)) (sym adds.0) (sym adds.1.1) (not-found p t old keys given key (seen now) st adds.1.0 why limit (seen mid) did.replies did-run did-others finds)
 
-        pub stands-next : (found : Option Term) → Finds p t (Some key) mid (Ok found) → Stands p t old keys' given' found mid
+        pub stands-next : (found : Option Term) → Finds p t (Some key) (seen mid) (Ok found) → Stands p t old keys' given' found (seen mid)
         stands-next found finds =
-            subst₂ (λ ks gs. Stands p t old ks gs found mid) (sym adds.0) (sym adds.1.1) (turned p t old keys given key now st adds.1.0 did.replies mid did-run did-others found finds)
+            subst₂ (λ ks gs. Stands p t old ks gs found (seen mid)) (sym adds.0) (sym adds.1.1) (turned p t old keys given key (seen now) st adds.1.0 did.replies (seen mid) did-run did-others found finds)
 
   -- ---- the walk ends
   module _ (old now : State) (limit : ℕ) (keys : List Term) (given : Given) (new : State) where
-    ends-ok : (b : Bool) (walk : Walk) → EndsIn p t old limit keys given (Ok walk) now → LetsGo p t now b new → (walk.keys ≡ keys) × IsWalked p t old limit keys given new
+    pub ends-ok : (b : Bool) (walk : Walk) → (walk.keys ≡ keys) × (length keys ≤ limit) × Stands p t old keys given None now → LetsGo p t now b new → (walk.keys ≡ keys) × IsWalked p t old limit keys given new
     ends-ok true w e go =
         let st = e.2 in
         let walking = st.leads in (
@@ -124,10 +130,9 @@ module _ (p t : ℕ) where
         )
     ends-ok false w e go = let st = e.2 in absurd (true≢false (sym st.readable ∙ go.0))
 
-    ends-err : (b : Bool) (why : WalkFault) → Halts p t old limit keys given why now → LetsGo p t now b new → Stops p t old limit keys given why new
-    ends-err b why h go = record {
+    pub ends-err : (b : Bool) (why : WalkFault) (left : List Step) → Halts p t old limit keys given why left now → LetsGo p t now b new → Stops p t old limit keys given why left new
+    ends-err b why left h go = record {
       done = fix p t ∷ h.done;
-      left = h.left;
       own_left = h.own_left;
       replies = true_reply ∷ h.replies;
       last = now;
@@ -149,27 +154,10 @@ module _ (p t : ℕ) where
             (go.1, go.2 (fixes_in p t old) (h.fixes (readable-there p t now go.0)))
         leaves false go = subst (λ (b : Bool). MatchBool b (step now (release p t) true_reply new × (fixes_in p t new ≡ fixes_in p t old)) (new ≡ now)) (sym go.0) go.1
 
-    pub walked-among : (term : Term) (result : Result Walk WalkFault) (b : Bool) → resolve old.world.tables term ≡ Some t → EndsIn p t old limit keys given result now → LetsGo p t now b new → WalksAmong old p term limit keys given result new
-    walked-among term (Ok w) b e ends go =
-        let both = ends-ok b w ends go in
-        (both.0, subst (λ (o : Option ℕ). MatchOption o ⊥ (λ u. IsWalked p u old limit keys given new)) (sym e) both.1)
-    walked-among term (Err why) b e ends go =
-        subst (λ (o : Option ℕ). MatchOption o ((why ≡ fault.Lost) × (new ≡ old) × (keys ≡ []) × (given ≡ [])) (λ u. Stops p u old limit keys given why new)) (sym e) (ends-err b why ends go)
-
   -- the table is not fixed
-  not-held : (old : State) (limit : ℕ) (why : WalkFault) (new : State) → Holds p t old (Err why) new → Stops p t old limit [] [] why new
-  not-held old limit fault.Lost new h = record { done = []; left = woven p t [] []; own_left = woven p t [] []; replies = []; last = old; order = refl; own = refl; ran = refl; tells = (refl, refl); turns = tt; reason = h.0; after = h.1 }
-  not-held old limit fault.SystemLimit new h = record { done = []; left = woven p t [] []; own_left = woven p t [] []; replies = []; last = old; order = refl; own = refl; ran = refl; tells = (refl, refl); turns = tt; reason = (refl, h.0, h.1); after = h.2 }
-  not-held old limit fault.Memory new h = record { done = []; left = woven p t [] []; own_left = woven p t [] []; replies = []; last = old; order = refl; own = refl; ran = refl; tells = (refl, refl); turns = tt; reason = (h.0, h.1); after = h.2 }
+  pub not-held : (old : State) (limit : ℕ) (why : WalkFault) (new : State) → Holds p t old (Err why) new → Stops p t old limit [] [] why (woven p t [] []) new
+  not-held old limit fault.Lost new h = record { done = []; own_left = woven p t [] []; replies = []; last = old; order = refl; own = refl; ran = refl; tells = (refl, refl); turns = tt; reason = h.0; after = h.1 }
+  not-held old limit fault.SystemLimit new h = record { done = []; own_left = woven p t [] []; replies = []; last = old; order = refl; own = refl; ran = refl; tells = (refl, refl); turns = tt; reason = (refl, h.0, h.1); after = h.2 }
+  not-held old limit fault.Memory new h = record { done = []; own_left = woven p t [] []; replies = []; last = old; order = refl; own = refl; ran = refl; tells = (refl, refl); turns = tt; reason = (h.0, h.1); after = h.2 }
   not-held old limit fault.OwnStep new h = absurd h
   not-held old limit fault.LimitReached new h = absurd h
-
-  pub not-walked : (old new : State) (term : Term) (limit : ℕ) (keys : List Term) (given : Given) (why : WalkFault) → resolve old.world.tables term ≡ Some t → keys ≡ [] → given ≡ [] → Holds p t old (Err why) new
-      → WalksAmong old p term limit keys given (Err why) new
-  not-walked old new term limit keys given why e none unasked h =
-      subst (λ (o : Option ℕ). MatchOption o ((why ≡ fault.Lost) × (new ≡ old) × (keys ≡ []) × (given ≡ [])) (λ u. Stops p u old limit keys given why new)) (sym e)
-      (subst₂ (λ ks gs. Stops p t old limit ks gs why new) (sym none) (sym unasked) (not-held old limit why new h))
-
-pub no-table : (p : ℕ) (old : State) (term : Term) (limit : ℕ) (keys : List Term) (given : Given) → resolve old.world.tables term ≡ None → keys ≡ [] → given ≡ [] → WalksAmong old p term limit keys given (Err fault.Lost) old
-no-table p old term limit keys given e none unasked =
-    subst (λ (o : Option ℕ). MatchOption o ((fault.Lost ≡ fault.Lost) × (old ≡ old) × (keys ≡ []) × (given ≡ [])) (λ u. Stops p u old limit keys given fault.Lost old)) (sym e) (refl, refl, none, unasked)

@@ -6,6 +6,7 @@ pub mod rules
 pub mod Calls
 pub mod Machine
 pub mod Buckets
+pub mod Through
 pub mod laws
 pub mod Woven
 pub mod inside

@@ -1,6 +1,6 @@
 -- A walk among the steps of others (stdlib manual, module ets, safe_fixtable/2, first/1 and next/2): its steps in their order, and
 -- where it leaves the machine.
-use Rattle.std.specs.Prelude.{◌≡◌, ◌≤◌, ◌<◌, ℕ, suc, ◌==◌, ◌&&◌, Bool, true, false, if◌then◌else◌, List, [], ◌∷◌, ◌++◌, map, filter, length, None, Result, Ok, Err, MatchOption, codes}
+use Rattle.std.specs.Prelude.{◌≡◌, ◌≤◌, ◌<◌, ◌⊎◌, ℕ, suc, ◌==◌, ◌&&◌, Bool, true, false, if◌then◌else◌, List, [], ◌∷◌, ◌++◌, map, filter, length, None, Result, Ok, Err, MatchOption, codes}
 use Rattle.std.specs.Bool.{MatchBool}
 use Rattle.std.specs.List.{AllByRecursion, Contains}
 use Rattle.std.specs.Option.{option_map_or}
@@ -18,7 +18,9 @@ use Rattle.node_core.specs.declared.walk.Walk.{Walk}
 use Rattle.node_core.specs.declared.walk.WalkFault.{WalkFault}
 use Rattle.node_core.specs.declared.walk.WalkFault.TheVariants as fault
 use Rattle.node_core.specs.State.{State}
+use Rattle.node_core.specs.Seen.{seen}
 use Rattle.node_core.specs.Machine.{step, run}
+use Rattle.node_core.specs.Buckets.{run_on_buckets}
 use Rattle.node_core.specs.rules.Replies.{true_reply}
 use Rattle.node_core.specs.laws.Kept.{is_fixed_in}
 use Rattle.node_core.specs.laws.Walk.{states, Walks}
@@ -127,10 +129,10 @@ module _ (p t : ℕ) where
   Leaves old [] last new = new ≡ last
   Leaves old (s ∷ done) last new = MatchBool (can_read last) (step last release true_reply new × (fixes_in new ≡ fixes_in old)) (new ≡ last)
 
-  -- A walk that stopped: of the steps woven the first are done, and the walker's among them are its calls of the walk alone.
-  pub record Stops (old : State) (limit : ℕ) (keys : List Term) (given : Given) (why : WalkFault) (new : State) : Type 0 where
+  -- A walk that stopped: of the steps woven the first are done and these are left, and the walker's among those done are its calls
+  -- of the walk alone.
+  pub record Stops (old : State) (limit : ℕ) (keys : List Term) (given : Given) (why : WalkFault) (left : List Step) (new : State) : Type 0 where
     pub done : List Step
-    pub left : List Step
     pub own_left : List Step
     pub replies : List Reply
     pub last : State
@@ -142,8 +144,20 @@ module _ (p t : ℕ) where
     pub reason : Reason why old limit keys given done left replies last
     pub after : Leaves old done last new
 
+  -- What a walk does to the buckets, which no call sees: of the steps woven all but those left are done, and then the release or
+  -- nothing, and no step besides.
+  pub record RunsWoven (old : State) (keys : List Term) (given : Given) (left : List Step) (new : State) : Type 0 where
+    pub done : List Step
+    pub after : List Step
+    pub replies : List Reply
+    pub order : woven keys given ≡ done ++ left
+    pub last : (after ≡ []) ⊎ (after ≡ release ∷ [])
+    pub ran : run_on_buckets old (done ++ after) replies new
+
 -- what a walk over the table that a term names comes to, where the others then have these keys and these steps
 abbrev pub WalksAmong : State → ℕ → Term → ℕ → List Term → Given → Result Walk WalkFault → State → Type 0
-WalksAmong old p term limit keys given (Ok walk) new = (walk.keys ≡ keys) × MatchOption (resolve old.world.tables term) ⊥ (λ t. IsWalked p t old limit keys given new)
+WalksAmong old p term limit keys given (Ok walk) new =
+    (walk.keys ≡ keys) × MatchOption (resolve old.world.tables term) ⊥ (λ t. IsWalked p t (seen old) limit keys given (seen new) × RunsWoven p t old keys given [] new)
 WalksAmong old p term limit keys given (Err why) new =
-    MatchOption (resolve old.world.tables term) ((why ≡ fault.Lost) × (new ≡ old) × (keys ≡ []) × (given ≡ [])) (λ t. Stops p t old limit keys given why new)
+    MatchOption (resolve old.world.tables term) ((why ≡ fault.Lost) × (new ≡ old) × (keys ≡ []) × (given ≡ [])) (λ t.
+    (left : List Step) × Stops p t (seen old) limit keys given why left (seen new) × RunsWoven p t old keys given left new)

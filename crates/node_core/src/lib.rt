@@ -1,8 +1,8 @@
 //! Each step of a node is a step of the machine in specs/: its reply is one that the machine may give, and a refusal changes nothing.
 //!
 //! *Guarantee.* `Node::step` and `Node::run` have the machine of specs/Machine.antt as their contracts, word for word, over what
-//! calls can see of a node (specs/Seen.antt). `Node::step` says too what becomes of the buckets, which no call sees. Nothing
-//! panics, and want of memory leaves everything as it was.
+//! calls can see of a node (specs/Seen.antt). They say too what becomes of the buckets, which no call sees, and so does
+//! `walk_among`. Nothing panics, and want of memory leaves everything as it was.
 //!
 //! *Weakness.* Memory may be refused at any step; no contract says that it is there.
 //!

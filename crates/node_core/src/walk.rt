@@ -67,7 +67,8 @@ pub enum WalkFault {
 /// looked up once, at the start. `limit` may be any number; within 0 an empty table is walked.
 ///
 /// Ok says that the walk came to the end: no key comes twice, each that has objects all the while comes, each step handed
-/// in is done, and the fix is released, which takes no memory. `WalkFault` says when a walk is refused or stops.
+/// in is done, and the fix is released, which takes no memory. `WalkFault` says when a walk is refused or stops. The others
+/// are told the keys that the walk came to, in order, and no other; and no bucket changes but by the steps handed in.
 pub fn walk_among<H: KeyHash + Copy + Drop, O: Others>(
     node: &mut Node<H>,
     pid: u32,
@@ -77,7 +78,7 @@ pub fn walk_among<H: KeyHash + Copy + Drop, O: Others>(
 ) -> Result<Walk, WalkFault>
     requires keys { O.keys others.old ≡ [] }
     requires steps { O.steps others.old ≡ [] }
-    ensures { WalksAmong (seen node.old) pid table.now limit (O.keys others.new) (O.steps others.new) result (seen node.new) }
+    ensures { WalksAmong node.old pid table.now limit (O.keys others.new) (O.steps others.new) result node.new }
 {
     let Some(id) = node.resolve(table) else {
         return Err(WalkFault::Lost);
@@ -99,7 +100,7 @@ fn walk_held<H: KeyHash + Copy + Drop, O: Others>(
     requires keys { O.keys others.old ≡ [] }
     requires steps { O.steps others.old ≡ [] }
     requires held { (old : State) × Holds pid id old (Ok tt) (seen node.old) }
-    ensures { (old : State) → Holds pid id old (Ok tt) (seen node.old) → EndsIn pid id old limit (O.keys others.new) (O.steps others.new) result (seen node.new) }
+    ensures { EndsIn pid id limit node.old (O.keys others.new) (O.steps others.new) result node.new }
 {
     let mut keys = Vec::new(node.allocator());
     let mut found = node.key_behind(pid, id, None)?;
@@ -128,7 +129,7 @@ fn turn<H: KeyHash + Copy + Drop, O: Others>(
     requires stands { (old : State) × Stands pid id old (O.keys others.old) (O.steps others.old) (Some key) (seen node.old) }
     ensures keys { OnOk result (keys.new.items ≡ O.keys others.new) }
     ensures count { OnOk result (vec_len keys.new ≡ vec_len keys.old + 1) }
-    ensures turn { (old : State) → Stands pid id old (O.keys others.old) (O.steps others.old) (Some key) (seen node.old) → TurnsTo pid id old (O.keys others.new) (O.steps others.new) result (seen node.new) }
+    ensures turn { TurnsTo pid id (O.keys others.old) (O.steps others.old) key node.old (O.keys others.new) (O.steps others.new) result node.new }
 {
     if keys.reserve(1).is_err() {
         return Err(WalkFault::Memory);
@@ -149,7 +150,7 @@ fn run_others<H: KeyHash + Copy + Drop>(
     pid: u32,
     given: &[(usize, Step)],
 ) -> Result<(), WalkFault>
-    ensures { OthersRun pid (seen node.old) given.now result (seen node.new) }
+    ensures { OthersRun pid node.old given.now result node.new }
 {
     for (_, step) in given {
         if step.is_of(pid) {

@@ -15,7 +15,10 @@ use Rattle.node_core.specs.declared.walk.Walk.{Walk}
 use Rattle.node_core.specs.declared.walk.WalkFault.{WalkFault}
 use Rattle.node_core.specs.declared.walk.WalkFault.TheVariants as fault
 use Rattle.node_core.specs.State.{State}
+use Rattle.node_core.specs.Seen.{seen}
 use Rattle.node_core.specs.Machine.{step, run}
+use Rattle.node_core.specs.Buckets.{run_on_buckets}
+use Rattle.node_core.specs.rules.Growth.{step_on_buckets}
 use Rattle.node_core.specs.rules.Replies.{true_reply}
 use Rattle.node_core.specs.rules.Walking.{key_reply}
 use Rattle.node_core.specs.laws.Kept.{slots_in, is_fixed_in}
@@ -88,10 +91,9 @@ module _ (p t : ℕ) where
     pub readable : can_read p t now ≡ true
     pub goes_on : CanGoOn t now found
 
-  -- a walk that stopped, before the release
-  pub record Halts (old : State) (limit : ℕ) (keys : List Term) (given : Given) (why : WalkFault) (now : State) : Type 0 where
+  -- a walk that stopped and left these steps, before the release
+  pub record Halts (old : State) (limit : ℕ) (keys : List Term) (given : Given) (why : WalkFault) (left : List Step) (now : State) : Type 0 where
     pub done : List Step
-    pub left : List Step
     pub own_left : List Step
     pub replies : List Reply
     pub order : walk p t keys given ≡ done ++ left
@@ -102,15 +104,43 @@ module _ (p t : ℕ) where
     pub reason : Reason p t why old limit keys given (fix p t ∷ done) left (true_reply ∷ replies) now
     pub fixes : is_there t now ≡ true → fixes_in p t now ≡ suc (fixes_in p t old)
 
-  -- what the turn of a key comes to
-  abbrev pub TurnsTo : State → List Term → Given → Result (Option Term) WalkFault → State → Type 0
-  TurnsTo old keys given (Ok found) now = Stands old keys given found now
-  TurnsTo old keys given (Err why) now = (limit : ℕ) → Halts old limit keys given why now
+  -- ---- the same of the buckets
+  -- the fix is done
+  abbrev pub IsHeld : State → State → Type 0
+  IsHeld old new = step (seen old) (fix p t) true_reply (seen new) × step_on_buckets old (fix p t) true_reply new
+
+  abbrev pub HoldsOn : State → Result (Unit {0}) WalkFault → State → Type 0
+  HoldsOn old (Ok done) new = step_on_buckets old (fix p t) true_reply new
+  HoldsOn old (Err why) new = new ≡ old
+
+  abbrev pub LetsGoOn : State → Bool → State → Type 0
+  LetsGoOn old true new = step_on_buckets old (release p t) true_reply new
+  LetsGoOn old false new = new ≡ old
+
+  -- the fix is done, and of the steps of the walk all but those left
+  pub record Weaves (old : State) (keys : List Term) (given : Given) (left : List Step) (now : State) : Type 0 where
+    pub done : List Step
+    pub replies : List Reply
+    pub order : walk p t keys given ≡ done ++ left
+    pub ran : run_on_buckets old (fix p t ∷ done) replies now
+
+  -- what the turn of a key comes to, from wherever the walk began
+  abbrev pub TurnsTo : (keys : List Term) (given : Given) (key : Term) (was : State) (keys' : List Term) (given' : Given) → Result (Option Term) WalkFault → State → Type 0
+  TurnsTo keys given key was keys' given' (Ok found) now =
+      ((old : State) → Stands old keys given (Some key) (seen was) → Stands old keys' given' found (seen now))
+      × ((old : State) → Weaves old keys given [] was → Weaves old keys' given' [] now)
+  TurnsTo keys given key was keys' given' (Err why) now =
+      (left : List Step) × ((old : State) → Stands old keys given (Some key) (seen was) → (limit : ℕ) → Halts old limit keys' given' why left (seen now))
+      × ((old : State) → Weaves old keys given [] was → Weaves old keys' given' left now)
 
   -- what the whole walk comes to, before the release
-  abbrev pub EndsIn : State → ℕ → List Term → Given → Result Walk WalkFault → State → Type 0
-  EndsIn old limit keys given (Ok walk) now = (walk.keys ≡ keys) × (length keys ≤ limit) × Stands old keys given None now
-  EndsIn old limit keys given (Err why) now = Halts old limit keys given why now
+  abbrev pub EndsIn : (limit : ℕ) (was : State) (keys : List Term) (given : Given) → Result Walk WalkFault → State → Type 0
+  EndsIn limit was keys given (Ok walk) now =
+      ((old : State) → Holds old (Ok tt) (seen was) → (walk.keys ≡ keys) × (length keys ≤ limit) × Stands old keys given None (seen now))
+      × ((old : State) → IsHeld old was → Weaves old keys given [] now)
+  EndsIn limit was keys given (Err why) now =
+      (left : List Step) × ((old : State) → Holds old (Ok tt) (seen was) → Halts old limit keys given why left (seen now))
+      × ((old : State) → IsHeld old was → Weaves old keys given left now)
 
 -- the steps handed in are done in order, none of them of this process: all, or those before one that is its own or that memory was
 -- refused for
@@ -119,7 +149,7 @@ steps_of given = map (λ g. g.1) given
 
 pub record OthersDid (p : ℕ) (old : State) (given : Given) (new : State) : Type 0 where
   pub replies : List Reply
-  pub ran : run old (steps_of given) replies new
+  pub ran : run_on_buckets old (steps_of given) replies new
   pub others : AllByRecursion (λ s. is_step_of p s ≡ false) (steps_of given)
 
 abbrev pub StoppedAt : ℕ → WalkFault → Given → Type 0

@@ -23,7 +23,7 @@ impl<H: KeyHash + Copy + Drop> Node<H> {
     ghost use Rattle.node_core.specs.inside.Lending.{LendsTable, LendsUsable};
 
     /// The table that a term names, where the process may read it.
-    pub fn readable(&self, pid: u32, term: &Term) -> Option<&Walked<SplitRows<H>>>
+    pub(crate) fn readable(&self, pid: u32, term: &Term) -> Option<&Walked<SplitRows<H>>>
         ensures { option_copied result ≡ option_map (λ found. found.1.fixed) (usable Read self.now.world.tables pid term.now) }
     {
         let id = self.world.resolve(term)?;
@@ -35,7 +35,7 @@ impl<H: KeyHash + Copy + Drop> Node<H> {
     }
 
     /// The table that a term names, where the process may use it so, for a change of it alone.
-    pub fn usable_mut(
+    pub(crate) fn usable_mut(
         &mut self,
         access: Access,
         pid: u32,
@@ -53,7 +53,7 @@ impl<H: KeyHash + Copy + Drop> Node<H> {
     }
 
     /// The table with an identifier, for a change of it alone. What may then be due of it is looked for.
-    pub fn table_mut(&mut self, id: u32) -> Option<&mut Walked<SplitRows<H>>>
+    pub(crate) fn table_mut(&mut self, id: u32) -> Option<&mut Walked<SplitRows<H>>>
         ensures* lends { sem 𝓛 (LendsTable H.row H.KeyHash H.Clone ⟦<SplitRows<H> as Rows>⟧ self.entry id result) }
         ensures value { option_copied_mut result ≡ option_map (λ table. table.fixed) (table_at self.old.world.tables id) }
     {
@@ -65,7 +65,7 @@ impl<H: KeyHash + Copy + Drop> Node<H> {
     }
 
     /// The identifier of the table that a term names, where the process may use it so.
-    pub fn usable_id(&self, access: Access, pid: u32, term: &Term) -> Option<u32>
+    pub(crate) fn usable_id(&self, access: Access, pid: u32, term: &Term) -> Option<u32>
         ensures { result ≡ option_map (λ found. found.0) (usable access self.now.world.tables pid term.now) }
     {
         let id = self.world.resolve(term)?;

@@ -13,7 +13,7 @@ use std::alloc::AllocError;
 use table_ops::Refusal;
 
 impl<H: KeyHash + Copy + Drop> Node<H> {
-    pub fn ask(&mut self, pid: u32, call: &Call) -> Result<Reply, AllocError>
+    pub(crate) fn ask(&mut self, pid: u32, call: &Call) -> Result<Reply, AllocError>
         ensures ok { IfOk result (λ r. step self.old (Ask pid call.now) r self.new) }
         ensures err { OnErr result (self.new ≡ self.old) }
     {

@@ -9,7 +9,7 @@ use ets_term::KeyHash;
 use std::alloc::AllocError;
 
 impl<H: KeyHash + Copy + Drop> Node<H> {
-    pub fn grow(&mut self, id: u32) -> Result<Reply, AllocError>
+    pub(crate) fn grow(&mut self, id: u32) -> Result<Reply, AllocError>
         ensures ok { IfOk result (λ r. in_table self.old id Grows r self.new) }
         ensures err { OnErr result (self.new ≡ self.old) }
     {
@@ -21,7 +21,7 @@ impl<H: KeyHash + Copy + Drop> Node<H> {
         Ok(atom_reply(alloc, b"ok"))
     }
 
-    pub fn ready(&mut self, id: u32, bucket: u32) -> Result<Reply, AllocError>
+    pub(crate) fn ready(&mut self, id: u32, bucket: u32) -> Result<Reply, AllocError>
         ensures ok { IfOk result (λ r. in_table self.old id (Readies bucket) r self.new) }
         ensures err { OnErr result (self.new ≡ self.old) }
     {

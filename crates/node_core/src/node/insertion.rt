@@ -13,7 +13,12 @@ use std::slice;
 use table_ops::Refusal;
 
 impl<H: KeyHash + Copy + Drop> Node<H> {
-    pub fn insert(&mut self, pid: u32, table: &Term, objects: &Term) -> Result<Reply, Refusal>
+    pub(crate) fn insert(
+        &mut self,
+        pid: u32,
+        table: &Term,
+        objects: &Term,
+    ) -> Result<Reply, Refusal>
         ensures { Comes (writes self.old pid table.now (Insert objects.now)) self.old result self.new }
     {
         let alloc = self.alloc;
@@ -24,7 +29,12 @@ impl<H: KeyHash + Copy + Drop> Node<H> {
         Ok(true_reply(alloc))
     }
 
-    pub fn insert_new(&mut self, pid: u32, table: &Term, objects: &Term) -> Result<Reply, Refusal>
+    pub(crate) fn insert_new(
+        &mut self,
+        pid: u32,
+        table: &Term,
+        objects: &Term,
+    ) -> Result<Reply, Refusal>
         ensures { Comes (writes self.old pid table.now (InsertNew objects.now)) self.old result self.new }
     {
         let alloc = self.alloc;

@@ -13,7 +13,7 @@ use std::alloc::Global;
 use table_ops::Refusal;
 
 impl<H: KeyHash + Copy + Drop> Node<H> {
-    pub fn give_away(
+    pub(crate) fn give_away(
         &mut self,
         pid: u32,
         table: &Term,
@@ -32,7 +32,12 @@ impl<H: KeyHash + Copy + Drop> Node<H> {
         }
     }
 
-    pub fn set_options(&mut self, pid: u32, table: &Term, options: &Term) -> Result<Reply, Refusal>
+    pub(crate) fn set_options(
+        &mut self,
+        pid: u32,
+        table: &Term,
+        options: &Term,
+    ) -> Result<Reply, Refusal>
         ensures { Comes (SetOptions self.old pid table.now options.now) self.old result self.new }
     {
         let id = self.world.resolve(table).ok_or(Refusal::Badarg)?;
@@ -42,13 +47,13 @@ impl<H: KeyHash + Copy + Drop> Node<H> {
         }
     }
 
-    pub fn receive(&mut self, pid: u32) -> Result<Reply, Refusal>
+    pub(crate) fn receive(&mut self, pid: u32) -> Result<Reply, Refusal>
         ensures { Comes (Receive self.old pid) self.old result self.new }
     {
         Ok(Reply::Value(Term::List(self.world.receive(pid))))
     }
 
-    pub fn whereis(&self, name: &Term) -> Result<Reply, Refusal>
+    pub(crate) fn whereis(&self, name: &Term) -> Result<Reply, Refusal>
         ensures { Comes (Whereis self.now name.now) self.now result self.now }
     {
         let Term::Atom(name) = name else {
@@ -60,7 +65,7 @@ impl<H: KeyHash + Copy + Drop> Node<H> {
         }
     }
 
-    pub fn info(&self, table: &Term, item: &Term) -> Result<Reply, Refusal>
+    pub(crate) fn info(&self, table: &Term, item: &Term) -> Result<Reply, Refusal>
         ensures { Comes (Info self.now table.now item.now) self.now result self.now }
     {
         let item = InfoItem::read(item).ok_or(Refusal::Badarg)?;

@@ -11,7 +11,7 @@ use ets_term::{KeyHash, Term};
 use std::alloc::AllocError;
 
 impl<H: KeyHash + Copy + Drop> Node<H> {
-    pub fn enrol(&mut self, pid: u32) -> Result<Reply, AllocError>
+    pub(crate) fn enrol(&mut self, pid: u32) -> Result<Reply, AllocError>
         ensures ok { IfOk result (λ r. step self.old (Enrol pid) r self.new) }
         ensures err { OnErr result (self.new ≡ self.old) }
     {
@@ -21,7 +21,7 @@ impl<H: KeyHash + Copy + Drop> Node<H> {
         }
     }
 
-    pub fn end(&mut self, pid: u32) -> Result<Reply, AllocError>
+    pub(crate) fn end(&mut self, pid: u32) -> Result<Reply, AllocError>
         ensures ok { IfOk result (λ r. step self.old (End pid) r self.new) }
         ensures err { OnErr result (self.new ≡ self.old) }
     {

@@ -11,21 +11,21 @@ use ets_term::{KeyHash, Term};
 use table_ops::Refusal;
 
 impl<H: KeyHash + Copy + Drop> Node<H> {
-    pub fn lookup(&self, pid: u32, table: &Term, key: &Term) -> Result<Reply, Refusal>
+    pub(crate) fn lookup(&self, pid: u32, table: &Term, key: &Term) -> Result<Reply, Refusal>
         ensures { Comes (reads self.now pid table.now (Lookup key.now)) self.now result self.now }
     {
         let table = self.readable(pid, table).ok_or(Refusal::Badarg)?;
         Ok(list_reply(self.alloc, table.lookup(key))?)
     }
 
-    pub fn member(&self, pid: u32, table: &Term, key: &Term) -> Result<Reply, Refusal>
+    pub(crate) fn member(&self, pid: u32, table: &Term, key: &Term) -> Result<Reply, Refusal>
         ensures { Comes (reads self.now pid table.now (Member key.now)) self.now result self.now }
     {
         let table = self.readable(pid, table).ok_or(Refusal::Badarg)?;
         Ok(truth_reply(self.alloc, table.member(key)))
     }
 
-    pub fn lookup_element(
+    pub(crate) fn lookup_element(
         &self,
         pid: u32,
         table: &Term,
@@ -40,7 +40,7 @@ impl<H: KeyHash + Copy + Drop> Node<H> {
         Ok(Reply::Value(element))
     }
 
-    pub fn tab2list(&self, pid: u32, table: &Term) -> Result<Reply, Refusal>
+    pub(crate) fn tab2list(&self, pid: u32, table: &Term) -> Result<Reply, Refusal>
         ensures { Comes (reads self.now pid table.now Tab2list) self.now result self.now }
     {
         let table = self.readable(pid, table).ok_or(Refusal::Badarg)?;

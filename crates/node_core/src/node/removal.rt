@@ -11,7 +11,7 @@ use ets_term::{KeyHash, Term};
 use table_ops::Refusal;
 
 impl<H: KeyHash + Copy + Drop> Node<H> {
-    pub fn take(&mut self, pid: u32, table: &Term, key: &Term) -> Result<Reply, Refusal>
+    pub(crate) fn take(&mut self, pid: u32, table: &Term, key: &Term) -> Result<Reply, Refusal>
         ensures { Comes (writes self.old pid table.now (Take key.now)) self.old result self.new }
     {
         let Some(table) = self.usable_mut(Access::Write, pid, table) else {
@@ -21,7 +21,7 @@ impl<H: KeyHash + Copy + Drop> Node<H> {
         Ok(Reply::Value(Term::List(objects)))
     }
 
-    pub fn delete(&mut self, pid: u32, table: &Term, key: &Term) -> Result<Reply, Refusal>
+    pub(crate) fn delete(&mut self, pid: u32, table: &Term, key: &Term) -> Result<Reply, Refusal>
         ensures { Comes (writes self.old pid table.now (Delete key.now)) self.old result self.new }
     {
         let alloc = self.alloc;
@@ -32,7 +32,12 @@ impl<H: KeyHash + Copy + Drop> Node<H> {
         Ok(true_reply(alloc))
     }
 
-    pub fn delete_object(&mut self, pid: u32, table: &Term, object: &Term) -> Result<Reply, Refusal>
+    pub(crate) fn delete_object(
+        &mut self,
+        pid: u32,
+        table: &Term,
+        object: &Term,
+    ) -> Result<Reply, Refusal>
         ensures { Comes (writes self.old pid table.now (DeleteObject object.now)) self.old result self.new }
     {
         let alloc = self.alloc;
@@ -43,7 +48,7 @@ impl<H: KeyHash + Copy + Drop> Node<H> {
         Ok(true_reply(alloc))
     }
 
-    pub fn delete_all_objects(&mut self, pid: u32, table: &Term) -> Result<Reply, Refusal>
+    pub(crate) fn delete_all_objects(&mut self, pid: u32, table: &Term) -> Result<Reply, Refusal>
         ensures { Comes (writes self.old pid table.now DeleteAllObjects) self.old result self.new }
     {
         let alloc = self.alloc;

@@ -19,7 +19,12 @@ use std::alloc::Global;
 use table_ops::Refusal;
 
 impl<H: KeyHash + Copy + Drop> Node<H> {
-    pub fn match_bindings(&self, pid: u32, table: &Term, pattern: &Term) -> Result<Reply, Refusal>
+    pub(crate) fn match_bindings(
+        &self,
+        pid: u32,
+        table: &Term,
+        pattern: &Term,
+    ) -> Result<Reply, Refusal>
         ensures { Comes (reads self.now pid table.now (Match pattern.now)) self.now result self.now }
     {
         let table = self.readable(pid, table).ok_or(Refusal::Badarg)?;
@@ -27,7 +32,12 @@ impl<H: KeyHash + Copy + Drop> Node<H> {
         Ok(answers_reply(table.matches(&pattern)?))
     }
 
-    pub fn match_object(&self, pid: u32, table: &Term, pattern: &Term) -> Result<Reply, Refusal>
+    pub(crate) fn match_object(
+        &self,
+        pid: u32,
+        table: &Term,
+        pattern: &Term,
+    ) -> Result<Reply, Refusal>
         ensures { Comes (reads self.now pid table.now (MatchObject pattern.now)) self.now result self.now }
     {
         let table = self.readable(pid, table).ok_or(Refusal::Badarg)?;
@@ -35,7 +45,12 @@ impl<H: KeyHash + Copy + Drop> Node<H> {
         Ok(Reply::Value(Term::List(table.match_objects(&pattern)?)))
     }
 
-    pub fn match_delete(&mut self, pid: u32, table: &Term, pattern: &Term) -> Result<Reply, Refusal>
+    pub(crate) fn match_delete(
+        &mut self,
+        pid: u32,
+        table: &Term,
+        pattern: &Term,
+    ) -> Result<Reply, Refusal>
         ensures { Comes (writes self.old pid table.now (MatchDelete pattern.now)) self.old result self.new }
     {
         let alloc = self.alloc;
@@ -46,7 +61,7 @@ impl<H: KeyHash + Copy + Drop> Node<H> {
         Ok(true_reply(alloc))
     }
 
-    pub fn select(&self, pid: u32, table: &Term, spec: &Term) -> Result<Reply, Refusal>
+    pub(crate) fn select(&self, pid: u32, table: &Term, spec: &Term) -> Result<Reply, Refusal>
         ensures { Comes (reads self.now pid table.now (Select spec.now)) self.now result self.now }
     {
         let table = self.readable(pid, table).ok_or(Refusal::Badarg)?;
@@ -54,7 +69,7 @@ impl<H: KeyHash + Copy + Drop> Node<H> {
         Ok(answers_reply(table.select(&spec)?))
     }
 
-    pub fn select_count(&self, pid: u32, table: &Term, spec: &Term) -> Result<Reply, Refusal>
+    pub(crate) fn select_count(&self, pid: u32, table: &Term, spec: &Term) -> Result<Reply, Refusal>
         ensures { Comes (reads self.now pid table.now (SelectCount spec.now)) self.now result self.now }
     {
         let table = self.readable(pid, table).ok_or(Refusal::Badarg)?;
@@ -62,7 +77,12 @@ impl<H: KeyHash + Copy + Drop> Node<H> {
         Ok(count_reply(table.select_count(&spec)?))
     }
 
-    pub fn select_delete(&mut self, pid: u32, table: &Term, spec: &Term) -> Result<Reply, Refusal>
+    pub(crate) fn select_delete(
+        &mut self,
+        pid: u32,
+        table: &Term,
+        spec: &Term,
+    ) -> Result<Reply, Refusal>
         ensures { Comes (writes self.old pid table.now (SelectDelete spec.now)) self.old result self.new }
     {
         let alloc = self.alloc;

@@ -8,7 +8,7 @@ use ets_term::{KeyHash, Term};
 use table_ops::Refusal;
 
 impl<H: KeyHash + Copy + Drop> Node<H> {
-    pub fn call(&mut self, pid: u32, name: &str, args: &[Term]) -> Result<Reply, Refusal>
+    pub(crate) fn call(&mut self, pid: u32, name: &str, args: &[Term]) -> Result<Reply, Refusal>
         ensures { Comes (call self.old pid name.now args.now) self.old result self.new }
     {
         match args {

@@ -21,7 +21,12 @@ use std::alloc::AllocError;
 use table_ops::{Refusal, Table};
 
 impl<H: KeyHash + Copy + Drop> Node<H> {
-    pub fn new_call(&mut self, pid: u32, name: &Term, options: &Term) -> Result<Reply, Refusal>
+    pub(crate) fn new_call(
+        &mut self,
+        pid: u32,
+        name: &Term,
+        options: &Term,
+    ) -> Result<Reply, Refusal>
         ensures { Comes (New self.old pid name.now options.now) self.old result self.new }
     {
         let Term::Atom(name) = name else {
@@ -67,7 +72,7 @@ impl<H: KeyHash + Copy + Drop> Node<H> {
         Ok(Walked::new(self.alloc, table))
     }
 
-    pub fn delete_table(&mut self, pid: u32, table: &Term) -> Result<Reply, Refusal>
+    pub(crate) fn delete_table(&mut self, pid: u32, table: &Term) -> Result<Reply, Refusal>
         ensures { Comes (DeleteTable self.old pid table.now) self.old result self.new }
     {
         let id = self

@@ -17,7 +17,7 @@ use std::alloc::Global;
 use table_ops::Refusal;
 
 impl<H: KeyHash + Copy + Drop> Node<H> {
-    pub fn update_counter(
+    pub(crate) fn update_counter(
         &mut self,
         pid: u32,
         table: &Term,
@@ -35,7 +35,7 @@ impl<H: KeyHash + Copy + Drop> Node<H> {
         Ok(Reply::Value(answer))
     }
 
-    pub fn update_element(
+    pub(crate) fn update_element(
         &mut self,
         pid: u32,
         table: &Term,

@@ -6,7 +6,7 @@ ghost use Rattle.table_ops.specs.Content.{IsContent};
 ghost use Rattle.ownership.specs.World as model;
 ghost use Rattle.node_core.specs.Seen.{seen};
 ghost use Rattle.node_core.specs.Woven.{can_read};
-ghost use Rattle.node_core.specs.inside.Walker.{CanGoOn, Finds, Holds, LetsGo};
+ghost use Rattle.node_core.specs.inside.Walker.{CanGoOn, Finds, Holds, HoldsOn, LetsGo, LetsGoOn};
 
 use super::Node;
 use crate::walk::WalkFault;
@@ -15,7 +15,7 @@ use fixed_walk::FixFault;
 use std::alloc::Global;
 
 impl<H: KeyHash + Copy + Drop> Node<H> {
-    pub fn allocator(&self) -> Global {
+    pub(crate) fn allocator(&self) -> Global {
         self.alloc
     }
 
@@ -27,8 +27,9 @@ impl<H: KeyHash + Copy + Drop> Node<H> {
     }
 
     /// One fix more of the table.
-    pub fn hold(&mut self, pid: u32, id: u32) -> Result<(), WalkFault>
-        ensures { Holds pid id (seen self.old) result (seen self.new) }
+    pub(crate) fn hold(&mut self, pid: u32, id: u32) -> Result<(), WalkFault>
+        ensures holds { Holds pid id (seen self.old) result (seen self.new) }
+        ensures buckets { HoldsOn pid id self.old result self.new }
     {
         if !self.can_read(pid, id) {
             return Err(WalkFault::Lost);
@@ -44,8 +45,9 @@ impl<H: KeyHash + Copy + Drop> Node<H> {
     }
 
     /// One fix less, where the process may read the table; whether it may. It takes no memory.
-    pub fn let_go(&mut self, pid: u32, id: u32) -> bool
-        ensures { LetsGo pid id (seen self.old) result (seen self.new) }
+    pub(crate) fn let_go(&mut self, pid: u32, id: u32) -> bool
+        ensures lets_go { LetsGo pid id (seen self.old) result (seen self.new) }
+        ensures buckets { LetsGoOn pid id self.old result self.new }
     {
         if !self.can_read(pid, id) {
             return false;
@@ -58,7 +60,7 @@ impl<H: KeyHash + Copy + Drop> Node<H> {
     }
 
     /// The first key, or the key behind the last one; None at the end.
-    pub fn key_behind(
+    pub(crate) fn key_behind(
         &self,
         pid: u32,
         id: u32,

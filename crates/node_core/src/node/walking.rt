@@ -15,7 +15,12 @@ use std::alloc::{AllocError, Global};
 use table_ops::Refusal;
 
 impl<H: KeyHash + Copy + Drop> Node<H> {
-    pub fn safe_fixtable(&mut self, pid: u32, table: &Term, flag: &Term) -> Result<Reply, Refusal>
+    pub(crate) fn safe_fixtable(
+        &mut self,
+        pid: u32,
+        table: &Term,
+        flag: &Term,
+    ) -> Result<Reply, Refusal>
         ensures { Comes (SafeFixtable self.old pid table.now flag.now) self.old result self.new }
     {
         if flag.is_atom("true") {
@@ -52,14 +57,14 @@ impl<H: KeyHash + Copy + Drop> Node<H> {
         Ok(true_reply(alloc))
     }
 
-    pub fn first(&self, pid: u32, table: &Term) -> Result<Reply, Refusal>
+    pub(crate) fn first(&self, pid: u32, table: &Term) -> Result<Reply, Refusal>
         ensures { Comes (reads self.now pid table.now First) self.now result self.now }
     {
         let table = self.readable(pid, table).ok_or(Refusal::Badarg)?;
         Ok(key_reply(self.alloc, table.first())?)
     }
 
-    pub fn next(&self, pid: u32, table: &Term, key: &Term) -> Result<Reply, Refusal>
+    pub(crate) fn next(&self, pid: u32, table: &Term, key: &Term) -> Result<Reply, Refusal>
         ensures { Comes (reads self.now pid table.now (Next key.now)) self.now result self.now }
     {
         let table = self.readable(pid, table).ok_or(Refusal::Badarg)?;

@@ -11,6 +11,7 @@ mod long;
 mod processes;
 mod refused;
 mod tables;
+mod through;
 mod walk_among;
 
 /// A step, told.

@@ -62,6 +62,8 @@ enum Trial {
     Processes,
     Tables,
     Names,
+    Runs,
+    RunsThrough,
 }
 
 fn passes_on(alloc: Global, node: &mut Node<Fnv>, trial: Trial) -> Result<bool, AllocError> {
@@ -71,6 +73,8 @@ fn passes_on(alloc: Global, node: &mut Node<Fnv>, trial: Trial) -> Result<bool, 
         Trial::Processes => processes::serves(alloc, node, 4_096),
         Trial::Tables => processes::has_tables(alloc, node, COUNT),
         Trial::Names => processes::takes_names(alloc, node),
+        Trial::Runs => runs::runs(alloc, node),
+        Trial::RunsThrough => runs::runs_through(alloc, node),
     }
 }
 

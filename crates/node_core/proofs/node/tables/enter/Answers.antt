@@ -1,5 +1,5 @@
-use Rattle.std.proofs.Common.{◌≡◌, ◌≤◌, ◌<◌, ◌+◌, rules, Some, length, sym, ap, subst, arith}
-use Rattle.ownership.specs.World.{World, Table}
+use Rattle.std.proofs.Common.{◌≡◌, ◌≤◌, ◌+◌, rules, Some, length, sym, subst, arith}
+use Rattle.ownership.specs.World.{World}
 use Rattle.ownership.specs.Tables.{new_head, with_table}
 use Rattle.node_core.specs.inside.Identifiers.{AreBelow, IsAmong}
 use Rattle.node_core.specs.inside.Due.{IsIndex}

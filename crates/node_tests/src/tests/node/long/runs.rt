@@ -24,17 +24,39 @@ fn last_reply(node: &mut Node<Fnv>, steps: &[Step]) -> Option<Reply> {
     replies.pop()
 }
 
-/// Whether the last reply of a run of so long a life is what was stored last.
-fn runs(alloc: Global, count: u32, last: &str) -> Result<bool, AllocError> {
-    let steps = life(alloc, count)?;
-    let mut node = Node::new(alloc, Limits::usual(), Fnv);
-    match last_reply(&mut node, steps.as_slice()) {
-        Some(reply) => is(alloc, &reply, last),
+/// The last reply of a run that passes over no step.
+fn last_answer(node: &mut Node<Fnv>, steps: &[Step]) -> Option<Reply> {
+    let mut answers = node.run_through(steps).ok()?;
+    if answers.iter().any(|answer| answer.is_none()) {
+        return None;
+    }
+    answers.pop()?
+}
+
+/// Whether it is what was stored last.
+fn is_last(alloc: Global, reply: Option<Reply>) -> Result<bool, AllocError> {
+    match reply {
+        Some(reply) => is(alloc, &reply, "[{a,2099}]"),
         None => Ok(false),
     }
 }
 
+pub fn runs(alloc: Global, node: &mut Node<Fnv>) -> Result<bool, AllocError> {
+    let steps = life(alloc, COUNT)?;
+    is_last(alloc, last_reply(node, steps.as_slice()))
+}
+
+pub fn runs_through(alloc: Global, node: &mut Node<Fnv>) -> Result<bool, AllocError> {
+    let steps = life(alloc, COUNT)?;
+    is_last(alloc, last_answer(node, steps.as_slice()))
+}
+
 #[test]
 fn a_run_is_long(rt: HostRuntime) {
-    assert!(rt; runs(rt.alloc(), COUNT, "[{a,2099}]") == Ok(true));
+    assert!(rt; passes(rt.alloc(), Trial::Runs) == Ok(true));
+}
+
+#[test]
+fn a_run_past_want_of_memory_is_long(rt: HostRuntime) {
+    assert!(rt; passes(rt.alloc(), Trial::RunsThrough) == Ok(true));
 }

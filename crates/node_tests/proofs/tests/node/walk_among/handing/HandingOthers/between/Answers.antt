@@ -1,6 +1,5 @@
 use Rattle.std.proofs.Common.{◌≡◌, ◌++◌, ◌∷◌, [], map, sym, ap, ap₂, ◌∙◌, append_assoc, arith, rules, length}
 use Rattle.std.proofs.lemmas.List.{append-nil, map-append}
-use Rattle.std.specs.Vec.Iter.{into_iter_items, into_iter_len}
 use Rattle.node_tests.proofs.tests.node.walk_among.handing.HandingOthers.between.Goals as goal
 
 pub loop-event-init : goal.loop-event-init

@@ -1,0 +1,17 @@
+-- Runs past steps that are refused memory.
+use Rattle.std.specs.Prelude.{List, [], ◌∷◌, Option, Some, None}
+use Rattle.node_core.specs.declared.step.Step.{Step}
+use Rattle.node_core.specs.declared.step.Reply.{Reply}
+
+-- the steps that have a reply
+abbrev pub answered : List Step → List (Option Reply) → List Step
+answered [] answers = []
+answered (s ∷ steps) [] = []
+answered (s ∷ steps) (None ∷ answers) = answered steps answers
+answered (s ∷ steps) (Some r ∷ answers) = s ∷ answered steps answers
+
+-- their replies
+abbrev pub replies_in : List (Option Reply) → List Reply
+replies_in [] = []
+replies_in (None ∷ answers) = replies_in answers
+replies_in (Some r ∷ answers) = r ∷ replies_in answers

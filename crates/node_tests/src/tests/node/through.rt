@@ -1,0 +1,69 @@
+// A run that goes past want of memory: where there is memory it passes over nothing.
+use super::Event::{Ask, End, Enrol, Grow, Ready};
+use super::{Row, is, step};
+use ets_term::Fnv;
+use node_core::{Limits, Node, Reply, Step};
+use std::alloc::{AllocError, Global};
+use std::process::Abort;
+
+/// Each kind of step, answered and refused.
+const LIFE: [Row; 16] = [
+    (Enrol(0), "<0"),
+    (Enrol(0), "** badarg"),
+    (Ask(0, "new(t,[named_table])"), "t"),
+    (Ask(0, "new(t,[named_table])"), "** badarg"),
+    (Ask(0, "insert(t,[{a,1},{b,2},{c,3}])"), "true"),
+    (Ask(0, "insert_new(t,{a,4})"), "false"),
+    (Ask(0, "update_counter(t,c,[{2,1},{2,1}])"), "[4,5]"),
+    (Ask(1, "lookup(t,a)"), "** noproc"),
+    (Grow(0), "ok"),
+    (Ready(0, 3), "ok"),
+    (Ready(1, 0), "** badarg"),
+    (Ask(0, "take(t,b)"), "[{b,2}]"),
+    (Ask(0, "take(t,b)"), "[]"),
+    (Ask(0, "tab2list(t)"), "~[{a,1},{c,5}]"),
+    (End(0), "true"),
+    (End(0), "** noproc"),
+];
+
+fn steps_of(alloc: Global, rows: &[Row]) -> Result<Vec<Step>, AllocError> {
+    let mut steps = Vec::new(alloc);
+    for (event, _) in rows {
+        steps.push(step(alloc, *event)?)?;
+    }
+    Ok(steps)
+}
+
+/// The place of the first row whose step has another answer, or none.
+fn wrong_answer(
+    alloc: Global,
+    rows: &[Row],
+    answers: &[Option<Reply>],
+) -> Result<Option<usize>, AllocError> {
+    for (place, (_, wanted)) in rows.iter().enumerate() {
+        let Some(Some(reply)) = answers.get(place) else {
+            return Ok(Some(place));
+        };
+        if !is(alloc, reply, *wanted)? {
+            return Ok(Some(place));
+        }
+    }
+    Ok(None)
+}
+
+/// The same of a run through a node.
+fn wrong_through(
+    alloc: Global,
+    node: &mut Node<Fnv>,
+    rows: &[Row],
+) -> Result<Option<usize>, AllocError> {
+    let steps = steps_of(alloc, rows)?;
+    let answers = node.run_through(steps.as_slice())?;
+    wrong_answer(alloc, rows, answers.as_slice())
+}
+
+#[test]
+fn every_step_is_answered_where_there_is_memory(rt: HostRuntime) {
+    let mut node = Node::new(rt.alloc(), Limits::usual(), Fnv);
+    assert_eq!(rt; wrong_through(rt.alloc(), &mut node, &LIFE), Ok(None));
+}
