@@ -20,6 +20,8 @@ use Rattle.node_core.proofs.Tending.{due-tends}
 use Rattle.node_shared.specs.declared.entry.Entry.{Entry}
 use Rattle.node_shared.specs.Journal.{entry, Does, IsRun, process_of, process_entries}
 use Rattle.node_shared.specs.Kept.{Stands}
+use Rattle.node_shared.specs.History.{Within}
+use Rattle.node_shared.specs.Serving.{Continues}
 
 abbrev step_of : Entry → Step
 step_of e = e.step
@@ -30,10 +32,14 @@ reply_of e = e.reply
 abbrev is_of_process : Entry → Bool
 is_of_process e = is_some (process_of e.step)
 
-run-on : (limits : Limits) (old new : State) (es : List Entry) (s : Step) (r : Reply) → IsRun limits es old → Does old s r new → IsRun limits (es ++ entry s r ∷ []) new
+pub run-on : (limits : Limits) (old new : State) (es : List Entry) (s : Step) (r : Reply) → IsRun limits es old → Does old s r new → IsRun limits (es ++ entry s r ∷ []) new
 run-on limits old new es s r run does =
     let pushed = run-on-buckets-push (empty limits) old new (map step_of es) (map reply_of es) s r run does.0 does.1 in
     rw (map-append step_of es (entry s r ∷ []), map-append reply_of es (entry s r ∷ [])) pushed
+
+-- a step that is done behind a run, with entries that stand in it
+pub continues : (limits : Limits) (old new : State) (es own : List Entry) (s : Step) (r : Reply) → Within own es → IsRun limits es old → Does old s r new → Continues limits own s r
+continues limits old new es own s r stand run does = (es, new, stand, run-on limits old new es s r run does)
 
 -- how many entries of processes an entry of this step is
 abbrev pub weight : Step → ℕ

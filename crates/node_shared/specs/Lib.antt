@@ -1,6 +1,8 @@
 pub mod Numbers
 pub mod Journal
 pub mod Records
+pub mod History
+pub mod Serving
 pub mod Kept
 pub mod Asking
 pub mod Faults

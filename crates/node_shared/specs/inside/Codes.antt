@@ -6,6 +6,7 @@ use Rattle.node_core.specs.inside.Codes.{state_code}
 use Rattle.node_shared.specs.declared.entry.Entry.{Entry}
 use Rattle.node_shared.specs.contracts.entry.Entry as entry
 use Rattle.node_shared.specs.Records.{Kept, Recorded}
+use Rattle.node_shared.specs.Serving.{Reached}
 
 abbrev pub kept_code : Coded Kept
 kept_code =
@@ -14,3 +15,6 @@ kept_code =
 
 abbrev pub recorded_code : Coded Recorded
 recorded_code = code_by (ℕ × List Entry) (coded× coded_ℕ (coded_list entry.the_row.coded)) (λ c. (c.pid, c.entries)) (λ p. record { pid = p.0; entries = p.1 }) (λ _. refl)
+
+abbrev pub reached_code : Coded Reached
+reached_code = code_by (State × List Entry) (coded× state_code (coded_list entry.the_row.coded)) (λ r. (r.state, r.history)) (λ p. record { state = p.0; history = p.1 }) (λ _. refl)

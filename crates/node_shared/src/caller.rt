@@ -1,0 +1,93 @@
+ghost use Rattle.std.specs.Prelude.{◌≡◌, IfOk, OnErr};
+ghost use Rattle.node_core.specs.declared.step.Step.TheVariants.{End, Ask};
+ghost use Rattle.node_shared.specs.Records.{records};
+ghost use Rattle.node_shared.specs.Serving.{Continues};
+
+use crate::history::{Author, Room};
+use crate::server::Server;
+use ets_term::KeyHash;
+use node_core::{Call, Reply, Step};
+use std::alloc::AllocError;
+use std::marker::Model;
+use std::sync::Wait;
+
+/// What speaks for one process of a server. A contract sees the process, and its steps with the replies that came, which stand in the
+/// server's history in this order. The program has no list of them.
+#[derive(Drop)]
+pub struct Caller<B: Room> {
+    pid: u32,
+    author: Author<B>,
+}
+
+impl<B: Room> Model for Caller<B> {
+    ghost use Rattle.node_shared.specs.Records.{Recorded};
+    ghost use Rattle.node_shared.specs.inside.Codes.{recorded_code};
+
+    ghost Value = { Recorded };
+
+    ghost coded = { recorded_code };
+
+    ghost view = { λ c. record { pid = c.pid; entries = c.author } };
+}
+
+impl<B: Room> Caller<B> {
+    pub(crate) fn of(pid: u32, author: Author<B>) -> Self
+        ensures { result ≡ record { pid = pid; entries = author } }
+    {
+        Caller { pid, author }
+    }
+
+    /// The process. It takes no memory.
+    pub fn pid(&self) -> u32
+        ensures { result ≡ self.now.pid }
+    {
+        self.pid
+    }
+
+    /// Asks a call, and answers its reply. Some run of the node has all that this caller was answered before, in order, and ends with this
+    /// call and this reply. Want of memory changes nothing. It may wait for the lock.
+    pub fn ask<H: KeyHash + Copy + Drop, R: Wait>(
+        &mut self,
+        rt: &R,
+        server: &Server<B, H>,
+        call: Call,
+    ) -> Result<Reply, AllocError>
+        ensures ok { IfOk result (λ r. self.new ≡ records self.old (Ask self.old.pid call) r) }
+        ensures order { IfOk result (Continues B.limits self.old.entries (Ask self.old.pid call)) }
+        ensures err { OnErr result (self.new ≡ self.old) }
+    {
+        let event = Step::Ask(self.pid, call);
+        self.step(rt, server, event)
+    }
+
+    /// Ends the process, and answers the reply; calls after it answer `NoProcess`. Of order and want of memory it is as `ask`. It may wait for
+    /// the lock.
+    pub fn end<H: KeyHash + Copy + Drop, R: Wait>(
+        &mut self,
+        rt: &R,
+        server: &Server<B, H>,
+    ) -> Result<Reply, AllocError>
+        ensures ok { IfOk result (λ r. self.new ≡ records self.old (End self.old.pid) r) }
+        ensures order { IfOk result (Continues B.limits self.old.entries (End self.old.pid)) }
+        ensures err { OnErr result (self.new ≡ self.old) }
+    {
+        let event = Step::End(self.pid);
+        self.step(rt, server, event)
+    }
+
+    fn step<H: KeyHash + Copy + Drop, R: Wait>(
+        &mut self,
+        rt: &R,
+        server: &Server<B, H>,
+        event: Step,
+    ) -> Result<Reply, AllocError>
+        ensures ok { IfOk result (λ r. self.new ≡ records self.old event r) }
+        ensures order { IfOk result (Continues B.limits self.old.entries event) }
+        ensures err { OnErr result (self.new ≡ self.old) }
+    {
+        server
+            .served
+            .lock(rt)
+            .step(&server.word, &mut self.author, event)
+    }
+}

@@ -1,0 +1,75 @@
+ghost use Rattle.std.specs.Prelude.{◌≡◌, ◌≤◌, true, [], ◌∷◌, IfOk, IfErr};
+ghost use Rattle.node_core.specs.declared.step.Reply.{Reply};
+ghost use Rattle.node_core.specs.rules.Replies.{is_value};
+ghost use Rattle.node_core.specs.declared.step.Step.TheVariants.{Enrol};
+ghost use Rattle.node_shared.specs.Journal.{entry};
+ghost use Rattle.node_shared.specs.Serving.{Begun};
+ghost use Rattle.node_shared.specs.Faults.{HandsBack};
+
+use crate::book::BookFault;
+use crate::caller::Caller;
+use crate::history::{Opening, Room, Word};
+use crate::pids::Drawn;
+use crate::served::Served;
+use crate::shared::JoinFault;
+use ets_term::KeyHash;
+use node_core::Limits;
+use std::alloc::Global;
+use std::sync::{Mutex, Wait};
+
+/// A node that threads share for as long as they like: of a call nothing is stored once it is answered.
+#[derive(Drop)]
+pub struct Server<B: Room, H: KeyHash + Copy + Drop> {
+    pub(crate) word: Word,
+    pub(crate) served: Mutex<Served<B, H>>,
+    ghost table: { word.shared.table_id ≡ B.table },
+    ghost one_word: { word.shared.table_id.words ≡ 1 },
+}
+
+impl<B: Room, H: KeyHash + Copy + Drop> Server<B, H> {
+    /// A node without processes and tables, behind the lock. Its history is the one that was opened.
+    pub fn new(alloc: Global, opening: Opening, limits: Limits, hash: H) -> Self
+        requires table { opening.word.shared.table_id ≡ B.table }
+        requires limits { limits ≡ B.limits }
+    {
+        let (word, keeper) = opening.named::<B>();
+        Server {
+            word,
+            served: Mutex::new(Served::new(alloc, keeper, limits, hash)),
+        }
+    }
+
+    /// Enrols the number that was drawn, and makes the caller of that process. It may wait for the lock.
+    pub fn client<R: Wait>(&self, rt: &R, drawn: Drawn) -> Result<Caller<B>, JoinFault>
+        ensures ok { IfOk result (Begun B.limits drawn.number) }
+        ensures err { IfErr result (HandsBack drawn) }
+    {
+        let pid = drawn.pid();
+        let joined = self.served.lock(rt).join(&self.word, pid);
+        match joined {
+            Ok((author, _reply)) => Ok(Caller::of(pid, author)),
+            Err(BookFault::Refused(reply)) => Err(JoinFault::Refused(reply, drawn)),
+            Err(BookFault::Memory) => Err(JoinFault::Memory(drawn)),
+        }
+    }
+
+    /// Does due steps, with the lock taken for each anew, until none is due, memory is refused, or so many turns were taken; answers how
+    /// many it did. It may wait for the lock.
+    pub fn keep<R: Wait>(&self, rt: &R, turns: u32) -> u32
+        ensures { result ≤ turns }
+    {
+        let mut done = 0;
+        for _ in 0..turns {
+            if !self.tend(rt) {
+                break;
+            }
+            done += 1;
+        }
+        done
+    }
+
+    /// Does one due step, and says whether it did: not where none is due, and not where memory is refused.
+    fn tend<R: Wait>(&self, rt: &R) -> bool {
+        matches!(self.served.lock(rt).tend(&self.word), Ok(true))
+    }
+}
