@@ -8,7 +8,7 @@ use Rattle.ets_term.specs.Depth.{is_too_deep}
 use Rattle.ets_term.specs.Order.{same}
 use Rattle.bucket_table.specs.Slots.{Slot, Enters, objects_of, with_objects, has_objects, object_count}
 use Rattle.counters.specs.Counters.{updated_counters}
-use Rattle.counters.specs.Defaults.{keyed, counted_from}
+use Rattle.counters.specs.Defaults.{keyed, counted_from, written_from}
 use Rattle.counters.specs.Elements.{updated_elements}
 use Rattle.counters.specs.declared.elements.ElementSpecs.{ElementSpecs}
 use Rattle.counters.specs.declared.fault.CounterFault.{CounterFault}
@@ -20,7 +20,7 @@ use Rattle.table_ops.specs.declared.refusal.Refusal.TheVariants.{Badarg, SystemL
 use Rattle.table_ops.specs.Content.{Content, is_object, objects_under}
 use Rattle.table_ops.specs.Put.{add, Writes, PutsAll, Stores, Inserts, InsertsNew, is_taken}
 use Rattle.table_ops.specs.Refusals.{Comes, gives}
-use Rattle.table_ops.specs.Update.{is_set, ops_open, specs_open, is_good, with_object, Counts, Starts, CountsUnder, UpdatesCounter, WritesElements, WritesUnder, UpdatesElement}
+use Rattle.table_ops.specs.Update.{is_set, ops_open, specs_open, is_good, with_object, Counts, Starts, CountsUnder, UpdatesCounter, WritesElements, with_true, WritesUnder, UpdatesElement}
 
 -- what a change keeps
 pub record Keeping (Q : List Slot → List Slot → Type 0) : Type 0 where
@@ -97,8 +97,8 @@ module _ (Q : List Slot → List Slot → Type 0) (keeping : Keeping Q) where
   counts_at key old new (Ok counted) r c = fills key counted.0 old new c.1
   counts_at key old new (Err fault) r c = unchanged old new c.1
 
-  starts_at : (key : Term) (old new : Content) (c : Result (Term × Term) CounterFault) (r : Result Term Refusal) → Starts key old c r new → Q old.slots new.slots
-  starts_at key old new (Ok counted) r c = limit_at counted.1 old new (nat_lt old.limit (object_count c.0)) c.0 r c.2 (writes-keep old.slots c.0 key (counted.0 ∷ []) refl c.1)
+  starts_at : {X : Type 0} (key : Term) (old new : Content) (c : Result (Term × X) CounterFault) (r : Result X Refusal) → Starts key old c r new → Q old.slots new.slots
+  starts_at key old new (Ok made) r c = limit_at made.1 old new (nat_lt old.limit (object_count c.0)) c.0 r c.2 (writes-keep old.slots c.0 key (made.0 ∷ []) refl c.1)
   starts_at key old new (Err fault) r c = unchanged old new c.1
 
   default_at : (key : Term) (ops : Ops) (default : Option Term) (old new : Content) (r : Result Term Refusal)
@@ -122,17 +122,22 @@ module _ (Q : List Slot → List Slot → Type 0) (keeping : Keeping Q) where
   elements_at key old new (Ok object) r c = fills key object old new c.1
   elements_at key old new (Err fault) r c = unchanged old new c.1
 
-  write_at : (key : Term) (specs : ElementSpecs) (old new : Content) (objects : List Term) (r : Result Bool Refusal) → WritesUnder key specs old objects r new → Q old.slots new.slots
-  write_at key specs old new [] r c = unchanged old new c.1
-  write_at key specs old new (o ∷ os) r c = elements_at key old new (updated_elements specs o) r c
+  written_at : (key : Term) (specs : ElementSpecs) (default : Option Term) (old new : Content) (r : Result Bool Refusal)
+      → MatchOption default (gives (Ok false) old r new) (λ d. Starts key old (with_true (written_from specs (keyed old.keypos key d))) r new) → Q old.slots new.slots
+  written_at key specs None old new r c = unchanged old new c.1
+  written_at key specs (Some d) old new r c = starts_at key old new (with_true (written_from specs (keyed old.keypos key d))) r c
 
-  element_at : (b : Bool) (key : Term) (specs : ElementSpecs) (old new : Content) (r : Result Bool Refusal)
-      → MatchBool b (WritesUnder key specs old (objects_under old.slots key) r new) (gives (Err Badarg) old r new) → Q old.slots new.slots
-  element_at true key specs old new r c = write_at key specs old new (objects_under old.slots key) r c
-  element_at false key specs old new r c = unchanged old new c.1
+  write_at : (key : Term) (specs : ElementSpecs) (default : Option Term) (old new : Content) (objects : List Term) (r : Result Bool Refusal) → WritesUnder key specs default old objects r new → Q old.slots new.slots
+  write_at key specs default old new [] r c = written_at key specs default old new r c
+  write_at key specs default old new (o ∷ os) r c = elements_at key old new (updated_elements specs o) r c
 
-  pub element-keeps : (key : Term) (specs : ElementSpecs) (old new : Content) (r : Result Bool Refusal) → UpdatesElement key specs old r new → Q old.slots new.slots
-  element-keeps key specs old new r c = element_at (is_set old.kind && specs_open old.keypos specs) key specs old new r c
+  element_at : (b : Bool) (key : Term) (specs : ElementSpecs) (default : Option Term) (old new : Content) (r : Result Bool Refusal)
+      → MatchBool b (WritesUnder key specs default old (objects_under old.slots key) r new) (gives (Err Badarg) old r new) → Q old.slots new.slots
+  element_at true key specs default old new r c = write_at key specs default old new (objects_under old.slots key) r c
+  element_at false key specs default old new r c = unchanged old new c.1
+
+  pub element-keeps : (key : Term) (specs : ElementSpecs) (default : Option Term) (old new : Content) (r : Result Bool Refusal) → UpdatesElement key specs default old r new → Q old.slots new.slots
+  element-keeps key specs default old new r c = element_at (is_set old.kind && (specs_open old.keypos specs && is_good old.keypos key default)) key specs default old new r c
 
   -- want of memory changes nothing
   pub comes-keep : {X : Type 0} (change : Content → Result X Refusal → Content → Type 0) → ((old new : Content) (r : Result X Refusal) → change old r new → Q old.slots new.slots)

@@ -11,7 +11,7 @@ use Rattle.bucket_table.specs.Slots.{Slot, HasDistinctKeys, objects_of, has_obje
 use Rattle.bucket_table.specs.Walks.{IsFirstPlace, IsNextPlace, behind_in}
 use Rattle.bucket_table.proofs.ContentLaws.{behind-absent}
 use Rattle.table_ops.proofs.KeptLaws.{turned}
-use Rattle.fixed_walk.specs.Walk.{first_key, next_key}
+use Rattle.fixed_walk.specs.Walk.{first_key, next_key, first_slot, next_slot}
 use Rattle.fixed_walk.specs.laws.Kept.{IsSubsequence}
 use Rattle.fixed_walk.specs.inside.From.{from_key, from_key_told, slots_from, StandsAt}
 use Rattle.fixed_walk.proofs.Subsequences.{behind-apart}
@@ -109,10 +109,10 @@ module _ (key_at : ℕ → Option Term) where
       → slots_from key_at ss (Some p) ≡ (k, objects) ∷ slots_from key_at ss o
   from-step ss p k objects o d e h n = ap (from_key_told ss) e ∙ from-split ss (slots_from key_at ss o) k objects (from-next ss k (key_at p) o d e n) h
 
-  pub from-here-first : (ss : List Slot) (p : ℕ) (k : Term) (objects : List Term) → key_at p ≡ Some k → objects_of ss k ≡ Some objects → has_objects objects ≡ true → first_key (slots_from key_at ss (Some p)) ≡ Some k
-  from-here-first ss p k objects e h some = ap (λ (o : Option Term). first_key (from_key_told ss o)) e ∙ go ss h
+  pub from-here-first : (ss : List Slot) (p : ℕ) (k : Term) (objects : List Term) → key_at p ≡ Some k → objects_of ss k ≡ Some objects → has_objects objects ≡ true → first_slot (slots_from key_at ss (Some p)) ≡ Some (k, objects)
+  from-here-first ss p k objects e h some = ap (λ (o : Option Term). first_slot (from_key_told ss o)) e ∙ go ss h
     where
-      go : (ss : List Slot) → objects_of ss k ≡ Some objects → first_key (from_key ss k) ≡ Some k
+      go : (ss : List Slot) → objects_of ss k ≡ Some objects → first_slot (from_key ss k) ≡ Some (k, objects)
       go [] h = cc
       go (s ∷ ss) h =
           elim (cases_Bool (same k s.0)) [
@@ -120,8 +120,8 @@ module _ (key_at : ℕ → Option Term) where
                 let has : Some s.1 ≡ Some objects = sym (objects-here s ss k hit) ∙ h in
                 let own : s.1 ≡ objects = cc in
                 let key : s.0 ≡ k = sym (same-exact k s.0 hit) in
-                ap first_key (from-here s ss k hit) ∙ (ap (λ (b : Bool). cond b (Some s.0) (first_key ss)) (ap has_objects own ∙ some) ∙ ap Some key)
-            | inr miss ↦ ap first_key (from-on s ss k miss) ∙ go ss (sym (objects-on s ss k miss) ∙ h)
+                ap first_slot (from-here s ss k hit) ∙ (ap (λ (b : Bool). cond b (Some s) (first_slot ss)) (ap has_objects own ∙ some) ∙ (λ i. Some (key i, own i)))
+            | inr miss ↦ ap first_slot (from-on s ss k miss) ∙ go ss (sym (objects-on s ss k miss) ∙ h)
           ]
 
 from-short : (ss : List Slot) (k : Term) → length (from_key ss k) ≤ length ss
@@ -150,11 +150,37 @@ pub some-left : (objects : List Term) → (length objects == 0) ≡ false → ha
 some-left [] h = cc
 some-left (o ∷ os) h = refl
 
-pub first-of : (k : Term) (objects : List Term) (rest : List Slot) → has_objects objects ≡ false → first_key ((k, objects) ∷ rest) ≡ first_key rest
-first-of k objects rest h = ap (λ (b : Bool). cond b (Some k) (first_key rest)) h
+pub first-of : (k : Term) (objects : List Term) (rest : List Slot) → has_objects objects ≡ false → first_slot ((k, objects) ∷ rest) ≡ first_slot rest
+first-of k objects rest h = ap (λ (b : Bool). cond b (Some (k, objects)) (first_slot rest)) h
 
-pub next-told : (key_at : ℕ → Option Term) (ss : List Slot) (k : Term) (here : Option Term) (o : Option ℕ) → HasDistinctKeys ss → here ≡ Some k → IsNextPlace key_at ss here o → next_key ss k ≡ Some (first_key (slots_from key_at ss o))
-next-told key_at ss k here o d e n = ap (option_map first_key) (from-next key_at ss k here o d e n)
+pub next-told : (key_at : ℕ → Option Term) (ss : List Slot) (k : Term) (here : Option Term) (o : Option ℕ) → HasDistinctKeys ss → here ≡ Some k → IsNextPlace key_at ss here o → next_slot ss k ≡ Some (first_slot (slots_from key_at ss o))
+next-told key_at ss k here o d e n = ap (option_map first_slot) (from-next key_at ss k here o d e n)
 
-pub next-absent : (ss : List Slot) (k : Term) → objects_of ss k ≡ None → next_key ss k ≡ None
-next-absent ss k h = ap (option_map first_key) (behind-absent k ss h)
+pub next-absent : (ss : List Slot) (k : Term) → objects_of ss k ≡ None → next_slot ss k ≡ None
+next-absent ss k h = ap (option_map first_slot) (behind-absent k ss h)
+
+-- ---- the key of the slot that is told
+abbrev pub key_in : Option Slot → Option Term
+key_in o = option_map (λ (slot : Slot). slot.0) o
+
+first-key-at : (b : Bool) (s : Slot) (ss : List Slot) → key_in (first_slot ss) ≡ first_key ss → key_in (cond b (Some s) (first_slot ss)) ≡ cond b (Some s.0) (first_key ss)
+first-key-at true s ss rest = refl
+first-key-at false s ss rest = rest
+
+pub first-key : (ss : List Slot) → key_in (first_slot ss) ≡ first_key ss
+first-key [] = refl
+first-key (s ∷ ss) = first-key-at (has_objects s.1) s ss (first-key ss)
+
+pub next-key : (ss : List Slot) (k : Term) → option_map key_in (next_slot ss k) ≡ next_key ss k
+next-key ss k = at (slots_behind ss k)
+  where
+    at : (o : Option (List Slot)) → option_map key_in (option_map first_slot o) ≡ option_map first_key o
+    at None = refl
+    at (Some rest) = ap Some (first-key rest)
+
+-- what is told of the slot behind a key tells the key
+pub next-key-is : (ss : List Slot) (k : Term) (found : Option Slot) → next_slot ss k ≡ Some found → next_key ss k ≡ Some (key_in found)
+next-key-is ss k found e = sym (next-key ss k) ∙ ap (option_map key_in) e
+
+pub next-key-none : (ss : List Slot) (k : Term) → next_slot ss k ≡ None → next_key ss k ≡ None
+next-key-none ss k e = sym (next-key ss k) ∙ ap (option_map key_in) e

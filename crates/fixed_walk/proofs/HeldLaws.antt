@@ -61,8 +61,8 @@ news-none objects old new r c n = comes-keep _ keeping (InsertsNew objects) (new
 pub counter-none : (key : Term) (ops : Ops) (default : Option Term) (old new : Content) (r : Result Term Refusal) → Comes (UpdatesCounter key ops default old) old r new → NoneHeld old.slots → NoneHeld new.slots
 counter-none key ops default old new r c n = comes-keep _ keeping (UpdatesCounter key ops default) (counter-keeps _ keeping key ops default) old new r c n
 
-pub element-none : (key : Term) (specs : ElementSpecs) (old new : Content) (r : Result Bool Refusal) → Comes (UpdatesElement key specs old) old r new → NoneHeld old.slots → NoneHeld new.slots
-element-none key specs old new r c n = comes-keep _ keeping (UpdatesElement key specs) (element-keeps _ keeping key specs) old new r c n
+pub element-none : (key : Term) (specs : ElementSpecs) (default : Option Term) (old new : Content) (r : Result Bool Refusal) → Comes (UpdatesElement key specs default old) old r new → NoneHeld old.slots → NoneHeld new.slots
+element-none key specs default old new r c n = comes-keep _ keeping (UpdatesElement key specs default) (element-keeps _ keeping key specs default) old new r c n
 
 dropped_at : (which : Which) (s : Slot) (ss : List Slot) (b : Bool) → has_objects (left which s) ≡ b → has_objects s.1 ≡ true → NoneHeld (dropped false which ss)
     → NoneHeld (cond (b || not (has_objects s.1)) ((s.0, left which s) ∷ dropped false which ss) (dropped false which ss))

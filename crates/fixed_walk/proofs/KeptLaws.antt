@@ -117,8 +117,8 @@ insert_new-keeps objects = changes-keep (λ hold. InsertsNew objects) (news-keep
 pub update_counter-keeps : (key : Term) (ops : Ops) (default : Option Term) → AlwaysKeeps (λ hold. UpdatesCounter key ops default)
 update_counter-keeps key ops default = changes-keep (λ hold. UpdatesCounter key ops default) (counter-keeps KeysStay keeping key ops default) (λ hold. counter-keeps StayApart apart key ops default)
 
-pub update_element-keeps : (key : Term) (specs : ElementSpecs) → AlwaysKeeps (λ hold. UpdatesElement key specs)
-update_element-keeps key specs = changes-keep (λ hold. UpdatesElement key specs) (element-keeps KeysStay keeping key specs) (λ hold. element-keeps StayApart apart key specs)
+pub update_element-keeps : (key : Term) (specs : ElementSpecs) (default : Option Term) → AlwaysKeeps (λ hold. UpdatesElement key specs default)
+update_element-keeps key specs default = changes-keep (λ hold. UpdatesElement key specs default) (element-keeps KeysStay keeping key specs default) (λ hold. element-keeps StayApart apart key specs default)
 
 module _ (Q : List Slot → List Slot → Type 0) (keeps : Keeping Q) where
   object_at : (hold : Bool) (o : Option Term) (object : Term) (old new : Content) (r : Result (Unit {0}) Refusal) → Q old.slots (dropped hold (equal_to object) old.slots)

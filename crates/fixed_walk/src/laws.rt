@@ -20,7 +20,7 @@ pub fn calls_keep_keys()
     ensures insert { (objects : List Term) → AlwaysKeeps (λ hold. Inserts objects) }
     ensures insert_new { (objects : List Term) → AlwaysKeeps (λ hold. InsertsNew objects) }
     ensures update_counter { (key : Term) (ops : Ops) (default : Option Term) → AlwaysKeeps (λ hold. UpdatesCounter key ops default) }
-    ensures update_element { (key : Term) (specs : ElementSpecs) → AlwaysKeeps (λ hold. UpdatesElement key specs) }
+    ensures update_element { (key : Term) (specs : ElementSpecs) (default : Option Term) → AlwaysKeeps (λ hold. UpdatesElement key specs default) }
     ensures delete { (which : Which) (old : Fixed) → KeepsKeys old (record old { content = without_those (is_fixed old.fixes) which old.content }) }
     ensures delete_object { (object : Term) (old new : Fixed) (r : Result (Unit {0}) Refusal) → on_content (DeletesObject (is_fixed old.fixes) object) old r new → KeepsKeys old new }
     ensures fix { (pid : ℕ) (old new : Fixed) (r : Result (Unit {0}) FixFault) → FixesOnce pid old r new → KeepsKeys old new }

@@ -26,14 +26,14 @@ use Rattle.node_core.specs.Seen.{seen_fixed, seen_table, seen_tables, seen}
 use Rattle.node_core.specs.Access.{usable, with_table, Rule, asks, reads, changes}
 use Rattle.node_core.specs.Calls.{called, calls_of_none, calls_of_one, table_calls_of_two, search_calls_of_two, object_calls_of_two, calls_of_three, calls_of_four, call}
 use Rattle.node_core.specs.rules.Insertion.{Insert, InsertNew}
-use Rattle.node_core.specs.rules.Reading.{Lookup, Member, LookupElement, Tab2list}
+use Rattle.node_core.specs.rules.Reading.{Lookup, Member, LookupElement, LookupElementOr, Tab2list}
 use Rattle.node_core.specs.rules.Removal.{Take, Delete, DeleteObject, DeleteAllObjects}
 use Rattle.node_core.specs.rules.Searching.{Match, MatchObject, MatchDelete, Select, SelectCount, SelectDelete}
 use Rattle.node_core.specs.rules.Updates.{UpdateCounter, UpdateElement}
 use Rattle.node_core.specs.rules.Owning.{GiveAway, SetOptions, Receive, told_or_undefined, Whereis, names_form, told_of, Info}
 use Rattle.node_core.specs.rules.Replies.{true_reply}
 use Rattle.node_core.specs.rules.Tables.{new_table_of, IsFresh, New, DeleteTable}
-use Rattle.node_core.specs.rules.Walking.{Fixes, Releases, SafeFixtable, First, Next}
+use Rattle.node_core.specs.rules.Walking.{Fixes, Releases, SafeFixtable, First, Next, FirstLookup, NextLookup}
 use Rattle.node_core.proofs.Following.{Follows, follows-same, follows-gone, follows-fixed}
 use Rattle.node_core.proofs.Changes.{usable-there}
 use Rattle.node_core.proofs.SeenRules.{IsTame, IsLawful, insert-lawful, insert_new-lawful, take-lawful, delete-lawful, delete_all-lawful, delete_object-lawful, match_delete-lawful, select_delete-lawful, update_counter-lawful, update_element-lawful, fixes-lawful, releases-lawful}
@@ -235,17 +235,19 @@ module _ (old : State) (p : ℕ) (name : List ℕ) where
       called-lawful old name (codes "delete_all_objects") (changes-lawful old p Write x DeleteAllObjects delete_all-lawful) (
       called-lawful old name (codes "delete") (delete_table-lawful old p x) (
       called-lawful old name (codes "first") (reads-lawful old p x First (λ f. refl)) (
+      called-lawful old name (codes "first_lookup") (reads-lawful old p x FirstLookup (λ f. refl)) (
       called-lawful old name (codes "whereis") (whereis-lawful old x) (
-      tells-lawful Badarg old)))))
+      tells-lawful Badarg old))))))
 
   two-lawful : (x y : Term) → IsLawfulCall old (table_calls_of_two old p name x y) (table_calls_of_two (seen old) p name x y)
   two-lawful x y =
       called-lawful old name (codes "new") (new_call-lawful old p x y) (
       called-lawful old name (codes "next") (reads-lawful old p x (Next y) (λ f. refl)) (
+      called-lawful old name (codes "next_lookup") (reads-lawful old p x (NextLookup y) (λ f. refl)) (
       called-lawful old name (codes "safe_fixtable") (fixtable-lawful old p x y) (
       called-lawful old name (codes "setopts") (set_options_call-lawful old p x y) (
       called-lawful old name (codes "info") (info-lawful old x y) (
-      tells-lawful Badarg old)))))
+      tells-lawful Badarg old))))))
 
   searching-lawful : (x y : Term) (others unseen : Outcome) → IsLawfulCall old others unseen → IsLawfulCall old (search_calls_of_two old p name x y others) (search_calls_of_two (seen old) p name x y unseen)
   searching-lawful x y others unseen lawful =
@@ -272,14 +274,16 @@ module _ (old : State) (p : ℕ) (name : List ℕ) where
   three-lawful x y z =
       called-lawful old name (codes "lookup_element") (reads-lawful old p x (LookupElement y z) (λ f. refl)) (
       called-lawful old name (codes "update_counter") (changes-lawful old p Write x (UpdateCounter y z None) (update_counter-lawful y z None)) (
-      called-lawful old name (codes "update_element") (changes-lawful old p Write x (UpdateElement y z) (update_element-lawful y z)) (
+      called-lawful old name (codes "update_element") (changes-lawful old p Write x (UpdateElement y z None) (update_element-lawful y z None)) (
       called-lawful old name (codes "give_away") (give_away-lawful old p x y z) (
       tells-lawful Badarg old))))
 
   four-lawful : (x y z default : Term) → IsLawfulCall old (calls_of_four old p name x y z default) (calls_of_four (seen old) p name x y z default)
   four-lawful x y z default =
+      called-lawful old name (codes "lookup_element") (reads-lawful old p x (LookupElementOr y z default) (λ f. refl)) (
       called-lawful old name (codes "update_counter") (changes-lawful old p Write x (UpdateCounter y z (Some default)) (update_counter-lawful y z (Some default))) (
-      tells-lawful Badarg old)
+      called-lawful old name (codes "update_element") (changes-lawful old p Write x (UpdateElement y z (Some default)) (update_element-lawful y z (Some default))) (
+      tells-lawful Badarg old)))
 
   pub call-lawful : (args : List Term) → IsLawfulCall old (call old p name args) (call (seen old) p name args)
   call-lawful [] = none-lawful

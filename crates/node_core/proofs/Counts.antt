@@ -60,14 +60,14 @@ use Rattle.node_core.specs.Access.{usable, with_table, Rule, replies, asks, read
 use Rattle.node_core.specs.Calls.{called, calls_of_none, calls_of_one, table_calls_of_two, search_calls_of_two, object_calls_of_two, calls_of_three, calls_of_four, call}
 use Rattle.node_core.specs.Machine.{step}
 use Rattle.node_core.specs.rules.Insertion.{objects_in, Insert, InsertNew}
-use Rattle.node_core.specs.rules.Reading.{Lookup, Member, LookupElement, Tab2list}
+use Rattle.node_core.specs.rules.Reading.{Lookup, Member, LookupElement, LookupElementOr, Tab2list}
 use Rattle.node_core.specs.rules.Removal.{without, Take, Delete, DeleteObject, DeleteAllObjects}
 use Rattle.node_core.specs.rules.Replies.{true_reply, truth_reply}
 use Rattle.node_core.specs.rules.Searching.{Match, MatchObject, Deletes, DeletesMatching, DeletesChosen, MatchDelete, Select, SelectCount, SelectDelete, count_reply}
 use Rattle.node_core.specs.rules.Updates.{Counts, WritesTold, UpdateCounter, UpdateElement}
 use Rattle.node_core.specs.rules.Owning.{GiveAway, SetOptions, Receive, Whereis, Info, told_of, told_or_undefined, names_form}
 use Rattle.node_core.specs.rules.Tables.{new_table_of, IsFresh, New, DeleteTable}
-use Rattle.node_core.specs.rules.Walking.{Fixes, Releases, SafeFixtable, First, Next}
+use Rattle.node_core.specs.rules.Walking.{Fixes, Releases, SafeFixtable, First, Next, FirstLookup, NextLookup}
 use Rattle.node_core.specs.Woven.{is_step_of}
 use Rattle.node_core.proofs.Changes.{usable-there}
 use Rattle.node_core.proofs.Following.{set-at, push-at, map-at}
@@ -192,10 +192,10 @@ module _ (w : ℕ) where
   counts-at key default None old new r h = left old old new refl h.1
   counts-at key default (Some ops) old new r h = on-content (UpdatesCounter key ops default) old new r h
 
-  writes-at : (key : Term) (o : Option ElementSpecs) (old new : Fixed) (r : Result Bool Refusal)
-      → MatchOption o ((r ≡ Err refusal.Badarg) × (new ≡ old)) (λ specs. on_content (UpdatesElement key specs) old r new) → KeepsCount old new
-  writes-at key None old new r h = left old old new refl h.1
-  writes-at key (Some specs) old new r h = on-content (UpdatesElement key specs) old new r h
+  writes-at : (key : Term) (default : Option Term) (o : Option ElementSpecs) (old new : Fixed) (r : Result Bool Refusal)
+      → MatchOption o ((r ≡ Err refusal.Badarg) × (new ≡ old)) (λ specs. on_content (UpdatesElement key specs default) old r new) → KeepsCount old new
+  writes-at key default None old new r h = left old old new refl h.1
+  writes-at key default (Some specs) old new r h = on-content (UpdatesElement key specs default) old new r h
 
   module _ (q : ℕ) (other : (q == w) ≡ false) where
     fixes-once : (old new : Fixed) (r : Result (Unit {0}) FixFault) → FixesOnce q old r new → KeepsCount old new
@@ -392,17 +392,19 @@ module _ (w : ℕ) where
           named old name (codes "delete_all_objects") (writes-spares x DeleteAllObjects (λ old new reply h. left old _ new refl h.1)) (
           named old name (codes "delete") (delete_table-spares x) (
           named old name (codes "first") (reads-spares old p x First) (
+          named old name (codes "first_lookup") (reads-spares old p x FirstLookup) (
           named old name (codes "whereis") (whereis-spares x) (
-          tells old Badarg)))))
+          tells old Badarg))))))
 
       two-spares : (x y : Term) → SparesCall old (table_calls_of_two old p name x y)
       two-spares x y =
           named old name (codes "new") (new_call-spares x y) (
           named old name (codes "next") (reads-spares old p x (Next y)) (
+          named old name (codes "next_lookup") (reads-spares old p x (NextLookup y)) (
           named old name (codes "safe_fixtable") (fixtable-spares x y) (
           named old name (codes "setopts") (set_options-spares x y) (
           named old name (codes "info") (info-spares x y) (
-          tells old Badarg)))))
+          tells old Badarg))))))
 
       searching-spares : (x y : Term) (others : Outcome) → SparesCall old others → SparesCall old (search_calls_of_two old p name x y others)
       searching-spares x y others kept =
@@ -429,16 +431,23 @@ module _ (w : ℕ) where
       updates-spares : (x y z : Term) (default : Option Term) → SparesCall old (writes old p x (UpdateCounter y z default))
       updates-spares x y z default = writes-spares x (UpdateCounter y z default) (replied Value (Counts y z default) (λ old. counts-at y default (ops_of old.content.keypos z) old))
 
+      elements-spares : (x y z : Term) (default : Option Term) → SparesCall old (writes old p x (UpdateElement y z default))
+      elements-spares x y z default = writes-spares x (UpdateElement y z default) (replied truth_reply (WritesTold y z default) (λ old. writes-at y default (specs_of old.content.keypos z) old))
+
       three-spares : (x y z : Term) → SparesCall old (calls_of_three old p name x y z)
       three-spares x y z =
           named old name (codes "lookup_element") (reads-spares old p x (LookupElement y z)) (
           named old name (codes "update_counter") (updates-spares x y z None) (
-          named old name (codes "update_element") (writes-spares x (UpdateElement y z) (replied truth_reply (WritesTold y z) (λ old. writes-at y (specs_of old.content.keypos z) old))) (
+          named old name (codes "update_element") (elements-spares x y z None) (
           named old name (codes "give_away") (give_away-spares x y z) (
           tells old Badarg))))
 
       four-spares : (x y z default : Term) → SparesCall old (calls_of_four old p name x y z default)
-      four-spares x y z default = named old name (codes "update_counter") (updates-spares x y z (Some default)) (tells old Badarg)
+      four-spares x y z default =
+          named old name (codes "lookup_element") (reads-spares old p x (LookupElementOr y z default)) (
+          named old name (codes "update_counter") (updates-spares x y z (Some default)) (
+          named old name (codes "update_element") (elements-spares x y z (Some default)) (
+          tells old Badarg)))
 
       call-spares : (args : List Term) → SparesCall old (call old p name args)
       call-spares [] = none-spares

@@ -12,7 +12,7 @@ use Rattle.ets_term.specs.Depth.{element_at, is_too_deep}
 use Rattle.ets_term.specs.Order.{same}
 use Rattle.bucket_table.specs.Slots.{Slot, Enters, objects_of, with_objects, has_objects, purged, object_count}
 use Rattle.counters.specs.Counters.{updated_counters}
-use Rattle.counters.specs.Defaults.{keyed, keyed_form, counted_from}
+use Rattle.counters.specs.Defaults.{keyed, keyed_form, counted_from, written_from}
 use Rattle.counters.specs.Elements.{updated_elements}
 use Rattle.counters.specs.declared.elements.ElementSpecs.{ElementSpecs}
 use Rattle.counters.specs.declared.fault.CounterFault.{CounterFault}
@@ -25,7 +25,7 @@ use Rattle.table_ops.specs.Drop.{Which, left, dropped}
 use Rattle.table_ops.specs.Put.{add, Writes, PutsAll, Stores, Inserts, InsertsNew, is_taken}
 use Rattle.table_ops.specs.Refusals.{gives}
 use Rattle.node_core.specs.laws.Reached.{HasNoEnd}
-use Rattle.table_ops.specs.Update.{is_set, ops_open, specs_open, is_good, with_object, Counts, Starts, CountsUnder, UpdatesCounter, WritesElements, WritesUnder, UpdatesElement}
+use Rattle.table_ops.specs.Update.{is_set, ops_open, specs_open, is_good, with_object, Counts, Starts, CountsUnder, UpdatesCounter, WritesElements, with_true, WritesUnder, UpdatesElement}
 
 abbrev pub is_end : Term → Bool
 is_end key = is_atom (codes "$end_of_table") key
@@ -146,8 +146,8 @@ keyed-key : (keypos : ℕ) (key : Term) (ops : Ops) (o : Option Term) (counted :
 keyed-key keypos key ops None counted free e = cc
 keyed-key keypos key ops (Some object) counted free e = free object refl
 
-starts_at : (key : Term) (old new : Content) (c : Result (Term × Term) CounterFault) (r : Result Term Refusal) → ((counted : Term × Term) → c ≡ Ok counted → is_end key ≡ false) → Starts key old c r new → StaysFree old.slots new.slots
-starts_at key old new (Ok counted) r free c = limit_at counted.1 old new (nat_lt old.limit (object_count c.0)) c.0 r c.2 (writes-free old.slots c.0 key (counted.0 ∷ []) (free counted refl) c.1)
+starts_at : {X : Type 0} (key : Term) (old new : Content) (c : Result (Term × X) CounterFault) (r : Result X Refusal) → ((made : Term × X) → c ≡ Ok made → is_end key ≡ false) → Starts key old c r new → StaysFree old.slots new.slots
+starts_at key old new (Ok made) r free c = limit_at made.1 old new (nat_lt old.limit (object_count c.0)) c.0 r c.2 (writes-free old.slots c.0 key (made.0 ∷ []) (free made refl) c.1)
 starts_at key old new (Err fault) r free c = unchanged-free old new c.1
 
 default_at : (key : Term) (ops : Ops) (default : Option Term) (old new : Content) (r : Result Term Refusal)
@@ -172,14 +172,24 @@ elements_at : (key : Term) (old new : Content) (c : Result Term CounterFault) (r
 elements_at key old new (Ok object) r c = fills key object old new c.1
 elements_at key old new (Err fault) r c = unchanged-free old new c.1
 
-write_at : (key : Term) (specs : ElementSpecs) (old new : Content) (objects : List Term) (r : Result Bool Refusal) → WritesUnder key specs old objects r new → StaysFree old.slots new.slots
-write_at key specs old new [] r c = unchanged-free old new c.1
-write_at key specs old new (o ∷ os) r c = elements_at key old new (updated_elements specs o) r c
+written-key : (key : Term) (specs : ElementSpecs) (o : Option Term) (made : Term × Bool) → ((object : Term) → o ≡ Some object → is_end key ≡ false) → with_true (written_from specs o) ≡ Ok made → is_end key ≡ false
+written-key key specs None made free e = cc
+written-key key specs (Some object) made free e = free object refl
 
-specs_at : (b : Bool) (key : Term) (specs : ElementSpecs) (old new : Content) (r : Result Bool Refusal)
-    → MatchBool b (WritesUnder key specs old (objects_under old.slots key) r new) (gives (Err Badarg) old r new) → StaysFree old.slots new.slots
-specs_at true key specs old new r c = write_at key specs old new (objects_under old.slots key) r c
-specs_at false key specs old new r c = unchanged-free old new c.1
+written_at : (key : Term) (specs : ElementSpecs) (default : Option Term) (old new : Content) (r : Result Bool Refusal)
+    → MatchOption default (gives (Ok false) old r new) (λ d. Starts key old (with_true (written_from specs (keyed old.keypos key d))) r new) → StaysFree old.slots new.slots
+written_at key specs None old new r c = unchanged-free old new c.1
+written_at key specs (Some d) old new r c =
+    starts_at key old new (with_true (written_from specs (keyed old.keypos key d))) r (λ made e. written-key key specs (keyed old.keypos key d) made (λ object f. tuple-key old.keypos key object (out-Term d) f) e) c
 
-pub element-free : (key : Term) (specs : ElementSpecs) (old new : Content) (r : Result Bool Refusal) → UpdatesElement key specs old r new → StaysFree old.slots new.slots
-element-free key specs old new r c = specs_at (is_set old.kind && specs_open old.keypos specs) key specs old new r c
+write_at : (key : Term) (specs : ElementSpecs) (default : Option Term) (old new : Content) (objects : List Term) (r : Result Bool Refusal) → WritesUnder key specs default old objects r new → StaysFree old.slots new.slots
+write_at key specs default old new [] r c = written_at key specs default old new r c
+write_at key specs default old new (o ∷ os) r c = elements_at key old new (updated_elements specs o) r c
+
+specs_at : (b : Bool) (key : Term) (specs : ElementSpecs) (default : Option Term) (old new : Content) (r : Result Bool Refusal)
+    → MatchBool b (WritesUnder key specs default old (objects_under old.slots key) r new) (gives (Err Badarg) old r new) → StaysFree old.slots new.slots
+specs_at true key specs default old new r c = write_at key specs default old new (objects_under old.slots key) r c
+specs_at false key specs default old new r c = unchanged-free old new c.1
+
+pub element-free : (key : Term) (specs : ElementSpecs) (default : Option Term) (old new : Content) (r : Result Bool Refusal) → UpdatesElement key specs default old r new → StaysFree old.slots new.slots
+element-free key specs default old new r c = specs_at (is_set old.kind && (specs_open old.keypos specs && is_good old.keypos key default)) key specs default old new r c

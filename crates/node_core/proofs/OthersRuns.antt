@@ -107,7 +107,7 @@ module _ (p t : ℕ) where
       }
 
   -- it is no call of the walk
-  not-asked : (b : Bool) (o : Option (Option Term)) → b ≡ false → cond b o None ≡ None
+  not-asked : (b : Bool) (o : Option (Option Term × Bool)) → b ≡ false → cond b o None ≡ None
   not-asked true o h = absurd (true≢false h)
   not-asked false o h = refl
 
@@ -158,7 +158,7 @@ module _ (p t : ℕ) where
         → (call : Option Term) (keys : List Term) (more : List Step) (others : List Reply) (end : State) → Walking p t call keys mid more others end → Walking p t call keys old (s ∷ more) (r ∷ others) end
     sooner old mid s r other h within has kept call keys more others end w = record {
       done = (mid, h, w.done);
-      answers = subst (λ (o : Option (Option Term)). MatchOption o (Walks p t call keys mid more others end w.done) (λ asked. (asked ≡ call) × Answers r more keys (λ key keys. Walks p t (Some key) keys mid more others end w.done))) (sym (passed old s other)) w.answers;
+      answers = subst (λ (o : Option (Option Term × Bool)). MatchOption o (Walks p t call keys mid more others end w.done) (λ asked. (asked.0 ≡ call) × Answers asked.1 r more keys (λ key keys. Walks p t (Some key) keys mid more others end w.done))) (sym (passed old s other)) w.answers;
       held = (fixed-before old mid within has kept (there-fixed t mid (first-held mid more others end w.done w.held)), w.held);
     }
 

@@ -195,9 +195,9 @@ update_counter-lawful key updates default = replied _ (Counts key updates defaul
   tame = λ old. counts-tame key default (ops_of old.content.keypos updates) old;
 })
 
-module _ (key : Term) where
+module _ (key : Term) (default : Option Term) where
   abbrev WritesBy : Option ElementSpecs → Fixed → Change Bool Fixed
-  WritesBy o old r new = MatchOption o (gives (Err Badarg) old r new) (λ specs. on_content (UpdatesElement key specs) old r new)
+  WritesBy o old r new = MatchOption o (gives (Err Badarg) old r new) (λ specs. on_content (UpdatesElement key specs default) old r new)
 
   writes-unseen : (o : Option ElementSpecs) (old new : Fixed) (r : Result Bool Refusal) → WritesBy o old r new → WritesBy o (seen_fixed old) r (seen_fixed new)
   writes-unseen None old new r h = (h.0, ap seen_fixed h.1)
@@ -205,12 +205,12 @@ module _ (key : Term) where
 
   writes-tame : (o : Option ElementSpecs) (old new : Fixed) (r : Result Bool Refusal) → Comes (WritesBy o old) old r new → IsTame old new
   writes-tame None old new r h = gave-tame (Err Badarg) old old new r (tame-same old old refl) h
-  writes-tame (Some specs) old new r h = content-tame (UpdatesElement key specs) (update_element-keeps key specs) (element-free key specs) old new r h
+  writes-tame (Some specs) old new r h = content-tame (UpdatesElement key specs default) (update_element-keeps key specs default) (element-free key specs default) old new r h
 
-pub update_element-lawful : (key updates : Term) → IsLawful (UpdateElement key updates)
-update_element-lawful key updates = replied _ (WritesTold key updates) (record {
-  unseen = λ old. writes-unseen key (specs_of old.content.keypos updates) old;
-  tame = λ old. writes-tame key (specs_of old.content.keypos updates) old;
+pub update_element-lawful : (key updates : Term) (default : Option Term) → IsLawful (UpdateElement key updates default)
+update_element-lawful key updates default = replied _ (WritesTold key updates default) (record {
+  unseen = λ old. writes-unseen key default (specs_of old.content.keypos updates) old;
+  tame = λ old. writes-tame key default (specs_of old.content.keypos updates) old;
 })
 
 -- ---- fixes

@@ -83,21 +83,21 @@ module _ (p t : ℕ) where
   unfolding out-Term denote.Hole.Carrier.out
   names-table s h = table-at (table_at s.world.tables t) h
 
-  asked-by : (b c : Bool) (o : Option (Option Term)) → b ≡ true → c ≡ true → cond b (cond c o None) None ≡ o
+  asked-by : (b c : Bool) (o : Option (Option Term × Bool)) → b ≡ true → c ≡ true → cond b (cond c o None) None ≡ o
   asked-by true true o e f = refl
   asked-by true false o e f = absurd (true≢false (sym f))
   asked-by false c o e f = absurd (true≢false (sym e))
 
-  asked : (s : State) (call : Option Term) → is_there t s ≡ true → walk_step s p t (call_of p t call) ≡ Some call
-  asked s None h = asked-by (p == p) (bytes_eq (codes "first") (codes "first") && is_table s t (Tid t)) (Some None) (number-same p) (names-table s h)
-  asked s (Some key) h = asked-by (p == p) (bytes_eq (codes "next") (codes "next") && is_table s t (Tid t)) (Some (Some key)) (number-same p) (names-table s h)
+  asked : (s : State) (call : Option Term) → is_there t s ≡ true → walk_step s p t (call_of p t call) ≡ Some (call, false)
+  asked s None h = asked-by (p == p) (is_table s t (Tid t)) (Some (None, false)) (number-same p) (names-table s h)
+  asked s (Some key) h = asked-by (p == p) (is_table s t (Tid t)) (Some (Some key, false)) (number-same p) (names-table s h)
 
   key-front : (call : Option Term) (key : Term) (s : State) → is_there t s ≡ true → is_fixed_in t s ≡ true → step s (call_of p t call) (key_reply (Some key)) s
       → (further : List Term) (more : List Step) (others : List Reply) (end : State) → Walking p t (Some key) further s more others end
       → Walking p t call (key ∷ further) s (call_of p t call ∷ more) (Value key ∷ others) end
   key-front call key s there fixed h further more others end w = record {
     done = (s, h, w.done);
-    answers = subst (λ (o : Option (Option Term)). MatchOption o (Walks p t call (key ∷ further) s more others end w.done) (λ asked. (asked ≡ call) × Answers (Value key) more (key ∷ further) (λ key keys. Walks p t (Some key) keys s more others end w.done)))
+    answers = subst (λ (o : Option (Option Term × Bool)). MatchOption o (Walks p t call (key ∷ further) s more others end w.done) (λ asked. (asked.0 ≡ call) × Answers asked.1 (Value key) more (key ∷ further) (λ key keys. Walks p t (Some key) keys s more others end w.done)))
         (sym (asked s call there)) (refl, (refl, w.answers));
     held = (fixed, w.held);
   }
@@ -106,7 +106,7 @@ module _ (p t : ℕ) where
       → Walking p t call [] s (call_of p t call ∷ []) (key_reply None ∷ []) s
   end-front call s there fixed h = record {
     done = (s, h, refl);
-    answers = subst (λ (o : Option (Option Term)). MatchOption o (Walks p t call [] s [] [] s refl) (λ asked. (asked ≡ call) × Answers (key_reply None) [] [] (λ key keys. Walks p t (Some key) keys s [] [] s refl)))
+    answers = subst (λ (o : Option (Option Term × Bool)). MatchOption o (Walks p t call [] s [] [] s refl) (λ asked. (asked.0 ≡ call) × Answers asked.1 (key_reply None) [] [] (λ key keys. Walks p t (Some key) keys s [] [] s refl)))
         (sym (asked s call there)) (refl, (refl, refl));
     held = (fixed, (fixed, tt));
   }

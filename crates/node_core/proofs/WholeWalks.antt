@@ -1,5 +1,5 @@
 -- Walks over a table that stays fixed are whole, in every run.
-use Rattle.std.proofs.Common.{◌≡◌, ℕ, true, false, List, [], ◌∷◌, Option, None, Some, refl, sym, subst, ap, ◌∙◌}
+use Rattle.std.proofs.Common.{◌≡◌, ℕ, Bool, true, false, List, [], ◌∷◌, Option, None, Some, refl, sym, subst, ap, ◌∙◌}
 use Rattle.std.specs.Prelude.{MatchOption}
 use Rattle.std.specs.List.{AllByRecursion}
 use Rattle.std.specs.Map.{keys_of}
@@ -21,7 +21,7 @@ use Rattle.node_core.specs.Machine.{step, run}
 use Rattle.node_core.specs.rules.Walking.{key_reply}
 use Rattle.node_core.specs.laws.Kept.{slots_in, is_fixed_in, StepsKeepKeys}
 use Rattle.node_core.specs.laws.Reached.{HasNoEnd, IsSound}
-use Rattle.node_core.specs.laws.Walk.{states, walk_step, Answers, Walks, WalksAreWhole}
+use Rattle.node_core.specs.laws.Walk.{states, walk_step, IsKey, Answers, Walks, WalksAreWhole}
 use Rattle.node_core.proofs.EndKeys.{is_end}
 use Rattle.node_core.proofs.Reached.{step-follows, sound-step}
 use Rattle.node_core.proofs.Seen.{stays-there}
@@ -92,36 +92,37 @@ module _ (p t : ℕ) (old mid : State) (s : Step) (r : Reply) (steps : List Step
     present = λ key all. w.present key all.1;
   }
 
-  replies : (asked : Option Term) → walk_step old p t s ≡ Some asked → Replies asked (slots_in t old) r
-  replies asked e = subst (λ (ss : List Slot). Replies asked ss r) (own_slots t old is.table is.at) (step-replies old mid p t s r is.table asked is.at e done)
+  replies : (call : Option Term) (objects : Bool) → walk_step old p t s ≡ Some (call, objects) → Replies objects call (slots_in t old) r
+  replies call objects e = subst (λ (ss : List Slot). Replies objects call ss r) (own_slots t old is.table is.at) (step-replies old mid p t s r is.table call objects is.at e done)
 
   -- it is the last
-  ends : (call : Option Term) → walk_step old p t s ≡ Some call → r ≡ key_reply None → Walked p t call [] old (old ∷ stretch)
-  ends call e last = record {
+  ends : (call : Option Term) (objects : Bool) → walk_step old p t s ≡ Some (call, objects) → r ≡ key_reply None → Walked p t call [] old (old ∷ stretch)
+  ends call objects e last = record {
     moments = slots_in t old ∷ [];
     kept = (distinct, sub-same (keys_of (slots_in t old)), distinct);
-    walk = (tells-end call (slots_in t old) r free (replies call e) last, refl);
+    walk = (tells-end objects call (slots_in t old) r free (replies call objects e) last, refl);
     free = (free, tt);
     present = λ key all. (all.0, tt);
   }
 
   -- it is one that answers a key
-  answers : (call : Option Term) (key : Term) (keys : List Term) → walk_step old p t s ≡ Some call → r ≡ Value key → Walked p t (Some key) keys mid stretch → Walked p t call (key ∷ keys) old (old ∷ stretch)
-  answers call key keys e value w = record {
+  answers : (call : Option Term) (objects : Bool) (key : Term) (keys : List Term) → walk_step old p t s ≡ Some (call, objects) → IsKey objects key r → Walked p t (Some key) keys mid stretch → Walked p t call (key ∷ keys) old (old ∷ stretch)
+  answers call objects key keys e told w = record {
     moments = slots_in t old ∷ w.moments;
     kept = (distinct, sub-same (keys_of (slots_in t old)), sooner (slots_in t old) (slots_in t mid) w.moments distinct sub w.kept);
-    walk = (tells-key call (slots_in t old) r key (asked_key key w.moments keys w.walk w.free) (replies call e) value, w.walk);
+    walk = (tells-key objects call (slots_in t old) r key (asked_key key w.moments keys w.walk w.free) (replies call objects e) told, w.walk);
     free = (free, w.free);
     present = λ k all. (all.0, w.present k all.1);
   }
 
-  answered : (call : Option Term) (keys : List Term) → walk_step old p t s ≡ Some call → Answers r steps keys (λ key keys. Further (Some key) keys) → Walked p t call keys old (old ∷ stretch)
-  answered call [] e w = ends call e w.0
-  answered call (key ∷ keys) e w = answers call key keys e w.0 (further (Some key) keys w.1)
+  answered : (call : Option Term) (objects : Bool) (keys : List Term) → walk_step old p t s ≡ Some (call, objects) → Answers objects r steps keys (λ key keys. Further (Some key) keys) → Walked p t call keys old (old ∷ stretch)
+  answered call objects [] e w = ends call objects e w.0
+  answered call objects (key ∷ keys) e w = answers call objects key keys e w.0 (further (Some key) keys w.1)
 
-  walked_at : (call : Option Term) (keys : List Term) (o : Option (Option Term)) → walk_step old p t s ≡ o → MatchOption o (Further call keys) (λ asked. (asked ≡ call) × Answers r steps keys (λ key keys. Further (Some key) keys)) → Walked p t call keys old (old ∷ stretch)
+  walked_at : (call : Option Term) (keys : List Term) (o : Option (Option Term × Bool)) → walk_step old p t s ≡ o
+      → MatchOption o (Further call keys) (λ asked. (asked.0 ≡ call) × Answers asked.1 r steps keys (λ key keys. Further (Some key) keys)) → Walked p t call keys old (old ∷ stretch)
   walked_at call keys None e w = passes call keys (further call keys w)
-  walked_at call keys (Some asked) e w = answered call keys (e ∙ ap Some w.0) w.1
+  walked_at call keys (Some asked) e w = answered call asked.1 keys (e ∙ (λ i. Some (w.0 i, asked.1))) w.1
 
 slots_apart : (t : ℕ) (s : State) → IsThere t s → IsSound s → HasDistinctKeys (slots_in t s)
 slots_apart t s is sound = subst HasDistinctKeys (own_slots t s is.table is.at) (sound.keys t is.table is.at)

@@ -1,12 +1,12 @@
 -- The one object at a place, taken out, updated and put back.
-use Rattle.std.proofs.Common.{◌≡◌, ◌⊎◌, inl, inr, ℕ, ◌+◌, ◌≤◌, true, false, ◌&&◌, List, [], ◌∷◌, ◌++◌, Option, None, Some, unwrap_or, Result, Ok, Err, refl, sym, ap, subst, ◌∙◌, length, true≢false, arith}
-use Rattle.std.specs.Prelude.{IfOk, OnOk, OnErr, IfErr, IsErrOf, nat_lt}
+use Rattle.std.proofs.Common.{◌≡◌, ◌⊎◌, inl, inr, ℕ, ◌+◌, ◌≤◌, Bool, true, false, ◌&&◌, List, [], ◌∷◌, ◌++◌, Option, None, Some, unwrap_or, Result, Ok, Err, refl, sym, ap, subst, ◌∙◌, length, true≢false, arith}
+use Rattle.std.specs.Prelude.{IfOk, OnOk, OnErr, IfErr, IsErrOf, is_ok, nat_lt}
 use Rattle.ets_term.specs.declared.term.Term.{Term}
 use Rattle.ets_term.specs.Order.{same}
 use Rattle.bucket_table.specs.Slots.{Slot, objects_of, with_objects, has_objects, object_count}
 use Rattle.bucket_table.specs.Entries.{HasOne, objects_in, with_objects_in}
 use Rattle.counters.specs.Counters.{updated_counters}
-use Rattle.counters.specs.Defaults.{keyed, counted_from}
+use Rattle.counters.specs.Defaults.{keyed, counted_from, written_from}
 use Rattle.counters.specs.Elements.{updated_elements}
 use Rattle.counters.specs.declared.elements.ElementSpecs.{ElementSpecs}
 use Rattle.counters.specs.declared.fault.CounterFault.{CounterFault}
@@ -19,8 +19,8 @@ use Rattle.table_ops.specs.Content.{Content, key_of, objects_under, AreSlots, Is
 use Rattle.table_ops.specs.Put.{add, Writes, Puts}
 use Rattle.table_ops.specs.declared.refusal.Refusal.{Refusal}
 use Rattle.table_ops.specs.declared.refusal.Refusal.TheVariants.{Badarg, SystemLimit, Memory}
-use Rattle.table_ops.specs.Refusals.{Comes}
-use Rattle.table_ops.specs.Update.{is_set, ops_open, specs_open, is_good, Starts, CountsUnder, UpdatesCounter}
+use Rattle.table_ops.specs.Refusals.{Change, Comes}
+use Rattle.table_ops.specs.Update.{is_set, ops_open, specs_open, is_good, Starts, CountsUnder, UpdatesCounter, with_true, WritesUnder, UpdatesElement}
 use Rattle.table_ops.specs.inside.Counted.{IsCounted}
 use Rattle.table_ops.specs.inside.Updated.{CountsAt, WritesAt, StartsAt}
 use Rattle.table_ops.proofs.Counts.{count-set, count-writes, written}
@@ -135,40 +135,70 @@ started-counted kind keypos limit count old new key object i none room its w =
       slots_are = slots-puts kind keypos old new key object i.slots_are its.0 its.1 (first-put-at kind old new key object (objects_under old key) refl none w);
     }
 
-module _ (key : Term) (ops : Ops) (d : Term) (old : Content) (count : ℕ) (none : objects_under old.slots key ≡ []) (counted : count ≡ object_count old.slots) where
-  none-under : (r : Result Term Refusal) (new : Content) (objects : List Term) → objects ≡ [] → Starts key old (counted_from ops (keyed old.keypos key d)) r new → CountsUnder key ops (Some d) old objects r new
-  none-under r new [] e h = h
-  none-under r new (x ∷ xs) e h = cc
+-- a change that comes to this comes to all that it implies
+lifts : {X : Type 0} (own change : Change X Content) (old : Content) → ((r : Result X Refusal) (new : Content) → own r new → change r new) → (r : Result X Refusal) (new : Content) → Comes own old r new → Comes change old r new
+lifts own change old lift (Ok x) new h = lift (Ok x) new h
+lifts own change old lift (Err Badarg) new h = lift (Err Badarg) new h
+lifts own change old lift (Err SystemLimit) new h = lift (Err SystemLimit) new h
+lifts own change old lift (Err Memory) new h = h
 
-  counted-by : (c : Result (Term × Term) CounterFault) (m : Result (Term × Term) CounterFault) (r : Result Term Refusal) (new : Content) → c ≡ m → Starts key old m r new → Starts key old c r new
-  counted-by c m r new e h = subst (λ (x : Result (Term × Term) CounterFault). Starts key old x r new) (sym e) h
+-- what was made of a Default is stored under a key that has no object
+module _ {X : Type 0} (key : Term) (old : Content) (count : ℕ) (none : objects_under old.slots key ≡ []) (counted : count ≡ object_count old.slots) where
+  made-by : (made m : Result (Term × X) CounterFault) (r : Result X Refusal) (new : Content) → made ≡ m → Starts key old m r new → Starts key old made r new
+  made-by made m r new e h = subst (λ (x : Result (Term × X) CounterFault). Starts key old x r new) (sym e) h
+
+  full : (made : Result (Term × X) CounterFault) → is_ok made ≡ true → nat_lt count old.limit ≡ false → Starts key old made (Err SystemLimit) old
+  full (Err f) e no_room = absurd (true≢false (sym e))
+  full (Ok made) e no_room =
+      let w = written old.slots key (made.0 ∷ []) in
+      let more = count-writes old.slots w.0 key (made.0 ∷ []) w.1 in
+      let over = is-not-below count old.limit no_room in
+      (w.0, w.1, full_at (nat_lt old.limit (object_count w.0)) _ _ (above old.limit (object_count w.0) (omega (arith, more, over, counted, ap length none))) (refl, refl))
+
+  stored-comes : (made : Result (Term × X) CounterFault) (r : Result X Refusal) (slots : List Slot) → StartsAt (nat_lt count old.limit) key made old.slots r slots → Comes (Starts key old made) old r (record old { slots = slots })
+  stored-comes made (Ok answer) slots s =
+      let more = count-writes old.slots slots key (s.0 ∷ []) s.3 in
+      let below = is-below count old.limit s.2 in
+      made-by made (Ok (s.0, answer)) (Ok answer) (record old { slots = slots }) s.1
+      (slots, s.3, room_at (nat_lt old.limit (object_count slots)) _ _ (not-above old.limit (object_count slots) (omega (arith, more, below, counted, ap length none))) (refl, refl))
+  stored-comes made (Err Badarg) slots s =
+      subst (λ (l : List Slot). Starts key old made (Err Badarg) (record old { slots = l })) (sym s.1) (made-by made (Err fault.Badarg) (Err Badarg) old s.0 (refl, refl))
+  stored-comes made (Err SystemLimit) slots s = subst (λ (l : List Slot). Starts key old made (Err SystemLimit) (record old { slots = l })) (sym s.0) (by s.1)
+    where
+      by : (made ≡ Err fault.SystemLimit) ⊎ ((is_ok made ≡ true) × (nat_lt count old.limit ≡ false)) → Starts key old made (Err SystemLimit) old
+      by (inl e) = made-by made (Err fault.SystemLimit) (Err SystemLimit) old e (refl, refl)
+      by (inr m) = full made m.0 m.1
+  stored-comes made (Err Memory) slots s = ap (λ (l : List Slot). let c : Content = record old { slots = l } in c) s
+
+module _ (key : Term) (ops : Ops) (d : Term) (old : Content) (count : ℕ) (none : objects_under old.slots key ≡ []) (counted : count ≡ object_count old.slots) where
+  counts-none : (r : Result Term Refusal) (new : Content) (objects : List Term) → objects ≡ [] → Starts key old (counted_from ops (keyed old.keypos key d)) r new → CountsUnder key ops (Some d) old objects r new
+  counts-none r new [] e h = h
+  counts-none r new (x ∷ xs) e h = cc
 
   module _ (given : Option Term) (is : given ≡ Some d) (may : (is_set old.kind && (ops_open old.keypos ops && is_good old.keypos key given)) ≡ true) where
-    lifted : (r : Result Term Refusal) (new : Content) → Starts key old (counted_from ops (keyed old.keypos key d)) r new → UpdatesCounter key ops given old r new
-    lifted r new h = full_at (is_set old.kind && (ops_open old.keypos ops && is_good old.keypos key given)) _ _ may
-        (subst (λ (o : Option Term). CountsUnder key ops o old (objects_under old.slots key) r new) (sym is) (none-under r new (objects_under old.slots key) none h))
+    counts-lifted : (r : Result Term Refusal) (new : Content) → Starts key old (counted_from ops (keyed old.keypos key d)) r new → UpdatesCounter key ops given old r new
+    counts-lifted r new h = full_at (is_set old.kind && (ops_open old.keypos ops && is_good old.keypos key given)) _ _ may
+        (subst (λ (o : Option Term). CountsUnder key ops o old (objects_under old.slots key) r new) (sym is) (counts-none r new (objects_under old.slots key) none h))
 
-    full : (r : Result (Term × Term) CounterFault) (made : Term × Term) → r ≡ Ok made → nat_lt count old.limit ≡ false → Starts key old r (Err SystemLimit) old
-    full r made e no_room =
-        let w = written old.slots key (made.0 ∷ []) in
-        let more = count-writes old.slots w.0 key (made.0 ∷ []) w.1 in
-        let over = is-not-below count old.limit no_room in
-        counted-by r (Ok made) (Err SystemLimit) old e (w.0, w.1, full_at (nat_lt old.limit (object_count w.0)) _ _ (above old.limit (object_count w.0) (omega (arith, more, over, counted, ap length none))) (refl, refl))
-
-    -- the update of a key that has no object, from a Default
+    -- the counters of a key that has no object, from a Default
     pub started-comes : (r : Result Term Refusal) (slots : List Slot) → StartsAt (nat_lt count old.limit) key (counted_from ops (keyed old.keypos key d)) old.slots r slots → Comes (UpdatesCounter key ops given old) old r (record old { slots = slots })
-    started-comes (Ok answer) slots s =
-        let more = count-writes old.slots slots key (s.0 ∷ []) s.3 in
-        let below = is-below count old.limit s.2 in
-        lifted (Ok answer) (record old { slots = slots }) (counted-by _ (Ok (s.0, answer)) (Ok answer) (record old { slots = slots }) s.1
-        (slots, s.3, room_at (nat_lt old.limit (object_count slots)) _ _ (not-above old.limit (object_count slots) (omega (arith, more, below, counted, ap length none))) (refl, refl)))
-    started-comes (Err Badarg) slots s =
-        subst (λ (l : List Slot). UpdatesCounter key ops given old (Err Badarg) (record old { slots = l })) (sym s.1)
-        (lifted (Err Badarg) old (counted-by _ (Err fault.Badarg) (Err Badarg) old s.0 (refl, refl)))
-    started-comes (Err SystemLimit) slots s =
-        subst (λ (l : List Slot). UpdatesCounter key ops given old (Err SystemLimit) (record old { slots = l })) (sym s.0) (lifted (Err SystemLimit) old (by s.1))
-      where
-        by : (counted_from ops (keyed old.keypos key d) ≡ Err fault.SystemLimit) ⊎ ((made : Term × Term) × (counted_from ops (keyed old.keypos key d) ≡ Ok made) × (nat_lt count old.limit ≡ false)) → Starts key old (counted_from ops (keyed old.keypos key d)) (Err SystemLimit) old
-        by (inl e) = counted-by _ (Err fault.SystemLimit) (Err SystemLimit) old e (refl, refl)
-        by (inr m) = full (counted_from ops (keyed old.keypos key d)) m.0 m.1 m.2
-    started-comes (Err Memory) slots s = ap (λ (l : List Slot). let c : Content = record old { slots = l } in c) s
+    started-comes r slots s =
+        lifts (Starts key old (counted_from ops (keyed old.keypos key d))) (UpdatesCounter key ops given old) old counts-lifted r (record old { slots = slots })
+        (stored-comes key old count none counted (counted_from ops (keyed old.keypos key d)) r slots s)
+
+module _ (key : Term) (specs : ElementSpecs) (d : Term) (old : Content) (count : ℕ) (none : objects_under old.slots key ≡ []) (counted : count ≡ object_count old.slots) where
+  writes-none : (r : Result Bool Refusal) (new : Content) (objects : List Term) → objects ≡ [] → Starts key old (with_true (written_from specs (keyed old.keypos key d))) r new → WritesUnder key specs (Some d) old objects r new
+  writes-none r new [] e h = h
+  writes-none r new (x ∷ xs) e h = cc
+
+  module _ (given : Option Term) (is : given ≡ Some d) (may : (is_set old.kind && (specs_open old.keypos specs && is_good old.keypos key given)) ≡ true) where
+    writes-lifted : (r : Result Bool Refusal) (new : Content) → Starts key old (with_true (written_from specs (keyed old.keypos key d))) r new → UpdatesElement key specs given old r new
+    writes-lifted r new h = full_at (is_set old.kind && (specs_open old.keypos specs && is_good old.keypos key given)) _ _ may
+        (subst (λ (o : Option Term). WritesUnder key specs o old (objects_under old.slots key) r new) (sym is) (writes-none r new (objects_under old.slots key) none h))
+
+    -- the elements of a key that has no object, from a Default
+    pub written-comes : (r : Result Bool Refusal) (slots : List Slot) → StartsAt (nat_lt count old.limit) key (with_true (written_from specs (keyed old.keypos key d))) old.slots r slots
+        → Comes (UpdatesElement key specs given old) old r (record old { slots = slots })
+    written-comes r slots s =
+        lifts (Starts key old (with_true (written_from specs (keyed old.keypos key d)))) (UpdatesElement key specs given old) old writes-lifted r (record old { slots = slots })
+        (stored-comes key old count none counted (with_true (written_from specs (keyed old.keypos key d))) r slots s)

@@ -13,7 +13,7 @@ use Rattle.ets_term.specs.declared.term.TheConstants.{MAX_DEPTH}
 use Rattle.ets_term.specs.Atoms.{is_atom}
 use Rattle.ets_term.specs.Depth.{depth, is_too_deep, elements, elements_form, element_at}
 use Rattle.counters.specs.Counters.{count_one, count_all, count, are_counters, or_limit, updated_form, updated_counters}
-use Rattle.counters.specs.Defaults.{keyed, keyed_form, counted_from, shallow_counted}
+use Rattle.counters.specs.Defaults.{keyed, keyed_form, counted_from, shallow_counted, shallow, written_from}
 use Rattle.counters.specs.Elements as elements
 use Rattle.counters.specs.declared.elements.ElementSpec.{ElementSpec}
 use Rattle.counters.specs.declared.elements.ElementSpecs.{ElementSpecs}
@@ -23,7 +23,7 @@ use Rattle.counters.specs.declared.ops.Op.{Op}
 use Rattle.counters.specs.declared.ops.Ops.{Ops}
 use Rattle.counters.specs.declared.ops.Ops.TheVariants.{One, Many}
 use Rattle.table_ops.specs.Content.{key_of}
-use Rattle.table_ops.specs.Update.{is_open, ops_open, specs_open}
+use Rattle.table_ops.specs.Update.{is_open, ops_open, specs_open, with_true}
 use Rattle.table_ops.proofs.StoreLaws.{both}
 use Rattle.table_ops.proofs.KeptLaws.{neither}
 use Rattle.table_ops.proofs.TupleLaws.{Fits, AllFit, depth-Int, elements-Tuple, fit-of, shallow-Tuple, get-set, get-other}
@@ -294,3 +294,27 @@ module _ (keypos : ℕ) where
 
   pub written-keeps : (specs : ElementSpecs) (was object : Term) → specs_open keypos specs ≡ true → elements.updated_elements specs was ≡ Ok object → Keeps keypos was object
   written-keeps specs was object may e = written-form (out-Term was) (elements.listed specs) was object refl may e
+
+  deep-at : (b : Bool) (made object : Term) → is_too_deep made ≡ b → (if b then Err fault.SystemLimit else Ok made) ≡ Ok object → (made ≡ object) × (is_too_deep object ≡ false)
+  deep-at true made object e h = cc
+  deep-at false made object e h = let is : made ≡ object = cc in (is, ap is_too_deep (sym is) ∙ e)
+
+  deep-of : (r : Result Term CounterFault) (object : Term) → shallow r ≡ Ok object → (r ≡ Ok object) × (is_too_deep object ≡ false)
+  deep-of (Err f) object h = cc
+  deep-of (Ok made) object h = let s = deep-at (is_too_deep made) made object refl h in (ap Ok s.0, s.1)
+
+  written-at : (o : Option Term) (specs : ElementSpecs) (key object : Term) → ((made : Term) → o ≡ Some made → key_of keypos made ≡ Some key) → specs_open keypos specs ≡ true → written_from specs o ≡ Ok object → (key_of keypos object ≡ Some key) × (is_too_deep object ≡ false)
+  written-at None specs key object its may h = cc
+  written-at (Some made) specs key object its may h =
+      let s = deep-of (elements.updated_elements specs made) object h in
+      ((written-keeps specs made object may s.0).key ∙ its made refl, s.1)
+
+  true-of : (r : Result Term CounterFault) (object : Term) (answer : Bool) → with_true r ≡ Ok (object, answer) → r ≡ Ok object
+  true-of (Err f) object answer e = cc
+  true-of (Ok made) object answer e = let is : (made, true) ≡ (object, answer) = cc in ap (λ (p : Term × Bool). let r : Result Term CounterFault = Ok p.0 in r) is
+
+  -- what is written into a Default is an object of the key
+  pub written-started : (specs : ElementSpecs) (key default object : Term) (answer : Bool) → specs_open keypos specs ≡ true → with_true (written_from specs (keyed keypos key default)) ≡ Ok (object, answer)
+      → (key_of keypos object ≡ Some key) × (is_too_deep object ≡ false)
+  written-started specs key default object answer may h =
+      written-at (keyed keypos key default) specs key object (λ made e. keyed-key keypos key default made e) may (true-of (written_from specs (keyed keypos key default)) object answer h)

@@ -1,5 +1,5 @@
--- What the calls that change nothing answer (stdlib manual, module ets, lookup_element/3 and tab2list/1).
-use Rattle.std.specs.Prelude.{ℕ, List, [], ◌∷◌, ◌++◌, Option, Some, None, option_map}
+-- What the calls that change nothing answer (stdlib manual, module ets, lookup_element/3 and /4 and tab2list/1).
+use Rattle.std.specs.Prelude.{ℕ, ◌==◌, if◌then◌else◌, List, [], ◌∷◌, ◌++◌, Option, Some, None, option_map}
 use Rattle.std.specs.Option.{option_and_then}
 use Rattle.ets_term.specs.declared.term.Term.{Term}
 use Rattle.ets_term.specs.declared.term.Term.TheVariants.{List as list_term}
@@ -24,3 +24,8 @@ element_told kind position [] = None
 element_told Set position (object ∷ objects) = element_at position object
 element_told Bag position (object ∷ objects) = option_map list_term (elements_at position (object ∷ objects))
 element_told DuplicateBag position (object ∷ objects) = option_map list_term (elements_at position (object ∷ objects))
+
+-- lookup_element(Table, Key, Position, Default): the Default where the key has no object, but no position is 0
+abbrev pub element_or : Kind → ℕ → Term → List Term → Option Term
+element_or kind position default [] = if position == 0 then None else Some default
+element_or kind position default (object ∷ objects) = element_told kind position (object ∷ objects)

@@ -1,4 +1,4 @@
--- What an update does to the object of a key (stdlib manual, module ets, update_counter/3, update_counter/4 and update_element/3).
+-- What an update does to the object of a key (stdlib manual, module ets, update_counter/3 and /4, update_element/3 and /4).
 use Rattle.std.specs.Prelude.{ℕ, ◌==◌, ◌&&◌, not, nat_lt, Bool, true, false, List, [], ◌∷◌, Option, MatchOption, is_some, Result, Ok, Err}
 use Rattle.std.specs.Bool.{MatchBool}
 use Rattle.std.specs.List.{list_all}
@@ -6,7 +6,7 @@ use Rattle.std.specs.Option.{option_map_or}
 use Rattle.ets_term.specs.declared.term.Term.{Term}
 use Rattle.bucket_table.specs.Slots.{Slot, with_objects, object_count}
 use Rattle.counters.specs.Counters.{updated_counters}
-use Rattle.counters.specs.Defaults.{keyed, counted_from}
+use Rattle.counters.specs.Defaults.{keyed, counted_from, written_from}
 use Rattle.counters.specs.Elements.{listed, updated_elements}
 use Rattle.counters.specs.declared.elements.ElementSpecs.{ElementSpecs}
 use Rattle.counters.specs.declared.fault.CounterFault.{CounterFault}
@@ -51,11 +51,11 @@ abbrev pub Counts : Term → Content → Result (Term × Term) CounterFault → 
 Counts key old (Ok counted) r new = gives (Ok counted.1) (with_object key counted.0 old) r new
 Counts key old (Err fault) r new = gives (Err (refusal_of fault)) old r new
 
--- an object that is counted from a Default is stored under its key; system limit where the table would have more objects than it may
-abbrev pub Starts : Term → Content → Result (Term × Term) CounterFault → Change Term Content
-Starts key old (Ok counted) r new =
-    (slots : List Slot) × Writes old.slots key (counted.0 ∷ []) slots
-    × MatchBool (nat_lt old.limit (object_count slots)) (gives (Err SystemLimit) old r new) (gives (Ok counted.1) (record old { slots = slots }) r new)
+-- an object that is made of a Default is stored under its key, and its answer given; system limit where the table would have more objects than it may
+abbrev pub Starts : {X : Type 0} → Term → Content → Result (Term × X) CounterFault → Change X Content
+Starts key old (Ok made) r new =
+    (slots : List Slot) × Writes old.slots key (made.0 ∷ []) slots
+    × MatchBool (nat_lt old.limit (object_count slots)) (gives (Err SystemLimit) old r new) (gives (Ok made.1) (record old { slots = slots }) r new)
 Starts key old (Err fault) r new = gives (Err (refusal_of fault)) old r new
 
 -- the update, by the objects of the key: where it has none, of the Default with the key, and badarg without one
@@ -79,14 +79,20 @@ abbrev pub WritesElements : Term → Content → Result Term CounterFault → Ch
 WritesElements key old (Ok object) r new = gives (Ok true) (with_object key object old) r new
 WritesElements key old (Err fault) r new = gives (Err (refusal_of fault)) old r new
 
--- by the objects of the key: false where it has none
-abbrev pub WritesUnder : Term → ElementSpecs → Content → List Term → Change Bool Content
-WritesUnder key specs old [] r new = gives (Ok false) old r new
-WritesUnder key specs old (object ∷ objects) r new = WritesElements key old (updated_elements specs object) r new
+-- an object that is written answers true
+abbrev pub with_true : Result Term CounterFault → Result (Term × Bool) CounterFault
+with_true (Ok object) = Ok (object, true)
+with_true (Err fault) = Err fault
 
--- update_element(Table, Key, Specs): badarg for a bag, and where the key's element is to be written, whether or not the key has an object
-abbrev pub UpdatesElement : Term → ElementSpecs → Content → Change Bool Content
-UpdatesElement key specs old r new =
-    MatchBool (is_set old.kind && specs_open old.keypos specs)
-    (WritesUnder key specs old (objects_under old.slots key) r new)
+-- by the objects of the key: where it has none, of the Default with the key, and false without one
+abbrev pub WritesUnder : Term → ElementSpecs → Option Term → Content → List Term → Change Bool Content
+WritesUnder key specs default old [] r new = MatchOption default (gives (Ok false) old r new) (λ d. Starts key old (with_true (written_from specs (keyed old.keypos key d))) r new)
+WritesUnder key specs default old (object ∷ objects) r new = WritesElements key old (updated_elements specs object) r new
+
+-- update_element(Table, Key, Specs, Default): badarg for a bag, and, whether or not the key has an object, where the key's element is to be written
+-- and where the Default is no object
+abbrev pub UpdatesElement : Term → ElementSpecs → Option Term → Content → Change Bool Content
+UpdatesElement key specs default old r new =
+    MatchBool (is_set old.kind && (specs_open old.keypos specs && is_good old.keypos key default))
+    (WritesUnder key specs default old (objects_under old.slots key) r new)
     (gives (Err Badarg) old r new)

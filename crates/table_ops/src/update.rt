@@ -2,16 +2,17 @@ ghost use Rattle.std.specs.Prelude.{◌≡◌, ◌&&◌, not, nat_lt, ◌==◌, 
 ghost use Rattle.std.specs.List.{list_all};
 ghost use Rattle.bucket_table.specs.Slots.{objects_of, has_objects};
 ghost use Rattle.bucket_table.specs.Entries.{IsEntry, HasOne, objects_in};
-ghost use Rattle.counters.specs.Defaults.{keyed, counted_from};
+ghost use Rattle.counters.specs.Defaults.{keyed, counted_from, written_from};
 ghost use Rattle.table_ops.specs.Content.{objects_under};
 ghost use Rattle.table_ops.specs.Put.{Writes};
-ghost use Rattle.table_ops.specs.Update.{is_open, ops_open, specs_open, is_good};
+ghost use Rattle.table_ops.specs.Update.{is_open, ops_open, specs_open, is_good, with_true};
 ghost use Rattle.table_ops.specs.inside.Updated.{CountsAt, WritesAt, StartsAt};
 
 use crate::refusal::Refusal;
 use bucket_table::{Entry, Place, Rows};
 use counters::{
-    CounterFault, ElementSpecs, Op, Ops, is_default, start_counter, update_counter, update_elements,
+    CounterFault, ElementSpecs, Op, Ops, is_default, start_counter, start_elements, update_counter,
+    update_elements,
 };
 use ets_term::Term;
 use node_list::Chain;
@@ -155,4 +156,28 @@ pub fn start_at<R: Rows>(
     }
     store_first(alloc, rows, entry, key, object)?;
     Ok(answer)
+}
+
+/// Stores the object that values make of a Default under a key that has none; answers `true`. `room` says that the table
+/// may have one more object.
+pub fn start_written_at<R: Rows>(
+    alloc: Global,
+    rows: &mut R,
+    room: bool,
+    keypos: u32,
+    entry: Entry,
+    key: &Term,
+    specs: ElementSpecs,
+    default: &Term,
+) -> Result<bool, Refusal>
+    requires { IsEntry (R.content rows.old) (R.number rows.old) (R.key_at rows.old) key.now entry }
+    ensures slots { StartsAt room key.now (with_true (written_from specs (keyed keypos key.now default.now))) (R.content rows.old) result (R.content rows.new) }
+    ensures buckets { R.readiness rows.new ≡ R.readiness rows.old }
+{
+    let object = start_elements(alloc, default, keypos, key, specs)?;
+    if !room {
+        return Err(Refusal::SystemLimit);
+    }
+    store_first(alloc, rows, entry, key, object)?;
+    Ok(true)
 }

@@ -14,8 +14,8 @@ from .terms import Pid, Term, parse, spell
 # The calls of docs/calls.md.
 CALLS = (
     "new insert insert_new lookup member lookup_element take delete delete_object delete_all_objects tab2list update_counter"
-    " update_element match match_object match_delete select select_count select_delete first next safe_fixtable give_away"
-    " setopts whereis info receive"
+    " update_element match match_object match_delete select select_count select_delete first next first_lookup next_lookup"
+    " safe_fixtable give_away setopts whereis info receive"
 ).split()
 # So many bytes of lines are sent before their answers are read: a pipe holds them, so neither side waits for the other.
 TOGETHER = 32_768

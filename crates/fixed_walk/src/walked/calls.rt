@@ -2,7 +2,7 @@ ghost use Rattle.std.specs.Prelude.{◌≡◌, option_copied, IfOk, OnOk, OnErr}
 ghost use Rattle.table_ops.specs.Content.{objects_under, is_present};
 ghost use Rattle.table_ops.specs.Drop.{without_those, of_key, each, DeletesObject};
 ghost use Rattle.table_ops.specs.Put.{Inserts, InsertsNew};
-ghost use Rattle.table_ops.specs.Read.{all_objects, element_told};
+ghost use Rattle.table_ops.specs.Read.{all_objects, element_told, element_or};
 ghost use Rattle.table_ops.specs.Refusals.{Comes, Tells};
 ghost use Rattle.table_ops.specs.Update.{UpdatesCounter, UpdatesElement};
 ghost use Rattle.fixed_walk.specs.Fixes.{is_fixed};
@@ -37,6 +37,19 @@ impl<R: Rows> Walked<R> {
         ensures { Tells (element_told self.now.content.kind position (objects_under self.now.content.slots key.now)) result }
     {
         self.table.lookup_element(key, position)
+    }
+
+    /// As `lookup_element`, but the default where the key has no object; `Badarg` for the position 0 then too (stdlib
+    /// manual, ets:lookup_element/4).
+    pub fn lookup_element_or(
+        &self,
+        key: &Term,
+        position: usize,
+        default: &Term,
+    ) -> Result<Term, Refusal>
+        ensures { Tells (element_or self.now.content.kind position default.now (objects_under self.now.content.slots key.now)) result }
+    {
+        self.table.lookup_element_or(key, position, default)
     }
 
     /// All objects, copied, in the order of the slots (stdlib manual, ets:tab2list/1).
@@ -84,14 +97,22 @@ impl<R: Rows> Walked<R> {
         self.table.update_counter(key, ops, default)
     }
 
-    /// Writes elements of a key's object in its place; answers whether the key has one (stdlib manual,
-    /// ets:update_element/3). `Badarg` for a bag, where a value is for the key's element, and where the object has not
-    /// all the positions. Then `SystemLimit` where it would be too deep.
+    /// Writes elements of a key's object in its place and answers `true` (stdlib manual, ets:update_element/3 and /4).
+    /// Where the key has no object, they are written into the Default with the key in it, which is stored, also for no
+    /// values; a key that was deleted while the table is fixed comes back at its place. Without a Default it answers
+    /// `false`. `Badarg` for a bag; where a value is for the key's element; where the Default is no object, also if it is
+    /// not needed; and where the object that is written has not all the positions. Then `SystemLimit` where it would be
+    /// too deep, or one more than the table may have.
     #[tactic(auto, using(crate::proofs::HeldLaws::held))]
-    pub fn update_element(&mut self, key: &Term, specs: ElementSpecs) -> Result<bool, Refusal>
-        ensures { Comes (on_content (UpdatesElement key.now specs) self.old) self.old result self.new }
+    pub fn update_element(
+        &mut self,
+        key: &Term,
+        specs: ElementSpecs,
+        default: Option<&Term>,
+    ) -> Result<bool, Refusal>
+        ensures { Comes (on_content (UpdatesElement key.now specs (option_copied default.entry)) self.old) self.old result self.new }
     {
-        self.table.update_element(key, specs)
+        self.table.update_element(key, specs, default)
     }
 
     /// Deletes the objects of a key (stdlib manual, ets:delete/2).

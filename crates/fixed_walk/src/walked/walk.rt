@@ -1,5 +1,6 @@
-ghost use Rattle.std.specs.Prelude.{◌≡◌, Some, None, option_copied, IfOk, OnErr};
-ghost use Rattle.fixed_walk.specs.Walk.{first_key, next_key};
+ghost use Rattle.std.specs.Prelude.{◌≡◌, Some, None, option_copied, option_map, IfOk, OnErr};
+ghost use Rattle.std.specs.Map.Iter.{deref_pair};
+ghost use Rattle.fixed_walk.specs.Walk.{first_key, next_key, first_slot, next_slot};
 ghost use Rattle.fixed_walk.specs.inside.From.{slots_from, StandsAt};
 
 use super::Walked;
@@ -12,8 +13,7 @@ impl<R: Rows> Walked<R> {
     pub fn first(&self) -> Option<&Term>
         ensures { option_copied result ≡ first_key self.now.content.slots }
     {
-        let rows = self.table.rows();
-        first_present(rows, rows.first_place())
+        key_of(self.first_lookup())
     }
 
     /// The first key that has objects behind the slot of this one; None at the end (stdlib manual, ets:next/2).
@@ -22,6 +22,25 @@ impl<R: Rows> Walked<R> {
     pub fn next(&self, key: &Term) -> Result<Option<&Term>, Badarg>
         ensures ok { IfOk result (λ found. next_key self.now.content.slots key.now ≡ Some (option_copied found)) }
         ensures err { OnErr result (next_key self.now.content.slots key.now ≡ None) }
+    {
+        let found = self.next_lookup(key)?;
+        Ok(key_of(found))
+    }
+
+    /// The first key that has objects, with these, oldest first; None at the end (stdlib manual, ets:first_lookup/1). It
+    /// costs the held slots passed.
+    pub fn first_lookup(&self) -> Option<(&Term, &[Term])>
+        ensures { option_map deref_pair result ≡ first_slot self.now.content.slots }
+    {
+        let rows = self.table.rows();
+        first_present(rows, rows.first_place())
+    }
+
+    /// The first key that has objects behind the slot of this one, with these, oldest first; None at the end (stdlib
+    /// manual, ets:next_lookup/2). `Badarg` where the key has no slot. It costs what `next` costs.
+    pub fn next_lookup(&self, key: &Term) -> Result<Option<(&Term, &[Term])>, Badarg>
+        ensures ok { IfOk result (λ found. next_slot self.now.content.slots key.now ≡ Some (option_map deref_pair found)) }
+        ensures err { OnErr result (next_slot self.now.content.slots key.now ≡ None) }
     {
         let rows = self.table.rows();
         rows.known();
@@ -32,10 +51,20 @@ impl<R: Rows> Walked<R> {
     }
 }
 
-/// The first key that has objects, of the slot at a place and those behind it.
-fn first_present<R: Rows>(rows: &R, start: Option<Place>) -> Option<&Term>
+/// The key of a slot, if there is one.
+fn key_of<'a>(slot: Option<(&'a Term, &'a [Term])>) -> Option<&'a Term>
+    ensures { option_copied result ≡ option_map (λ slot. slot.0) (option_map deref_pair slot.entry) }
+{
+    match slot {
+        Some((key, _)) => Some(key),
+        None => None,
+    }
+}
+
+/// The first slot that has objects, of that at a place and those behind it.
+fn first_present<R: Rows>(rows: &R, start: Option<Place>) -> Option<(&Term, &[Term])>
     requires { StandsAt (R.key_at rows.now) start }
-    ensures { option_copied result ≡ first_key (slots_from (R.key_at rows.now) (R.content rows.now) start) }
+    ensures { option_map deref_pair result ≡ first_slot (slots_from (R.key_at rows.now) (R.content rows.now) start) }
 {
     rows.known();
     let mut at = start;
@@ -43,7 +72,7 @@ fn first_present<R: Rows>(rows: &R, start: Option<Place>) -> Option<&Term>
         let place = at?;
         let (key, objects) = rows.slot_at(place);
         if !objects.is_empty() {
-            return Some(key);
+            return Some((key, objects));
         }
         at = rows.place_behind(place);
     }

@@ -1,5 +1,5 @@
--- Whole walks (stdlib manual, module ets, safe_fixtable/2, first/1 and next/2), in a run: its steps, replies and states.
-use Rattle.std.specs.Prelude.{◌≡◌, ℕ, ◌==◌, ◌&&◌, Bool, true, false, if◌then◌else◌, List, [], ◌∷◌, Option, Some, None, MatchOption, codes}
+-- Whole walks (stdlib manual, module ets, safe_fixtable/2, first/1, next/2, first_lookup/1 and next_lookup/2), in a run: its steps, replies and states.
+use Rattle.std.specs.Prelude.{◌≡◌, ℕ, ◌==◌, Bool, true, false, if◌then◌else◌, List, [], ◌∷◌, Option, Some, None, option_map, MatchOption, codes}
 use Rattle.std.specs.List.{AllByRecursion, IsDistinct, Contains}
 use Rattle.std.specs.Option.{option_map_or}
 use Rattle.std.specs.Str.{bytes_eq}
@@ -13,7 +13,7 @@ use Rattle.node_core.specs.declared.step.Step.{Step}
 use Rattle.node_core.specs.declared.step.Step.TheVariants.{Ask}
 use Rattle.node_core.specs.State.{State}
 use Rattle.node_core.specs.Machine.{run}
-use Rattle.node_core.specs.rules.Walking.{key_reply}
+use Rattle.node_core.specs.rules.Walking.{key_reply, key_and_objects}
 use Rattle.node_core.specs.laws.Kept.{slots_in, is_fixed_in}
 use Rattle.node_core.specs.laws.Reached.{IsSound}
 
@@ -28,30 +28,41 @@ states old (s ∷ steps) [] new done = absurd done
 abbrev pub is_table : State → ℕ → Term → Bool
 is_table s t term = option_map_or (λ u. u == t) (resolve s.world.tables term) false
 
--- what a call asks of the table for a walk: None is first, Some is next of this key; the outer None is any other call
-abbrev pub walk_call : State → ℕ → List ℕ → List Term → Option (Option Term)
-walk_call s t name (term ∷ []) = if bytes_eq name (codes "first") && is_table s t term then Some None else None
-walk_call s t name (term ∷ key ∷ []) = if bytes_eq name (codes "next") && is_table s t term then Some (Some key) else None
+-- a call of a walk by its name, of the two that ask the same: whether it asks for the objects too
+abbrev pub walk_name : List ℕ → List ℕ → List ℕ → Option Bool
+walk_name name own lookup = if bytes_eq name own then Some false else if bytes_eq name lookup then Some true else None
+
+-- what a call asks of the table for a walk: None is first, Some is next of this key; with it, whether it asks for the objects too; the
+-- outer None is any other call
+abbrev pub walk_call : State → ℕ → List ℕ → List Term → Option (Option Term × Bool)
+walk_call s t name (term ∷ []) = if is_table s t term then option_map (λ objects. (None, objects)) (walk_name name (codes "first") (codes "first_lookup")) else None
+walk_call s t name (term ∷ key ∷ []) = if is_table s t term then option_map (λ objects. (Some key, objects)) (walk_name name (codes "next") (codes "next_lookup")) else None
 walk_call s t name _ = None
 
 -- the same of a step, where this process asks
-abbrev pub walk_step : State → ℕ → ℕ → Step → Option (Option Term)
+abbrev pub walk_step : State → ℕ → ℕ → Step → Option (Option Term × Bool)
 walk_step s p t (Ask q call) = if q == p then walk_call s t call.name call.args else None
 walk_step s p t _ = None
 
+-- the reply is this key, or, where it was asked for the objects too, the key with some
+abbrev pub IsKey : Bool → Term → Reply → Type 0
+IsKey false key r = r ≡ Value key
+IsKey true key r = (objects : List Term) × (r ≡ Value (key_and_objects (key, objects)))
+
 -- the reply is the next key, and the walk goes on from it; or it is the end, and no step is left
-abbrev pub Answers : Reply → List Step → List Term → (Term → List Term → Type 0) → Type 0
-Answers r steps [] Further = (r ≡ key_reply None) × (steps ≡ [])
-Answers r steps (key ∷ keys) Further = (r ≡ Value key) × Further key keys
+abbrev pub Answers : Bool → Reply → List Step → List Term → (Term → List Term → Type 0) → Type 0
+Answers objects r steps [] Further = (r ≡ key_reply None) × (steps ≡ [])
+Answers objects r steps (key ∷ keys) Further = IsKey objects key r × Further key keys
 
 module _ (p t : ℕ) where
-  -- the calls of first and next that the process makes on the table are, in order, this one and next of each key that is answered
+  -- the calls of first and next, each with the objects or without, that the process makes on the table are, in order, this one and next of
+  -- each key that is answered
   abbrev pub Walks : Option Term → List Term → (old : State) (steps : List Step) (replies : List Reply) (new : State) → run old steps replies new → Type 0
   Walks call keys old [] [] new done = ⊥
   Walks call keys old (s ∷ steps) (r ∷ replies) new done =
       MatchOption (walk_step old p t s)
       (Walks call keys done.0 steps replies new done.2)
-      (λ asked. (asked ≡ call) × Answers r steps keys (λ key keys. Walks (Some key) keys done.0 steps replies new done.2))
+      (λ asked. (asked.0 ≡ call) × Answers asked.1 r steps keys (λ key keys. Walks (Some key) keys done.0 steps replies new done.2))
   Walks call keys old [] (r ∷ replies) new done = ⊥
   Walks call keys old (s ∷ steps) [] new done = ⊥
 

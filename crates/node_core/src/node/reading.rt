@@ -1,6 +1,6 @@
 // Calls that read a table.
 ghost use Rattle.node_core.specs.Access.{reads};
-ghost use Rattle.node_core.specs.rules.Reading.{Lookup, Member, LookupElement, Tab2list};
+ghost use Rattle.node_core.specs.rules.Reading.{Lookup, Member, LookupElement, LookupElementOr, Tab2list};
 ghost use Rattle.node_core.specs.inside.Refusals.{Comes};
 
 use super::Node;
@@ -40,7 +40,27 @@ impl<H: KeyHash + Copy + Drop> Node<H> {
         Ok(Reply::Value(element))
     }
 
+<<<<<<< ours
     pub(crate) fn tab2list(&self, pid: u32, table: &Term) -> Result<Reply, Refusal>
+=======
+    pub fn lookup_element_or(
+        &self,
+        pid: u32,
+        table: &Term,
+        key: &Term,
+        position: &Term,
+        default: &Term,
+    ) -> Result<Reply, Refusal>
+        ensures { Comes (reads self.now pid table.now (LookupElementOr key.now position.now default.now)) self.now result self.now }
+    {
+        let table = self.readable(pid, table).ok_or(Refusal::Badarg)?;
+        let position = position_of(position).ok_or(Refusal::Badarg)?;
+        let element = table.lookup_element_or(key, position, default)?;
+        Ok(Reply::Value(element))
+    }
+
+    pub fn tab2list(&self, pid: u32, table: &Term) -> Result<Reply, Refusal>
+>>>>>>> theirs
         ensures { Comes (reads self.now pid table.now Tab2list) self.now result self.now }
     {
         let table = self.readable(pid, table).ok_or(Refusal::Badarg)?;

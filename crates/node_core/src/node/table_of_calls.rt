@@ -42,6 +42,8 @@ impl<H: KeyHash + Copy + Drop> Node<H> {
             self.delete_table(pid, x)
         } else if name == "first" {
             self.first(pid, x)
+        } else if name == "first_lookup" {
+            self.first_lookup(pid, x)
         } else if name == "whereis" {
             self.whereis(x)
         } else {
@@ -116,6 +118,8 @@ impl<H: KeyHash + Copy + Drop> Node<H> {
             self.new_call(pid, x, y)
         } else if name == "next" {
             self.next(pid, x, y)
+        } else if name == "next_lookup" {
+            self.next_lookup(pid, x, y)
         } else if name == "safe_fixtable" {
             self.safe_fixtable(pid, x, y)
         } else if name == "setopts" {
@@ -142,7 +146,7 @@ impl<H: KeyHash + Copy + Drop> Node<H> {
         } else if name == "update_counter" {
             self.update_counter(pid, x, y, z, None)
         } else if name == "update_element" {
-            self.update_element(pid, x, y, z)
+            self.update_element(pid, x, y, z, None)
         } else if name == "give_away" {
             self.give_away(pid, x, y, z)
         } else {
@@ -161,8 +165,12 @@ impl<H: KeyHash + Copy + Drop> Node<H> {
     ) -> Result<Reply, Refusal>
         ensures { Comes (calls_of_four self.old pid name.now x.now y.now z.now default.now) self.old result self.new }
     {
-        if name == "update_counter" {
+        if name == "lookup_element" {
+            self.lookup_element_or(pid, x, y, z, default)
+        } else if name == "update_counter" {
             self.update_counter(pid, x, y, z, Some(default))
+        } else if name == "update_element" {
+            self.update_element(pid, x, y, z, Some(default))
         } else {
             Err(Refusal::Badarg)
         }

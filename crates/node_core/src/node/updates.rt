@@ -41,15 +41,16 @@ impl<H: KeyHash + Copy + Drop> Node<H> {
         table: &Term,
         key: &Term,
         updates: &Term,
+        default: Option<&Term>,
     ) -> Result<Reply, Refusal>
-        ensures { Comes (writes self.old pid table.now (UpdateElement key.now updates.now)) self.old result self.new }
+        ensures { Comes (writes self.old pid table.now (UpdateElement key.now updates.now (option_copied default.entry))) self.old result self.new }
     {
         let alloc = self.alloc;
         let Some(table) = self.usable_mut(Access::Write, pid, table) else {
             return Err(Refusal::Badarg);
         };
-        let is_there = write(alloc, table, key, updates)?;
-        Ok(truth_reply(alloc, is_there))
+        let is_written = write(alloc, table, key, updates, default)?;
+        Ok(truth_reply(alloc, is_written))
     }
 }
 
@@ -67,15 +68,16 @@ fn count<R: Rows>(
     table.update_counter(key, &ops, default)
 }
 
-/// Writes the elements that a term tells into a key's object; whether the key has one.
+/// Writes the elements that a term tells into a key's object, or into the Default where there is one; whether it did.
 fn write<R: Rows>(
     alloc: Global,
     table: &mut Walked<R>,
     key: &Term,
     updates: &Term,
+    default: Option<&Term>,
 ) -> Result<bool, Refusal>
-    ensures { table_refusals.Comes (WritesTold key.now updates.now table.old) table.old result table.new }
+    ensures { table_refusals.Comes (WritesTold key.now updates.now (option_copied default.entry) table.old) table.old result table.new }
 {
     let specs = read_element_specs(alloc, updates, table.keypos())?;
-    table.update_element(key, specs)
+    table.update_element(key, specs, default)
 }

@@ -1,15 +1,17 @@
 // Calls that fix a table and walk over it.
-ghost use Rattle.std.specs.Prelude.{◌≡◌, option_copied, IfOk};
+ghost use Rattle.std.specs.Prelude.{◌≡◌, option_copied, option_map, IfOk};
+ghost use Rattle.std.specs.Map.Iter.{deref_pair};
 ghost use Rattle.node_core.specs.declared.node.access.Access.TheVariants.{Read};
 ghost use Rattle.node_core.specs.Access.{reads, changes};
-ghost use Rattle.node_core.specs.rules.Walking.{SafeFixtable, Fixes, Releases, First, Next, key_reply};
+ghost use Rattle.node_core.specs.rules.Walking.{SafeFixtable, Fixes, Releases, First, Next, FirstLookup, NextLookup, key_reply, slot_reply};
 ghost use Rattle.node_core.specs.inside.Refusals.{Comes};
 
 use super::Node;
 use super::access::Access;
 use super::replies::{atom_reply, true_reply};
 use crate::step::Reply;
-use ets_term::{KeyHash, Term};
+use crate::terms;
+use ets_term::{Items, KeyHash, Term};
 use fixed_walk::FixFault;
 use std::alloc::{AllocError, Global};
 use table_ops::Refusal;
@@ -73,6 +75,23 @@ impl<H: KeyHash + Copy + Drop> Node<H> {
             Err(_) => Err(Refusal::Badarg),
         }
     }
+
+    pub fn first_lookup(&self, pid: u32, table: &Term) -> Result<Reply, Refusal>
+        ensures { Comes (reads self.now pid table.now FirstLookup) self.now result self.now }
+    {
+        let table = self.readable(pid, table).ok_or(Refusal::Badarg)?;
+        Ok(slot_reply(self.alloc, table.first_lookup())?)
+    }
+
+    pub fn next_lookup(&self, pid: u32, table: &Term, key: &Term) -> Result<Reply, Refusal>
+        ensures { Comes (reads self.now pid table.now (NextLookup key.now)) self.now result self.now }
+    {
+        let table = self.readable(pid, table).ok_or(Refusal::Badarg)?;
+        match table.next_lookup(key) {
+            Ok(found) => Ok(slot_reply(self.alloc, found)?),
+            Err(_) => Err(Refusal::Badarg),
+        }
+    }
 }
 
 /// A key as an answer, or the end.
@@ -81,6 +100,21 @@ fn key_reply(alloc: Global, key: Option<&Term>) -> Result<Reply, AllocError>
 {
     match key {
         Some(key) => Ok(Reply::Value(key.try_clone(alloc)?)),
+        None => Ok(atom_reply(alloc, b"$end_of_table")),
+    }
+}
+
+/// A key with its objects as an answer, or the end.
+fn slot_reply(alloc: Global, slot: Option<(&Term, &[Term])>) -> Result<Reply, AllocError>
+    ensures { IfOk result (λ r. r ≡ slot_reply (option_map deref_pair slot.entry)) }
+{
+    match slot {
+        Some((key, objects)) => {
+            let mut parts = Items::new(alloc);
+            parts.push(key.try_clone(alloc)?)?;
+            parts.push(Term::List(terms::copied(alloc, objects)?))?;
+            Ok(Reply::Value(Term::Tuple(parts)))
+        }
         None => Ok(atom_reply(alloc, b"$end_of_table")),
     }
 }

@@ -1,5 +1,5 @@
 -- What the inner calls of an update do to the slot of a key.
-use Rattle.std.specs.Prelude.{◌≡◌, ◌⊎◌, Bool, true, false, List, [], ◌∷◌, Option, Some, Result, Ok, Err}
+use Rattle.std.specs.Prelude.{◌≡◌, ◌⊎◌, Bool, true, false, List, [], ◌∷◌, Option, Some, Result, Ok, Err, is_ok}
 use Rattle.ets_term.specs.declared.term.Term.{Term}
 use Rattle.bucket_table.specs.Slots.{Slot}
 use Rattle.bucket_table.specs.Entries.{objects_in, with_objects_in}
@@ -29,9 +29,9 @@ abbrev pub WritesAt : ElementSpecs → Option Term → List Slot → Result (Uni
 WritesAt specs at old (Ok done) new = WasOne old at (λ was. (object : Term) × (updated_elements specs was ≡ Ok object) × (new ≡ with_objects_in old at (object ∷ [])))
 WritesAt specs at old (Err fault) new = WasOne old at (λ was. (updated_elements specs was ≡ Err fault) × (new ≡ old))
 
--- an object that was counted is stored under a key that has none, where there is room for it
-abbrev pub StartsAt : Bool → Term → Result (Term × Term) CounterFault → List Slot → Result Term Refusal → List Slot → Type 0
-StartsAt room key counted old (Ok answer) new = (object : Term) × (counted ≡ Ok (object, answer)) × (room ≡ true) × Writes old key (object ∷ []) new
-StartsAt room key counted old (Err Badarg) new = (counted ≡ Err fault.Badarg) × (new ≡ old)
-StartsAt room key counted old (Err SystemLimit) new = (new ≡ old) × ((counted ≡ Err fault.SystemLimit) ⊎ ((made : Term × Term) × (counted ≡ Ok made) × (room ≡ false)))
-StartsAt room key counted old (Err Memory) new = new ≡ old
+-- an object that was made is stored under a key that has none, where there is room for it
+abbrev pub StartsAt : {X : Type 0} → Bool → Term → Result (Term × X) CounterFault → List Slot → Result X Refusal → List Slot → Type 0
+StartsAt room key made old (Ok answer) new = (object : Term) × (made ≡ Ok (object, answer)) × (room ≡ true) × Writes old key (object ∷ []) new
+StartsAt room key made old (Err Badarg) new = (made ≡ Err fault.Badarg) × (new ≡ old)
+StartsAt room key made old (Err SystemLimit) new = (new ≡ old) × ((made ≡ Err fault.SystemLimit) ⊎ ((is_ok made ≡ true) × (room ≡ false)))
+StartsAt room key made old (Err Memory) new = new ≡ old

@@ -1,7 +1,7 @@
 ghost use Rattle.std.specs.Prelude.{◌≡◌, ◌≤◌, ◌+◌, ◌++◌, length, vec_len, vec_capacity, IfOk, OnOk};
 ghost use Rattle.table_ops.specs.declared.kind.Kind.TheVariants.{Set, Bag};
 ghost use Rattle.table_ops.specs.Content.{objects_under, is_present};
-ghost use Rattle.table_ops.specs.Read.{all_objects, element_told};
+ghost use Rattle.table_ops.specs.Read.{all_objects, element_told, element_or};
 ghost use Rattle.table_ops.specs.Refusals.{Tells};
 
 use super::Table;
@@ -34,11 +34,27 @@ impl<R: Rows> Table<R> {
     pub fn lookup_element(&self, key: &Term, position: usize) -> Result<Term, Refusal>
         ensures { Tells (element_told self.now.content.kind position (objects_under self.now.content.slots key.now)) result }
     {
+        told(self.alloc, self.kind, self.lookup(key), position)
+    }
+
+    /// As `lookup_element`, but the default where the key has no object; `Badarg` for the position 0 then too (stdlib
+    /// manual, ets:lookup_element/4).
+    pub fn lookup_element_or(
+        &self,
+        key: &Term,
+        position: usize,
+        default: &Term,
+    ) -> Result<Term, Refusal>
+        ensures { Tells (element_or self.now.content.kind position default.now (objects_under self.now.content.slots key.now)) result }
+    {
         let objects = self.lookup(key);
-        match self.kind {
-            Kind::Set => first_element(self.alloc, objects, position),
-            _ => elements(self.alloc, objects, position),
+        if !objects.is_empty() {
+            return told(self.alloc, self.kind, objects, position);
         }
+        if position == 0 {
+            return Err(Refusal::Badarg);
+        }
+        Ok(default.try_clone(self.alloc)?)
     }
 
     /// All objects, copied, in the order of the slots (stdlib manual, ets:tab2list/1).
@@ -55,6 +71,16 @@ impl<R: Rows> Table<R> {
             at = self.rows.place_behind(place);
         }
         Ok(Items::from_vec(copies))
+    }
+}
+
+/// The element at a position of a set's objects, or the elements of a bag's.
+fn told(alloc: Global, kind: Kind, objects: &[Term], position: usize) -> Result<Term, Refusal>
+    ensures { Tells (element_told kind position objects.now) result }
+{
+    match kind {
+        Kind::Set => first_element(alloc, objects, position),
+        _ => elements(alloc, objects, position),
     }
 }
 

@@ -5,7 +5,9 @@ ghost use Rattle.table_ops.specs.Update.{is_set, ops_open, specs_open, is_good, 
 use super::Table;
 use crate::kind::Kind;
 use crate::refusal::Refusal;
-use crate::update::{count_at, filled, is_good, ops_open, specs_open, start_at, write_at};
+use crate::update::{
+    count_at, filled, is_good, ops_open, specs_open, start_at, start_written_at, write_at,
+};
 use bucket_table::Rows;
 use counters::{ElementSpecs, Ops};
 use ets_term::Term;
@@ -51,22 +53,45 @@ impl<R: Rows> Table<R> {
         Ok(answer)
     }
 
-    /// Writes elements of a key's object in its place; answers whether the key has one (stdlib manual,
-    /// ets:update_element/3). The values move into the object. `Badarg` for a bag, where a value is for the key's
-    /// element, and where the object has not all the positions. Then `SystemLimit` where it would be too deep.
-    pub fn update_element(&mut self, key: &Term, specs: ElementSpecs) -> Result<bool, Refusal>
-        ensures content { Comes (UpdatesElement key.now specs self.old.content) self.old.content result self.new.content }
+    /// Writes elements of a key's object in its place and answers `true` (stdlib manual, ets:update_element/3 and /4).
+    /// The values move into the object. Where the key has no object, they are written into the Default with the key in
+    /// it, which is stored, also for no values; without a Default it answers `false`. `Badarg` for a bag; where a value
+    /// is for the key's element; where the Default is no object, also if it is not needed; and where the object that is
+    /// written has not all the positions. Then `SystemLimit` where it would be too deep, or one more than the table may
+    /// have.
+    pub fn update_element(
+        &mut self,
+        key: &Term,
+        specs: ElementSpecs,
+        default: Option<&Term>,
+    ) -> Result<bool, Refusal>
+        ensures content { Comes (UpdatesElement key.now specs (option_copied default.entry) self.old.content) self.old.content result self.new.content }
         ensures buckets { self.new.buckets ≡ self.old.buckets }
     {
-        if !self.may_write(&specs) {
+        if !self.may_write(key, &specs, default) {
             return Err(Refusal::Badarg);
         }
         let entry = self.rows.entry(key);
-        let Some(place) = filled(&self.rows, key, entry) else {
+        if let Some(place) = filled(&self.rows, key, entry) {
+            write_at(&mut self.rows, place, specs)?;
+            return Ok(true);
+        }
+        let Some(default) = default else {
             return Ok(false);
         };
-        write_at(&mut self.rows, place, specs)?;
-        Ok(true)
+        let room = self.count < self.limit as usize;
+        let answer = start_written_at(
+            self.alloc,
+            &mut self.rows,
+            room,
+            self.keypos,
+            entry,
+            key,
+            specs,
+            default,
+        )?;
+        self.count += 1;
+        Ok(answer)
     }
 
     fn may_count(&self, key: &Term, ops: &Ops, default: Option<&Term>) -> bool
@@ -81,10 +106,16 @@ impl<R: Rows> Table<R> {
         ops_open(self.keypos, ops) && is_good(self.keypos, key, default)
     }
 
-    fn may_write(&self, specs: &ElementSpecs) -> bool
-        ensures { result ≡ (is_set self.now.content.kind && specs_open self.now.content.keypos specs.now) }
+    fn may_write(&self, key: &Term, specs: &ElementSpecs, default: Option<&Term>) -> bool
+        ensures { result ≡ (is_set self.now.content.kind && (specs_open self.now.content.keypos specs.now && is_good self.now.content.keypos key.now (option_copied default.entry))) }
     {
-        self.is_set() && specs_open(self.keypos, specs)
+        self.is_set() && self.are_writable(key, specs, default)
+    }
+
+    fn are_writable(&self, key: &Term, specs: &ElementSpecs, default: Option<&Term>) -> bool
+        ensures { result ≡ (specs_open self.now.content.keypos specs.now && is_good self.now.content.keypos key.now (option_copied default.entry)) }
+    {
+        specs_open(self.keypos, specs) && is_good(self.keypos, key, default)
     }
 
     fn is_set(&self) -> bool

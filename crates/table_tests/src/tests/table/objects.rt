@@ -89,7 +89,7 @@ fn stored_at_end<R: Rows>(alloc: Global, table: &mut Table<R>) -> Option<[bool; 
         inserted_new(table, slice::from_ref(&object)) == BADARG,
         table.update_counter(&end, &ops, None).is_err(),
         table.update_counter(&end, &ops, Some(&object)).is_err(),
-        table.update_element(&end, specs) == Ok(false),
+        table.update_element(&end, specs, None) == Ok(false),
     ])
 }
 

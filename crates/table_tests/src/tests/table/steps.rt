@@ -82,7 +82,7 @@ fn counted_from<R: Rows>(
 fn written<R: Rows>(alloc: Global, table: &mut Table<R>, key: i64, value: i64) -> Option<i64> {
     let update = tuple(alloc, &[2, value])?;
     let specs = read_element_specs(alloc, &update, 1).ok()?;
-    match table.update_element(&Term::Int(key), specs) {
+    match table.update_element(&Term::Int(key), specs, None) {
         Ok(true) => Some(1),
         Ok(false) => Some(0),
         Err(refusal) => Some(refused(refusal)),

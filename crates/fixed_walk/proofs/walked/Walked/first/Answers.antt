@@ -1,11 +1,6 @@
 use Rattle.std.proofs.Common.{ap, ◌∙◌}
-use Rattle.fixed_walk.specs.Walk.{first_key}
-use Rattle.fixed_walk.specs.Fixed.{Fixed}
-use Rattle.fixed_walk.proofs.FromLaws.{from-first}
+use Rattle.fixed_walk.proofs.FromLaws.{key_in, first-key}
 use Rattle.fixed_walk.proofs.walked.Walked.first.Goals as goal
 
 pub returns : goal.returns
-returns g c =
-    let rows = c.rows-rows.result.now in
-    c.first_present.ensures
-    ∙ ap first_key (from-first (g.R.Rows.key_at rows) (g.R.Rows.content rows) c.first_place.result c.first_place.ensures ∙ c.rows-rows.ensures.slots ∙ ap (λ (t : Fixed). t.content.slots) c.self.view_is)
+returns g c = c.key_of.ensures ∙ ap key_in c.first_lookup.ensures ∙ first-key c.args.self.now.content.slots

@@ -1,22 +1,12 @@
-use Rattle.std.proofs.Common.{◌≡◌, None, Some, sym, subst, ap, ◌∙◌, List}
-use Rattle.std.specs.Prelude.{option_copied}
-use Rattle.bucket_table.specs.Slots.{Slot}
-use Rattle.fixed_walk.specs.Walk.{next_key}
-use Rattle.fixed_walk.specs.Fixed.{Fixed}
-use Rattle.fixed_walk.proofs.FromLaws.{next-told, next-absent}
+use Rattle.std.proofs.Common.{sym, ap, ◌∙◌, Some}
+use Rattle.std.proofs.lemmas.Result.{err_from_is_err_and}
+use Rattle.fixed_walk.proofs.FromLaws.{next-key-is, next-key-none}
 use Rattle.fixed_walk.proofs.walked.Walked.next.Goals as goal
 
-pub returns-clause-ok : goal.returns-clause-ok
-returns-clause-ok g c =
-    let rows = c.rows-rows.result.now in
-    let key_at = g.R.Rows.key_at rows in
-    let slots = g.R.Rows.content rows in
-    let key = c.args.key.now in
-    let is : slots ≡ c.args.self.now.content.slots = c.rows-rows.ensures.slots ∙ ap (λ (t : Fixed). t.content.slots) c.self.view_is in
-    let told = next-told key_at slots key (key_at c.in-Some.place) c.place_behind.result c.known.ensures c.in-Some.ensures.0 c.place_behind.ensures in
-    subst (λ (zs : List Slot). next_key zs key ≡ Some (option_copied c.first_present.result)) is (told ∙ ap Some (sym c.first_present.ensures))
+pub returns-in_err-found-clause-err : goal.returns-in_err-found-clause-err
+returns-in_err-found-clause-err g c =
+    let p = err_from_is_err_and c.from_residual.result c.from_residual.ensures.1 in
+    rw p.1 (next-key-none c.args.self.now.content.slots c.args.key.now c.in_err-found.ensures.err)
 
-pub returns-in_default-clause-err : goal.returns-in_default-clause-err
-returns-in_default-clause-err g c =
-    let is = c.rows-rows.ensures.slots ∙ ap (λ (t : Fixed). t.content.slots) c.self.view_is in
-    subst (λ (zs : List Slot). next_key zs c.args.key.now ≡ None) is (next-absent (g.R.Rows.content c.rows-rows.result.now) c.args.key.now c.in_default.ensures)
+pub returns-clause-ok : goal.returns-clause-ok
+returns-clause-ok g c = next-key-is c.args.self.now.content.slots c.args.key.now _ c.in_ok-found.ensures.ok ∙ ap Some (sym c.key_of.ensures)

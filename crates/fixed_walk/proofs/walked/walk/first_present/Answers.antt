@@ -1,5 +1,5 @@
 use Rattle.std.proofs.Common.{◌≡◌, ◌∷◌, refl, sym, ap, ◌∙◌, length, arith}
-use Rattle.fixed_walk.specs.Walk.{first_key}
+use Rattle.fixed_walk.specs.Walk.{first_slot}
 use Rattle.fixed_walk.specs.inside.From.{slots_from}
 use Rattle.fixed_walk.proofs.FromLaws.{from-step, from-here-first, slots-short, stands-next, none-left, some-left, first-of}
 use Rattle.fixed_walk.proofs.walked.walk.first_present.Goals as goal
@@ -15,7 +15,7 @@ returns-then-not-is_empty g c =
     let slots = g.R.Rows.content c.args.rows.now in
     let some = some-left c.slot_at.result.1.now (sym c.is_empty.ensures ∙ c.if-not-is_empty.true) in
     sym (from-here-first key_at slots c.in_ok-place.place c.slot_at.result.0.now c.slot_at.result.1.now c.slot_at.ensures.key c.slot_at.ensures.objects some)
-    ∙ ap (λ at. first_key (slots_from key_at slots at)) (sym c.in_ok-place.was) ∙ c.loop.invariant.same
+    ∙ ap (λ at. first_slot (slots_from key_at slots at)) (sym c.in_ok-place.was) ∙ c.loop.invariant.same
 
 pub loop-preserved : goal.loop-preserved
 loop-preserved g c =
@@ -30,6 +30,6 @@ loop-preserved g c =
     let long = ap length here in
     record {
       stands = stands-next key_at slots (key_at c.in_ok-place.place) next c.place_behind-at.ensures;
-      same = sym (first-of key objects (slots_from key_at slots next) none) ∙ ap first_key (sym here) ∙ c.loop.invariant.same;
+      same = sym (first-of key objects (slots_from key_at slots next) none) ∙ ap first_slot (sym here) ∙ c.loop.invariant.same;
       few = omega (arith, c.loop.invariant.few, long);
     }

@@ -1,3 +1,4 @@
+use Rattle.std.proofs.Common.{option_copied}
 use Rattle.std.proofs.lemmas.Result.{err_from_is_err_and}
 use Rattle.node_core.specs.declared.node.access.Access.TheVariants.{Write}
 use Rattle.node_core.specs.rules.Updates.{WritesTold}
@@ -5,11 +6,11 @@ use Rattle.node_core.specs.rules.Replies.{truth_reply}
 use Rattle.node_core.proofs.Changes.{changed-ok, changed-err}
 use Rattle.node_core.proofs.node.Node.update_element.Goals as goal
 
-pub returns-in_err-is_there : goal.returns-in_err-is_there
-returns-in_err-is_there g c =
+pub returns-in_err-is_written : goal.returns-in_err-is_written
+returns-in_err-is_written g c =
     let p = err_from_is_err_and c.from_residual.result c.from_residual.ensures.1 in
-    rw (p.1, p.2) (changed-err c.args.self.now c.args.pid Write c.args.table.now c.in-Some.table.now c.write.new.table c.in-Some.ensures.value truth_reply (WritesTold c.args.key.now c.args.updates.now) c.in_err-is_there.field-0.0 c.in_err-is_there.ensures)
+    rw (p.1, p.2) (changed-err c.args.self.now c.args.pid Write c.args.table.now c.in-Some.table.now c.write.new.table c.in-Some.ensures.value truth_reply (WritesTold c.args.key.now c.args.updates.now (option_copied c.args.default)) c.in_err-is_written.field-0.0 c.in_err-is_written.ensures)
 
 pub returns : goal.returns
 returns g c =
-    rw c.truth_reply.ensures (changed-ok c.args.self.now c.args.pid Write c.args.table.now c.in-Some.table.now c.write.new.table c.in-Some.ensures.value truth_reply (WritesTold c.args.key.now c.args.updates.now) c.in_ok-is_there.is_there c.in_ok-is_there.ensures)
+    rw c.truth_reply.ensures (changed-ok c.args.self.now c.args.pid Write c.args.table.now c.in-Some.table.now c.write.new.table c.in-Some.ensures.value truth_reply (WritesTold c.args.key.now c.args.updates.now (option_copied c.args.default)) c.in_ok-is_written.is_written c.in_ok-is_written.ensures)
