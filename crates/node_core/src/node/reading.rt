@@ -40,10 +40,7 @@ impl<H: KeyHash + Copy + Drop> Node<H> {
         Ok(Reply::Value(element))
     }
 
-<<<<<<< ours
-    pub(crate) fn tab2list(&self, pid: u32, table: &Term) -> Result<Reply, Refusal>
-=======
-    pub fn lookup_element_or(
+    pub(crate) fn lookup_element_or(
         &self,
         pid: u32,
         table: &Term,
@@ -59,8 +56,7 @@ impl<H: KeyHash + Copy + Drop> Node<H> {
         Ok(Reply::Value(element))
     }
 
-    pub fn tab2list(&self, pid: u32, table: &Term) -> Result<Reply, Refusal>
->>>>>>> theirs
+    pub(crate) fn tab2list(&self, pid: u32, table: &Term) -> Result<Reply, Refusal>
         ensures { Comes (reads self.now pid table.now Tab2list) self.now result self.now }
     {
         let table = self.readable(pid, table).ok_or(Refusal::Badarg)?;

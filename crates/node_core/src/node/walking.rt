@@ -76,14 +76,14 @@ impl<H: KeyHash + Copy + Drop> Node<H> {
         }
     }
 
-    pub fn first_lookup(&self, pid: u32, table: &Term) -> Result<Reply, Refusal>
+    pub(crate) fn first_lookup(&self, pid: u32, table: &Term) -> Result<Reply, Refusal>
         ensures { Comes (reads self.now pid table.now FirstLookup) self.now result self.now }
     {
         let table = self.readable(pid, table).ok_or(Refusal::Badarg)?;
         Ok(slot_reply(self.alloc, table.first_lookup())?)
     }
 
-    pub fn next_lookup(&self, pid: u32, table: &Term, key: &Term) -> Result<Reply, Refusal>
+    pub(crate) fn next_lookup(&self, pid: u32, table: &Term, key: &Term) -> Result<Reply, Refusal>
         ensures { Comes (reads self.now pid table.now (NextLookup key.now)) self.now result self.now }
     {
         let table = self.readable(pid, table).ok_or(Refusal::Badarg)?;
