@@ -17,14 +17,15 @@ fn nested(alloc: Global, levels: usize) -> Option<Term> {
 
 /// Takes the lists of a nest apart, the outermost first, and counts them.
 fn unnest(term: Term) -> usize {
-    let mut levels = 0;
     let mut left = Some(term);
-    while let Some(Term::List(items)) = left {
+    for levels in 0..LEVELS {
+        let Some(Term::List(items)) = left else {
+            return levels;
+        };
         let mut items = items;
         left = items.pop();
-        levels += 1;
     }
-    levels
+    LEVELS
 }
 
 fn is_too_deep(alloc: Global) -> Option<bool> {
