@@ -8,6 +8,7 @@ use std::alloc::{AllocError, Global};
 use std::process::Abort;
 
 mod handing;
+mod many;
 
 /// A walk of process 0 over the table t: the steps before it, its limit, and what others do meanwhile.
 #[derive(Clone, Copy)]
