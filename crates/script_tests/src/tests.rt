@@ -5,6 +5,7 @@ mod faults;
 mod limits;
 mod long;
 mod program;
+mod reads;
 mod rows;
 mod syntax;
 mod threads;
