@@ -28,7 +28,7 @@ impl<H: KeyHash + Copy + Drop> Node<H> {
     }
 }
 
-fn any_too_deep(terms: &[Term]) -> bool
+pub(super) fn any_too_deep(terms: &[Term]) -> bool
     ensures { result ≡ list_any is_too_deep terms.now }
 {
     terms.iter().any(|term| term.is_too_deep())
