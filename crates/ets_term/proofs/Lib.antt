@@ -1,3 +1,4 @@
+pub mod RowLaws
 pub mod Joined
 pub mod Rows
 pub mod Texts
