@@ -7,6 +7,7 @@ pub mod Calls
 pub mod Machine
 pub mod Buckets
 pub mod Through
+pub mod verdicts
 pub mod laws
 pub mod Woven
 pub mod inside

@@ -1,3 +1,4 @@
 pub mod Kept
 pub mod Reached
+pub mod Verdicts
 pub mod Walk

@@ -2,6 +2,7 @@
 
 ghost use Rattle.node_core.specs.laws.Kept.{StepsKeepKeys};
 ghost use Rattle.node_core.specs.laws.Reached.{RunsStaySound, ReachedAreSound};
+ghost use Rattle.node_core.specs.laws.Verdicts.{VerdictsComeTrue};
 ghost use Rattle.node_core.specs.laws.Walk.{WalksAreWhole};
 
 /// In each state that a run reaches from the empty one, no two slots of one table have one key, none has the key
@@ -22,4 +23,11 @@ pub fn steps_keep_keys()
 /// however the table grows.
 pub fn walks_are_whole()
     ensures { WalksAreWhole }
+{}
+
+/// Whatever the machine may reply to a step is what its verdict says: where that is a reason, the refusal of its rule;
+/// where it is that the step is answered, an answer; and where it is that limits alone can refuse it, an answer or
+/// `SystemLimit`.
+pub fn verdicts_come_true()
+    ensures { VerdictsComeTrue }
 {}

@@ -17,11 +17,14 @@ pub mod laws;
 mod limits;
 mod node;
 mod position;
+mod reason;
 mod step;
 mod terms;
+mod verdicts;
 mod walk;
 
 pub use limits::Limits;
 pub use node::{Node, RunFault};
+pub use reason::{Reason, Rule, Verdict};
 pub use step::{Call, Reply, Step};
 pub use walk::{Others, Walk, WalkFault, walk_among};

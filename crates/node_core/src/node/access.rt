@@ -77,7 +77,8 @@ impl<H: KeyHash + Copy + Drop> Node<H> {
     }
 }
 
-fn may(access: Access, head: &Head, pid: u32) -> bool
+/// Whether a process may use a table so.
+pub fn may(access: Access, head: &Head, pid: u32) -> bool
     ensures { result ≡ may access head.now pid }
 {
     match access {

@@ -47,7 +47,7 @@ impl<H: KeyHash + Copy + Drop> Node<H> {
 }
 
 /// The objects of an argument: a list has many, and any other term is the only one.
-fn objects_in(argument: &Term) -> &[Term]
+pub fn objects_in(argument: &Term) -> &[Term]
     ensures { result.now ≡ objects_in argument.now }
 {
     match argument {

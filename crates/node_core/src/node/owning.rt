@@ -81,7 +81,7 @@ impl<H: KeyHash + Copy + Drop> Node<H> {
 }
 
 /// Whether a term could name a table.
-fn can_name(term: &Term) -> bool
+pub fn can_name(term: &Term) -> bool
     ensures { result ≡ names_form (out-Term term.now) }
 {
     match term {
