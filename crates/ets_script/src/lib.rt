@@ -16,6 +16,7 @@ mod answer;
 mod classes;
 mod command;
 mod command_line;
+mod explain;
 mod fault;
 mod feed;
 mod journal;
@@ -34,7 +35,8 @@ mod terms;
 mod threads;
 
 pub use command_line::{refuse, settings};
+pub use explain::{Explain, Explainer, Silence};
 pub use fault::ScriptFault;
-pub use program::{answer_alone, answer_input};
-pub use run::{run_script, run_within};
+pub use program::{answer_alone, answer_input, answer_why};
+pub use run::{run_explained, run_script, run_within};
 pub use threads::run_threads;

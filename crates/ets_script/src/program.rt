@@ -3,9 +3,10 @@ ghost use Rattle.std.specs.Prelude.{◌≡◌, false, true, IfOk, OnOk, IfErr};
 ghost use Rattle.ets_script.specs.Stops.{EndsWithin, ProgramEnds, usual};
 ghost use Rattle.ets_script.specs.Threads.{ThreadsEnd, ThreadsStop, ThreadsStatus, ProgramThreads};
 
+use crate::explain::Explainer;
 use crate::fault::ScriptFault;
 use crate::options::Settings;
-use crate::run::run_script;
+use crate::run::{run_explained, run_script};
 use crate::threads::run_threads;
 use ets_term::{AllSame, Fnv, KeyHash};
 use node_core::Limits;
@@ -64,6 +65,41 @@ fn answer_by<H: KeyHash + Copy + Drop, R: Read, W: Write, E: Write>(
     ensures { IfOk result (EndsWithin limits (R.remaining input.old) (R.remaining input.new) (W.contents output.old) (W.contents output.new)) }
 {
     match run_script(alloc, input, output, limits, hash) {
+        Ok(_) => Ok(0),
+        Err(fault) => tell(&fault, errors),
+    }
+}
+
+/// Answers a script line by line as `answer_alone`, and tells on a line of errors why each line that is refused is.
+pub fn answer_why<R: Read, W: Write, E: Write>(
+    alloc: Global,
+    settings: &Settings,
+    input: &mut R,
+    output: &mut W,
+    errors: &mut E,
+) -> io::Result<u8>
+    ensures { IfOk result (ProgramEnds settings.now.objects (R.remaining input.old) (R.remaining input.new) (W.contents output.old) (W.contents output.new)) }
+{
+    let limits = limits_of(settings);
+    if settings.same {
+        explain_by(alloc, limits, AllSame, input, output, errors)
+    } else {
+        explain_by(alloc, limits, Fnv, input, output, errors)
+    }
+}
+
+fn explain_by<H: KeyHash + Copy + Drop, R: Read, W: Write, E: Write>(
+    alloc: Global,
+    limits: Limits,
+    hash: H,
+    input: &mut R,
+    output: &mut W,
+    errors: &mut E,
+) -> io::Result<u8>
+    ensures { IfOk result (EndsWithin limits (R.remaining input.old) (R.remaining input.new) (W.contents output.old) (W.contents output.new)) }
+{
+    let mut explainer = Explainer::new(&mut *errors);
+    match run_explained(alloc, input, output, &mut explainer, limits, hash) {
         Ok(_) => Ok(0),
         Err(fault) => tell(&fault, errors),
     }

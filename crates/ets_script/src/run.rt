@@ -9,6 +9,7 @@ ghost use Rattle.ets_script.specs.inside.Output.{Sends, Breaks};
 ghost use Rattle.ets_script.specs.inside.Answered.{AnswersNext, AnswersPart, EndsAll, BreaksAtEnd};
 
 use crate::answer::Answer;
+use crate::explain::{Explain, Silence};
 use crate::fault::ScriptFault;
 use crate::feed::{Feed, MAX_READS};
 use crate::lines::NextLine;
@@ -34,6 +35,37 @@ pub fn run_script<R: Read, W: Write, H: KeyHash + Copy + Drop>(
     run_within(alloc, reader, writer, limits, hash, MAX_READS)
 }
 
+/// As `run_script`, and each line with its answer is explained.
+pub fn run_explained<R: Read, W: Write, X: Explain, H: KeyHash + Copy + Drop>(
+    alloc: Global,
+    reader: &mut R,
+    writer: &mut W,
+    explain: &mut X,
+    limits: Limits,
+    hash: H,
+) -> Result<Node<H>, ScriptFault>
+    ensures ok { IfOk result (λ node. (end : Scripted) × (end.node ≡ seen node) × Completes (at_start (empty limits)) (R.remaining reader.old) (R.remaining reader.new) (W.contents writer.old) (W.contents writer.new) end) }
+    ensures err { IfErr result (Stops (at_start (empty limits)) (R.remaining reader.old) (R.remaining reader.new) (W.contents writer.old) (W.contents writer.new)) }
+{
+    let Ok(mut feed) = Feed::new(alloc, MAX_READS) else {
+        return Err(ScriptFault::Memory);
+    };
+    let Ok(mut pending) = Pending::new(alloc) else {
+        return Err(ScriptFault::Memory);
+    };
+    let mut script = Script::new(alloc, limits, hash);
+    answer_all(
+        alloc,
+        reader,
+        &mut feed,
+        &mut pending,
+        writer,
+        explain,
+        &mut script,
+    )?;
+    Ok(script.into_node())
+}
+
 /// As `run_script`, with at most this many reads.
 pub fn run_within<R: Read, W: Write, H: KeyHash + Copy + Drop>(
     alloc: Global,
@@ -53,17 +85,26 @@ pub fn run_within<R: Read, W: Write, H: KeyHash + Copy + Drop>(
         return Err(ScriptFault::Memory);
     };
     let mut script = Script::new(alloc, limits, hash);
-    answer_all(alloc, reader, &mut feed, &mut pending, writer, &mut script)?;
+    answer_all(
+        alloc,
+        reader,
+        &mut feed,
+        &mut pending,
+        writer,
+        &mut Silence,
+        &mut script,
+    )?;
     Ok(script.into_node())
 }
 
 /// Answers all lines, and sends all answers.
-fn answer_all<R: Read, W: Write, H: KeyHash + Copy + Drop>(
+fn answer_all<R: Read, W: Write, X: Explain, H: KeyHash + Copy + Drop>(
     alloc: Global,
     reader: &mut R,
     feed: &mut Feed,
     pending: &mut Pending,
     writer: &mut W,
+    explain: &mut X,
     script: &mut Script<H>,
 ) -> Result<(), ScriptFault>
     requires waiting { pending.old ≡ [] }
@@ -72,11 +113,11 @@ fn answer_all<R: Read, W: Write, H: KeyHash + Copy + Drop>(
     ensures err { IfErr result (Stops script.old (R.remaining reader.old) (R.remaining reader.new) (W.contents writer.old) (W.contents writer.new)) }
 {
     loop {
-        let Some(next) = answer_next(alloc, feed, script) else {
+        let Some(next) = answer_next(alloc, feed, explain, script) else {
             pending.flush(writer)?;
             feed.skip_long();
             if feed.refill(reader)? == 0 {
-                answer_last(alloc, feed, pending, writer, script)?;
+                answer_last(alloc, feed, pending, writer, explain, script)?;
                 return Ok(());
             }
             continue;
@@ -107,20 +148,24 @@ fn print_line<W: Write>(
 }
 
 /// Answers the next line, if its end is held.
-fn answer_next<H: KeyHash + Copy + Drop>(
+fn answer_next<X: Explain, H: KeyHash + Copy + Drop>(
     alloc: Global,
     feed: &Feed,
+    explain: &mut X,
     script: &mut Script<H>,
 ) -> Option<AnsweredLine>
     ensures { AnswersNext feed.now script.old script.new result }
 {
     match feed.next_line() {
         NextLine::Text { text, taken } => {
-            let answer = script.answer(alloc, &feed.held()[..text]);
+            let line = &feed.held()[..text];
+            let answer = script.answer(alloc, line);
+            explain.explain(alloc, script, line, &answer);
             Some(AnsweredLine { answer, taken })
         }
         NextLine::TooLong { taken } => {
             let answer = Answer::TooLong;
+            explain.explain(alloc, script, feed.held(), &answer);
             Some(AnsweredLine { answer, taken })
         }
         NextLine::NeedsMore => None,
@@ -128,25 +173,27 @@ fn answer_next<H: KeyHash + Copy + Drop>(
 }
 
 /// Answers the last line, which has no LF, and sends all answers.
-fn answer_last<W: Write, H: KeyHash + Copy + Drop>(
+fn answer_last<W: Write, X: Explain, H: KeyHash + Copy + Drop>(
     alloc: Global,
     feed: &Feed,
     pending: &mut Pending,
     writer: &mut W,
+    explain: &mut X,
     script: &mut Script<H>,
 ) -> Result<(), WriteFault>
     ensures ok { OnOk result (EndsAll feed.now script.old script.new pending.old (W.contents writer.old) (W.contents writer.new)) }
     ensures err { OnErr result (BreaksAtEnd feed.now script.old script.new pending.old (W.contents writer.old) (W.contents writer.new)) }
 {
-    let answer = answer_part(alloc, feed, script);
+    let answer = answer_part(alloc, feed, explain, script);
     answer.print(pending, writer)?;
     pending.flush(writer)
 }
 
 /// Answers a part of a line as a line. An empty one is silent.
-fn answer_part<H: KeyHash + Copy + Drop>(
+fn answer_part<X: Explain, H: KeyHash + Copy + Drop>(
     alloc: Global,
     feed: &Feed,
+    explain: &mut X,
     script: &mut Script<H>,
 ) -> Answer
     ensures { AnswersPart feed.now.is_skipping script.old feed.now.bytes result script.new }
@@ -154,5 +201,8 @@ fn answer_part<H: KeyHash + Copy + Drop>(
     if feed.is_skipping() {
         return Answer::TooLong;
     }
-    script.answer(alloc, feed.held())
+    let line = feed.held();
+    let answer = script.answer(alloc, line);
+    explain.explain(alloc, script, line, &answer);
+    answer
 }

@@ -15,7 +15,7 @@ use crate::answer::Answer;
 use crate::command::{Command, is_silent, read_command};
 use ets_term::{KeyHash, Term};
 use indexmap::IndexSet;
-use node_core::{Call, Limits, Node, Reply, Step};
+use node_core::{Call, Limits, Node, Reason, Reply, Rule, Step};
 use std::alloc::{AllocError, Global};
 use std::marker::Model;
 
@@ -99,6 +99,17 @@ impl<H: KeyHash + Copy + Drop> Script<H> {
                 let table = self.table(&table);
                 self.step(&Step::Ready(table, bucket))
             }
+        }
+    }
+
+    /// Why a call of a name is refused, where that is known.
+    pub fn why_asked(&self, name: &[u8], call: Call) -> Option<Reason> {
+        match self.pid(name) {
+            Some(pid) => self.node.why(&Step::Ask(pid, call)),
+            None => Some(Reason {
+                rule: Rule::NoProcess,
+                argument: None,
+            }),
         }
     }
 
