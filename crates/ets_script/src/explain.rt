@@ -21,6 +21,7 @@ pub trait Explain {
 }
 
 /// Nothing.
+#[derive(Drop)]
 pub struct Silence;
 
 impl Explain for Silence {
@@ -35,12 +36,13 @@ impl Explain for Silence {
 
 /// One line of errors for each line that is refused: its number, the call, the argument and the reason. A fault of the
 /// writer is passed.
-pub struct Explainer<E: Write> {
+#[derive(Drop)]
+pub struct Explainer<E: Write + Drop> {
     errors: E,
     number: usize,
 }
 
-impl<E: Write> Explainer<E> {
+impl<E: Write + Drop> Explainer<E> {
     /// Before the first line.
     pub fn new(errors: E) -> Explainer<E> {
         Explainer { errors, number: 0 }
@@ -111,7 +113,7 @@ impl<E: Write> Explainer<E> {
     }
 }
 
-impl<E: Write> Explain for Explainer<E> {
+impl<E: Write + Drop> Explain for Explainer<E> {
     fn explain<H: KeyHash + Copy + Drop>(
         &mut self,
         alloc: Global,
