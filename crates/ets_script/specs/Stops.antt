@@ -5,6 +5,7 @@ use Rattle.ets_script.specs.Lines.{IsOneLine}
 use Rattle.node_core.specs.State.{empty}
 use Rattle.node_core.specs.declared.limits.Limits.{Limits}
 use Rattle.ets_script.specs.Script.{Scripted, at_start, IsScript, AreWholeLines, AreLines}
+use Rattle.ets_script.specs.declared.options.Request.{Request}
 use Rattle.ets_script.specs.declared.fault.ScriptFault.{ScriptFault}
 use Rattle.ets_script.specs.declared.fault.ScriptFault.TheVariants.{Read, Write, Memory, Differs, Missing}
 
@@ -31,10 +32,10 @@ abbrev pub EndsWithin : Limits → Option (List ℕ) → Option (List ℕ) → O
 EndsWithin limits before after old new status = ((status ≡ 0) × (end : Scripted) × Completes (at_start (empty limits)) before after old new end)
     ⊎ ((status ≡ 1) × (fault : ScriptFault) × Stops (at_start (empty limits)) before after old new fault)
 
--- the limits that are usual, with this number of objects in one table
-abbrev pub usual : ℕ → Limits
-usual objects = record { processes = 4096; tables = 65536; objects = objects }
+-- the limits that are asked for
+abbrev pub limits_of : Request → Limits
+limits_of request = record { processes = request.processes; tables = request.tables; objects = request.settings.objects }
 
--- the same by these limits
-abbrev pub ProgramEnds : ℕ → Option (List ℕ) → Option (List ℕ) → Option (List ℕ) → Option (List ℕ) → ℕ → Type 0
-ProgramEnds objects = EndsWithin (usual objects)
+-- the same by the limits that are asked for
+abbrev pub ProgramEnds : Request → Option (List ℕ) → Option (List ℕ) → Option (List ℕ) → Option (List ℕ) → ℕ → Type 0
+ProgramEnds request = EndsWithin (limits_of request)

@@ -16,8 +16,9 @@ use Rattle.node_shared.specs.Working.{job_step}
 use Rattle.ets_script.specs.Lines.{Line, IsCutInto}
 use Rattle.ets_script.specs.Plan.{Planned, nothing, lines_plan}
 use Rattle.ets_script.specs.Replies.{printed, reply_text}
-use Rattle.ets_script.specs.Stops.{usual}
+use Rattle.ets_script.specs.Stops.{limits_of}
 use Rattle.ets_script.specs.declared.answer.Answer.{Answer}
+use Rattle.ets_script.specs.declared.options.Request.{Request}
 use Rattle.ets_script.specs.declared.fault.ScriptFault.{ScriptFault}
 use Rattle.ets_script.specs.declared.fault.ScriptFault.TheVariants.{Read, Write, Memory, Differs, Missing}
 
@@ -88,6 +89,6 @@ ThreadsStop limits before after old new (Missing p) = Appends old new [] × ((cl
 abbrev pub ThreadsStatus : Limits → Option (List ℕ) → Option (List ℕ) → Option (List ℕ) → Option (List ℕ) → ℕ → Type 0
 ThreadsStatus limits before after old new status = ((status ≡ 0) × ThreadsEnd limits before after old new) ⊎ ((status ≡ 1) × (fault : ScriptFault) × ThreadsStop limits before after old new fault)
 
--- the same by the limits that are usual, with this number of objects in one table
-abbrev pub ProgramThreads : ℕ → Option (List ℕ) → Option (List ℕ) → Option (List ℕ) → Option (List ℕ) → ℕ → Type 0
-ProgramThreads objects = ThreadsStatus (usual objects)
+-- the same by the limits that are asked for
+abbrev pub ProgramThreads : Request → Option (List ℕ) → Option (List ℕ) → Option (List ℕ) → Option (List ℕ) → ℕ → Type 0
+ProgramThreads request = ThreadsStatus (limits_of request)

@@ -1,24 +1,34 @@
-//! The program's command line, its status, and its line of errors.
+//! The program's status, its line of errors, and its limits.
 use super::devices::{Devices, GOOD, Seen, Source, Target};
-use clap::error::ErrorKind;
-use ets_script::options::Settings;
-use ets_script::{ScriptFault, answer_alone, settings};
+use ets_script::options::{Request, Settings};
+use ets_script::{ScriptFault, answer_alone};
 use std::alloc::{AllocError, Global};
 use std::io;
 use std::test::Fail;
 
-/// What no option asks for.
-const USUAL: Settings = Settings {
-    threads: false,
-    same: false,
-    objects: 1_000_000,
+/// What is asked for without options.
+const USUAL: Request = Request {
+    settings: Settings {
+        threads: false,
+        same: false,
+        objects: 1_000_000,
+    },
+    processes: 4096,
+    tables: 65_536,
 };
 
-/// The status with which the program answers one line by these devices, and whether this is its line of errors.
-fn status(alloc: Global, devices: &Devices, words: &[u8]) -> io::Result<(u8, bool)> {
+/// How the program answers a script: its status, and whether these are its answers and its line of errors.
+fn answered(
+    alloc: Global,
+    asked: &Request,
+    devices: &Devices,
+    script: &[u8],
+    answers: &[u8],
+    told: &[u8],
+) -> io::Result<(u8, bool)> {
     let seen = Seen::new();
     let mut source = Source {
-        left: b"spawn p\n",
+        left: script,
         most: devices.most_read,
         good: devices.good_reads,
         seen: &seen,
@@ -31,8 +41,9 @@ fn status(alloc: Global, devices: &Devices, words: &[u8]) -> io::Result<(u8, boo
         seen: &seen,
     };
     let mut errors = Vec::new(alloc);
-    let status = answer_alone(alloc, &USUAL, &mut source, &mut target, &mut errors)?;
-    Ok((status, errors.as_slice() == words))
+    let status = answer_alone(alloc, asked, &mut source, &mut target, &mut errors)?;
+    let is_so = target.taken.as_slice() == answers && errors.as_slice() == told;
+    Ok((status, is_so))
 }
 
 /// Whether a fault is told in these words.
@@ -62,96 +73,33 @@ fn status_and_errors(rt: HostRuntime) -> Result<(), Fail> {
         good_writes: 0,
         ..GOOD
     };
-    assert!(rt; status(alloc, &GOOD, b"")? == (0, true));
-    assert!(rt; status(alloc, &unread, b"read fault\n")? == (1, true));
-    assert!(rt; status(alloc, &unwritten, b"write fault\n")? == (1, true));
+    let rows: [(&Devices, &[u8], &[u8], u8); 3] = [
+        (&GOOD, b"<0.0.0>\n", b"", 0),
+        (&unread, b"<0.0.0>\n", b"read fault\n", 1),
+        (&unwritten, b"", b"write fault\n", 1),
+    ];
+    for (devices, answers, told, status) in rows {
+        let done = answered(alloc, &USUAL, devices, b"spawn p\n", answers, told)?;
+        assert!(rt; done == (status, true), "{told:?}");
+    }
     Ok(())
 }
 
-/// Whether there are threads, whether the hash is the one for all keys, and the most objects, as these words ask; or the kind of the
-/// refusal.
-fn asked(alloc: Global, words: &[&str]) -> Result<(bool, bool, u32), ErrorKind> {
-    match settings(alloc, words) {
-        Ok(settings) => Ok((settings.threads, settings.same, settings.objects)),
-        Err(error) => Err(error.kind()),
-    }
-}
-
 #[test]
-fn settings_of_words(rt: HostRuntime) {
-    let alloc = rt.alloc();
-    let rows: [(&[&str], (bool, bool, u32)); 11] = [
-        (&["ets_script"], (false, false, 1_000_000)),
-        (&["ets_script", "--threads"], (true, false, 1_000_000)),
-        (
-            &[
-                "ets_script",
-                "--hash=same",
-                "--threads",
-                "--max-objects",
-                "3",
-            ],
-            (true, true, 3),
-        ),
-        (&["ets_script", "--hash", "fnv"], (false, false, 1_000_000)),
-        (&["ets_script", "--hash", "same"], (false, true, 1_000_000)),
-        (&["ets_script", "--hash=same"], (false, true, 1_000_000)),
-        (&["ets_script", "--max-objects", "3"], (false, false, 3)),
-        (&["ets_script", "--max-objects=0"], (false, false, 0)),
-        (
-            &["ets_script", "--max-objects", "4294967295"],
-            (false, false, u32::MAX),
-        ),
-        (
-            &["ets_script", "--max-objects", "007", "--hash", "same"],
-            (false, true, 7),
-        ),
-        (
-            &["another_name", "--hash", "same", "--max-objects", "3"],
-            (false, true, 3),
-        ),
-    ];
-    for (words, wanted) in rows {
-        assert!(rt; asked(alloc, words) == Ok(wanted), "{words:?}");
-    }
-}
-
-#[test]
-fn words_that_are_refused(rt: HostRuntime) {
-    let alloc = rt.alloc();
-    let rows: [(&[&str], ErrorKind); 12] = [
-        (&["ets_script", "--hash", "md5"], ErrorKind::InvalidValue),
-        (&["ets_script", "--hash", "SAME"], ErrorKind::InvalidValue),
-        (&["ets_script", "--hash"], ErrorKind::InvalidValue),
-        (
-            &["ets_script", "--max-objects", "4294967296"],
-            ErrorKind::ValueValidation,
-        ),
-        (
-            &["ets_script", "--max-objects=-1"],
-            ErrorKind::ValueValidation,
-        ),
-        (
-            &["ets_script", "--max-objects", "many"],
-            ErrorKind::ValueValidation,
-        ),
-        (
-            &["ets_script", "--max-objects", ""],
-            ErrorKind::ValueValidation,
-        ),
-        (
-            &["ets_script", "--hash", "same", "--hash", "fnv"],
-            ErrorKind::ArgumentConflict,
-        ),
-        (
-            &["ets_script", "--threads", "--threads"],
-            ErrorKind::ArgumentConflict,
-        ),
-        (&["ets_script", "--threads=true"], ErrorKind::TooManyValues),
-        (&["ets_script", "script"], ErrorKind::UnknownArgument),
-        (&["ets_script", "--help"], ErrorKind::DisplayHelp),
-    ];
-    for (words, wanted) in rows {
-        assert!(rt; asked(alloc, words) == Err(wanted), "{words:?}");
-    }
+fn limits_that_are_asked_for(rt: HostRuntime) -> Result<(), Fail> {
+    let settings = Settings {
+        objects: 1,
+        ..USUAL.settings
+    };
+    let asked = Request {
+        settings,
+        processes: 2,
+        tables: 3,
+    };
+    let script =
+        b"spawn p\nspawn q\nspawn r\np new(t,[named_table])\np new(t,[])\np new(t,[])\np new(t,[])\np insert(t,{a})\np insert(t,{b})\n";
+    let answers =
+        b"<0.0.0>\n<0.1.0>\n** system_limit\nt\n#Tid<1>\n#Tid<2>\n** system_limit\ntrue\n** system_limit\n";
+    assert!(rt; answered(rt.alloc(), &asked, &GOOD, script, answers, b"")? == (0, true));
+    Ok(())
 }
