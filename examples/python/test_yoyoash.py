@@ -1,5 +1,6 @@
 """The client beside the answers of ../client.ets, which the gate holds against the program itself, and beside programs
-that stand in for it. With --program it talks to the program: python3 examples/python/test_yoyoash.py [--program]"""
+that stand in for it. With --program it talks to the program, with --library it has the store in process:
+python3 examples/python/test_yoyoash.py [--program] [--library LIBETS_SO]"""
 
 import pathlib
 import random
@@ -92,8 +93,11 @@ class Terms(unittest.TestCase):
 class Calls(unittest.TestCase):
     command: list[str] = RECORDED
 
+    def opened(self):
+        return Store(self.command)
+
     def test_two_processes_and_a_table(self):
-        with Store(self.command) as store:
+        with self.opened() as store:
             anna, ben = store.spawn("anna"), store.spawn("ben")
             self.assertEqual((anna.pid, ben.pid), (Pid(0), Pid(1)))
             prices = anna.new(Atom("prices"), [Atom("named_table")])
@@ -179,7 +183,94 @@ class Programs(unittest.TestCase):
             self.assertIsInstance(fourth, Gone)
 
 
+@unittest.skipUnless("--library" in sys.argv, "no library is given")
+class InProcess(Calls):
+    library: str
+
+    def opened(self, **limits):
+        return Store.in_process(self.library, **limits)
+
+    def table(self, store):
+        p = store.spawn("p")
+        return p, p.new(Atom("t"), [Atom("named_table")])
+
+    def test_limits(self):
+        with self.opened(processes=1, tables=1, objects=2) as store:
+            p, t = self.table(store)
+            for refused in [lambda: store.spawn("q"), lambda: p.new(Atom("u"), []), lambda: p.insert(t, [(1,), (2,), (3,)])]:
+                with self.assertRaises(SystemLimit):
+                    refused()
+            with self.assertRaises(BadArg):
+                store.spawn("p")
+            self.assertEqual(p.tab2list(t), [])
+
+    def test_a_thousand_terms_there_and_back(self):
+        numbers = random.Random(7)
+        with self.opened() as store:
+            p, t = self.table(store)
+            for number in range(1_000):
+                term = some_term(numbers)
+                p.insert(t, (number, term))
+                self.assertEqual(p.lookup(t, number), [(number, term)])
+
+    def test_a_reply_longer_than_its_room_is_told_whole_and_done_once(self):
+        with self.opened() as store:
+            p, t = self.table(store)
+            p.insert(t, (0, list(range(10_000))))
+            self.assertEqual(p.take(t, 0), [(0, list(range(10_000)))])
+            self.assertEqual(p.take(t, 0), [])
+
+    def test_lines(self):
+        with self.opened() as store:
+            self.table(store)
+            self.assertEqual(store.ask("\tp  new ( u , [ ] ) "), Tid(1))
+            for line, at in [("p lookup(t,{a)", 13), ("p lookup(t,A)", 11), ("p lookup(t,a)(", 0), ("grow t", 6), ("p lookup(t,a}", 0)]:
+                with self.assertRaises(Syntax) as refused:
+                    store.ask(line)
+                self.assertEqual(refused.exception.at, at)
+            for line in ["q receive()", "exit q"]:
+                with self.assertRaises(NoProcess):
+                    store.ask(line)
+            self.assertEqual(store.ask("p receive()"), [])
+
+    def test_a_closed_store_is_gone(self):
+        store = self.opened()
+        p, t = self.table(store)
+        store.close()
+        store.close()
+        for call in [lambda: p.lookup(t, 1), lambda: store.spawn("q"), p.exit]:
+            with self.assertRaises(Gone):
+                call()
+
+    def test_another_thread_is_refused(self):
+        told = []
+
+        def look(process):
+            try:
+                process.receive()
+            except RuntimeError as error:
+                told.append(error)
+
+        with self.opened() as store:
+            thread = threading.Thread(target=look, args=(store.spawn("p"),))
+            thread.start()
+            thread.join()
+        self.assertEqual(len(told), 1)
+
+    def test_a_pipeline(self):
+        with self.opened() as store:
+            p, t = self.table(store)
+            with p.pipeline() as calls:
+                for number in range(100):
+                    calls.insert(t, (number,))
+            self.assertEqual(calls.answers, [Atom("true")] * 100)
+
+
 if __name__ == "__main__":
+    if "--library" in sys.argv:
+        at = sys.argv.index("--library")
+        InProcess.library = sys.argv[at + 1]
+        del sys.argv[at : at + 2]
     if "--program" in sys.argv:
         sys.argv.remove("--program")
         Calls.command = [str(HERE.parents[1] / "ets_script")]

@@ -1,14 +1,14 @@
-"""A running program, its processes, and calls sent together."""
+"""A store, its processes, and calls sent together."""
 
 from __future__ import annotations
 
-import pathlib
 import re
-import subprocess
 import threading
-from collections.abc import Iterator, Sequence
+from collections.abc import Sequence
 
 from .faults import Fault, Gone, fault
+from .library import LIBRARY, Library
+from .pipe import PROGRAM, Pipe
 from .terms import Pid, Term, parse, spell
 
 # The calls of docs/calls.md.
@@ -17,19 +17,24 @@ CALLS = (
     " update_element match match_object match_delete select select_count select_delete first next first_lookup next_lookup"
     " safe_fixtable give_away setopts whereis info receive"
 ).split()
-# So many bytes of lines are sent before their answers are read: a pipe holds them, so neither side waits for the other.
-TOGETHER = 32_768
-PROGRAM = pathlib.Path(__file__).resolve().parents[3] / "ets_script"
-
 
 class Store:
-    """One running `ets_script`. It may be used by several threads: each line and its answer are one turn."""
+    """A store, in a program at the other end of a pipe or in this process. Each line and its answer are one turn. A program may be
+    used by several threads, a store in this process by the one that opened it."""
 
     def __init__(self, command: Sequence[str] = (str(PROGRAM),), **options):
         """Starts the program; `options` are those of subprocess.Popen."""
-        self._program = subprocess.Popen(command, stdin=subprocess.PIPE, stdout=subprocess.PIPE, text=True, encoding="ascii", **options)
-        self._turn = threading.Lock()
-        self._is_gone = False
+        self._open(Pipe(command, **options))
+
+    @classmethod
+    def in_process(cls, library=LIBRARY, **limits: int) -> Store:
+        """A store in this process, by the library that docs/c.md builds; `limits` are `processes`, `tables` and `objects`."""
+        store = cls.__new__(cls)
+        store._open(Library(library, **limits))
+        return store
+
+    def _open(self, way: Pipe | Library) -> None:
+        self._way, self._turn = way, threading.Lock()
 
     def spawn(self, name: str) -> Process:
         """Enrols a process under a name of the script."""
@@ -51,34 +56,11 @@ class Store:
             if not re.fullmatch(r"[ -~\t]+", line) or not line.strip() or line.lstrip().startswith("%"):
                 raise ValueError(f"{line!r} is no line that is answered")
         with self._turn:
-            return [answer for part in _parts(lines) for answer in self._exchange(part)]
-
-    def _exchange(self, lines: Sequence[str]) -> Iterator[Term | Fault]:
-        """Sends some lines, and reads as many answers."""
-        if not self._is_gone:
-            try:
-                self._program.stdin.write("".join(f"{line}\n" for line in lines))
-                self._program.stdin.flush()
-            except (BrokenPipeError, ValueError):
-                self._is_gone = True
-        for line in lines:
-            answer = "" if self._is_gone else self._program.stdout.readline()
-            if answer.endswith("\n"):
-                answer = answer[:-1]
-                yield fault(line, answer[3:]) if answer.startswith("** ") else parse(answer)
-            else:
-                self._is_gone = True
-                yield Gone(line, "the program has ended")
+            return [_told(line, answer) for line, answer in zip(lines, self._way.exchange(lines))]
 
     def close(self) -> None:
-        """Ends the program. It may be closed again."""
-        self._is_gone = True
-        try:
-            self._program.stdin.close()
-        except BrokenPipeError:
-            pass
-        self._program.stdout.close()
-        self._program.wait()
+        """Ends the store. It may be closed again."""
+        self._way.close()
 
     def __enter__(self) -> Store:
         return self
@@ -87,17 +69,11 @@ class Store:
         self.close()
 
 
-def _parts(lines: Sequence[str]) -> Iterator[Sequence[str]]:
-    """The lines, as many together as may be sent before their answers are read."""
-    part, size = [], 0
-    for line in lines:
-        if part and size + len(line) >= TOGETHER:
-            yield part
-            part, size = [], 0
-        part.append(line)
-        size += len(line) + 1
-    if part:
-        yield part
+def _told(line: str, answer: str | None) -> Term | Fault:
+    """The term or the fault that an answer tells; None tells that no answer came."""
+    if answer is None:
+        return Gone(line, "the store has ended")
+    return fault(line, answer[3:]) if answer.startswith("** ") else parse(answer)
 
 
 class _Caller:
