@@ -9,10 +9,15 @@ use std::sync::ledger::Ledger;
 use std::test::Fail;
 use term_text::read_term;
 
+mod drawing;
+mod ending;
+mod enduring;
 mod entering;
 mod joining;
+mod keeper;
 mod keeping;
 mod meeting;
+mod serving;
 
 /// The call of this name, with the terms of this list.
 fn call(alloc: Global, name: &str, arguments: &str) -> Result<Call, Fail> {
