@@ -4,7 +4,7 @@ use denote.Param.Send.{IsSend, IsSync, param_send, param_sync, arg_send}
 use mathlib.Core.List.{[], ◌∷◌}
 use mir.Syntax.{named}
 use Rattle.std.proofs.Common.{rules}
-use Rattle.shared_tests.proofs.Sent.{asking_send}
+use Rattle.shared_tests.proofs.SentCallers.{asking_send}
 use Rattle.shared_tests.proofs.tests.serving.both_ask.Goals as goal
 
 pub join-one_caller-requires-send-F : goal.join-one_caller-requires-send-F
