@@ -16,6 +16,8 @@ use Rattle.node_core.specs.contracts.step.Call as Call
 use Rattle.node_shared.specs.contracts.pids.Pids as Pids
 use Rattle.node_shared.specs.contracts.pids.Seat as Seat
 use Rattle.node_shared.specs.contracts.shared.Shared as Shared
+use Rattle.node_shared.proofs.pids.Pids.TheSendSync as pids
+use Rattle.node_shared.proofs.pids.Seat.TheSendSync as seat
 use Rattle.node_shared.proofs.Sent.{captures_send, shared_sync}
 
 flag_sync : IsSync AtomicBool.the_row
@@ -23,12 +25,6 @@ flag_sync = search (crosses, sendable) depth 60 fits 20000
 
 call_sync : IsSync Call.the_row
 call_sync = search (crosses, terms.crosses, sendable) depth 60 fits 20000
-
-pids_sync : IsSync Pids.the_row
-pids_sync = search (crosses, sendable) depth 60 fits 20000
-
-seat_send : IsSend Seat.the_row
-seat_send = search (crosses, sendable) depth 60 fits 20000
 
 module _ (a b d : Lifetime) (α β γ : Lft) (L H R : RattleType) (l : Ledger.Ghosts L.Denot) (k : KeyHash.Ghosts H.Denot) (c : Clone.Ghosts H.Denot) where
   -- what the thread that does what is due takes with it
@@ -47,5 +43,5 @@ module _ (a b d : Lifetime) (α β γ : Lft) (L H R : RattleType) (l : Ledger.Gh
   drawing_send e δ name runs hash =
       captures_send name (Drawing e δ) (
         shr_send a α R runs,
-        (shr_send b β (Shared.the_row L H l k c) (shared_sync L H l k c hash), (shr_send d γ Pids.the_row pids_sync, (seat_send, (shr_send e δ Call.the_row call_sync, tt)))),
+        (shr_send b β (Shared.the_row L H l k c) (shared_sync L H l k c hash), (shr_send d γ Pids.the_row pids.the_sync, (seat.the_send, (shr_send e δ Call.the_row call_sync, tt)))),
       )

@@ -57,7 +57,7 @@ fn visits<
     (one_client, other_client)
 }
 
-/// The two clients; their numbers are 0 and 1.
+/// The two clients.
 fn visitors<L: Ledger + Send + Sync, R: Threads + Wait + Sync>(
     rt: &R,
     alloc: Global,
@@ -66,12 +66,29 @@ fn visitors<L: Ledger + Send + Sync, R: Threads + Wait + Sync>(
     let (pids, one, other) = two_seats(alloc)?;
     let asked = call(alloc, "receive", "[]")?;
     let (one, other) = visits(rt, shared, &pids, one, other, &asked);
-    let one = one.ok_or("a client")?;
-    let other = other.ok_or("a client")?;
-    if !matches!((one.pid(), other.pid()), (0, 1) | (1, 0)) {
+    both(alloc, one, other)
+}
+
+/// Both clients, if there are two, with the numbers 0 and 1.
+fn both<L: Ledger>(
+    alloc: Global,
+    one: Option<Client<L>>,
+    other: Option<Client<L>>,
+) -> Result<Vec<Client<L>>, Fail> {
+    let mut clients = Vec::with_capacity(alloc, 2)?;
+    clients.push(one.ok_or("a client")?)?;
+    clients.push(other.ok_or("a client")?)?;
+    if !are_numbered(&clients) {
         return Err("the numbers 0 and 1")?;
     }
-    Ok(vec![in alloc; one, other]?)
+    Ok(clients)
+}
+
+fn are_numbered<L: Ledger>(clients: &[Client<L>]) -> bool {
+    match clients {
+        [one, other] => matches!((one.pid(), other.pid()), (0, 1) | (1, 0)),
+        _ => false,
+    }
 }
 
 fn two_visit<L: Ledger + Send + Sync, R: Threads + Wait + Sync>(

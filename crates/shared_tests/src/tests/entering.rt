@@ -35,16 +35,22 @@ fn is_tended<L: Ledger>(book: &mut Book<L, Fnv>) -> Result<bool, AllocError> {
 }
 
 /// Whether it is so of a table that got nine objects.
+fn is_grown<L: Ledger>(alloc: Global, book: &mut Book<L, Fnv>) -> Result<bool, Fail> {
+    let (mut share, _reply) = book.join(0).map_err(|_| "join")?;
+    ask(alloc, book, &mut share, "new", "[t,[named_table]]")?;
+    ask(alloc, book, &mut share, "insert", NINE)?;
+    Ok(is_tended(book)?)
+}
+
 fn is_entered<L: Ledger>(alloc: Global, blank: Blank) -> Result<bool, Fail>
     requires name { blank.name ≡ L.name }
     requires parts { blank.parts ≡ L.parts }
     requires enough { blank.parts ≡ 2 }
 {
-    let mut book = Book::<L, Fnv>::new(alloc, blank, limits(1), Fnv);
-    let (mut share, _reply) = book.join(0).map_err(|_| "join")?;
-    ask(alloc, &mut book, &mut share, "new", "[t,[named_table]]")?;
-    ask(alloc, &mut book, &mut share, "insert", NINE)?;
-    Ok(is_tended(&mut book)?)
+    is_grown(
+        alloc,
+        &mut Book::<L, Fnv>::new(alloc, blank, limits(1), Fnv),
+    )
 }
 
 #[test]
