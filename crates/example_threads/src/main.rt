@@ -130,12 +130,23 @@ fn prepare<L: Ledger, R: Wait>(
     shared: &Shared<L, Fnv>,
     client: &mut Client<L>,
 ) -> Option<()> {
-    let counts = "[counts,[named_table,public]]";
-    let notes = "[notes,[named_table,public,bag]]";
-    client.ask(rt, shared, &call(alloc, "new", counts)?).ok()?;
-    client.ask(rt, shared, &call(alloc, "new", notes)?).ok()?;
-    let total = call(alloc, "insert", "[counts,{total,0}]")?;
-    client.ask(rt, shared, &total).ok()?;
+    let calls = [
+        ("new", "[counts,[named_table,public]]"),
+        ("new", "[notes,[named_table,public,bag]]"),
+        ("insert", "[counts,{total,0}]"),
+    ];
+    for (name, args) in calls {
+        client.ask(rt, shared, &call(alloc, name, args)?).ok()?;
+    }
+    fill(rt, alloc, shared, client)
+}
+
+fn fill<L: Ledger, R: Wait>(
+    rt: &R,
+    alloc: Global,
+    shared: &Shared<L, Fnv>,
+    client: &mut Client<L>,
+) -> Option<()> {
     for key in 0..TIMES {
         client.ask(rt, shared, &insertion(alloc, key)?).ok()?;
     }
@@ -201,8 +212,20 @@ fn walk<L: Ledger, H: KeyHash + Copy + Drop, R: Wait>(
     shared: &Shared<L, H>,
     mut client: Client<L>,
 ) -> Option<(Client<L>, usize)> {
+    fix(rt, alloc, shared, &mut client)?;
     let met = keys_met(rt, alloc, shared, &mut client)?;
     Some((client, met))
+}
+
+fn fix<L: Ledger, H: KeyHash + Copy + Drop, R: Wait>(
+    rt: &R,
+    alloc: Global,
+    shared: &Shared<L, H>,
+    client: &mut Client<L>,
+) -> Option<()> {
+    let fix = call(alloc, "safe_fixtable", "[notes,true]")?;
+    client.ask(rt, shared, &fix).ok()?;
+    Some(())
 }
 
 fn keys_met<L: Ledger, H: KeyHash + Copy + Drop, R: Wait>(
@@ -211,14 +234,14 @@ fn keys_met<L: Ledger, H: KeyHash + Copy + Drop, R: Wait>(
     shared: &Shared<L, H>,
     client: &mut Client<L>,
 ) -> Option<usize> {
-    let fix = call(alloc, "safe_fixtable", "[notes,true]")?;
-    client.ask(rt, shared, &fix).ok()?;
-    let mut met = 0;
-    let mut next = asked(rt, shared, client, &call(alloc, "first", "[notes]")?);
+    let mut met = 0usize;
+    let mut asking = call(alloc, "first", "[notes]")?;
     for _ in 0..1_000 {
-        let Some(key) = next else { break };
-        met += usize::from(key < TIMES);
-        next = asked(rt, shared, client, &behind(alloc, key)?);
+        let Some(key) = asked(rt, shared, client, &asking) else {
+            break;
+        };
+        met = met.wrapping_add(usize::from(key < TIMES));
+        asking = behind(alloc, key)?;
     }
     Some(met)
 }

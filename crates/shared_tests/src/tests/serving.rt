@@ -22,6 +22,30 @@ fn drawn(alloc: Global) -> Result<Drawn, Fail> {
     Ok(pids.draw(seat))
 }
 
+/// The caller makes a table, and gives it nine objects.
+fn fill<B: Room, R: Wait>(
+    rt: &R,
+    alloc: Global,
+    server: &Server<B, Fnv>,
+    caller: &mut Caller<B>,
+) -> Result<(), Fail> {
+    caller.ask(rt, server, call(alloc, "new", "[t,[named_table]]")?)?;
+    caller.ask(rt, server, call(alloc, "insert", NINE)?)?;
+    Ok(())
+}
+
+/// Whether the process asks in vain once it has ended.
+fn is_silent<B: Room, R: Wait>(
+    rt: &R,
+    alloc: Global,
+    server: &Server<B, Fnv>,
+    caller: &mut Caller<B>,
+) -> Result<bool, Fail> {
+    caller.end(rt, server)?;
+    let late = caller.ask(rt, server, call(alloc, "receive", "[]")?)?;
+    Ok(matches!(late, Reply::NoProcess))
+}
+
 /// Whether four steps are due behind nine insertions, three turns leave one, and a process that has ended asks in vain.
 fn is_asked<B: Room, R: Wait>(
     rt: &R,
@@ -30,12 +54,9 @@ fn is_asked<B: Room, R: Wait>(
     drawn: Drawn,
 ) -> Result<bool, Fail> {
     let mut caller = server.client(rt, drawn).map_err(|_| "a caller")?;
-    let _name = caller.ask(rt, server, call(alloc, "new", "[t,[named_table]]")?)?;
-    let _all = caller.ask(rt, server, call(alloc, "insert", NINE)?)?;
+    fill(rt, alloc, server, &mut caller)?;
     let kept = server.keep(rt, 3) == 3 && server.keep(rt, 9) == 1 && server.keep(rt, 9) == 0;
-    let _end = caller.end(rt, server)?;
-    let late = caller.ask(rt, server, call(alloc, "receive", "[]")?)?;
-    Ok(kept && matches!(late, Reply::NoProcess))
+    Ok(kept && is_silent(rt, alloc, server, &mut caller)?)
 }
 
 /// Whether it is so of a server with these limits.
