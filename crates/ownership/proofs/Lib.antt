@@ -12,3 +12,4 @@ pub mod Settling
 pub mod Sent
 pub mod Ending
 pub mod Keeping
+pub mod Settled

@@ -17,14 +17,11 @@
 #![tactic(auto)]
 
 mod fault;
-mod fixed;
 mod head;
-mod identifiers;
+mod indices;
 mod info;
 mod messages;
-mod names;
 mod options;
-mod owners;
 mod process;
 mod table;
 mod world;
