@@ -155,7 +155,7 @@ module _ (indices : Indices) (tables : Tables) (kept : IsKept indices tables) wh
   kept-heir t heir = kept-headed t (table_at tables t) (with_heir heir) refl (λ table name. refl) (λ table. refl) (λ table e. owner-at (ids_under indices) tables kept.by_owner t table e)
 
   -- the table that is lent is anything under its head
-  pub kept-fixed : (t : ℕ) (table : Table) (f : Fixed) → table_at tables t ≡ Some table → lent ≡ Some t → IsKept indices (set tables t (Some (record table { fixed = f })))
+  pub kept-fixed : (t : ℕ) (table : Table) (f : Fixed) → table_at tables t ≡ Some table → indices.lent ≡ Some t → IsKept indices (set tables t (Some (record table { fixed = f })))
   kept-fixed t table f e last =
       kept-set indices refl t (Some (record table { fixed = f })) (subst (ByName (get_by_text indices.names)) (sym (heads-same tables t table f e)) kept.by_name)
       (λ it is. let same = same_Some _ _ is in subst (λ (x : Table). Among t (ids_under indices x.head.owner) × ((indices.lent ≡ Some t) ⊎ Among t indices.fixed.items ⊎ IsIdle x.fixed)) same (owner-at (ids_under indices) tables kept.by_owner t table e, inl last))

@@ -1,6 +1,6 @@
 // The tables that may be fixed: all that are but the one that was lent last.
-ghost use Rattle.std.specs.Prelude.{◌≡◌, ◌≤◌, Some, None, OnOk, OnErr, filter, vec_capacity};
-ghost use Rattle.ownership.specs.inside.Indices.{IsKept, is_fixed_at};
+ghost use Rattle.std.specs.Prelude.{◌≡◌, ◌≤◌, ℕ, Some, None, OnOk, OnErr, filter, vec_capacity};
+ghost use Rattle.ownership.specs.inside.Indices.{IsKept, ids_under, is_fixed_at};
 
 use super::Indices;
 use super::identifiers::put_in;
@@ -39,7 +39,7 @@ impl Indices {
         requires kept { IsKept self.old places.now }
         ensures kept { IsKept self.new places.now }
         ensures lent { self.new.lent ≡ None }
-        ensures owned { self.new.owned ≡ self.old.owned }
+        ensures owned { (p : ℕ) → ids_under self.new p ≡ ids_under self.old p }
     {
         let Some(last) = self.lent else {
             return;

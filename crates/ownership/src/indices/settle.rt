@@ -35,7 +35,8 @@ impl Indices {
         }
         let fixed = self.fixed.len();
         for i in 0..fixed {
-            self.settle_one(places, processes, pid, self.fixed[i]);
+            let id = self.fixed[i];
+            self.settle_one(places, processes, pid, id);
         }
         self.keep_fixed(places.as_slice());
         self.forget_owner(pid);

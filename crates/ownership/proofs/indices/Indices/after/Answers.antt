@@ -10,3 +10,12 @@ use Rattle.ownership.proofs.indices.Indices.after.Goals as goal
 
 pub returns-in_none-clause-kept : goal.returns-in_none-clause-kept
 returns-in_none-clause-kept g c = λ tables t at heirs kept. kept-same c.args.self.now tables kept t None ?
+
+pub returns-then-is_owned_by-clause-kept : goal.returns-then-is_owned_by-clause-kept
+returns-then-is_owned_by-clause-kept g c = ?
+
+pub returns-in-Some-clause-kept : goal.returns-in-Some-clause-kept
+returns-in-Some-clause-kept g c = ?
+
+pub returns-in_default-clause-kept : goal.returns-in_default-clause-kept
+returns-in_default-clause-kept g c = ?

@@ -1,8 +1,8 @@
-use Rattle.std.proofs.Common.{◌≡◌, ◌+◌, ◌<◌, ◌++◌, ◌∷◌, [], List, ℕ, sym, ap, subst, ◌∙◌, length, take, get_or, filter, arith, append_assoc}
-use Rattle.std.proofs.lemmas.List.{take_more}
+use Rattle.std.proofs.Common.{◌≡◌, ◌+◌, ◌<◌, ◌≤◌, ◌++◌, ◌∷◌, [], List, ℕ, sym, ap, subst, ◌∙◌, length, take, get_or, filter, arith, append_assoc}
+use Rattle.std.proofs.lemmas.List.{append-nil, take_all, take_more}
 use Rattle.ownership.specs.declared.indices.Indices.{Indices}
-use Rattle.ownership.specs.World.{Tables}
-use Rattle.ownership.specs.inside.Indices.{ids_under, is_fixed_at}
+use Rattle.ownership.specs.World.{Tables, Processes}
+use Rattle.ownership.specs.inside.Indices.{Among, IsKept, is_fixed_at}
 use Rattle.ownership.proofs.Settled.{Settled, settled-none, settled-more, settled-all, kept-fixed-only, kept-forgotten}
 use Rattle.ownership.proofs.indices.Indices.settle.Goals as goal
 
@@ -37,3 +37,50 @@ loop-i-preserved g c =
       count = ap (λ v. length v.items) same ∙ c.loop-i.invariant.count;
       settled = subst (λ v. Settled c.settle_one.new.self ps p (own ++ take (i + 1) v.items) start new) (sym same) (subst (λ (ids : List ℕ). Settled c.settle_one.new.self ps p ids start new) more settled);
     }
+
+pub loop-id-at-init : goal.loop-id-at-init
+loop-id-at-init g c =
+    let now = c.take_back_lent.new.self in
+    let start = c.args.places.now.items in
+    settled-none now c.args.processes.now.entries c.args.pid start (subst (λ (ts : Tables). IsKept now ts) c.as_slice.ensures.value c.take_back_lent.ensures.kept) c.take_back_lent.ensures.lent
+    (λ t table heir at own lived. subst (Among t) (sym (c.take_back_lent.ensures.owned heir.pid)) (c.requires.heirs t table heir at own lived))
+
+pub loop-i-at-init : goal.loop-i-at-init
+loop-i-at-init g c =
+    let now = c.loop-id.self in
+    let own = c.args.own.now in
+    let start = c.args.places.now.items in
+    let places = c.loop-id.places.items in
+    let past : length own ≤ c.loop-id.id-index = omega arith in
+    record {
+      count = sym c.len-fixed.ensures;
+      settled = subst (λ (ids : List ℕ). Settled now c.args.processes.now.entries c.args.pid ids start places) (take_all c.loop-id.id-index own past ∙ sym (append-nil own)) c.loop-id.invariant;
+    }
+
+module _ (now : Indices) (ps : Processes) (p i count : ℕ) (own : List ℕ) (start places : Tables) where
+  whole : length now.fixed.items ≡ count → count ≤ i → Settled now ps p (own ++ take i now.fixed.items) start places → Settled now ps p (own ++ now.fixed.items) start places
+  whole same past settled = subst (λ (ids : List ℕ). Settled now ps p (own ++ ids) start places) (take_all i now.fixed.items (omega (arith, same, past))) settled
+
+pub returns-clause-after : goal.returns-clause-after
+returns-clause-after g c =
+    let now = c.loop-i.self in
+    let ps = c.args.processes.now.entries in
+    let p = c.args.pid in
+    let own = c.args.own.now in
+    let start = c.args.places.now.items in
+    let places = c.loop-i.places.items in
+    let all = whole now ps p c.loop-i.i c.len-fixed.result own start places c.loop-i.invariant.count (omega arith) c.loop-i.invariant.settled in
+    settled-all ps p c.requires.dead now own start places c.requires.own all
+
+pub returns-clause-kept : goal.returns-clause-kept
+returns-clause-kept g c =
+    let now = c.loop-i.self in
+    let ps = c.args.processes.now.entries in
+    let p = c.args.pid in
+    let own = c.args.own.now in
+    let start = c.args.places.now.items in
+    let places = c.loop-i.places.items in
+    let all = whole now ps p c.loop-i.i c.len-fixed.result own start places c.loop-i.invariant.count (omega arith) c.loop-i.invariant.settled in
+    let items = c.keep_fixed.ensures.items ∙ ap (λ (ts : Tables). filter (is_fixed_at ts) now.fixed.items) c.as_slice-2.ensures.value in
+    let kept = kept-fixed-only ps p c.requires.dead now own start places c.requires.own all c.keep_fixed.new.self c.keep_fixed.ensures.rest items c.keep_fixed.ensures.capacity in
+    kept-forgotten ps p c.requires.dead now own start places c.requires.own all c.keep_fixed.new.self c.forget_owner.new.self kept c.forget_owner.ensures
