@@ -195,6 +195,23 @@ module _ (indices : Indices) (tables : Tables) (kept : IsKept indices tables) wh
       each u it (inl is) = inl (last ∙ ap Some (sym is.0))
       each u it (inr there) = kept.noted.each u it there
 
+-- a table that is settled and not gone keeps its name, and who owns it has it written down
+pub kept-left : (ps : Processes) (p : ℕ) (indices : Indices) (tables : Tables) → IsKept indices tables → AreBequeathed indices ps p tables → (t : ℕ) (new : Table) → table_after ps p (table_at tables t) ≡ Some new → IsKept indices (set tables t (Some new))
+kept-left ps p indices tables kept heirs t new is = by (left-over ps p (table_at tables t) new is)
+  where
+    by : Left ps p (table_at tables t) new → IsKept indices (set tables t (Some new))
+    by left = kept-released indices tables kept p t left.table new left.was left.fixed (name left.head) (owner left.head)
+      where
+        name : (new.head ≡ left.table.head × (owned_by left.table.head p ≡ false)) ⊎ ((heir : Heir) × (living_heir ps left.table.head ≡ Some heir) × (owned_by left.table.head p ≡ true) × (new.head ≡ record left.table.head { owner = heir.pid }))
+            → (name : List ℕ) → is_named name (Some new.head) ≡ is_named name (Some left.table.head)
+        name (inl same) n = ap (λ (h : Head). is_named n (Some h)) same.0
+        name (inr passed) n = ap (λ (h : Head). is_named n (Some h)) passed.3
+
+        owner : (new.head ≡ left.table.head × (owned_by left.table.head p ≡ false)) ⊎ ((heir : Heir) × (living_heir ps left.table.head ≡ Some heir) × (owned_by left.table.head p ≡ true) × (new.head ≡ record left.table.head { owner = heir.pid }))
+            → Among t (ids_under indices new.head.owner)
+        owner (inl same) = subst (λ (h : Head). Among t (ids_under indices h.owner)) (sym same.0) (owner-at (ids_under indices) tables kept.by_owner t left.table left.was)
+        owner (inr passed) = subst (λ (h : Head). Among t (ids_under indices h.owner)) (sym passed.3) (heirs t left.table passed.0 left.was passed.2 passed.1)
+
 -- a table of the process is settled, and its others still stand under their heirs
 pub bequeathed-still : (ps : Processes) (p : ℕ) → lives ps p ≡ false → (old new : Indices) (tables : Tables) → new ≡ record old { names = new.names } → (t : ℕ) → AreBequeathed old ps p tables → AreBequeathed new ps p (set tables t (table_after ps p (table_at tables t)))
 bequeathed-still ps p dead old new tables rest t heirs u table heir at own lived = subst (λ (i : Indices). Among u (ids_under i heir.pid)) (sym rest) (by (place-set tables t _ u table at))

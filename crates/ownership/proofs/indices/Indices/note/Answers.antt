@@ -1,4 +1,4 @@
-use Rattle.std.proofs.Common.{◌≡◌, ◌++◌, ◌∷◌, [], ◌+◌, ◌<◌, ◌≤◌, ℕ, true, None, Some, sym, ap, subst, ◌∙◌, length, arith}
+use Rattle.std.proofs.Common.{◌≡◌, ◌++◌, ◌∷◌, [], ◌+◌, ◌<◌, ◌≤◌, ℕ, true, None, Some, Result, Ok, Err, OnErr, sym, ap, subst, ◌∙◌, length, arith}
 use Rattle.std.specs.Prelude.{vec_capacity}
 use Rattle.indexmap.specs.IndexMap.{get_by_text}
 use Rattle.ownership.specs.declared.head.Head.{Head}
@@ -10,22 +10,26 @@ use Rattle.ownership.proofs.Heads.{heads-push, length-heads}
 use Rattle.ownership.proofs.Keeping.{kept-notes, kept-room, kept-named, kept-push}
 use Rattle.ownership.proofs.indices.Indices.note.Goals as goal
 
+on-err : {E P : Type 0} (r : Result (Unit {0}) E) → P → OnErr r P
+on-err (Ok done) p = tt
+on-err (Err error) p = p
+
 pub returns-in_err-make_room-clause-err : goal.returns-in_err-make_room-clause-err
 returns-in_err-make_room-clause-err g c =
-    kept-room c.lend.new.self c.args.places.now c.lend.ensures.kept c.make_room.new.self c.make_room.ensures.rest c.make_room.ensures.items c.make_room.ensures.capacity
+    on-err c.from_residual.result (kept-room c.lend.new.self c.args.places.now c.lend.ensures.kept c.make_room.new.self c.make_room.ensures.rest c.make_room.ensures.items c.make_room.ensures.capacity)
 
 pub returns-in_err-note_owner-clause-err : goal.returns-in_err-note_owner-clause-err
 returns-in_err-note_owner-clause-err g c =
     let places = c.args.places.now in
     let room = kept-room c.lend.new.self places c.lend.ensures.kept c.make_room.new.self c.make_room.ensures.rest c.make_room.ensures.items c.make_room.ensures.capacity in
-    kept-notes c.make_room.new.self places room c.note_owner.new.self c.note_owner.ensures.stays
+    on-err c.from_residual-in_err-note_owner.result (kept-notes c.make_room.new.self places room c.note_owner.new.self c.note_owner.ensures.stays)
 
 pub returns-in_err-note_name-clause-err : goal.returns-in_err-note_name-clause-err
 returns-in_err-note_name-clause-err g c =
     let places = c.args.places.now in
     let room = kept-room c.lend.new.self places c.lend.ensures.kept c.make_room.new.self c.make_room.ensures.rest c.make_room.ensures.items c.make_room.ensures.capacity in
     let owned = kept-notes c.make_room.new.self places room c.note_owner.new.self c.note_owner.ensures.stays in
-    kept-named c.note_owner.new.self places owned c.note_name.new.self c.note_name.ensures.rest (c.in_err-note_name.ensures.err (heads places) owned.by_name)
+    on-err c.from_residual-in_err-note_name.result (kept-named c.note_owner.new.self places owned c.note_name.new.self c.note_name.ensures.rest (c.in_err-note_name.ensures.err (heads places) owned.by_name))
 
 pub returns-clause-ok : goal.returns-clause-ok
 returns-clause-ok g c =

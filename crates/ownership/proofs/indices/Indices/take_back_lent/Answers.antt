@@ -3,14 +3,8 @@ use Rattle.fixed_walk.specs.Fixes.{is_fixed}
 use Rattle.ownership.specs.World.{table_at}
 use Rattle.ownership.specs.inside.Indices.{AreNoted, IsIdle}
 use Rattle.ownership.proofs.Keeping.{kept-beside}
-use Rattle.ownership.proofs.Noting.{noted-put, noted-idle, noted-gone, on-ok, is-there}
+use Rattle.ownership.proofs.Noting.{noted-put, noted-idle, on-ok, is-there}
 use Rattle.ownership.proofs.indices.Indices.take_back_lent.Goals as goal
-
-pub returns-in_default-clause-kept : goal.returns-in_default-clause-kept
-returns-in_default-clause-kept g c =
-    let indices = c.args.self.now in
-    let places = c.args.places.now in
-    kept-beside indices places c.requires.kept indices.fixed None (noted-gone indices.fixed.items c.in-Some.last places ? ?) c.requires.kept.room
 
 pub returns-then-is_fixed-clause-kept : goal.returns-then-is_fixed-clause-kept
 returns-then-is_fixed-clause-kept g c =
