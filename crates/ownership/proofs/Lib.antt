@@ -4,7 +4,6 @@ pub mod Naming
 pub mod Heads
 pub mod Kept
 pub mod Posting
-pub mod Mapped
 pub mod Ascending
 pub mod Owning
 pub mod Noting

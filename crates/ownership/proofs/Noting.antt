@@ -37,14 +37,6 @@ module _ (tables : Tables) (ids : List ℕ) (last : ℕ) (table : Table) (at : t
       by t own there (inr (inl among)) = inr (inl among)
       by t own there (inr (inr idle)) = inr (inr idle)
 
--- or it is gone
-pub noted-gone : (ids : List ℕ) (last : ℕ) (tables : Tables) → table_at tables last ≡ None → AreNoted ids (Some last) tables → AreNoted ids None tables
-noted-gone ids last tables gone noted = record { order = noted.order; each = λ t own there. by t own there (noted.each t own there) }
-  where
-    by : (t : ℕ) (own : Table) → table_at tables t ≡ Some own → (Some last ≡ Some t) ⊎ Among t ids ⊎ IsIdle own.fixed → (None ≡ Some t) ⊎ Among t ids ⊎ IsIdle own.fixed
-    by t own there (inl lent) = let none : table_at tables t ≡ None = ap (table_at tables) (sym (same_Some _ _ lent)) ∙ gone in absurd (cc (none, there))
-    by t own there (inr other) = inr other
-
 -- another is lent
 pub noted-lent : (ids : List ℕ) (id : ℕ) (tables : Tables) → AreNoted ids None tables → AreNoted ids (Some id) tables
 noted-lent ids id tables noted = record { order = noted.order; each = λ t own there. by t own (noted.each t own there) }

@@ -1,5 +1,5 @@
 -- Where a process has ended: the tables that are settled so far, and what stands beside them.
-use Rattle.std.proofs.Common.{◌≡◌, ℕ, false, List, [], ◌∷◌, ◌++◌, None, refl, sym, ap, subst, ◌∙◌, length, set, map, filter, arith}
+use Rattle.std.proofs.Common.{◌≡◌, ℕ, false, List, [], ◌∷◌, ◌++◌, None, refl, sym, ap, subst, ◌∙◌, set, map, filter, arith}
 use Rattle.std.specs.Prelude.{vec_capacity}
 use Rattle.ownership.specs.declared.indices.Indices.{Indices}
 use Rattle.ownership.specs.World.{Tables, Processes, lives, table_at}

@@ -1,5 +1,5 @@
 // The tables that may be fixed: all that are but the one that was lent last.
-ghost use Rattle.std.specs.Prelude.{◌≡◌, ◌≤◌, ℕ, Some, None, OnOk, OnErr, filter, vec_capacity};
+ghost use Rattle.std.specs.Prelude.{◌≡◌, ◌≤◌, ℕ, Some, None, OnOk, filter, vec_capacity};
 ghost use Rattle.ownership.specs.inside.Indices.{IsKept, ids_under, is_fixed_at};
 
 use super::Indices;

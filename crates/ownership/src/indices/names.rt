@@ -20,13 +20,19 @@ impl Indices {
     }
 
     /// Writes the next identifier down under the name of a table, if it is a named one.
-    pub(super) fn note_name(&mut self, alloc: Global, head: &Head, id: u32) -> Result<(), AllocError>
+    pub(super) fn note_name(
+        &mut self,
+        alloc: Global,
+        head: &Head,
+        id: u32,
+    ) -> Result<(), AllocError>
         ensures rest { self.new ≡ record self.old { names = self.new.names } }
         ensures ok { OnOk result ((hs : List (Option model.Head)) → length hs ≡ id → ByName (get_by_text self.old.names) hs → (head.now.named ≡ true → find_named hs head.now.name ≡ None) → ByName (get_by_text self.new.names) (hs ++ Some head.now ∷ [])) }
         ensures err { OnErr result ((hs : List (Option model.Head)) → ByName (get_by_text self.old.names) hs → ByName (get_by_text self.new.names) hs) }
     {
         if head.named {
-            self.names.insert(String::from_str(alloc, head.name.text())?, id)?;
+            self.names
+                .insert(String::from_str(alloc, head.name.text())?, id)?;
         }
         Ok(())
     }

@@ -1,5 +1,5 @@
 // The index by owner: under each process the tables that it ever came to own, until it ends.
-ghost use Rattle.std.specs.Prelude.{◌≡◌, ℕ, Some, OnOk, IfOk};
+ghost use Rattle.std.specs.Prelude.{◌≡◌, Some, OnOk, IfOk};
 ghost use Rattle.ownership.specs.declared.head.Heir as heir;
 ghost use Rattle.ownership.specs.World as model;
 ghost use Rattle.ownership.specs.World.{table_at};

@@ -1,5 +1,5 @@
 // What the end of a process makes of the tables.
-ghost use Rattle.std.specs.Prelude.{◌≡◌, ◌<◌, ℕ, None, map, false, length, slice_set};
+ghost use Rattle.std.specs.Prelude.{◌≡◌, ℕ, None, map, false, slice_set};
 ghost use Rattle.ownership.specs.World.{Tables, lives, table_at};
 ghost use Rattle.ownership.specs.End.{table_after};
 ghost use Rattle.ownership.specs.inside.Indices.{IsKept, AreOwned, AreBequeathed};

@@ -1,4 +1,4 @@
-use Rattle.std.proofs.Common.{◌≡◌, ◌&&◌, cond, None, Some, ℕ, refl, sym, ap, subst, ◌∙◌, set}
+use Rattle.std.proofs.Common.{◌≡◌, ◌&&◌, cond, None, Some, ℕ, refl, sym, ap, subst, ◌∙◌}
 use Rattle.std.specs.Str.{bytes_eq}
 use Rattle.std.proofs.lemmas.Map.Text.{hash_map_updates_text}
 use Rattle.indexmap.specs.IndexMap.{get_by_text}
@@ -20,7 +20,7 @@ returns-then-head-clause-kept c = λ tables t at kept.
     let before = get_by_text c.args.self.now.names in
     let here = over tables t head at in
     let index = named_less before (get_by_text c.swap_remove.new.self) hs _ t head kept.by_name here (written hs t None (is_within hs t head here)) c.if-head.true
-        (λ q. hash_map_updates_text c.text.result.now c.args.self.now.names c.swap_remove.new.self None c.swap_remove.ensures.updates q ∙ ap (λ n. cond (bytes_eq n q) None (before q)) c.text.ensures.text) in
+    (λ q. hash_map_updates_text c.text.result.now c.args.self.now.names c.swap_remove.new.self None c.swap_remove.ensures.updates q ∙ ap (λ n. cond (bytes_eq n q) None (before q)) c.text.ensures.text) in
     kept-set c.args.self.now tables kept (record c.args.self.now { names = c.swap_remove.new.self }) refl t None (subst (ByName (get_by_text c.swap_remove.new.self)) (sym (heads-set tables t None)) index) (λ table is. absurd (cc))
 
 pub returns-else-head-clause-kept : goal.returns-else-head-clause-kept

@@ -1,11 +1,11 @@
-use Rattle.std.proofs.Common.{◌≡◌, ◌++◌, ◌∷◌, [], ◌+◌, ◌<◌, ◌≤◌, ℕ, true, None, Some, Result, Ok, Err, OnErr, sym, ap, subst, ◌∙◌, length, arith}
+use Rattle.std.proofs.Common.{◌≡◌, ◌++◌, ◌∷◌, [], ◌+◌, ◌≤◌, true, None, Some, Result, Ok, Err, OnErr, sym, ap, subst, ◌∙◌, length, arith}
 use Rattle.std.specs.Prelude.{vec_capacity}
 use Rattle.indexmap.specs.IndexMap.{get_by_text}
 use Rattle.ownership.specs.declared.head.Head.{Head}
 use Rattle.ownership.specs.declared.indices.Indices.{Indices}
-use Rattle.ownership.specs.World.{Tables, heads, whereis}
+use Rattle.ownership.specs.World.{heads, whereis}
 use Rattle.ownership.specs.inside.Names.{ByName}
-use Rattle.ownership.specs.inside.Indices.{Among, IsKept, ids_under}
+use Rattle.ownership.specs.inside.Indices.{Among, ids_under}
 use Rattle.ownership.proofs.Heads.{heads-push, length-heads}
 use Rattle.ownership.proofs.Keeping.{kept-notes, kept-room, kept-named, kept-push}
 use Rattle.ownership.proofs.indices.Indices.note.Goals as goal

@@ -1,4 +1,4 @@
-use Rattle.std.proofs.Common.{◌≡◌, None, Some, false, sym, ap, subst, ◌∙◌, length, arith}
+use Rattle.std.proofs.Common.{◌≡◌, None, Some, false, sym, subst, ◌∙◌, length, arith}
 use Rattle.fixed_walk.specs.Fixes.{is_fixed}
 use Rattle.ownership.specs.World.{table_at}
 use Rattle.ownership.specs.inside.Indices.{AreNoted, IsIdle}

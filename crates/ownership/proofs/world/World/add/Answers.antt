@@ -1,4 +1,4 @@
-use Rattle.std.proofs.Common.{◌≡◌, ◌++◌, ◌∷◌, [], Some, sym, ap, subst, ◌∙◌, length, true, None, arith}
+use Rattle.std.proofs.Common.{◌++◌, ◌∷◌, [], Some, sym, ap, subst, ◌∙◌, length, arith}
 use Rattle.ownership.specs.World.{Tables, World, whereis}
 use Rattle.ownership.specs.inside.Indices.{IsKept}
 use Rattle.ownership.proofs.world.World.add.Goals as goal

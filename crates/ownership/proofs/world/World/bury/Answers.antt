@@ -1,11 +1,9 @@
-use Rattle.std.proofs.Common.{◌≡◌, ◌+◌, ℕ, false, Option, Some, sym, ap, subst, ◌∙◌, List, length, map, arith}
-use Rattle.ownership.specs.declared.head.Head.{Head}
-use Rattle.ownership.specs.declared.head.Heir.{Heir}
+use Rattle.std.proofs.Common.{◌≡◌, ◌+◌, ℕ, Some, sym, ap, subst, ◌∙◌, List, map, arith}
 use Rattle.ownership.specs.World.{Tables, World, Processes, table_at, lives}
 use Rattle.ownership.specs.Messages.{post_all}
 use Rattle.ownership.specs.End.{ended, handed_over, living_heir, table_after, messages_from}
 use Rattle.ownership.specs.inside.Ending.{posted, messages_at}
-use Rattle.ownership.specs.inside.Indices.{Among, AreInherited, AreOwned, IsKept, ids_under}
+use Rattle.ownership.specs.inside.Indices.{Among, AreInherited, AreOwned, ids_under}
 use Rattle.ownership.proofs.Ending.{all-after-same, posted-lives, heir-same, heir-before, ended-dead, messages-found}
 use Rattle.ownership.proofs.Keeping.{kept-notes, owned-all}
 use Rattle.ownership.proofs.world.World.bury.Goals as goal
