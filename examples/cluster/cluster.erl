@@ -3,10 +3,11 @@
 -module(cluster).
 -export([start/2, stop/1, new/3, place/2, insert/2, lookup/2, update_counter/3, delete/2, size/1, tab2list/1]).
 
-%% Starts nodes on this machine, each with the program behind it.
+%% Starts nodes on this machine, each with the program behind it. That one ends parts no others: `global` is told to leave them.
 start(Names, Program) ->
+    Args = ["-kernel", "prevent_overlapping_partitions", "false", "-pa", filename:dirname(code:which(?MODULE))],
     [begin
-        {ok, Peer, Node} = peer:start(#{name => Name, args => ["-pa", filename:dirname(code:which(?MODULE))], peer_down => continue}),
+        {ok, Peer, Node} = peer:start(#{name => Name, args => Args, peer_down => continue}),
         {ok, _} = erpc:call(Node, yets, start, [Program]),
         {Peer, Node}
     end || Name <- Names].
