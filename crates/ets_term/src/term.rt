@@ -1,4 +1,4 @@
-ghost use Rattle.std.specs.Prelude.{◌≡◌, IfOk, min, map, option_copied};
+ghost use Rattle.std.specs.Prelude.{◌≡◌, IfOk, min, map, nat_le, nat_lt, option_copied};
 ghost use Rattle.ets_term.specs.Atoms.{is_atom};
 ghost use Rattle.ets_term.specs.Depth.{depth, is_too_deep, largest, element_at};
 
@@ -57,11 +57,11 @@ impl Term {
         depth_of(self)
     }
 
-    /// Whether the term is deeper than `MAX_DEPTH`.
+    /// Whether the term is deeper than `MAX_DEPTH`. No more of it is looked at than one level further.
     pub fn is_too_deep(&self) -> bool
         ensures { result ≡ is_too_deep self.now }
     {
-        self.depth() > MAX_DEPTH
+        is_deeper(MAX_DEPTH, self)
     }
 
     /// Whether the term is the atom with this text.
@@ -134,4 +134,32 @@ fn deepest(items: &[Term]) -> usize
         most = most.max(depth_of(item));
     }
     most
+}
+
+/// Whether the term has more levels than these.
+#[cycle(deeper)]
+fn is_deeper(levels: usize, term: &Term) -> bool
+    ensures { result ≡ nat_lt levels (depth term.now) }
+{
+    match term {
+        Term::Tuple(items) => reaches_past(levels, items.as_slice()),
+        Term::List(items) => reaches_past(levels, items.as_slice()),
+        _ => levels == 0,
+    }
+}
+
+/// Whether what holds these items has more levels than these.
+#[cycle(deeper)]
+fn reaches_past(levels: usize, items: &[Term]) -> bool
+    ensures { result ≡ nat_le levels (largest (map depth items.now)) }
+{
+    if levels == 0 {
+        return true;
+    }
+    for item in items {
+        if is_deeper(levels - 1, item) {
+            return true;
+        }
+    }
+    false
 }
