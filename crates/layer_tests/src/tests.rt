@@ -1,3 +1,4 @@
+mod depths;
 mod fixes;
 mod hashes;
 mod keys;
