@@ -1,5 +1,5 @@
 -- Laws of a slab of fronts with what stands beside them.
-use Rattle.std.proofs.Common.{◌≡◌, ◌≢◌, inl, inr, ℕ, zero, suc, ◌<◌, List, [], ◌∷◌, length, get_or, set, slice_get, Option, Some, None, IsSome, is_some, count_by, Bool, cond, refl, sym, ◌∙◌, ap, subst, arith}
+use Rattle.std.proofs.Common.{◌≡◌, ◌≢◌, inl, inr, ℕ, zero, suc, ◌<◌, ◌≤◌, List, [], ◌∷◌, length, get_or, set, slice_get, Option, Some, None, IsSome, is_some, option_map, count_by, Bool, cond, refl, sym, ◌∙◌, ap, subst, arith}
 use Rattle.std.specs.List.{AllZip}
 use Rattle.std.proofs.lemmas.Bool.{cases_eq}
 use Rattle.std.proofs.lemmas.List.{get_or-set_same, get_or-set_other, length-set}
@@ -12,7 +12,7 @@ use Rattle.node_list.specs.declared.node.Node.{Node}
 use Rattle.node_list.specs.declared.front.Front.{Front}
 use Rattle.node_list.specs.declared.slot.Slot.{Slot}
 use Rattle.node_list.specs.declared.slot.Slot.TheVariants.{Dummy, Full}
-use Rattle.node_list.specs.inside.Slots.{slot_of, slot_at, item_in, whole, node_in, nodes_of, PutsSlot}
+use Rattle.node_list.specs.inside.Slots.{slot_of, slot_at, item_in, whole, node_in, nodes_of, PutsSlot, IsFull}
 use Rattle.node_list.specs.inside.NodeLending.{node_with}
 use Rattle.node_list.specs.inside.SlotLending.{slot_with}
 
@@ -102,6 +102,33 @@ vacant-after old new ss ts k o s u p says was j none =
     elim (cases_eq j k) [
       | inl same ↦ ap (slot_at ts) same ∙ (get_or_from_slice_get ts k s Dummy p.here ∙ says (sym u.changed ∙ (ap (get new) (sym same) ∙ none)))
       | inr other ↦ p.others j other ∙ was j (sym (u.others j other) ∙ none)
+    ]
+
+not-full : (s : Slot) → (IsFull s → ⊥) → s ≡ Dummy
+not-full Dummy says = refl
+not-full (Full item) says = absurd (says refl)
+
+-- below the lesser place there is no item yet
+pub below-after : (ss ts : List Slot) (k : ℕ) (s : Slot) (low lower : ℕ) → PutsSlot ss ts k s → lower ≤ low → (IsFull s → lower ≤ k) → ((j : ℕ) → j < low → slot_at ss j ≡ Dummy)
+    → (j : ℕ) → j < lower → slot_at ts j ≡ Dummy
+below-after ss ts k s low lower p less item was j h =
+    elim (cases_eq j k) [
+      | inl same ↦ ap (slot_at ts) same ∙ (get_or_from_slice_get ts k s Dummy p.here ∙ not-full s (λ full. omega (arith, item full, same, h)))
+      | inr other ↦ p.others j other ∙ was j (omega (arith, h, less))
+    ]
+
+-- ---- an item gets another chain
+chain-full : (s : Slot) (w : List Term) → option_map (λ (i : Item). i.chain) (item_in s) ≡ Some w → s ≡ Dummy → ⊥
+chain-full Dummy w e d = absurd (cc)
+chain-full (Full i) w e d = absurd (cc)
+
+-- a place with a dummy is another
+pub dummy-with : (ss : List Slot) (k : ℕ) (s t : Slot) (w : List Term) → s ≡ slot_at ss k → option_map (λ (i : Item). i.chain) (item_in s) ≡ Some w
+    → (j : ℕ) → slot_at ss j ≡ Dummy → slot_at (set ss k t) j ≡ Dummy
+dummy-with ss k s t w is e j dummy =
+    elim (cases_eq j k) [
+      | inl same ↦ absurd (chain-full s w e (is ∙ (ap (slot_at ss) (sym same) ∙ dummy)))
+      | inr other ↦ get_or-set_other ss k j t Dummy other ∙ dummy
     ]
 
 -- what a read of the second array tells

@@ -7,13 +7,16 @@
 //!
 //! *Weakness.* A search and an insertion take a step for each node that they pass, so a caller starts them near
 //! the end: at the dummy of a bucket. A place that was given back is given out again. `item_from` passes each place
-//! with no item, so a look at all items takes a step for each place up to the last that was ever given out.
+//! with no item, so a look at all items takes a step for each place up to the last that was ever given out. It begins no
+//! lower than a place below which there is no item, which a removal moves on by 64 places at most: items taken out in the
+//! order of their places are each found at once, but where an item in front of a long gap comes and goes, the gap is
+//! passed again.
 //!
 //! *Mechanism.* The nodes are linked one way, by the numbers of their places. A slab holds the key and the link of each,
 //! in 24 bytes, and gives out the places; beside it stand the items, of 88 bytes. A search that passes a node reads the
 //! slab alone: terms are looked at where keys are equal. `item_from` and `item` read the items alone: a look at all of
-//! them, in the order of their places, runs once through memory. Where the slab has to grow, a copy of it grows, so that
-//! a refusal changes nothing.
+//! them, in the order of their places, runs once through memory. The place below which there is no item is lowered by an
+//! insertion before it. Where the slab has to grow, a copy of it grows, so that a refusal changes nothing.
 //!
 //! *Limits.* What a place number stands for is the caller's to remember; calls ask that it stands in the list.
 #![tactic(auto)]
@@ -24,6 +27,7 @@ mod front;
 mod insert;
 mod link;
 mod list;
+mod low;
 mod node;
 mod nodes;
 mod reader;

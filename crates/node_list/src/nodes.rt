@@ -8,6 +8,7 @@ ghost use Rattle.node_list.specs.inside.NodeLending.{LendsChainIn};
 use crate::chain::Chain;
 use crate::front::Front;
 use crate::link::Link;
+use crate::low::{lowered, raised};
 use crate::node::{Item, Node};
 use crate::slot::Slot;
 use slab::Slab;
@@ -56,6 +57,8 @@ pub struct Nodes {
     nodes: Slab<Front>,
     /// With room for as many as the slab can hold. A place with no node has a dummy, or lies past their end.
     items: Vec<Slot>,
+    /// Below this place there is no item.
+    low: usize,
 }
 
 impl Model for Nodes {
@@ -75,7 +78,7 @@ impl Model for Nodes {
       capacity = s.nodes.capacity;
     } };
 
-    ghost invariant = { λ s. AreNodes s.nodes s.items };
+    ghost invariant = { λ s. AreNodes s.nodes s.items s.low };
 }
 
 impl Nodes {
@@ -86,6 +89,7 @@ impl Nodes {
         Nodes {
             nodes: Slab::new(alloc),
             items: Vec::new(alloc),
+            low: 0,
         }
     }
 
@@ -122,7 +126,9 @@ impl Nodes {
     {
         let Node { key, next, item } = node;
         let at = self.nodes.insert_reserved(Front { key, next });
-        put_slot(&mut self.items, at, Slot::new(item));
+        let slot = Slot::new(item);
+        self.low = lowered(self.low, at, &slot);
+        put_slot(&mut self.items, at, slot);
         at
     }
 
@@ -136,6 +142,7 @@ impl Nodes {
     {
         let Front { key, next } = self.nodes.remove(at);
         let slot = mem::replace(&mut self.items[at], Slot::Dummy);
+        self.low = raised(&self.items, self.low);
         Node {
             key,
             next,
@@ -170,12 +177,13 @@ impl Nodes {
         self.items[at].item()
     }
 
-    /// The first place from `start` on that has an item: a read of the items alone, in the order of their places.
+    /// The first place from `start` on that has an item: a read of the items alone, in the order of their places. It
+    /// begins at `low` where `start` is before it.
     #[inline]
     pub fn item_from(&self, start: usize) -> Option<usize>
         ensures { IsItemFromIn start result self.now }
     {
-        for at in start..self.items.len() {
+        for at in start.max(self.low)..self.items.len() {
             if let Slot::Full(_) = &self.items[at] {
                 return Some(at);
             }

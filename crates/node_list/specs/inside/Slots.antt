@@ -36,11 +36,21 @@ nodes_of (o ∷ os) (s ∷ ss) = node_in o s ∷ nodes_of os ss
 abbrev pub slot_at : List Slot → ℕ → Slot
 slot_at slots k = slice_index_or slots k Dummy
 
--- whatever place the slab gives out has room for a slot, every place with a node has a slot, and any other has a dummy
-pub record AreNodes {A : Type 0} (nodes : Slab Front) (items : Vec Slot A) : Type 0 where
+-- it has an item
+abbrev pub IsFull : Slot → Type 0
+IsFull s = IsSome (item_in s)
+
+-- no place from the first up to the second has an item
+abbrev pub AreDummies : ℕ → ℕ → List Slot → Type 0
+AreDummies from to slots = (k : ℕ) → from ≤ k → k < to → slot_at slots k ≡ Dummy
+
+-- whatever place the slab gives out has room for a slot, every place with a node has a slot, and any other has a dummy; so
+-- has each below `low`
+pub record AreNodes {A : Type 0} (nodes : Slab Front) (items : Vec Slot A) (low : ℕ) : Type 0 where
   pub room : nodes.capacity ≤ vec_capacity items
   pub within : (k : ℕ) → IsSome (get nodes k) → k < length (vec_items items)
   pub vacant : (k : ℕ) → get nodes k ≡ None → slot_at (vec_items items) k ≡ Dummy
+  pub below : (k : ℕ) → k < low → slot_at (vec_items items) k ≡ Dummy
 
 -- a place has this slot now, and every other has what it had
 pub record PutsSlot (old new : List Slot) (at : ℕ) (slot : Slot) : Type 0 where

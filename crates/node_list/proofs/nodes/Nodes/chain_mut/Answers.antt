@@ -1,4 +1,5 @@
 use Rattle.std.proofs.Common.{◌≡◌, ◌<◌, List, length, Some, Option, IsSome, option_map, set, refl, sym, ◌∙◌, ap, subst, arith}
+use Rattle.std.proofs.lemmas.List.{length-set}
 use Rattle.node_list.specs.declared.node.Node.{Node}
 use Rattle.node_list.specs.declared.front.Front.{Front}
 use Rattle.slab.specs.Slab.{Slab, get}
@@ -6,7 +7,7 @@ use Rattle.node_list.specs.declared.node.Item.{Item}
 use Rattle.node_list.specs.inside.Slots.{whole, node_in, nodes_of}
 use Rattle.node_list.specs.inside.NodeLending.{node_with, nodes_with}
 use Rattle.node_list.specs.inside.SlotLending.{slot_with}
-use Rattle.node_list.proofs.SlotLaws.{has-front, front-at, node-is, read, nodes-slot, whole-with}
+use Rattle.node_list.proofs.SlotLaws.{has-front, front-at, node-is, read, dummy-with, nodes-slot, whole-with}
 use Rattle.node_list.proofs.nodes.Nodes.chain_mut.Goals as goal
 
 pub index_mut-requires : goal.index_mut-requires
@@ -27,6 +28,20 @@ chain_mut-requires c =
     let I : Option Item → Type 0 = λ o. IsSome o in
     let same : whole f.0 c.index_mut.result.now ≡ c.requires.node = cc (p, get_is) in
     subst I (sym (ap (λ (n : Node). n.item) same)) c.requires.has
+
+pub invariant_of-self-lent : goal.invariant_of-self-lent
+invariant_of-self-lent c = λ w.
+    let O : Option Node → Type 0 = λ o. IsSome o in
+    let some = subst O (sym (ap (λ (v : Slab Node). get v c.args.at) c.self.view_is ∙ c.requires.is)) refl in
+    let inside : c.args.at < length c.self.inside.items.items = c.self.invariant.within c.args.at (has-front c.self.inside.nodes c.self.inside.items.items c.args.at some) in
+    let is = read c.self.inside.items.items c.args.at c.index_mut.result.now inside c.index_mut.ensures.value in
+    let stays = dummy-with c.self.inside.items.items c.args.at c.index_mut.result.now (slot_with c.index_mut.result.now w) c.chain_mut.result.now is c.chain_mut.ensures.value in
+    record {
+      room = c.self.invariant.room;
+      within = λ k has. omega (arith, c.self.invariant.within k has, length-set c.self.inside.items.items c.args.at (slot_with c.index_mut.result.now w));
+      vacant = λ k none. stays k (c.self.invariant.vacant k none);
+      below = λ k less. stays k (c.self.invariant.below k less);
+    }
 
 pub returns : goal.returns
 returns c =

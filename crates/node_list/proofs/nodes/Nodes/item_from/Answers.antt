@@ -9,7 +9,7 @@ pub returns-in-Full : goal.returns-in-Full
 returns-in-Full c =
     let b : Beside c.self.inside.nodes c.self.inside.items.items c.args.self.now = record { are = ap (λ (v : Slab Node). v.slots) c.self.view_is; vacant = c.self.invariant.vacant } in
     let inside : c.loop-at.at < length c.self.inside.items.items = omega (arith, c.loop-at-test.true, c.len-at-end.ensures, c.self.inside.items.ok.0) in
-    least-item c.self.inside.nodes c.self.inside.items.items c.args.self.now c.args.start c.loop-at.at c.in-Full.field-0 b c.loop-at.invariant c.loop-at.auto.at
+    least-item c.self.inside.nodes c.self.inside.items.items c.args.self.now c.args.start c.loop-at.at c.in-Full.field-0 b c.loop-at.invariant (omega (arith, c.loop-at.auto.at, c.max-at.ensures))
     (sym (read c.self.inside.items.items c.loop-at.at c.index.result.now inside c.index.ensures) ∙ c.in-Full.is)
 
 pub returns : goal.returns
