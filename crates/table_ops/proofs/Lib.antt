@@ -1,6 +1,7 @@
 pub mod BoundLaws
 pub mod Counts
 pub mod DropLaws
+pub mod KeepsLaws
 pub mod KeptLaws
 pub mod MarkLaws
 pub mod NewLaws

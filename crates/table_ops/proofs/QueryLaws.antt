@@ -113,6 +113,12 @@ drop-one [] (suc i) s rest h = cc
 drop-one (x ∷ xs) zero s rest h = let is : x ≡ s = cc in ap Some is
 drop-one (x ∷ xs) (suc i) s rest h = drop-one xs i s rest h
 
+drop-next : (slots : List Slot) (i : ℕ) (s : Slot) (rest : List Slot) → drop i slots ≡ s ∷ rest → drop (suc i) slots ≡ rest
+drop-next [] zero s rest h = cc
+drop-next [] (suc i) s rest h = cc
+drop-next (x ∷ xs) zero s rest h = cc
+drop-next (x ∷ xs) (suc i) s rest h = drop-next xs i s rest h
+
 drop-none : (slots : List Slot) (i : ℕ) → drop i slots ≡ [] → length slots ≤ i
 drop-none [] i h = omega arith
 drop-none (x ∷ xs) zero h = cc
@@ -140,6 +146,19 @@ module _ (key_at : ℕ → Option Term) (slots : List Slot) (distinct : HasDisti
       let is : key ≡ s.0 = same_Some _ _ (sym own ∙ h.key) in
       same_Some _ _ (sym found ∙ ap (objects_of slots) is ∙ (at-place slots i s.0 s.1 distinct h.at).found)
 
+  -- the slot that is passed, and those behind it
+  pub passed-here : (place : ℕ) (key : Term) (objects : List Term) → IsFirstPlace key_at (drop i slots) (Some place) → key_at place ≡ Some key → objects_of slots key ≡ Some objects
+      → drop i slots ≡ (key, objects) ∷ drop (i + 1) slots
+  passed-here place key objects f own found =
+      let here : IsHere key_at slots i place f.slot = record { at = drop-one slots i f.slot f.rest f.is; key = f.key } in
+      let is : key ≡ f.slot.0 = same_Some _ _ (sym own ∙ f.key) in
+      let all : objects ≡ f.slot.1 = objects-here place f.slot key objects here own found in
+      let next : suc i ≡ i + 1 = omega arith in
+      let rest : drop (i + 1) slots ≡ f.rest = ap (λ n. drop n slots) (sym next) ∙ drop-next slots i f.slot f.rest f.is in
+      f.is ∙ ap (λ (k : Term). (k, f.slot.1) ∷ f.rest) (sym is) ∙ ap (λ (os : List Term). (key, os) ∷ f.rest) (sym all) ∙ ap (λ (l : List Slot). (key, objects) ∷ l) (sym rest)
+
 -- lists that grow twice
 pub joined : {X : Type 0} (old mid new d e f : List X) → mid ≡ old ++ d → new ≡ mid ++ e → f ≡ d ++ e → new ≡ old ++ f
 joined old mid new d e f p q r = q ∙ ap (λ l. l ++ e) p ∙ append_assoc old d e ∙ ap (λ l. old ++ l) (sym r)
+
+pub ruleset appended = (answers-append, chosen-append)

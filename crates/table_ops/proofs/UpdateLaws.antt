@@ -20,7 +20,7 @@ use Rattle.table_ops.specs.Put.{add, Writes, Puts}
 use Rattle.table_ops.specs.declared.refusal.Refusal.{Refusal}
 use Rattle.table_ops.specs.declared.refusal.Refusal.TheVariants.{Badarg, SystemLimit, Memory}
 use Rattle.table_ops.specs.Refusals.{Change, Comes}
-use Rattle.table_ops.specs.Update.{is_set, ops_open, specs_open, is_good, Starts, CountsUnder, UpdatesCounter, with_true, WritesUnder, UpdatesElement}
+use Rattle.table_ops.specs.Update.{refusal_of, is_set, ops_open, specs_open, is_good, Starts, CountsUnder, UpdatesCounter, with_true, WritesUnder, UpdatesElement}
 use Rattle.table_ops.specs.inside.Counted.{IsCounted}
 use Rattle.table_ops.specs.inside.Updated.{CountsAt, WritesAt, StartsAt}
 use Rattle.table_ops.proofs.Counts.{count-set, count-writes, written}
@@ -134,6 +134,30 @@ started-counted kind keypos limit count old new key object i none room its w =
       few = i.few;
       slots_are = slots-puts kind keypos old new key object i.slots_are its.0 its.1 (first-put-at kind old new key object (objects_under old key) refl none w);
     }
+
+abbrev stored-of : Term → Result (Term × Unit {0}) CounterFault → Term
+stored-of none (Ok stored) = stored.0
+stored-of none (Err f) = none
+
+-- what a Default makes, where it is refused, and where its object is stored
+module _ {X : Type 0} (room : Bool) (key : Term) (made : Result (Term × X) CounterFault) where
+  pub fault-starts : (f : CounterFault) (slots : List Slot) → (f ≡ fault.Badarg → made ≡ Err fault.Badarg) → (f ≡ fault.SystemLimit → made ≡ Err fault.SystemLimit) → StartsAt room key made slots (Err (refusal_of f)) slots
+  fault-starts fault.Badarg slots badarg limit = (badarg refl, refl)
+  fault-starts fault.SystemLimit slots badarg limit = (refl, inl (limit refl))
+  fault-starts fault.Memory slots badarg limit = refl
+
+  module _ (object : Term) (answer : X) (is : made ≡ Ok (object, answer)) (old new : List Slot) where
+    pub object-starts : StartsAt room key (Ok (object, tt {0})) old (Ok tt) new → StartsAt room key made old (Ok answer) new
+    object-starts s = let own : object ≡ s.0 = ap (stored-of object) s.1 in (s.0, is ∙ ap (λ (o : Term). Ok (o, answer)) own, s.2, s.3)
+
+    pub refusal-starts : (e : Refusal) → StartsAt room key (Ok (object, tt {0})) old (Err e) new → StartsAt room key made old (Err e) new
+    refusal-starts Badarg s = let never = s.0 in cc
+    refusal-starts SystemLimit s = (s.0, by (Ok (object, tt {0})) refl s.1)
+      where
+        by : (m : Result (Term × Unit {0}) CounterFault) → m ≡ Ok (object, tt {0}) → (m ≡ Err fault.SystemLimit) ⊎ ((is_ok m ≡ true) × (room ≡ false)) → (made ≡ Err fault.SystemLimit) ⊎ ((is_ok made ≡ true) × (room ≡ false))
+        by m e (inl f) = cc
+        by m e (inr q) = inr (ap is_ok is, q.1)
+    refusal-starts Memory s = s
 
 -- a change that comes to this comes to all that it implies
 lifts : {X : Type 0} (own change : Change X Content) (old : Content) → ((r : Result X Refusal) (new : Content) → own r new → change r new) → (r : Result X Refusal) (new : Content) → Comes own old r new → Comes change old r new

@@ -22,23 +22,21 @@
 //! but a search has by then counted the objects that it tried.
 #![tactic(auto)]
 
-mod count;
-mod gather;
 mod kind;
 mod looks;
 mod marks;
 mod object;
-mod put;
-mod put_all;
 mod refusal;
+mod slots;
+mod store;
 mod table;
-mod take;
 mod trial;
 mod undo;
-mod update;
 
 pub use kind::Kind;
 pub use looks::Looks;
 pub use object::key_of;
 pub use refusal::Refusal;
+#[doc(hidden)]
+pub use store::Store;
 pub use table::Table;

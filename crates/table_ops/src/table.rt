@@ -4,6 +4,7 @@ ghost use Rattle.bucket_table.specs.Slots.{object_count};
 ghost use Rattle.table_ops.specs.Content.{IsContent};
 
 use crate::kind::Kind;
+use crate::store::Store;
 use bucket_table::{Growth, Readying, Rows};
 use std::alloc::{AllocError, Global};
 use std::marker::Model;
@@ -18,26 +19,22 @@ mod update;
 /// `buckets`.
 #[derive(Drop)]
 pub struct Table<R: Rows> {
-    alloc: Global,
-    kind: Kind,
-    keypos: u32,
-    limit: u32,
+    store: Store<R>,
     count: usize,
-    rows: R,
 }
 
 impl<R: Rows> Model for Table<R> {
     ghost use Rattle.table_ops.specs.Content.{Tabled};
     ghost use Rattle.table_ops.specs.inside.Codes.{tabled_code};
-    ghost use Rattle.table_ops.specs.inside.Counted.{IsCounted};
+    ghost use Rattle.table_ops.specs.inside.Store.{content_of, Holds};
 
     ghost Value = { Tabled };
 
     ghost coded = { tabled_code };
 
-    ghost view = { λ t. record { content = record { kind = t.kind; keypos = t.keypos; limit = t.limit; slots = R.content t.rows }; buckets = R.readiness t.rows } };
+    ghost view = { λ t. record { content = content_of R.content t.store; buckets = R.readiness t.store.rows } };
 
-    ghost invariant = { λ t. IsCounted t.kind t.keypos t.limit t.count (R.content t.rows) };
+    ghost invariant = { λ t. Holds R.content t.store t.count };
 }
 
 impl<R: Rows> Table<R> {
@@ -49,14 +46,14 @@ impl<R: Rows> Table<R> {
         ensures content { result.content ≡ record { kind = kind; keypos = keypos; limit = objects; slots = [] } }
         ensures buckets { result.buckets ≡ R.readiness rows }
     {
-        Table {
+        let store = Store {
             alloc,
             kind,
             keypos,
             limit: objects,
-            count: 0,
             rows,
-        }
+        };
+        Table { store, count: 0 }
     }
 
     /// The rows, for what they tell beside the calls of the table.
@@ -64,20 +61,20 @@ impl<R: Rows> Table<R> {
         ensures slots { R.content result.now ≡ self.now.content.slots }
         ensures buckets { R.readiness result.now ≡ self.now.buckets }
     {
-        &self.rows
+        &self.store.rows
     }
 
     pub fn kind(&self) -> Kind
         ensures { result ≡ self.now.content.kind }
     {
-        self.kind
+        self.store.kind
     }
 
     /// The position of the key in each object.
     pub fn keypos(&self) -> u32
         ensures { result ≡ self.now.content.keypos }
     {
-        self.keypos
+        self.store.keypos
     }
 
     /// How many objects there are, fewer than 4,294,967,296.
@@ -92,21 +89,21 @@ impl<R: Rows> Table<R> {
     pub fn slots(&self) -> usize
         ensures { result ≡ length self.now.content.slots }
     {
-        self.rows.len()
+        self.store.rows.len()
     }
 
     /// How many buckets the rows have.
     pub fn buckets(&self) -> u32
         ensures { result ≡ length self.now.buckets }
     {
-        self.rows.buckets()
+        self.store.rows.buckets()
     }
 
     /// The least bucket that is not ready.
     pub fn least(&self) -> Option<u32>
         ensures { result ≡ position not self.now.buckets }
     {
-        self.rows.least()
+        self.store.rows.least()
     }
 
     /// Doubles the buckets of the rows.
@@ -115,7 +112,7 @@ impl<R: Rows> Table<R> {
         ensures ok { IfOk result (λ growth. IsGrown R.most_buckets self.old.buckets growth self.new.buckets) }
         ensures err { OnErr result (self.new ≡ self.old) }
     {
-        self.rows.grow()
+        self.store.rows.grow()
     }
 
     /// Makes a bucket of the rows ready.
@@ -124,13 +121,13 @@ impl<R: Rows> Table<R> {
         ensures ok { IfOk result (λ readying. IsReadied bucket self.old.buckets readying self.new.buckets) }
         ensures err { OnErr result (self.new ≡ self.old) }
     {
-        self.rows.ready(bucket)
+        self.store.rows.ready(bucket)
     }
 
     /// Tells a proof what holds of each table; it does nothing when it runs.
     pub fn known(&self)
         ensures { IsContent self.now.content }
     {
-        self.rows.known();
+        self.store.rows.known();
     }
 }

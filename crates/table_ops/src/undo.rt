@@ -1,10 +1,7 @@
 ghost use Rattle.std.specs.Prelude.{◌≡◌};
-ghost use Rattle.table_ops.specs.inside.Undo.{gain, undone, undone_all};
+ghost use Rattle.table_ops.specs.inside.Undo.{gain};
 
-use bucket_table::Rows;
-use ets_term::Term;
 use node_list::Chain;
-use std::alloc::Global;
 
 /// How an insertion of one object is taken back, which takes no memory.
 #[derive(Drop)]
@@ -30,30 +27,5 @@ impl Undo {
             Undo::LastObject => 1,
             Undo::Nothing => 0,
         }
-    }
-}
-
-/// Takes the last insertion under a key back.
-#[tactic(auto, using(crate::proofs::SlotLaws::slot_laws))]
-pub fn take_back<R: Rows>(alloc: Global, rows: &mut R, key: &Term, undo: Undo)
-    ensures slots { R.content rows.new ≡ undone undo key.now (R.content rows.old) }
-    ensures buckets { R.readiness rows.new ≡ R.readiness rows.old }
-{
-    let Some(place) = rows.find(key) else {
-        return;
-    };
-    match undo {
-        Undo::NewSlot => {
-            let _ = rows.remove_at(place);
-        }
-        Undo::Objects(objects) => {
-            let _ = rows.replace_at(place, objects);
-        }
-        Undo::LastObject => {
-            let mut objects = rows.replace_at(place, Chain::new(alloc));
-            let _ = objects.pop();
-            let _ = rows.replace_at(place, objects);
-        }
-        Undo::Nothing => {}
     }
 }

@@ -28,6 +28,11 @@ kept choose objects = filter (λ object. not (choose object)) objects
 abbrev pub left_of : Bool → (Term → Bool) → List Term → List Term
 left_of some choose objects = if some then kept choose objects else []
 
+-- so many of these objects go, and those that stay, where some go, are these
+pub record AreSifted (choose : Term → Bool) (objects : List Term) (gone : ℕ) (left : List Term) : Type 0 where
+  pub counted : gone ≡ chosen_count choose objects
+  pub stay : left ≡ left_of (nat_lt 0 gone) choose objects
+
 -- the key of a slot, and what stays of its objects
 abbrev pub Noted : Type 0
 Noted = Option Term × List Term

@@ -6,10 +6,7 @@ ghost use Rattle.table_ops.specs.Refusals.{Comes};
 
 use super::Table;
 use crate::object::{any_too_deep, are_objects, key_of};
-use crate::put::put;
-use crate::put_all::put_list;
 use crate::refusal::Refusal;
-use crate::update::filled;
 use bucket_table::Rows;
 use ets_term::Term;
 
@@ -21,7 +18,7 @@ impl<R: Rows> Table<R> {
         ensures content { Comes (Inserts objects.now self.old.content) self.old.content result self.new.content }
         ensures buckets { self.new.buckets ≡ self.old.buckets }
     {
-        if !are_objects(self.keypos, objects) {
+        if !are_objects(self.store.keypos, objects) {
             return Err(Refusal::Badarg);
         }
         self.store(objects, ())
@@ -44,26 +41,18 @@ impl<R: Rows> Table<R> {
         ensures content { Comes (InsertsNew (object.now ∷ []) self.old.content) self.old.content result self.new.content }
         ensures buckets { self.new.buckets ≡ self.old.buckets }
     {
-        let Some(key) = key_of(self.keypos, object) else {
+        let Some(key) = key_of(self.store.keypos, object) else {
             return Err(Refusal::Badarg);
         };
-        let entry = self.rows.entry(key);
-        if filled(&self.rows, key, entry).is_some() {
+        let entry = self.store.rows.entry(key);
+        if self.store.filled(key, entry).is_some() {
             return Ok(false);
         }
         if object.is_too_deep() {
             return Err(Refusal::SystemLimit);
         }
-        let room = self.count < self.limit as usize;
-        let undo = put(
-            self.alloc,
-            &mut self.rows,
-            self.kind,
-            room,
-            entry,
-            key,
-            object,
-        )?;
+        let room = self.count < self.store.limit as usize;
+        let undo = self.store.put(room, entry, key, object)?;
         self.count += undo.gain();
         Ok(true)
     }
@@ -73,7 +62,7 @@ impl<R: Rows> Table<R> {
         ensures content { Comes (InsertsNew list.now self.old.content) self.old.content result self.new.content }
         ensures buckets { self.new.buckets ≡ self.old.buckets }
     {
-        if !are_objects(self.keypos, list) {
+        if !are_objects(self.store.keypos, list) {
             return Err(Refusal::Badarg);
         }
         if self.any_taken(list) {
@@ -86,7 +75,7 @@ impl<R: Rows> Table<R> {
     fn is_taken(&self, object: &Term) -> bool
         ensures { result ≡ is_taken self.now.content.keypos self.now.content.slots object.now }
     {
-        match key_of(self.keypos, object) {
+        match key_of(self.store.keypos, object) {
             Some(key) => self.member(key),
             None => false,
         }
@@ -108,16 +97,7 @@ impl<R: Rows> Table<R> {
         if any_too_deep(objects) {
             return Err(Refusal::SystemLimit);
         }
-        let limit = self.limit as usize;
-        let count = put_list(
-            self.alloc,
-            &mut self.rows,
-            self.kind,
-            self.keypos,
-            limit,
-            self.count,
-            objects,
-        )?;
+        let count = self.store.put_list(self.count, objects)?;
         self.count = count;
         Ok(done)
     }

@@ -7,6 +7,7 @@ ghost use Rattle.table_ops.specs.Refusals.{Tells};
 use super::Table;
 use crate::kind::Kind;
 use crate::refusal::Refusal;
+use crate::slots::all_of;
 use bucket_table::Rows;
 use ets_term::{Items, Term};
 use std::alloc::{AllocError, Global};
@@ -16,10 +17,7 @@ impl<R: Rows> Table<R> {
     pub fn lookup(&self, key: &Term) -> &[Term]
         ensures { result.now ≡ objects_under self.now.content.slots key.now }
     {
-        match self.rows.get(key) {
-            Some(objects) => objects,
-            None => &[],
-        }
+        self.store.under(key)
     }
 
     /// Whether a key has an object (stdlib manual, ets:member/2).
@@ -34,7 +32,12 @@ impl<R: Rows> Table<R> {
     pub fn lookup_element(&self, key: &Term, position: usize) -> Result<Term, Refusal>
         ensures { Tells (element_told self.now.content.kind position (objects_under self.now.content.slots key.now)) result }
     {
-        told(self.alloc, self.kind, self.lookup(key), position)
+        told(
+            self.store.alloc,
+            self.store.kind,
+            self.lookup(key),
+            position,
+        )
     }
 
     /// As `lookup_element`, but the default where the key has no object; `Badarg` for the position 0 then too (stdlib
@@ -49,26 +52,21 @@ impl<R: Rows> Table<R> {
     {
         let objects = self.lookup(key);
         if !objects.is_empty() {
-            return told(self.alloc, self.kind, objects, position);
+            return told(self.store.alloc, self.store.kind, objects, position);
         }
         if position == 0 {
             return Err(Refusal::Badarg);
         }
-        Ok(default.try_clone(self.alloc)?)
+        Ok(default.try_clone(self.store.alloc)?)
     }
 
     /// All objects, copied, in the order of the slots (stdlib manual, ets:tab2list/1).
     pub fn objects(&self) -> Result<Items<Term>, AllocError>
         ensures { IfOk result (λ objects. objects ≡ all_objects self.now.content.slots) }
     {
-        let mut copies = Vec::with_capacity(self.alloc, self.count)?;
-        self.rows.known();
-        let mut at = self.rows.first_place();
-        for _ in 0..self.rows.len() {
-            let Some(place) = at else { unreachable!() };
-            let (_, objects) = self.rows.slot_at(place);
-            copy_behind(self.alloc, &mut copies, objects)?;
-            at = self.rows.place_behind(place);
+        let mut copies = Vec::with_capacity(self.store.alloc, self.count)?;
+        for (_, objects) in all_of(&self.store.rows) {
+            copy_behind(self.store.alloc, &mut copies, objects)?;
         }
         Ok(Items::from_vec(copies))
     }

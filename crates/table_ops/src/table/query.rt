@@ -9,10 +9,8 @@ ghost use Rattle.table_ops.specs.Read.{all_objects};
 ghost use Rattle.table_ops.specs.inside.Marked.{OnlyUnder};
 
 use super::Table;
-use crate::count::count_asked;
-use crate::gather::gather_asked;
 use crate::looks::Looks;
-use crate::marks::{note_asked, thin_out_all};
+use crate::marks::Marks;
 use crate::trial::{Choose, Give, Matching};
 use bucket_table::Rows;
 use ets_term::{Items, Term};
@@ -39,7 +37,8 @@ impl<R: Rows> Table<R> {
         ensures looks { OnOk result (looks.new ≡ ticks (tried (bound_key self.now.content.keypos (data_of pattern.now)) self.now.content.slots) looks.old) }
         ensures at_most { looks.new ≤ ticks (tried (bound_key self.now.content.keypos (data_of pattern.now)) self.now.content.slots) looks.old }
     {
-        self.found(pattern, pattern.bound_key(self.keypos as usize), looks)
+        let key = pattern.bound_key(self.store.keypos as usize);
+        self.found(pattern, key, looks)
     }
 
     /// The objects that match, copied, in the order of the slots (stdlib manual, ets:match_object/2).
@@ -61,7 +60,8 @@ impl<R: Rows> Table<R> {
         ensures at_most { looks.new ≤ ticks (tried (bound_key self.now.content.keypos (data_of pattern.now)) self.now.content.slots) looks.old }
     {
         let matching = Matching { pattern };
-        self.found(&matching, pattern.bound_key(self.keypos as usize), looks)
+        let key = pattern.bound_key(self.store.keypos as usize);
+        self.found(&matching, key, looks)
     }
 
     /// What the specification gives, for each object for which it gives something, in the order of the slots (stdlib
@@ -79,7 +79,7 @@ impl<R: Rows> Table<R> {
         ensures looks { OnOk result (looks.new ≡ ticks (tried (spec_key self.now.content.keypos (data_of spec.now)) self.now.content.slots) looks.old) }
         ensures at_most { looks.new ≤ ticks (tried (spec_key self.now.content.keypos (data_of spec.now)) self.now.content.slots) looks.old }
     {
-        self.found(spec, spec.bound_key(self.keypos as usize), looks)
+        self.found(spec, spec.bound_key(self.store.keypos as usize), looks)
     }
 
     /// How many objects there are for which the specification gives `true`, fewer than 4,294,967,296 (stdlib manual,
@@ -99,7 +99,7 @@ impl<R: Rows> Table<R> {
         ensures looks { OnOk result (looks.new ≡ ticks (tried (spec_key self.now.content.keypos (data_of spec.now)) self.now.content.slots) looks.old) }
         ensures at_most { looks.new ≤ ticks (tried (spec_key self.now.content.keypos (data_of spec.now)) self.now.content.slots) looks.old }
     {
-        self.chosen(spec, spec.bound_key(self.keypos as usize), looks)
+        self.chosen(spec, spec.bound_key(self.store.keypos as usize), looks)
     }
 
     /// Deletes the objects that match (stdlib manual, ets:match_delete/2). Want of memory changes nothing.
@@ -125,7 +125,7 @@ impl<R: Rows> Table<R> {
         ensures at_most { looks.new ≤ ticks (tried (bound_key self.old.content.keypos (data_of pattern.now)) self.old.content.slots) looks.old }
         ensures buckets { self.new.buckets ≡ self.old.buckets }
     {
-        let key = pattern.bound_key(self.keypos as usize);
+        let key = pattern.bound_key(self.store.keypos as usize);
         let _gone = self.delete_chosen(pattern, key, hold, looks)?;
         Ok(())
     }
@@ -158,7 +158,7 @@ impl<R: Rows> Table<R> {
         ensures at_most { looks.new ≤ ticks (tried (spec_key self.old.content.keypos (data_of spec.now)) self.old.content.slots) looks.old }
         ensures buckets { self.new.buckets ≡ self.old.buckets }
     {
-        let key = spec.bound_key(self.keypos as usize);
+        let key = spec.bound_key(self.store.keypos as usize);
         self.delete_chosen(spec, key, hold, looks)
     }
 
@@ -174,9 +174,8 @@ impl<R: Rows> Table<R> {
         ensures looks { OnOk result (looks.new ≡ ticks (tried (option_map data_of (option_copied key.entry)) self.now.content.slots) looks.old) }
         ensures at_most { looks.new ≤ ticks (tried (option_map data_of (option_copied key.entry)) self.now.content.slots) looks.old }
     {
-        self.rows.known();
-        let mut found = Vec::new(self.alloc);
-        gather_asked(self.alloc, &self.rows, asked, key, &mut found, looks)?;
+        let mut found = Vec::new(self.store.alloc);
+        self.store.gather_asked(asked, key, &mut found, looks)?;
         Ok(Items::from_vec(found))
     }
 
@@ -193,8 +192,7 @@ impl<R: Rows> Table<R> {
         ensures looks { OnOk result (looks.new ≡ ticks (tried (option_map data_of (option_copied key.entry)) self.now.content.slots) looks.old) }
         ensures at_most { looks.new ≤ ticks (tried (option_map data_of (option_copied key.entry)) self.now.content.slots) looks.old }
     {
-        self.rows.known();
-        count_asked(self.alloc, &self.rows, chooser, key, looks)
+        self.store.count_asked(chooser, key, looks)
     }
 
     /// Deletes the objects that are chosen, of which there are only some of the bound key, if one is bound; answers how
@@ -215,10 +213,10 @@ impl<R: Rows> Table<R> {
         ensures at_most { looks.new ≤ ticks (tried (option_map data_of (option_copied key.entry)) self.old.content.slots) looks.old }
         ensures buckets { self.new.buckets ≡ self.old.buckets }
     {
-        self.rows.known();
-        let mut marks = Vec::new(self.alloc);
-        let gone = note_asked(self.alloc, &self.rows, chooser, key, &mut marks, looks)?;
-        thin_out_all(&mut self.rows, hold, marks);
+        self.store.rows.known();
+        let mut marks = Marks::new(self.store.alloc);
+        let gone = self.store.note_asked(chooser, key, &mut marks, looks)?;
+        self.store.thin_out_all(hold, marks);
         self.count -= gone;
         Ok(gone)
     }

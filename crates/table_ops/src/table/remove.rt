@@ -6,7 +6,6 @@ ghost use Rattle.table_ops.specs.Drop.{without_those, of_key, each, DeletesObjec
 use super::Table;
 use crate::object::key_of;
 use crate::refusal::Refusal;
-use crate::take::{take_at, take_object};
 use bucket_table::Rows;
 use ets_term::{Items, Term};
 use std::alloc::AllocError;
@@ -17,11 +16,10 @@ impl<R: Rows> Table<R> {
         ensures content { self.new.content ≡ without_those hold (of_key key.now) self.old.content }
         ensures buckets { self.new.buckets ≡ self.old.buckets }
     {
-        self.rows.known();
-        let Some(place) = self.rows.find(key) else {
+        let Some(place) = self.store.find(key) else {
             return;
         };
-        let objects = take_at(self.alloc, &mut self.rows, hold, place);
+        let objects = self.store.take_at(hold, place);
         self.count -= objects.len();
     }
 
@@ -32,13 +30,12 @@ impl<R: Rows> Table<R> {
         ensures err { OnErr result (self.new.content ≡ self.old.content) }
         ensures buckets { self.new.buckets ≡ self.old.buckets }
     {
-        self.rows.known();
-        let Some(place) = self.rows.find(key) else {
-            return Ok(Items::new(self.alloc));
+        let Some(place) = self.store.find(key) else {
+            return Ok(Items::new(self.store.alloc));
         };
-        let count = self.rows.objects_at(place).len();
-        let mut taken = Vec::with_capacity(self.alloc, count)?;
-        let objects = take_at(self.alloc, &mut self.rows, hold, place);
+        let count = self.store.rows.objects_at(place).len();
+        let mut taken = Vec::with_capacity(self.store.alloc, count)?;
+        let objects = self.store.take_at(hold, place);
         self.count -= count;
         objects.move_into(&mut taken);
         Ok(Items::from_vec(taken))
@@ -49,14 +46,13 @@ impl<R: Rows> Table<R> {
         ensures content { DeletesObject hold object.now self.old.content result self.new.content }
         ensures buckets { self.new.buckets ≡ self.old.buckets }
     {
-        let Some(key) = key_of(self.keypos, object) else {
+        let Some(key) = key_of(self.store.keypos, object) else {
             return Err(Refusal::Badarg);
         };
-        self.rows.known();
-        let Some(place) = self.rows.find(key) else {
+        let Some(place) = self.store.find(key) else {
             return Ok(());
         };
-        let count = take_object(self.alloc, &mut self.rows, hold, place, object);
+        let count = self.store.take_object(hold, place, object);
         self.count -= count;
         Ok(())
     }
@@ -66,7 +62,7 @@ impl<R: Rows> Table<R> {
         ensures content { self.new.content ≡ without_those hold each self.old.content }
         ensures buckets { self.new.buckets ≡ self.old.buckets }
     {
-        self.rows.clear(hold);
+        self.store.rows.clear(hold);
         self.count = 0;
     }
 
@@ -75,6 +71,6 @@ impl<R: Rows> Table<R> {
         ensures content { self.new.content ≡ record self.old.content { slots = purged self.old.content.slots } }
         ensures buckets { self.new.buckets ≡ self.old.buckets }
     {
-        self.rows.purge();
+        self.store.rows.purge();
     }
 }

@@ -5,11 +5,8 @@ ghost use Rattle.table_ops.specs.Update.{is_set, ops_open, specs_open, is_good, 
 use super::Table;
 use crate::kind::Kind;
 use crate::refusal::Refusal;
-use crate::update::{
-    count_at, filled, is_good, ops_open, specs_open, start_at, start_written_at, write_at,
-};
 use bucket_table::Rows;
-use counters::{ElementSpecs, Ops};
+use counters::{ElementSpecs, Ops, start_counter, start_elements};
 use ets_term::Term;
 
 impl<R: Rows> Table<R> {
@@ -31,24 +28,22 @@ impl<R: Rows> Table<R> {
         if !self.may_count(key, ops, default) {
             return Err(Refusal::Badarg);
         }
-        let entry = self.rows.entry(key);
-        if let Some(place) = filled(&self.rows, key, entry) {
-            return Ok(count_at(self.alloc, &mut self.rows, place, ops)?);
+        let entry = self.store.rows.entry(key);
+        if let Some(place) = self.store.filled(key, entry) {
+            return Ok(self.store.count_at(place, ops)?);
         }
         let Some(default) = default else {
             return Err(Refusal::Badarg);
         };
-        let room = self.count < self.limit as usize;
-        let answer = start_at(
-            self.alloc,
-            &mut self.rows,
-            room,
-            self.keypos,
-            entry,
+        let (object, answer) = start_counter(
+            self.store.alloc,
+            default,
+            self.store.keypos,
             key,
             ops,
-            default,
         )?;
+        let room = self.count < self.store.limit as usize;
+        self.store.start(room, entry, key, object)?;
         self.count += 1;
         Ok(answer)
     }
@@ -71,27 +66,19 @@ impl<R: Rows> Table<R> {
         if !self.may_write(key, &specs, default) {
             return Err(Refusal::Badarg);
         }
-        let entry = self.rows.entry(key);
-        if let Some(place) = filled(&self.rows, key, entry) {
-            write_at(&mut self.rows, place, specs)?;
+        let entry = self.store.rows.entry(key);
+        if let Some(place) = self.store.filled(key, entry) {
+            self.store.write_at(place, specs)?;
             return Ok(true);
         }
         let Some(default) = default else {
             return Ok(false);
         };
-        let room = self.count < self.limit as usize;
-        let answer = start_written_at(
-            self.alloc,
-            &mut self.rows,
-            room,
-            self.keypos,
-            entry,
-            key,
-            specs,
-            default,
-        )?;
+        let object = start_elements(self.store.alloc, default, self.store.keypos, key, specs)?;
+        let room = self.count < self.store.limit as usize;
+        self.store.start(room, entry, key, object)?;
         self.count += 1;
-        Ok(answer)
+        Ok(true)
     }
 
     fn may_count(&self, key: &Term, ops: &Ops, default: Option<&Term>) -> bool
@@ -103,7 +90,7 @@ impl<R: Rows> Table<R> {
     fn are_open(&self, key: &Term, ops: &Ops, default: Option<&Term>) -> bool
         ensures { result ≡ (ops_open self.now.content.keypos ops.now && is_good self.now.content.keypos key.now (option_copied default.entry)) }
     {
-        ops_open(self.keypos, ops) && is_good(self.keypos, key, default)
+        self.store.ops_open(ops) && self.store.is_good(key, default)
     }
 
     fn may_write(&self, key: &Term, specs: &ElementSpecs, default: Option<&Term>) -> bool
@@ -115,12 +102,12 @@ impl<R: Rows> Table<R> {
     fn are_writable(&self, key: &Term, specs: &ElementSpecs, default: Option<&Term>) -> bool
         ensures { result ≡ (specs_open self.now.content.keypos specs.now && is_good self.now.content.keypos key.now (option_copied default.entry)) }
     {
-        specs_open(self.keypos, specs) && is_good(self.keypos, key, default)
+        self.store.specs_open(specs) && self.store.is_good(key, default)
     }
 
     fn is_set(&self) -> bool
         ensures { result ≡ is_set self.now.content.kind }
     {
-        self.kind == Kind::Set
+        self.store.kind == Kind::Set
     }
 }

@@ -10,9 +10,9 @@ pub count_asked-requires-clause-quiet : goal.count_asked-requires-clause-quiet
 count_asked-requires-clause-quiet g c =
     let choose = g.C.Choose.chooses c.args.chooser.now in
     let only = subst (λ (t : Tabled). OnlyUnder t.content.keypos (option_copied c.args.key) choose) (sym c.self.view_is) c.requires in
-    quiet choose c.self.inside.keypos (option_copied c.args.key) c.self.inside.kind (g.R.Rows.content c.self.inside.rows) only c.self.invariant.slots_are
+    quiet choose c.self.inside.store.keypos (option_copied c.args.key) c.self.inside.store.kind (g.R.Rows.content c.self.inside.store.rows) only c.self.invariant.slots_are
 
 pub returns-clause-few : goal.returns-clause-few
 returns-clause-few g c =
     let i = c.self.inside in
-    IfOk-weaker c.count_asked.result _ _ (λ n e. chosen-below (g.C.Choose.chooses c.args.chooser.now) i.kind i.keypos i.limit i.count n (g.R.Rows.content i.rows) c.self.invariant e) c.count_asked.ensures.count
+    IfOk-weaker c.count_asked.result _ _ (λ n e. chosen-below (g.C.Choose.chooses c.args.chooser.now) i.store.kind i.store.keypos i.store.limit i.count n (g.R.Rows.content i.store.rows) c.self.invariant e) c.count_asked.ensures.count

@@ -1,13 +1,11 @@
-use Rattle.std.proofs.Common.{◌≡◌, ◌≤◌, take, drop, vec_len, vec_capacity}
+use Rattle.std.proofs.Common.{◌≡◌, ◌≤◌, ◌+◌, ◌++◌, vec_len, vec_capacity}
 use Rattle.bucket_table.specs.Slots.{object_count}
-use Rattle.bucket_table.specs.Walks.{IsFirstPlace}
 use Rattle.table_ops.specs.Read.{all_objects}
 use Rattle.table_ops.proofs.table.Table.objects.Given as goal
 
-abbrev pub invariant-loop : goal.invariant-loop
-invariant-loop g l = record {
-  here : IsFirstPlace (g.R.Rows.key_at l.self-inside.rows) (drop l.counter (g.R.Rows.content l.self-inside.rows)) l.at;
-  done : l.copies.items ≡ all_objects (take l.counter (g.R.Rows.content l.self-inside.rows));
-  len : vec_len l.copies ≡ object_count (take l.counter (g.R.Rows.content l.self-inside.rows));
-  room : object_count (g.R.Rows.content l.self-inside.rows) ≤ vec_capacity l.copies;
-}
+abbrev pub invariant-loop-objects : goal.invariant-loop-objects
+invariant-loop-objects g l =
+    (goal.iterator-loop-objects g).can_next l.objects-iterator
+    × (goal.iterator-loop-objects g).is_finite l.objects-iterator
+    × (l.copies.items ++ all_objects l.objects-iterator ≡ all_objects (g.R.Rows.content l.self-inside.store.rows))
+    × (vec_len l.copies + object_count l.objects-iterator ≤ vec_capacity l.copies)

@@ -8,10 +8,10 @@ use Rattle.table_ops.proofs.table.Table.purge.Goals as goal
 pub invariant_of-self : goal.invariant_of-self
 invariant_of-self g c =
     let i = c.self.invariant in
-    let old = g.R.Rows.content c.self.inside.rows in
+    let old = g.R.Rows.content c.self.inside.store.rows in
     record {
       counted = i.counted ∙ sym (ap object_count c.purge.ensures.now ∙ count-purged old);
       within = i.within;
       few = i.few;
-      slots_are = subst (AreSlots c.self.inside.kind c.self.inside.keypos) (sym c.purge.ensures.now) (slots-purged c.self.inside.kind c.self.inside.keypos old i.slots_are);
+      slots_are = subst (AreSlots c.self.inside.store.kind c.self.inside.store.keypos) (sym c.purge.ensures.now) (slots-purged c.self.inside.store.kind c.self.inside.store.keypos old i.slots_are);
     }

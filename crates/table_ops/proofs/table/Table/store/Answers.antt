@@ -1,7 +1,10 @@
-use Rattle.std.proofs.Common.{◌≡◌, ◌≤◌, false, sym, subst, ◌∙◌}
+use Rattle.std.proofs.Common.{◌≡◌, ◌≤◌, Ok, false, sym, subst, ◌∙◌}
 use Rattle.std.specs.List.{list_any}
 use Rattle.ets_term.specs.Depth.{is_too_deep}
 use Rattle.table_ops.specs.Content.{Content}
+use Rattle.table_ops.specs.Put.{Stores}
+use Rattle.table_ops.specs.inside.Store.{content_of}
+use Rattle.table_ops.proofs.KeepsLaws.{of-slots, holds-kept}
 use Rattle.table_ops.proofs.KeptLaws.{slots-puts-all}
 use Rattle.table_ops.proofs.StoreLaws.{stores-done}
 use Rattle.table_ops.proofs.table.Table.store.Goals as goal
@@ -11,16 +14,18 @@ invariant_of-self-2 g c =
     let i = c.self.invariant in
     let p = c.in_ok-count.ensures.slots in
     let shallow : list_any is_too_deep c.args.objects.now ≡ false = sym c.any_too_deep.ensures ∙ c.if-any_too_deep.false in
-    record {
+    holds-kept g.R.Rows.content c.self.inside.store c.put_list.new.self c.in_ok-count.ensures.keeps.rest c.in_ok-count.count (record {
       counted = p.1;
       within = p.2;
       few = i.few;
-      slots_are = slots-puts-all c.self.inside.kind c.self.inside.keypos (g.R.Rows.content c.self.inside.rows) c.args.objects.now (g.R.Rows.content c.put_list.new.rows) i.slots_are shallow p.0;
-    }
+      slots_are = slots-puts-all c.self.inside.store.kind c.self.inside.store.keypos (g.R.Rows.content c.self.inside.store.rows) c.args.objects.now (g.R.Rows.content c.put_list.new.self.rows) i.slots_are shallow p.0;
+    })
 
 pub returns-clause-content : goal.returns-clause-content
 returns-clause-content g c =
-    let old : Content = record { kind = c.self.inside.kind; keypos = c.self.inside.keypos; limit = c.self.inside.limit; slots = g.R.Rows.content c.self.inside.rows } in
+    let old : Content = content_of g.R.Rows.content c.self.inside.store in
     let p = c.in_ok-count.ensures.slots in
     let shallow : list_any is_too_deep c.args.objects.now ≡ false = sym c.any_too_deep.ensures ∙ c.if-any_too_deep.false in
-    rw (← c.self.view_is) (stores-done c.args.done c.args.objects.now old shallow (g.R.Rows.content c.put_list.new.rows) p.0 (subst (λ n. n ≤ c.self.inside.limit) p.1 p.2))
+    rw (← c.self.view_is)
+    (of-slots g.R.Rows.content c.self.inside.store c.put_list.new.self c.in_ok-count.ensures.keeps.rest (λ (n : Content). Stores c.args.done c.args.objects.now old (Ok c.args.done) n)
+    (stores-done c.args.done c.args.objects.now old shallow (g.R.Rows.content c.put_list.new.self.rows) p.0 (subst (λ n. n ≤ c.self.inside.store.limit) p.1 p.2)))

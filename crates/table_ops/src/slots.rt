@@ -1,0 +1,61 @@
+// The slots of rows, one behind the other.
+ghost use Rattle.std.specs.Prelude.{◌≡◌};
+ghost use Rattle.std.specs.Iterator.{YieldsFirstBy, item_count};
+
+use bucket_table::{Place, Rows};
+use ets_term::Term;
+use std::marker::Model;
+
+/// The slots that are left, in their order.
+#[derive(Drop)]
+pub struct Slots<'a, R: Rows> {
+    rows: &'a R,
+    at: Option<Place>,
+    passed: usize,
+}
+
+impl<'a, R: Rows> Model for Slots<'a, R> {
+    ghost use Rattle.std.specs.Prelude.{List, drop};
+    ghost use Rattle.bucket_table.specs.Slots.{Slot};
+    ghost use Rattle.table_ops.specs.inside.Codes.{slots_code};
+    ghost use Rattle.table_ops.specs.inside.Passed.{IsAt};
+
+    ghost Value = { List Slot };
+
+    ghost coded = { slots_code };
+
+    ghost view = { λ it. drop it.passed (R.content it.rows.now) };
+
+    ghost invariant = { λ it. IsAt (R.key_at it.rows.now) (R.content it.rows.now) it.passed it.at };
+}
+
+impl<'a, R: Rows> Iterator for Slots<'a, R> {
+    type Item = (&'a Term, &'a [Term]);
+
+    ghost next_gives = { YieldsFirstBy (λ item. (item.0.now, item.1.now)) (λ rest. rest) };
+
+    ghost remaining = { item_count (λ rest. rest) };
+
+    fn next(&mut self) -> Option<(&'a Term, &'a [Term])> {
+        let Some(place) = self.at else {
+            return None;
+        };
+        let slot = self.rows.slot_at(place);
+        self.at = self.rows.place_behind(place);
+        self.passed += 1;
+        Some(slot)
+    }
+}
+
+/// All slots of rows, in their order.
+pub fn all_of<R: Rows>(rows: &R) -> Slots<'_, R>
+    ensures { result ≡ R.content rows.now }
+{
+    rows.known();
+    let _len = rows.len();
+    Slots {
+        rows,
+        at: rows.first_place(),
+        passed: 0,
+    }
+}
