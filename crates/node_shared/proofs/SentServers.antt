@@ -1,10 +1,12 @@
--- A caller may go to another thread, and what lies under a server's lock where its hash may.
+-- A caller may go to another thread, and threads may share a server where its hash may go from one to another.
 use denote.RattleType.{RattleType}
-use denote.Param.Send.{IsSend, sendable, view_send, recorded_send, struct_send}
+use denote.Param.Send.{IsSend, IsSync, sendable, view_send, recorded_send, recorded_sync, struct_send, struct_sync}
 use denote.Struct.Declared.{shape}
 use Rattle.std.specs.declared.clone.Clone as Clone
+use Rattle.std.proofs.Crossing.{crosses}
 use Rattle.atomic_table.specs.contracts.shared.Seat as Seat
 use Rattle.atomic_table.proofs.shared.Seat.TheSendSync as seat
+use Rattle.atomic_table.proofs.owned.Table.TheSendSync as table
 use Rattle.ets_term.specs.declared.key_hash.KeyHash as KeyHash
 use Rattle.node_core.proofs.Sent.{node_send}
 use Rattle.node_shared.specs.declared.history.Room as Room
@@ -16,6 +18,7 @@ use Rattle.node_shared.specs.contracts.history.Author as Author
 use Rattle.node_shared.specs.contracts.history.Author.TheInside as author
 use Rattle.node_shared.specs.contracts.served.Served as Served
 use Rattle.node_shared.specs.contracts.served.Served.TheInside as served
+use Rattle.node_shared.specs.contracts.server.Server as Server
 use Rattle.node_shared.specs.contracts.caller.Caller as Caller
 use Rattle.node_shared.specs.contracts.caller.Caller.TheInside as caller
 use Rattle.node_shared.proofs.Sent.{entry_send}
@@ -43,3 +46,10 @@ module _ (B : RattleType) (b : Room.Ghosts B.Denot) (r : IsSend B) where
           node_send H k c s,
           (keeper_send, tt),
         )))
+
+    pub server_sync : IsSync (Server.the_row B H b k c)
+    server_sync =
+        recorded_sync (Server.the_field B H b k c).row _ _ (Server.the_type B H b k c).to_one (struct_sync (shape (Server.the_type B H b k c)) (
+          search (entry_send, table.the_field_sync, crosses, sendable) depth 60 fits 20000,
+          (search (served_send, crosses, sendable) depth 60 fits 20000, tt),
+        ))

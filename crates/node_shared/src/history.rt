@@ -93,8 +93,10 @@ impl<B: Room> Model for Author<B> {
 }
 
 impl Opening {
-    /// A new history.
-    pub fn new(alloc: Global) -> Result<Opening, AllocError> {
+    /// A new history: nothing stands in it, and its one seat is the keeper's.
+    pub fn new(alloc: Global) -> Result<Opening, AllocError>
+        ensures { IfOk result (λ o. o.seat.me ≡ (opening, [])) }
+    {
         let (word, seat) = Table::of_words(alloc, &[0], &())?;
         Ok(Opening { word, seat })
     }
@@ -102,6 +104,7 @@ impl Opening {
     /// The history under its name: its word, and its keeper.
     pub(crate) fn named<B: Room>(self) -> (Word, Keeper<B>)
         requires { self.word.shared.table_id ≡ B.table }
+        ensures same { result.0 ≡ self.word }
         ensures table { result.0.shared.table_id ≡ B.table }
         ensures word { result.0.shared.table_id.words ≡ 1 }
         ensures none { result.1 ≡ [] }

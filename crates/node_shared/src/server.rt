@@ -27,10 +27,13 @@ pub struct Server<B: Room, H: KeyHash + Copy + Drop> {
 }
 
 impl<B: Room, H: KeyHash + Copy + Drop> Server<B, H> {
-    /// A node without processes and tables, behind the lock. Its history is the one that was opened.
+    /// A node without processes and tables, as `Served::new` makes it, behind the lock. Its history is the one that was opened. A lock's
+    /// value is known by its type alone, so of the node itself no clause here says more: the type says of it that the history is a
+    /// run of a node with these limits.
     pub fn new(alloc: Global, opening: Opening, limits: Limits, hash: H) -> Self
         requires table { opening.word.shared.table_id ≡ B.table }
         requires limits { limits ≡ B.limits }
+        ensures { result.word ≡ opening.word }
     {
         let (word, keeper) = opening.named::<B>();
         Server {
