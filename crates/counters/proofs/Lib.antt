@@ -1,3 +1,4 @@
+pub mod DepthLaws
 pub mod Examples
 pub mod RefusalLaws
 pub mod RestoreLaws

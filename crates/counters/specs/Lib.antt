@@ -5,3 +5,4 @@ pub mod Ops
 pub mod Positions
 pub mod Sums
 pub mod inside
+pub mod laws

@@ -18,6 +18,7 @@ mod counter;
 mod defaults;
 mod elements;
 mod fault;
+pub mod laws;
 mod list;
 mod ops;
 mod position;
