@@ -5,6 +5,7 @@ use Rattle.std.specs.Option.{option_map, option_or}
 use Rattle.std.specs.Str.{bytes_eq}
 use Rattle.ets_term.specs.Data.{Data, int, atom, pid, tid, tuple, list, binary, Row, no_terms, term}
 use Rattle.match_spec.specs.Patterns.{Bindings, binding, Match, matches, row_matches, name_matches, is_just, candidates, bindings_of, values, IsBindings}
+use Rattle.match_spec.specs.laws.Bindings.{AreTheBindings}
 use Rattle.match_spec.specs.Places.{Place, at, parts, element_or, place_of, place_from, is_number, value_at}
 use Rattle.match_spec.specs.Variables.{numbers_in, numbers, row_numbers, variable, variables}
 use Rattle.match_spec.proofs.BoolLaws.{both-true, or-left, or-right, or-cases, clash, same_Some, None-Some}
@@ -199,9 +200,16 @@ bindings_of-only pattern t b m =
     stands n None e h = cc
     stands n (Some place) e h = ap (λ (w : Option Place). Some (at (unwrap_or w []) t)) e ∙ sym (follow (binding b) n pattern t place e m.fits)
 
+pub are_the_bindings : (pattern t : Data) → AreTheBindings pattern t (bindings_of pattern t)
+are_the_bindings pattern t = by (bindings_of pattern t) refl
+  where
+    by : (o : Option Bindings) → bindings_of pattern t ≡ o → AreTheBindings pattern t o
+    by None q = λ b m. None-Some (sym q ∙ bindings_of-complete pattern t b m)
+    by (Some b) q = (bindings_of-sound pattern t b q, λ c m. bindings_of-only pattern t c m ∙ same_Some (sym (bindings_of-complete pattern t c m) ∙ q))
+
 pub is_bindings : (pattern t : Data) (vs : Option (List Data)) → vs ≡ option_map values (bindings_of pattern t) → IsBindings pattern t vs
 is_bindings pattern t vs e = subst (IsBindings pattern t) (sym e) (by (bindings_of pattern t) refl)
   where
     by : (o : Option Bindings) → bindings_of pattern t ≡ o → IsBindings pattern t (option_map values o)
-    by None q = λ b m. None-Some (sym q ∙ bindings_of-complete pattern t b m)
-    by (Some b) q = (b, bindings_of-sound pattern t b q, refl, λ c m. bindings_of-only pattern t c m ∙ same_Some (sym (bindings_of-complete pattern t c m) ∙ q))
+    by None q = subst (AreTheBindings pattern t) q (are_the_bindings pattern t)
+    by (Some b) q = let those = subst (AreTheBindings pattern t) q (are_the_bindings pattern t) in (b, those.0, refl, those.1)

@@ -7,3 +7,4 @@ pub mod Places
 pub mod Specifications
 pub mod Variables
 pub mod inside
+pub mod laws

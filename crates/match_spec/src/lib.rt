@@ -18,6 +18,7 @@
 mod bound_key;
 mod expression;
 mod fault;
+pub mod laws;
 mod pattern;
 mod spec;
 mod variable;

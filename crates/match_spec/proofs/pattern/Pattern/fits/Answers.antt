@@ -1,5 +1,4 @@
 use Rattle.std.proofs.Common.{◌∙◌}
-use Rattle.ets_term.specs.Data.{data_of}
 use Rattle.match_spec.proofs.FitLaws.{fits-bindings}
 use Rattle.match_spec.proofs.pattern.Pattern.fits.Goals as goal
 

@@ -1,4 +1,4 @@
-use Rattle.std.proofs.Common.{◌≡◌, List, true, is_some, sym, ap, ◌∙◌}
+use Rattle.std.proofs.Common.{◌≡◌, List, true, is_some, ap, ◌∙◌}
 use Rattle.ets_term.specs.Data.{data_of}
 use Rattle.ets_term.specs.declared.term.Term.{Term}
 use Rattle.match_spec.specs.Patterns.{bindings_of}
