@@ -5,6 +5,7 @@
 //! How deep a term may be is for the callers to say.
 #![tactic(auto)]
 
+mod alike;
 mod atom;
 mod compare;
 mod fits;
