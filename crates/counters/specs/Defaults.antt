@@ -23,7 +23,7 @@ keyed_form keypos key _ = None
 abbrev pub keyed : ℕ → Term → Term → Option Term
 keyed keypos key default = keyed_form keypos key (out-Term default)
 
--- what is stored is at most MAX_DEPTH deep
+-- what is stored is at most max_depth deep
 abbrev pub shallow_counted : Result (Term × Term) CounterFault → Result (Term × Term) CounterFault
 shallow_counted (Ok r) = if is_too_deep r.0 then Err SystemLimit else Ok r
 shallow_counted (Err fault) = Err fault

@@ -4,10 +4,9 @@ use Rattle.std.specs.List.{list_all, list_any}
 use Rattle.std.specs.Option.{option_and_then}
 use Rattle.std.specs.Result.{result_map_both}
 use Rattle.ets_term.specs.declared.term.Term.{Term, out-Term}
-use Rattle.ets_term.specs.declared.term.TheConstants.{MAX_DEPTH}
 use Rattle.ets_term.specs.declared.term.Term.TheOpen.{Term-F}
 use Rattle.ets_term.specs.declared.term.Term.TheVariants as term
-use Rattle.ets_term.specs.Depth.{depth, elements}
+use Rattle.ets_term.specs.Depth.{depth, elements, max_depth}
 use Rattle.counters.specs.Positions.{position_of}
 use Rattle.counters.specs.declared.fault.CounterFault.{CounterFault}
 use Rattle.counters.specs.declared.fault.CounterFault.TheVariants.{Badarg, SystemLimit}
@@ -43,7 +42,7 @@ has_all count specs = list_all (λ spec. nat_lt 0 spec.position && nat_le spec.p
 -- whether one of the values that stay, the last at its position, is as deep as a whole object may be
 abbrev pub is_over_deep : List ElementSpec → Bool
 is_over_deep [] = false
-is_over_deep (spec ∷ specs) = (nat_le MAX_DEPTH (depth spec.value) && not (list_any (λ later. later.position == spec.position) specs)) || is_over_deep specs
+is_over_deep (spec ∷ specs) = (nat_le max_depth (depth spec.value) && not (list_any (λ later. later.position == spec.position) specs)) || is_over_deep specs
 
 -- the values are written from the left, so of several at a position the last stays
 abbrev pub written : List ElementSpec → List Term → List Term

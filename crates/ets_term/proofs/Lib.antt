@@ -1,3 +1,4 @@
 pub mod Joined
+pub mod RowLaws
 pub mod Rows
 pub mod Texts

@@ -1,13 +1,16 @@
 -- The characters of atoms.
 use Rattle.std.specs.Prelude.{ℕ, ◌≤◌, List, length, Bool, ◌&&◌, nat_le, IsTrue}
 use Rattle.std.specs.List.{list_all}
-use Rattle.ets_term.specs.declared.atom.TheConstants.{MAX_CHARACTERS}
 
 -- printable ASCII, from the space to the tilde
 abbrev pub is_character : ℕ → Bool
 is_character b = nat_le 32 b && nat_le b 126
 
--- at most MAX_CHARACTERS characters, each printable ASCII
+-- the most characters of an atom
+abbrev pub max_characters : ℕ
+max_characters = 255
+
+-- at most that many characters, each printable ASCII
 pub record IsAtomText (text : List ℕ) : Type 0 where
-  pub short : length text ≤ MAX_CHARACTERS
+  pub short : length text ≤ max_characters
   pub each : IsTrue (list_all is_character text)

@@ -2,7 +2,6 @@
 use Rattle.std.specs.Prelude.{ℕ, Bool, nat_lt, ◌+◌, ◌-◌, ◌==◌, if◌then◌else◌, max, List, [], ◌∷◌, Option, None, slice_get}
 use Rattle.ets_term.specs.declared.term.Term.{Term, fold-Term, out-Term}
 use Rattle.ets_term.specs.declared.term.Term.TheOpen.{Term-F}
-use Rattle.ets_term.specs.declared.term.TheConstants.{MAX_DEPTH}
 
 -- the largest of some numbers, 0 of none
 abbrev pub largest : List ℕ → ℕ
@@ -18,9 +17,13 @@ depth_form _ = 1
 abbrev pub depth : Term → ℕ
 depth = fold-Term ℕ depth_form
 
--- whether a term is deeper than an argument or a stored object may be
+-- the greatest depth of an argument and of a stored object
+abbrev pub max_depth : ℕ
+max_depth = 128
+
+-- whether a term is deeper than that
 abbrev pub is_too_deep : Term → Bool
-is_too_deep term = nat_lt MAX_DEPTH (depth term)
+is_too_deep term = nat_lt max_depth (depth term)
 
 -- the elements of a tuple; any other term has none
 abbrev pub elements_form : Term-F Term → List Term

@@ -5,6 +5,7 @@ pub mod Depth
 pub mod Encoding
 pub mod Fits
 pub mod Integers
+pub mod Keyed
 pub mod Order
 pub mod Writes
 pub mod formers

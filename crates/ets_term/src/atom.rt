@@ -1,6 +1,6 @@
 ghost use Rattle.std.specs.Prelude.{◌≡◌, ◌<◌, ◌≤◌, ◌↔◌, length, IfOk, IsOk, IsErrOf};
 ghost use Rattle.std.specs.List.{list_all};
-ghost use Rattle.ets_term.specs.Character.{is_character, IsAtomText};
+ghost use Rattle.ets_term.specs.Character.{is_character, max_characters, IsAtomText};
 
 use crate::stored::{MAX_IN_PLACE, Stored};
 use std::alloc::{AllocError, Global};
@@ -55,8 +55,8 @@ impl Atom {
     pub fn new(alloc: Global, text: &str) -> Result<Atom, AtomFault>
         ensures made { IfOk result (λ a. a ≡ text.now) }
         ensures fits { IfOk result (λ _. IsAtomText text.now) }
-        ensures long { IsErrOf result AtomFault.TooLong ↔ MAX_CHARACTERS < length text.now }
-        ensures bad { IsErrOf result AtomFault.BadCharacter ↔ (length text.now ≤ MAX_CHARACTERS) × ¬ IsAtomText text.now }
+        ensures long { IsErrOf result AtomFault.TooLong ↔ max_characters < length text.now }
+        ensures bad { IsErrOf result AtomFault.BadCharacter ↔ (length text.now ≤ max_characters) × ¬ IsAtomText text.now }
         ensures short { length text.now ≤ MAX_IN_PLACE → ¬ IsErrOf result AtomFault.Memory }
     {
         if text.len() > MAX_CHARACTERS {

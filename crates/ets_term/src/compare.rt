@@ -7,6 +7,7 @@ ghost use Rattle.ets_term.specs.Data.{row_of, data_of};
 ghost use Rattle.ets_term.specs.Order.{order, same, row_order, rank};
 ghost use Rattle.ets_term.specs.laws.Ordered.{order_total};
 
+use crate::alike::alike;
 use crate::term::Term;
 use std::cmp::Ordering;
 
@@ -28,7 +29,7 @@ impl PartialEq for Term {
     ghost laws = { Prim.search (comparing, order_total, rules) };
 
     fn eq(&self, other: &Term) -> bool {
-        compare(self, other) == Ordering::Equal
+        alike(self, other)
     }
 }
 

@@ -5,6 +5,7 @@
 //! How deep a term may be is for the callers to say.
 #![tactic(auto)]
 
+mod alike;
 mod atom;
 mod compare;
 mod fits;
@@ -12,6 +13,7 @@ mod fnv;
 mod hash;
 mod items;
 mod key_hash;
+mod keyed;
 mod stored;
 mod term;
 
@@ -19,4 +21,5 @@ pub use atom::{Atom, AtomFault, MAX_CHARACTERS};
 pub use fnv::Fnv;
 pub use items::Items;
 pub use key_hash::{AllSame, KeyHash};
+pub use keyed::Keyed;
 pub use term::{Integer, MAX_DEPTH, Term};

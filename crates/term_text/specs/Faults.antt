@@ -1,10 +1,9 @@
 -- Which fault a text has, by the grammar: one row a fault. `pre` is the text before the byte b at which it is noticed.
 use Rattle.std.specs.Prelude.{◌≡◌, ℕ, suc, ◌+◌, ◌-◌, ◌*◌, ◌<◌, List, [], ◌∷◌, ◌++◌, length, true, false, ◌==◌, IsTrue, codes}
 use Rattle.std.specs.List.{list_all}
-use Rattle.ets_term.specs.Character.{is_character}
+use Rattle.ets_term.specs.Character.{is_character, max_characters}
 use Rattle.ets_term.specs.declared.term.Term.{Term}
-use Rattle.ets_term.specs.declared.term.TheConstants.{MAX_DEPTH}
-use Rattle.ets_term.specs.declared.atom.TheConstants.{MAX_CHARACTERS}
+use Rattle.ets_term.specs.Depth.{max_depth}
 use Rattle.term_text.specs.declared.fault.TextFault.{TextFault}
 use Rattle.term_text.specs.declared.fault.TextFault.TheVariants.{Unexpected, Unclosed, OutOfRange, TooDeep, AtomTooLong, Memory}
 use Rattle.term_text.specs.Forms.{Open, Number, integer, pid, identifier, byte, top}
@@ -18,7 +17,7 @@ pub data Inside (k : ℕ) : List Term → List ℕ → Type 0 where
 
 -- the text up to where a term of at most k levels is wanted, in these open brackets
 abbrev pub Here : ℕ → List Open → List ℕ → Type 0
-Here k [] pre = AreBlanks pre × (k ≡ MAX_DEPTH)
+Here k [] pre = AreBlanks pre × (k ≡ max_depth)
 Here k (o ∷ os) pre = (outer inner : List ℕ) × (pre ≡ outer ++ (opening_sign o.square ∷ inner)) × Here (suc k) os outer × Inside k o.terms inner
 
 -- the bytes of a binary up to where a further one is wanted
@@ -59,9 +58,9 @@ pub record PastRange (pre : List ℕ) (b start : ℕ) : Type 0 where
 -- an atom too long: b begins one character more than an atom has, of one that begins at `start`
 pub data PastAtom (pre : List ℕ) (b start : ℕ) : Type 0 where
   plain_form : (os : List Open) (k : ℕ) (lead s : List ℕ) → pre ≡ lead ++ s → Here (suc k) os lead → start ≡ length lead
-      → IsTrue (begins is_small s) → IsTrue (list_all is_name s) → length s ≡ MAX_CHARACTERS → is_name b ≡ true → PastAtom pre b start
+      → IsTrue (begins is_small s) → IsTrue (list_all is_name s) → length s ≡ max_characters → is_name b ≡ true → PastAtom pre b start
   quoted_form : (os : List Open) (k : ℕ) (lead s cs : List ℕ) → pre ≡ lead ++ (codes "'" ++ s) → Here (suc k) os lead → start ≡ length lead
-      → SpellsQuoted apostrophe s cs → length cs ≡ MAX_CHARACTERS → is_character b ≡ true → (b == apostrophe) ≡ false → PastAtom pre b start
+      → SpellsQuoted apostrophe s cs → length cs ≡ max_characters → is_character b ≡ true → (b == apostrophe) ≡ false → PastAtom pre b start
 
 -- too deep: b can begin a term one level past the last, or a character of a string that stands at the last
 pub data PastDepth (pre : List ℕ) (b : ℕ) : Type 0 where

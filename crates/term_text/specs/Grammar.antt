@@ -1,11 +1,10 @@
 -- The text of terms: what spells a term, by cases on the term.
 use Rattle.std.specs.Prelude.{◌≡◌, ℕ, suc, ◌<◌, ◌≤◌, List, [], ◌∷◌, ◌++◌, length, map, Bool, true, false, ◌||◌, ◌==◌, if◌then◌else◌, IsTrue, codes}
 use Rattle.std.specs.List.{list_all}
-use Rattle.ets_term.specs.Character.{is_character}
+use Rattle.ets_term.specs.Character.{is_character, max_characters}
 use Rattle.ets_term.specs.declared.term.Term.{Term}
 use Rattle.ets_term.specs.declared.term.Term.TheVariants.{Int, Atom, Pid, Tid, Binary, List as ListOf}
-use Rattle.ets_term.specs.declared.term.TheConstants.{MAX_DEPTH}
-use Rattle.ets_term.specs.declared.atom.TheConstants.{MAX_CHARACTERS}
+use Rattle.ets_term.specs.Depth.{max_depth}
 use Rattle.term_text.specs.Forms.{Number, integer, pid, identifier, byte, signed, top, code, bracket}
 use Rattle.term_text.specs.Text.{apostrophe, quotation_mark, is_blank, is_digit, is_small, is_name, begins, spelled}
 
@@ -43,8 +42,8 @@ mutual
   pub data Spells : ℕ → List ℕ → Term → Type 0 where
     positive : (k : ℕ) (s : List ℕ) (n : ℕ) → SpellsNumber (integer false) s n → Spells (suc k) s (Int (signed false n))
     negative : (k : ℕ) (s : List ℕ) (n : ℕ) → SpellsNumber (integer true) s n → Spells (suc k) (codes "-" ++ s) (Int (signed true n))
-    plain_atom : (k : ℕ) (s : List ℕ) → IsTrue (begins is_small s) → IsTrue (list_all is_name s) → length s ≤ MAX_CHARACTERS → Spells (suc k) s (Atom s)
-    quoted_atom : (k : ℕ) (s cs : List ℕ) → SpellsQuoted apostrophe s cs → length cs ≤ MAX_CHARACTERS → Spells (suc k) (codes "'" ++ (s ++ codes "'")) (Atom cs)
+    plain_atom : (k : ℕ) (s : List ℕ) → IsTrue (begins is_small s) → IsTrue (list_all is_name s) → length s ≤ max_characters → Spells (suc k) s (Atom s)
+    quoted_atom : (k : ℕ) (s cs : List ℕ) → SpellsQuoted apostrophe s cs → length cs ≤ max_characters → Spells (suc k) (codes "'" ++ (s ++ codes "'")) (Atom cs)
     pid_form : (k : ℕ) (s : List ℕ) (n : ℕ) → SpellsNumber pid s n → Spells (suc k) (codes "<0." ++ (s ++ codes ".0>")) (Pid n)
     identifier_form : (k : ℕ) (s : List ℕ) (n : ℕ) → SpellsNumber identifier s n → Spells (suc k) (codes "#Tid<" ++ (s ++ codes ">")) (Tid n)
     no_bytes : (k : ℕ) (blanks : List ℕ) → AreBlanks blanks → Spells (suc k) (codes "<<" ++ (blanks ++ codes ">>")) (Binary [])
@@ -68,7 +67,7 @@ mutual
 abbrev pub Ends : List ℕ → List ℕ → Type 0
 Ends s rest = (begins (λ b. is_digit b || (b == 45)) s ≡ true → begins is_digit rest ≡ false) × (begins is_small s ≡ true → begins is_name rest ≡ false)
 
--- the first n bytes of the text are blanks and a spelling of the term, of at most MAX_DEPTH levels, that ends there
+-- the first n bytes of the text are blanks and a spelling of the term, of at most max_depth levels, that ends there
 pub record Front (text : List ℕ) (t : Term) (n : ℕ) : Type 0 where
   pub blanks : List ℕ
   pub spelling : List ℕ
@@ -76,5 +75,5 @@ pub record Front (text : List ℕ) (t : Term) (n : ℕ) : Type 0 where
   pub whole : text ≡ blanks ++ (spelling ++ rest)
   pub taken : n ≡ length (blanks ++ spelling)
   pub are_blanks : AreBlanks blanks
-  pub spells : Spells MAX_DEPTH spelling t
+  pub spells : Spells max_depth spelling t
   pub ends : Ends spelling rest

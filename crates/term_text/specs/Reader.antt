@@ -1,11 +1,10 @@
 -- The reader of a term's text, which takes one byte after the other. A fault is noticed at the byte where it has no
 -- next state.
 use Rattle.std.specs.Prelude.{ℕ, ◌+◌, ◌-◌, ◌*◌, List, [], ◌∷◌, ◌++◌, length, map, Bool, true, false, ◌||◌, ◌==◌, nat_le, if◌then◌else◌, codes}
-use Rattle.ets_term.specs.Character.{is_character}
+use Rattle.ets_term.specs.Character.{is_character, max_characters}
 use Rattle.ets_term.specs.declared.term.Term.{Term}
 use Rattle.ets_term.specs.declared.term.Term.TheVariants.{Int, Atom, Pid, Tid, List as ListOf, Binary}
-use Rattle.ets_term.specs.declared.term.TheConstants.{MAX_DEPTH}
-use Rattle.ets_term.specs.declared.atom.TheConstants.{MAX_CHARACTERS}
+use Rattle.ets_term.specs.Depth.{max_depth}
 use Rattle.term_text.specs.declared.fault.TextFault.{TextFault}
 use Rattle.term_text.specs.declared.fault.TextFault.TheVariants.{Unexpected, Unclosed, OutOfRange, TooDeep, AtomTooLong}
 use Rattle.term_text.specs.declared.quote_form.QuoteForm.{QuoteForm}
@@ -61,10 +60,10 @@ abbrev pub next_sign : ℕ → List ℕ → Goal → List Open → ℕ → Readi
 next_sign at [] goal os b = fails (Unexpected at)
 next_sign at (c ∷ cs) goal os b = if b == c then arrive (at + 1) cs goal os else fails (Unexpected at)
 
--- the first byte of a term; there are MAX_DEPTH levels
+-- the first byte of a term; there are max_depth levels
 unfoldable pub begin : ℕ → List Open → ℕ → Reading
 begin at os b = if begins_term b
-    then (if nat_le MAX_DEPTH (length os) then fails (TooDeep at)
+    then (if nat_le max_depth (length os) then fails (TooDeep at)
     else if b == 123 then goes (wants true) (opening false ∷ os)
     else if b == 91 then goes (wants true) (opening true ∷ os)
     else if b == 45 then goes (digit (integer true) at) os
@@ -131,10 +130,10 @@ unquoted n (form.Atom start) cs os = put os (Atom cs) n
 unquoted n form.String cs os = put os (ListOf (map code cs)) n
 unquoted n form.Binary cs os = goes (behind_string cs) os
 
--- the first byte of a further character, behind n others: an atom has MAX_CHARACTERS at most, and those of a string stand one level further in
+-- the first byte of a further character, behind n others: an atom has max_characters at most, and those of a string stand one level further in
 abbrev pub admits : ℕ → QuoteForm → ℕ → List Open → Reading → Reading
-admits at (form.Atom start) n os s = if n == MAX_CHARACTERS then fails (AtomTooLong start) else s
-admits at form.String n os s = if nat_le (MAX_DEPTH - 1) (length os) then fails (TooDeep at) else s
+admits at (form.Atom start) n os s = if n == max_characters then fails (AtomTooLong start) else s
+admits at form.String n os s = if nat_le (max_depth - 1) (length os) then fails (TooDeep at) else s
 admits at form.Binary n os s = s
 
 abbrev pub next_quoted : ℕ → QuoteForm → List ℕ → List Open → ℕ → Reading
@@ -150,7 +149,7 @@ next at (wants opened) os b = if is_blank b then goes (wants opened) os
 next at (digit kind start) os b = next_digit at kind start os b
 next at (number kind start n) os b = next_number at kind start n os b
 next at (name start cs) os b = if is_name b
-    then (if length cs == MAX_CHARACTERS then fails (AtomTooLong start) else goes (name start (cs ++ b ∷ [])) os)
+    then (if length cs == max_characters then fails (AtomTooLong start) else goes (name start (cs ++ b ∷ [])) os)
     else next_behind at (put os (Atom cs) at) b
 next at (quoted q cs) os b = next_quoted at q cs os b
 next at (escaped q cs) os b = if (b == quote q) || (b == 92) then goes (quoted q (cs ++ b ∷ [])) os else fails (Unexpected at)

@@ -1,8 +1,9 @@
--- Equal terms write the same, and the hash stays below 2^32.
+-- Equal terms write the same, and the hashes stay below 2^32.
 use Rattle.std.specs.Prelude.{◌≡◌, ℕ, ◌<◌, ◌^◌, List, [], ◌∷◌, fold, true}
 use Rattle.std.proofs.Common.{ap, arith}
 use Rattle.ets_term.specs.declared.term.Term.{Term}
 use Rattle.ets_term.specs.Encoding.{fnv_step, fnv}
+use Rattle.ets_term.specs.Keyed.{keyed}
 use Rattle.ets_term.specs.Order.{same}
 use Rattle.ets_term.specs.Writes.{writes}
 use Rattle.ets_term.specs.laws.Same.{same-exact}
@@ -16,3 +17,6 @@ stays_below (x ∷ xs) h b = stays_below xs (fnv_step h x) (omega arith)
 
 pub fnv-below : (bytes : List ℕ) → fnv bytes < 2 ^ 32
 fnv-below bytes = stays_below bytes 2166136261 (omega arith)
+
+pub keyed-below : (seed : ℕ) (ws : List ℕ) → keyed seed ws < 2 ^ 32
+keyed-below seed ws = omega arith

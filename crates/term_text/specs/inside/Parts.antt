@@ -2,8 +2,8 @@
 use Rattle.std.specs.Prelude.{◌≡◌, ℕ, List, [], ◌∷◌, ◌++◌, ◌-◌, length, drop, ◌≤◌, Bool, true, nat_le, Option, None, Some, Result, Ok, Err, codes}
 use Rattle.ets_term.specs.declared.term.Term.{Term}
 use Rattle.ets_term.specs.declared.term.Term.TheVariants.{Int, Pid, Tid, Binary}
-use Rattle.ets_term.specs.declared.term.TheConstants.{MAX_DEPTH}
-use Rattle.ets_term.specs.declared.atom.TheConstants.{MAX_CHARACTERS}
+use Rattle.ets_term.specs.Depth.{max_depth}
+use Rattle.ets_term.specs.Character.{max_characters}
 use Rattle.term_text.specs.declared.fault.TextFault.{TextFault}
 use Rattle.term_text.specs.Reader.{Open, Number, integer, pid, identifier, byte, Goal, whole, digit, behind_byte, quoted, escaped, unquoted, admits, Reading, goes, fails, signed, top, put, arrive, take_byte, read_from}
 use Rattle.term_text.specs.declared.quote_form.QuoteForm.{QuoteForm}
@@ -43,12 +43,12 @@ IgnoresBlanks s = (at b : ℕ) → is_blank b ≡ true → take_byte at s b ≡ 
 
 -- no level is left for the characters of a string
 abbrev pub IsDeep : QuoteForm → Bool → List Open → Type 0
-IsDeep form.String deep os = deep ≡ nat_le (MAX_DEPTH - 1) (length os)
+IsDeep form.String deep os = deep ≡ nat_le (max_depth - 1) (length os)
 IsDeep q deep os = Unit {0}
 
 -- not too long for an atom
 abbrev pub IsShort : QuoteForm → ℕ → Type 0
-IsShort (form.Atom start) n = n ≤ MAX_CHARACTERS
+IsShort (form.Atom start) n = n ≤ max_characters
 IsShort q n = Unit {0}
 
 -- whether one more character, behind n, is refused

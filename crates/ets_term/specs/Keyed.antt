@@ -1,0 +1,35 @@
+-- The words of a term, and the hash of them by a seed.
+use Rattle.std.specs.Prelude.{ℕ, ◌*◌, ◌/◌, ◌%◌, ◌^◌, List, [], ◌∷◌, length, fold, bit_xor, bit_or}
+use Rattle.std.specs.Int.{cast_unsigned, w64}
+use Rattle.ets_term.specs.declared.term.Term.{Term, fold-Term}
+use Rattle.ets_term.specs.declared.term.Term.TheOpen.{Term-F}
+use Rattle.ets_term.specs.Encoding.{joined}
+
+-- a word for the kind; then a number in two's complement, or the count and then the parts
+abbrev pub words_form : Term-F (List ℕ) → List ℕ
+words_form (Term-F.Int n) = 1 ∷ cast_unsigned w64 n ∷ []
+words_form (Term-F.Atom s) = 2 ∷ length s ∷ s
+words_form (Term-F.Pid n) = 3 ∷ n ∷ []
+words_form (Term-F.Tid n) = 4 ∷ n ∷ []
+words_form (Term-F.Tuple es) = 5 ∷ length es ∷ joined es
+words_form (Term-F.List es) = 6 ∷ length es ∷ joined es
+words_form (Term-F.Binary s) = 7 ∷ length s ∷ s
+
+abbrev pub words : Term → List ℕ
+words = fold-Term (List ℕ) words_form
+
+-- a product of 128 bits, folded: its halves by exclusive or
+abbrev pub folded : ℕ → ℕ → ℕ
+folded a b = bit_xor ((a * b) % 2 ^ 64) ((a * b) / 2 ^ 64)
+
+-- what a seed multiplies by
+abbrev pub factor : ℕ → ℕ
+factor seed = bit_or (folded (bit_xor seed 11400714819323198485) 15111065706836454659) 1
+
+-- exclusive or with the word, then a product, folded
+abbrev pub keyed_step : ℕ → ℕ → ℕ → ℕ
+keyed_step by h word = folded (bit_xor h word) by
+
+-- all words from the factor on, and one product more, of which 32 bits stay
+abbrev pub keyed : ℕ → List ℕ → ℕ
+keyed seed ws = folded (fold (keyed_step (factor seed)) (factor seed) ws) (factor seed) % 2 ^ 32

@@ -1,0 +1,56 @@
+//! Whether two terms are alike, with no word on which is the greater.
+ghost use Rattle.std.specs.Prelude.{◌≡◌, true, false, map};
+ghost use Rattle.std.specs.Ordering.{is_eq};
+ghost use Rattle.ets_term.specs.Data.{row_of, data_of};
+ghost use Rattle.ets_term.specs.Order.{same, row_order};
+
+use crate::term::Term;
+
+/// Whether the terms are built alike.
+#[cycle(alike)]
+#[tactic(auto)]
+pub fn alike(a: &Term, b: &Term) -> bool
+    ensures { result ≡ same a.now b.now }
+{
+    match (a, b) {
+        (Term::Int(x), Term::Int(y)) => x == y,
+        (Term::Atom(x), Term::Atom(y)) => x.text() == y.text(),
+        (Term::Pid(x), Term::Pid(y)) => x == y,
+        (Term::Tid(x), Term::Tid(y)) => x == y,
+        (Term::Tuple(x), Term::Tuple(y)) => are_alike(x.as_slice(), y.as_slice()),
+        (Term::List(x), Term::List(y)) => are_alike(x.as_slice(), y.as_slice()),
+        (Term::Binary(x), Term::Binary(y)) => x.as_slice() == y.as_slice(),
+        _ => false,
+    }
+}
+
+/// Whether two rows are alike: from their ends on, since objects of one key differ behind it.
+#[cycle(alike)]
+#[tactic(auto, using(crate::proofs::RowLaws::last_differs))]
+fn are_alike(xs: &[Term], ys: &[Term]) -> bool
+    ensures { result ≡ is_eq (row_order (row_of (map data_of xs.now)) (row_of (map data_of ys.now))) }
+{
+    if xs.len() != ys.len() {
+        return false;
+    }
+    let len = xs.len();
+    if len > 0 && integers_differ(&xs[len - 1], &ys[len - 1]) {
+        return false;
+    }
+    for at in (0..len).rev() {
+        if !alike(&xs[at], &ys[at]) {
+            return false;
+        }
+    }
+    true
+}
+
+/// Whether the terms are integers that differ, which takes no call.
+fn integers_differ(a: &Term, b: &Term) -> bool
+    ensures { result ≡ true → same a.now b.now ≡ false }
+{
+    match (a, b) {
+        (Term::Int(x), Term::Int(y)) => x != y,
+        _ => false,
+    }
+}
