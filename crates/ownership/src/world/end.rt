@@ -10,7 +10,7 @@ use super::World;
 use crate::fault::WorldFault;
 use crate::head::{Head, Heir};
 use crate::messages::{post, take_back, transfer};
-use crate::process::Process;
+use crate::process::{Process, process_in};
 use crate::table::Table;
 use bucket_table::Rows;
 use ets_term::Items;
@@ -191,7 +191,7 @@ pub fn living_heir<'a>(processes: &IndexMap<u32, Process>, head: &'a Head) -> Op
     let Some(heir) = &head.heir else {
         return None;
     };
-    match processes.get(&heir.pid) {
+    match process_in(processes, heir.pid) {
         Some(process) if process.lives => Some(heir),
         _ => None,
     }
