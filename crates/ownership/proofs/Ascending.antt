@@ -1,5 +1,5 @@
 -- Identifiers in ascending order: where one stands, and where one is put in.
-use Rattle.std.proofs.Common.{◌≡◌, ℕ, ◌+◌, ◌<◌, ◌≤◌, ◌⊎◌, zero, suc, Bool, true, false, cond, List, [], ◌∷◌, Ok, Err, inl, inr, refl, sym, subst, length, get_or, add-one, drop-cons, arith}
+use Rattle.std.proofs.Common.{◌≡◌, ℕ, ◌+◌, ◌<◌, ◌≤◌, ◌⊎◌, zero, suc, Bool, true, false, cond, List, [], ◌∷◌, ◌++◌, Ok, Err, inl, inr, refl, sym, subst, length, get_or, add-one, drop-cons, arith}
 use Rattle.std.specs.Prelude.{filter, drop}
 use Rattle.std.specs.List.{insert}
 use Rattle.std.specs.List.Sorted.{IsBinarySearchResult, IsNonDecreasingBy}
@@ -120,3 +120,22 @@ cut-at ids i h = rw (add-one, drop-cons ids i 0)
 
 pub none-left : (ids : List ℕ) (i t : ℕ) → length ids ≤ i → Among t (drop i ids) → ⊥
 none-left ids i t h a = absurd (subst (Among t) (drop_all i ids h) a)
+
+-- one that stands among two lists
+pub among-either : (ids more : List ℕ) (t : ℕ) → Among t (ids ++ more) → Among t ids ⊎ Among t more
+among-either [] more t a = inr a
+among-either (id ∷ ids) more t (inl same) = inl (inl same)
+among-either (id ∷ ids) more t (inr rest) = by (among-either ids more t rest)
+  where
+    by : Among t ids ⊎ Among t more → Among t (id ∷ ids) ⊎ Among t more
+    by (inl first) = inl (inr first)
+    by (inr next) = inr next
+
+pub among-left : (ids more : List ℕ) (t : ℕ) → Among t ids → Among t (ids ++ more)
+among-left [] more t a = absurd a
+among-left (id ∷ ids) more t (inl same) = inl same
+among-left (id ∷ ids) more t (inr rest) = inr (among-left ids more t rest)
+
+pub among-right : (ids more : List ℕ) (t : ℕ) → Among t more → Among t (ids ++ more)
+among-right [] more t a = a
+among-right (id ∷ ids) more t a = inr (among-right ids more t a)

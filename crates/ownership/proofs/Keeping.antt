@@ -1,6 +1,7 @@
 -- What stands beside the tables stays right at each change of them.
 use Rattle.std.proofs.Common.{◌≡◌, ℕ, ◌+◌, ◌<◌, ◌≤◌, ◌⊎◌, zero, suc, true, false, List, [], ◌∷◌, ◌++◌, Option, None, Some, inl, inr, refl, sym, ap, subst, true≢false, ◌∙◌, length, set, map, arith, length-append}
 use Rattle.std.specs.Prelude.{vec_capacity, option_map}
+use Rattle.indexmap.specs.IndexMap.{get_by_text}
 use Rattle.std.specs.declared.alloc.Global.{Global}
 use Rattle.std.specs.declared.vec.Vec.{Vec}
 use Rattle.std.proofs.Math.ListN.{length-set, get_or-map}
@@ -8,20 +9,22 @@ use Rattle.std.proofs.Math.Seq.{get_or-append_seam}
 use Rattle.std.proofs.lemmas.Bool.{cases_eq, cases_lt}
 use Rattle.std.proofs.lemmas.List.{get_or_past, get_or_append_left, get_or-set_same, get_or-set_other}
 use Rattle.std.proofs.lemmas.Option.{same_Some}
-use Rattle.fixed_walk.specs.Fixed.{Fixed}
+use Rattle.fixed_walk.specs.Fixed.{Fixed, all_released}
 use Rattle.ownership.specs.declared.head.Head.{Head}
 use Rattle.ownership.specs.declared.head.Heir.{Heir}
+use Rattle.ownership.specs.declared.indices.Indices.{Indices}
 use Rattle.ownership.specs.World.{Table, Tables, Processes, lives, table_at, heads, head_of, is_named}
 use Rattle.ownership.specs.Tables.{passed_to, with_heir, changed}
 use Rattle.ownership.specs.Heads.{owned_by}
 use Rattle.ownership.specs.End.{living_heir, table_after}
 use Rattle.ownership.specs.inside.Names.{ByName}
-use Rattle.ownership.specs.inside.Indices.{Among, Between, ByOwner, AreOwned, AreInherited, AreNoted, IsIdle, IsKept, Notes, Forgets}
+use Rattle.ownership.specs.inside.Indices.{Among, Between, ByOwner, AreOwned, AreBequeathed, AreNoted, IsIdle, IsKept, Notes, Forgets, ids_under}
 use Rattle.ownership.proofs.Ascending.{between-higher}
 use Rattle.ownership.proofs.Heads.{head-there, heads-same}
 use Rattle.ownership.proofs.Kept.{names-stay, names-none}
+use Rattle.ownership.proofs.Noting.{noted-lent}
 use Rattle.ownership.proofs.Owning.{same-number, forgets-others}
-use Rattle.ownership.proofs.Settling.{Left, left-over, left-others}
+use Rattle.ownership.proofs.Settling.{Left, left-over, left-others, idle-stays}
 
 -- a place changes
 place-set : (tables : Tables) (t : ℕ) (o : Option Table) (u : ℕ) (table : Table) → table_at (set tables t o) u ≡ Some table → ((u ≡ t) × (o ≡ Some table)) ⊎ (table_at tables u ≡ Some table)
@@ -73,145 +76,167 @@ owner-at owned tables by_owner t table e = by_owner t table.head (head-there tab
 pub owned-all : (owned : ℕ → List ℕ) (tables : Tables) (p : ℕ) → ByOwner owned (heads tables) → AreOwned (owned p) p tables
 owned-all owned tables p by_owner t table e own = subst (λ q. Among t (owned q)) (same-number table.head.owner p own) (owner-at owned tables by_owner t table e)
 
-module _ (names : List ℕ → Option ℕ) (owned : ℕ → List ℕ) (fixed : Vec ℕ Global) (lent : Option ℕ) (tables : Tables) (kept : IsKept names owned fixed lent tables) where
+module _ (indices : Indices) (tables : Tables) (kept : IsKept indices tables) where
   -- more is noted under owners
-  pub kept-notes : (after : ℕ → List ℕ) → Notes owned after → IsKept names after fixed lent tables
-  kept-notes after notes = record {
+  pub kept-notes : (new : Indices) → Notes indices new → IsKept new tables
+  kept-notes new notes = subst (λ (i : Indices). IsKept i tables) (sym notes.rest) (record {
     few = kept.few;
     room = kept.room;
     by_name = kept.by_name;
     by_owner = λ t head at. notes.more head.owner t (kept.by_owner t head at);
     order = notes.order kept.order;
     noted = kept.noted;
-  }
+  })
 
-  -- another table is lent
-  pub kept-lent : (now : Vec ℕ Global) (next : Option ℕ) → AreNoted now.items next tables → length tables ≤ vec_capacity now → IsKept names owned now next tables
-  kept-lent now next noted room = record { few = kept.few; room = room; by_name = kept.by_name; by_owner = kept.by_owner; order = kept.order; noted = noted }
+  -- others are noted as fixed
+  pub kept-beside : (now : Vec ℕ Global) (next : Option ℕ) → AreNoted now.items next tables → length tables ≤ vec_capacity now → IsKept (record indices { fixed = now; lent = next }) tables
+  kept-beside now next noted room = record { few = kept.few; room = room; by_name = kept.by_name; by_owner = kept.by_owner; order = kept.order; noted = noted }
 
-  -- a refusal may leave names and room that are as good
-  pub kept-refused : (after : List ℕ → Option ℕ) (more : ℕ → List ℕ) (now : Vec ℕ Global) → ByName after (heads tables) → Notes owned more → now.items ≡ fixed.items → vec_capacity fixed ≤ vec_capacity now → IsKept after more now lent tables
-  kept-refused after more now by_name notes items room = record {
-    few = kept.few;
-    room = omega (arith, kept.room, room);
-    by_name = by_name;
-    by_owner = λ t head at. notes.more head.owner t (kept.by_owner t head at);
-    order = notes.order kept.order;
-    noted = subst (λ (ids : List ℕ). AreNoted ids lent tables) (sym items) kept.noted;
-  }
+  -- a table is lent
+  pub kept-lend : indices.lent ≡ None → (id : ℕ) → IsKept (record indices { lent = Some id }) tables
+  kept-lend none id = kept-beside indices.fixed (Some id) (noted-lent indices.fixed.items id tables (subst (λ lent. AreNoted indices.fixed.items lent tables) none kept.noted)) kept.room
+
+  -- there is more room
+  pub kept-room : (new : Indices) → new ≡ record indices { fixed = new.fixed } → new.fixed.items ≡ indices.fixed.items → vec_capacity indices.fixed ≤ vec_capacity new.fixed → IsKept new tables
+  kept-room new rest items more = subst (λ (i : Indices). IsKept i tables) (sym rest) (kept-beside new.fixed indices.lent (subst (λ ids. AreNoted ids indices.lent tables) (sym items) kept.noted) (omega (arith, kept.room, more)))
+
+  -- the names are as good
+  pub kept-named : (new : Indices) → new ≡ record indices { names = new.names } → ByName (get_by_text new.names) (heads tables) → IsKept new tables
+  kept-named new rest by_name = subst (λ (i : Indices). IsKept i tables) (sym rest) (record { few = kept.few; room = kept.room; by_name = by_name; by_owner = kept.by_owner; order = kept.order; noted = kept.noted })
 
   -- one place changes
-  pub kept-set : (after : List ℕ → Option ℕ) (t : ℕ) (o : Option Table) → ByName after (heads (set tables t o))
-      → ((table : Table) → o ≡ Some table → Among t (owned table.head.owner) × ((lent ≡ Some t) ⊎ Among t fixed.items ⊎ IsIdle table.fixed)) → IsKept after owned fixed lent (set tables t o)
-  kept-set after t o by_name here = record {
+  pub kept-set : (new : Indices) → new ≡ record indices { names = new.names } → (t : ℕ) (o : Option Table) → ByName (get_by_text new.names) (heads (set tables t o))
+      → ((table : Table) → o ≡ Some table → Among t (ids_under indices table.head.owner) × ((indices.lent ≡ Some t) ⊎ Among t indices.fixed.items ⊎ IsIdle table.fixed)) → IsKept new (set tables t o)
+  kept-set new rest t o by_name here = subst (λ (i : Indices). IsKept i (set tables t o)) (sym rest) (record {
     few = omega (arith, length-set {A = Option Table}, kept.few);
     room = omega (arith, length-set {A = Option Table}, kept.room);
     by_name = by_name;
-    by_owner = owners-by owned (set tables t o) (λ u table e. owner u table (place-set tables t o u table e));
+    by_owner = owners-by (ids_under indices) (set tables t o) (λ u table e. owner u table (place-set tables t o u table e));
     order = kept.order;
     noted = record {
-      order = between-higher 0 (length tables) (length (set tables t o)) fixed.items (omega (arith, length-set {A = Option Table})) kept.noted.order;
+      order = between-higher 0 (length tables) (length (set tables t o)) indices.fixed.items (omega (arith, length-set {A = Option Table})) kept.noted.order;
       each = λ u table e. each u table (place-set tables t o u table e);
     };
-  }
+  })
     where
-      owner : (u : ℕ) (table : Table) → ((u ≡ t) × (o ≡ Some table)) ⊎ (table_at tables u ≡ Some table) → Among u (owned table.head.owner)
-      owner u table (inl is) = subst (λ i. Among i (owned table.head.owner)) (sym is.0) (here table is.1).0
-      owner u table (inr there) = owner-at owned tables kept.by_owner u table there
+      owner : (u : ℕ) (table : Table) → ((u ≡ t) × (o ≡ Some table)) ⊎ (table_at tables u ≡ Some table) → Among u (ids_under indices table.head.owner)
+      owner u table (inl is) = subst (λ i. Among i (ids_under indices table.head.owner)) (sym is.0) (here table is.1).0
+      owner u table (inr there) = owner-at (ids_under indices) tables kept.by_owner u table there
 
-      each : (u : ℕ) (table : Table) → ((u ≡ t) × (o ≡ Some table)) ⊎ (table_at tables u ≡ Some table) → (lent ≡ Some u) ⊎ Among u fixed.items ⊎ IsIdle table.fixed
-      each u table (inl is) = subst (λ i. (lent ≡ Some i) ⊎ Among i fixed.items ⊎ IsIdle table.fixed) (sym is.0) (here table is.1).1
+      each : (u : ℕ) (table : Table) → ((u ≡ t) × (o ≡ Some table)) ⊎ (table_at tables u ≡ Some table) → (indices.lent ≡ Some u) ⊎ Among u indices.fixed.items ⊎ IsIdle table.fixed
+      each u table (inl is) = subst (λ i. (indices.lent ≡ Some i) ⊎ Among i indices.fixed.items ⊎ IsIdle table.fixed) (sym is.0) (here table is.1).1
       each u table (inr there) = kept.noted.each u table there
 
+  -- a place that is written as it is
+  pub kept-same : (t : ℕ) (o : Option Table) → table_at tables t ≡ o → IsKept indices (set tables t o)
+  kept-same t o at = subst (λ (ts : Tables). IsKept indices ts) (sym (ap (set tables t) (sym at) ∙ same-place tables t)) kept
+
   -- a table that keeps its objects and fixes keeps what is noted of it
-  pub noted-same : (t : ℕ) (old new : Table) → table_at tables t ≡ Some old → new.fixed ≡ old.fixed → (lent ≡ Some t) ⊎ Among t fixed.items ⊎ IsIdle new.fixed
+  pub noted-same : (t : ℕ) (old new : Table) → table_at tables t ≡ Some old → new.fixed ≡ old.fixed → (indices.lent ≡ Some t) ⊎ Among t indices.fixed.items ⊎ IsIdle new.fixed
   noted-same t old new at same = by (kept.noted.each t old at)
     where
-      by : (lent ≡ Some t) ⊎ Among t fixed.items ⊎ IsIdle old.fixed → (lent ≡ Some t) ⊎ Among t fixed.items ⊎ IsIdle new.fixed
+      by : (indices.lent ≡ Some t) ⊎ Among t indices.fixed.items ⊎ IsIdle old.fixed → (indices.lent ≡ Some t) ⊎ Among t indices.fixed.items ⊎ IsIdle new.fixed
       by (inl is) = inl is
       by (inr (inl among)) = inr (inl among)
       by (inr (inr idle)) = inr (inr (subst IsIdle (sym same) idle))
 
   -- the table at a place, if there is one, has another head, of the same name
   kept-headed : (t : ℕ) (o : Option Table) (change : Table → Table) → table_at tables t ≡ o → ((table : Table) (name : List ℕ) → is_named name (Some (change table).head) ≡ is_named name (Some table.head)) → ((table : Table) → (change table).fixed ≡ table.fixed)
-      → ((table : Table) → table_at tables t ≡ Some table → Among t (owned (change table).head.owner)) → IsKept names owned fixed lent (set tables t (option_map change o))
-  kept-headed t None change e same holds own = kept-set names t None (names-none names tables t e kept.by_name) (λ table is. absurd (cc))
+      → ((table : Table) → table_at tables t ≡ Some table → Among t (ids_under indices (change table).head.owner)) → IsKept indices (set tables t (option_map change o))
+  kept-headed t None change e same holds own = kept-set indices refl t None (names-none (get_by_text indices.names) tables t e kept.by_name) (λ table is. absurd (cc))
   kept-headed t (Some old) change e same holds own =
-      kept-set names t (Some (change old)) (names-stay names tables t old (change old) e (same old) kept.by_name)
-      (λ table is. let it = same_Some _ _ is in subst (λ (x : Table). Among t (owned x.head.owner) × ((lent ≡ Some t) ⊎ Among t fixed.items ⊎ IsIdle x.fixed)) it (own old e, noted-same t old (change old) e (holds old)))
+      kept-set indices refl t (Some (change old)) (names-stay (get_by_text indices.names) tables t old (change old) e (same old) kept.by_name)
+      (λ table is. let it = same_Some _ _ is in subst (λ (x : Table). Among t (ids_under indices x.head.owner) × ((indices.lent ≡ Some t) ⊎ Among t indices.fixed.items ⊎ IsIdle x.fixed)) it (own old e, noted-same t old (change old) e (holds old)))
 
-  pub kept-passed : (t q : ℕ) → Among t (owned q) → IsKept names owned fixed lent (changed (passed_to q) tables t)
+  pub kept-passed : (t q : ℕ) → Among t (ids_under indices q) → IsKept indices (changed (passed_to q) tables t)
   kept-passed t q own = kept-headed t (table_at tables t) (passed_to q) refl (λ table name. refl) (λ table. refl) (λ table e. own)
 
-  pub kept-heir : (t : ℕ) (heir : Option Heir) → IsKept names owned fixed lent (changed (with_heir heir) tables t)
-  kept-heir t heir = kept-headed t (table_at tables t) (with_heir heir) refl (λ table name. refl) (λ table. refl) (λ table e. owner-at owned tables kept.by_owner t table e)
+  pub kept-heir : (t : ℕ) (heir : Option Heir) → IsKept indices (changed (with_heir heir) tables t)
+  kept-heir t heir = kept-headed t (table_at tables t) (with_heir heir) refl (λ table name. refl) (λ table. refl) (λ table e. owner-at (ids_under indices) tables kept.by_owner t table e)
 
   -- the table that is lent is anything under its head
-  pub kept-fixed : (t : ℕ) (table : Table) (f : Fixed) → table_at tables t ≡ Some table → lent ≡ Some t → IsKept names owned fixed lent (set tables t (Some (record table { fixed = f })))
+  pub kept-fixed : (t : ℕ) (table : Table) (f : Fixed) → table_at tables t ≡ Some table → indices.lent ≡ Some t → IsKept indices (set tables t (Some (record table { fixed = f })))
   kept-fixed t table f e last =
-      kept-set names t (Some (record table { fixed = f })) (subst (ByName names) (sym (heads-same tables t table f e)) kept.by_name)
-      (λ it is. let same = same_Some _ _ is in subst (λ (x : Table). Among t (owned x.head.owner) × ((lent ≡ Some t) ⊎ Among t fixed.items ⊎ IsIdle x.fixed)) same (owner-at owned tables kept.by_owner t table e, inl last))
+      kept-set indices refl t (Some (record table { fixed = f })) (subst (ByName (get_by_text indices.names)) (sym (heads-same tables t table f e)) kept.by_name)
+      (λ it is. let same = same_Some _ _ is in subst (λ (x : Table). Among t (ids_under indices x.head.owner) × ((indices.lent ≡ Some t) ⊎ Among t indices.fixed.items ⊎ IsIdle x.fixed)) same (owner-at (ids_under indices) tables kept.by_owner t table e, inl last))
+
+  -- a table keeps its name, and a process lets go of it
+  pub kept-released : (p t : ℕ) (old new : Table) → table_at tables t ≡ Some old → new.fixed ≡ all_released p old.fixed → ((name : List ℕ) → is_named name (Some new.head) ≡ is_named name (Some old.head)) → Among t (ids_under indices new.head.owner)
+      → IsKept indices (set tables t (Some new))
+  kept-released p t old new at left same own =
+      kept-set indices refl t (Some new) (names-stay (get_by_text indices.names) tables t old new at same kept.by_name)
+      (λ it is. subst (λ (x : Table). Among t (ids_under indices x.head.owner) × ((indices.lent ≡ Some t) ⊎ Among t indices.fixed.items ⊎ IsIdle x.fixed)) (same_Some _ _ is) (own, by (kept.noted.each t old at)))
+    where
+      by : (indices.lent ≡ Some t) ⊎ Among t indices.fixed.items ⊎ IsIdle old.fixed → (indices.lent ≡ Some t) ⊎ Among t indices.fixed.items ⊎ IsIdle new.fixed
+      by (inl is) = inl is
+      by (inr (inl among)) = inr (inl among)
+      by (inr (inr idle)) = inr (inr (subst IsIdle (sym (left ∙ idle-stays p old.fixed idle)) idle))
 
   -- one table more
-  pub kept-push : (after : List ℕ → Option ℕ) (table : Table) → length tables + 1 < 4294967296 → length tables + 1 ≤ vec_capacity fixed → ByName after (heads (tables ++ Some table ∷ []))
-      → Among (length tables) (owned table.head.owner) → lent ≡ Some (length tables) → IsKept after owned fixed lent (tables ++ Some table ∷ [])
-  kept-push after table few room by_name own last = record {
+  pub kept-push : (new : Indices) → new ≡ record indices { names = new.names } → (table : Table) → length tables + 1 < 4294967296 → length tables + 1 ≤ vec_capacity indices.fixed → ByName (get_by_text new.names) (heads (tables ++ Some table ∷ []))
+      → Among (length tables) (ids_under indices table.head.owner) → indices.lent ≡ Some (length tables) → IsKept new (tables ++ Some table ∷ [])
+  kept-push new rest table few room by_name own last = subst (λ (i : Indices). IsKept i (tables ++ Some table ∷ [])) (sym rest) (record {
     few = omega (arith, length-append {A = Option Table}, few);
     room = omega (arith, length-append {A = Option Table}, room);
     by_name = by_name;
-    by_owner = owners-by owned (tables ++ Some table ∷ []) (λ u it e. owner u it (place-push tables (Some table) u it e));
+    by_owner = owners-by (ids_under indices) (tables ++ Some table ∷ []) (λ u it e. owner u it (place-push tables (Some table) u it e));
     order = kept.order;
     noted = record {
-      order = between-higher 0 (length tables) (length (tables ++ Some table ∷ [])) fixed.items (omega (arith, length-append {A = Option Table})) kept.noted.order;
+      order = between-higher 0 (length tables) (length (tables ++ Some table ∷ [])) indices.fixed.items (omega (arith, length-append {A = Option Table})) kept.noted.order;
       each = λ u it e. each u it (place-push tables (Some table) u it e);
     };
-  }
+  })
     where
-      owner : (u : ℕ) (it : Table) → ((u ≡ length tables) × (Some table ≡ Some it)) ⊎ (table_at tables u ≡ Some it) → Among u (owned it.head.owner)
-      owner u it (inl is) = subst (λ i. Among i (owned it.head.owner)) (sym is.0) (subst (λ (x : Table). Among (length tables) (owned x.head.owner)) (same_Some _ _ is.1) own)
-      owner u it (inr there) = owner-at owned tables kept.by_owner u it there
+      owner : (u : ℕ) (it : Table) → ((u ≡ length tables) × (Some table ≡ Some it)) ⊎ (table_at tables u ≡ Some it) → Among u (ids_under indices it.head.owner)
+      owner u it (inl is) = subst (λ i. Among i (ids_under indices it.head.owner)) (sym is.0) (subst (λ (x : Table). Among (length tables) (ids_under indices x.head.owner)) (same_Some _ _ is.1) own)
+      owner u it (inr there) = owner-at (ids_under indices) tables kept.by_owner u it there
 
-      each : (u : ℕ) (it : Table) → ((u ≡ length tables) × (Some table ≡ Some it)) ⊎ (table_at tables u ≡ Some it) → (lent ≡ Some u) ⊎ Among u fixed.items ⊎ IsIdle it.fixed
+      each : (u : ℕ) (it : Table) → ((u ≡ length tables) × (Some table ≡ Some it)) ⊎ (table_at tables u ≡ Some it) → (indices.lent ≡ Some u) ⊎ Among u indices.fixed.items ⊎ IsIdle it.fixed
       each u it (inl is) = inl (last ∙ ap Some (sym is.0))
       each u it (inr there) = kept.noted.each u it there
 
--- who owns the tables after an end
-module _ (ps before : Processes) (p : ℕ) (old new : Tables) (ids : List ℕ) (owned after : ℕ → List ℕ) where
-  pub owners-after : ByOwner owned (heads old) → Notes owned after → AreOwned ids p old → AreInherited after before old ids
-      → ((head : Head) (heir : Heir) → living_heir ps head ≡ Some heir → living_heir before head ≡ Some heir) → new ≡ map (table_after ps p) old → ByOwner after (heads new)
-  owners-after by_owner notes mine inherited lived is = owners-by after new (λ t table e. each t table (left-over ps p (table_at old t) table (sym (get_or-map (table_after ps p) old t None) ∙ ap (λ ts. table_at ts t) (sym is) ∙ e)))
-    where
-      by : (t : ℕ) (table was : Table) → table_at old t ≡ Some was
-          → (table.head ≡ was.head × (owned_by was.head p ≡ false)) ⊎ ((heir : Heir) × (living_heir ps was.head ≡ Some heir) × (owned_by was.head p ≡ true) × (table.head ≡ record was.head { owner = heir.pid })) → Among t (after table.head.owner)
-      by t table was at (inl same) = subst (λ (h : Head). Among t (after h.owner)) (sym same.0) (notes.more was.head.owner t (owner-at owned old by_owner t was at))
-      by t table was at (inr passed) =
-          subst (λ (h : Head). Among t (after h.owner)) (sym passed.3) (inherited t was passed.0 (mine t was at passed.2) at (lived was.head passed.0 passed.1))
+-- a table that is settled and not gone keeps its name, and who owns it has it written down
+pub kept-left : (ps : Processes) (p : ℕ) (indices : Indices) (tables : Tables) → IsKept indices tables → AreBequeathed indices ps p tables → (t : ℕ) (new : Table) → table_after ps p (table_at tables t) ≡ Some new → IsKept indices (set tables t (Some new))
+kept-left ps p indices tables kept heirs t new is = by (left-over ps p (table_at tables t) new is)
+  where
+    by : Left ps p (table_at tables t) new → IsKept indices (set tables t (Some new))
+    by left = kept-released indices tables kept p t left.table new left.was left.fixed (name left.head) (owner left.head)
+      where
+        name : (new.head ≡ left.table.head × (owned_by left.table.head p ≡ false)) ⊎ ((heir : Heir) × (living_heir ps left.table.head ≡ Some heir) × (owned_by left.table.head p ≡ true) × (new.head ≡ record left.table.head { owner = heir.pid }))
+            → (name : List ℕ) → is_named name (Some new.head) ≡ is_named name (Some left.table.head)
+        name (inl same) n = ap (λ (h : Head). is_named n (Some h)) same.0
+        name (inr passed) n = ap (λ (h : Head). is_named n (Some h)) passed.3
 
-      each : (t : ℕ) (table : Table) → Left ps p (table_at old t) table → Among t (after table.head.owner)
-      each t table left = by t table left.table left.was left.head
+        owner : (new.head ≡ left.table.head × (owned_by left.table.head p ≡ false)) ⊎ ((heir : Heir) × (living_heir ps left.table.head ≡ Some heir) × (owned_by left.table.head p ≡ true) × (new.head ≡ record left.table.head { owner = heir.pid }))
+            → Among t (ids_under indices new.head.owner)
+        owner (inl same) = subst (λ (h : Head). Among t (ids_under indices h.owner)) (sym same.0) (owner-at (ids_under indices) tables kept.by_owner t left.table left.was)
+        owner (inr passed) = subst (λ (h : Head). Among t (ids_under indices h.owner)) (sym passed.3) (heirs t left.table passed.0 left.was passed.2 passed.1)
+
+-- a table of the process is settled, and its others still stand under their heirs
+pub bequeathed-still : (ps : Processes) (p : ℕ) → lives ps p ≡ false → (old new : Indices) (tables : Tables) → new ≡ record old { names = new.names } → (t : ℕ) → AreBequeathed old ps p tables → AreBequeathed new ps p (set tables t (table_after ps p (table_at tables t)))
+bequeathed-still ps p dead old new tables rest t heirs u table heir at own lived = subst (λ (i : Indices). Among u (ids_under i heir.pid)) (sym rest) (by (place-set tables t _ u table at))
+  where
+    by : ((u ≡ t) × (table_after ps p (table_at tables t) ≡ Some table)) ⊎ (table_at tables u ≡ Some table) → Among u (ids_under old heir.pid)
+    by (inl is) = absurd (true≢false (sym own ∙ left-others ps p dead (table_at tables t) table (left-over ps p (table_at tables t) table is.1)))
+    by (inr there) = heirs u table heir there own lived
 
 -- nothing need stand under a process that has ended
-pub owners-forgotten : (ps : Processes) (p : ℕ) → lives ps p ≡ false → (old new : Tables) (owned after : ℕ → List ℕ) → Forgets p owned after → ByOwner owned (heads new) → new ≡ map (table_after ps p) old → ByOwner after (heads new)
-owners-forgotten ps p dead old new owned after forgets by_owner is =
-    owners-by after new (λ t table e.
-    let left : Left ps p (table_at old t) table = left-over ps p (table_at old t) table (sym (get_or-map (table_after ps p) old t None) ∙ ap (λ ts. table_at ts t) (sym is) ∙ e) in
-    forgets-others owned after p forgets table.head.owner t (left-others ps p dead (table_at old t) table left) (owner-at owned new by_owner t table e))
+pub owners-forgotten : (ps : Processes) (p : ℕ) → lives ps p ≡ false → (start tables : Tables) (old new : Indices) → Forgets p old new → ByOwner (ids_under old) (heads tables) → tables ≡ map (table_after ps p) start → ByOwner (ids_under new) (heads tables)
+owners-forgotten ps p dead start tables old new forgets by_owner is =
+    owners-by (ids_under new) tables (λ t table e.
+    let left : Left ps p (table_at start t) table = left-over ps p (table_at start t) table (sym (get_or-map (table_after ps p) start t None) ∙ ap (λ ts. table_at ts t) (sym is) ∙ e) in
+    forgets-others p old new forgets table.head.owner t (left-others ps p dead (table_at start t) table left) (owner-at (ids_under old) tables by_owner t table e))
 
 none-named : (names : List ℕ → Option ℕ) → ((name : List ℕ) → names name ≡ None) → ByName names []
 none-named names none name t = (λ found. let is : None ≡ Some t = sym (none name) ∙ found in absurd (cc), λ named. absurd (true≢false (sym named)))
 
 -- where there is no table
-pub kept-empty : (names : List ℕ → Option ℕ) (owned : ℕ → List ℕ) (fixed : Vec ℕ Global) (tables : Tables) → tables ≡ [] → ((name : List ℕ) → names name ≡ None) → ((p : ℕ) → owned p ≡ []) → fixed.items ≡ [] → IsKept names owned fixed None tables
-kept-empty names owned fixed tables is none nobody no-fixed =
-    let zero : length tables ≡ 0 = ap (λ (ts : Tables). length ts) is in
-    record {
-      few = omega (arith, zero);
-      room = omega (arith, zero);
-      by_name = subst (λ (ts : Tables). ByName names (heads ts)) (sym is) (none-named names none);
-      by_owner = subst (λ (ts : Tables). ByOwner owned (heads ts)) (sym is) (λ t head at. absurd (cc));
-      order = λ p. subst (Between 0 4294967296) (sym (nobody p)) (omega arith);
-      noted = record {
-        order = subst (Between 0 (length tables)) (sym no-fixed) (omega (arith, zero));
-        each = λ t table at. let gone : table_at [] t ≡ Some table = ap (λ (ts : Tables). table_at ts t) (sym is) ∙ at in absurd (cc);
-      };
-    }
+pub kept-empty : (indices : Indices) → ((name : List ℕ) → get_by_text indices.names name ≡ None) → ((p : ℕ) → ids_under indices p ≡ []) → indices.fixed.items ≡ [] → IsKept indices []
+kept-empty indices none nobody no-fixed = record {
+  few = omega arith;
+  room = omega arith;
+  by_name = none-named (get_by_text indices.names) none;
+  by_owner = λ t head at. absurd (cc);
+  order = λ p. subst (Between 0 4294967296) (sym (nobody p)) (omega arith);
+  noted = record { order = subst (Between 0 0) (sym no-fixed) (omega arith); each = λ t table at. absurd (cc) };
+}

@@ -4,7 +4,6 @@ pub mod Naming
 pub mod Heads
 pub mod Kept
 pub mod Posting
-pub mod Mapped
 pub mod Ascending
 pub mod Owning
 pub mod Noting
@@ -12,3 +11,4 @@ pub mod Settling
 pub mod Sent
 pub mod Ending
 pub mod Keeping
+pub mod Settled

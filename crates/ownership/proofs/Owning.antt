@@ -7,7 +7,8 @@ use Rattle.std.proofs.lemmas.Bool.Decides.{nat_tests}
 use Rattle.ownership.specs.declared.head.Heir.{Heir}
 use Rattle.ownership.specs.World.{Table, Tables, Processes, table_at}
 use Rattle.ownership.specs.End.{living_heir}
-use Rattle.ownership.specs.inside.Indices.{Among, Between, IsPutIn, Notes, Forgets, Ascend}
+use Rattle.ownership.specs.declared.indices.Indices.{Indices}
+use Rattle.ownership.specs.inside.Indices.{Among, Between, IsPutIn, Notes, Forgets, Ascend, ids_under}
 
 pub same-number : (m n : ℕ) → nat_eq m n ≡ true → m ≡ n
 same-number m n h = grind (arith, nat_tests)
@@ -17,6 +18,11 @@ own-number n = grind (arith, nat_tests)
 
 other-number : (m n : ℕ) → nat_eq m n ≡ false → nat_eq n m ≡ false
 other-number m n h = grind (arith, nat_tests)
+
+-- more may stand under owners
+pub record AddsUnder (old new : ℕ → List ℕ) : Type 0 where
+  pub more : (p t : ℕ) → Among t (old p) → Among t (new p)
+  pub order : Ascend old → Ascend new
 
 -- what stands in an entry of the index
 abbrev pub ids_in : Option (Vec ℕ Global) → List ℕ
@@ -37,7 +43,7 @@ module _ (before after : ℕ → Option (Vec ℕ Global)) (owner id : ℕ) (ids 
     order-at false p e a = a p
 
     -- an identifier more under an owner, in a new entry or one that was there
-    pub noted : Notes (λ p. ids_in (before p)) (λ p. ids_in (after p))
+    pub noted : AddsUnder (λ p. ids_in (before p)) (λ p. ids_in (after p))
     noted = record {
       more = λ p t a. subst (Among t) (sym (now-is p (nat_eq owner p) refl)) (more-at (nat_eq owner p) p t refl a);
       order = λ a p. subst (Between 0 4294967296) (sym (now-is p (nat_eq owner p) refl)) (order-at (nat_eq owner p) p refl a);
@@ -51,7 +57,7 @@ module _ (before after : ℕ → Option (Vec ℕ Global)) (owner id : ℕ) (ids 
   same-at false p e s = refl
 
   -- an entry written back as it was
-  pub noted-same : ids.items ≡ ids_in (before owner) → Notes (λ p. ids_in (before p)) (λ p. ids_in (after p))
+  pub noted-same : ids.items ≡ ids_in (before owner) → AddsUnder (λ p. ids_in (before p)) (λ p. ids_in (after p))
   noted-same s =
       let same : (p : ℕ) → ids_in (after p) ≡ ids_in (before p) = λ p. now-is p (nat_eq owner p) refl ∙ same-at (nat_eq owner p) p refl s in
       record { more = λ p t a. subst (Among t) (sym (same p)) a; order = λ a p. subst (Between 0 4294967296) (sym (same p)) (a p) }
@@ -61,48 +67,52 @@ forgotten-at true entry = refl
 forgotten-at false entry = refl
 
 -- an entry that is taken out
-pub forgotten : (before after : ℕ → Option (Vec ℕ Global)) (owner : ℕ) → ((q : ℕ) → after q ≡ cond (nat_eq owner q) None (before q)) → Forgets owner (λ p. ids_in (before p)) (λ p. ids_in (after p))
+pub forgotten : (before after : ℕ → Option (Vec ℕ Global)) (owner : ℕ) → ((q : ℕ) → after q ≡ cond (nat_eq owner q) None (before q)) → (p : ℕ) → ids_in (after p) ≡ cond (nat_eq owner p) [] (ids_in (before p))
 forgotten before after owner updated p = ap ids_in (updated p) ∙ forgotten-at (nat_eq owner p) (before p)
 
-module _ (owned after : ℕ → List ℕ) (owner : ℕ) (forgets : Forgets owner owned after) where
+module _ (owner : ℕ) (old new : Indices) (forgets : Forgets owner old new) where
   order-left : (b : Bool) (ids : List ℕ) → Between 0 4294967296 ids → Between 0 4294967296 (cond b [] ids)
   order-left true ids order = omega arith
   order-left false ids order = order
 
-  pub forgets-order : Ascend owned → Ascend after
-  forgets-order order p = subst (Between 0 4294967296) (sym (forgets p)) (order-left (nat_eq owner p) (owned p) (order p))
+  pub forgets-order : Ascend (ids_under old) → Ascend (ids_under new)
+  forgets-order order p = subst (Between 0 4294967296) (sym (forgets.gone p)) (order-left (nat_eq owner p) (ids_under old p) (order p))
 
   among-left : (b : Bool) (t : ℕ) (ids : List ℕ) → b ≡ false → Among t ids → Among t (cond b [] ids)
   among-left true t ids e a = absurd (true≢false e)
   among-left false t ids e a = a
 
   -- what stands under others stays
-  pub forgets-others : (p t : ℕ) → nat_eq p owner ≡ false → Among t (owned p) → Among t (after p)
-  forgets-others p t e a = subst (Among t) (sym (forgets p)) (among-left (nat_eq owner p) t (owned p) (other-number p owner e) a)
+  pub forgets-others : (p t : ℕ) → nat_eq p owner ≡ false → Among t (ids_under old p) → Among t (ids_under new p)
+  forgets-others p t e a = subst (Among t) (sym (forgets.gone p)) (among-left (nat_eq owner p) t (ids_under old p) (other-number p owner e) a)
 
 -- the first that stands under an owner
 pub put-first : (id : ℕ) → IsPutIn [] id (id ∷ [])
 put-first id = record { here = inl refl; more = λ t a. absurd a; order = λ low high l u b. (l, omega (arith, u)) }
 
-pub notes-same : (owned : ℕ → List ℕ) → Notes owned owned
-notes-same owned = record { more = λ p t a. a; order = λ a. a }
+pub notes-same : (indices : Indices) → Notes indices indices
+notes-same indices = record { rest = refl; more = λ p t a. a; order = λ a. a }
 
-pub notes-more : (owned mid after : ℕ → List ℕ) → Notes owned mid → Notes mid after → Notes owned after
-notes-more owned mid after first next = record { more = λ p t a. next.more p t (first.more p t a); order = λ a. next.order (first.order a) }
+pub notes-more : (old mid new : Indices) → Notes old mid → Notes mid new → Notes old new
+notes-more old mid new first next = record {
+  rest = next.rest ∙ ap (λ (i : Indices). record i { owned = new.owned }) first.rest;
+  more = λ p t a. next.more p t (first.more p t a);
+  order = λ a. next.order (first.order a);
+}
 
 -- what it comes to that one is put in, or memory is refused
 pub noted-either : {E : Type 0} (r : Result (Unit {0}) E) (before after : ℕ → Option (Vec ℕ Global)) (owner id : ℕ) (ids : Vec ℕ Global) → ((q : ℕ) → after q ≡ cond (nat_eq owner q) (Some ids) (before q)) → id < 4294967296
-    → OnOk r (IsPutIn (ids_in (before owner)) id ids.items) → OnErr r (ids.items ≡ ids_in (before owner)) → Notes (λ p. ids_in (before p)) (λ p. ids_in (after p))
+    → OnOk r (IsPutIn (ids_in (before owner)) id ids.items) → OnErr r (ids.items ≡ ids_in (before owner)) → AddsUnder (λ p. ids_in (before p)) (λ p. ids_in (after p))
 noted-either (Ok done) before after owner id ids updated below put same = noted before after owner id ids updated put below
 noted-either (Err error) before after owner id ids updated below put same = noted-same before after owner id ids updated same
 
-pub inherited-more : (owned after : ℕ → List ℕ) (processes : Processes) (tables : Tables) (ids rest : List ℕ) (id : ℕ) → Notes owned after
-    → ((table : Table) (heir : Heir) → table_at tables id ≡ Some table → living_heir processes table.head ≡ Some heir → Among id (after heir.pid))
-    → ((t : ℕ) (table : Table) (heir : Heir) → Among t ids → table_at tables t ≡ Some table → living_heir processes table.head ≡ Some heir → Among t (id ∷ rest) ⊎ Among t (owned heir.pid))
-    → (t : ℕ) (table : Table) (heir : Heir) → Among t ids → table_at tables t ≡ Some table → living_heir processes table.head ≡ Some heir → Among t rest ⊎ Among t (after heir.pid)
-inherited-more owned after processes tables ids rest id notes here each t table heir a at lives = by (each t table heir a at lives)
+pub inherited-more : (old new : Indices) (processes : Processes) (tables : Tables) (ids rest : List ℕ) (id : ℕ) → Notes old new
+    → ((table : Table) (heir : Heir) → table_at tables id ≡ Some table → living_heir processes table.head ≡ Some heir → Among id (ids_under new heir.pid))
+    → ((t : ℕ) (table : Table) (heir : Heir) → Among t ids → table_at tables t ≡ Some table → living_heir processes table.head ≡ Some heir → Among t (id ∷ rest) ⊎ Among t (ids_under old heir.pid))
+    → (t : ℕ) (table : Table) (heir : Heir) → Among t ids → table_at tables t ≡ Some table → living_heir processes table.head ≡ Some heir → Among t rest ⊎ Among t (ids_under new heir.pid)
+inherited-more old new processes tables ids rest id notes here each t table heir a at lives = by (each t table heir a at lives)
   where
-    by : Among t (id ∷ rest) ⊎ Among t (owned heir.pid) → Among t rest ⊎ Among t (after heir.pid)
-    by (inl (inl same)) = inr (subst (λ i. Among i (after heir.pid)) (sym same) (here table heir (ap (table_at tables) (sym same) ∙ at) lives))
+    by : Among t (id ∷ rest) ⊎ Among t (ids_under old heir.pid) → Among t rest ⊎ Among t (ids_under new heir.pid)
+    by (inl (inl same)) = inr (subst (λ i. Among i (ids_under new heir.pid)) (sym same) (here table heir (ap (table_at tables) (sym same) ∙ at) lives))
     by (inl (inr more)) = inl more
     by (inr found) = inr (notes.more heir.pid t found)

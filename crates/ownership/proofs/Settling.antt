@@ -1,5 +1,5 @@
 -- Tables settled one by one, where the process lives no more: those that are neither its own nor noted are settled from the first.
-use Rattle.std.proofs.Common.{◌≡◌, ℕ, ◌⊎◌, nat_eq, zero, suc, Bool, true, false, cond, List, [], ◌∷◌, Option, None, Some, inl, inr, refl, sym, ap, subst, true≢false, ◌∙◌, length, set, map, filter}
+use Rattle.std.proofs.Common.{◌≡◌, ℕ, ◌⊎◌, nat_eq, zero, suc, Bool, true, false, cond, List, [], ◌∷◌, ◌++◌, Option, None, Some, inl, inr, refl, sym, ap, subst, true≢false, ◌∙◌, length, set, map, filter}
 use Rattle.std.specs.Option.{option_map_or}
 use Rattle.std.proofs.Math.ListN.{get_or-map}
 use Rattle.std.specs.Prelude.{option_map, if◌then◌else◌}
@@ -21,7 +21,7 @@ use Rattle.ownership.specs.End.{living_heir, let_go, table_after}
 use Rattle.ownership.specs.Tables.{passed_to}
 use Rattle.ownership.specs.inside.Ending.{IsSettled, Settles}
 use Rattle.ownership.specs.inside.Indices.{Among, Between, IsIdle, AreNoted, AreOwned, is_fixed_at}
-use Rattle.ownership.proofs.Ascending.{among-filter, between-filter}
+use Rattle.ownership.proofs.Ascending.{among-filter, between-filter, among-either, among-left, among-right}
 use Rattle.ownership.proofs.Owning.{same-number}
 
 -- ---- to let go twice is to let go once
@@ -109,10 +109,20 @@ module _ (after : Option Table → Option Table) (empty : after None ≡ None) (
   settled-there tables t u s = settled-still tables t u s (cases_eq u t)
 
   -- one more of them is settled
-  pub settled-next : (tables : Tables) (id : ℕ) (rest : List ℕ) (t : ℕ) → Among t (id ∷ rest) ⊎ IsSettled after tables t → Among t rest ⊎ IsSettled after (set tables id (after (table_at tables id))) t
-  settled-next tables id rest t (inl (inl same)) = inr (subst (IsSettled after (set tables id (after (table_at tables id)))) (sym same) (settled-here tables id))
-  settled-next tables id rest t (inl (inr more)) = inl more
-  settled-next tables id rest t (inr settled) = inr (settled-there tables id t settled)
+  pub settles-more : (ids : List ℕ) (id : ℕ) (old mid new : Tables) → Settles after ids old mid → new ≡ set mid id (after (table_at mid id)) → Settles after (ids ++ id ∷ []) old new
+  settles-more ids id old mid new settles is = record {
+    same = ap (map after) is ∙ map-at mid id ∙ settles.same;
+    here = λ t a. subst (λ (ts : Tables). IsSettled after ts t) (sym is) (by t (among-either ids (id ∷ []) t a));
+    there = λ t s. subst (λ (ts : Tables). IsSettled after ts t) (sym is) (settled-there mid id t (settles.there t s));
+  }
+    where
+      by : (t : ℕ) → Among t ids ⊎ Among t (id ∷ []) → IsSettled after (set mid id (after (table_at mid id))) t
+      by t (inl among) = settled-there mid id t (settles.here t among)
+      by t (inr (inl same)) = subst (IsSettled after (set mid id (after (table_at mid id)))) (sym same) (settled-here mid id)
+      by t (inr (inr none)) = absurd none
+
+pub settles-none : (after : Option Table → Option Table) (tables : Tables) → Settles after [] tables tables
+settles-none after tables = record { same = refl; here = λ t a. absurd a; there = λ t s. s }
 
 -- a place that is written twice
 pub written-again : (tables : Tables) (t : ℕ) (d o : Option Table) → set (set tables t d) t o ≡ set tables t o
@@ -180,13 +190,13 @@ module _ (ps : Processes) (p : ℕ) (dead : lives ps p ≡ false) (old : Tables)
       by false is (inr (inr idle)) = inr (inr (settled-idle ps p dead table is idle))
 
   -- to settle its own and those that are noted is to settle all
-  pub settles-all : (mid new : Tables) → Settles (table_after ps p) own old mid → Settles (table_after ps p) fixed mid new → new ≡ map (table_after ps p) old
-  settles-all mid new first next = sym (all-settled (table_after ps p) new each) ∙ next.same ∙ first.same
+  pub settles-all : (new : Tables) → Settles (table_after ps p) (own ++ fixed) old new → new ≡ map (table_after ps p) old
+  settles-all new settles = sym (all-settled (table_after ps p) new each) ∙ settles.same
     where
       by : (t : ℕ) → Among t own ⊎ Among t fixed ⊎ (table_after ps p (table_at old t) ≡ table_at old t) → IsSettled (table_after ps p) new t
-      by t (inl mine) = next.there t (first.here t mine)
-      by t (inr (inl among)) = next.here t among
-      by t (inr (inr settled)) = next.there t (first.there t settled)
+      by t (inl mine) = settles.here t (among-left own fixed t mine)
+      by t (inr (inl among)) = settles.here t (among-right own fixed t among)
+      by t (inr (inr settled)) = settles.there t settled
 
       each : (t : ℕ) → IsSettled (table_after ps p) new t
       each t = by t (settled-first t (table_at old t) refl)

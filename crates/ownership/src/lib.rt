@@ -8,23 +8,20 @@
 //! *Weakness.* The end of a process looks at the tables that it ever came to own, and at those that somebody fixes. To
 //! write one down moves those that were made later.
 //!
-//! *Mechanism.* Tables stand at the places of their identifiers, beside an index by name, one by owner, and a list of those
-//! that may be fixed. A table that is lent is noted there when the next one is lent, if it is fixed by then. All messages
-//! are made before the first is posted, and those posted are taken back where memory is refused. A lent table can change
-//! in all but its head, and the indices look at heads alone.
+//! *Mechanism.* Tables stand at the places of their identifiers. Beside them stand an index by name, one by owner, and a list
+//! of those that may be fixed: one struct, whose methods keep it in step with the tables. A table that is lent is noted there
+//! when the next one is lent, if it is fixed by then. The messages of an end are made and posted one by one, and taken back
+//! where memory is refused. A lent table can change in all but its head, and the two indices look at heads alone.
 //!
 //! *Limits.* Processes and tables ever, as the world was made for; identifiers are never used again.
 #![tactic(auto)]
 
 mod fault;
-mod fixed;
 mod head;
-mod identifiers;
+mod indices;
 mod info;
 mod messages;
-mod names;
 mod options;
-mod owners;
 mod process;
 mod table;
 mod world;

@@ -9,6 +9,7 @@ mod info;
 mod mailbox;
 mod tables;
 
+use crate::indices::Indices;
 use crate::process::Process;
 use crate::table::Table;
 use bucket_table::Rows;
@@ -25,17 +26,13 @@ pub struct World<R: Rows> {
     most_tables: u32,
     processes: IndexMap<u32, Process>,
     places: Vec<Option<Table<R>>>,
-    names: IndexMap<String, u32>,
-    owned: IndexMap<u32, Vec<u32>>,
-    fixed: Vec<u32>,
-    lent: Option<u32>,
+    indices: Indices,
 }
 
 impl<R: Rows> Model for World<R> {
-    ghost use Rattle.indexmap.specs.IndexMap.{get_by_text};
     ghost use Rattle.ownership.specs.World.{World};
     ghost use Rattle.ownership.specs.inside.Codes.{world_code};
-    ghost use Rattle.ownership.specs.inside.Indices.{IsKept, owned_by};
+    ghost use Rattle.ownership.specs.inside.Indices.{IsKept};
 
     ghost Value = { World };
 
@@ -43,7 +40,7 @@ impl<R: Rows> Model for World<R> {
 
     ghost view = { λ w. record { most_processes = w.most_processes; most_tables = w.most_tables; processes = w.processes.entries; tables = w.places.items } };
 
-    ghost invariant = { λ w. IsKept (get_by_text w.names) (owned_by w.owned.entries) w.fixed w.lent w.places.items };
+    ghost invariant = { λ w. IsKept w.indices w.places.items };
 }
 
 impl<R: Rows> World<R> {
@@ -57,10 +54,7 @@ impl<R: Rows> World<R> {
             most_tables: tables,
             processes: IndexMap::new(alloc),
             places: Vec::new(alloc),
-            names: IndexMap::new(alloc),
-            owned: IndexMap::new(alloc),
-            fixed: Vec::new(alloc),
-            lent: None,
+            indices: Indices::new(alloc),
         }
     }
 }

@@ -1,13 +1,13 @@
--- The lists of identifiers beside the tables: under each process those that it ever came to own until it ends, and those that may be fixed.
+-- The identifiers beside the tables: under names, under each process those that it ever came to own until it ends, and those that may be fixed.
 use Rattle.std.specs.Prelude.{◌≡◌, ◌≤◌, ◌<◌, ◌⊎◌, ℕ, suc, ◌==◌, Bool, true, false, if◌then◌else◌, List, [], ◌∷◌, Option, Some, length, vec_capacity}
 use Rattle.std.specs.Option.{option_map_or}
 use Rattle.std.specs.Map.{lookup}
-use Rattle.std.specs.declared.alloc.Global.{Global}
-use Rattle.std.specs.declared.vec.Vec.{Vec}
+use Rattle.indexmap.specs.IndexMap.{get_by_text}
 use Rattle.fixed_walk.specs.Fixes.{is_fixed}
 use Rattle.fixed_walk.specs.Fixed.{Fixed, NoneHeld}
 use Rattle.ownership.specs.declared.head.Head.{Head}
 use Rattle.ownership.specs.declared.head.Heir.{Heir}
+use Rattle.ownership.specs.declared.indices.Indices.{Indices}
 use Rattle.ownership.specs.World.{Table, Tables, Processes, table_at, heads}
 use Rattle.ownership.specs.End.{living_heir}
 use Rattle.ownership.specs.inside.Names.{head_at, ByName}
@@ -28,8 +28,8 @@ pub record IsPutIn (old : List ℕ) (id : ℕ) (new : List ℕ) : Type 0 where
   pub order : (low high : ℕ) → low ≤ id → id < high → Between low high old → Between low high new
 
 -- the identifiers that stand under an owner
-abbrev pub owned_by : List (ℕ × Vec ℕ Global) → ℕ → List ℕ
-owned_by entries p = option_map_or (λ ids. ids.items) (lookup (λ q. p == q) entries) []
+abbrev pub ids_under : Indices → ℕ → List ℕ
+ids_under indices p = option_map_or (λ ids. ids.items) (lookup (λ q. p == q) indices.owned.entries) []
 
 -- under each they ascend
 abbrev pub Ascend : (ℕ → List ℕ) → Type 0
@@ -43,18 +43,25 @@ ByOwner owned hs = (t : ℕ) (head : Head) → head_at hs t ≡ Some head → Am
 abbrev pub AreOwned : List ℕ → ℕ → Tables → Type 0
 AreOwned ids p tables = (t : ℕ) (table : Table) → table_at tables t ≡ Some table → (table.head.owner == p) ≡ true → Among t ids
 
--- more may stand under owners
-pub record Notes (old new : ℕ → List ℕ) : Type 0 where
-  pub more : (p t : ℕ) → Among t (old p) → Among t (new p)
-  pub order : Ascend old → Ascend new
+-- more may stand under owners, and nothing else changes
+pub record Notes (old new : Indices) : Type 0 where
+  pub rest : new ≡ record old { owned = new.owned }
+  pub more : (p t : ℕ) → Among t (ids_under old p) → Among t (ids_under new p)
+  pub order : Ascend (ids_under old) → Ascend (ids_under new)
 
--- nothing stands under this owner any more, and under the others what did
-abbrev pub Forgets : ℕ → (ℕ → List ℕ) → (ℕ → List ℕ) → Type 0
-Forgets owner old new = (p : ℕ) → new p ≡ if owner == p then [] else old p
+-- nothing stands under this owner any more, and nothing else changes
+pub record Forgets (owner : ℕ) (old new : Indices) : Type 0 where
+  pub rest : new ≡ record old { owned = new.owned }
+  pub gone : (p : ℕ) → ids_under new p ≡ if owner == p then [] else ids_under old p
 
 -- each of these tables stands under its heir, where that lives
-abbrev pub AreInherited : (ℕ → List ℕ) → Processes → Tables → List ℕ → Type 0
-AreInherited owned processes tables ids = (t : ℕ) (table : Table) (heir : Heir) → Among t ids → table_at tables t ≡ Some table → living_heir processes table.head ≡ Some heir → Among t (owned heir.pid)
+abbrev pub AreInherited : Indices → Processes → Tables → List ℕ → Type 0
+AreInherited indices processes tables ids = (t : ℕ) (table : Table) (heir : Heir) → Among t ids → table_at tables t ≡ Some table → living_heir processes table.head ≡ Some heir → Among t (ids_under indices heir.pid)
+
+-- each table of an owner does
+abbrev pub AreBequeathed : Indices → Processes → ℕ → Tables → Type 0
+AreBequeathed indices processes p tables =
+    (t : ℕ) (table : Table) (heir : Heir) → table_at tables t ≡ Some table → (table.head.owner == p) ≡ true → living_heir processes table.head ≡ Some heir → Among t (ids_under indices heir.pid)
 
 -- nobody fixes the table, and no slot of it is held
 abbrev pub IsIdle : Fixed → Type 0
@@ -70,10 +77,10 @@ pub record AreNoted (ids : List ℕ) (lent : Option ℕ) (tables : Tables) : Typ
   pub each : (t : ℕ) (table : Table) → table_at tables t ≡ Some table → (lent ≡ Some t) ⊎ Among t ids ⊎ IsIdle table.fixed
 
 -- what stands beside the tables goes with them
-pub record IsKept (names : List ℕ → Option ℕ) (owned : ℕ → List ℕ) (fixed : Vec ℕ Global) (lent : Option ℕ) (tables : Tables) : Type 0 where
+pub record IsKept (indices : Indices) (tables : Tables) : Type 0 where
   pub few : length tables < 4294967296
-  pub room : length tables ≤ vec_capacity fixed
-  pub by_name : ByName names (heads tables)
-  pub by_owner : ByOwner owned (heads tables)
-  pub order : Ascend owned
-  pub noted : AreNoted fixed.items lent tables
+  pub room : length tables ≤ vec_capacity indices.fixed
+  pub by_name : ByName (get_by_text indices.names) (heads tables)
+  pub by_owner : ByOwner (ids_under indices) (heads tables)
+  pub order : Ascend (ids_under indices)
+  pub noted : AreNoted indices.fixed.items indices.lent tables

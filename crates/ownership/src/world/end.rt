@@ -1,23 +1,16 @@
-ghost use Rattle.std.specs.Prelude.{◌≡◌, ◌<◌, ◌==◌, ℕ, List, Option, Some, None, map, is_some, true, false, OnOk, OnErr, length, slice_set, option_copied, vec_capacity};
+ghost use Rattle.std.specs.Prelude.{◌≡◌, ◌==◌, Some, is_some, true, OnOk, OnErr, option_copied};
 ghost use Rattle.std.specs.Map.{set_value};
-ghost use Rattle.indexmap.specs.IndexMap.{get_by_text};
-ghost use Rattle.ownership.specs.declared.head.Head as head;
 ghost use Rattle.ownership.specs.World as model;
-ghost use Rattle.ownership.specs.World.{process_at, lives, head_of, heads, table_at};
-ghost use Rattle.ownership.specs.End.{End, ended, handed_over, living_heir, receiver_of, message_of, table_after};
+ghost use Rattle.ownership.specs.World.{process_at, lives, table_at};
+ghost use Rattle.ownership.specs.End.{End, ended, handed_over, living_heir, receiver_of, message_of};
 ghost use Rattle.ownership.specs.Outcomes.{Comes};
-ghost use Rattle.ownership.specs.inside.Names.{head_at, ByName};
-ghost use Rattle.ownership.specs.inside.Ending.{posted, posted_of, Settles};
-ghost use Rattle.ownership.specs.inside.Indices.{AreNoted, AreOwned};
+ghost use Rattle.ownership.specs.inside.Ending.{posted, posted_of};
 
 use super::World;
 use crate::fault::WorldFault;
-use crate::fixed::{keep_fixed, take_back_lent};
 use crate::head::{Head, Heir};
 use crate::messages::{post, take_back, transfer};
-use crate::names::forget;
-use crate::owners::{forget_owner, note_heirs, owned_by};
-use crate::process::Process;
+use crate::process::{Process, process_in};
 use crate::table::Table;
 use bucket_table::Rows;
 use ets_term::Items;
@@ -46,10 +39,9 @@ impl<R: Rows> World<R> {
         ensures ok { OnOk result (self.new ≡ handed_over self.old (ended self.old.processes pid) pid) }
         ensures err { OnErr result (self.new ≡ self.old) }
     {
-        let own = owned_by(self.alloc, &self.owned, pid)?;
-        note_heirs(
+        let own = self.indices.owned_by(self.alloc, pid)?;
+        self.indices.note_heirs(
             self.alloc,
-            &mut self.owned,
             &self.processes,
             self.places.as_slice(),
             own.as_slice(),
@@ -61,16 +53,8 @@ impl<R: Rows> World<R> {
             own.as_slice(),
             pid,
         )?;
-        take_back_lent(&mut self.fixed, self.places.as_slice(), &mut self.lent);
-        settle_all(
-            &mut self.places,
-            &mut self.names,
-            &mut self.fixed,
-            &self.processes,
-            own.as_slice(),
-            pid,
-        );
-        forget_owner(&mut self.owned, pid);
+        self.indices
+            .settle(&mut self.places, &self.processes, own.as_slice(), pid);
         Ok(())
     }
 }
@@ -207,94 +191,8 @@ pub fn living_heir<'a>(processes: &IndexMap<u32, Process>, head: &'a Head) -> Op
     let Some(heir) = &head.heir else {
         return None;
     };
-    match processes.get(&heir.pid) {
+    match process_in(processes, heir.pid) {
         Some(process) if process.lives => Some(heir),
         _ => None,
     }
-}
-
-/// What the end of a process makes of the tables, which are its own or fixed where it makes anything of them.
-fn settle_all<R: Rows>(
-    places: &mut Vec<Option<Table<R>>>,
-    names: &mut IndexMap<String, u32>,
-    fixed: &mut Vec<u32>,
-    processes: &IndexMap<u32, Process>,
-    own: &[u32],
-    pid: u32,
-)
-    requires dead { lives processes.now.entries pid ≡ false }
-    requires index { ByName (get_by_text names.old) (heads places.old.items) }
-    requires noted { AreNoted fixed.old.items None places.old.items }
-    requires own { AreOwned own.now pid places.old.items }
-    ensures after { places.new.items ≡ map (table_after processes.now.entries pid) places.old.items }
-    ensures index { ByName (get_by_text names.new) (heads places.new.items) }
-    ensures noted { AreNoted fixed.new.items None places.new.items }
-    ensures capacity { vec_capacity fixed.new ≡ vec_capacity fixed.old }
-{
-    settle(places, names, processes, own, pid);
-    settle(places, names, processes, fixed.as_slice(), pid);
-    keep_fixed(fixed, places.as_slice());
-}
-
-/// What it makes of these tables.
-fn settle<R: Rows>(
-    places: &mut Vec<Option<Table<R>>>,
-    names: &mut IndexMap<String, u32>,
-    processes: &IndexMap<u32, Process>,
-    ids: &[u32],
-    pid: u32,
-)
-    requires dead { lives processes.now.entries pid ≡ false }
-    requires index { ByName (get_by_text names.old) (heads places.old.items) }
-    ensures settles { Settles (table_after processes.now.entries pid) ids.now places.old.items places.new.items }
-    ensures index { ByName (get_by_text names.new) (heads places.new.items) }
-{
-    for id in ids {
-        settle_one(places, names, processes, pid, *id);
-    }
-}
-
-/// What it makes of one.
-fn settle_one<R: Rows>(
-    places: &mut Vec<Option<Table<R>>>,
-    names: &mut IndexMap<String, u32>,
-    processes: &IndexMap<u32, Process>,
-    pid: u32,
-    id: u32,
-)
-    requires { ByName (get_by_text names.old) (heads places.old.items) }
-    ensures after { places.new.items ≡ slice_set places.old.items id (table_after processes.now.entries pid (table_at places.old.items id)) }
-    ensures index { ByName (get_by_text names.new) (heads places.new.items) }
-{
-    let place = id as usize;
-    if place >= places.len() {
-        return;
-    }
-    let table = mem::replace(&mut places[place], None);
-    places[place] = after(names, processes, pid, table);
-}
-
-/// What it makes of one table: nobody's fixes of the process are left, and one of its own goes to its heir or is gone.
-fn after<R: Rows>(
-    names: &mut IndexMap<String, u32>,
-    processes: &IndexMap<u32, Process>,
-    pid: u32,
-    table: Option<Table<R>>,
-) -> Option<Table<R>>
-    ensures after { result ≡ table_after processes.now.entries pid table }
-    ensures index { (hs : List (Option head.Head)) (t : ℕ) → t < length hs → head_at hs t ≡ head_of table → ByName (get_by_text names.old) hs → ByName (get_by_text names.new) (slice_set hs t (head_of result)) }
-{
-    let mut table = table?;
-    table.let_go(pid);
-    if !table.head().is_owned_by(pid) {
-        return Some(table);
-    }
-    let heir = living_heir(processes, table.head()).map(|heir| heir.pid);
-    if let Some(heir) = heir {
-        table.pass_to(heir);
-        return Some(table);
-    }
-    forget(names, table.head());
-    drop(table);
-    None
 }

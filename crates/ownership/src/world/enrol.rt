@@ -5,7 +5,7 @@ ghost use Rattle.ownership.specs.Tables.{Enrol, after_enrol};
 
 use super::World;
 use crate::fault::WorldFault;
-use crate::process::Process;
+use crate::process::{Process, process_in};
 use bucket_table::Rows;
 use ets_term::Items;
 use std::alloc::AllocError;
@@ -15,7 +15,7 @@ impl<R: Rows> World<R> {
     pub fn lives(&self, pid: u32) -> bool
         ensures { result ≡ lives self.now.processes pid }
     {
-        match self.processes.get(&pid) {
+        match process_in(&self.processes, pid) {
             Some(process) => process.lives,
             None => false,
         }

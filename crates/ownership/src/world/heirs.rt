@@ -8,7 +8,6 @@ use crate::fault::WorldFault;
 use crate::head::Heir;
 use crate::messages::{post, transfer};
 use crate::options::heir_said_by;
-use crate::owners::note_owner;
 use crate::table::Table;
 use bucket_table::Rows;
 use ets_term::Term;
@@ -58,7 +57,7 @@ impl<R: Rows> World<R> {
         ensures ok { OnOk result (self.new ≡ record self.old { processes = post self.old.processes owner message; tables = changed (passed_to owner) self.old.tables id }) }
         ensures err { OnErr result (self.new ≡ self.old) }
     {
-        if let Err(error) = note_owner(self.alloc, &mut self.owned, owner, id) {
+        if let Err(error) = self.indices.note_owner(self.alloc, owner, id) {
             drop(message);
             return Err(error);
         }

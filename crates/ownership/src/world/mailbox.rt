@@ -2,7 +2,7 @@ ghost use Rattle.std.specs.Prelude.{◌≡◌};
 ghost use Rattle.ownership.specs.Messages.{mailbox_of, received};
 
 use super::World;
-use crate::process::Process;
+use crate::process::{Process, process_in};
 use bucket_table::Rows;
 use ets_term::{Items, Term};
 use indexmap::IndexMap;
@@ -14,7 +14,7 @@ impl<R: Rows> World<R> {
     pub fn mailbox(&self, pid: u32) -> &[Term]
         ensures { result.now ≡ mailbox_of self.now.processes pid }
     {
-        match self.processes.get(&pid) {
+        match process_in(&self.processes, pid) {
             Some(process) => process.mailbox.as_slice(),
             None => &[],
         }

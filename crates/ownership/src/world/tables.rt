@@ -1,28 +1,20 @@
-ghost use Rattle.std.specs.Prelude.{◌≡◌, ◌+◌, ◌<◌, ◌≤◌, ◌^◌, ◌&&◌, ◌++◌, ◌∷◌, [], true, false, List, Option, Some, None, OnOk, OnErr, IsTrue, nat_le, length, is_some, option_copied, option_map, IfOk, vec_capacity};
+ghost use Rattle.std.specs.Prelude.{◌≡◌, ◌+◌, ◌<◌, ◌^◌, ◌&&◌, false, None, OnOk, OnErr, IsTrue, nat_le, length, is_some, option_copied, option_map, IfOk};
 ghost use Rattle.std.specs.Option.{option_copied_mut};
 ghost use Rattle.std.specs.Borrow.{sem};
 ghost use Rattle.ownership.specs.World.{table_at, head_of, whereis, resolve};
 ghost use Rattle.ownership.specs.Messages.{told};
 ghost use Rattle.ownership.specs.Tables.{New, new_head, with_table, without_table};
 ghost use Rattle.ownership.specs.Outcomes.{Comes};
-ghost use Rattle.ownership.specs.declared.head.Head as model;
-ghost use Rattle.ownership.specs.inside.Names.{find_named, ByName};
-ghost use Rattle.ownership.specs.inside.Indices.{Among, Notes, owned_by};
-ghost use Rattle.indexmap.specs.IndexMap.{get_by_text};
 
 use super::World;
 use crate::fault::WorldFault;
-use crate::fixed::{lend, make_room};
 use crate::head::Head;
 use crate::messages::name_or_identifier;
-use crate::names::{forget, note};
 use crate::options::NewOptions;
-use crate::owners::note_owner;
 use crate::table::Table;
 use bucket_table::Rows;
 use ets_term::{Atom, Term};
 use fixed_walk::Walked;
-use indexmap::IndexMap;
 use std::alloc::{AllocError, Global};
 use std::mem;
 
@@ -50,7 +42,7 @@ impl<R: Rows> World<R> {
     pub fn whereis(&self, name: &Atom) -> Option<u32>
         ensures { result ≡ whereis self.now.tables name.now }
     {
-        self.names.get(name.text()).copied()
+        self.indices.find(name)
     }
 
     /// The identifier of the table that a term names: a table's identifier, or the name of a named one.
@@ -82,7 +74,7 @@ impl<R: Rows> World<R> {
         ensures* lends { sem 𝓛 (LendsTable R.row R.Rows self.entry id result) }
         ensures value { option_copied_mut result ≡ option_map (λ table. table.fixed) (table_at self.old.tables id) }
     {
-        lend(&mut self.fixed, self.places.as_slice(), &mut self.lent, id);
+        self.indices.lend(self.places.as_slice(), id);
         let place = self.places.get_mut(id as usize)?;
         let table = place.as_mut()?;
         Some(table.walked_mut())
@@ -165,23 +157,17 @@ impl<R: Rows> World<R> {
         ensures ok { OnOk result (self.new ≡ with_table self.old table.head table.fixed) }
         ensures err { OnErr result (self.new ≡ self.old) }
     {
-        let id = self.made();
         if let Err(error) = self.places.reserve(1) {
             drop(table);
             return Err(error);
         }
-        if let Err(error) = note_all(
-            self.alloc,
-            &mut self.names,
-            &mut self.owned,
-            &mut self.fixed,
-            table.head(),
-            id,
-        ) {
+        if let Err(error) = self
+            .indices
+            .note(self.alloc, self.places.as_slice(), &table)
+        {
             drop(table);
             return Err(error);
         }
-        lend(&mut self.fixed, self.places.as_slice(), &mut self.lent, id);
         self.places.push_reserved(Some(table));
         Ok(())
     }
@@ -197,32 +183,10 @@ impl<R: Rows> World<R> {
         }
         let table = mem::replace(&mut self.places[place], None);
         if let Some(table) = table {
-            forget(&mut self.names, table.head());
+            self.indices.forget(table.head());
             drop(table);
         }
     }
-}
-
-/// Writes the next identifier down under its owner and its name, and makes room for it among the fixed ones.
-fn note_all(
-    alloc: Global,
-    names: &mut IndexMap<String, u32>,
-    owned: &mut IndexMap<u32, Vec<u32>>,
-    fixed: &mut Vec<u32>,
-    head: &Head,
-    id: u32,
-) -> Result<(), AllocError>
-    ensures fixed { fixed.new.items ≡ fixed.old.items }
-    ensures capacity { vec_capacity fixed.old ≤ vec_capacity fixed.new }
-    ensures room { OnOk result (id + 1 ≤ vec_capacity fixed.new) }
-    ensures stays { Notes (owned_by owned.old.entries) (owned_by owned.new.entries) }
-    ensures owner { OnOk result (Among id (owned_by owned.new.entries head.now.owner)) }
-    ensures named { OnOk result ((hs : List (Option model.Head)) → length hs ≡ id → ByName (get_by_text names.old) hs → (head.now.named ≡ true → find_named hs head.now.name ≡ None) → ByName (get_by_text names.new) (hs ++ Some head.now ∷ [])) }
-    ensures names { OnErr result ((hs : List (Option model.Head)) → ByName (get_by_text names.old) hs → ByName (get_by_text names.new) hs) }
-{
-    make_room(fixed, id as usize + 1)?;
-    note_owner(alloc, owned, head.owner, id)?;
-    note(alloc, names, head, id)
 }
 
 /// What `new` answers, and what stands over the new table.

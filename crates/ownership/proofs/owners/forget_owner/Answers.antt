@@ -1,7 +1,0 @@
-use Rattle.std.specs.Map.{lookup}
-use Rattle.std.specs.Prelude.{◌==◌}
-use Rattle.ownership.proofs.Owning.{forgotten}
-use Rattle.ownership.proofs.owners.forget_owner.Goals as goal
-
-pub returns : goal.returns
-returns c = forgotten (λ q. lookup (λ k. q == k) c.args.owned.now.entries) (λ q. lookup (λ k. q == k) c.swap_remove.new.self.entries) c.args.owner (λ q. c.swap_remove.ensures.updates.0 q)

@@ -1,0 +1,49 @@
+// The index by name.
+ghost use Rattle.std.specs.Prelude.{◌≡◌, ◌++◌, ◌∷◌, ℕ, [], true, List, Option, Some, None, OnOk, OnErr, length, slice_set};
+ghost use Rattle.indexmap.specs.IndexMap.{get_by_text};
+ghost use Rattle.ownership.specs.declared.head.Head as model;
+ghost use Rattle.ownership.specs.World.{Tables, head_of, table_at, whereis};
+ghost use Rattle.ownership.specs.inside.Names.{find_named, ByName};
+ghost use Rattle.ownership.specs.inside.Indices.{IsKept};
+
+use super::Indices;
+use crate::head::Head;
+use ets_term::Atom;
+use std::alloc::{AllocError, Global};
+
+impl Indices {
+    /// The identifier of the table with this name.
+    pub fn find(&self, name: &Atom) -> Option<u32>
+        ensures { (tables : Tables) → IsKept self.now tables → result ≡ whereis tables name.now }
+    {
+        self.names.get(name.text()).copied()
+    }
+
+    /// Writes the next identifier down under the name of a table, if it is a named one.
+    pub(super) fn note_name(
+        &mut self,
+        alloc: Global,
+        head: &Head,
+        id: u32,
+    ) -> Result<(), AllocError>
+        ensures rest { self.new ≡ record self.old { names = self.new.names } }
+        ensures ok { OnOk result ((hs : List (Option model.Head)) → length hs ≡ id → ByName (get_by_text self.old.names) hs → (head.now.named ≡ true → find_named hs head.now.name ≡ None) → ByName (get_by_text self.new.names) (hs ++ Some head.now ∷ [])) }
+        ensures err { OnErr result ((hs : List (Option model.Head)) → ByName (get_by_text self.old.names) hs → ByName (get_by_text self.new.names) hs) }
+    {
+        if head.named {
+            self.names
+                .insert(String::from_str(alloc, head.name.text())?, id)?;
+        }
+        Ok(())
+    }
+
+    /// The name of a table that goes is free again. It takes no memory.
+    pub fn forget(&mut self, head: &Head)
+        ensures rest { self.new ≡ record self.old { names = self.new.names } }
+        ensures kept { (tables : Tables) (t : ℕ) → head_of (table_at tables t) ≡ Some head.now → IsKept self.old tables → IsKept self.new (slice_set tables t None) }
+    {
+        if head.named {
+            let _ = self.names.swap_remove(head.name.text());
+        }
+    }
+}
