@@ -5,15 +5,14 @@ use Rattle.std.specs.List.{list_any}
 use Rattle.std.proofs.lemmas.Bool.Decides.{nat_tests}
 use Rattle.ets_term.specs.declared.term.Term.{Term, the_lemmas}
 use Rattle.ets_term.specs.declared.term.Term.TheVariants.{Tuple}
-use Rattle.ets_term.specs.declared.term.TheConstants.{MAX_DEPTH}
-use Rattle.ets_term.specs.Depth.{depth, largest, is_too_deep}
+use Rattle.ets_term.specs.Depth.{depth, largest, max_depth, is_too_deep}
 use Rattle.counters.specs.Elements.{has_all, is_over_deep, written}
 use Rattle.counters.specs.declared.elements.ElementSpec.{ElementSpec}
 use Rattle.counters.specs.laws.Depths.{MakesTooDeep}
 
 -- whether a value is as deep as a whole object may be
 abbrev is_deep : Term → Bool
-is_deep value = nat_le MAX_DEPTH (depth value)
+is_deep value = nat_le max_depth (depth value)
 
 -- whether some value goes to a position
 abbrev names : List ElementSpec → ℕ → Bool
@@ -102,12 +101,12 @@ depth-Tuple es = search (rules, the_lemmas)
 over-max : (n a b : ℕ) → nat_lt n (max a b + 1) ≡ (nat_le n a || nat_lt n (b + 1))
 over-max n a b = grind (arith, nat_tests)
 
-over-any : (es : List Term) → nat_lt MAX_DEPTH (largest (map depth es) + 1) ≡ list_any is_deep es
+over-any : (es : List Term) → nat_lt max_depth (largest (map depth es) + 1) ≡ list_any is_deep es
 over-any [] = refl
-over-any (e ∷ es) = over-max MAX_DEPTH (depth e) (largest (map depth es)) ∙ ap (λ b. is_deep e || b) (over-any es)
+over-any (e ∷ es) = over-max max_depth (depth e) (largest (map depth es)) ∙ ap (λ b. is_deep e || b) (over-any es)
 
 deep-Tuple : (es : List Term) → is_too_deep (Tuple es) ≡ list_any is_deep es
-deep-Tuple es = ap (nat_lt MAX_DEPTH) (depth-Tuple es) ∙ over-any es
+deep-Tuple es = ap (nat_lt max_depth) (depth-Tuple es) ∙ over-any es
 
 or-none : (a : Bool) → (a || false) ≡ a
 or-none true = refl
