@@ -43,7 +43,8 @@ def parts_of(words, copy, logs):
     cuts = Part("the examples, cut at every byte", [f"{TOP}/.ci/cuts", program], after=[proofs])
     refusals = Part("memory refused", [f"{TOP}/.ci/refusals", program], after=[proofs], show=r"^refusals: ")
     erlang = Part("Erlang over the program", [f"{TOP}/.ci/door_erlang", program], after=[proofs])
-    return [*unproved(logs), itself, door, cuts, refusals, erlang], proofs, edits
+    c = Part("the store for C", [f"{TOP}/.ci/door_c", copy], after=[proofs], show=r"^door_c: ")
+    return [*unproved(logs), itself, door, cuts, refusals, erlang, c], proofs, edits
 
 
 def report(edits, costs):

@@ -1,6 +1,10 @@
 """The client beside the answers of ../client.ets, which the gate holds against the program itself, and beside programs
-that stand in for it. With --program it talks to the program: python3 examples/python/test_yoyoash.py [--program]"""
+that stand in for it; and with the store in its own process, where the library is built. With --program it talks to the program, and
+with --library it loads another file than crates/ets_c/out/libets.so:
+python3 examples/python/test_yoyoash.py [--program] [--library FILE]"""
 
+import collections
+import enum
 import pathlib
 import random
 import re
@@ -9,8 +13,10 @@ import threading
 import unittest
 
 from yoyoash import CALLS, Atom, BadArg, Gone, LineTooLong, NoMemory, NoProcess, Pid, Process, Store, Syntax, SystemLimit, Tid, parse, spell
+from yoyoash.library import LIBRARY
 
 HERE = pathlib.Path(__file__).resolve().parent
+GIVEN = pathlib.Path(sys.argv[sys.argv.index("--library") + 1]) if "--library" in sys.argv else LIBRARY
 RECORDED = [sys.executable, str(HERE / "replay.py"), str(HERE.parent / "client.ets")]
 # Answers `K` to `p lookup('t',K)`, and the line's number to any other.
 ECHO = [sys.executable, "-c", "import sys\nfor n, line in enumerate(sys.stdin):\n print(line[13:-2] if line.startswith('p lookup') else n, flush=True)"]
@@ -72,10 +78,15 @@ class Terms(unittest.TestCase):
         for place, term in enumerate(terms):
             self.assertEqual([place], [other for other, it in enumerate(terms) if it == term])
 
+    def test_a_value_of_a_derived_type_is_spelled_as_its_term(self):
+        point, colour = collections.namedtuple("Point", "x y"), enum.IntEnum("Colour", "RED GREEN")
+        self.assertEqual(spell([point(1, (colour.GREEN,)), []]), "[{1,{2}},[]]")
+
     def test_what_is_no_term_is_not_spelled(self):
         for value in [True, "text", 1.5, None, {}]:
-            with self.assertRaises(TypeError):
-                spell([value])
+            for term in [value, [value]]:
+                with self.assertRaises(TypeError):
+                    spell(term)
         for value in [2**63, -(2**63) - 1]:
             with self.assertRaises(ValueError):
                 spell((value,))
@@ -84,7 +95,7 @@ class Terms(unittest.TestCase):
                 make()
 
     def test_other_texts_are_no_terms(self):
-        for text in ["", "{", "}", "{1]x", "[1", "1 2", "A", "'a", "1,2", "<<1>", "?"]:
+        for text in ["", "{", "}", "{1]", "{1]x", "[1", "1 2", "A", "'a", "1,2", "<<1>", "?"]:
             with self.assertRaises(ValueError):
                 parse(text)
 
@@ -92,8 +103,11 @@ class Terms(unittest.TestCase):
 class Calls(unittest.TestCase):
     command: list[str] = RECORDED
 
+    def opened(self):
+        return Store(self.command)
+
     def test_two_processes_and_a_table(self):
-        with Store(self.command) as store:
+        with self.opened() as store:
             anna, ben = store.spawn("anna"), store.spawn("ben")
             self.assertEqual((anna.pid, ben.pid), (Pid(0), Pid(1)))
             prices = anna.new(Atom("prices"), [Atom("named_table")])
@@ -179,7 +193,91 @@ class Programs(unittest.TestCase):
             self.assertIsInstance(fourth, Gone)
 
 
+@unittest.skipUnless(GIVEN.is_file(), f"there is no {GIVEN.name} (docs/c.md tells how to build it)")
+class InProcess(Calls):
+    def opened(self, **limits):
+        return Store.in_process(GIVEN, **limits)
+
+    def table(self, store):
+        p = store.spawn("p")
+        return p, p.new(Atom("t"), [Atom("named_table")])
+
+    def test_limits(self):
+        with self.opened(processes=1, tables=1, objects=2) as store:
+            p, t = self.table(store)
+            for refused in [lambda: store.spawn("q"), lambda: p.new(Atom("u"), []), lambda: p.insert(t, [(1,), (2,), (3,)])]:
+                with self.assertRaises(SystemLimit):
+                    refused()
+            with self.assertRaises(BadArg):
+                store.spawn("p")
+            self.assertEqual(p.tab2list(t), [])
+
+    def test_a_thousand_terms_there_and_back(self):
+        numbers = random.Random(7)
+        with self.opened() as store:
+            p, t = self.table(store)
+            for number in range(1_000):
+                term = some_term(numbers)
+                p.insert(t, (number, term))
+                self.assertEqual(p.lookup(t, number), [(number, term)])
+
+    def test_a_reply_longer_than_its_room_is_told_whole_and_done_once(self):
+        with self.opened() as store:
+            p, t = self.table(store)
+            p.insert(t, (0, list(range(10_000))))
+            self.assertEqual(p.take(t, 0), [(0, list(range(10_000)))])
+            self.assertEqual(p.take(t, 0), [])
+
+    def test_lines(self):
+        with self.opened() as store:
+            self.table(store)
+            self.assertEqual(store.ask("\tp  new ( u , [ ] ) "), Tid(1))
+            for line, at in [("p lookup(t,{a)", 13), ("p lookup(t,A)", 11), ("p lookup(t,a)(", 0), ("grow t", 6), ("p lookup(t,a}", 0)]:
+                with self.assertRaises(Syntax) as refused:
+                    store.ask(line)
+                self.assertEqual(refused.exception.at, at)
+            for line in ["q receive()", "exit q"]:
+                with self.assertRaises(NoProcess):
+                    store.ask(line)
+            self.assertEqual(store.ask("p receive()"), [])
+
+    def test_a_closed_store_is_gone(self):
+        store = self.opened()
+        p, t = self.table(store)
+        store.close()
+        store.close()
+        for call in [lambda: p.lookup(t, 1), lambda: store.spawn("q"), p.exit]:
+            with self.assertRaises(Gone):
+                call()
+
+    def test_another_thread_is_refused(self):
+        told = []
+
+        def look(process):
+            try:
+                process.receive()
+            except RuntimeError as error:
+                told.append(error)
+
+        with self.opened() as store:
+            thread = threading.Thread(target=look, args=(store.spawn("p"),))
+            thread.start()
+            thread.join()
+        self.assertEqual(len(told), 1)
+
+    def test_a_pipeline(self):
+        with self.opened() as store:
+            p, t = self.table(store)
+            with p.pipeline() as calls:
+                for number in range(100):
+                    calls.insert(t, (number,))
+            self.assertEqual(calls.answers, [Atom("true")] * 100)
+
+
 if __name__ == "__main__":
+    if "--library" in sys.argv:
+        at = sys.argv.index("--library")
+        del sys.argv[at : at + 2]
     if "--program" in sys.argv:
         sys.argv.remove("--program")
         Calls.command = [str(HERE.parents[1] / "ets_script")]

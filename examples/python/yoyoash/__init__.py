@@ -10,11 +10,11 @@
 
 docs/python.md tells the rest."""
 
-from .faults import BadArg, Fault, Gone, LineTooLong, NoMemory, NoProcess, Syntax, SystemLimit
+from .faults import BadArg, Fault, Gone, LineTooLong, NoMemory, NoProcess, Syntax, SystemLimit, Untold
 from .store import CALLS, Pipeline, Process, Store
 from .terms import Atom, Pid, Term, Tid, parse, spell
 
 __all__ = [
     "Atom", "BadArg", "CALLS", "Fault", "Gone", "LineTooLong", "NoMemory", "NoProcess", "Pid", "Pipeline",
-    "Process", "Store", "Syntax", "SystemLimit", "Term", "Tid", "parse", "spell",
+    "Process", "Store", "Syntax", "SystemLimit", "Term", "Tid", "Untold", "parse", "spell",
 ]  # fmt: skip

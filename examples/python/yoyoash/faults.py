@@ -39,11 +39,15 @@ class LineTooLong(Fault):
     """The line has over 65,536 bytes. It was skipped."""
 
 
+class Untold(Fault):
+    """The call was done, in this process, but there was no memory for the text of its reply."""
+
+
 class Gone(Fault):
-    """The program has ended, and whether the call was done is not known."""
+    """The program has ended, and whether the call was done is not known; or the store in this process is closed."""
 
 
-KINDS = {"badarg": BadArg, "system_limit": SystemLimit, "noproc": NoProcess, "nomem": NoMemory, "line too long": LineTooLong}
+KINDS = {"badarg": BadArg, "system_limit": SystemLimit, "noproc": NoProcess, "nomem": NoMemory, "line too long": LineTooLong, "untold": Untold}
 
 
 def fault(line: str, reason: str) -> Fault:

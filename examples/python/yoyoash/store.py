@@ -1,14 +1,13 @@
-"""A running program, its processes, and calls sent together."""
+"""A store, its processes, and calls sent together."""
 
 from __future__ import annotations
 
-import pathlib
 import re
-import subprocess
-import threading
-from collections.abc import Iterator, Sequence
+from collections.abc import Sequence
 
 from .faults import Fault, Gone, fault
+from .library import LIBRARY, Library
+from .pipe import PROGRAM, Pipe, line_of
 from .terms import Pid, Term, parse, spell
 
 # The calls of docs/calls.md.
@@ -17,19 +16,22 @@ CALLS = (
     " update_element match match_object match_delete select select_count select_delete first next first_lookup next_lookup"
     " safe_fixtable give_away setopts whereis info receive"
 ).split()
-# So many bytes of lines are sent before their answers are read: a pipe holds them, so neither side waits for the other.
-TOGETHER = 32_768
-PROGRAM = pathlib.Path(__file__).resolve().parents[3] / "ets_script"
 
 
 class Store:
-    """One running `ets_script`. It may be used by several threads: each line and its answer are one turn."""
+    """A store, in a program at the other end of a pipe or in this process. A program may be used by several threads, a store in
+    this process by the one that opened it."""
 
     def __init__(self, command: Sequence[str] = (str(PROGRAM),), **options):
         """Starts the program; `options` are those of subprocess.Popen."""
-        self._program = subprocess.Popen(command, stdin=subprocess.PIPE, stdout=subprocess.PIPE, text=True, encoding="ascii", **options)
-        self._turn = threading.Lock()
-        self._is_gone = False
+        self._way: Pipe | Library = Pipe(command, **options)
+
+    @classmethod
+    def in_process(cls, library=LIBRARY, **limits: int) -> Store:
+        """A store in this process, by the library that docs/c.md builds; `limits` are `processes`, `tables` and `objects`."""
+        store = cls.__new__(cls)
+        store._way = Library(library, **limits)
+        return store
 
     def spawn(self, name: str) -> Process:
         """Enrols a process under a name of the script."""
@@ -50,35 +52,12 @@ class Store:
             # (a line without an answer would shift all that come after it)
             if not re.fullmatch(r"[ -~\t]+", line) or not line.strip() or line.lstrip().startswith("%"):
                 raise ValueError(f"{line!r} is no line that is answered")
-        with self._turn:
-            return [answer for part in _parts(lines) for answer in self._exchange(part)]
-
-    def _exchange(self, lines: Sequence[str]) -> Iterator[Term | Fault]:
-        """Sends some lines, and reads as many answers."""
-        if not self._is_gone:
-            try:
-                self._program.stdin.write("".join(f"{line}\n" for line in lines))
-                self._program.stdin.flush()
-            except (BrokenPipeError, ValueError):
-                self._is_gone = True
-        for line in lines:
-            answer = "" if self._is_gone else self._program.stdout.readline()
-            if answer.endswith("\n"):
-                answer = answer[:-1]
-                yield fault(line, answer[3:]) if answer.startswith("** ") else parse(answer)
-            else:
-                self._is_gone = True
-                yield Gone(line, "the program has ended")
+        answers = self._way.lines(lines)
+        return [parse(it) if _is_term(it) else _fault(line, it) for line, it in zip(lines, answers)]
 
     def close(self) -> None:
-        """Ends the program. It may be closed again."""
-        self._is_gone = True
-        try:
-            self._program.stdin.close()
-        except BrokenPipeError:
-            pass
-        self._program.stdout.close()
-        self._program.wait()
+        """Ends the store. It may be closed again."""
+        self._way.close()
 
     def __enter__(self) -> Store:
         return self
@@ -87,33 +66,30 @@ class Store:
         self.close()
 
 
-def _parts(lines: Sequence[str]) -> Iterator[Sequence[str]]:
-    """The lines, as many together as may be sent before their answers are read."""
-    part, size = [], 0
-    for line in lines:
-        if part and size + len(line) >= TOGETHER:
-            yield part
-            part, size = [], 0
-        part.append(line)
-        size += len(line) + 1
-    if part:
-        yield part
+def _is_term(answer: str | None) -> bool:
+    return answer is not None and not answer.startswith("** ")
+
+
+def _fault(line: str, answer: str | None) -> Fault:
+    """What an answer that is no term tells; None tells that no answer came."""
+    return Gone(line, "the store has ended") if answer is None else fault(line, answer[3:])
 
 
 class _Caller:
     """Any call of docs/calls.md is a method."""
 
-    name: str
+    def __init__(self, store: Store, name: str, pid: Pid):
+        self.store, self.name, self.pid = store, name, pid
 
 
 class Process(_Caller):
     """A process of the store: its calls are methods, which answer or raise a Fault."""
 
-    def __init__(self, store: Store, name: str, pid: Pid):
-        self.store, self.name, self.pid = store, name, pid
-
-    def _call(self, line: str) -> Term:
-        return self.store.ask(line)
+    def _call(self, name: str, arguments: str) -> Term:
+        answer = self.store._way.call(self.name, self.pid, name, arguments)
+        if _is_term(answer):
+            return parse(answer)
+        raise _fault(line_of(self.name, name, arguments), answer)
 
     def exit(self) -> Term:
         """Ends the process."""
@@ -121,7 +97,7 @@ class Process(_Caller):
 
     def pipeline(self) -> Pipeline:
         """Calls that are collected, and sent together."""
-        return Pipeline(self)
+        return Pipeline(self.store, self.name, self.pid)
 
     def __repr__(self) -> str:
         return f"<process {self.name} {self.pid!r}>"
@@ -131,17 +107,19 @@ class Pipeline(_Caller):
     """Calls of a process that are collected. `run`, or the end of a `with`, sends them; `answers` then has an answer or a
     Fault for each, in order."""
 
-    def __init__(self, process: Process):
-        self.store, self.name = process.store, process.name
-        self.lines: list[str] = []
+    def __init__(self, store: Store, name: str, pid: Pid):
+        super().__init__(store, name, pid)
+        self.calls: list[tuple[str, str]] = []
         self.answers: list[Term | Fault] = []
 
-    def _call(self, line: str) -> None:
-        self.lines.append(line)
+    def _call(self, name: str, arguments: str) -> None:
+        self.calls.append((name, arguments))
 
     def run(self) -> list[Term | Fault]:
         """Sends what was collected, and answers the answers."""
-        self.answers, self.lines = self.store.ask_all(self.lines), []
+        calls, self.calls = self.calls, []
+        answers = self.store._way.calls(self.name, self.pid, calls)
+        self.answers = [parse(it) if _is_term(it) else _fault(line_of(self.name, *call), it) for call, it in zip(calls, answers)]
         return self.answers
 
     def __enter__(self) -> Pipeline:
@@ -154,7 +132,7 @@ class Pipeline(_Caller):
 
 def _method(call: str):
     def method(self, *terms: Term):
-        return self._call(f"{self.name} {call}({','.join(map(spell, terms))})")
+        return self._call(call, ",".join(map(spell, terms)))
 
     method.__name__, method.__doc__ = call, f"The call `{call}` of docs/calls.md."
     return method

@@ -2,6 +2,7 @@
 
 from __future__ import annotations
 
+import functools
 import re
 from dataclasses import dataclass
 from typing import Union
@@ -56,73 +57,113 @@ class _Sign(str):
     __slots__ = ()
 
 
+def _integer(number: int) -> str:
+    if not LEAST <= number <= GREATEST:
+        raise ValueError(f"{number} is past the range of integers")
+    return str(int(number))
+
+
+def _quoted(atom: Atom) -> str:
+    return "'" + atom.text.replace("\\", "\\\\").replace("'", "\\'") + "'"
+
+
+# How each kind of term is spelled that has no terms in it.
+LEAVES = {
+    int: _integer,
+    Atom: _quoted,
+    Pid: lambda it: f"<0.{it.number}.0>",
+    Tid: lambda it: f"#Tid<{it.number}>",
+    bytes: lambda it: "<<" + ",".join(map(str, it)) + ">>",
+    _Sign: str,
+}
+
+
 def spell(term: Term) -> str:
     """The text of a term. What is no term is a TypeError, and a number past its range a ValueError."""
+    leaf = LEAVES.get(type(term))
+    if leaf:
+        return leaf(term)
     parts: list[str] = []
     left: list = [term]
     while left:
         it = left.pop()
-        match it:
-            case _Sign():
-                parts.append(it)
-            case bool() | str():
-                raise TypeError(f"{it!r} is no term; an atom is Atom({str(it).lower()!r})")
-            case int():
-                if not LEAST <= it <= GREATEST:
-                    raise ValueError(f"{it} is past the range of integers")
-                parts.append(str(int(it)))
-            case Atom():
-                parts.append("'" + it.text.replace("\\", "\\\\").replace("'", "\\'") + "'")
-            case Pid():
-                parts.append(f"<0.{it.number}.0>")
-            case Tid():
-                parts.append(f"#Tid<{it.number}>")
-            case bytes():
-                parts.append("<<" + ",".join(map(str, it)) + ">>")
-            case tuple() | list():
-                opening, closing = "{}" if isinstance(it, tuple) else "[]"
-                parts.append(opening)
-                left.append(_Sign(closing))
-                for place, element in enumerate(reversed(it)):
-                    if place:
-                        left.append(_Sign(","))
-                    left.append(element)
-            case _:
-                raise TypeError(f"{it!r} is no term")
+        leaf = LEAVES.get(type(it))
+        if leaf:
+            parts.append(leaf(it))
+        elif isinstance(it, (tuple, list)):
+            opening, closing = "{}" if isinstance(it, tuple) else "[]"
+            parts.append(opening)
+            left.append(_Sign(closing))
+            for place, element in enumerate(reversed(it)):
+                if place:
+                    left.append(_COMMA)
+                left.append(element)
+        else:
+            parts.append(_spell_kin(it))
     return "".join(parts)
 
 
-# An integer, a bracket that opens, one that closes, an atom, a binary, a pid, an identifier, what else there is; an atom in quotes.
-TOKEN = re.compile(r"(?:(-?\d+)|([{\[])|([}\]])|([a-z]\w*(?:@\w*)*)|(<<[\d,]*>>)|<0\.(\d+)\.0>|#Tid<(\d+)>|'((?:[^'\\]|\\.)*)'),?|(.)", re.ASCII | re.DOTALL)
+_COMMA = _Sign(",")
+
+
+def _spell_kin(it) -> str:
+    """The text of a value whose type is derived from that of a term."""
+    if isinstance(it, (bool, str)):
+        raise TypeError(f"{it!r} is no term; an atom is Atom({str(it).lower()!r})")
+    for kind, leaf in LEAVES.items():
+        if isinstance(it, kind):
+            return leaf(it)
+    raise TypeError(f"{it!r} is no term")
+
+
+# An integer, a bracket, an atom, an atom in quotes, a binary, a pid, an identifier, and what else there is.
+TOKEN = re.compile(r"(-?\d+|[{}\[\]]|[a-z]\w*(?:@\w*)*|'(?:[^'\\]|\\.)*'|<<[\d,]*>>|<0\.\d+\.0>|#Tid<\d+>|.),?", re.ASCII | re.DOTALL)
+OPENED_BY = {"}": "{", "]": "["}
 
 
 def parse(text: str) -> Term:
     """The term with this text, as the store prints it; else a ValueError."""
     top: list = []
-    terms, outer, atoms = top, [], {}
-    for number, opening, closing, plain, binary, pid, tid, quoted, other in TOKEN.findall(text):
-        if number:
-            terms.append(int(number))
-        elif opening:
-            outer.append((terms, opening))
+    terms, outer = top, []
+    for token in TOKEN.findall(text):
+        if token.isdigit():
+            terms.append(int(token))
+        elif token == "[" or token == "{":
+            outer.append((terms, token))
             terms = []
-        elif closing and outer:
-            made, (terms, opening) = terms, outer.pop()
-            terms.append(tuple(made) if opening == "{" else made)
-        elif plain:
-            if plain not in atoms:
-                atoms[plain] = Atom(plain)
-            terms.append(atoms[plain])
-        elif binary:
-            terms.append(bytes(map(int, filter(None, binary[2:-2].split(",")))))
-        elif pid:
-            terms.append(Pid(int(pid)))
-        elif tid:
-            terms.append(Tid(int(tid)))
-        elif other or closing:
-            raise ValueError(f"{text[:80]!r} is not the text of a term")
+        elif token == "]" or token == "}":
+            made, (terms, opening) = terms, outer.pop() if outer else (top, "")
+            if opening != OPENED_BY[token]:
+                raise _no_term(text)
+            terms.append(tuple(made) if token == "}" else made)
+        elif "a" <= token[0] <= "z":
+            terms.append(_plain(token))
+        elif len(token) > 1:
+            terms.append(_leaf(token))
         else:
-            terms.append(Atom(re.sub(r"\\(.)", r"\1", quoted)))
+            raise _no_term(text)
     if outer or len(top) != 1:
-        raise ValueError(f"{text[:80]!r} is not the text of a term")
+        raise _no_term(text)
     return top[0]
+
+
+# (a table's replies have few atoms, over and over)
+_plain = functools.lru_cache(1_024)(Atom)
+
+
+def _leaf(token: str) -> Term:
+    """The term of a token of more than a sign: an atom in quotes, a binary, a pid, an identifier, or a negative integer."""
+    match token[0], token[1]:
+        case "'", _:
+            return Atom(re.sub(r"\\(.)", r"\1", token[1:-1]))
+        case "<", "<":
+            return bytes(map(int, filter(None, token[2:-2].split(","))))
+        case "<", _:
+            return Pid(int(token[3:-3]))
+        case "#", _:
+            return Tid(int(token[5:-1]))
+    return int(token)
+
+
+def _no_term(text: str) -> ValueError:
+    return ValueError(f"{text[:80]!r} is not the text of a term")

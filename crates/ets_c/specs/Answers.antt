@@ -1,0 +1,46 @@
+-- What a call of the interface tells.
+use Rattle.std.specs.Prelude.{◌≡◌, ℕ, ℤ, ◌⊎◌, List, ◌++◌, length, take, drop, min}
+use Rattle.node_core.specs.declared.step.Reply.{Reply}
+use Rattle.node_core.specs.declared.step.Reply.TheVariants.{Value, Badarg, SystemLimit, NoProcess}
+use Rattle.term_text.specs.Printed.{printed}
+use Rattle.ets_c.specs.declared.status.TheConstants as is
+
+-- the status that is answered, the length that is told, and the caller's room before and after
+pub record Told : Type 0 where
+  pub status : ℤ
+  pub len : ℕ
+  pub before : List ℕ
+  pub after : List ℕ
+
+abbrev pub told : ℤ → ℕ → List ℕ → List ℕ → Told
+told status len before after = record { status = status; len = len; before = before; after = after }
+
+abbrev pub status_of : Reply → ℤ
+status_of (Value t) = is.VALUE
+status_of Badarg = is.BADARG
+status_of SystemLimit = is.SYSTEM_LIMIT
+status_of NoProcess = is.NO_PROCESS
+
+-- as much of a text as there is room for, and behind it what was there
+abbrev pub front_of : List ℕ → List ℕ → List ℕ
+front_of text out = take (min (length text) (length out)) text ++ drop (min (length text) (length out)) out
+
+-- a status and a number are told, and the room is as it was
+abbrev pub TellsNumber : ℤ → ℕ → Told → Type 0
+TellsNumber status len t = (t.status ≡ status) × (t.len ≡ len) × (t.after ≡ t.before)
+
+-- nothing is told but a status
+abbrev pub TellsNone : ℤ → Told → Type 0
+TellsNone status = TellsNumber status 0
+
+-- A text is told: its length, and as much of it as there is room for; or there was no memory for it.
+abbrev pub TellsText : List ℕ → Told → Type 0
+TellsText text t =
+    ((t.status ≡ is.VALUE) × (t.len ≡ length text) × (t.after ≡ front_of text t.before)) ⊎ TellsNone is.UNTOLD t
+
+-- what is told of a reply
+abbrev pub Tells : Reply → Told → Type 0
+Tells (Value t) = TellsText (printed t)
+Tells Badarg = TellsNone is.BADARG
+Tells SystemLimit = TellsNone is.SYSTEM_LIMIT
+Tells NoProcess = TellsNone is.NO_PROCESS

@@ -1,0 +1,34 @@
+//! What a call of the interface answers: a number, as examples/c/ets.h names them.
+ghost use Rattle.std.specs.Prelude.{◌≡◌};
+ghost use Rattle.ets_c.specs.Answers.{status_of};
+
+use node_core::Reply;
+
+/// The step was done, and its reply is a term.
+pub const VALUE: i32 = 0;
+/// The arguments are wrong, the table does not exist, or the process has no access to it.
+pub const BADARG: i32 = 1;
+/// A limit would be passed.
+pub const SYSTEM_LIMIT: i32 = 2;
+/// The process that asks or ends does not live.
+pub const NO_PROCESS: i32 = 3;
+/// There was no memory, and nothing has changed.
+pub const NO_MEMORY: i32 = 4;
+/// The text is no call, and nothing has changed.
+pub const SYNTAX: i32 = 5;
+/// The handle has no store.
+pub const CLOSED: i32 = 6;
+/// The step was done and its reply is a term, but there was no memory for the reply's text.
+pub const UNTOLD: i32 = 7;
+
+/// The status of a reply whose text is told.
+pub fn status_of(reply: &Reply) -> i32
+    ensures { result ≡ status_of reply.now }
+{
+    match reply {
+        Reply::Value(_) => VALUE,
+        Reply::Badarg => BADARG,
+        Reply::SystemLimit => SYSTEM_LIMIT,
+        Reply::NoProcess => NO_PROCESS,
+    }
+}
