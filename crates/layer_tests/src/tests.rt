@@ -1,6 +1,7 @@
 mod depths;
 mod fixes;
 mod hashes;
+mod keyed;
 mod keys;
 mod lists;
 mod terms;

@@ -1,0 +1,56 @@
+//! The hash with a seed, beside values of its definition that were computed outside.
+use ets_term::{Atom, Items, KeyHash, Keyed, Term};
+use std::alloc::Global;
+use std::process::Abort;
+
+/// The elements `a` and -1.
+fn pair(alloc: Global) -> Option<Items<Term>> {
+    let mut pair = Items::new(alloc);
+    pair.push(Term::Atom(Atom::new(alloc, "a").ok()?)).ok()?;
+    pair.push(Term::Int(-1)).ok()?;
+    Some(pair)
+}
+
+fn binary(alloc: Global) -> Option<Term> {
+    Some(Term::Binary(Items::from_vec([0, 255].to_vec(alloc).ok()?)))
+}
+
+/// A term of each kind, built anew.
+fn terms(alloc: Global) -> Option<Items<Term>> {
+    let mut terms = pair(alloc)?;
+    terms.push(Term::Pid(7)).ok()?;
+    terms.push(Term::Tid(7)).ok()?;
+    terms.push(Term::Tuple(pair(alloc)?)).ok()?;
+    terms.push(Term::List(pair(alloc)?)).ok()?;
+    terms.push(binary(alloc)?).ok()?;
+    Some(terms)
+}
+
+/// Whether these are the numbers of the terms, one after the other.
+fn are_hashed(hash: Keyed, terms: &[Term], wanted: &[u32]) -> bool {
+    for (term, number) in terms.iter().zip(wanted) {
+        if hash.hash32(term) != *number {
+            return false;
+        }
+    }
+    terms.len() == wanted.len()
+}
+
+fn hash_to(alloc: Global, seed: u64, wanted: &[u32]) -> Option<bool> {
+    Some(are_hashed(Keyed(seed), terms(alloc)?.as_slice(), wanted))
+}
+
+/// The numbers of the terms by the least seed, and by the greatest.
+const LEAST: [u32; 7] = [
+    3020293046, 3392210284, 1234998835, 1461041013, 59783969, 521650583, 1269847963,
+];
+
+const GREATEST: [u32; 7] = [
+    3212429134, 3312901293, 160548916, 3176778760, 3473404357, 2591668055, 1497524047,
+];
+
+#[test]
+fn numbers_of_two_seeds(rt: HostRuntime) {
+    assert!(rt; hash_to(rt.alloc(), 0, &LEAST) == Some(true));
+    assert!(rt; hash_to(rt.alloc(), u64::MAX, &GREATEST) == Some(true));
+}
