@@ -6,7 +6,7 @@ use Rattle.ets_term.specs.declared.term.Term.{Term}
 use Rattle.split_key.specs.Keys.{key_of_item, key_of_dummy}
 use Rattle.node_list.specs.Cells.{Cell, Sorted, new_cell}
 use Rattle.node_list.specs.Places.{behind, all_but_first, key_at, AreApart, HasItem, StandsUpTo}
-use Rattle.bucket_table.specs.inside.Layout.{ArePlaced, IsSplit, IsStartOf, StandsBelow}
+use Rattle.bucket_table.specs.inside.Directory.{ArePlaced, IsSplit, IsStartOf, StandsBelow}
 use Rattle.bucket_table.specs.inside.Firsts.{first_in, AreHints, IsFirstBelow}
 use Rattle.bucket_table.specs.inside.Found.{IsFound}
 use Rattle.bucket_table.proofs.ContentLaws.{placed-key}

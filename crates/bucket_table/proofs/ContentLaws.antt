@@ -16,7 +16,7 @@ use Rattle.node_list.specs.Changes.{cells_with}
 use Rattle.node_list.proofs.CellLaws.{from-here, from-on, without-here, without-on, search-here}
 use Rattle.bucket_table.specs.Slots.{Slot, slots_behind}
 use Rattle.bucket_table.specs.inside.Nodes.{slots_of, with_slot}
-use Rattle.bucket_table.specs.inside.Layout.{IsPlaced, ArePlaced}
+use Rattle.bucket_table.specs.inside.Directory.{IsPlaced, ArePlaced}
 use Rattle.bucket_table.specs.inside.Found.{IsFound}
 
 pub item-cases : (o : Option Item) → (o ≡ None) ⊎ ((item : Item) × (o ≡ Some item))

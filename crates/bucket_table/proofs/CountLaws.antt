@@ -13,7 +13,7 @@ use Rattle.node_list.proofs.CellLaws.{from-here, from-on, at-most-from, search-o
 use Rattle.node_list.proofs.CallerLaws.{is_item_below}
 use Rattle.bucket_table.specs.Slots.{Slot}
 use Rattle.bucket_table.specs.inside.Nodes.{slots_of, with_slot}
-use Rattle.bucket_table.specs.inside.Layout.{IsPlaced, ArePlaced}
+use Rattle.bucket_table.specs.inside.Directory.{IsPlaced, ArePlaced}
 use Rattle.bucket_table.specs.Buckets.{hash_keys, bucket_keys}
 use Rattle.bucket_table.proofs.ContentLaws.{item-cases, placed-key}
 

@@ -18,10 +18,10 @@ use Rattle.node_list.specs.Ticks.{ticks}
 use Rattle.node_list.proofs.CellLaws.{from-here, from-on, sorted-from}
 use Rattle.node_list.proofs.CallerLaws.{is_item_below, ItemsBelow, length-passed}
 use Rattle.bucket_table.specs.inside.Nodes.{slots_of}
-use Rattle.bucket_table.specs.inside.Layout.{IsPlaced, ArePlaced, IsKnown, IsSplit}
+use Rattle.bucket_table.specs.inside.Directory.{IsPlaced, ArePlaced, IsKnown, IsSplit}
 use Rattle.bucket_table.specs.Buckets.{hash_keys, bucket_keys, HasLooked}
 use Rattle.bucket_table.specs.inside.Firsts.{is_in, first_in, AreHints, IsHinted}
-use Rattle.bucket_table.specs.inside.Found.{IsFound}
+use Rattle.bucket_table.specs.inside.Found.{IsFound, CanStart}
 use Rattle.bucket_table.proofs.KeyLaws.{width, IsItemOf, item-of, bucket-of-key, dummy-alone}
 use Rattle.bucket_table.proofs.ContentLaws.{item-cases, is_it-no, Holds, holds-item, placed-key, found, absent, place_of-on, fresh-apart}
 use Rattle.bucket_table.proofs.CountLaws.{count-dummy, count-from, placed-from, hash-passed, other-hash, below-bucket}
@@ -306,6 +306,9 @@ module _ (number : Term → ℕ) (dummies : List (Option ℕ)) (cs : List Cell) 
             | inl none ↦ none
             | inr some ↦ let f = first-answer (Some some.0) (sym some.1) in absurd (cc (f.objects, gone))
           ]
+
+  pub own-start : CanStart number dummies term first cs
+  own-start = record { stands = first-stands; finds = first-answer; looks = first-looked }
 
 -- ---- an empty interval
 

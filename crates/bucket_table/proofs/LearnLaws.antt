@@ -5,7 +5,7 @@ use Rattle.node_list.specs.declared.node.Item.{Item}
 use Rattle.node_list.specs.Cells.{Cell, Sorted}
 use Rattle.node_list.specs.Places.{from, behind, all_but_first, place_after, AreApart, Stands, key_at, first_key}
 use Rattle.node_list.proofs.CellLaws.{from-here, from-on, at-most-from, sorted-from}
-use Rattle.bucket_table.specs.inside.Layout.{HaveParity, StandsBelow}
+use Rattle.bucket_table.specs.inside.Directory.{HaveParity, StandsBelow}
 use Rattle.bucket_table.specs.inside.Firsts.{first_in, AreHints, StandsInFront, IsRightHint, IsHintSet}
 use Rattle.bucket_table.proofs.PlacedLaws.{parity-from}
 use Rattle.bucket_table.proofs.FirstLaws.{first-here, first-on}

@@ -4,7 +4,7 @@ use Rattle.std.specs.List.{position_or_len}
 use Rattle.std.proofs.lemmas.Bool.{cases_lt, cases_eq}
 use Rattle.std.proofs.lemmas.Bool.Decides.{nat_tests}
 use Rattle.std.proofs.lemmas.List.{length-map, get_or-set_same, get_or-set_other, get_or_append_left, get_or-append_right, length-append}
-use Rattle.bucket_table.specs.inside.Layout.{AreReady, IsLeast}
+use Rattle.bucket_table.specs.inside.Directory.{AreReady, IsLeast}
 
 pub ready-more : (dummies : List (Option ℕ)) (n : ℕ) → AreReady dummies n → IsSome (get_or dummies n None) → AreReady dummies (n + 1)
 ready-more dummies n h s b l =

@@ -34,3 +34,4 @@ pub mod PlaceLaws
 pub mod OrderedLaws
 pub mod ReadLaws
 pub mod SweptLaws
+pub mod LayoutLaws

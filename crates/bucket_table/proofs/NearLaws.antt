@@ -1,4 +1,5 @@
--- A search from the first item of a lower interval, down to that of the nearest ready bucket's dummy.
+-- Where a search can start: the first item of a lower interval, down to that of the nearest ready bucket's dummy, that of
+-- its own, and the dummy itself.
 use Rattle.std.proofs.Common.{◌≡◌, ℕ, ◌+◌, ◌*◌, ◌/◌, ◌%◌, ◌^◌, ◌<◌, ◌≤◌, ◌⊎◌, inl, inr, List, ◌∷◌, length, map, Option, Some, None, is_some, IsSome, MatchOption, true, false, nat_lt, ◌||◌, get_or, refl, sym, ◌∙◌, ap, subst, arith}
 use Rattle.std.specs.Map.{lookup}
 use Rattle.std.proofs.lemmas.Bool.{cases_lt}
@@ -16,16 +17,17 @@ use Rattle.node_list.specs.Ticks.{ticks}
 use Rattle.node_list.proofs.CellLaws.{sorted-from}
 use Rattle.node_list.proofs.CallerLaws.{place_of-from}
 use Rattle.bucket_table.specs.inside.Nodes.{slots_of}
-use Rattle.bucket_table.specs.inside.Layout.{ArePlaced, IsSplit, IsNearest, IsStartOf, StandsBelow}
+use Rattle.bucket_table.specs.inside.Directory.{ArePlaced, IsSplit, IsNearest, IsStartOf, StandsBelow}
 use Rattle.bucket_table.specs.Buckets.{bucket_keys, HasLooked}
 use Rattle.bucket_table.specs.inside.Firsts.{first_in, AreHints, IsHinted, IsFirstBelow}
-use Rattle.bucket_table.specs.inside.Found.{IsFound}
+use Rattle.bucket_table.specs.inside.Found.{IsFound, CanStart}
 use Rattle.bucket_table.proofs.ContentLaws.{found, absent, placed-key}
 use Rattle.bucket_table.proofs.CountLaws.{placed-from, hash-passed, hash-from}
 use Rattle.bucket_table.proofs.FirstLaws.{First, first-node}
-use Rattle.bucket_table.proofs.HintLaws.{inside, own-edge, old-edge, few-above, passed-one, first-stands, first-answer, first-looked}
+use Rattle.bucket_table.proofs.HintLaws.{inside, own-edge, old-edge, few-above, passed-one, own-start}
 use Rattle.bucket_table.proofs.HalveLaws.{part-half}
 use Rattle.bucket_table.proofs.BelowLaws.{first-lesser}
+use Rattle.bucket_table.proofs.StartLaws.{start-is, answer, looked}
 
 -- the nearest ready bucket's dummy is where a search begins
 pub nearest-start : (dummies : List (Option ℕ)) (bucket nearest at : ℕ) → IsNearest dummies bucket nearest at → IsStartOf dummies bucket at
@@ -58,13 +60,13 @@ module _ (number : Term → ℕ) (dummies : List (Option ℕ)) (cs : List Cell) 
   lesser : StandsBelow (key_of_item (number term)) first cs
   lesser = first-lesser (2 ^ shift) (key_of_item (number term)) first cs o a (key_of_dummy bucket / 2 ^ shift) firsts (pow_pos shift) right f
 
-  pub below-stands : Stands first cs
+  below-stands : Stands first cs
   below-stands = record { cell = lesser.cell; later = lesser.later; is = lesser.is }
 
   whole : place_of key term cs ≡ place_of key term (from first cs)
   whole = place_of-from key term first cs lesser.cell lesser.later o lesser.is lesser.below ∙ ap (place_of key term) (sym lesser.is)
 
-  pub below-answer : (r : Option ℕ) → r ≡ place_of key term (from first cs) → MatchOption r (lookup (same term) (slots_of cs) ≡ None) (λ at. IsFound term at cs)
+  below-answer : (r : Option ℕ) → r ≡ place_of key term (from first cs) → MatchOption r (lookup (same term) (slots_of cs) ≡ None) (λ at. IsFound term at cs)
   below-answer None r = absent number dummies key term refl cs i.placed (whole ∙ sym r)
   below-answer (Some at) r = found number dummies key term refl at cs i.placed a (whole ∙ sym r)
 
@@ -91,7 +93,7 @@ module _ (number : Term → ℕ) (dummies : List (Option ℕ)) (cs : List Cell) 
         | inr some ↦ let g = below-answer (Some some.0) (sym some.1) in absurd (cc (g.objects, gone))
       ]
 
-  pub below-looked : (old new : ℕ) → new ≡ ticks (length (passed key term (from first cs))) old → HasLooked number (slots_of cs) (map is_some dummies) term old new
+  below-looked : (old new : ℕ) → new ≡ ticks (length (passed key term (from first cs))) old → HasLooked number (slots_of cs) (map is_some dummies) term old new
   below-looked old new t =
       let len : length (map is_some dummies) ≡ length dummies = length-map dummies is_some in
       let ready : get_or (map is_some dummies) (number term % length dummies) false ≡ is_some (get_or dummies (number term % length dummies) None) = get_or-map is_some dummies (number term % length dummies) None in
@@ -111,6 +113,9 @@ module _ (number : Term → ℕ) (dummies : List (Option ℕ)) (cs : List Cell) 
             omega (arith, e, m));
         bound = subst P (sym len) bound;
       }
+
+  pub below-start : CanStart number dummies term first cs
+  below-start = record { stands = below-stands; finds = below-answer; looks = below-looked }
 
 -- ---- by what is known of intervals, or of older ones
 
@@ -136,25 +141,11 @@ module _ (number : Term → ℕ) (dummies : List (Option ℕ)) (cs : List Cell) 
   wide : (m : ℕ) × (key_of_dummy (number term % length dummies) ≡ m * 2 ^ (shift + 1))
   wide = old-edge number dummies cs term shift firsts h
 
-  pub either-stands : Stands first cs
-  either-stands =
+  pub lower-start : CanStart number dummies term first cs
+  lower-start =
       elim f [
-        | inl g ↦ below-stands number dummies cs term shift bucket start first own.0 firsts i h.hints own.1 o a n g
-        | inr g ↦ below-stands number dummies cs term (shift + 1) bucket start first wide.0 older i old wide.1 o a n (older-below shift (key_of_dummy bucket) (key_of_item (number term)) first older g)
-      ]
-
-  pub either-answer : (r : Option ℕ) → r ≡ place_of (key_of_item (number term)) term (from first cs) → MatchOption r (lookup (same term) (slots_of cs) ≡ None) (λ at. IsFound term at cs)
-  either-answer r e =
-      elim f [
-        | inl g ↦ below-answer number dummies cs term shift bucket start first own.0 firsts i h.hints own.1 o a n g r e
-        | inr g ↦ below-answer number dummies cs term (shift + 1) bucket start first wide.0 older i old wide.1 o a n (older-below shift (key_of_dummy bucket) (key_of_item (number term)) first older g) r e
-      ]
-
-  pub either-looked : (was now : ℕ) → now ≡ ticks (length (passed (key_of_item (number term)) term (from first cs))) was → HasLooked number (slots_of cs) (map is_some dummies) term was now
-  either-looked was now t =
-      elim f [
-        | inl g ↦ below-looked number dummies cs term shift bucket start first own.0 firsts i h.hints own.1 o a n g was now t
-        | inr g ↦ below-looked number dummies cs term (shift + 1) bucket start first wide.0 older i old wide.1 o a n (older-below shift (key_of_dummy bucket) (key_of_item (number term)) first older g) was now t
+        | inl g ↦ below-start number dummies cs term shift bucket start first own.0 firsts i h.hints own.1 o a n g
+        | inr g ↦ below-start number dummies cs term (shift + 1) bucket start first wide.0 older i old wide.1 o a n (older-below shift (key_of_dummy bucket) (key_of_item (number term)) first older g)
       ]
 
 module _ (number : Term → ℕ) (dummies : List (Option ℕ)) (cs : List Cell) (term : Term) (shift first : ℕ) (firsts : List (Option (Option ℕ))) (i : IsSplit number dummies cs) (h : IsHinted dummies shift firsts cs) (o : Sorted cs) (a : AreApart cs)
@@ -165,23 +156,19 @@ module _ (number : Term → ℕ) (dummies : List (Option ℕ)) (cs : List Cell) 
   wide-first : (m : ℕ) × (key_of_dummy (number term % length dummies) ≡ m * 2 ^ (shift + 1))
   wide-first = old-edge number dummies cs term shift firsts h
 
-  pub first-either-stands : Stands first cs
-  first-either-stands =
+  pub first-start : CanStart number dummies term first cs
+  first-start =
       elim f [
-        | inl is ↦ first-stands number dummies cs term shift first own-first.0 i own-first.1 o a is
-        | inr is ↦ first-stands number dummies cs term (shift + 1) first wide-first.0 i wide-first.1 o a is
+        | inl is ↦ own-start number dummies cs term shift first own-first.0 i own-first.1 o a is
+        | inr is ↦ own-start number dummies cs term (shift + 1) first wide-first.0 i wide-first.1 o a is
       ]
 
-  pub first-either-answer : (r : Option ℕ) → r ≡ place_of (key_of_item (number term)) term (from first cs) → MatchOption r (lookup (same term) (slots_of cs) ≡ None) (λ at. IsFound term at cs)
-  first-either-answer r e =
-      elim f [
-        | inl is ↦ first-answer number dummies cs term shift first own-first.0 i own-first.1 o a is r e
-        | inr is ↦ first-answer number dummies cs term (shift + 1) first wide-first.0 i wide-first.1 o a is r e
-      ]
-
-  pub first-either-looked : (was now : ℕ) → now ≡ ticks (length (passed (key_of_item (number term)) term (from first cs))) was → HasLooked number (slots_of cs) (map is_some dummies) term was now
-  first-either-looked was now t =
-      elim f [
-        | inl is ↦ first-looked number dummies cs term shift first own-first.0 i own-first.1 o a is was now t
-        | inr is ↦ first-looked number dummies cs term (shift + 1) first wide-first.0 i wide-first.1 o a is was now t
-      ]
+-- the dummy of the nearest ready bucket
+pub dummy-start : (number : Term → ℕ) (dummies : List (Option ℕ)) (cs : List Cell) (term : Term) (nearest start : ℕ) → IsSplit number dummies cs → IsNearest dummies (number term % length dummies) nearest start → Sorted cs → AreApart cs → CanStart number dummies term start cs
+dummy-start number dummies cs term nearest start i n o a =
+    let s = nearest-start dummies (number term % length dummies) nearest start n in
+    record {
+      stands = start-is _ _ _ _ i.stand s;
+      finds = answer number dummies cs term (number term % length dummies) start i s refl o a;
+      looks = looked number dummies cs term (number term % length dummies) start i s refl o a;
+    }

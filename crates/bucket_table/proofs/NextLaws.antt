@@ -5,7 +5,7 @@ use Rattle.node_list.specs.Cells.{Cell, Sorted, StartsFrom}
 use Rattle.node_list.specs.Places.{from, behind, all_but_first, first_place, place_after, AreApart, Stands, HasItem, key_at, first_key}
 use Rattle.node_list.proofs.CellLaws.{from-here, sorted-from}
 use Rattle.node_list.proofs.PlaceLaws.{from-behind}
-use Rattle.bucket_table.specs.inside.Layout.{HaveParity}
+use Rattle.bucket_table.specs.inside.Directory.{HaveParity}
 use Rattle.bucket_table.specs.inside.Firsts.{first_in, IsItemIn, IsNextHint}
 use Rattle.bucket_table.proofs.PlacedLaws.{parity-from}
 use Rattle.bucket_table.proofs.FirstLaws.{first-here}

@@ -12,7 +12,7 @@ use Rattle.node_list.specs.Changes.{item_with}
 use Rattle.node_list.specs.Changes.{cells_with}
 use Rattle.node_list.proofs.CellLaws.{put-past, put-on, from-here, from-on, without-here, without-on}
 use Rattle.node_list.proofs.CallerLaws.{put-keeps, without-keeps}
-use Rattle.bucket_table.specs.inside.Layout.{IsPlaced, ArePlaced, HasDummies, HaveParity}
+use Rattle.bucket_table.specs.inside.Directory.{IsPlaced, ArePlaced, HasDummies, HaveParity}
 use Rattle.bucket_table.proofs.ContentLaws.{fresh-apart, with-here, with-on}
 
 -- ---- each node

@@ -10,19 +10,16 @@ use Rattle.split_key.proofs.Halves.{exponent-lt}
 use Rattle.std.proofs.lemmas.Bool.{cases_eq}
 use Rattle.node_list.proofs.CellLaws.{from-here, from-on, at-most-from}
 use Rattle.node_list.specs.Cells.{Cell, Sorted, new_cell, new_item}
-use Rattle.node_list.specs.Places.{IsFresh, AreApart, from, first_place}
-use Rattle.node_list.specs.Changes.{put_cell, without}
+use Rattle.node_list.specs.Places.{IsFresh, from, first_place}
+use Rattle.node_list.specs.Changes.{put_cell}
 use Rattle.node_list.specs.Changes.{cells_with}
 use Rattle.bucket_table.specs.inside.Nodes.{slots_of}
-use Rattle.bucket_table.specs.inside.Layout.{ArePlaced}
 use Rattle.bucket_table.specs.inside.Found.{IsFound}
-use Rattle.bucket_table.specs.inside.Firsts.{first_in, AreHints, IsRows, AreRows, IsNewFirst, KeepsFirst, IsNoted, IsItemIn, IsNextHint, IsSucceeded}
-use Rattle.bucket_table.proofs.ContentLaws.{placed-key}
-use Rattle.bucket_table.proofs.CountLaws.{placed-from}
+use Rattle.bucket_table.specs.inside.Firsts.{first_in, AreHints, IsRows, IsNewFirst, KeepsFirst, IsNoted}
 use Rattle.bucket_table.proofs.FirstLaws.{first-on}
 use Rattle.bucket_table.proofs.NewLaws.{new-split}
-use Rattle.bucket_table.proofs.SplitLaws.{put-split, without-split, with-split, ready-split, grown-split, grown-length}
-use Rattle.bucket_table.proofs.HintedLaws.{hints-put, hints-dummy, hints-without, hints-with, hints-none}
+use Rattle.bucket_table.proofs.SplitLaws.{put-split, with-split, ready-split, grown-split, grown-length}
+use Rattle.bucket_table.proofs.HintedLaws.{hints-put, hints-dummy, hints-with}
 
 pub rows-like : (number : Term → ℕ) (dummies : List (Option ℕ)) (shift : ℕ) (firsts fs : List (Option (Option ℕ))) (cells zs : List Cell) → IsRows number dummies shift firsts cells → fs ≡ firsts → zs ≡ cells → IsRows number dummies shift fs zs
 rows-like number dummies shift firsts fs cells zs r e f =
@@ -36,12 +33,6 @@ rows-hinted number dummies shift firsts after cells r h = record {
   split = r.split;
   hinted = record { doublings = r.hinted.doublings; size = r.hinted.size; narrow = r.hinted.narrow; hints = h };
 }
-
--- rows as one reads them who knows no hash
-pub rows-seen : (number : Term → ℕ) (dummies ds : List (Option ℕ)) (shift : ℕ) (firsts fs : List (Option (Option ℕ))) (cells : List Cell) → IsRows number dummies shift firsts cells → ds ≡ dummies → fs ≡ firsts → AreRows ds shift fs cells
-rows-seen number dummies ds shift firsts fs cells r d f =
-    let P : List (Option ℕ) → Type 0 = λ es. IsRows number es shift fs cells in
-    (number, subst P (sym d) (rows-like number dummies shift firsts fs cells cells r f refl))
 
 and-false : (b : Bool) → (b && false) ≡ false
 and-false true = refl
@@ -121,26 +112,6 @@ module _ (number : Term → ℕ) (dummies : List (Option ℕ)) (shift : ℕ) (fi
     };
   }
 
-  -- where a found item stands
-  pub found-in : (term : Term) (at index : ℕ) → IsFound term at cells → index ≡ key_of_item (number term) / 2 ^ shift → IsItemIn (2 ^ shift) index at cells
-  found-in term at index h at_index =
-      let P : List Cell → Type 0 = λ zs. ArePlaced number dummies zs in
-      let p : ArePlaced number dummies (h.cell ∷ h.later) = subst P h.is (placed-from number dummies at cells r.split.placed) in
-      let is : h.cell.key ≡ key_of_item (number term) = placed-key number dummies h.cell.at h.cell.key h.cell.item h.item h.has p.0 ∙ ap (λ (t : Term). key_of_item (number t)) h.same_term in
-      record { cell = h.cell; later = h.later; item = h.item; is = h.is; has = h.has; inside = ap (λ (z : ℕ). z / 2 ^ shift) is ∙ sym at_index }
-
-  pub rows-without : (after : List (Option (Option ℕ))) (hint : Option (Option ℕ)) (term : Term) (at index : ℕ) (new : List Cell) → IsFound term at cells → AreApart cells → new ≡ without at cells → index ≡ key_of_item (number term) / 2 ^ shift
-      → IsNextHint (2 ^ shift) index at cells hint → IsSucceeded index at hint firsts after → IsRows number dummies shift after new
-  rows-without after hint term at index new h a e at_index next succeeded = record {
-    split = without-split number dummies cells r.split term at new h e;
-    hinted = record {
-      doublings = r.hinted.doublings;
-      size = r.hinted.size;
-      narrow = r.hinted.narrow;
-      hints = hints-without (2 ^ shift) firsts after hint at index cells new (found-in term at index h at_index) r.hinted.hints a e next succeeded;
-    };
-  }
-
   pub rows-with : (term : Term) (at : ℕ) (w : List Term) → IsFound term at cells → IsRows number dummies shift firsts (cells_with at w cells)
   rows-with term at w h = record {
     split = with-split number dummies cells r.split term at w h;
@@ -161,12 +132,6 @@ module _ (number : Term → ℕ) (dummies : List (Option ℕ)) (shift : ℕ) (fi
       narrow = r.hinted.narrow;
       hints = hints-dummy (2 ^ shift) firsts at (key_of_dummy bucket) cells new r.hinted.hints e;
     };
-  }
-
-  pub rows-unknown : (n : ℕ) (after : List (Option (Option ℕ))) → after ≡ replicate n None → IsRows number dummies shift after cells
-  rows-unknown n after e = record {
-    split = r.split;
-    hinted = record { doublings = r.hinted.doublings; size = r.hinted.size; narrow = r.hinted.narrow; hints = hints-none (2 ^ shift) n after cells e };
   }
 
   pub rows-grown : length dummies < 2 ^ 20 → (after : List (Option ℕ)) (hints : List (Option (Option ℕ))) → after ≡ dummies ++ replicate (length dummies) None → AreHints (2 ^ (shift - 1)) hints cells → IsRows number after (shift - 1) hints cells

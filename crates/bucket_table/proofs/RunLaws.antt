@@ -10,7 +10,7 @@ use Rattle.node_list.proofs.CellLaws.{from-here, from-on, at-most-from, sorted-f
 use Rattle.bucket_table.specs.declared.split.sweep.Sweep.TheVariants.{Purge}
 use Rattle.bucket_table.specs.Slots.{Slot, purged}
 use Rattle.bucket_table.specs.inside.Nodes.{slots_of, with_slot}
-use Rattle.bucket_table.specs.inside.Layout.{ArePlaced, IsStartOf}
+use Rattle.bucket_table.specs.inside.Directory.{ArePlaced, IsStartOf}
 use Rattle.bucket_table.specs.inside.Notes.{AreAmong}
 use Rattle.bucket_table.specs.inside.Sweeps.{up_to, slots_then}
 use Rattle.bucket_table.proofs.CountLaws.{placed-from}

@@ -18,7 +18,7 @@ use Rattle.bucket_table.specs.Entries.{objects_in}
 use Rattle.bucket_table.specs.Split.{key_of_place}
 use Rattle.bucket_table.specs.inside.Nodes.{slots_of, with_slot, places_of, with_place}
 use Rattle.split_key.specs.Keys.{key_of_item}
-use Rattle.bucket_table.specs.inside.Layout.{ArePlaced}
+use Rattle.bucket_table.specs.inside.Directory.{ArePlaced}
 use Rattle.bucket_table.specs.inside.Found.{IsFound}
 use Rattle.bucket_table.proofs.CountLaws.{placed-from}
 use Rattle.bucket_table.proofs.ContentLaws.{placed-key, found-at, found-here, found-on, with-here, with-on}
@@ -190,9 +190,8 @@ few-slots [] = lit≤ tt
 few-slots (c ∷ cs) = let l = few-more c.item (slots_of cs) (length cs) (few-slots cs) in omega (arith, l)
 
 -- the key of an item's node is its hash's
-pub place-key : (number : Term → ℕ) (dummies : List (Option ℕ)) (at : ℕ) (cells : List Cell) → ArePlaced number dummies cells → (p : AtPlace at cells) (k : ℕ) → key_at at cells ≡ Some k → k ≡ key_of_item (number p.key)
-place-key number dummies at cells placed p k e =
-    let f = p.found in
+pub hash-key : (number : Term → ℕ) (dummies : List (Option ℕ)) (term : Term) (at : ℕ) (cells : List Cell) → ArePlaced number dummies cells → (f : IsFound term at cells) (k : ℕ) → key_at at cells ≡ Some k → k ≡ key_of_item (number term)
+hash-key number dummies term at cells placed f k e =
     let P : List Cell → Type 0 = λ zs. ArePlaced number dummies zs in
     let q : ArePlaced number dummies (f.cell ∷ f.later) = subst P f.is (placed-from number dummies at cells placed) in
     some-key k f.cell.key (key_at at cells) e (ap first_key f.is) ∙ (placed-key number dummies f.cell.at f.cell.key f.cell.item f.item f.has q.0 ∙ ap (λ (t : Term). key_of_item (number t)) f.same_term)

@@ -17,7 +17,7 @@ use Rattle.node_list.specs.Changes.{cells_with}
 use Rattle.node_list.proofs.CallerLaws.{put-stands}
 use Rattle.bucket_table.specs.Slots.{Slot, Enters, HasDistinctKeys}
 use Rattle.bucket_table.specs.inside.Nodes.{slots_of}
-use Rattle.bucket_table.specs.inside.Layout.{IsKnown, IsDummyOf, HasDummies, IsSplit}
+use Rattle.bucket_table.specs.inside.Directory.{IsKnown, IsDummyOf, HasDummies, IsSplit}
 use Rattle.bucket_table.specs.inside.Found.{IsFound}
 use Rattle.bucket_table.proofs.SlotLaws.{slots-put-dummy, slots-put-item, distinct-added, distinct-removed, distinct-set}
 use Rattle.bucket_table.proofs.PlacedLaws.{placed-put, placed-without, placed-with, IsPartOf, placed-more, stand-put, stand-without, stand-with}

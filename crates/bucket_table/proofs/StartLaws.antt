@@ -1,5 +1,5 @@
 -- A search from the dummy of a bucket, or of one in front of it.
-use Rattle.std.proofs.Common.{◌≡◌, ℕ, ◌+◌, ◌-◌, ◌%◌, ◌^◌, ◌<◌, ◌≤◌, ◌⊎◌, inl, inr, List, [], ◌∷◌, length, map, Option, Some, None, is_some, MatchOption, IfSome, true, false, nat_eq, count_by, get_or, refl, sym, ◌∙◌, ap, subst, arith}
+use Rattle.std.proofs.Common.{◌≡◌, ℕ, ◌+◌, ◌-◌, ◌%◌, ◌^◌, ◌<◌, ◌≤◌, ◌⊎◌, inl, inr, List, [], ◌∷◌, length, map, Option, Some, None, is_some, MatchOption, true, false, nat_eq, count_by, get_or, refl, sym, ◌∙◌, ap, subst, arith}
 use Rattle.std.specs.Map.{lookup}
 use Rattle.std.proofs.lemmas.List.{length-map}
 use Rattle.std.proofs.lemmas.Nat.{mod_below, pow_pos}
@@ -9,16 +9,16 @@ use Rattle.ets_term.specs.Order.{same}
 use Rattle.split_key.specs.Keys.{key_of_item, key_of_dummy}
 use Rattle.node_list.specs.declared.node.Item.{Item}
 use Rattle.node_list.specs.Cells.{Cell, Sorted, StartsFrom, new_cell}
-use Rattle.node_list.specs.Places.{from, behind, all_but_first, HasItem, IsFresh, AreApart, Stands, StandsUpTo}
+use Rattle.node_list.specs.Places.{from, IsFresh, AreApart, Stands, StandsUpTo}
 use Rattle.node_list.specs.Search.{place_of, passed}
 use Rattle.node_list.specs.Ticks.{ticks}
 use Rattle.node_list.proofs.CellLaws.{sorted-from, search-on}
 use Rattle.node_list.proofs.CallerLaws.{is_item_below, ItemsBelow, length-passed, place_of-from}
 use Rattle.bucket_table.specs.inside.Nodes.{slots_of}
-use Rattle.bucket_table.specs.inside.Layout.{IsPlaced, ArePlaced, IsKnown, HasDummies, IsSplit, IsStartOf}
+use Rattle.bucket_table.specs.inside.Directory.{IsPlaced, ArePlaced, IsKnown, HasDummies, IsSplit, IsStartOf}
 use Rattle.bucket_table.specs.Buckets.{hash_keys, bucket_keys, HasLooked}
 use Rattle.bucket_table.proofs.KeyLaws.{width, IsItemOf, item-of, bucket-of-key, dummy-alone}
-use Rattle.bucket_table.proofs.ContentLaws.{item-cases, is_it-no, found, found-item, absent, place_of-on}
+use Rattle.bucket_table.proofs.ContentLaws.{item-cases, is_it-no, found, absent}
 use Rattle.bucket_table.specs.inside.Found.{IsFound}
 use Rattle.bucket_table.proofs.CountLaws.{count-dummy, count-from, placed-from, apart-from, hash-passed, hash-from, below-bucket}
 
@@ -173,25 +173,3 @@ module _ (number : Term → ℕ) (dummies : List (Option ℕ)) (cs : List Cell) 
     pub answer : (r : Option ℕ) → r ≡ place_of key term (from start cs) → MatchOption r (lookup (same term) (slots_of cs) ≡ None) (λ at. IsFound term at cs)
     answer None r = search-absent (sym r)
     answer (Some at) r = search-found at (sym r)
-
-    found-behind : (at : ℕ) → place_of key term (from start cs) ≡ Some at → HasItem at (behind start cs)
-    found-behind at h =
-        let d = i.stand s.nearest start s.entry in
-        let A : List Cell → Type 0 = λ zs. AreApart zs in
-        let R : List Cell → Type 0 = λ zs. ArePlaced number dummies zs in
-        let H : List Cell → Type 0 = λ zs. HasItem at (all_but_first zs) in
-        let a' : AreApart (first ∷ d.later) = subst A d.is (apart-from start cs a) in
-        let p' : ArePlaced number dummies (first ∷ d.later) = subst R d.is (placed-from number dummies start cs i.placed) in
-        let later : place_of key term d.later ≡ Some at = sym (ap (place_of key term) d.is ∙ place_of-on key term first d.later (is_it-no key term first refl)) ∙ h in
-        subst H (sym d.is) (found-item term at d.later (found number dummies key term refl at d.later p'.1 a'.1 later))
-
-    pub answer-behind : (r : Option ℕ) → r ≡ place_of key term (from start cs) → IfSome r (λ at. HasItem at (behind start cs))
-    answer-behind None r = tt
-    answer-behind (Some at) r = found-behind at (sym r)
-
--- where a dummy may be put from
-pub dummy-stands : (number : Term → ℕ) (dummies ds : List (Option ℕ)) (cs zs : List Cell) (bucket start key' : ℕ) → IsSplit number dummies cs → IsStartOf ds bucket start → ds ≡ dummies → key' ≡ key_of_dummy bucket → zs ≡ cs → StandsUpTo key' start zs
-dummy-stands number dummies ds cs zs bucket start key' i s d k z =
-    let P : List Cell → Type 0 = λ ys. StandsUpTo key' start ys in
-    let Q : List (Option ℕ) → Type 0 = λ es. IsStartOf es bucket start in
-    subst P (sym z) (start-stands dummies bucket start key' cs i.stand (subst Q d s) (omega arith))

@@ -13,7 +13,7 @@ use Rattle.node_list.specs.Cells.{Cell, Sorted, StartsFrom, new_cell}
 use Rattle.node_list.specs.Places.{from, behind, all_but_first, first_place, place_after, IsFresh, AreApart, Stands, key_at, first_key}
 use Rattle.node_list.proofs.CellLaws.{from-here, from-on, at-most-from, sorted-from}
 use Rattle.node_list.proofs.PlaceLaws.{from-behind}
-use Rattle.bucket_table.specs.inside.Layout.{IsPlaced, ArePlaced, IsKnown, IsSplit}
+use Rattle.bucket_table.specs.inside.Directory.{IsPlaced, ArePlaced, IsKnown, IsSplit}
 use Rattle.bucket_table.specs.inside.Firsts.{is_in, first_in, AreHints}
 use Rattle.bucket_table.specs.inside.Surveys.{tail_from, IsSurveyed, AreNearly, AreEmpty, IsCleared, IsMarked}
 use Rattle.bucket_table.proofs.KeyLaws.{width, width-even, dummy-alone}

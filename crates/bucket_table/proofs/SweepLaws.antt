@@ -15,7 +15,7 @@ use Rattle.bucket_table.specs.Slots.{Slot}
 use Rattle.bucket_table.specs.inside.Nodes.{slots_of, with_slot}
 use Rattle.bucket_table.specs.inside.Sweeps.{swept, up_to, slots_then, IsSweptOn}
 use Rattle.ets_term.specs.Order.{same}
-use Rattle.bucket_table.specs.inside.Layout.{IsSplit}
+use Rattle.bucket_table.specs.inside.Directory.{IsSplit}
 use Rattle.bucket_table.specs.inside.Firsts.{AreHints, IsRows}
 use Rattle.bucket_table.proofs.ContentLaws.{fresh-apart, with-here, with-on, with-fresh}
 use Rattle.bucket_table.proofs.CountLaws.{apart-from}

@@ -10,7 +10,7 @@ use Rattle.bucket_table.specs.declared.split.sweep.Sweep.TheVariants.{Purge, Dro
 use Rattle.bucket_table.specs.Slots.{Slot, has_objects}
 use Rattle.bucket_table.specs.inside.Nodes.{slots_of, with_slot}
 use Rattle.bucket_table.specs.inside.Order.{slots_from, above, content_of}
-use Rattle.bucket_table.specs.inside.Sweeps.{swept, slot_at, AreSweptAlike}
+use Rattle.bucket_table.specs.inside.Sweeps.{swept, slot_at, AreSweptAlike, Sweeps}
 use Rattle.bucket_table.proofs.SweepLaws.{swept-none}
 use Rattle.bucket_table.proofs.PlaceLaws.{item-here, item-on, content-is, without-apart, without-own, with-apart, with-own}
 
@@ -126,3 +126,11 @@ content-swept how old new alike e =
     ∙ (sym (settled-from how (λ at. item_at at new) 0 (above old + above new) (λ at. settled-at how at new s))
     ∙ (alike-from how (λ at. item_at at new) (λ at. item_at at old) 0 (above old + above new) alike
     ∙ ap (swept how) (content-is old (above old + above new) (omega arith))))
+
+-- one sweep, and another behind it
+pub sweeps-on : (how : Sweep) (old mid new : List Cell) → Sweeps how old mid → Sweeps how mid new → Sweeps how old new
+sweeps-on how old mid new a b = record {
+  alike = λ at. b.alike at ∙ a.alike at;
+  len = omega (arith, a.len, b.len);
+  fewer = omega (arith, a.fewer, b.fewer);
+}

@@ -1,4 +1,5 @@
 pub mod Nodes
+pub mod Directory
 pub mod Layout
 pub mod Found
 pub mod Hints

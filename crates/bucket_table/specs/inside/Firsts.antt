@@ -5,9 +5,8 @@ use Rattle.node_list.specs.declared.node.Item.{Item}
 use Rattle.node_list.specs.Cells.{Cell, new_cell}
 use Rattle.node_list.specs.Changes.{put_cell}
 use Rattle.node_list.specs.Places.{from, behind}
-use Rattle.bucket_table.specs.inside.Nodes.{slots_of}
-use Rattle.bucket_table.specs.inside.Layout.{IsSplit, IsLeast}
-use Rattle.bucket_table.specs.inside.Notes.{AreNoted}
+use Rattle.bucket_table.specs.inside.Directory.{IsSplit}
+use Rattle.bucket_table.specs.declared.split.hints.Hints.{Hints}
 
 -- an item with a key in interval `f` of those that are so wide
 abbrev pub is_in : ℕ → ℕ → Cell → Bool
@@ -22,6 +21,12 @@ first_in wide f (c ∷ cs) = if is_in wide f c then Some c.at else first_in wide
 abbrev pub AreHints : ℕ → List (Option (Option ℕ)) → List Cell → Type 0
 AreHints wide firsts cells = (f : ℕ) (first : Option ℕ) → get_or firsts f None ≡ Some first → first_in wide f cells ≡ first
 
+-- what is known now, and since the last doubling of intervals twice as wide, is so
+pub record AreRight (hints : Hints) (cells : List Cell) : Type 0 where
+  pub narrow : hints.shift < 63
+  pub firsts : AreHints (2 ^ hints.shift) hints.firsts.items cells
+  pub wider : AreHints (2 ^ (hints.shift + 1)) hints.older.items cells
+
 -- eight intervals make a bucket, and the hints are right
 pub record IsHinted (dummies : List (Option ℕ)) (shift : ℕ) (firsts : List (Option (Option ℕ))) (cells : List Cell) : Type 0 where
   pub doublings : ℕ
@@ -32,10 +37,6 @@ pub record IsHinted (dummies : List (Option ℕ)) (shift : ℕ) (firsts : List (
 pub record IsRows (number : Term → ℕ) (dummies : List (Option ℕ)) (shift : ℕ) (firsts : List (Option (Option ℕ))) (cells : List Cell) : Type 0 where
   pub split : IsSplit number dummies cells
   pub hinted : IsHinted dummies shift firsts cells
-
--- rows of some hash
-abbrev pub AreRows : List (Option ℕ) → ℕ → List (Option (Option ℕ)) → List Cell → Type 0
-AreRows dummies shift firsts cells = (number : Term → ℕ) × IsRows number dummies shift firsts cells
 
 -- the first item of an interval from `floor` up to `index` is known to stand at this place
 pub record IsFirstBelow (floor index at : ℕ) (firsts : List (Option (Option ℕ))) : Type 0 where
@@ -85,15 +86,6 @@ pub record IsItemIn (wide f at : ℕ) (cells : List Cell) : Type 0 where
   pub is : from at cells ≡ cell ∷ later
   pub has : cell.item ≡ Some item
   pub inside : cell.key / wide ≡ f
-
--- rows, what is still known of intervals twice as wide, how many slots there are, the least bucket that is not ready,
--- and what is noted of held slots
-pub record IsTable (number : Term → ℕ) (dummies : List (Option ℕ)) (shift : ℕ) (firsts older : List (Option (Option ℕ))) (slots least : ℕ) (is_lost : Bool) (held : List ℕ) (cells : List Cell) : Type 0 where
-  pub rows : IsRows number dummies shift firsts cells
-  pub wider : AreHints (2 ^ (shift + 1)) older cells
-  pub counted : slots ≡ length (slots_of cells)
-  pub due : IsLeast dummies least
-  pub noted : AreNoted number is_lost held (slots_of cells)
 
 -- what will be known of an interval when the item at a place, its first, is gone
 abbrev pub IsNextHint : ℕ → ℕ → ℕ → List Cell → Option (Option ℕ) → Type 0

@@ -1,13 +1,17 @@
 -- What a search has found.
-use Rattle.std.specs.Prelude.{◌≡◌, ℕ, List, ◌∷◌, Some}
+use Rattle.std.specs.Prelude.{◌≡◌, ℕ, List, ◌∷◌, Option, Some, None, MatchOption, length, map, is_some}
 use Rattle.std.specs.Map.{lookup, remove_entry, set_value}
 use Rattle.ets_term.specs.declared.term.Term.{Term}
 use Rattle.ets_term.specs.Order.{same}
 use Rattle.node_list.specs.declared.node.Item.{Item}
 use Rattle.node_list.specs.Cells.{Cell}
-use Rattle.node_list.specs.Places.{from}
+use Rattle.node_list.specs.Places.{from, Stands}
+use Rattle.node_list.specs.Search.{place_of, passed}
+use Rattle.node_list.specs.Ticks.{ticks}
 use Rattle.node_list.specs.Changes.{without}
 use Rattle.node_list.specs.Changes.{cells_with}
+use Rattle.split_key.specs.Keys.{key_of_item}
+use Rattle.bucket_table.specs.Buckets.{HasLooked}
 use Rattle.bucket_table.specs.inside.Nodes.{slots_of}
 
 -- what stands at a place that a search found, and what becomes of the slots where that item goes or gets another chain
@@ -21,3 +25,9 @@ pub record IsFound (term : Term) (at : ℕ) (cs : List Cell) : Type 0 where
   pub objects : lookup (same term) (slots_of cs) ≡ Some item.chain
   pub removed : slots_of (without at cs) ≡ remove_entry (same term) (slots_of cs)
   pub replaced : (w : List Term) → slots_of (cells_with at w cs) ≡ set_value (same term) (slots_of cs) w
+
+-- a search for a term from this place on finds its item, or that there is none, and looks at so many nodes
+pub record CanStart (number : Term → ℕ) (dummies : List (Option ℕ)) (term : Term) (start : ℕ) (cs : List Cell) : Type 0 where
+  pub stands : Stands start cs
+  pub finds : (r : Option ℕ) → r ≡ place_of (key_of_item (number term)) term (from start cs) → MatchOption r (lookup (same term) (slots_of cs) ≡ None) (λ at. IsFound term at cs)
+  pub looks : (old new : ℕ) → new ≡ ticks (length (passed (key_of_item (number term)) term (from start cs))) old → HasLooked number (slots_of cs) (map is_some dummies) term old new

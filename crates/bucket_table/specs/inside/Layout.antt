@@ -1,79 +1,59 @@
--- What ties the directory of dummies and the list of nodes.
-use Rattle.std.specs.Prelude.{◌≡◌, ◌≢◌, ℕ, ◌%◌, ◌<◌, ◌≤◌, ◌^◌, List, [], ◌∷◌, Option, Some, None, IsSome, length, get_or}
+-- What holds of the list, the directory of its buckets and the hints together.
+use Rattle.std.specs.Prelude.{◌≡◌, ℕ, ◌+◌, ◌-◌, ◌^◌, List, Option, Some, None, MatchOption, length, map, is_some}
+use Rattle.std.specs.Map.{lookup}
 use Rattle.ets_term.specs.declared.term.Term.{Term}
-use Rattle.split_key.specs.Keys.{key_of_item, key_of_dummy}
-use Rattle.node_list.specs.declared.node.Item.{Item}
-use Rattle.node_list.specs.Cells.{Cell, new_cell}
-use Rattle.node_list.specs.Places.{from}
-use Rattle.bucket_table.specs.Slots.{HasDistinctKeys}
-use Rattle.bucket_table.specs.inside.Nodes.{slots_of}
+use Rattle.ets_term.specs.Order.{same}
+use Rattle.node_list.specs.Cells.{Cell, new_cell, new_item}
+use Rattle.node_list.specs.Changes.{put_cell}
+use Rattle.node_list.specs.Places.{IsFresh}
+use Rattle.bucket_table.specs.declared.split.held.Held.{Held}
+use Rattle.bucket_table.specs.declared.split.layout.Layout.{Layout}
+use Rattle.bucket_table.specs.Buckets.{HasLooked}
+use Rattle.bucket_table.specs.Split.{Split}
+use Rattle.bucket_table.specs.inside.Nodes.{slots_of, places_of}
+use Rattle.bucket_table.specs.inside.Order.{content_of}
+use Rattle.bucket_table.specs.inside.Directory.{IsLeast}
+use Rattle.bucket_table.specs.inside.Firsts.{AreHints, IsRows}
+use Rattle.bucket_table.specs.inside.Found.{IsFound}
+use Rattle.bucket_table.specs.inside.Notes.{AreNoted}
 
--- the dummy of this bucket stands at this place
-pub record IsDummyOf (bucket at : ℕ) (cells : List Cell) : Type 0 where
-  pub later : List Cell
-  pub is : from at cells ≡ new_cell at (key_of_dummy bucket) None ∷ later
+-- rows whose hints are right, and what is still known of intervals twice as wide
+pub record AreRows {H : Type 0} (number : H → Term → ℕ) (layout : Layout H) : Type 0 where
+  pub rows : IsRows (number layout.hash) layout.dummies.items layout.hints.shift layout.hints.firsts.items layout.list.cells
+  pub wider : AreHints (2 ^ (layout.hints.shift + 1)) layout.hints.older.items layout.list.cells
 
--- the directory has this place, and the bucket for it has this key
-pub record IsKnown (dummies : List (Option ℕ)) (at key : ℕ) : Type 0 where
-  pub bucket : ℕ
-  pub below : bucket < length dummies
-  pub is : key ≡ key_of_dummy bucket
-  pub entry : get_or dummies bucket None ≡ Some at
+-- rows, how many slots there are, the least bucket that is not ready, and what is noted of held slots
+pub record IsTable {H : Type 0} (number : H → Term → ℕ) (layout : Layout H) (slots least : ℕ) (held : Held) : Type 0 where
+  pub rows : AreRows number layout
+  pub counted : slots ≡ length (slots_of layout.list.cells)
+  pub due : IsLeast layout.dummies.items least
+  pub noted : AreNoted (number layout.hash) held.is_lost held.hashes.items (slots_of layout.list.cells)
 
--- an item stands at its hash's key, and a dummy is one of the directory
-abbrev pub IsPlaced : (Term → ℕ) → List (Option ℕ) → ℕ → ℕ → Option Item → Type 0
-IsPlaced number dummies at key None = IsKnown dummies at key
-IsPlaced number dummies at key (Some item) = key ≡ key_of_item (number item.term)
+-- what a contract sees of rows
+abbrev pub split_of : {H : Type 0} → Layout H → Split H
+split_of layout = record {
+  hash = layout.hash;
+  slots = content_of layout.list.cells;
+  places = places_of layout.list.cells;
+  room = layout.list.capacity - length layout.list.cells;
+  ready = map is_some layout.dummies.items;
+}
 
-abbrev pub ArePlaced : (Term → ℕ) → List (Option ℕ) → List Cell → Type 0
-ArePlaced number dummies [] = Unit {0}
-ArePlaced number dummies (c ∷ cs) = IsPlaced number dummies c.at c.key c.item × ArePlaced number dummies cs
+-- a call changes the nodes and what is known of them alone
+pub record Keeps {H : Type 0} (old new : Layout H) : Type 0 where
+  pub hash : new.hash ≡ old.hash
+  pub dummies : new.dummies.items ≡ old.dummies.items
 
--- each place of the directory is that of its bucket's dummy
-abbrev pub HasDummies : List (Option ℕ) → List Cell → Type 0
-HasDummies dummies cells = (bucket at : ℕ) → get_or dummies bucket None ≡ Some at → IsDummyOf bucket at cells
+-- an item with this key stands among these nodes now
+pub record IsPutIn (key : ℕ) (term : Term) (chain : List Term) (old new : List Cell) : Type 0 where
+  pub at : ℕ
+  pub fresh : IsFresh at old
+  pub is : new ≡ put_cell (new_cell at key (Some (new_item term chain))) old
 
--- what holds of rows
-pub record IsSplit (number : Term → ℕ) (dummies : List (Option ℕ)) (cells : List Cell) : Type 0 where
-  pub doublings : ℕ
-  pub size : length dummies ≡ 2 ^ doublings
-  pub few : doublings ≤ 20
-  pub first : IsSome (get_or dummies 0 None)
-  pub stand : HasDummies dummies cells
-  pub placed : ArePlaced number dummies cells
-  pub distinct : HasDistinctKeys (slots_of cells)
+-- a search has found the item of a term, or that there is none
+abbrev pub Finds : {H : Type 0} → Layout H → Term → Option ℕ → Type 0
+Finds layout term result = MatchOption result (lookup (same term) (slots_of layout.list.cells) ≡ None) (λ at. IsFound term at layout.list.cells)
 
--- a ready bucket and the place of its dummy: the bucket itself, where that is ready, and else one in front of it
-pub record IsNearest (dummies : List (Option ℕ)) (bucket nearest at : ℕ) : Type 0 where
-  pub entry : get_or dummies nearest None ≡ Some at
-  pub before : key_of_dummy nearest ≤ key_of_dummy bucket
-  pub own : IsSome (get_or dummies bucket None) → nearest ≡ bucket
-
--- the place of the dummy of the bucket, where that is ready, and else of one in front of it
-pub record IsStartOf (dummies : List (Option ℕ)) (bucket at : ℕ) : Type 0 where
-  pub nearest : ℕ
-  pub entry : get_or dummies nearest None ≡ Some at
-  pub before : key_of_dummy nearest ≤ key_of_dummy bucket
-  pub own : IsSome (get_or dummies bucket None) → nearest ≡ bucket
-
--- a node with a lesser key stands at this place
-pub record StandsBelow (key at : ℕ) (cells : List Cell) : Type 0 where
-  pub cell : Cell
-  pub later : List Cell
-  pub is : from at cells ≡ cell ∷ later
-  pub below : cell.key < key
-
--- an item's key is odd and a dummy's is even
-abbrev pub HaveParity : List Cell → Type 0
-HaveParity [] = Unit {0}
-HaveParity (c ∷ cs) = (c.key % 2 ≡ 1 → IsSome c.item) × (c.key % 2 ≢ 1 → c.item ≡ None) × HaveParity cs
-
--- all buckets below this one are ready
-abbrev pub AreReady : List (Option ℕ) → ℕ → Type 0
-AreReady dummies least = (bucket : ℕ) → bucket < least → IsSome (get_or dummies bucket None)
-
--- this is the least bucket that is not ready, or else the number of buckets
-pub record IsLeast (dummies : List (Option ℕ)) (least : ℕ) : Type 0 where
-  pub before : AreReady dummies least
-  pub here : least < length dummies → get_or dummies least None ≡ None
-  pub most : least ≤ length dummies
+-- and has looked at so many nodes
+abbrev pub Looks : {H : Type 0} → (H → Term → ℕ) → Layout H → Term → ℕ → ℕ → Type 0
+Looks number layout term old new = HasLooked (number layout.hash) (slots_of layout.list.cells) (map is_some layout.dummies.items) term old new

@@ -3,7 +3,7 @@ use Rattle.std.specs.Prelude.{◌≡◌, ◌≢◌, ◌⊎◌, ℕ, ◌/◌, ◌
 use Rattle.ets_term.specs.declared.term.Term.{Term}
 use Rattle.node_list.specs.Cells.{Cell, StartsFrom, Sorted}
 use Rattle.node_list.specs.Places.{from, first_place, IsFresh}
-use Rattle.bucket_table.specs.inside.Layout.{ArePlaced}
+use Rattle.bucket_table.specs.inside.Directory.{ArePlaced}
 use Rattle.bucket_table.specs.inside.Firsts.{first_in}
 
 -- the intervals from one up to another are empty, and no other hint is changed

@@ -1,5 +1,5 @@
 -- A walk over all slots, node by node.
-use Rattle.std.specs.Prelude.{◌≡◌, ℕ, ◌<◌, true, false, if◌then◌else◌, nat_eq, List, [], ◌∷◌, ◌++◌, length}
+use Rattle.std.specs.Prelude.{◌≡◌, ℕ, ◌+◌, ◌<◌, ◌≤◌, true, false, if◌then◌else◌, nat_eq, List, [], ◌∷◌, ◌++◌, length}
 use Rattle.node_list.specs.Cells.{Cell}
 use Rattle.node_list.specs.Places.{Stands, HasItem, behind, all_but_first, item_at}
 use Rattle.bucket_table.specs.declared.split.sweep.Sweep.{Sweep}
@@ -22,6 +22,12 @@ slot_at at cs = with_slot (item_at at cs) []
 -- a sweep of either list leaves the same at each place
 abbrev pub AreSweptAlike : Sweep → List Cell → List Cell → Type 0
 AreSweptAlike how old new = (at : ℕ) → swept how (slot_at at new) ≡ swept how (slot_at at old)
+
+-- a sweep of some nodes: the other ones stay, and what goes is slots
+pub record Sweeps (how : Sweep) (old new : List Cell) : Type 0 where
+  pub alike : AreSweptAlike how old new
+  pub len : length new + length (slots_of old) ≡ length old + length (slots_of new)
+  pub fewer : length new ≤ length old
 
 -- the nodes up to the one at a place
 abbrev pub up_to : ℕ → List Cell → List Cell

@@ -2,10 +2,7 @@ ghost use Rattle.std.specs.Prelude.{◌≡◌, ◌^◌, false, IfOk, OnErr, leng
 ghost use Rattle.bucket_table.specs.Buckets.{IsGrown, IsReadied};
 
 use super::SplitRows;
-use super::directory::next_unready;
 use super::hint::Hint;
-use super::start::start_of_dummy;
-use super::survey::survey_both;
 use crate::growth::{Growth, Readying};
 use ets_term::KeyHash;
 use node_list::Link;
@@ -25,31 +22,18 @@ impl<H: KeyHash + Copy + Drop> SplitRows<H> {
         ensures err { OnErr result (self.new.ready ≡ self.old.ready) }
     {
         let index = bucket as usize;
-        if index >= self.dummies.len() {
+        if index >= self.layout.dummies.len() {
             return Ok(Readying::NotABucket);
         }
-        if self.dummies[index].get().is_some() {
+        if self.layout.dummies[index].get().is_some() {
             return Ok(Readying::AlreadyReady);
         }
-        let start = start_of_dummy(
-            &self.list,
-            &self.dummies,
-            &self.firsts,
-            &self.older,
-            self.shift,
-            bucket,
-        );
-        self.list.reserve(1)?;
-        let at = self.list.insert_dummy(start, dummy_key(bucket));
-        self.dummies[index] = Link::to(at);
-        survey_both(
-            &self.list,
-            &self.dummies,
-            &mut self.firsts,
-            self.shift,
-            bucket,
-        );
-        self.least = next_unready(&self.dummies, self.least);
+        let start = self.layout.start_of_dummy(bucket);
+        self.layout.list.reserve(1)?;
+        let at = self.layout.list.insert_dummy(start, dummy_key(bucket));
+        self.layout.dummies[index] = Link::to(at);
+        self.layout.survey_both(bucket);
+        self.least = self.layout.next_unready(self.least);
         Ok(Readying::Ready)
     }
 
@@ -60,16 +44,19 @@ impl<H: KeyHash + Copy + Drop> SplitRows<H> {
         ensures ok { IfOk result (λ growth. IsGrown (2 ^ 20) self.old.ready growth self.new.ready) }
         ensures err { OnErr result (self.new.ready ≡ self.old.ready) }
     {
-        let buckets = self.dummies.len();
+        let buckets = self.layout.dummies.len();
         if buckets >= MAX_BUCKETS {
             return Ok(Growth::AtMost);
         }
-        self.older.clear();
-        self.older.resize(16 * buckets, Hint::unknown())?;
-        self.dummies.resize(2 * buckets, Link::none())?;
-        mem::swap(&mut self.firsts, &mut self.older);
-        self.shift -= 1;
-        self.turn = 0;
+        self.layout.hints.older.clear();
+        self.layout
+            .hints
+            .older
+            .resize(16 * buckets, Hint::unknown())?;
+        self.layout.dummies.resize(2 * buckets, Link::none())?;
+        mem::swap(&mut self.layout.hints.firsts, &mut self.layout.hints.older);
+        self.layout.hints.shift -= 1;
+        self.layout.hints.turn = 0;
         Ok(Growth::Grown)
     }
 
@@ -77,7 +64,7 @@ impl<H: KeyHash + Copy + Drop> SplitRows<H> {
     pub(super) fn least_unready(&self) -> Option<u32>
         ensures { result ≡ position not self.now.ready }
     {
-        if self.least < self.dummies.len() {
+        if self.least < self.layout.dummies.len() {
             Some(self.least as u32)
         } else {
             None
@@ -88,7 +75,7 @@ impl<H: KeyHash + Copy + Drop> SplitRows<H> {
     pub(super) fn size(&self) -> u32
         ensures { result ≡ length self.now.ready }
     {
-        self.dummies.len() as u32
+        self.layout.dummies.len() as u32
     }
 
     /// Whether a bucket is ready.
@@ -96,6 +83,6 @@ impl<H: KeyHash + Copy + Drop> SplitRows<H> {
         ensures { result ≡ get_or self.now.ready bucket false }
     {
         let index = bucket as usize;
-        index < self.dummies.len() && self.dummies[index].get().is_some()
+        index < self.layout.dummies.len() && self.layout.dummies[index].get().is_some()
     }
 }

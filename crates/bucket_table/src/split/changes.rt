@@ -6,16 +6,11 @@ ghost use Rattle.bucket_table.specs.Split.{key_of_place};
 ghost use Rattle.bucket_table.specs.inside.Sweeps.{swept};
 
 use super::SplitRows;
-use super::directory::hash_of;
-use super::firsts::{becomes_first, note, take_out};
-use super::learn::learn;
-use super::settle::{settle, settle_two};
-use super::start::start_below;
-use super::sweep::{Sweep, purge_noted, sweep_all};
+use super::layout::hash_of;
+use super::sweep::Sweep;
 use crate::entry::Place;
 use ets_term::{KeyHash, Term};
 use node_list::Chain;
-use split_key::item_key;
 use std::alloc::AllocError;
 use std::mem;
 
@@ -30,9 +25,9 @@ impl<H: KeyHash + Copy + Drop> SplitRows<H> {
         ensures hash { self.new.hash ≡ self.old.hash }
         ensures buckets { self.new.ready ≡ self.old.ready }
     {
-        self.list.known();
-        self.list.reserve(additional)?;
-        let nodes = self.list.len().saturating_add(additional);
+        self.layout.list.known();
+        self.layout.list.reserve(additional)?;
+        let nodes = self.layout.list.len().saturating_add(additional);
         self.held.widen(nodes);
         Ok(())
     }
@@ -47,43 +42,9 @@ impl<H: KeyHash + Copy + Drop> SplitRows<H> {
         ensures hash { self.new.hash ≡ self.old.hash }
         ensures buckets { self.new.ready ≡ self.old.ready }
     {
-        self.list.known();
-        let key_of_split = item_key(number);
-        self.turn = settle_two(
-            &self.list,
-            &mut self.firsts,
-            &mut self.older,
-            self.shift,
-            self.turn,
-        );
-        let pair = (key_of_split >> self.shift) as usize / 2;
-        settle(
-            &self.list,
-            &mut self.firsts,
-            &mut self.older,
-            self.shift,
-            pair,
-        );
-        let before = start_below(
-            &self.list,
-            &self.dummies,
-            &self.firsts,
-            &self.older,
-            self.shift,
-            number,
-        );
-        let start = learn(
-            &self.list,
-            &mut self.firsts,
-            self.shift,
-            key_of_split,
-            before,
-        );
-        let moves = becomes_first(&self.list, &self.firsts, self.shift, key_of_split);
-        let index = (key_of_split >> self.shift) as usize;
+        self.layout.list.known();
         self.held.mark(objects.len() == 0, number);
-        let at = self.list.insert_item(start, key_of_split, key, objects);
-        note(&mut self.firsts, moves, index, at);
+        self.layout.insert(number, key, objects);
         self.slots += 1;
     }
 
@@ -98,7 +59,7 @@ impl<H: KeyHash + Copy + Drop> SplitRows<H> {
     {
         self.make_room(rows.len())?;
         for (key, objects) in rows {
-            let number = self.hash.hash32(&key);
+            let number = self.layout.hash.hash32(&key);
             self.insert_slot(number, key, objects);
         }
         Ok(())
@@ -114,10 +75,10 @@ impl<H: KeyHash + Copy + Drop> SplitRows<H> {
         ensures hash { self.new.hash ≡ self.old.hash }
         ensures buckets { self.new.ready ≡ self.old.ready }
     {
-        self.list.known();
-        let number = hash_of(self.list.key(place));
+        self.layout.list.known();
+        let number = hash_of(self.layout.list.key(place));
         self.held.mark(objects.len() == 0, number);
-        let chain = self.list.chain_mut(place);
+        let chain = self.layout.list.chain_mut(place);
         mem::replace(chain, objects)
     }
 
@@ -131,8 +92,8 @@ impl<H: KeyHash + Copy + Drop> SplitRows<H> {
         ensures hash { self.new.hash ≡ self.old.hash }
         ensures buckets { self.new.ready ≡ self.old.ready }
     {
-        self.list.known();
-        self.list.chain_mut(place).replace(0, object)
+        self.layout.list.known();
+        self.layout.list.chain_mut(place).replace(0, object)
     }
 
     /// Takes the slot at a place away.
@@ -145,25 +106,8 @@ impl<H: KeyHash + Copy + Drop> SplitRows<H> {
         ensures hash { self.new.hash ≡ self.old.hash }
         ensures buckets { self.new.ready ≡ self.old.ready }
     {
-        self.list.known();
-        let key = self.list.key(place);
-        let pair = (key >> self.shift) as usize / 2;
-        settle(
-            &self.list,
-            &mut self.firsts,
-            &mut self.older,
-            self.shift,
-            pair,
-        );
-        let start = start_below(
-            &self.list,
-            &self.dummies,
-            &self.firsts,
-            &self.older,
-            self.shift,
-            hash_of(key),
-        );
-        let slot = take_out(&mut self.list, &mut self.firsts, self.shift, start, place);
+        self.layout.list.known();
+        let slot = self.layout.remove(place);
         self.slots -= 1;
         slot
     }
@@ -174,18 +118,10 @@ impl<H: KeyHash + Copy + Drop> SplitRows<H> {
         ensures hash { self.new.hash ≡ self.old.hash }
         ensures buckets { self.new.ready ≡ self.old.ready }
     {
-        self.list.known();
-        self.older.clear();
-        let before = self.list.len();
-        sweep_all(
-            self.hash,
-            &mut self.list,
-            &self.dummies,
-            &mut self.firsts,
-            self.shift,
-            how,
-        );
-        self.slots -= before - self.list.len();
+        self.layout.list.known();
+        let before = self.layout.list.len();
+        self.layout.sweep_all(how);
+        self.slots -= before - self.layout.list.len();
         self.held.sweep(how);
     }
 
@@ -199,17 +135,9 @@ impl<H: KeyHash + Copy + Drop> SplitRows<H> {
             self.sweep_slots(Sweep::Purge);
             return;
         }
-        self.list.known();
-        self.older.clear();
-        let before = self.list.len();
-        purge_noted(
-            self.hash,
-            &mut self.list,
-            &self.dummies,
-            &mut self.firsts,
-            self.shift,
-            &mut self.held.hashes,
-        );
-        self.slots -= before - self.list.len();
+        self.layout.list.known();
+        let before = self.layout.list.len();
+        self.layout.purge_noted(&mut self.held.hashes);
+        self.slots -= before - self.layout.list.len();
     }
 }

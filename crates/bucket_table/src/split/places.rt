@@ -6,7 +6,6 @@ ghost use Rattle.bucket_table.specs.Buckets.{HasLooked};
 ghost use Rattle.bucket_table.specs.Split.{key_of_place};
 
 use super::SplitRows;
-use super::find::find_hinted;
 use crate::entry::Place;
 use ets_term::{KeyHash, Term};
 use node_list::Steps;
@@ -17,20 +16,10 @@ impl<H: KeyHash + Copy + Drop> SplitRows<H> {
         ensures value { option_copied result ≡ objects_of self.now.slots key.now }
         ensures looked { HasLooked (H.number self.now.hash) self.now.slots self.now.ready key.now steps.old steps.new }
     {
-        self.list.known();
-        let number = self.hash.hash32(key);
-        let at = find_hinted(
-            self.hash,
-            number,
-            &self.list,
-            &self.dummies,
-            &self.firsts,
-            &self.older,
-            self.shift,
-            key,
-            steps,
-        )?;
-        let (_key, chain) = self.list.item(at)?;
+        self.layout.list.known();
+        let number = self.layout.hash.hash32(key);
+        let at = self.layout.find(number, key, steps)?;
+        let (_key, chain) = self.layout.list.item(at)?;
         Some(chain.as_slice())
     }
 
@@ -39,27 +28,17 @@ impl<H: KeyHash + Copy + Drop> SplitRows<H> {
         requires { number ≡ H.number self.now.hash key.now }
         ensures { MatchOption result (objects_of self.now.slots key.now ≡ None) (λ place. (key_of_place self.now.places place ≡ Some key.now) × IsSome (objects_of self.now.slots key.now)) }
     {
-        self.list.known();
+        self.layout.list.known();
         let mut steps = Steps::new();
-        find_hinted(
-            self.hash,
-            number,
-            &self.list,
-            &self.dummies,
-            &self.firsts,
-            &self.older,
-            self.shift,
-            key,
-            &mut steps,
-        )
+        self.layout.find(number, key, &mut steps)
     }
 
     pub(super) fn objects_of_place(&self, place: Place) -> &[Term]
         requires { IsSome (key_of_place self.now.places place) }
         ensures { objects_in self.now.slots (key_of_place self.now.places place) ≡ Some result.now }
     {
-        self.list.known();
-        match self.list.item(place) {
+        self.layout.list.known();
+        match self.layout.list.item(place) {
             Some((_key, chain)) => chain.as_slice(),
             None => unreachable!(),
         }
@@ -71,8 +50,8 @@ impl<H: KeyHash + Copy + Drop> SplitRows<H> {
         ensures key { key_of_place self.now.places place ≡ Some result.0.now }
         ensures objects { objects_of self.now.slots result.0.now ≡ Some result.1.now }
     {
-        self.list.known();
-        match self.list.item(place) {
+        self.layout.list.known();
+        match self.layout.list.item(place) {
             Some((key, chain)) => (key, chain.as_slice()),
             None => unreachable!(),
         }
@@ -82,7 +61,7 @@ impl<H: KeyHash + Copy + Drop> SplitRows<H> {
     pub(super) fn place_of_first(&self) -> Option<Place>
         ensures { IsFirstPlace (key_of_place self.now.places) self.now.slots result }
     {
-        self.list.item_from(0)
+        self.layout.list.item_from(0)
     }
 
     /// The place of the slot behind the one at a place.
@@ -90,22 +69,22 @@ impl<H: KeyHash + Copy + Drop> SplitRows<H> {
         requires { IsSome (key_of_place self.now.places place) }
         ensures { IsNextPlace (key_of_place self.now.places) self.now.slots (key_of_place self.now.places place) result }
     {
-        self.list.known();
-        self.list.item_from(place + 1)
+        self.layout.list.known();
+        self.layout.list.item_from(place + 1)
     }
 
     /// The slots have distinct keys.
     pub(super) fn has_distinct_keys(&self)
         ensures { HasDistinctKeys self.now.slots }
     {
-        self.list.known();
+        self.layout.list.known();
     }
 
     /// How many slots there are.
     pub(super) fn count(&self) -> usize
         ensures { result ≡ length self.now.slots }
     {
-        self.list.known();
+        self.layout.list.known();
         self.slots
     }
 }

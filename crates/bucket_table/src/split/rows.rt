@@ -33,13 +33,13 @@ impl<H: KeyHash + Copy + Drop> Rows for SplitRows<H> {
     }
 
     fn replace(&mut self, key: &Term, objects: Chain) -> Option<Chain> {
-        let number = self.hash.hash32(key);
+        let number = self.layout.hash.hash32(key);
         let place = self.place_of(number, key)?;
         Some(self.replace_objects(place, objects))
     }
 
     fn remove(&mut self, key: &Term) -> Option<Chain> {
-        let number = self.hash.hash32(key);
+        let number = self.layout.hash.hash32(key);
         let place = self.place_of(number, key)?;
         let (_key, objects) = self.remove_slot(place);
         Some(objects)
@@ -76,12 +76,12 @@ impl<H: KeyHash + Copy + Drop> Rows for SplitRows<H> {
     }
 
     fn find(&self, key: &Term) -> Option<Place> {
-        let number = self.hash.hash32(key);
+        let number = self.layout.hash.hash32(key);
         self.place_of(number, key)
     }
 
     fn entry(&self, key: &Term) -> Entry {
-        let number = self.hash.hash32(key);
+        let number = self.layout.hash.hash32(key);
         match self.place_of(number, key) {
             Some(place) => Entry::Occupied(place),
             None => Entry::Vacant(number),

@@ -2,7 +2,8 @@ use Rattle.bucket_table.proofs.RowsLaws.{rows-grown, rows-like, cleared-grown}
 use Rattle.split_key.proofs.Halves.{exponent-lt}
 use Rattle.bucket_table.proofs.HintedLaws.{hints-none}
 use Rattle.bucket_table.proofs.HalveLaws.{hints-nil, older-like}
-use Rattle.bucket_table.specs.inside.Firsts.{IsTable}
+use Rattle.bucket_table.specs.inside.Directory.{IsLeast}
+use Rattle.bucket_table.specs.inside.Firsts.{IsRows}
 use Rattle.bucket_table.proofs.LeastLaws.{least-grown}
 use Rattle.std.proofs.Common.{◌+◌, List, sym, Option, ℕ, ap, take, ◌-◌, ◌*◌, ◌≡◌, ◌<◌, ◌≤◌, ◌^◌, ◌++◌, false, length, vec_len, replicate, is_some, map, refl, ◌∙◌, subst, arith}
 use Rattle.std.proofs.lemmas.List.{length-map}
@@ -18,15 +19,17 @@ some-shift dummies shift d e n h =
 
 pub returns-then-buckets-ge-MAX_BUCKETS-clause-ok : goal.returns-then-buckets-ge-MAX_BUCKETS-clause-ok
 returns-then-buckets-ge-MAX_BUCKETS-clause-ok g c =
-    let items = c.self.inside.dummies.items in
+    let items = c.self.inside.layout.dummies.items in
     let most : 2 ^ 20 ≤ length items = omega arith in
     let P : Split g.row.H.Denot → Type 0 = λ v. length v.ready ≡ 2 ^ 20 in
-    (refl, subst P c.self.view_is (length-map items is_some ∙ at-most (g.H.KeyHash.number c.self.inside.hash) items c.self.inside.list.cells c.self.invariant.rows.split most))
+    (refl, subst P c.self.view_is (length-map items is_some ∙ at-most (g.H.KeyHash.number c.self.inside.layout.hash) items c.self.inside.layout.list.cells c.self.invariant.rows.rows.split most))
 
 pub invariant_of-self : goal.invariant_of-self
 invariant_of-self g c = record {
-  rows = c.self.invariant.rows;
-  wider = hints-nil (2 ^ (c.self.inside.shift + 1)) c.resize.new.self.items c.self.inside.list.cells (c.in_err-resize.ensures.items ∙ c.clear.ensures.items);
+  rows = record {
+    rows = c.self.invariant.rows.rows;
+    wider = hints-nil (2 ^ (c.self.inside.layout.hints.shift + 1)) c.resize.new.self.items c.self.inside.layout.list.cells (c.in_err-resize.ensures.items ∙ c.clear.ensures.items);
+  };
   counted = c.self.invariant.counted;
   due = c.self.invariant.due;
   noted = c.self.invariant.noted;
@@ -34,26 +37,35 @@ invariant_of-self g c = record {
 
 pub invariant_of-self-in_err-resize-2 : goal.invariant_of-self-in_err-resize-2
 invariant_of-self-in_err-resize-2 g c =
-    let number = g.H.KeyHash.number c.self.inside.hash in
+    let number = g.H.KeyHash.number c.self.inside.layout.hash in
     let fresh = cleared-grown c.clear.new.self.items c.resize.new.self.items c.unknown.result _ (16 * c.len-buckets.result) _ c.clear.ensures.items c.unknown.ensures c.clear.ensures.len c.in_ok-resize.ensures.items in
-    let wider = hints-none (2 ^ (c.self.inside.shift + 1)) (16 * c.len-buckets.result) c.resize.new.self.items c.self.inside.list.cells fresh in
-    let P : List (Option ℕ) → Type 0 = λ ds. IsTable number ds c.self.inside.shift c.self.inside.firsts.items c.resize.new.self.items c.self.inside.slots c.self.inside.least c.self.inside.held.is_lost c.self.inside.held.hashes.items c.self.inside.list.cells in
-    subst P (sym c.in_err-resize-2.ensures.items) (record { rows = c.self.invariant.rows; wider = wider; counted = c.self.invariant.counted; due = c.self.invariant.due; noted = c.self.invariant.noted })
+    let wider = hints-none (2 ^ (c.self.inside.layout.hints.shift + 1)) (16 * c.len-buckets.result) c.resize.new.self.items c.self.inside.layout.list.cells fresh in
+    let P : List (Option ℕ) → Type 0 = λ ds. IsRows number ds c.self.inside.layout.hints.shift c.self.inside.layout.hints.firsts.items c.self.inside.layout.list.cells in
+    let D : List (Option ℕ) → Type 0 = λ ds. IsLeast ds c.self.inside.least in
+    let same = sym c.in_err-resize-2.ensures.items in
+    record {
+      rows = record { rows = subst P same c.self.invariant.rows.rows; wider = wider };
+      counted = c.self.invariant.counted;
+      due = subst D same c.self.invariant.due;
+      noted = c.self.invariant.noted;
+    }
 
 pub invariant_of-self-2 : goal.invariant_of-self-2
 invariant_of-self-2 g c =
-    let items = c.self.inside.dummies.items in
+    let items = c.self.inside.layout.dummies.items in
     let fewer : length items < 2 ^ 20 = omega arith in
     let fresh = cleared-grown c.clear.new.self.items c.resize.new.self.items c.unknown.result _ (16 * c.len-buckets.result) _ c.clear.ensures.items c.unknown.ensures c.clear.ensures.len c.in_ok-resize.ensures.items in
-    let hints = hints-none (2 ^ (c.self.inside.shift - 1)) (16 * c.len-buckets.result) c.resize.new.self.items c.self.inside.list.cells fresh in
-    let after = (grown-items items c.resize-2.new.self.items c.len-buckets.result (vec_len c.self.inside.dummies) (c.len-buckets.ensures ∙ c.self.inside.dummies.ok.0) c.self.inside.dummies.ok.0 (c.in_ok-resize-2.ensures.items ∙ ap (λ (z : Option ℕ). take (2 * c.len-buckets.result) items ++ replicate (2 * c.len-buckets.result - vec_len c.self.inside.dummies) z) c.none.ensures)) in
-    let rows = rows-grown (g.H.KeyHash.number c.self.inside.hash) items c.self.inside.shift c.self.inside.firsts.items c.self.inside.list.cells c.self.invariant.rows fewer c.resize-2.new.self.items c.resize.new.self.items
+    let hints = hints-none (2 ^ (c.self.inside.layout.hints.shift - 1)) (16 * c.len-buckets.result) c.resize.new.self.items c.self.inside.layout.list.cells fresh in
+    let after = (grown-items items c.resize-2.new.self.items c.len-buckets.result (vec_len c.self.inside.layout.dummies) (c.len-buckets.ensures ∙ c.self.inside.layout.dummies.ok.0) c.self.inside.layout.dummies.ok.0 (c.in_ok-resize-2.ensures.items ∙ ap (λ (z : Option ℕ). take (2 * c.len-buckets.result) items ++ replicate (2 * c.len-buckets.result - vec_len c.self.inside.layout.dummies) z) c.none.ensures)) in
+    let rows = rows-grown (g.H.KeyHash.number c.self.inside.layout.hash) items c.self.inside.layout.hints.shift c.self.inside.layout.hints.firsts.items c.self.inside.layout.list.cells c.self.invariant.rows.rows fewer c.resize-2.new.self.items c.resize.new.self.items
     after hints in
     let xs : c.swap.new.x.items ≡ c.resize.new.self.items = λ j. (c.swap.ensures.x_after j).items in
-    let ys : c.swap.new.y.items ≡ c.self.inside.firsts.items = λ j. (c.swap.ensures.y_after j).items in
+    let ys : c.swap.new.y.items ≡ c.self.inside.layout.hints.firsts.items = λ j. (c.swap.ensures.y_after j).items in
     record {
-      rows = rows-like (g.H.KeyHash.number c.self.inside.hash) c.resize-2.new.self.items (c.self.inside.shift - 1) c.resize.new.self.items c.swap.new.x.items c.self.inside.list.cells c.self.inside.list.cells rows xs refl;
-      wider = older-like c.self.inside.shift 0 c.self.inside.firsts.items c.swap.new.y.items c.self.inside.list.cells (some-shift items c.self.inside.shift c.self.invariant.rows.hinted.doublings c.self.invariant.rows.hinted.size c.self.invariant.rows.hinted.narrow fewer) ys c.self.invariant.rows.hinted.hints;
+      rows = record {
+        rows = rows-like (g.H.KeyHash.number c.self.inside.layout.hash) c.resize-2.new.self.items (c.self.inside.layout.hints.shift - 1) c.resize.new.self.items c.swap.new.x.items c.self.inside.layout.list.cells c.self.inside.layout.list.cells rows xs refl;
+        wider = older-like c.self.inside.layout.hints.shift 0 c.self.inside.layout.hints.firsts.items c.swap.new.y.items c.self.inside.layout.list.cells (some-shift items c.self.inside.layout.hints.shift c.self.invariant.rows.rows.hinted.doublings c.self.invariant.rows.rows.hinted.size c.self.invariant.rows.rows.hinted.narrow fewer) ys c.self.invariant.rows.rows.hinted.hints;
+      };
       counted = c.self.invariant.counted;
       due = least-grown items c.resize-2.new.self.items (length items) c.self.inside.least after c.self.invariant.due;
       noted = c.self.invariant.noted;
@@ -61,7 +73,7 @@ invariant_of-self-2 g c =
 
 pub returns-clause-ok : goal.returns-clause-ok
 returns-clause-ok g c =
-    let items = c.self.inside.dummies.items in
+    let items = c.self.inside.layout.dummies.items in
     let P : Split g.row.H.Denot → Type 0 = λ v. map is_some c.resize-2.new.self.items ≡ v.ready ++ replicate (length v.ready) false in
     subst P c.self.view_is (ready-grown items c.resize-2.new.self.items
-    (grown-items items c.resize-2.new.self.items c.len-buckets.result (vec_len c.self.inside.dummies) (c.len-buckets.ensures ∙ c.self.inside.dummies.ok.0) c.self.inside.dummies.ok.0 (c.in_ok-resize-2.ensures.items ∙ ap (λ (z : Option ℕ). take (2 * c.len-buckets.result) items ++ replicate (2 * c.len-buckets.result - vec_len c.self.inside.dummies) z) c.none.ensures)))
+    (grown-items items c.resize-2.new.self.items c.len-buckets.result (vec_len c.self.inside.layout.dummies) (c.len-buckets.ensures ∙ c.self.inside.layout.dummies.ok.0) c.self.inside.layout.dummies.ok.0 (c.in_ok-resize-2.ensures.items ∙ ap (λ (z : Option ℕ). take (2 * c.len-buckets.result) items ++ replicate (2 * c.len-buckets.result - vec_len c.self.inside.layout.dummies) z) c.none.ensures)))

@@ -7,4 +7,4 @@ use Rattle.bucket_table.proofs.split.SplitRows.has_distinct_keys.Goals as goal
 pub returns : goal.returns
 returns g c =
     let P : Split g.row.H.Denot → Type 0 = λ v. HasDistinctKeys v.slots in
-    subst P c.self.view_is (keys-distinct c.self.inside.list.cells c.known.ensures.apart c.self.invariant.rows.split.distinct)
+    subst P c.self.view_is (keys-distinct c.self.inside.layout.list.cells c.known.ensures.apart c.self.invariant.rows.rows.split.distinct)

@@ -5,5 +5,5 @@ use Rattle.bucket_table.proofs.split.SplitRows.make_room.Goals as goal
 pub returns-in_err-reserve-clause-succeeds : goal.returns-in_err-reserve-clause-succeeds
 returns-in_err-reserve-clause-succeeds g c = λ some h.
     let P : Split g.row.H.Denot → Type 0 = λ v. c.args.additional ≤ v.room in
-    let r : c.args.additional ≤ c.self.inside.list.capacity - length c.self.inside.list.cells = subst P (sym c.self.view_is) h in
+    let r : c.args.additional ≤ c.self.inside.layout.list.capacity - length c.self.inside.layout.list.cells = subst P (sym c.self.view_is) h in
     absurd (true≢false (sym (c.in_err-reserve.ensures.succeeds (omega arith))))

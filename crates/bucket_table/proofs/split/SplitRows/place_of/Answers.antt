@@ -6,5 +6,5 @@ use Rattle.bucket_table.proofs.split.SplitRows.place_of.Goals as goal
 
 pub returns : goal.returns
 returns g c =
-    let P : Split g.row.H.Denot → Type 0 = λ v. MatchOption c.find_hinted.result (objects_of v.slots c.args.key.now ≡ None) (λ at. (key_of_place v.places at ≡ Some c.args.key.now) × IsSome (objects_of v.slots c.args.key.now)) in
-    subst P c.self.view_is (placed-there c.self.inside.list.cells c.known.ensures.apart c.self.invariant.rows.split.distinct c.args.key.now c.find_hinted.result c.find_hinted.ensures.found)
+    let P : Split g.row.H.Denot → Type 0 = λ v. MatchOption c.find.result (objects_of v.slots c.args.key.now ≡ None) (λ at. (key_of_place v.places at ≡ Some c.args.key.now) × IsSome (objects_of v.slots c.args.key.now)) in
+    subst P c.self.view_is (placed-there c.self.inside.layout.list.cells c.known.ensures.apart c.self.invariant.rows.rows.split.distinct c.args.key.now c.find.result c.find.ensures.found)

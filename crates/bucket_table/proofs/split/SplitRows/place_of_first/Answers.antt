@@ -7,6 +7,6 @@ use Rattle.bucket_table.proofs.split.SplitRows.place_of_first.Goals as goal
 
 pub returns : goal.returns
 returns g c =
-    let cells = c.self.inside.list.cells in
+    let cells = c.self.inside.layout.list.cells in
     let Q : Split g.row.H.Denot → Type 0 = λ v. IsFirstPlace (key_of_place v.places) v.slots c.item_from.result in
     subst Q c.self.view_is (first-there 0 (above cells) cells c.item_from.result (omega arith) c.item_from.ensures)

@@ -1,31 +1,38 @@
-use Rattle.std.proofs.Common.{ℕ, List, Option, sym, ◌∙◌, ap, subst, arith, ◌^◌, ◌+◌}
-use Rattle.bucket_table.specs.inside.Nodes.{slots_of}
-use Rattle.bucket_table.specs.inside.Firsts.{IsRows}
-use Rattle.bucket_table.specs.inside.Notes.{AreAmong}
-use Rattle.bucket_table.proofs.NoteLaws.{among-purged}
+use Rattle.std.proofs.Common.{ℕ, List, Option, map, is_some, sym, ◌∙◌, ap, subst, arith}
 use Rattle.bucket_table.specs.Slots.{Slot, purged}
 use Rattle.bucket_table.specs.Split.{Split}
 use Rattle.bucket_table.specs.declared.split.sweep.Sweep.TheVariants.{Purge}
+use Rattle.bucket_table.specs.inside.Directory.{IsLeast}
+use Rattle.bucket_table.specs.inside.Nodes.{slots_of}
+use Rattle.bucket_table.specs.inside.Notes.{AreAmong}
+use Rattle.bucket_table.proofs.NoteLaws.{among-purged}
 use Rattle.bucket_table.proofs.SweptLaws.{content-swept}
-use Rattle.bucket_table.proofs.HalveLaws.{hints-nil}
 use Rattle.bucket_table.proofs.split.SplitRows.purge_notes.Goals as goal
 
 pub overflow_sub-self : goal.overflow_sub-self
-overflow_sub-self g c = omega (arith, c.purge_noted.ensures.len, c.purge_noted.ensures.fewer, c.self.invariant.counted, c.len.ensures.value, c.len-before.ensures.value)
+overflow_sub-self g c = omega (arith, c.purge_noted.ensures.each.len, c.purge_noted.ensures.each.fewer, c.self.invariant.counted, c.len.ensures.value, c.len-before.ensures.value)
 
 pub invariant_of-self : goal.invariant_of-self
 invariant_of-self g c =
-    let D : List (Option ℕ) → Type 0 = λ ds. IsRows (g.H.KeyHash.number c.self.inside.hash) ds c.self.inside.shift c.purge_noted.new.firsts.items c.purge_noted.new.list.cells in
-    let N : List Slot → Type 0 = λ ss. AreAmong (g.H.KeyHash.number c.self.inside.hash) c.purge_noted.new.hashes.items ss in
+    let e = c.purge_noted.ensures in
+    let number = g.H.KeyHash.number c.purge_noted.new.self.hash in
+    let hashes = c.purge_noted.new.hashes.items in
+    let D : List (Option ℕ) → Type 0 = λ ds. IsLeast ds c.self.inside.least in
+    let N : List Slot → Type 0 = λ ss. AreAmong number hashes ss in
     record {
-      rows = subst D c.deref.ensures.value c.purge_noted.ensures.rows;
-      wider = hints-nil (2 ^ (c.self.inside.shift + 1)) _ _ c.clear.ensures.items;
-      counted = omega (arith, c.purge_noted.ensures.len, c.purge_noted.ensures.fewer, c.self.invariant.counted, c.len.ensures.value, c.len-before.ensures.value);
-      due = c.self.invariant.due;
-      noted = λ kept. subst N (sym c.purge_noted.ensures.slots) (among-purged (g.H.KeyHash.number c.self.inside.hash) c.purge_noted.new.hashes.items (slots_of c.self.inside.list.cells));
+      rows = e.rows;
+      counted = omega (arith, e.each.len, e.each.fewer, c.self.invariant.counted, c.len.ensures.value, c.len-before.ensures.value);
+      due = subst D (sym e.keeps.dummies) c.self.invariant.due;
+      noted = λ kept. subst N (sym e.slots) (among-purged number hashes (slots_of c.self.inside.layout.list.cells));
     }
 
 pub returns-clause-slots : goal.returns-clause-slots
 returns-clause-slots g c =
-    content-swept Purge c.self.inside.list.cells c.purge_noted.new.list.cells c.purge_noted.ensures.each c.purge_noted.ensures.slots
+    content-swept Purge c.self.inside.layout.list.cells c.purge_noted.new.self.list.cells c.purge_noted.ensures.each.alike c.purge_noted.ensures.slots
     ∙ ap (λ (v : Split g.row.H.Denot). purged v.slots) c.self.view_is
+
+pub returns-clause-hash : goal.returns-clause-hash
+returns-clause-hash g c = c.purge_noted.ensures.keeps.hash ∙ ap (λ (v : Split g.row.H.Denot). v.hash) c.self.view_is
+
+pub returns-clause-buckets : goal.returns-clause-buckets
+returns-clause-buckets g c = ap (λ (ds : List (Option ℕ)). map is_some ds) c.purge_noted.ensures.keeps.dummies ∙ ap (λ (v : Split g.row.H.Denot). v.ready) c.self.view_is
