@@ -1,0 +1,169 @@
+-- Forms of options and of updates, without what is read of them.
+use Rattle.std.proofs.Common.{◌≡◌, ◌≤◌, ◌<◌, ℕ, pos, negsuc, Bool, true, false, not, List, [], ◌∷◌, Option, None, Some, option_map, option_and_then, refl, sym, ap, ◌∙◌, codes}
+use Rattle.std.specs.Prelude.{◌==◌, ◌&&◌, ◌||◌, ◌+◌, if◌then◌else◌, is_some, nat_lt, nat_le}
+use Rattle.std.specs.Str.{bytes_eq}
+use Rattle.std.specs.List.{list_all}
+use Rattle.ets_term.specs.declared.term.Term.{Term, out-Term}
+use Rattle.ets_term.specs.declared.term.Term.TheOpen.{Term-F}
+use Rattle.ets_term.specs.Atoms.{is_atom}
+use Rattle.ets_term.specs.Depth.{elements}
+use Rattle.counters.specs.Positions.{integer_of, integer_form, position_at, position_of}
+use Rattle.counters.specs.declared.elements.ElementSpec.{ElementSpec}
+use Rattle.counters.specs.declared.ops.Op.{Op}
+use Rattle.counters.specs.declared.ops.Ops.TheVariants as updates
+use Rattle.counters.specs.declared.elements.ElementSpecs.TheVariants as values
+use Rattle.counters.specs.Ops.{bound_of, op_from, op_of_parts, op_of, all_ops}
+use Rattle.counters.specs.Elements.{spec_of_parts, all_specs}
+use Rattle.ownership.specs.declared.head.Heir.{Heir}
+use Rattle.ownership.specs.declared.options.NewOptions.{NewOptions}
+use Rattle.ownership.specs.Options.{usual, natural_form, pid_form, keypos_option, tuning_word, access_word, word_option, heir_said, is_tuning, pair_option, plain_tuple, tuple_saying, option_form, options_from, options_form, options_of}
+use Rattle.node_reasons.specs.inside.Forms.{is_access_word, is_word, is_keypos_form, is_pair, is_plain, is_option_form, is_option, are_options_form, are_options}
+
+-- ---- options: whether one is read does not rest on what was read before
+some-if : {X : Type 0} (b : Bool) (x : X) → is_some (if b then Some x else None) ≡ b
+some-if true x = refl
+some-if false x = refl
+
+some-of-five : {X : Type 0} (a b c d e : Bool) (p q r s t : X) → is_some (if a then Some p else if b then Some q else if c then Some r else if d then Some s else if e then Some t else None) ≡ (a || b || c || d || e)
+some-of-five true b c d e p q r s t = refl
+some-of-five false true c d e p q r s t = refl
+some-of-five false false true d e p q r s t = refl
+some-of-five false false false true e p q r s t = refl
+some-of-five false false false false e p q r s t = some-if e t
+
+some-of-three : {X : Type 0} (a b c d : Bool) (p q r : X) (rest : Option X) → is_some rest ≡ d → is_some (if a then Some p else if b then Some q else if c then Some r else rest) ≡ (a || b || c || d)
+some-of-three true b c d p q r rest e = refl
+some-of-three false true c d p q r rest e = refl
+some-of-three false false true d p q r rest e = refl
+some-of-three false false false d p q r rest e = e
+
+access-word : (word : List ℕ) (o : NewOptions) → is_some (access_word word o) ≡ is_access_word word
+access-word word o =
+    some-of-five (bytes_eq word (codes "public")) (bytes_eq word (codes "protected")) (bytes_eq word (codes "private")) (bytes_eq word (codes "named_table")) (bytes_eq word (codes "compressed")) _ _ _ _ o
+
+word-option : (word : List ℕ) (o : NewOptions) → is_some (word_option word o) ≡ is_word word
+word-option word o =
+    some-of-three (bytes_eq word (codes "set")) (bytes_eq word (codes "bag")) (bytes_eq word (codes "duplicate_bag")) (is_access_word word) _ _ _ (access_word word o) (access-word word o)
+
+keypos-option : (form : Term-F Term) (o : NewOptions) → is_some (option_and_then (λ n. keypos_option n o) (natural_form form)) ≡ is_keypos_form form
+keypos-option (Term-F.Int (pos n)) o = some-if (nat_le 1 n && nat_le n 4294967295) _
+keypos-option (Term-F.Int (negsuc n)) o = refl
+keypos-option _ o = refl
+
+pair-option : (name value : Term) (o : NewOptions) → is_some (pair_option name value o) ≡ is_pair name value
+pair-option name value o = by (is_atom (codes "keypos") name) (option_and_then (λ n. keypos_option n o) (natural_form (out-Term value))) (is_keypos_form (out-Term value)) (keypos-option (out-Term value) o)
+  where
+    by : (b : Bool) (read : Option NewOptions) (c : Bool) → is_some read ≡ c → is_some (if b then read else (if is_tuning name value then Some o else None)) ≡ (if b then c else is_tuning name value)
+    by true read c e = e
+    by false read c e = some-if (is_tuning name value) o
+
+plain-tuple : (es : List Term) (o : NewOptions) → is_some (plain_tuple es o) ≡ is_plain es
+plain-tuple [] o = refl
+plain-tuple (x ∷ []) o = refl
+plain-tuple (x ∷ y ∷ []) o = pair-option x y o
+plain-tuple (x ∷ y ∷ z ∷ more) o = refl
+
+tuple-saying : (said : Option (Option Heir)) (es : List Term) (o : NewOptions) → is_some (tuple_saying said es o) ≡ (is_some said || is_plain es)
+tuple-saying None es o = plain-tuple es o
+tuple-saying (Some heir) es o = refl
+
+option-form : (form : Term-F Term) (o : NewOptions) → is_some (option_form form o) ≡ is_option_form form
+option-form (Term-F.Atom word) o = word-option word o
+option-form (Term-F.Tuple es) o = tuple-saying (heir_said es) es o
+option-form _ o = refl
+
+options-from : (o : NewOptions) (terms : List Term) → is_some (options_from o terms) ≡ list_all is_option terms
+options-from o [] = refl
+options-from o (term ∷ terms) = by (option_form (out-Term term) o) (is_option term) (option-form (out-Term term) o) (λ next. options-from next terms)
+  where
+    by : (read : Option NewOptions) (b : Bool) → is_some read ≡ b → ((next : NewOptions) → is_some (options_from next terms) ≡ list_all is_option terms) → is_some (option_and_then (λ next. options_from next terms) read) ≡ (b && list_all is_option terms)
+    by None true e rest = absurd (cc)
+    by None false e rest = refl
+    by (Some next) true e rest = rest next
+    by (Some next) false e rest = absurd (cc)
+
+options-form : (form : Term-F Term) → is_some (options_form form) ≡ are_options_form form
+options-form (Term-F.List terms) = options-from usual terms
+options-form _ = refl
+
+pub options-some : (term : Term) → is_some (options_of term) ≡ are_options term
+options-some term = options-form (out-Term term)
+
+-- ---- updates
+all-some : {X : Type 0} (first : Option X) (rest : Option (List X)) (b : Bool) → is_some rest ≡ b → is_some (option_and_then (λ x. option_map (λ xs. x ∷ xs) rest) first) ≡ (is_some first && b)
+all-some None rest b e = refl
+all-some (Some x) None b e = e
+all-some (Some x) (Some xs) b e = e
+
+module _ (keypos : ℕ) where
+  pub ops-some : (terms : List Term) → is_some (all_ops keypos terms) ≡ list_all (λ term. is_some (op_of_parts keypos (elements term))) terms
+  ops-some [] = refl
+  ops-some (term ∷ terms) = all-some (op_of keypos term) (all_ops keypos terms) (list_all (λ term. is_some (op_of_parts keypos (elements term))) terms) (ops-some terms)
+
+  pub specs-some : (terms : List Term) → is_some (all_specs keypos terms) ≡ list_all (λ term. is_some (spec_of_parts keypos (elements term))) terms
+  specs-some [] = refl
+  specs-some (term ∷ terms) = all-some (spec_of_parts keypos (elements term)) (all_specs keypos terms) (list_all (λ term. is_some (spec_of_parts keypos (elements term))) terms) (specs-some terms)
+
+  pub map-some : {X Y : Type 0} (f : X → Y) (o : Option X) → is_some (option_map f o) ≡ is_some o
+  map-some f None = refl
+  map-some f (Some x) = refl
+
+  both-some : {X Y Z : Type 0} (f : X → Y → Z) (a : Option X) (b : Option Y) → is_some (option_and_then (λ x. option_map (f x) b) a) ≡ (is_some a && is_some b)
+  both-some f None b = refl
+  both-some f (Some x) b = map-some (f x) b
+
+  pub op-from-some : (position increment : Term) (bound : Option _) → is_some (op_from keypos position increment bound) ≡ (is_some (position_of keypos position) && is_some (integer_of increment))
+  op-from-some position increment bound = both-some _ (position_of keypos position) (integer_of increment)
+
+  bounded : {X Y : Type 0} (o : Option X) (f : X → Option Y) (b : Bool) → ((x : X) → is_some (f x) ≡ b) → is_some (option_and_then f o) ≡ (is_some o && b)
+  bounded None f b e = refl
+  bounded (Some x) f b e = e x
+
+  swapped : (p i t s : Bool) → ((t && s) && (p && i)) ≡ (p && (i && (t && s)))
+  swapped true true true true = refl
+  swapped true true true false = refl
+  swapped true true false s = refl
+  swapped true false true true = refl
+  swapped true false true false = refl
+  swapped true false false s = refl
+  swapped false i true true = refl
+  swapped false i true false = refl
+  swapped false i false s = refl
+
+  pub op-four-some : (position increment threshold value : Term)
+      → is_some (op_of_parts keypos (position ∷ increment ∷ threshold ∷ value ∷ [])) ≡ (is_some (position_of keypos position) && (is_some (integer_of increment) && (is_some (integer_of threshold) && is_some (integer_of value))))
+  op-four-some position increment threshold value =
+      bounded (bound_of threshold value) (λ b. op_from keypos position increment (Some b)) (is_some (position_of keypos position) && is_some (integer_of increment)) (λ b. op-from-some position increment (Some b))
+      ∙ ap (λ c. c && (is_some (position_of keypos position) && is_some (integer_of increment))) (both-some _ (integer_of threshold) (integer_of value))
+      ∙ swapped (is_some (position_of keypos position)) (is_some (integer_of increment)) (is_some (integer_of threshold)) (is_some (integer_of value))
+
+  pub one-op : (parts : List Term) → is_some (option_map updates.One (op_of_parts keypos parts)) ≡ is_some (op_of_parts keypos parts)
+  one-op parts = map-some updates.One (op_of_parts keypos parts)
+
+  pub many-ops : (terms : List Term) → is_some (option_map updates.Many (all_ops keypos terms)) ≡ list_all (λ term. is_some (op_of_parts keypos (elements term))) terms
+  many-ops terms = map-some updates.Many (all_ops keypos terms) ∙ ops-some terms
+
+  pub one-spec : (parts : List Term) → is_some (option_map values.One (spec_of_parts keypos parts)) ≡ is_some (spec_of_parts keypos parts)
+  one-spec parts = map-some values.One (spec_of_parts keypos parts)
+
+  pub many-specs : (terms : List Term) → is_some (option_map values.Many (all_specs keypos terms)) ≡ list_all (λ term. is_some (spec_of_parts keypos (elements term))) terms
+  many-specs terms = map-some values.Many (all_specs keypos terms) ∙ specs-some terms
+
+  pub op-two-some : (position increment : Term) → is_some (op_of_parts keypos (position ∷ increment ∷ [])) ≡ (is_some (position_of keypos position) && is_some (integer_of increment))
+  op-two-some position increment = op-from-some position increment None
+
+pub ruleset update_forms = (one-op, many-ops, one-spec, many-specs, op-two-some, op-four-some)
+
+-- ---- heirs
+pub heir-two : (name none : Term) → is_some (heir_said (name ∷ none ∷ [])) ≡ (is_atom (codes "heir") name && is_atom (codes "none") none)
+heir-two name none = some-if (is_atom (codes "heir") name && is_atom (codes "none") none) None
+
+pub heir-three : (name pid gift : Term) → is_some (heir_said (name ∷ pid ∷ gift ∷ [])) ≡ (is_atom (codes "heir") name && is_some (pid_form (out-Term pid)))
+heir-three name pid gift = by (is_atom (codes "heir") name) (pid_form (out-Term pid))
+  where
+    by : (b : Bool) (p : Option ℕ) → is_some {T = Option Heir} (if b then option_map (λ p. Some (record { pid = p; gift = gift })) p else None) ≡ (b && is_some p)
+    by true None = refl
+    by true (Some p) = refl
+    by false p = refl
+
+pub ruleset heir_forms = (heir-two, heir-three)

@@ -1,0 +1,106 @@
+-- What the rules of a call say comes true of it: the rows of the machine's table of calls, beside those of reasons.
+use Rattle.std.proofs.Common.{◌≡◌, ℕ, ◌⊎◌, inl, inr, Bool, true, false, not, List, Option, None, Some, option_and_then, Result, Ok, Err, refl, sym, subst, ap, ◌∙◌}
+use Rattle.std.specs.Prelude.{if◌then◌else◌, MatchOption}
+use Rattle.std.specs.Bool.{MatchBool}
+use Rattle.std.specs.Str.{bytes_eq}
+use Rattle.ets_term.specs.declared.term.Term.{Term}
+use Rattle.table_ops.specs.declared.refusal.Refusal.{Refusal}
+use Rattle.table_ops.specs.declared.refusal.Refusal.TheVariants as refusal
+use Rattle.table_ops.specs.Content.{Content}
+use Rattle.fixed_walk.specs.Fixed.{Fixed}
+use Rattle.ownership.specs.declared.fault.WorldFault.{WorldFault}
+use Rattle.ownership.specs.declared.fault.WorldFault.TheVariants as fault
+use Rattle.ownership.specs.World.{Table, table_at, resolve}
+use Rattle.node_core.specs.declared.node.access.Access.{Access}
+use Rattle.node_core.specs.declared.node.access.Access.TheVariants.{Read, Write}
+use Rattle.node_core.specs.declared.step.Reply.{Reply}
+use Rattle.node_core.specs.declared.step.Reply.TheVariants.{Badarg, SystemLimit}
+use Rattle.node_core.specs.State.{State, Outcome, gives}
+use Rattle.node_core.specs.Access.{may, allowed, usable, with_table, Rule, IsReply, IsWorldReply, reads, changes}
+use Rattle.node_core.specs.Calls.{called}
+use Rattle.node_core.specs.rules.Replies.{truth_reply, is_value}
+use Rattle.node_reasons.specs.declared.reason.Rule.TheVariants as rule
+use Rattle.node_reasons.specs.declared.reason.Reason.{Reason}
+use Rattle.node_reasons.specs.Reasons.{refusal_of, argument, table_named, on_table, lacks}
+use Rattle.node_reasons.specs.Calls.{row}
+
+-- badarg, by a rule whose refusal that is; or, where no rule is broken, an answer or a limit
+abbrev pub Foretells : Option Reason → Reply → Type 0
+Foretells None reply = (is_value reply ≡ true) ⊎ (reply ≡ SystemLimit)
+Foretells (Some reason) reply = (reply ≡ Badarg) × (refusal_of reason.rule ≡ Badarg)
+
+-- that is so of each reply of the outcome
+abbrev pub Told : Option Reason → Outcome → Type 0
+Told v outcome = (reply : Reply) (new : State) → outcome reply new → Foretells v reply
+
+abbrev pub Either : Bool → Outcome → Outcome → Outcome
+Either test own otherwise reply new = MatchBool test (own reply new) (otherwise reply new)
+
+pub either-told : (test : Bool) (v w : Option Reason) (own otherwise : Outcome) → Told v own → Told w otherwise → Told (if test then v else w) (Either test own otherwise)
+either-told true v w own otherwise a b = a
+either-told false v w own otherwise a b = b
+
+pub row-told : (name own : List ℕ) (v w : Option Reason) (rule others : Outcome) → Told v rule → Told w others → Told (row name own v w) (called name own rule others)
+row-told name own v w rule others a b = either-told (bytes_eq name own) v w rule others a b
+
+pub gives-told : (v : Option Reason) (answer : Reply) (after : State) → Foretells v answer → Told v (gives answer after)
+gives-told v answer after f reply new h = subst (Foretells v) (sym h.0) f
+
+-- ---- on the table that a term names
+abbrev pub Where : {X : Type 0} → Option X → State → (X → Outcome) → Outcome
+Where o old outcome reply new = MatchOption o (gives Badarg old reply new) (λ x. outcome x reply new)
+
+lacks-told : (access : Access) (old : State) → Told (Some (argument 1 (lacks access))) (gives Badarg old)
+lacks-told Read old reply new h = (h.0, refl)
+lacks-told Write old reply new h = (h.0, refl)
+
+module _ (old : State) (p : ℕ) (access : Access) (rest : Content → Option Reason) (outcome : ℕ × Table → Outcome) (told : (found : ℕ × Table) → Told (rest found.1.fixed.content) (outcome found)) where
+  may-told : (t : ℕ) (table : Table) (b : Bool) → Told (if b then rest table.fixed.content else Some (argument 1 (lacks access))) (Where (if b then Some (t, table) else None) old outcome)
+  may-told t table true = told (t, table)
+  may-told t table false = lacks-told access old
+
+  at-told : (t : ℕ) (o : Option Table) → Told (on_table access p o rest) (Where (option_and_then (allowed access p t) o) old outcome)
+  at-told t None = λ reply new h. (h.0, refl)
+  at-told t (Some table) = may-told t table (may access table.head p)
+
+  resolved-told : (o : Option ℕ) → Told (on_table access p (option_and_then (table_at old.world.tables) o) rest) (Where (option_and_then (λ t. option_and_then (allowed access p t) (table_at old.world.tables t)) o) old outcome)
+  resolved-told None = λ reply new h. (h.0, refl)
+  resolved-told (Some t) = at-told t (table_at old.world.tables t)
+
+  pub used-told : (term : Term) → Told (on_table access p (table_named old.world.tables term) rest) (Where (usable access old.world.tables p term) old outcome)
+  used-told term = resolved-told (resolve old.world.tables term)
+
+module _ (old : State) (p : ℕ) (term : Term) where
+  pub reads-told : (rest : Content → Option Reason) (answer : Fixed → Reply) → ((f : Fixed) → Foretells (rest f.content) (answer f)) → Told (on_table Read p (table_named old.world.tables term) rest) (reads old p term answer)
+  reads-told rest answer told = used-told old p Read rest (λ found. gives (answer found.1.fixed) old) (λ found. gives-told (rest found.1.fixed.content) (answer found.1.fixed) old (told found.1.fixed)) term
+
+  pub changes-told : (access : Access) (rest : Content → Option Reason) (rule : Rule) → ((f g : Fixed) (reply : Reply) → rule f reply g → Foretells (rest f.content) reply)
+      → Told (on_table access p (table_named old.world.tables term) rest) (changes old p access term rule)
+  changes-told access rest rule told = used-told old p access rest (λ found reply new. (fixed : Fixed) × rule found.1.fixed reply fixed × (new ≡ with_table old found.0 fixed)) (λ found reply new h. told found.1.fixed h.0 reply h.1) term
+
+-- ---- replies to changes
+pub value-of : {X : Type 0} (answer : X → Reply) (result : Result X Refusal) (x : X) (reply : Reply) → is_value (answer x) ≡ true → result ≡ Ok x → IsReply answer result reply → is_value reply ≡ true
+value-of answer result x reply v e h = let r : reply ≡ answer x = subst (λ r. IsReply answer r reply) e h in ap is_value r ∙ v
+
+pub badarg-of : {X : Type 0} (answer : X → Reply) (result : Result X Refusal) (reply : Reply) → result ≡ Err refusal.Badarg → IsReply answer result reply → reply ≡ Badarg
+badarg-of answer result reply e h = subst (λ r. IsReply answer r reply) e h
+
+pub limit-of : {X : Type 0} (answer : X → Reply) (result : Result X Refusal) (reply : Reply) → result ≡ Err refusal.SystemLimit → IsReply answer result reply → reply ≡ SystemLimit
+limit-of answer result reply e h = subst (λ r. IsReply answer r reply) e h
+
+pub memory-of : {X : Type 0} (answer : X → Reply) (result : Result X Refusal) (reply : Reply) → result ≡ Err refusal.Memory → IsReply answer result reply → ⊥
+memory-of answer result reply e h = subst (λ r. IsReply answer r reply) e h
+
+pub truth-value : (b : Bool) → is_value (truth_reply b) ≡ true
+truth-value true = refl
+truth-value false = refl
+
+-- ---- the world's refusals
+pub world-badarg : {X : Type 0} (answer : X → Reply) (result : Result X WorldFault) (reply : Reply) → result ≡ Err fault.Badarg → IsWorldReply answer result reply → reply ≡ Badarg
+world-badarg answer result reply e h = subst (λ r. IsWorldReply answer r reply) e h
+
+pub world-limit : {X : Type 0} (answer : X → Reply) (result : Result X WorldFault) (reply : Reply) → result ≡ Err fault.SystemLimit → IsWorldReply answer result reply → reply ≡ SystemLimit
+world-limit answer result reply e h = subst (λ r. IsWorldReply answer r reply) e h
+
+pub world-value : {X : Type 0} (answer : X → Reply) (result : Result X WorldFault) (x : X) (reply : Reply) → is_value (answer x) ≡ true → result ≡ Ok x → IsWorldReply answer result reply → is_value reply ≡ true
+world-value answer result x reply v e h = let r : reply ≡ answer x = subst (λ r. IsWorldReply answer r reply) e h in ap is_value r ∙ v

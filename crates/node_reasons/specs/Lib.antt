@@ -1,0 +1,9 @@
+pub mod Reasons
+pub mod Names
+pub mod Objects
+pub mod Updates
+pub mod Tables
+pub mod Calls
+pub mod Why
+pub mod Laws
+pub mod inside

@@ -1,0 +1,47 @@
+-- The words in which it is said why a step is refused.
+use Rattle.std.specs.Prelude.{ℕ, if◌then◌else◌, Option, Some, None}
+use Rattle.std.specs.Option.{option_and_then}
+use Rattle.ets_term.specs.declared.term.Term.{Term}
+use Rattle.table_ops.specs.Content.{Content}
+use Rattle.ownership.specs.World.{Table, Tables, table_at, resolve}
+use Rattle.node_core.specs.declared.node.access.Access.{Access}
+use Rattle.node_core.specs.declared.node.access.Access.TheVariants.{Read, Write}
+use Rattle.node_core.specs.declared.step.Reply.{Reply}
+use Rattle.node_core.specs.declared.step.Reply.TheVariants.{Badarg, SystemLimit, NoProcess}
+use Rattle.node_core.specs.Access.{may}
+use Rattle.node_reasons.specs.declared.reason.Rule.{Rule}
+use Rattle.node_reasons.specs.declared.reason.Rule.TheVariants as rule
+use Rattle.node_reasons.specs.declared.reason.Reason.{Reason}
+
+-- the refusal that a step answers by a rule
+abbrev pub refusal_of : Rule → Reply
+refusal_of rule.NoProcess = NoProcess
+refusal_of rule.TooDeep = SystemLimit
+refusal_of rule.TooManyProcesses = SystemLimit
+refusal_of rule.TooManyTables = SystemLimit
+refusal_of rule.TooManyObjects = SystemLimit
+refusal_of rule.TooManyFixes = SystemLimit
+refusal_of rule.PastALimit = SystemLimit
+refusal_of _ = Badarg
+
+-- a rule on the step, or on its call as a whole
+abbrev pub whole : Rule → Reason
+whole broken = record { rule = broken; argument = None }
+
+-- a rule on an argument, counted from 1
+abbrev pub argument : ℕ → Rule → Reason
+argument n broken = record { rule = broken; argument = Some n }
+
+-- the table that a term names, if there is one
+abbrev pub table_named : Tables → Term → Option Table
+table_named tables term = option_and_then (table_at tables) (resolve tables term)
+
+abbrev pub lacks : Access → Rule
+lacks Read = rule.NotReadable
+lacks Write = rule.NotWritable
+
+-- a call that uses so the table that its first argument names: the first rule that is broken, where the process may what a rule
+-- on the content finds
+abbrev pub on_table : Access → ℕ → Option Table → (Content → Option Reason) → Option Reason
+on_table access p None rest = Some (argument 1 rule.NoTable)
+on_table access p (Some table) rest = if may access table.head p then rest table.fixed.content else Some (argument 1 (lacks access))

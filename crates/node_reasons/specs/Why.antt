@@ -1,0 +1,49 @@
+-- Why a step is refused: the first rule that is broken, in the order in which the machine refuses.
+use Rattle.std.specs.Prelude.{ℕ, ◌+◌, if◌then◌else◌, List, Option, Some, None, is_some, position, codes}
+use Rattle.std.specs.Option.{option_map_or}
+use Rattle.std.specs.Str.{bytes_eq}
+use Rattle.ets_term.specs.Depth.{is_too_deep}
+use Rattle.ownership.specs.World.{World, lives, process_at, table_at}
+use Rattle.node_core.specs.declared.step.Call.{Call}
+use Rattle.node_core.specs.declared.step.Reply.{Reply}
+use Rattle.node_core.specs.declared.step.Step.{Step}
+use Rattle.node_core.specs.declared.step.Step.TheVariants.{Enrol, End, Ask, Grow, Ready}
+use Rattle.node_core.specs.State.{State}
+use Rattle.node_core.specs.rules.Replies.{is_value}
+use Rattle.node_reasons.specs.declared.reason.Rule.{Rule}
+use Rattle.node_reasons.specs.declared.reason.Rule.TheVariants as rule
+use Rattle.node_reasons.specs.declared.reason.Reason.{Reason}
+use Rattle.node_reasons.specs.Reasons.{whole, argument}
+use Rattle.node_reasons.specs.Calls.{call_why}
+
+-- the limit that a call can pass
+abbrev pub limit_of : List ℕ → Rule
+limit_of name =
+    if bytes_eq name (codes "insert") then rule.TooManyObjects
+    else if bytes_eq name (codes "insert_new") then rule.TooManyObjects
+    else if bytes_eq name (codes "new") then rule.TooManyTables
+    else if bytes_eq name (codes "safe_fixtable") then rule.TooManyFixes
+    else rule.PastALimit
+
+-- the rule that is broken; where none is, the limit, if the step is refused after all
+abbrev pub or_limit : Rule → Option Reason → Reply → Option Reason
+or_limit limit (Some reason) reply = Some reason
+or_limit limit None reply = if is_value reply then None else Some (whole limit)
+
+-- a call of a process that lives: the first argument that is too deep, then the table of calls, then its limit
+abbrev pub asked_why : World → ℕ → Call → Reply → Option Reason
+asked_why w p asked reply =
+    option_map_or (λ place. Some (argument (place + 1) rule.TooDeep)) (position is_too_deep asked.args)
+    (or_limit (limit_of asked.name) (call_why w p asked.name asked.args) reply)
+
+abbrev pub growth_why : World → ℕ → Option Reason
+growth_why w t = if is_some (table_at w.tables t) then None else Some (whole rule.NoTable)
+
+-- why a step in this state has this reply; None where it is no refusal. Only whether it is one is asked of the reply, and only
+-- where no rule but a limit is left.
+abbrev pub why : State → Step → Reply → Option Reason
+why s (Enrol p) reply = or_limit rule.TooManyProcesses (if is_some (process_at s.world.processes p) then Some (whole rule.IsKnown) else None) reply
+why s (End p) reply = if lives s.world.processes p then None else Some (whole rule.NoProcess)
+why s (Ask p asked) reply = if lives s.world.processes p then asked_why s.world p asked reply else Some (whole rule.NoProcess)
+why s (Grow t) reply = growth_why s.world t
+why s (Ready t bucket) reply = growth_why s.world t

@@ -1,0 +1,98 @@
+-- The only reason that is left where a rule is broken: the last rule of a call need not be tried.
+use Rattle.std.specs.Prelude.{◌≡◌, ℕ, ◌==◌, Bool, if◌then◌else◌, List, [], ◌∷◌, Option, Some, None, is_some, codes}
+use Rattle.std.specs.Option.{option_map_or}
+use Rattle.ets_term.specs.declared.term.Term.{Term, out-Term}
+use Rattle.ets_term.specs.Atoms.{text_of, is_atom}
+use Rattle.counters.specs.Elements.{specs_of}
+use Rattle.counters.specs.Ops.{ops_of}
+use Rattle.table_ops.specs.Content.{Content, objects_under}
+use Rattle.table_ops.specs.Update.{is_set, is_good}
+use Rattle.fixed_walk.specs.Fixed.{Fixed}
+use Rattle.ownership.specs.declared.head.Head.{Head}
+use Rattle.ownership.specs.Heads.{owned_by}
+use Rattle.ownership.specs.Options.{pid_form}
+use Rattle.ownership.specs.Info.{item_of}
+use Rattle.node_core.specs.Access.{may}
+use Rattle.node_core.specs.Positions.{position_of}
+use Rattle.node_core.specs.declared.node.access.Access.{Access}
+use Rattle.node_core.specs.declared.node.access.Access.TheVariants.{Read}
+use Rattle.node_reasons.specs.declared.reason.Rule.TheVariants as rule
+use Rattle.node_reasons.specs.declared.reason.Reason.{Reason}
+use Rattle.node_reasons.specs.Reasons.{argument, lacks}
+use Rattle.node_reasons.specs.inside.Forms.{are_options}
+
+-- this reason is the one, where there is one
+abbrev pub Names : Option Reason → Reason → Type 0
+Names None named = Unit {0}
+Names (Some reason) named = named ≡ reason
+
+-- the table is there, and the process may use it so: then this
+abbrev pub head_left : Access → ℕ → Option Head → Reason → Reason
+head_left access p None rest = argument 1 rule.NoTable
+head_left access p (Some head) rest = if may access head p then rest else argument 1 (lacks access)
+
+-- no rule stands behind that
+abbrev pub use_left : Access → ℕ → Option Head → Reason
+use_left access p head = head_left access p head (argument 1 (lacks access))
+
+abbrev pub content_left : Access → ℕ → Option Head → Option Fixed → (Content → Reason) → Reason
+content_left access p head fixed rest = option_map_or (λ f. head_left access p head (rest f.content)) fixed (argument 1 rule.NoTable)
+
+-- the table is the process's own: then this
+abbrev pub own_left : ℕ → Option Head → Reason → Reason
+own_left p None rest = argument 1 rule.NoTable
+own_left p (Some head) rest = if owned_by head p then rest else argument 1 rule.NotOwner
+
+abbrev pub giving_to_left : ℕ → Head → Option ℕ → Reason
+giving_to_left p head None = argument 2 rule.NotAPid
+giving_to_left p head (Some q) = own_left p (Some head) (if q == p then argument 2 rule.IsTheCaller else argument 2 rule.IsNotLiving)
+
+abbrev pub giving_left : ℕ → Option Head → Term → Reason
+giving_left p None pid = argument 1 rule.NoTable
+giving_left p (Some head) pid = giving_to_left p head (pid_form (out-Term pid))
+
+abbrev pub fixing_left : ℕ → Option Head → Term → Reason
+fixing_left p head flag =
+    if is_atom (codes "true") flag then use_left Read p head
+    else if is_atom (codes "false") flag then use_left Read p head
+    else argument 2 rule.NotABoolean
+
+abbrev pub making_left : Term → Term → Reason
+making_left name options =
+    if is_some (text_of name)
+    then (if are_options options then argument 1 rule.NameIsTaken else argument 2 rule.NotOptions)
+    else argument 1 rule.NotAName
+
+abbrev pub informing_left : Term → Reason
+informing_left item = if is_some (item_of item) then argument 1 rule.NotAName else argument 2 rule.NotAnItem
+
+-- the key has an object, where it needs one: then this
+abbrev pub key_left : Bool → Reason → List Term → Reason
+key_left needed rest [] = if needed then argument 2 rule.NoKey else rest
+key_left needed rest (object ∷ objects) = rest
+
+abbrev pub position_left : Option ℕ → Reason → Reason
+position_left None rest = argument 3 rule.NotAPosition
+position_left (Some position) rest = if position == 0 then argument 3 rule.NotAPosition else rest
+
+abbrev pub element_left : Term → Term → Bool → Content → Reason
+element_left key position needed content = position_left (position_of position) (key_left needed (argument 3 rule.NoElement) (objects_under content.slots key))
+
+-- the table is a set, and the Default an object: then this
+abbrev pub set_left : Term → Option Term → Content → Reason → Reason
+set_left key default content rest =
+    if is_set content.kind
+    then (if is_good content.keypos key default then rest else argument 4 rule.NotAnObject)
+    else argument 1 rule.NotASet
+
+abbrev pub counting_left : Term → Term → Option Term → Bool → Content → Reason
+counting_left key updates default needed content =
+    if is_some (ops_of content.keypos updates)
+    then set_left key default content (key_left needed (argument 3 rule.NotACounter) (objects_under content.slots key))
+    else argument 3 rule.NotAnUpdate
+
+abbrev pub writing_left : Term → Term → Option Term → Content → Reason
+writing_left key values default content =
+    if is_some (specs_of content.keypos values)
+    then set_left key default content (argument 3 rule.NoElement)
+    else argument 3 rule.NotAnUpdate

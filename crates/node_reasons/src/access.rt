@@ -1,0 +1,76 @@
+// The table that a call names, and who may use it.
+ghost use Rattle.std.specs.Prelude.{◌≡◌, option_copied};
+ghost use Rattle.ownership.specs.World.{head_of};
+ghost use Rattle.node_core.specs.declared.node.access.Access.TheVariants.{Read, Write};
+ghost use Rattle.node_reasons.specs.Reasons.{table_named};
+ghost use Rattle.node_reasons.specs.inside.Left.{head_left, use_left, own_left};
+ghost use Rattle.node_reasons.specs.inside.LeftCalls.{fixed_of};
+
+use crate::reason::{Reason, Rule};
+use bucket_table::Rows;
+use ets_term::Term;
+use fixed_walk::Walked;
+use ownership::{Head, World};
+
+/// What stands over the table that a term names.
+pub fn head_named<'a, R: Rows>(world: &'a World<R>, term: &Term) -> Option<&'a Head>
+    ensures { option_copied result ≡ head_of (table_named world.now.tables term.now) }
+{
+    let id = world.resolve(term)?;
+    world.head(id)
+}
+
+/// The table that a term names.
+pub fn table_named<'a, R: Rows>(world: &'a World<R>, term: &Term) -> Option<&'a Walked<R>>
+    ensures { option_copied result ≡ fixed_of (table_named world.now.tables term.now) }
+{
+    let id = world.resolve(term)?;
+    world.table(id)
+}
+
+/// The table is there, and the process may read it: then this.
+pub fn reading<R: Rows>(world: &World<R>, pid: u32, term: &Term, rest: Reason) -> Reason
+    ensures { result ≡ head_left Read pid (head_of (table_named world.now.tables term.now)) rest }
+{
+    match head_named(world, term) {
+        None => Reason::argument(1, Rule::NoTable),
+        Some(head) if head.may_read(pid) => rest,
+        Some(_) => Reason::argument(1, Rule::NotReadable),
+    }
+}
+
+/// The table is there, and the process may write to it: then this.
+pub fn changing<R: Rows>(world: &World<R>, pid: u32, term: &Term, rest: Reason) -> Reason
+    ensures { result ≡ head_left Write pid (head_of (table_named world.now.tables term.now)) rest }
+{
+    match head_named(world, term) {
+        None => Reason::argument(1, Rule::NoTable),
+        Some(head) if head.may_write(pid) => rest,
+        Some(_) => Reason::argument(1, Rule::NotWritable),
+    }
+}
+
+/// The process may read the table, and no rule stands behind that.
+pub fn read<R: Rows>(world: &World<R>, pid: u32, term: &Term) -> Reason
+    ensures { result ≡ use_left Read pid (head_of (table_named world.now.tables term.now)) }
+{
+    reading(world, pid, term, Reason::argument(1, Rule::NotReadable))
+}
+
+/// The process may write to the table, and no rule stands behind that.
+pub fn change<R: Rows>(world: &World<R>, pid: u32, term: &Term) -> Reason
+    ensures { result ≡ use_left Write pid (head_of (table_named world.now.tables term.now)) }
+{
+    changing(world, pid, term, Reason::argument(1, Rule::NotWritable))
+}
+
+/// The table is the process's own: then this.
+pub fn owning<R: Rows>(world: &World<R>, pid: u32, term: &Term, rest: Reason) -> Reason
+    ensures { result ≡ own_left pid (head_of (table_named world.now.tables term.now)) rest }
+{
+    match head_named(world, term) {
+        None => Reason::argument(1, Rule::NoTable),
+        Some(head) if head.is_owned_by(pid) => rest,
+        Some(_) => Reason::argument(1, Rule::NotOwner),
+    }
+}

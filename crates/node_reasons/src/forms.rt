@@ -1,0 +1,96 @@
+// Whether updates have their form, looked at where they stand.
+ghost use Rattle.std.specs.Prelude.{◌≡◌, is_some};
+ghost use Rattle.std.specs.List.{list_all};
+ghost use Rattle.ets_term.specs.Depth.{elements};
+ghost use Rattle.counters.specs.Positions.{integer_of, position_of};
+ghost use Rattle.counters.specs.Ops.{op_of_parts, ops_of};
+ghost use Rattle.counters.specs.Elements.{spec_of_parts, specs_of};
+
+use ets_term::Term;
+
+/// Whether a term is an update of counters.
+#[tactic(auto, using(crate::proofs::FormLaws::update_forms))]
+pub fn are_ops(keypos: u32, term: &Term) -> bool
+    ensures { result ≡ is_some (ops_of keypos term.now) }
+{
+    match term {
+        Term::Int(_) => true,
+        Term::Tuple(parts) => is_op(keypos, parts.as_slice()),
+        Term::List(terms) => are_all_ops(keypos, terms.as_slice()),
+        _ => false,
+    }
+}
+
+/// Whether a term is an update of elements.
+#[tactic(auto, using(crate::proofs::FormLaws::update_forms))]
+pub fn are_specs(keypos: u32, term: &Term) -> bool
+    ensures { result ≡ is_some (specs_of keypos term.now) }
+{
+    match term {
+        Term::Tuple(parts) => is_spec(keypos, parts.as_slice()),
+        Term::List(terms) => are_all_specs(keypos, terms.as_slice()),
+        _ => false,
+    }
+}
+
+fn are_all_ops(keypos: u32, terms: &[Term]) -> bool
+    ensures { result ≡ list_all (λ term. is_some (op_of_parts keypos (elements term))) terms.now }
+{
+    terms.iter().all(|term| is_op(keypos, parts_of(term)))
+}
+
+fn are_all_specs(keypos: u32, terms: &[Term]) -> bool
+    ensures { result ≡ list_all (λ term. is_some (spec_of_parts keypos (elements term))) terms.now }
+{
+    terms.iter().all(|term| is_spec(keypos, parts_of(term)))
+}
+
+fn parts_of(term: &Term) -> &[Term]
+    ensures { result.now ≡ elements term.now }
+{
+    match term {
+        Term::Tuple(parts) => parts.as_slice(),
+        _ => &[],
+    }
+}
+
+#[tactic(auto, using(crate::proofs::FormLaws::update_forms))]
+fn is_op(keypos: u32, parts: &[Term]) -> bool
+    ensures { result ≡ is_some (op_of_parts keypos parts.now) }
+{
+    match parts {
+        [position, increment] => is_position(keypos, position) && is_integer(increment),
+        [position, increment, threshold, set_value] => {
+            is_position(keypos, position)
+                && is_integer(increment)
+                && is_integer(threshold)
+                && is_integer(set_value)
+        }
+        _ => false,
+    }
+}
+
+fn is_spec(keypos: u32, parts: &[Term]) -> bool
+    ensures { result ≡ is_some (spec_of_parts keypos parts.now) }
+{
+    match parts {
+        [position, _] => is_position(keypos, position),
+        _ => false,
+    }
+}
+
+/// Whether a term is a position of at least 1 that is not the key's.
+fn is_position(keypos: u32, term: &Term) -> bool
+    ensures { result ≡ is_some (position_of keypos term.now) }
+{
+    match term {
+        Term::Int(n) => *n >= 1 && *n as usize != keypos as usize,
+        _ => false,
+    }
+}
+
+fn is_integer(term: &Term) -> bool
+    ensures { result ≡ is_some (integer_of term.now) }
+{
+    matches!(term, Term::Int(_))
+}

@@ -1,0 +1,112 @@
+// Whether options of a new table have their form, looked at where they stand.
+ghost use Rattle.std.specs.Prelude.{◌≡◌, is_some};
+ghost use Rattle.std.specs.List.{list_all};
+ghost use Rattle.ets_term.specs.declared.term.Term.{out-Term};
+ghost use Rattle.ownership.specs.Options.{heir_said, is_tuning, is_boolean};
+ghost use Rattle.node_reasons.specs.inside.Forms.{is_access_word, is_word, is_keypos_form, is_pair, is_plain, is_option, are_options};
+
+use ets_term::Term;
+
+/// Whether a term is a list of options.
+pub fn are_options(term: &Term) -> bool
+    ensures { result ≡ are_options term.now }
+{
+    match term {
+        Term::List(terms) => are_all_options(terms.as_slice()),
+        _ => false,
+    }
+}
+
+fn are_all_options(terms: &[Term]) -> bool
+    ensures { result ≡ list_all is_option terms.now }
+{
+    terms.iter().all(|term| is_option(term))
+}
+
+fn is_option(term: &Term) -> bool
+    ensures { result ≡ is_option term.now }
+{
+    match term {
+        Term::Atom(word) => is_word(word.text()),
+        Term::Tuple(elements) => { is_heir(elements.as_slice()) || is_plain(elements.as_slice()) }
+        _ => false,
+    }
+}
+
+fn is_word(word: &str) -> bool
+    ensures { result ≡ is_word word.now }
+{
+    word == "set" || word == "bag" || word == "duplicate_bag" || is_access_word(word)
+}
+
+fn is_access_word(word: &str) -> bool
+    ensures { result ≡ is_access_word word.now }
+{
+    word == "public"
+        || word == "protected"
+        || word == "private"
+        || word == "named_table"
+        || word == "compressed"
+}
+
+/// Whether a tuple says something of an heir.
+#[tactic(auto, using(crate::proofs::FormLaws::heir_forms))]
+fn is_heir(elements: &[Term]) -> bool
+    ensures { result ≡ is_some (heir_said elements.now) }
+{
+    match elements {
+        [name, none] => name.is_atom("heir") && none.is_atom("none"),
+        [name, pid, _] => name.is_atom("heir") && matches!(pid, Term::Pid(_)),
+        _ => false,
+    }
+}
+
+fn is_plain(elements: &[Term]) -> bool
+    ensures { result ≡ is_plain elements.now }
+{
+    match elements {
+        [name, value] => is_pair(name, value),
+        _ => false,
+    }
+}
+
+fn is_pair(name: &Term, value: &Term) -> bool
+    ensures { result ≡ is_pair name.now value.now }
+{
+    if name.is_atom("keypos") {
+        is_keypos(value)
+    } else {
+        is_tuning(name, value)
+    }
+}
+
+/// Whether a term is a position that keys can have.
+fn is_keypos(term: &Term) -> bool
+    ensures { result ≡ is_keypos_form (out-Term term.now) }
+{
+    match term {
+        Term::Int(n) => *n >= 1 && *n <= 4_294_967_295,
+        _ => false,
+    }
+}
+
+/// Whether a pair says how the table is to be used, which changes nothing.
+fn is_tuning(name: &Term, value: &Term) -> bool
+    ensures { result ≡ is_tuning name.now value.now }
+{
+    if name.is_atom("read_concurrency") {
+        is_boolean(value)
+    } else if name.is_atom("decentralized_counters") {
+        is_boolean(value)
+    } else if name.is_atom("write_concurrency") {
+        is_boolean(value) || value.is_atom("auto")
+    } else {
+        false
+    }
+}
+
+fn is_boolean(term: &Term) -> bool
+    ensures { result ≡ is_boolean term.now }
+{
+    term.is_atom("true") || term.is_atom("false")
+}

@@ -1,0 +1,85 @@
+// Why a step was refused.
+ghost use Rattle.std.specs.Prelude.{◌≡◌, position};
+ghost use Rattle.ets_term.specs.Depth.{is_too_deep};
+ghost use Rattle.node_core.specs.Machine.{step};
+ghost use Rattle.node_core.specs.Seen.{seen};
+ghost use Rattle.node_core.specs.State.{State};
+ghost use Rattle.node_reasons.specs.Why.{why};
+ghost use Rattle.node_reasons.specs.inside.LeftCalls.{told, left, asked_left};
+
+use crate::calls;
+use crate::names::limit_of;
+use crate::reason::{Reason, Rule};
+use bucket_table::Rows;
+use ets_term::{KeyHash, Term};
+use node_core::{Call, Node, Reply, Step};
+use ownership::World;
+
+/// Why a step has this reply, which the node gave it, or would give it now: the first rule that the step breaks, with the
+/// argument's number; None where the reply is an answer. A refused step changes nothing, so the node is as the step
+/// found it. It takes no memory.
+pub fn why<H: KeyHash + Copy + Drop>(node: &Node<H>, event: &Step, reply: &Reply) -> Option<Reason>
+    ensures { (new : State) → step (seen node.now) event.now reply.now new → result ≡ why (seen node.now) event.now reply.now }
+{
+    explained(node, event, reply)
+}
+
+fn explained<H: KeyHash + Copy + Drop>(
+    node: &Node<H>,
+    event: &Step,
+    reply: &Reply,
+) -> Option<Reason>
+    ensures { result ≡ told node.now.world event.now reply.now }
+{
+    told(node.world(), event, reply)
+}
+
+fn told<R: Rows>(world: &World<R>, event: &Step, reply: &Reply) -> Option<Reason>
+    ensures { result ≡ told world.now event.now reply.now }
+{
+    match reply {
+        Reply::Value(_) => None,
+        Reply::Badarg => Some(left(world, event, false)),
+        Reply::SystemLimit => Some(left(world, event, true)),
+        Reply::NoProcess => Some(left(world, event, false)),
+    }
+}
+
+/// The reason that is left of a step that is refused, by a limit or not.
+fn left<R: Rows>(world: &World<R>, event: &Step, limited: bool) -> Reason
+    ensures { result ≡ left world.now event.now limited }
+{
+    match event {
+        Step::Enrol(_) if limited => Reason::whole(Rule::TooManyProcesses),
+        Step::Enrol(_) => Reason::whole(Rule::IsKnown),
+        Step::End(_) => Reason::whole(Rule::NoProcess),
+        Step::Ask(pid, call) => asked(world, *pid, call, limited),
+        Step::Grow(_) => Reason::whole(Rule::NoTable),
+        Step::Ready(_, _) => Reason::whole(Rule::NoTable),
+    }
+}
+
+fn asked<R: Rows>(world: &World<R>, pid: u32, call: &Call, limited: bool) -> Reason
+    ensures { result ≡ asked_left world.now pid call.now limited }
+{
+    if !world.lives(pid) {
+        return Reason::whole(Rule::NoProcess);
+    }
+    let args = call.args.as_slice();
+    if let Some(place) = first_too_deep(args) {
+        return Reason::argument(place + 1, Rule::TooDeep);
+    }
+    let name = call.name.text();
+    if limited {
+        Reason::whole(limit_of(name))
+    } else {
+        calls::left(world, pid, name, args)
+    }
+}
+
+/// The place of the first argument that is too deep.
+fn first_too_deep(args: &[Term]) -> Option<usize>
+    ensures { result ≡ position is_too_deep args.now }
+{
+    args.iter().position(|term| term.is_too_deep())
+}
