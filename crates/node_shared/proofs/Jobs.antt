@@ -1,5 +1,6 @@
 -- A record that grows by jobs.
-use Rattle.std.proofs.Common.{◌≡◌, ℕ, ◌+◌, ◌-◌, ◌<◌, List, [], ◌∷◌, ◌++◌, map, length, take, get_or, refl, sym, ap, ◌∙◌, arith, append_assoc}
+use Rattle.std.proofs.Common.{◌≡◌, ℕ, suc, ◌+◌, ◌-◌, ◌<◌, List, [], ◌∷◌, ◌++◌, map, length, take, get_or, refl, sym, ap, ◌∙◌, arith, append_assoc, length-append}
+use Rattle.std.proofs.Math.Seq.{get_or-append_seam}
 use Rattle.std.proofs.lemmas.List.{map_more, map-append}
 use Rattle.std.proofs.lemmas.Grind.{common_steps}
 use Rattle.std.specs.declared.vec.Vec.{Vec}
@@ -15,12 +16,12 @@ use Rattle.node_shared.specs.Working.{job_step, DidAll, DidJob, AllWorked}
 abbrev step_of : Entry → Step
 step_of e = e.step
 
-pub did-none : (old : Recorded) (jobs : List Job) → DidAll old jobs (length jobs) old
-did-none old jobs =
-    let none : length jobs - length jobs ≡ 0 = omega arith in
+pub did-none : (old : Recorded) (jobs : List Job) (left : ℕ) → left ≡ length jobs → DidAll old jobs left old
+did-none old jobs left all =
+    let none : length jobs - left ≡ 0 = omega arith in
     (omega arith, ([], grind (arith, common_steps), rw none refl))
 
-pub did-more : (old now new : Recorded) (jobs : List Job) (left call : ℕ) (j : Job) → j ≡ get_or jobs call j → left + call ≡ length jobs → call < length jobs → DidAll old jobs left now → DidJob now j new → DidAll old jobs (left - 1) new
+did-more : (old now new : Recorded) (jobs : List Job) (left call : ℕ) (j : Job) → j ≡ get_or jobs call j → left + call ≡ length jobs → call < length jobs → DidAll old jobs left now → DidJob now j new → DidAll old jobs (left - 1) new
 did-more old now new jobs left call j item sum lt did one =
     let es = did.1.0 in
     let e = entry (job_step now.pid j) one.0 in
@@ -36,6 +37,14 @@ did-more old now new jobs left call j item sum lt did one =
     let steps : map step_of (es ++ e ∷ []) ≡ map (job_step old.pid) (take (call + 1) jobs) =
     map-append step_of es (e ∷ []) ∙ (λ i. was i ++ last i ∷ []) ∙ sym more in
     (omega arith, (es ++ e ∷ [], new_is, rw after steps))
+
+-- the next job is the one behind those that were done
+pub did-next : (old now new : Recorded) (before after : List Job) (j : Job) (jobs : List Job) (left : ℕ) → before ++ j ∷ after ≡ jobs → left + length before ≡ length jobs → DidAll old jobs left now → DidJob now j new → DidAll old jobs (left - 1) new
+did-next old now new before after j jobs left is sum did done =
+    let item : j ≡ get_or jobs (length before) j = sym (get_or-append_seam before j after j) ∙ ap (λ l. get_or l (length before) j) is in
+    let more : length (j ∷ after) ≡ suc (length after) = refl in
+    let all : length jobs ≡ length before + length (j ∷ after) = sym (ap length is) ∙ length-append before (j ∷ after) in
+    did-more old now new jobs left (length before) j item sum (omega (arith, all, more)) did done
 
 pub all-append : {T : Type 0} (xs ys : List (Recorded × Vec Job Global)) (us vs : List (Worked T)) → AllWorked xs us → AllWorked ys vs → AllWorked (xs ++ ys) (us ++ vs)
 all-append [] ys [] vs a b = b

@@ -83,8 +83,19 @@ impl<L: Ledger, H: KeyHash + Copy + Drop> Book<L, H> {
         ensures err { OnErr result ((self.new ≡ self.old) × (share.new ≡ share.old)) }
     {
         let step = event.try_clone(self.alloc)?;
+        self.enter(share, step)
+    }
+
+    /// The same of a step that goes into its entry as it is.
+    pub(crate) fn enter(&mut self, share: &mut Share<L>, step: Step) -> Result<Reply, AllocError>
+        requires { is_step_of share.old.pid step ≡ true }
+        ensures entered { IfOk result (λ r. Enters self.old step r self.new) }
+        ensures counted { IfOk result (λ _. self.new.total ≡ self.old.total + 1) }
+        ensures share { IfOk result (λ _. share.new ≡ record share.old { amount = share.old.amount + 1 }) }
+        ensures err { OnErr result ((self.new ≡ self.old) × (share.new ≡ share.old)) }
+    {
         self.journal.reserve(1)?;
-        let (answer, reply) = self.node.step_twice(event)?;
+        let (answer, reply) = self.node.step_twice(&step)?;
         self.journal.push_reserved(Entry { step, reply });
         self.counted.add(&mut share.tokens, 1);
         Ok(answer)

@@ -97,8 +97,8 @@ impl<L: Ledger> Client<L> {
         Ok(self.last())
     }
 
-    /// Does a step of the process, and keeps it with its reply.
-    fn step<H: KeyHash + Copy + Drop, R: Wait>(
+    /// Does a step of the process, and keeps it with its reply. The journal's copy of it is made before the lock is taken.
+    pub(crate) fn step<H: KeyHash + Copy + Drop, R: Wait>(
         &mut self,
         rt: &R,
         shared: &Shared<L, H>,
@@ -108,8 +108,9 @@ impl<L: Ledger> Client<L> {
         ensures ok { IfOk result (λ _. (r : Reply) × (self.new ≡ records self.old event r)) }
         ensures err { OnErr result (self.new ≡ self.old) }
     {
+        let entered = event.try_clone(self.alloc)?;
         self.entries.reserve(1)?;
-        let reply = shared.book.lock(rt).step(&mut self.share, &event)?;
+        let reply = shared.book.lock(rt).enter(&mut self.share, entered)?;
         self.entries.push_reserved(Entry { step: event, reply });
         Ok(())
     }

@@ -51,7 +51,7 @@ fn run_from<
     if work.len() < 2 {
         let mut done = Vec::with_capacity(alloc, 1)?;
         if let Some((client, jobs)) = work.pop() {
-            done.push_reserved(run_one(rt, shared, first, client, jobs.as_slice(), gate));
+            done.push_reserved(run_one(rt, shared, first, client, jobs, gate));
         }
         return Ok(done);
     }
@@ -80,13 +80,15 @@ fn run_one<L: Ledger, H: KeyHash + Copy + Drop, G: Gate, R: Wait>(
     shared: &Shared<L, H>,
     number: usize,
     mut client: Client<L>,
-    jobs: &[Job],
+    jobs: Vec<Job>,
     gate: &G,
 ) -> Worked<L>
-    ensures { HasWorked client jobs.now result }
+    ensures { HasWorked client jobs.items result }
 {
-    let mut left = jobs.len();
-    for (call, job) in jobs.iter().enumerate() {
+    let count = jobs.len();
+    let mut left = count;
+    for job in jobs {
+        let call = count - left;
         gate.before(number, call);
         let Ok(()) = work(rt, shared, &mut client, job) else {
             break;
@@ -101,14 +103,11 @@ fn work<L: Ledger, H: KeyHash + Copy + Drop, R: Wait>(
     rt: &R,
     shared: &Shared<L, H>,
     client: &mut Client<L>,
-    job: &Job,
+    job: Job,
 ) -> Result<(), AllocError>
-    ensures ok { OnOk result (DidJob client.old job.now client.new) }
+    ensures ok { OnOk result (DidJob client.old job client.new) }
     ensures err { OnErr result (client.new ≡ client.old) }
 {
-    match job {
-        Job::Ask(call) => client.ask(rt, shared, call)?,
-        Job::End => client.end(rt, shared)?,
-    };
-    Ok(())
+    let step = job.into_step(client.pid());
+    client.step(rt, shared, step)
 }
