@@ -14,6 +14,7 @@
 
 mod answer;
 mod classes;
+mod clean;
 mod command;
 mod command_line;
 mod fault;
