@@ -6,11 +6,18 @@ help() {
 Usage: ets_script [OPTIONS]
 
 Options:
-      --threads                    Run each process in a thread of its own
-      --hash <hash>                The hash of keys: FNV-1a, or one for all [default: fnv] [possible values: fnv, same]
-      --max-objects <max-objects>  The most objects in one table [default: 1000000]
-  -h, --help                       Print help
+      --threads                        Run each process in a thread of its own
+      --hash <hash>                    The hash of keys: FNV-1a, or one for all [default: fnv] [possible values: fnv, same]
+      --max-objects <max-objects>      The most objects in one table [default: 1000000]
+      --max-processes <max-processes>  The most processes ever [default: 4096]
+      --max-tables <max-tables>        The most tables ever [default: 65536]
+  -h, --help                           Print help
+  -V, --version                        Print version
 END
+  exit 0
+}
+version() {
+  echo 'ets_script 0.1.0'
   exit 0
 }
 
@@ -21,17 +28,34 @@ refuse() {
 }
 refuse_word() { refuse "unexpected argument '$1' found" '' 'Usage: ets_script [OPTIONS]'; }
 
+takes_value() {
+  case $1 in --hash | --max-objects | --max-processes | --max-tables) ;; *) false ;; esac
+}
+
 # The option as a refusal shows it.
-shown() { [ "$1" = --threads ] && printf %s "$1" || printf '%s <%s>' "$1" "${1#--}"; }
+shown() { takes_value "$1" && printf '%s <%s>' "$1" "${1#--}" || printf %s "$1"; }
 
 # A value for an option that takes none, behind the options that were given before.
 refuse_value() {
   local given=$1 usage='Usage: ets_script' option
-  case $given in *' --threads '*) ;; *) given+=--threads ;; esac
+  case $given in *" $2 "*) ;; *) given+=$2 ;; esac
   for option in $given; do
     usage+=" $(shown "$option")"
   done
-  refuse "unexpected value '$2' for '--threads' found; no more were expected" '' "$usage"
+  refuse "unexpected value '$3' for '$2' found; no more were expected" '' "$usage"
+}
+
+# What a word says by itself; it returns where that is an option, which may have a value behind it.
+look_at_word() {
+  local given=$1 word=$2
+  case $word in
+    -h* | --help) help ;;
+    -V* | --version) version ;;
+    --threads=* | --help=* | --version=*) refuse_value "$given" "${word%%=*}" "${word#*=}" ;;
+    -[!-]*) refuse_word "${word:0:2}" ;;
+    --threads) ;;
+    *) takes_value "${word%%=*}" || refuse_word "$word" ;;
+  esac
 }
 
 # An option whose value is the next word counts as given only when another option comes.
@@ -40,12 +64,7 @@ look_at() {
   while [ $# -gt 0 ]; do
     word=$1 option=${1%%=*}
     shift
-    case $word in
-      -h* | --help) help ;;
-      --threads=*) refuse_value "$given" "${word#*=}" ;;
-      --threads | --hash | --hash=* | --max-objects | --max-objects=*) ;;
-      *) refuse_word "$word" ;;
-    esac
+    look_at_word "$given" "$word"
     case $seen in *" $option "*) refuse "the argument '$(shown "$option")' cannot be used multiple times" '' 'Usage: ets_script [OPTIONS]' ;; esac
     seen+="$option "
     given+=$waits waits=''
@@ -54,9 +73,8 @@ look_at() {
     elif [ "$word" = "$option" ]; then
       waits="$option "
       case ${1-} in
-        --threads=*) refuse_value "$given" "${1#*=}" ;;
-        -h* | --help | --threads | --hash | --hash=* | --max-objects | --max-objects=*) set -- ;;
-        -?*) refuse_word "$1" ;;
+        -h* | --help | -V* | --version | --threads) set -- ;;
+        -?*) takes_value "${1%%=*}" && set -- || look_at_word "$given" "$1" ;;
       esac
       [ $# -gt 0 ] || needs_value "$option"
       look_at_value "$option" "$1"
@@ -94,5 +112,5 @@ look_at_value() {
       return
     fi
   fi
-  refuse "invalid value '$2' for '--max-objects <max-objects>': $why"
+  refuse "invalid value '$2' for '$(shown "$1")': $why"
 }

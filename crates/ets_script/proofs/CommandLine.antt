@@ -1,154 +1,243 @@
 -- What is told of the command line's words.
-use Rattle.std.proofs.Common.{zero, suc, ◌≡◌, ◌⊎◌, ◌∙◌, ◌++◌, ◌||◌, ◌-◌, ◌<◌, ◌≤◌, sym, ap, subst, refl, inl, inr, arith, ℕ, Bool, true, false, List, [], ◌∷◌, length, codes, Option, Some, None, Result, Ok, Err}
-use Rattle.std.specs.List.{All, slice_index_or}
-use Rattle.std.specs.Result.{IsErrAnd}
-use Rattle.std.specs.Prelude.{pos, unwrap_or}
+use Rattle.std.proofs.Common.{zero, suc, ◌≡◌, ◌∙◌, ◌&&◌, ◌<◌, ◌≤◌, not, sym, ap, ap₂, subst, refl, inl, inr, arith, ℕ, Bool, true, false, List, [], ◌∷◌, length, map, codes, Option, Some, None, Result, Ok, Err, is_some}
+use Rattle.std.specs.List.{All, list_all, slice_index_or}
+use Rattle.std.specs.Result.{IsErrAnd, IfOk}
+use Rattle.std.specs.Prelude.{pos}
+use Rattle.std.specs.Borrow.{Bor}
 use Rattle.std.specs.Str.{bytes_eq}
-use Rattle.std.specs.Str.Parse.{ParsesUnsigned}
-use Rattle.std.proofs.lemmas.List.Elements.{All-nil}
-use Rattle.clap.specs.Built.{AddsArg, IsParsedFrom, IsPlain, IsPlainArg}
-use Rattle.clap.specs.Facts.{WantsDefault, args_of, groups_of, least_values}
-use Rattle.clap.specs.Lexer.{without_minus}
-use Rattle.clap.specs.Matches.{ReadsOne, first_value, one_text}
-use Rattle.clap.specs.Values.{Accepts, IsSignedIn, read_as, reading_of}
-use Rattle.clap.specs.declared.builder.action.ArgAction.TheVariants.{Set}
+use Rattle.std.proofs.lemmas.Bool.{and_parts}
+use Rattle.std.proofs.lemmas.List.{get_or-map}
+use Rattle.clap.specs.Built.{AddsArg, IsAuto, IsParsedFrom, IsPlain, IsPlainArg}
+use Rattle.clap.specs.Facts.{args_of, groups_of, least_values, unwrap_or_range}
+use Rattle.clap.specs.Simple.{app_of_fields, has_plain_fields, has_simple_rules, with_rule}
+use Rattle.clap.specs.Texts.{items_of}
+use Rattle.clap.specs.Walk.{is_empty, is_free_arg, is_simple_arg}
+use Rattle.clap.specs.Words.{App, FailsBy, HasKind, HasMatchesOf, Rule, Shape, Text, app_of, fault_of, found_of, is_simple, is_simple_and_free, kind_of, matches_of, rows_of, rule_of}
+use Rattle.clap.specs.Kinds.{Kinds}
 use Rattle.clap.specs.declared.builder.arg.Arg.{Arg}
 use Rattle.clap.specs.declared.builder.command.Command.{Command}
 use Rattle.clap.specs.declared.builder.command.Command.TheViews.{out-Command}
-use Rattle.clap.proofs.CallerLemmas.{added_plain}
-use Rattle.clap.proofs.CallerReads.{signed_reads}
-use Rattle.clap.proofs.WalkLemmas.{first_value-rows, one_text-rows}
-use Rattle.clap.specs.declared.builder.value_parser.ValueParser.TheVariants.{Signed}
-use Rattle.clap.specs.declared.parser.matches.Found.{Found}
-use Rattle.ets_script.proofs.Defaults.{default_reads}
-use Rattle.clap.specs.Words.{App, FailsBy, HasKind, HasMatchesOf, Row, Text, fault_of, first_of, found_of, is_simple_and_free, kind_of, matches_of, one_of, rows_of}
 use Rattle.clap.specs.declared.builder.value_parser.ValueParser.{ValueParser}
+use Rattle.clap.specs.declared.builder.value_parser.ValueParser.TheVariants.{Signed}
 use Rattle.clap.specs.declared.error.Error.{Error}
 use Rattle.clap.specs.declared.error.kind.ErrorKind.TheVariants.{OutOfMemory}
 use Rattle.clap.specs.declared.parser.matches.ArgMatches.{ArgMatches}
-use Rattle.ets_script.specs.CommandLine.{Asks, Settles, Spells, TakesNames, command_line, hash_names}
-use Rattle.ets_script.specs.declared.options.Settings.{Settings}
+use Rattle.clap.proofs.SimpleLemmas.{is_false, is_nil}
+use Rattle.ets_script.proofs.Defaults.{default_reads}
+use Rattle.ets_script.specs.CommandLine.{command_line, number_option, request_line, with_version}
+use Rattle.ets_script.specs.inside.Options.{HasNumber}
 
--- memory ran out
-pub lacks_memory : (hashes : ValueParser) (words : List Text) (r : Result Settings Error) → TakesNames hash_names hashes → IsErrAnd r (λ e. kind_of e ≡ OutOfMemory) → Settles words r
-lacks_memory hashes words (Ok s) names h = absurd h
-lacks_memory hashes words (Err e) names h = record { hashes = hashes; names = names; faults = inl h; settings = tt }
-
--- the command has no rule past which its faults are not known
-is_known : (hashes : ValueParser) → is_simple_and_free (command_line hashes) ≡ true
-is_known hashes = refl
-
--- the faults of a command that is the program's
-pub faults : (hashes : ValueParser) (words : List Text) (app : App) (parsed : Result ArgMatches Error) → app ≡ command_line hashes
-    → (is_simple_and_free app ≡ true → FailsBy (fault_of app words) parsed) → FailsBy (fault_of (command_line hashes) words) parsed
-faults hashes words app parsed is fails =
-    subst (λ (a : App). is_simple_and_free a ≡ true → FailsBy (fault_of a words) parsed) is fails (is_known hashes)
-
--- and its matches
-pub rows : (hashes : ValueParser) (words : List Text) (app : App) (m : ArgMatches) → app ≡ command_line hashes → HasMatchesOf app words m
-    → rows_of (found_of m) ≡ matches_of (command_line hashes) words
-rows hashes words app m is has = (subst (λ (a : App). HasMatchesOf a words m) is has refl).0
-
-abbrev error_or : Result ArgMatches Error → Error → Error
+abbrev error_or : {T : Type 0} → Result T Error → Error → Error
 error_or (Ok m) e = e
 error_or (Err f) e = f
 
 -- a parse failed, and its error is told
-pub refuses : (hashes : ValueParser) (words : List Text) (parsed : Result ArgMatches Error) (e : Error) (r : Result Settings Error) → TakesNames hash_names hashes
-    → FailsBy (fault_of (command_line hashes) words) parsed → parsed ≡ Err e → IsErrAnd r (λ told. told ≡ e) → Settles words r
-refuses hashes words (Ok m) e r names fails is told = cc
-refuses hashes words (Err f) e (Ok s) names fails is told = absurd told
-refuses hashes words (Err f) e (Err g) names fails is told =
-    let same : f ≡ g = ap (λ (r : Result ArgMatches Error). error_or r f) is ∙ sym told in
-    record { hashes = hashes; names = names; faults = subst (HasKind (fault_of (command_line hashes) words)) same fails; settings = tt }
+pub refused : {T U : Type 0} (kinds : Kinds) (parsed : Result T Error) (e : Error) (r : Result U Error) → FailsBy kinds parsed → parsed ≡ Err e → IsErrAnd r (λ told. told ≡ e) → FailsBy kinds r
+refused kinds (Ok m) e r fails is told = cc
+refused kinds (Err f) e (Ok s) fails is told = absurd told
+refused {T} kinds (Err f) e (Err g) fails is told =
+    let same : f ≡ g = ap (λ (r : Result T Error). error_or r f) is ∙ sym told in
+    subst (HasKind kinds) same fails
 
--- a parse succeeded, and these settings are what its matches ask
-pub answers : (hashes : ValueParser) (words : List Text) (parsed : Result ArgMatches Error) (m : ArgMatches) (s : Settings) → TakesNames hash_names hashes
-    → FailsBy (fault_of (command_line hashes) words) parsed → parsed ≡ Ok m → Asks (matches_of (command_line hashes) words) s → Settles words (Ok s)
-answers hashes words (Ok n) m s names fails is asks = record { hashes = hashes; names = names; faults = fails; settings = asks }
-answers hashes words (Err e) m s names fails is asks = cc
+-- memory ran out
+pub lacks_memory : {U : Type 0} (kinds : Kinds) (r : Result U Error) → IsErrAnd r (λ e. kind_of e ≡ OutOfMemory) → FailsBy kinds r
+lacks_memory kinds (Ok s) h = absurd h
+lacks_memory kinds (Err e) h = inl h
 
-not_empty : codes "max-objects" ≡ [] → ⊥
-not_empty e =
-    let bad : suc 10 ≡ zero = ap length e in
+-- where there is an error, nothing is answered
+pub unanswered : {U : Type 0} (P : U → Type 0) (Q : Error → Type 0) (r : Result U Error) → IsErrAnd r Q → IfOk r P
+unanswered P Q (Ok s) h = absurd h
+unanswered P Q (Err e) h = tt
+
+-- a parse succeeded, so that nothing was at fault
+pub answered : {T : Type 0} (kinds : Kinds) (parsed : Result T Error) (m : T) → FailsBy kinds parsed → parsed ≡ Ok m → kinds ≡ []
+answered kinds (Ok n) m fails is = fails
+answered kinds (Err e) m fails is = cc
+
+-- what holds of an answer follows from what it ensures
+pub then_ok : {T E : Type 0} (P Q : T → Type 0) (r : Result T E) → ((x : T) → P x → Q x) → IfOk r P → IfOk r Q
+then_ok P Q (Ok x) f h = f x h
+then_ok P Q (Err e) f h = tt
+
+-- the faults of a command that is this one
+pub faults : {T : Type 0} (line app : App) (words : List Text) (parsed : Result T Error) → app ≡ line → is_simple_and_free line ≡ true
+    → (is_simple_and_free app ≡ true → FailsBy (fault_of app words) parsed) → FailsBy (fault_of line words) parsed
+faults line app words parsed is known fails = subst (λ (a : App). is_simple_and_free a ≡ true → FailsBy (fault_of a words) parsed) is fails known
+
+-- and its matches
+pub rows : (line app : App) (words : List Text) (m : ArgMatches) → app ≡ line → is_simple line ≡ true → HasMatchesOf app words m → rows_of (found_of m) ≡ matches_of line words
+rows line app words m is known has = (subst (λ (a : App). HasMatchesOf a words m) is has known).0
+
+is_none : {X : Type 0} (o : Option X) → not (is_some o) ≡ true → o ≡ None
+is_none None e = refl
+is_none (Some x) e = cc
+
+-- what a simple argument, and a free one, has nothing of
+record Simple (a : Arg) : Type 0 where
+  overrides : a.overrides.items ≡ []
+  ifs : a.default_vals_ifs.items ≡ []
+  groups : a.groups.items ≡ []
+  undelimited : a.val_delim ≡ None
+  own : a.global ≡ false
+
+simple : (a : Arg) → is_simple_arg a ≡ true → Simple a
+simple a e =
+    let p = and_parts (is_empty a.overrides.items) _ e in
+    let q = and_parts (is_empty a.default_vals_ifs.items) _ p.1 in
+    let r = and_parts (is_empty a.groups.items) _ q.1 in
+    let s = and_parts (not (is_some a.val_delim)) _ r.1 in
+    let t = and_parts (not (is_some a.terminator)) _ s.1 in
+    let u = and_parts (not a.allow_hyphen_values) _ t.1 in
+    let v = and_parts (not a.allow_negative_numbers) _ u.1 in
+    let w = and_parts (not a.require_equals) _ v.1 in
+    let x = and_parts (not a.last) (not a.global) w.1 in
+    record { overrides = is_nil _ p.0; ifs = is_nil _ q.0; groups = is_nil _ r.0; undelimited = is_none _ s.0; own = is_false _ x.1 }
+
+plain : (a : Arg) → is_simple_arg a ≡ true → is_free_arg a ≡ true → IsPlainArg a
+plain a s f =
+    let p = and_parts (not a.exclusive) _ f in
+    let q = and_parts (is_empty a.conflicts.items) _ p.1 in
+    let h = simple a s in
+    (is_false _ p.0, is_nil _ q.0, h.overrides, h.groups)
+
+plain_each : (xs : List Arg) → list_all (λ (r : Rule). r.is_simple) (map rule_of xs) ≡ true → list_all (λ (r : Rule). r.is_free) (map rule_of xs) ≡ true → All IsPlainArg xs
+plain_each [] s f k d lt = absurd (omega arith)
+plain_each (x ∷ xs) s f zero d lt = plain x (and_parts (is_simple_arg x) _ s).0 (and_parts (is_free_arg x) _ f).0
+plain_each (x ∷ xs) s f (suc k) d lt = plain_each xs (and_parts (is_simple_arg x) _ s).1 (and_parts (is_free_arg x) _ f).1 k d (omega arith)
+
+-- a command and one more option of it
+pub added : (old new : Command) (a : Arg) (app : App) (r : Rule) → AddsArg old a new → app_of old ≡ app → rule_of a ≡ r → r.is_simple ≡ true → app_of new ≡ with_rule app r
+added old new a app r adds is rule e =
+    let known : is_simple_arg a ≡ true = ap (λ (x : Rule). x.is_simple) rule ∙ e in
+    let shape = adds.shape (simple a known).own in
+    shape ∙ ap₂ with_rule is rule
+
+-- the command of the settings, with the options of the limits and a version, is that of a request
+pub requested : (hashes : ValueParser) (one two three four : Command) (processes tables : Arg) (version : Bor Text) → app_of one ≡ command_line hashes
+    → AddsArg one processes two → rule_of processes ≡ number_option (codes "max-processes") (codes "4096")
+    → AddsArg two tables three → rule_of tables ≡ number_option (codes "max-tables") (codes "65536")
+    → out-Command four ≡ record (out-Command three) { version = Some version } → app_of four ≡ request_line hashes
+requested hashes one two three four processes tables version is adds first adds2 second versioned =
+    let with_first = added one two processes (command_line hashes) (number_option (codes "max-processes") (codes "4096")) adds is first refl in
+    let with_both = added two three tables _ (number_option (codes "max-tables") (codes "65536")) adds2 with_first second refl in
+    let as_fields : app_of four ≡ with_version (app_of three) = ap app_of_fields versioned in
+    as_fields ∙ ap with_version with_both
+
+-- the k-th of these has this name, and no other has it
+abbrev only : List Rule → ℕ → Text → Bool
+only [] k name = false
+only (x ∷ xs) zero name = list_all (λ (y : Rule). not (bytes_eq y.id name)) xs
+only (x ∷ xs) (suc k) name = not (bytes_eq x.id name) && only xs k name
+
+none_there : (xs : List Arg) (name : Text) (j : ℕ) (d : Arg) → list_all (λ (y : Rule). not (bytes_eq y.id name)) (map rule_of xs) ≡ true → j < length xs → bytes_eq (slice_index_or xs j d).id.now name ≡ true → ⊥
+none_there [] name j d h lt same = absurd (omega arith)
+none_there (x ∷ xs) name zero d h lt same =
+    let other : bytes_eq x.id.now name ≡ false = is_false _ (and_parts (not (bytes_eq x.id.now name)) _ h).0 in
+    let bad : false ≡ true = sym other ∙ same in
+    cc
+none_there (x ∷ xs) name (suc j) d h lt same = none_there xs name j d (and_parts (not (bytes_eq x.id.now name)) _ h).1 (omega arith) same
+
+only_there : (xs : List Arg) (k : ℕ) (name : Text) (j : ℕ) (d : Arg) → only (map rule_of xs) k name ≡ true → j < length xs → bytes_eq (slice_index_or xs j d).id.now name ≡ true → j ≡ k
+only_there [] k name j d h lt same = absurd (omega arith)
+only_there (x ∷ xs) zero name zero d h lt same = refl
+only_there (x ∷ xs) zero name (suc j) d h lt same = absurd (none_there xs name j d h (omega arith) same)
+only_there (x ∷ xs) (suc k) name zero d h lt same =
+    let other : bytes_eq x.id.now name ≡ false = is_false _ (and_parts (not (bytes_eq x.id.now name)) _ h).0 in
+    let bad : false ≡ true = sym other ∙ same in
+    cc
+only_there (x ∷ xs) (suc k) name (suc j) d h lt same = ap suc (only_there xs k name j d (and_parts (not (bytes_eq x.id.now name)) _ h).1 (omega arith) same)
+
+-- a name that is none of an option that clap adds
+abbrev is_own : Text → Bool
+is_own name = not (bytes_eq name []) && (not (bytes_eq name (codes "help")) && not (bytes_eq name (codes "version")))
+
+other : (name t : Text) → bytes_eq t t ≡ true → not (bytes_eq name t) ≡ true → name ≡ t → ⊥
+other name t same h e =
+    let no : bytes_eq t t ≡ false = subst (λ (n : Text). bytes_eq n t ≡ false) e (is_false _ h) in
+    let bad : true ≡ false = sym same ∙ no in
     cc
 
-not_added : ((codes "max-objects" ≡ codes "help") ⊎ (codes "max-objects" ≡ codes "version")) → ⊥
-not_added (inl e) =
-    let bad : suc 6 ≡ zero = ap (λ (t : List ℕ). length t - 4) e in
-    cc
-not_added (inr e) =
-    let bad : suc 3 ≡ zero = ap (λ (t : List ℕ). length t - 7) e in
-    cc
+some_text : (xs : List (Bor Text)) (t : Text) → map (λ (s : Bor Text). s.now) xs ≡ t ∷ [] → 0 < length xs
+some_text [] t e = cc
+some_text (x ∷ xs) t e = omega arith
 
--- of three arguments with these ids, the third alone has its own
-the_third : (xs : List Arg) (a b c d : Arg) → xs ≡ a ∷ b ∷ c ∷ [] → a.id.now ≡ codes "threads" → b.id.now ≡ codes "hash" → c.id.now ≡ codes "max-objects" → (j : ℕ) (e : Arg) → j < length xs
-    → bytes_eq (slice_index_or xs j e).id.now (slice_index_or xs 2 d).id.now ≡ true → j ≡ 2
-the_third xs a b c d list ia ib ic zero e lt same =
-    let here : bytes_eq a.id.now c.id.now ≡ true = subst (λ (l : List Arg). bytes_eq (slice_index_or l 0 e).id.now (slice_index_or l 2 d).id.now ≡ true) list same in
-    let bad : bytes_eq (codes "threads") (codes "max-objects") ≡ true = rw (ia, ic) at here in
-    cc
-the_third xs a b c d list ia ib ic (suc zero) e lt same =
-    let here : bytes_eq b.id.now c.id.now ≡ true = subst (λ (l : List Arg). bytes_eq (slice_index_or l 1 e).id.now (slice_index_or l 2 d).id.now ≡ true) list same in
-    let bad : bytes_eq (codes "hash") (codes "max-objects") ≡ true = rw (ib, ic) at here in
-    cc
-the_third xs a b c d list ia ib ic (suc (suc zero)) e lt same = refl
-the_third xs a b c d list ia ib ic (suc (suc (suc j))) e lt same =
-    let short : suc (suc (suc j)) < 3 = subst (λ (l : List Arg). suc (suc (suc j)) < length l) list lt in
-    absurd (omega arith)
+first_arg : (xs : List Arg) → 0 < length xs → Arg
+first_arg [] lt = absurd (omega arith)
+first_arg (x ∷ xs) lt = x
 
--- the number that the third argument's text spells, of three that are added in turn
-pub objects_read : (start one two cmd : Command) (threads hash objects : Arg) (m : ArgMatches) → AddsArg start threads one → AddsArg one hash two → AddsArg two objects cmd
-    → args_of start ≡ [] → groups_of start ≡ [] → (out-Command start).has_globals ≡ false
-    → IsPlainArg threads → IsPlainArg hash → IsPlainArg objects → threads.global ≡ false → hash.global ≡ false → objects.global ≡ false
-    → threads.id.now ≡ codes "threads" → hash.id.now ≡ codes "hash" → objects.id.now ≡ codes "max-objects" → WantsDefault objects
-    → objects.action ≡ Some Set → objects.val_delim ≡ None → 1 ≤ least_values objects
-    → (q : ValueParser) → objects.value_parser ≡ Some q → IsParsedFrom cmd m
-    → (t : List ℕ) × (one_text (found_of m) (codes "max-objects") ≡ Some (read_as (reading_of q) t)) × Accepts objects.ignore_case q t
-objects_read start one two cmd threads hash objects m first second third args groups globals plain0 plain1 plain2 global0 global1 global2 id0 id1 id2 wants set delim least q parser p =
-    let list : args_of cmd ≡ first.arg ∷ second.arg ∷ third.arg ∷ [] = third.args ∙ ap (λ l. l ++ third.arg ∷ []) (second.args ∙ ap (λ l. l ++ second.arg ∷ []) (first.args ∙ ap (λ l. l ++ first.arg ∷ []) args)) in
-    let start-plain : IsPlain start = (subst (All IsPlainArg) (sym args) (All-nil IsPlainArg), groups) in
-    let plain : IsPlain cmd = added_plain two cmd objects third (added_plain one two hash second (added_plain start one threads first start-plain plain0) plain1) plain2 in
-    let no-globals0 : (out-Command one).has_globals ≡ false = first.globals ∙ (ap (λ b. b || threads.global) globals ∙ ap (λ b. false || b) global0) in
-    let no-globals1 : (out-Command two).has_globals ≡ false = second.globals ∙ (ap (λ b. b || hash.global) no-globals0 ∙ ap (λ b. false || b) global1) in
-    let no-globals : (out-Command cmd).has_globals ≡ false = third.globals ∙ (ap (λ b. b || objects.global) no-globals1 ∙ ap (λ b. false || b) global2) in
-    let elem : slice_index_or (args_of cmd) 2 objects ≡ third.arg = ap (λ l. slice_index_or l 2 objects) list in
-    let lt : 2 < length (args_of cmd) = subst (λ l. 2 < length l) (sym list) (omega arith) in
-    let there : third.arg.id.now ≡ codes "max-objects" = ap (λ x. x.now) third.rules.id ∙ id2 in
-    let before0 : first.arg.id.now ≡ codes "threads" = ap (λ x. x.now) first.rules.id ∙ id0 in
-    let before1 : second.arg.id.now ≡ codes "hash" = ap (λ x. x.now) second.rules.id ∙ id1 in
-    let same-id : (slice_index_or (args_of cmd) 2 objects).id.now ≡ codes "max-objects" = ap (λ x. x.id.now) elem ∙ there in
-    let wanted : WantsDefault third.arg = (third.rules.ifs ∙ wants.0, rw (third.rules.defaults wants.1) wants.1) in
-    let got = default_reads cmd m p plain no-globals 2 objects lt (subst WantsDefault (sym elem) wanted)
-    (ap (λ x. x.action) elem ∙ third.rules.action Set set)
-    (ap (λ x. x.val_delim) elem ∙ (third.rules.val_delim ∙ delim))
-    (subst (λ x. 1 ≤ least_values x) (sym elem) (third.rules.least set least))
-    (λ j e low same. the_third (args_of cmd) first.arg second.arg third.arg objects list before0 before1 there j e low same)
-    (λ empty. absurd (not_empty (sym same-id ∙ empty)))
-    (λ auto. absurd (not_added (elim auto [ inl h ↦ inl (sym same-id ∙ h) | inr h ↦ inr (sym same-id ∙ h) ])))
-    q (ap (λ x. x.value_parser) elem ∙ third.rules.parser q parser) in (
-      got.0,
-      subst (λ (w : List ℕ). one_text (found_of m) w ≡ Some (read_as (reading_of q) got.0)) same-id got.1,
-      subst (λ (b : Bool). Accepts b q got.0) (ap (λ x. x.ignore_case) elem ∙ third.rules.ignore_case) got.2,
-    )
+length_rules : (xs : List Arg) → length (map rule_of xs) ≡ length xs
+length_rules [] = refl
+length_rules (x ∷ xs) = ap suc (length_rules xs)
 
--- what the getter reads of that text is the number that it spells
-pub spelled : (E : Type 0) (G : List ℕ → Result ℕ E → Type 0) (f : Found) (rows : List Row) (q : ValueParser) (t : List ℕ) (case : Bool) (r : Option ℕ) (n : ℕ)
-    → rows_of f ≡ rows → q ≡ Signed (pos 0) (pos 4294967295) → one_text f (codes "max-objects") ≡ Some (read_as (reading_of q) t) → Accepts case q t
-    → ((u : List ℕ) → one_text f (codes "max-objects") ≡ Some u → ReadsOne G u r)
-    → ((u : List ℕ) (x : Result ℕ E) → G u x → ParsesUnsigned 32 10 u x) → n ≡ unwrap_or r 1000000
-    → Spells (one_of (codes "max-objects") rows) n
-spelled E G f rows q t case r n same parser text passes reads only is =
-    let text2 : one_text f (codes "max-objects") ≡ Some (without_minus t) = rw parser at text in
-    let passes2 : IsSignedIn (pos 0) (pos 4294967295) t = subst (λ (w : ValueParser). Accepts case w t) parser passes in
-    let read = reads (without_minus t) text2 in
-    let got = signed_reads E G 32 0 4294967295 t r read only (omega arith) passes2 in
-    let as_read : ReadsOne G (without_minus t) (Some got.0) = subst (λ (o : Option ℕ). ReadsOne G (without_minus t) o) got.1 read in
-    let number = only (without_minus t) (Ok got.0) as_read in
-    let row : one_of (codes "max-objects") rows ≡ Some (without_minus t) = sym (one_text-rows f (codes "max-objects") ∙ ap (one_of (codes "max-objects")) same) ∙ text2 in
-    let value : n ≡ got.0 = is ∙ ap (λ (o : Option ℕ). unwrap_or o 1000000) got.1 in
-    subst (λ (o : Option (List ℕ)). Spells o n) (sym row) (number.0.0, value ∙ number.1)
+-- Of a command of these options, of which the k-th takes a number and alone has its name: a parse has that number.
+module _ (c : Command) (m : ArgMatches) (shape : Shape) (k : ℕ) (name default : Text) (parsed : IsParsedFrom c m) (is : (app_of c).top ≡ shape)
+    (known : (has_simple_rules shape && list_all (λ (r : Rule). r.is_free) shape.rules) ≡ true) (there : k < length shape.rules)
+    (numbers : slice_index_or shape.rules k (number_option name default) ≡ number_option name default) (unique : (is_own name && only shape.rules k name) ≡ true) where
+  rules : map rule_of (args_of c) ≡ shape.rules
+  rules = ap (λ (s : Shape). s.rules) is
 
--- the text of an argument, by the rows
-pub text_of : (f : Found) (rows : List Row) (id : List ℕ) → rows_of f ≡ rows → first_value f id ≡ first_of id rows
-text_of f rows id same = first_value-rows f id ∙ ap (first_of id) same
+  low : k < length (args_of c)
+  low =
+      let same : length (args_of c) ≡ length shape.rules = sym (length_rules (args_of c)) ∙ ap length rules in
+      omega arith
+
+  d : Arg
+  d = first_arg (args_of c) (omega (arith, low))
+
+  abbrev a : Arg
+  a = slice_index_or (args_of c) k d
+
+  rule : rule_of a ≡ number_option name default
+  rule = sym (get_or-map rule_of (args_of c) k d (number_option name default) low) ∙ (ap (λ (l : List Rule). slice_index_or l k (number_option name default)) rules ∙ numbers)
+
+  facts : Simple a
+  facts = simple a (ap (λ (r : Rule). r.is_simple) rule)
+
+  id : a.id.now ≡ name
+  id = ap (λ (r : Rule). r.id) rule
+
+  own_name : (is_own name ≡ true) × (only shape.rules k name ≡ true)
+  own_name = and_parts (is_own name) (only shape.rules k name) unique
+
+  named : name ≡ [] → ⊥
+  named e = other name [] refl (and_parts (not (bytes_eq name [])) _ own_name.0).0 e
+
+  not_added : IsAuto a → ⊥
+  not_added auto =
+      let names = and_parts (not (bytes_eq name (codes "help"))) (not (bytes_eq name (codes "version"))) (and_parts (not (bytes_eq name [])) _ own_name.0).1 in
+      elim auto [ inl h ↦ other name (codes "help") refl names.0 (sym id ∙ h) | inr h ↦ other name (codes "version") refl names.1 (sym id ∙ h) ]
+
+  fields : (has_plain_fields (out-Command c) ≡ true) × (list_all (λ (r : Rule). r.is_simple) shape.rules ≡ true)
+  fields =
+      let both = and_parts shape.is_plain _ (and_parts (has_simple_rules shape) _ known).0 in
+      (ap (λ (s : Shape). s.is_plain) is ∙ both.0, both.1)
+
+  groups : groups_of c ≡ []
+  groups = is_nil _ (and_parts (is_empty (groups_of c)) _ fields.0).0
+
+  globals : (out-Command c).has_globals ≡ false
+  globals =
+      let p = and_parts (is_empty (groups_of c)) _ fields.0 in
+      let q = and_parts (not (out-Command c).allow_external_subcommands) _ p.1 in
+      is_false _ (and_parts (not (out-Command c).has_globals) _ q.1).0
+
+  all_plain : IsPlain c
+  all_plain = (
+    plain_each (args_of c) (ap (list_all (λ (r : Rule). r.is_simple)) rules ∙ fields.1)
+        (ap (list_all (λ (r : Rule). r.is_free)) rules ∙ (and_parts (has_simple_rules shape) _ known).1),
+    groups,
+  )
+
+  least : 1 ≤ least_values a
+  least =
+      let one : least_values a ≡ 1 = ap (λ (r : Rule). (unwrap_or_range r.range).start_inclusive) rule in
+      omega arith
+
+  pub has_number : HasNumber (found_of m) name
+  has_number =
+      let same : (j : ℕ) (e : Arg) → j < length (args_of c) → bytes_eq (slice_index_or (args_of c) j e).id.now a.id.now ≡ true → j ≡ k =
+      λ j e lt eq. only_there (args_of c) k name j e (ap (λ (l : List Rule). only l k name) rules ∙ own_name.1) lt (subst (λ (n : Text). bytes_eq (slice_index_or (args_of c) j e).id.now n ≡ true) id eq) in
+      let got = default_reads c m parsed all_plain globals k d low (facts.ifs, some_text (items_of a.default_vals) default (ap (λ (r : Rule). r.defaults) rule)) (ap (λ (r : Rule). r.action) rule) facts.undelimited least same
+      (λ empty. named (sym id ∙ empty)) not_added
+      (Signed (pos 0) (pos 4294967295)) (ap (λ (r : Rule). r.parser) rule) in
+      subst (HasNumber (found_of m)) id got

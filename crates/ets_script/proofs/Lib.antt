@@ -7,6 +7,7 @@ mod ScriptEnds
 mod Places
 mod Enrolments
 mod Words
+mod CleanLines
 mod Arguments
 mod Fronts
 mod Defaults

@@ -1,16 +1,19 @@
 -- The command line, by the crate that reads it: its matches are a function of the words.
-use Rattle.std.specs.Prelude.{◌≡◌, ℕ, Bool, false, List, [], ◌∷◌, Option, Some, None, Result, IfOk, map, codes, pos}
+use Rattle.std.specs.Prelude.{◌≡◌, ℕ, Bool, true, false, List, [], ◌∷◌, Option, Some, None, Result, IfOk, map, codes, pos}
 use Rattle.std.specs.Option.{option_map_or}
 use Rattle.std.specs.Str.{bytes_eq}
 use Rattle.std.specs.Str.Parse.{IsNumeral, digits_value, without_leading_plus}
+use Rattle.clap.specs.Simple.{on_top}
 use Rattle.clap.specs.Words.{App, FailsBy, Row, Rule, Text, fault_of, first_of, matches_of, new_app, new_rule, one_of, with_rule}
 use Rattle.clap.specs.declared.builder.ArgAction.TheVariants.{Set, SetTrue}
 use Rattle.clap.specs.declared.builder.value_parser.ValueParser.{ValueParser}
 use Rattle.clap.specs.declared.builder.value_parser.ValueParser.TheVariants.{Names, Signed}
 use Rattle.clap.specs.declared.error.Error.{Error}
 use Rattle.clap.specs.declared.error.kind.ErrorKind.{ErrorKind}
-use Rattle.clap.specs.declared.error.kind.ErrorKind.TheVariants.{DisplayHelp, OutOfMemory}
+use Rattle.clap.specs.declared.error.kind.ErrorKind.TheVariants.{DisplayHelp, DisplayVersion, OutOfMemory}
+use Rattle.node_core.specs.declared.limits.Limits.{Limits}
 use Rattle.ets_script.specs.declared.options.Settings.{Settings}
+use Rattle.ets_script.specs.declared.options.Request.{Request}
 
 -- the parser takes these names, and nothing else
 abbrev pub TakesNames : List Text → ValueParser → Type 0
@@ -58,8 +61,39 @@ pub record Settles (words : List Text) (result : Result Settings Error) : Type 0
   pub faults : FailsBy (fault_of (command_line hashes) words) result
   pub settings : IfOk result (Asks (matches_of (command_line hashes) words))
 
+-- an option of this name, a number below 2^32, and without it this one
+abbrev pub number_option : Text → Text → Rule
+number_option name default = record (new_rule name) { long = Some name; action = Some Set; parser = Some (Signed (pos 0) (pos 4294967295)); defaults = default ∷ [] }
+
+-- `--version`
+abbrev pub with_version : App → App
+with_version = on_top (λ s. record s { has_version = true })
+
+-- the same command line, with options more: the limits of processes, which are 4096 without it, and of tables, 65536
+abbrev pub request_line : ValueParser → App
+request_line hashes =
+    with_version (with_rule (with_rule (command_line hashes) (number_option (codes "max-processes") (codes "4096"))) (number_option (codes "max-tables") (codes "65536")))
+
+-- what the matches ask of them
+pub record AsksAll (rows : List Row) (request : Request) : Type 0 where
+  pub settings : Asks rows request.settings
+  pub processes : Spells (one_of (codes "max-processes") rows) request.processes
+  pub tables : Spells (one_of (codes "max-tables") rows) request.tables
+
+-- as `Settles`
+pub record Requests (words : List Text) (result : Result Request Error) : Type 0 where
+  pub hashes : ValueParser
+  pub names : TakesNames hash_names hashes
+  pub faults : FailsBy (fault_of (request_line hashes) words) result
+  pub request : IfOk result (AsksAll (matches_of (request_line hashes) words))
+
+-- the limits that are asked for
+abbrev pub limits_of : Request → Limits
+limits_of request = record { processes = request.processes; tables = request.tables; objects = request.settings.objects }
+
 -- the program's status where its command line gives no settings
 abbrev pub refused_status : ErrorKind → ℕ
 refused_status DisplayHelp = 0
+refused_status DisplayVersion = 0
 refused_status OutOfMemory = 1
 refused_status _ = 2

@@ -1,4 +1,5 @@
 pub mod Lines
+pub mod Numbers
 pub mod Reads
 pub mod Terms
 pub mod Classes

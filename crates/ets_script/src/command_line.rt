@@ -1,15 +1,18 @@
 //! The command line, as clap reads it.
-ghost use Rattle.std.specs.Prelude.{IfOk, ◌≡◌, map, option_map};
-ghost use Rattle.clap.specs.Words.{kind_of};
-ghost use Rattle.ets_script.specs.CommandLine.{Settles, is_named, refused_status};
-ghost use Rattle.ets_script.specs.inside.Options.{IsThreads, IsObjects};
+ghost use Rattle.std.specs.Prelude.{IfOk, ◌≡◌, codes, map, option_map};
+ghost use Rattle.clap.specs.Words.{app_of, found_of, kind_of, one_text, rows_of, rule_of};
+ghost use Rattle.ets_script.specs.CommandLine.{Asks, Settles, Requests, Spells, TakesNames, command_line, hash_names, hash_option, is_named, number_option, refused_status, threads_option};
+ghost use Rattle.ets_script.specs.inside.Options.{HasNumber};
 
-use crate::options::Settings;
+use crate::options::{Request, Settings};
 use clap::error::ErrorKind;
-use clap::{Arg, ArgAction, Command, Error, value_parser};
-use std::alloc::Global;
+use clap::{Arg, ArgAction, ArgMatches, Command, Error, value_parser};
+use std::alloc::{AllocError, Global};
 use std::convert::AsStr;
 use std::io;
+
+/// What `--version` tells.
+const VERSION: &str = "0.1.0";
 
 /// The hashes that `--hash` names.
 const HASHES: [&str; 2] = ["fnv", "same"];
@@ -19,26 +22,47 @@ const HASHES: [&str; 2] = ["fnv", "same"];
 pub fn settings<S: AsStr>(alloc: Global, words: &[S]) -> Result<Settings, Error>
     ensures { Settles (map S.text words.entry.now) result }
 {
-    let hash = Arg::new(alloc, "hash")
-        .long("hash")
-        .help("The hash of keys: FNV-1a, or one for all")
-        .action(ArgAction::Set)
-        .value_parser(HASHES.as_slice())
-        .default_value("fnv");
-    let command = Command::new(alloc, "ets_script")
-        .arg(threads_option(alloc))?
-        .arg(hash)?
-        .arg(objects_option(alloc))?;
+    let matches = settings_command(alloc)?.try_get_matches_from(words)?;
+    Ok(asked_settings(&matches))
+}
+
+/// As `settings`, with options more: the limits beside that of a table's objects, and a call for the version.
+pub fn request<S: AsStr>(alloc: Global, words: &[S]) -> Result<Request, Error>
+    ensures { Requests (map S.text words.entry.now) result }
+{
+    let processes = number_option(alloc, "max-processes", "4096", "The most processes ever");
+    let tables = number_option(alloc, "max-tables", "65536", "The most tables ever");
+    let command = settings_command(alloc)?
+        .arg(processes)?
+        .arg(tables)?
+        .version(VERSION);
     let matches = command.try_get_matches_from(words)?;
-    Ok(Settings {
-        threads: is_named("true", matches.get_str("threads")),
-        same: is_named("same", matches.get_str("hash")),
-        objects: matches.get_one::<u32>("max-objects").unwrap_or(1_000_000),
+    Ok(Request {
+        settings: asked_settings(&matches),
+        processes: asked_number(&matches, "max-processes"),
+        tables: asked_number(&matches, "max-tables"),
     })
 }
 
+/// The command whose options are those of the settings.
+fn settings_command<'a>(alloc: Global) -> Result<Command<'a>, AllocError>
+    ensures { (hashes : _) × TakesNames hash_names hashes × IfOk result (λ command. app_of command ≡ command_line hashes) }
+{
+    let hash = hash_option(alloc);
+    let objects = number_option(
+        alloc,
+        "max-objects",
+        "1000000",
+        "The most objects in one table",
+    );
+    Command::new(alloc, "ets_script")
+        .arg(threads_option(alloc))?
+        .arg(hash)?
+        .arg(objects)
+}
+
 fn threads_option<'a>(alloc: Global) -> Arg<'a>
-    ensures { IsThreads result }
+    ensures { rule_of result ≡ threads_option }
 {
     Arg::new(alloc, "threads")
         .long("threads")
@@ -46,15 +70,45 @@ fn threads_option<'a>(alloc: Global) -> Arg<'a>
         .action(ArgAction::SetTrue)
 }
 
-fn objects_option<'a>(alloc: Global) -> Arg<'a>
-    ensures { IsObjects result }
+fn hash_option<'a>(alloc: Global) -> Arg<'a>
+    ensures { (hashes : _) × TakesNames hash_names hashes × (rule_of result ≡ hash_option hashes) }
 {
-    Arg::new(alloc, "max-objects")
-        .long("max-objects")
-        .help("The most objects in one table")
+    Arg::new(alloc, "hash")
+        .long("hash")
+        .help("The hash of keys: FNV-1a, or one for all")
+        .action(ArgAction::Set)
+        .value_parser(HASHES.as_slice())
+        .default_value("fnv")
+}
+
+/// The option of this name, whose value is a number below 2^32, and this one where it is not given.
+fn number_option<'a>(alloc: Global, name: &'a str, default: &'a str, help: &'a str) -> Arg<'a>
+    ensures { rule_of result ≡ number_option name.entry.now default.entry.now }
+{
+    Arg::new(alloc, name)
+        .long(name)
+        .help(help)
         .action(ArgAction::Set)
         .value_parser(value_parser!(u32))
-        .default_value("1000000")
+        .default_value(default)
+}
+
+/// The settings among what was matched, which has a number of objects.
+fn asked_settings(matches: &ArgMatches) -> Settings
+    ensures { HasNumber (found_of matches.now) (codes "max-objects") → Asks (rows_of (found_of matches.now)) result }
+{
+    Settings {
+        threads: is_named("true", matches.get_str("threads")),
+        same: is_named("same", matches.get_str("hash")),
+        objects: asked_number(matches, "max-objects"),
+    }
+}
+
+/// The number of the option of this name, which has one.
+fn asked_number(matches: &ArgMatches, name: &str) -> u32
+    ensures { HasNumber (found_of matches.now) name.now → Spells (one_text (found_of matches.now) name.now) result }
+{
+    matches.get_one(name).unwrap_or(0)
 }
 
 /// Whether there is a value, and it is this name.
@@ -67,8 +121,8 @@ fn is_named(name: &str, value: Option<&str>) -> bool
     }
 }
 
-/// Tells in the parser's words why a command line has no settings, and says the program's status: 0 after the help that
-/// was called for, 2 where the words were refused, and 1 for want of memory.
+/// Tells in the parser's words why a command line has no settings, and says the program's status: 0 after the help or
+/// the version that was called for, 2 where the words were refused, and 1 for want of memory.
 pub fn refuse<R: Print + Eprint>(rt: &R, error: &Error) -> io::Result<u8>
     ensures { IfOk result (λ status. status ≡ refused_status (kind_of error.now)) }
 {
@@ -77,7 +131,7 @@ pub fn refuse<R: Print + Eprint>(rt: &R, error: &Error) -> io::Result<u8>
             eprintln!(rt; "** nomem")?;
             Ok(1)
         }
-        ErrorKind::DisplayHelp => {
+        ErrorKind::DisplayHelp | ErrorKind::DisplayVersion => {
             error.print(rt)?;
             Ok(0)
         }

@@ -14,6 +14,7 @@
 
 mod answer;
 mod classes;
+mod clean;
 mod command;
 mod command_line;
 mod fault;
@@ -33,8 +34,8 @@ mod stop;
 mod terms;
 mod threads;
 
-pub use command_line::{refuse, settings};
+pub use command_line::{refuse, request, settings};
 pub use fault::ScriptFault;
-pub use program::{answer_alone, answer_input};
+pub use program::{answer_alone, answer_input, answer_request};
 pub use run::{run_script, run_within};
 pub use threads::run_threads;

@@ -10,3 +10,14 @@ pub struct Settings {
     /// The most objects in one table.
     pub objects: u32,
 }
+
+/// What the command line asks of the program, with the limits beside those of `Settings`.
+#[derive(Clone, Copy)]
+pub struct Request {
+    /// What `settings` reads too.
+    pub settings: Settings,
+    /// The most processes ever enrolled.
+    pub processes: u32,
+    /// The most tables ever made.
+    pub tables: u32,
+}

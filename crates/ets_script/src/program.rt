@@ -1,10 +1,11 @@
-//! The program between its settings, its input, its output and its errors.
+//! The program between what it is asked, its input, its output and its errors.
 ghost use Rattle.std.specs.Prelude.{◌≡◌, false, true, IfOk, OnOk, IfErr};
-ghost use Rattle.ets_script.specs.Stops.{EndsWithin, ProgramEnds, usual};
+ghost use Rattle.ets_script.specs.CommandLine.{limits_of};
+ghost use Rattle.ets_script.specs.Stops.{EndsWithin, ProgramEnds};
 ghost use Rattle.ets_script.specs.Threads.{ThreadsEnd, ThreadsStop, ThreadsStatus, ProgramThreads};
 
 use crate::fault::ScriptFault;
-use crate::options::Settings;
+use crate::options::{Request, Settings};
 use crate::run::run_script;
 use crate::threads::run_threads;
 use ets_term::{AllSame, Fnv, KeyHash};
@@ -27,11 +28,8 @@ pub fn answer_input<T: Threads + Wait + Sync, R: Read, W: Write, E: Write>(
     ensures alone { settings.now.threads ≡ false → IfOk result (ProgramEnds settings.now.objects (R.remaining input.old) (R.remaining input.new) (W.contents output.old) (W.contents output.new)) }
     ensures threads { settings.now.threads ≡ true → IfOk result (ProgramThreads settings.now.objects (R.remaining input.old) (R.remaining input.new) (W.contents output.old) (W.contents output.new)) }
 {
-    if settings.threads {
-        answer_in_threads(rt, alloc, settings, input, output, errors)
-    } else {
-        answer_alone(alloc, settings, input, output, errors)
-    }
+    let request = usual_request(settings);
+    answer_request(rt, alloc, &request, input, output, errors)
 }
 
 /// Answers a script line by line, each when it was read, by the usual limits but for that of the settings, and says the program's status.
@@ -44,8 +42,53 @@ pub fn answer_alone<R: Read, W: Write, E: Write>(
 ) -> io::Result<u8>
     ensures { IfOk result (ProgramEnds settings.now.objects (R.remaining input.old) (R.remaining input.new) (W.contents output.old) (W.contents output.new)) }
 {
-    let limits = limits_of(settings);
-    if settings.same {
+    let request = usual_request(settings);
+    answer_lines(alloc, &request, input, output, errors)
+}
+
+/// What the settings ask, with the usual limits beside theirs.
+fn usual_request(settings: &Settings) -> Request
+    ensures { result ≡ record { settings = settings.now; processes = 4096; tables = 65536 } }
+{
+    let usual = Limits::usual();
+    Request {
+        settings: *settings,
+        processes: usual.processes,
+        tables: usual.tables,
+    }
+}
+
+/// As `answer_input`, by the limits that are asked for.
+pub fn answer_request<T: Threads + Wait + Sync, R: Read, W: Write, E: Write>(
+    rt: &T,
+    alloc: Global,
+    request: &Request,
+    input: &mut R,
+    output: &mut W,
+    errors: &mut E,
+) -> io::Result<u8>
+    ensures alone { request.now.settings.threads ≡ false → IfOk result (EndsWithin (limits_of request.now) (R.remaining input.old) (R.remaining input.new) (W.contents output.old) (W.contents output.new)) }
+    ensures threads { request.now.settings.threads ≡ true → IfOk result (ThreadsStatus (limits_of request.now) (R.remaining input.old) (R.remaining input.new) (W.contents output.old) (W.contents output.new)) }
+{
+    if request.settings.threads {
+        answer_in_threads(rt, alloc, request, input, output, errors)
+    } else {
+        answer_lines(alloc, request, input, output, errors)
+    }
+}
+
+/// Answers a script line by line by the limits that are asked for, and says the status.
+fn answer_lines<R: Read, W: Write, E: Write>(
+    alloc: Global,
+    request: &Request,
+    input: &mut R,
+    output: &mut W,
+    errors: &mut E,
+) -> io::Result<u8>
+    ensures { IfOk result (EndsWithin (limits_of request.now) (R.remaining input.old) (R.remaining input.new) (W.contents output.old) (W.contents output.new)) }
+{
+    let limits = limits_of(request);
+    if request.settings.same {
         answer_by(alloc, limits, AllSame, input, output, errors)
     } else {
         answer_by(alloc, limits, Fnv, input, output, errors)
@@ -81,44 +124,45 @@ fn tell<E: Write>(fault: &ScriptFault, errors: &mut E) -> io::Result<u8>
 fn answer_in_threads<T: Threads + Wait + Sync, R: Read, W: Write, E: Write>(
     rt: &T,
     alloc: Global,
-    settings: &Settings,
+    request: &Request,
     input: &mut R,
     output: &mut W,
     errors: &mut E,
 ) -> io::Result<u8>
-    ensures { IfOk result (ProgramThreads settings.now.objects (R.remaining input.old) (R.remaining input.new) (W.contents output.old) (W.contents output.new)) }
+    ensures { IfOk result (ThreadsStatus (limits_of request.now) (R.remaining input.old) (R.remaining input.new) (W.contents output.old) (W.contents output.new)) }
 {
-    match run_by(rt, alloc, settings, input, output) {
+    match run_by(rt, alloc, request, input, output) {
         Ok(()) => Ok(0),
         Err(fault) => tell(&fault, errors),
     }
 }
 
-/// Runs a script in threads by the hash and the limits of the settings.
+/// Runs a script in threads by the hash and the limits that are asked for.
 fn run_by<T: Threads + Wait + Sync, R: Read, W: Write>(
     rt: &T,
     alloc: Global,
-    settings: &Settings,
+    request: &Request,
     input: &mut R,
     output: &mut W,
 ) -> Result<(), ScriptFault>
-    ensures ok { OnOk result (ThreadsEnd (usual settings.now.objects) (R.remaining input.old) (R.remaining input.new) (W.contents output.old) (W.contents output.new)) }
-    ensures err { IfErr result (ThreadsStop (usual settings.now.objects) (R.remaining input.old) (R.remaining input.new) (W.contents output.old) (W.contents output.new)) }
+    ensures ok { OnOk result (ThreadsEnd (limits_of request.now) (R.remaining input.old) (R.remaining input.new) (W.contents output.old) (W.contents output.new)) }
+    ensures err { IfErr result (ThreadsStop (limits_of request.now) (R.remaining input.old) (R.remaining input.new) (W.contents output.old) (W.contents output.new)) }
 {
-    let limits = limits_of(settings);
-    if settings.same {
+    let limits = limits_of(request);
+    if request.settings.same {
         run_threads(rt, alloc, input, output, limits, AllSame)
     } else {
         run_threads(rt, alloc, input, output, limits, Fnv)
     }
 }
 
-/// The usual limits, but for the objects of a table.
-fn limits_of(settings: &Settings) -> Limits
-    ensures { result ≡ usual settings.now.objects }
+/// The limits that are asked for.
+fn limits_of(request: &Request) -> Limits
+    ensures { result ≡ limits_of request.now }
 {
     Limits {
-        objects: settings.objects,
-        ..Limits::usual()
+        processes: request.processes,
+        tables: request.tables,
+        objects: request.settings.objects,
     }
 }

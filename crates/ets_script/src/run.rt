@@ -2,6 +2,7 @@
 ghost use Rattle.std.specs.Prelude.{◌≡◌, [], ◌++◌, false, IfOk, IfErr, OnOk, OnErr};
 ghost use Rattle.node_core.specs.State.{empty};
 ghost use Rattle.node_core.specs.Seen.{seen};
+ghost use Rattle.ets_script.specs.Numbers.{AreTheNumbers};
 ghost use Rattle.ets_script.specs.Replies.{printed};
 ghost use Rattle.ets_script.specs.Script.{Scripted, at_start};
 ghost use Rattle.ets_script.specs.Stops.{Stops, Completes};
@@ -30,6 +31,7 @@ pub fn run_script<R: Read, W: Write, H: KeyHash + Copy + Drop>(
 ) -> Result<Node<H>, ScriptFault>
     ensures ok { IfOk result (λ node. (end : Scripted) × (end.node ≡ seen node) × Completes (at_start (empty limits)) (R.remaining reader.old) (R.remaining reader.new) (W.contents writer.old) (W.contents writer.new) end) }
     ensures err { IfErr result (Stops (at_start (empty limits)) (R.remaining reader.old) (R.remaining reader.new) (W.contents writer.old) (W.contents writer.new)) }
+    ensures numbers { AreTheNumbers }
 {
     run_within(alloc, reader, writer, limits, hash, MAX_READS)
 }

@@ -1,6 +1,7 @@
 //! A script whose processes run in threads of their own.
 ghost use Rattle.std.specs.Prelude.{◌≡◌, min, IfOk, IfErr, OnOk};
 ghost use Rattle.node_shared.specs.declared.pids.TheConstants.{MAX_PIDS};
+ghost use Rattle.ets_script.specs.Numbers.{AreTheNumbers};
 ghost use Rattle.ets_script.specs.Threads.{ThreadsEnd, ThreadsStop};
 ghost use Rattle.ets_script.specs.inside.Processes.{RunsInput, Stops};
 
@@ -36,6 +37,7 @@ pub fn run_threads<
 ) -> Result<(), ScriptFault>
     ensures ok { OnOk result (ThreadsEnd limits (R.remaining reader.old) (R.remaining reader.new) (W.contents writer.old) (W.contents writer.new)) }
     ensures err { IfErr result (ThreadsStop limits (R.remaining reader.old) (R.remaining reader.new) (W.contents writer.old) (W.contents writer.new)) }
+    ensures numbers { AreTheNumbers }
 {
     let Ok(mut pending) = Pending::new(alloc) else {
         return Err(ScriptFault::Memory);

@@ -1,18 +1,18 @@
 //! The program: it answers the script on its standard input.
 #![tactic(auto)]
 
-use ets_script::{answer_input, refuse, settings};
+use ets_script::{answer_request, refuse, request};
 use std::process::ExitCode;
 use std::{env, io};
 
 fn main(rt: HostRuntime) -> io::Result<ExitCode> {
     let alloc = rt.alloc();
     let words: Vec<String> = env::args(&rt)?.collect(alloc)?;
-    let status = match settings(alloc, words.as_slice()) {
-        Ok(settings) => answer_input(
+    let status = match request(alloc, words.as_slice()) {
+        Ok(request) => answer_request(
             &rt,
             alloc,
-            &settings,
+            &request,
             &mut rt.reader(),
             &mut io::writer(&rt),
             &mut rt.stderr(),

@@ -1,4 +1,5 @@
 //! Scripts and their answers, as docs/script.md has them.
+mod command_line;
 mod devices;
 mod due;
 mod faults;

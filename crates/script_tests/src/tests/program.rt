@@ -1,8 +1,7 @@
-//! The program's command line, its status, and its line of errors.
+//! The program's status, and its line of errors.
 use super::devices::{Devices, GOOD, Seen, Source, Target};
-use clap::error::ErrorKind;
 use ets_script::options::Settings;
-use ets_script::{ScriptFault, answer_alone, settings};
+use ets_script::{ScriptFault, answer_alone};
 use std::alloc::{AllocError, Global};
 use std::io;
 use std::test::Fail;
@@ -66,92 +65,4 @@ fn status_and_errors(rt: HostRuntime) -> Result<(), Fail> {
     assert!(rt; status(alloc, &unread, b"read fault\n")? == (1, true));
     assert!(rt; status(alloc, &unwritten, b"write fault\n")? == (1, true));
     Ok(())
-}
-
-/// Whether there are threads, whether the hash is the one for all keys, and the most objects, as these words ask; or the kind of the
-/// refusal.
-fn asked(alloc: Global, words: &[&str]) -> Result<(bool, bool, u32), ErrorKind> {
-    match settings(alloc, words) {
-        Ok(settings) => Ok((settings.threads, settings.same, settings.objects)),
-        Err(error) => Err(error.kind()),
-    }
-}
-
-#[test]
-fn settings_of_words(rt: HostRuntime) {
-    let alloc = rt.alloc();
-    let rows: [(&[&str], (bool, bool, u32)); 11] = [
-        (&["ets_script"], (false, false, 1_000_000)),
-        (&["ets_script", "--threads"], (true, false, 1_000_000)),
-        (
-            &[
-                "ets_script",
-                "--hash=same",
-                "--threads",
-                "--max-objects",
-                "3",
-            ],
-            (true, true, 3),
-        ),
-        (&["ets_script", "--hash", "fnv"], (false, false, 1_000_000)),
-        (&["ets_script", "--hash", "same"], (false, true, 1_000_000)),
-        (&["ets_script", "--hash=same"], (false, true, 1_000_000)),
-        (&["ets_script", "--max-objects", "3"], (false, false, 3)),
-        (&["ets_script", "--max-objects=0"], (false, false, 0)),
-        (
-            &["ets_script", "--max-objects", "4294967295"],
-            (false, false, u32::MAX),
-        ),
-        (
-            &["ets_script", "--max-objects", "007", "--hash", "same"],
-            (false, true, 7),
-        ),
-        (
-            &["another_name", "--hash", "same", "--max-objects", "3"],
-            (false, true, 3),
-        ),
-    ];
-    for (words, wanted) in rows {
-        assert!(rt; asked(alloc, words) == Ok(wanted), "{words:?}");
-    }
-}
-
-#[test]
-fn words_that_are_refused(rt: HostRuntime) {
-    let alloc = rt.alloc();
-    let rows: [(&[&str], ErrorKind); 12] = [
-        (&["ets_script", "--hash", "md5"], ErrorKind::InvalidValue),
-        (&["ets_script", "--hash", "SAME"], ErrorKind::InvalidValue),
-        (&["ets_script", "--hash"], ErrorKind::InvalidValue),
-        (
-            &["ets_script", "--max-objects", "4294967296"],
-            ErrorKind::ValueValidation,
-        ),
-        (
-            &["ets_script", "--max-objects=-1"],
-            ErrorKind::ValueValidation,
-        ),
-        (
-            &["ets_script", "--max-objects", "many"],
-            ErrorKind::ValueValidation,
-        ),
-        (
-            &["ets_script", "--max-objects", ""],
-            ErrorKind::ValueValidation,
-        ),
-        (
-            &["ets_script", "--hash", "same", "--hash", "fnv"],
-            ErrorKind::ArgumentConflict,
-        ),
-        (
-            &["ets_script", "--threads", "--threads"],
-            ErrorKind::ArgumentConflict,
-        ),
-        (&["ets_script", "--threads=true"], ErrorKind::TooManyValues),
-        (&["ets_script", "script"], ErrorKind::UnknownArgument),
-        (&["ets_script", "--help"], ErrorKind::DisplayHelp),
-    ];
-    for (words, wanted) in rows {
-        assert!(rt; asked(alloc, words) == Err(wanted), "{words:?}");
-    }
 }

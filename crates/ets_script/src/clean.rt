@@ -1,0 +1,34 @@
+//! Clean bytes: those that may stand on a line that is no comment.
+ghost use Rattle.std.specs.Prelude.{◌≡◌, ◌≤◌, length};
+ghost use Rattle.std.specs.List.{list_all, prefix_len};
+ghost use Rattle.ets_script.specs.Classes as spec;
+
+use term_text::is_character_byte;
+
+fn is_clean(byte: u8) -> bool
+    ensures { result ≡ spec.is_clean byte }
+{
+    byte == b'\t' || is_character_byte(byte)
+}
+
+/// Whether all of these are clean. Nearly all lines are, and a walk that stops nowhere looks at many bytes at once.
+fn are_clean(text: &[u8]) -> bool
+    ensures { result ≡ list_all spec.is_clean text.now }
+{
+    let mut are = true;
+    for byte in text {
+        are &= is_clean(*byte);
+    }
+    are
+}
+
+/// How many bytes at the front are clean.
+pub fn clean_len(text: &[u8]) -> usize
+    ensures len { result ≡ prefix_len spec.is_clean text.now }
+    ensures within { result ≤ length text.now }
+{
+    if are_clean(text) {
+        return text.len();
+    }
+    text.iter().take_while(|byte| is_clean(**byte)).count()
+}

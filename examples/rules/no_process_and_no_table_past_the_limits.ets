@@ -1,0 +1,16 @@
+% At most two processes are enrolled, and at most two tables made, those that have ended counted.
+spawn p
+spawn q
+spawn r
+r receive()
+exit q
+spawn r
+spawn p
+p new(t,[named_table])
+p new(x,[])
+p new(t,[named_table])
+p new(u,[named_table])
+p whereis(u)
+p delete(t)
+p new(t,[named_table])
+q receive()
