@@ -1,10 +1,11 @@
 use denote.Exit
 use denote.Param.{param, copied}
-use denote.Param.Send.{IsSend, IsSync, param_send, param_sync, arg_send}
+use denote.Param.Send.{IsSend, IsSync, param_send, param_sync, arg_send, sendable}
 use mathlib.Core.List.{[], ◌∷◌}
 use mir.Syntax.{named}
-use Rattle.node_shared.proofs.Sent.{work_send}
+use Rattle.node_shared.proofs.Sent.{work_send, client_send}
 use Rattle.std.proofs.Common.{◌≡◌, ◌++◌, ◌/◌, take, drop, ◌∙◌, subst, rules, IfOk}
+use Rattle.std.proofs.Crossing.{crosses}
 use Rattle.std.proofs.lemmas.List.{take-append-drop}
 use Rattle.node_shared.specs.Working.{AllWorked}
 use Rattle.node_shared.proofs.Jobs.{all-append}
@@ -22,6 +23,9 @@ returns g t c =
     let all : c.append.new.self.items ≡ c.in_ok-done-2.done.items ++ c.in_ok-others.others.items = c.in_ok-append.ensures.items in
     let whole : c.split_off.new.self.items ++ c.in_ok-back.back.items ≡ items = ◌∙◌ {b = take half items ++ drop half items} (λ i. left i ++ right i) (take-append-drop half items) in
     rw (← whole, all) both
+
+pub join-front_done-requires-send-A : goal.join-front_done-requires-send-A
+join-front_done-requires-send-A g t c κs within = search (client_send, crosses, sendable) depth 60 fits 20000
 
 pub join-front_done-requires-send-F : goal.join-front_done-requires-send-F
 join-front_done-requires-send-F g t c κs within =
