@@ -1,5 +1,5 @@
 -- Reasons are exact: each reply of the machine to a step is what its reason says, and the reason that is left is that one.
-use Rattle.std.proofs.Common.{◌≡◌, ℕ, ◌⊎◌, inl, inr, Bool, true, false, cond, not, List, [], ◌∷◌, Option, None, Some, refl, sym, subst, ap, ◌∙◌, codes}
+use Rattle.std.proofs.Common.{◌≡◌, ℕ, inl, inr, Bool, true, false, cond, not, List, [], ◌∷◌, Option, None, Some, refl, sym, subst, ap, ◌∙◌, codes}
 use Rattle.std.specs.Prelude.{◌+◌, ◌||◌, if◌then◌else◌, is_some, position, nat_le, length}
 use Rattle.std.specs.List.{list_any, position_from}
 use Rattle.std.specs.Option.{option_map_or}
@@ -8,7 +8,6 @@ use Rattle.std.proofs.lemmas.Iterator.Adapters.{position_from-zero}
 use Rattle.ets_term.specs.declared.term.Term.{Term}
 use Rattle.ets_term.specs.declared.term.Term.TheVariants.{Pid}
 use Rattle.ets_term.specs.Depth.{is_too_deep}
-use Rattle.ownership.specs.declared.fault.WorldFault.{WorldFault}
 use Rattle.ownership.specs.declared.fault.WorldFault.TheVariants as fault
 use Rattle.ownership.specs.World.{Table, World, lives, process_at, table_at}
 use Rattle.ownership.specs.End as ends
@@ -25,19 +24,19 @@ use Rattle.node_core.specs.Calls.{call}
 use Rattle.node_core.specs.Machine.{step}
 use Rattle.node_core.specs.Seen.{seen}
 use Rattle.node_core.specs.State.{State, gives}
-use Rattle.node_core.specs.rules.Growth.{growth_reply, ok_reply}
+use Rattle.node_core.specs.rules.Growth.{ok_reply}
 use Rattle.node_core.specs.rules.Replies.{true_reply, is_value}
 use Rattle.node_reasons.specs.declared.reason.Rule.{Rule}
 use Rattle.node_reasons.specs.declared.reason.Rule.TheVariants as rule
 use Rattle.node_reasons.specs.declared.reason.Reason.{Reason}
 use Rattle.node_reasons.specs.Reasons.{refusal_of, argument, whole}
 use Rattle.node_reasons.specs.Calls.{call_why}
-use Rattle.node_reasons.specs.Why.{limit_of, or_limit, asked_why, growth_why, why}
+use Rattle.node_reasons.specs.Why.{limit_of, or_limit, why}
 use Rattle.node_reasons.specs.Laws.{Explains, ReasonsAreExact}
 use Rattle.node_reasons.specs.inside.Left.{Names}
-use Rattle.node_reasons.specs.inside.LeftCalls.{call_left, refused_left, asked_left, left, picked, told}
+use Rattle.node_reasons.specs.inside.LeftCalls.{call_left, left, picked, told}
 use Rattle.node_reasons.proofs.Told.{Foretells, Told, Either}
-use Rattle.node_reasons.proofs.ToldCalls.{asks-told, done-told, within-told, where-told, call-told}
+use Rattle.node_reasons.proofs.ToldCalls.{asks-told, within-told, where-told, call-told}
 use Rattle.node_reasons.proofs.NamedRules.{last-where}
 use Rattle.node_reasons.proofs.Named.{call-named, left-seen}
 

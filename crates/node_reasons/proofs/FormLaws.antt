@@ -1,22 +1,20 @@
 -- Forms of options and of updates, without what is read of them.
-use Rattle.std.proofs.Common.{◌≡◌, ◌≤◌, ◌<◌, ℕ, pos, negsuc, Bool, true, false, not, List, [], ◌∷◌, Option, None, Some, option_map, option_and_then, refl, sym, ap, ◌∙◌, codes}
-use Rattle.std.specs.Prelude.{◌==◌, ◌&&◌, ◌||◌, ◌+◌, if◌then◌else◌, is_some, nat_lt, nat_le}
+use Rattle.std.proofs.Common.{◌≡◌, ℕ, pos, negsuc, Bool, true, false, List, [], ◌∷◌, Option, None, Some, option_map, option_and_then, refl, ap, ◌∙◌, codes}
+use Rattle.std.specs.Prelude.{◌&&◌, ◌||◌, if◌then◌else◌, is_some, nat_le}
 use Rattle.std.specs.Str.{bytes_eq}
 use Rattle.std.specs.List.{list_all}
 use Rattle.ets_term.specs.declared.term.Term.{Term, out-Term}
 use Rattle.ets_term.specs.declared.term.Term.TheOpen.{Term-F}
 use Rattle.ets_term.specs.Atoms.{is_atom}
 use Rattle.ets_term.specs.Depth.{elements}
-use Rattle.counters.specs.Positions.{integer_of, integer_form, position_at, position_of}
-use Rattle.counters.specs.declared.elements.ElementSpec.{ElementSpec}
-use Rattle.counters.specs.declared.ops.Op.{Op}
+use Rattle.counters.specs.Positions.{integer_of, position_of}
 use Rattle.counters.specs.declared.ops.Ops.TheVariants as updates
 use Rattle.counters.specs.declared.elements.ElementSpecs.TheVariants as values
 use Rattle.counters.specs.Ops.{bound_of, op_from, op_of_parts, op_of, all_ops}
 use Rattle.counters.specs.Elements.{spec_of_parts, all_specs}
 use Rattle.ownership.specs.declared.head.Heir.{Heir}
 use Rattle.ownership.specs.declared.options.NewOptions.{NewOptions}
-use Rattle.ownership.specs.Options.{usual, natural_form, pid_form, keypos_option, tuning_word, access_word, word_option, heir_said, is_tuning, pair_option, plain_tuple, tuple_saying, option_form, options_from, options_form, options_of}
+use Rattle.ownership.specs.Options.{usual, natural_form, pid_form, keypos_option, access_word, word_option, heir_said, is_tuning, pair_option, plain_tuple, tuple_saying, option_form, options_from, options_form, options_of}
 use Rattle.node_reasons.specs.inside.Forms.{is_access_word, is_word, is_keypos_form, is_pair, is_plain, is_option_form, is_option, are_options_form, are_options}
 
 -- ---- options: whether one is read does not rest on what was read before

@@ -1,12 +1,11 @@
 -- The reason that is left of a call is the first rule that is broken, row by row; and it does not rest on buckets.
-use Rattle.std.proofs.Common.{◌≡◌, ℕ, Bool, true, false, List, [], ◌∷◌, Option, None, Some, option_map, option_and_then, refl, sym, ap, ◌∙◌, codes}
+use Rattle.std.proofs.Common.{◌≡◌, ℕ, Bool, true, false, List, [], ◌∷◌, Option, None, Some, option_map, option_and_then, refl, ap, ◌∙◌, codes}
 use Rattle.std.specs.Prelude.{◌+◌, if◌then◌else◌, position}
 use Rattle.std.specs.Option.{option_map_or}
 use Rattle.ets_term.specs.declared.term.Term.{Term}
 use Rattle.ets_term.specs.Depth.{is_too_deep}
 use Rattle.ownership.specs.World.{Table, Tables, Processes, World, table_at, resolve, lives}
 use Rattle.node_core.specs.declared.node.access.Access.TheVariants.{Read, Write}
-use Rattle.node_core.specs.declared.step.Call.{Call}
 use Rattle.node_core.specs.declared.step.Step.{Step}
 use Rattle.node_core.specs.declared.step.Step.TheVariants.{Enrol, End, Ask, Grow, Ready}
 use Rattle.node_core.specs.Seen.{seen_table, seen_tables}
@@ -19,7 +18,7 @@ use Rattle.node_reasons.specs.Updates.{counting, writing}
 use Rattle.node_reasons.specs.Calls.{why_one, table_why_two, search_why_two, why_two, why_three, why_four, call_why}
 use Rattle.node_reasons.specs.Why.{limit_of}
 use Rattle.node_reasons.specs.inside.Left.{Names, element_left, counting_left, writing_left}
-use Rattle.node_reasons.specs.inside.LeftCalls.{one_left, table_two_left, search_two_left, two_left, three_left, four_left, call_left, refused_left, asked_left, left}
+use Rattle.node_reasons.specs.inside.LeftCalls.{one_left, table_two_left, search_two_left, two_left, three_left, four_left, call_left, left}
 use Rattle.node_reasons.proofs.NamedRules.{row-named, last, on-named, content-named, use-named, fixing-named, informing-named, making-named, setting-named, giving-named, element-named, element-or-named, counting-named, counting-or-named, writing-named}
 
 module _ (ts : Tables) (processes : Processes) (p : ℕ) (name : List ℕ) (o : Option Table) where

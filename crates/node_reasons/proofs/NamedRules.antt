@@ -1,5 +1,5 @@
 -- The reason that is left of a call is the first rule that is broken, where one is.
-use Rattle.std.proofs.Common.{◌≡◌, ℕ, Bool, true, false, List, [], ◌∷◌, Option, None, Some, option_map, Result, Ok, Err, refl, sym, subst, ap, ◌∙◌, codes}
+use Rattle.std.proofs.Common.{◌≡◌, ℕ, Bool, true, false, List, [], ◌∷◌, Option, None, Some, Result, Ok, Err, refl, codes}
 use Rattle.std.specs.Prelude.{◌==◌, ◌&&◌, if◌then◌else◌, is_some}
 use Rattle.std.specs.Option.{option_map_or}
 use Rattle.std.specs.Str.{bytes_eq}
@@ -25,15 +25,15 @@ use Rattle.ownership.specs.Info.{item_of}
 use Rattle.node_core.specs.Access.{may}
 use Rattle.node_core.specs.Positions.{position_of}
 use Rattle.node_core.specs.declared.node.access.Access.{Access}
-use Rattle.node_core.specs.declared.node.access.Access.TheVariants.{Read, Write}
+use Rattle.node_core.specs.declared.node.access.Access.TheVariants.{Read}
 use Rattle.node_core.specs.rules.Owning.{names_form}
 use Rattle.node_reasons.specs.declared.reason.Rule.{Rule}
 use Rattle.node_reasons.specs.declared.reason.Rule.TheVariants as rule
 use Rattle.node_reasons.specs.declared.reason.Reason.{Reason}
-use Rattle.node_reasons.specs.Reasons.{argument, whole, lacks, on_table}
-use Rattle.node_reasons.specs.Objects.{sound, element, element_under, element_of, element_told_of, element_or_of}
+use Rattle.node_reasons.specs.Reasons.{argument, lacks, on_table}
+use Rattle.node_reasons.specs.Objects.{sound, element_under, element_of, element_told_of, element_or_of}
 use Rattle.node_reasons.specs.Updates.{unless_badarg, on_set, counting_under, counting, writing_under, writing}
-use Rattle.node_reasons.specs.Tables.{naming, making_with, making, informing, fixing, on_own, heir_told, setting, receiving, giving_to, giving}
+use Rattle.node_reasons.specs.Tables.{making_with, making, informing, fixing, on_own, heir_told, setting, receiving, giving_to, giving}
 use Rattle.node_reasons.specs.Calls.{row}
 use Rattle.node_reasons.specs.inside.Forms.{are_options}
 use Rattle.node_reasons.specs.inside.Left.{Names, head_left, use_left, content_left, own_left, giving_to_left, giving_left, fixing_left, making_left, informing_left, key_left, position_left, element_left, set_left, counting_left, writing_left}

@@ -1,5 +1,5 @@
 -- What the rules of a call say comes true of it: the rows of the machine's table of calls, beside those of reasons.
-use Rattle.std.proofs.Common.{◌≡◌, ℕ, ◌⊎◌, inl, inr, Bool, true, false, not, List, Option, None, Some, option_and_then, Result, Ok, Err, refl, sym, subst, ap, ◌∙◌}
+use Rattle.std.proofs.Common.{◌≡◌, ℕ, ◌⊎◌, Bool, true, false, List, Option, None, Some, option_and_then, Result, Ok, Err, refl, sym, subst, ap, ◌∙◌}
 use Rattle.std.specs.Prelude.{if◌then◌else◌, MatchOption}
 use Rattle.std.specs.Bool.{MatchBool}
 use Rattle.std.specs.Str.{bytes_eq}
@@ -19,7 +19,6 @@ use Rattle.node_core.specs.State.{State, Outcome, gives}
 use Rattle.node_core.specs.Access.{may, allowed, usable, with_table, Rule, IsReply, IsWorldReply, reads, changes}
 use Rattle.node_core.specs.Calls.{called}
 use Rattle.node_core.specs.rules.Replies.{truth_reply, is_value}
-use Rattle.node_reasons.specs.declared.reason.Rule.TheVariants as rule
 use Rattle.node_reasons.specs.declared.reason.Reason.{Reason}
 use Rattle.node_reasons.specs.Reasons.{refusal_of, argument, table_named, on_table, lacks}
 use Rattle.node_reasons.specs.Calls.{row}

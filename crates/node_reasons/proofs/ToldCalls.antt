@@ -1,12 +1,11 @@
 -- What the rules of calls say comes true, row by row as the table of calls.
-use Rattle.std.proofs.Common.{◌≡◌, ℕ, ◌⊎◌, inl, inr, Bool, true, false, not, List, [], ◌∷◌, Option, None, Some, option_map, option_and_then, Result, Ok, Err, refl, sym, subst, ap, ◌∙◌, codes}
+use Rattle.std.proofs.Common.{◌≡◌, ℕ, inl, inr, Bool, true, false, not, List, [], ◌∷◌, Option, None, Some, option_and_then, Result, refl, ap, ◌∙◌, codes}
 use Rattle.std.specs.Prelude.{◌==◌, ◌&&◌, if◌then◌else◌, is_some, MatchOption, nat_le, length}
 use Rattle.std.specs.Option.{option_map_or}
 use Rattle.ets_term.specs.declared.term.Term.{Term, out-Term}
 use Rattle.ets_term.specs.declared.term.Term.TheVariants.{Tid}
 use Rattle.ets_term.specs.Atoms.{text_of, is_atom}
-use Rattle.table_ops.specs.Content.{Content, is_present}
-use Rattle.fixed_walk.specs.Fixed.{Fixed}
+use Rattle.table_ops.specs.Content.{is_present}
 use Rattle.fixed_walk.specs.Walk.{first_key, first_slot}
 use Rattle.ownership.specs.declared.fault.WorldFault.{WorldFault}
 use Rattle.ownership.specs.declared.fault.WorldFault.TheVariants as fault
@@ -23,7 +22,7 @@ use Rattle.ownership.specs.Tables as tables
 use Rattle.ownership.specs.Tables.{without_table, changed, passed_to, with_heir, with_table, new_head}
 use Rattle.node_core.specs.declared.node.access.Access.TheVariants.{Read, Write}
 use Rattle.node_core.specs.declared.step.Reply.{Reply}
-use Rattle.node_core.specs.declared.step.Reply.TheVariants.{Value, Badarg, SystemLimit}
+use Rattle.node_core.specs.declared.step.Reply.TheVariants.{Value, Badarg}
 use Rattle.node_core.specs.State.{State, Outcome, gives}
 use Rattle.node_core.specs.Access.{IsWorldReply, asks}
 use Rattle.node_core.specs.Calls.{calls_of_none, calls_of_one, table_calls_of_two, search_calls_of_two, object_calls_of_two, calls_of_three, calls_of_four, call}
@@ -32,13 +31,13 @@ use Rattle.node_core.specs.rules.Reading.{Lookup, Member, LookupElement, LookupE
 use Rattle.node_core.specs.rules.Removal.{Take, Delete, DeleteObject, DeleteAllObjects}
 use Rattle.node_core.specs.rules.Searching.{Match, MatchObject, MatchDelete, Select, SelectCount, SelectDelete}
 use Rattle.node_core.specs.rules.Updates.{UpdateCounter, UpdateElement}
-use Rattle.node_core.specs.rules.Owning.{GiveAway, SetOptions, Receive, told_or_undefined, Whereis, names_form, told_of, Info}
-use Rattle.node_core.specs.rules.Replies.{true_reply, truth_reply, is_value}
+use Rattle.node_core.specs.rules.Owning.{GiveAway, SetOptions, told_or_undefined, Whereis, names_form, told_of, Info}
+use Rattle.node_core.specs.rules.Replies.{true_reply, is_value}
 use Rattle.node_core.specs.rules.Tables.{new_table_of, IsFresh, New, DeleteTable}
 use Rattle.node_core.specs.rules.Walking.{Fixes, Releases, SafeFixtable, First, Next, FirstLookup, NextLookup}
 use Rattle.node_reasons.specs.declared.reason.Rule.TheVariants as rule
 use Rattle.node_reasons.specs.declared.reason.Reason.{Reason}
-use Rattle.node_reasons.specs.Reasons.{refusal_of, argument, whole, table_named, on_table}
+use Rattle.node_reasons.specs.Reasons.{argument, whole, table_named, on_table}
 use Rattle.node_reasons.specs.Names.{is_call_name, no_call}
 use Rattle.node_reasons.specs.Objects.{sound, insertion, deletion, walk_on, matching, selecting, element_told_of, element_or_of}
 use Rattle.node_reasons.specs.Updates.{counting, writing}

@@ -1,12 +1,11 @@
 -- What the rules of calls on objects say comes true.
-use Rattle.std.proofs.Common.{◌≡◌, ℕ, ◌⊎◌, inl, inr, Bool, true, false, List, [], ◌∷◌, Option, None, Some, option_map, option_and_then, Result, Ok, Err, refl, sym, subst, ap, ◌∙◌}
+use Rattle.std.proofs.Common.{◌≡◌, ℕ, ◌⊎◌, inl, inr, Bool, true, false, List, [], ◌∷◌, Option, None, Some, option_map, option_and_then, Result, Ok, Err, refl, ap}
 use Rattle.std.specs.Prelude.{◌==◌, if◌then◌else◌, is_some, MatchOption, nat_lt, filter}
 use Rattle.std.specs.Bool.{MatchBool}
 use Rattle.std.specs.List.{list_any, list_all}
 use Rattle.std.specs.Option.{option_map_or}
 use Rattle.ets_term.specs.declared.term.Term.{Term}
-use Rattle.ets_term.specs.declared.term.Term.TheVariants as term
-use Rattle.ets_term.specs.Depth.{is_too_deep, element_at}
+use Rattle.ets_term.specs.Depth.{is_too_deep}
 use Rattle.ets_term.specs.Data.{Data, data_of}
 use Rattle.bucket_table.specs.Slots.{Slot, object_count, slots_behind}
 use Rattle.match_spec.specs.Specifications.{is_pattern, is_spec}
@@ -14,7 +13,7 @@ use Rattle.table_ops.specs.declared.refusal.Refusal.{Refusal}
 use Rattle.table_ops.specs.declared.refusal.Refusal.TheVariants as refusal
 use Rattle.table_ops.specs.declared.kind.Kind.{Kind}
 use Rattle.table_ops.specs.declared.kind.Kind.TheVariants.{Set, Bag, DuplicateBag}
-use Rattle.table_ops.specs.Content.{Content, key_of, is_object, objects_under, is_present}
+use Rattle.table_ops.specs.Content.{Content, key_of, is_object, objects_under}
 use Rattle.table_ops.specs.Refusals as table
 use Rattle.table_ops.specs.Put.{PutsAll, Stores, is_taken}
 use Rattle.table_ops.specs.Drop.{Which, without_those, equal_to}
@@ -25,20 +24,20 @@ use Rattle.fixed_walk.specs.Fixes.{is_fixed}
 use Rattle.fixed_walk.specs.Fixed.{Fixed}
 use Rattle.fixed_walk.specs.Walk.{first_key, first_slot}
 use Rattle.node_core.specs.declared.step.Reply.{Reply}
-use Rattle.node_core.specs.declared.step.Reply.TheVariants.{Badarg, SystemLimit}
-use Rattle.node_core.specs.Access.{IsReply, replies}
+use Rattle.node_core.specs.declared.step.Reply.TheVariants.{Badarg}
+use Rattle.node_core.specs.Access.{IsReply}
 use Rattle.node_core.specs.Positions.{position_of}
 use Rattle.node_core.specs.rules.Replies.{true_reply, truth_reply, list_reply, term_reply, is_value}
 use Rattle.node_core.specs.rules.Insertion.{objects_in, Insert, InsertNew}
 use Rattle.node_core.specs.rules.Reading.{LookupElement, LookupElementOr}
-use Rattle.node_core.specs.rules.Removal.{without, DeleteObject}
+use Rattle.node_core.specs.rules.Removal.{DeleteObject}
 use Rattle.node_core.specs.rules.Searching.{Deletes, Match, MatchObject, MatchDelete, Select, SelectCount, SelectDelete, answers_reply, count_reply}
 use Rattle.node_core.specs.rules.Walking.{IsFixReply, Fixes, key_reply, slot_reply, Next, NextLookup}
 use Rattle.node_reasons.specs.declared.reason.Rule.TheVariants as rule
 use Rattle.node_reasons.specs.declared.reason.Reason.{Reason}
 use Rattle.node_reasons.specs.Reasons.{argument}
 use Rattle.node_reasons.specs.Objects.{insertion, deletion, walk_on, matching, selecting, element, element_under, element_of, element_told_of, element_or_of}
-use Rattle.node_reasons.proofs.Told.{Foretells, value-of, badarg-of, limit-of, truth-value}
+use Rattle.node_reasons.proofs.Told.{Foretells, value-of, badarg-of, limit-of}
 
 -- ---- insertion
 -- where each term is an object, they are stored, or a limit refuses it

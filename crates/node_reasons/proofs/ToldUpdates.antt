@@ -1,14 +1,14 @@
 -- What the rules of updates say comes true.
-use Rattle.std.proofs.Common.{◌≡◌, ◌<◌, ℕ, ℤ, pos, negsuc, ◌⊎◌, inl, inr, Bool, true, false, not, List, [], ◌∷◌, Option, None, Some, option_map, option_and_then, Result, Ok, Err, refl, sym, subst, ap, ◌∙◌, arith}
+use Rattle.std.proofs.Common.{◌≡◌, ℕ, ℤ, pos, negsuc, inl, inr, Bool, true, false, List, [], ◌∷◌, Option, None, Some, option_map, option_and_then, Result, Ok, Err, refl, subst, ap, ◌∙◌, arith}
 use Rattle.std.proofs.lemmas.Bool.Decides.{nat_tests}
-use Rattle.std.specs.Prelude.{◌+◌, ◌==◌, ◌&&◌, ◌||◌, if◌then◌else◌, is_some, MatchOption, nat_lt}
+use Rattle.std.specs.Prelude.{◌+◌, ◌==◌, ◌&&◌, ◌||◌, if◌then◌else◌, MatchOption, nat_lt}
 use Rattle.std.specs.Bool.{MatchBool}
 use Rattle.std.specs.List.{list_all}
 use Rattle.std.specs.Option.{option_map_or}
 use Rattle.ets_term.specs.declared.term.Term.{Term, out-Term}
 use Rattle.ets_term.specs.declared.term.Term.TheOpen.{Term-F}
 use Rattle.ets_term.specs.Depth.{elements}
-use Rattle.bucket_table.specs.Slots.{Slot, object_count}
+use Rattle.bucket_table.specs.Slots.{object_count}
 use Rattle.counters.specs.declared.fault.CounterFault.{CounterFault}
 use Rattle.counters.specs.declared.fault.CounterFault.TheVariants as fault
 use Rattle.counters.specs.declared.elements.ElementSpec.{ElementSpec}
@@ -20,13 +20,12 @@ use Rattle.counters.specs.declared.ops.Ops.{Ops}
 use Rattle.counters.specs.declared.ops.Ops.TheVariants as updates
 use Rattle.counters.specs.Counters.{updated_counters}
 use Rattle.counters.specs.Defaults.{keyed, counted_from, written_from}
-use Rattle.counters.specs.Elements.{spec_of_parts, all_specs, specs_form, specs_of, listed, updated_elements}
+use Rattle.counters.specs.Elements.{spec_of_parts, all_specs, specs_form, specs_of, updated_elements}
 use Rattle.counters.specs.Ops.{bound_of, op_from, op_of_parts, op_of, all_ops, ops_form, ops_of}
 use Rattle.counters.specs.Positions.{integer_of, position_at, position_of}
 use Rattle.table_ops.specs.declared.refusal.Refusal.{Refusal}
 use Rattle.table_ops.specs.declared.refusal.Refusal.TheVariants as refusal
 use Rattle.table_ops.specs.Content.{Content, objects_under}
-use Rattle.table_ops.specs.Put.{Writes}
 use Rattle.table_ops.specs.Refusals as table
 use Rattle.table_ops.specs.Update.{is_set, is_open, ops_open, specs_open, is_good, Counts, Starts, CountsUnder, WritesElements, with_true, WritesUnder, UpdatesCounter, UpdatesElement}
 use Rattle.fixed_walk.specs.Fixed.{Fixed, on_content}

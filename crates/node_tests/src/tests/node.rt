@@ -13,6 +13,7 @@ mod refused;
 mod tables;
 mod through;
 mod walk_among;
+mod why;
 
 /// A step, told.
 #[derive(Clone, Copy)]

@@ -1,0 +1,100 @@
+// Why a step is refused: each kind of misuse with its reason in words, as the rules want it; what is answered has none.
+mod misuses;
+
+use super::{Event, Row, step};
+use ets_term::{Fnv, KeyHash};
+use node_core::{Limits, Node, Reply, Step};
+use node_reasons::why;
+use std::alloc::{AllocError, Global};
+use std::process::Abort;
+
+/// Whether the step with this reply has this reason in words, or is answered where there are no words.
+fn has_reason<H: KeyHash + Copy + Drop>(
+    alloc: Global,
+    node: &Node<H>,
+    step: &Step,
+    reply: &Reply,
+    wanted: &str,
+) -> Result<bool, AllocError> {
+    match why(node, step, reply) {
+        Some(reason) => Ok(reason.to_string(alloc)?.as_str() == wanted),
+        None => Ok(wanted.is_empty() && reply.is_value()),
+    }
+}
+
+/// The same of a step that is done now.
+fn is_explained<H: KeyHash + Copy + Drop>(
+    alloc: Global,
+    node: &mut Node<H>,
+    event: Event,
+    wanted: &str,
+) -> Result<bool, AllocError> {
+    let step = step(alloc, event)?;
+    let reply = node.step(&step)?;
+    has_reason(alloc, node, &step, &reply, wanted)
+}
+
+/// The place of the first row that has another reason.
+fn unexplained_in<H: KeyHash + Copy + Drop>(
+    alloc: Global,
+    node: &mut Node<H>,
+    rows: &[Row],
+) -> Result<Option<usize>, AllocError> {
+    for (place, (event, wanted)) in rows.iter().enumerate() {
+        if !is_explained(alloc, node, *event, *wanted)? {
+            return Ok(Some(place));
+        }
+    }
+    Ok(None)
+}
+
+/// The same in a new node.
+fn unexplained(alloc: Global, limits: Limits, rows: &[Row]) -> Result<Option<usize>, AllocError> {
+    let mut node = Node::new(alloc, limits, Fnv);
+    unexplained_in(alloc, &mut node, rows)
+}
+
+#[test]
+fn misuses_of_steps_have_their_reasons(rt: HostRuntime) {
+    assert_eq!(rt;
+        unexplained(rt.alloc(), Limits::usual(), &misuses::STEPS),
+        Ok(None)
+    );
+}
+
+#[test]
+fn misuses_of_objects_have_their_reasons(rt: HostRuntime) {
+    assert_eq!(rt;
+        unexplained(rt.alloc(), Limits::usual(), &misuses::OBJECTS),
+        Ok(None)
+    );
+}
+
+#[test]
+fn misuses_of_updates_have_their_reasons(rt: HostRuntime) {
+    assert_eq!(rt;
+        unexplained(rt.alloc(), Limits::usual(), &misuses::UPDATES),
+        Ok(None)
+    );
+}
+
+#[test]
+fn misuses_of_tables_have_their_reasons(rt: HostRuntime) {
+    assert_eq!(rt;
+        unexplained(rt.alloc(), Limits::usual(), &misuses::TABLES),
+        Ok(None)
+    );
+}
+
+#[test]
+fn each_limit_has_its_reason(rt: HostRuntime) {
+    let limits = Limits {
+        processes: 1,
+        tables: 1,
+        objects: 1,
+    };
+    assert_eq!(rt;
+        unexplained(rt.alloc(), limits, &misuses::LIMITED),
+        Ok(None)
+    );
+}
