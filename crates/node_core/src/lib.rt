@@ -20,6 +20,7 @@ mod position;
 mod step;
 mod terms;
 mod walk;
+mod word;
 
 pub use limits::Limits;
 pub use node::{Node, RunFault};

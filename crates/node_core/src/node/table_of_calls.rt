@@ -1,9 +1,11 @@
-// The table of calls: a name and its method, at most eight names a function, by number of arguments.
+// The table of calls: a word and its method, at most eight words a function, by number of arguments.
 ghost use Rattle.node_core.specs.Calls.{call, calls_of_none, calls_of_one, object_calls_of_two, search_calls_of_two, table_calls_of_two, calls_of_three, calls_of_four};
 ghost use Rattle.node_core.specs.inside.Refusals.{Comes};
+ghost use Rattle.node_core.specs.inside.Words.{text_of};
 
 use super::Node;
 use crate::step::Reply;
+use crate::word::{Word, word_of};
 use ets_term::{KeyHash, Term};
 use table_ops::Refusal;
 
@@ -11,168 +13,138 @@ impl<H: KeyHash + Copy + Drop> Node<H> {
     pub(crate) fn call(&mut self, pid: u32, name: &str, args: &[Term]) -> Result<Reply, Refusal>
         ensures { Comes (call self.old pid name.now args.now) self.old result self.new }
     {
+        let Some(word) = word_of(name) else {
+            return Err(Refusal::Badarg);
+        };
         match args {
-            [] => self.calls_of_none(pid, name),
-            [x] => self.calls_of_one(pid, name, x),
-            [x, y] => self.object_calls_of_two(pid, name, x, y),
-            [x, y, z] => self.calls_of_three(pid, name, x, y, z),
-            [x, y, z, default] => self.calls_of_four(pid, name, x, y, z, default),
+            [] => self.calls_of_none(pid, word),
+            [x] => self.calls_of_one(pid, word, x),
+            [x, y] => self.object_calls_of_two(pid, word, x, y),
+            [x, y, z] => self.calls_of_three(pid, word, x, y, z),
+            [x, y, z, default] => self.calls_of_four(pid, word, x, y, z, default),
             _ => Err(Refusal::Badarg),
         }
     }
 
-    fn calls_of_none(&mut self, pid: u32, name: &str) -> Result<Reply, Refusal>
-        ensures { Comes (calls_of_none self.old pid name.now) self.old result self.new }
+    fn calls_of_none(&mut self, pid: u32, word: Word) -> Result<Reply, Refusal>
+        ensures { Comes (calls_of_none self.old pid (text_of word)) self.old result self.new }
     {
-        if name == "receive" {
-            self.receive(pid)
-        } else {
-            Err(Refusal::Badarg)
+        match word {
+            Word::Receive => self.receive(pid),
+            _ => Err(Refusal::Badarg),
         }
     }
 
-    fn calls_of_one(&mut self, pid: u32, name: &str, x: &Term) -> Result<Reply, Refusal>
-        ensures { Comes (calls_of_one self.old pid name.now x.now) self.old result self.new }
+    fn calls_of_one(&mut self, pid: u32, word: Word, x: &Term) -> Result<Reply, Refusal>
+        ensures { Comes (calls_of_one self.old pid (text_of word) x.now) self.old result self.new }
     {
-        if name == "tab2list" {
-            self.tab2list(pid, x)
-        } else if name == "delete_all_objects" {
-            self.delete_all_objects(pid, x)
-        } else if name == "delete" {
-            self.delete_table(pid, x)
-        } else if name == "first" {
-            self.first(pid, x)
-        } else if name == "first_lookup" {
-            self.first_lookup(pid, x)
-        } else if name == "whereis" {
-            self.whereis(x)
-        } else {
-            Err(Refusal::Badarg)
+        match word {
+            Word::Tab2list => self.tab2list(pid, x),
+            Word::DeleteAllObjects => self.delete_all_objects(pid, x),
+            Word::Delete => self.delete_table(pid, x),
+            Word::First => self.first(pid, x),
+            Word::FirstLookup => self.first_lookup(pid, x),
+            Word::Whereis => self.whereis(x),
+            _ => Err(Refusal::Badarg),
         }
     }
 
     fn object_calls_of_two(
         &mut self,
         pid: u32,
-        name: &str,
+        word: Word,
         x: &Term,
         y: &Term,
     ) -> Result<Reply, Refusal>
-        ensures { Comes (object_calls_of_two self.old pid name.now x.now y.now (search_calls_of_two self.old pid name.now x.now y.now (table_calls_of_two self.old pid name.now x.now y.now))) self.old result self.new }
+        ensures { Comes (object_calls_of_two self.old pid (text_of word) x.now y.now (search_calls_of_two self.old pid (text_of word) x.now y.now (table_calls_of_two self.old pid (text_of word) x.now y.now))) self.old result self.new }
     {
-        if name == "insert" {
-            self.insert(pid, x, y)
-        } else if name == "insert_new" {
-            self.insert_new(pid, x, y)
-        } else if name == "lookup" {
-            self.lookup(pid, x, y)
-        } else if name == "member" {
-            self.member(pid, x, y)
-        } else if name == "take" {
-            self.take(pid, x, y)
-        } else if name == "delete" {
-            self.delete(pid, x, y)
-        } else if name == "delete_object" {
-            self.delete_object(pid, x, y)
-        } else {
-            self.search_calls_of_two(pid, name, x, y)
+        match word {
+            Word::Insert => self.insert(pid, x, y),
+            Word::InsertNew => self.insert_new(pid, x, y),
+            Word::Lookup => self.lookup(pid, x, y),
+            Word::Member => self.member(pid, x, y),
+            Word::Take => self.take(pid, x, y),
+            Word::Delete => self.delete(pid, x, y),
+            Word::DeleteObject => self.delete_object(pid, x, y),
+            _ => self.search_calls_of_two(pid, word, x, y),
         }
     }
 
     fn search_calls_of_two(
         &mut self,
         pid: u32,
-        name: &str,
+        word: Word,
         x: &Term,
         y: &Term,
     ) -> Result<Reply, Refusal>
-        ensures { Comes (search_calls_of_two self.old pid name.now x.now y.now (table_calls_of_two self.old pid name.now x.now y.now)) self.old result self.new }
+        ensures { Comes (search_calls_of_two self.old pid (text_of word) x.now y.now (table_calls_of_two self.old pid (text_of word) x.now y.now)) self.old result self.new }
     {
-        if name == "match" {
-            self.match_bindings(pid, x, y)
-        } else if name == "match_object" {
-            self.match_object(pid, x, y)
-        } else if name == "match_delete" {
-            self.match_delete(pid, x, y)
-        } else if name == "select" {
-            self.select(pid, x, y)
-        } else if name == "select_count" {
-            self.select_count(pid, x, y)
-        } else if name == "select_delete" {
-            self.select_delete(pid, x, y)
-        } else {
-            self.table_calls_of_two(pid, name, x, y)
+        match word {
+            Word::Match => self.match_bindings(pid, x, y),
+            Word::MatchObject => self.match_object(pid, x, y),
+            Word::MatchDelete => self.match_delete(pid, x, y),
+            Word::Select => self.select(pid, x, y),
+            Word::SelectCount => self.select_count(pid, x, y),
+            Word::SelectDelete => self.select_delete(pid, x, y),
+            _ => self.table_calls_of_two(pid, word, x, y),
         }
     }
 
     fn table_calls_of_two(
         &mut self,
         pid: u32,
-        name: &str,
+        word: Word,
         x: &Term,
         y: &Term,
     ) -> Result<Reply, Refusal>
-        ensures { Comes (table_calls_of_two self.old pid name.now x.now y.now) self.old result self.new }
+        ensures { Comes (table_calls_of_two self.old pid (text_of word) x.now y.now) self.old result self.new }
     {
-        if name == "new" {
-            self.new_call(pid, x, y)
-        } else if name == "next" {
-            self.next(pid, x, y)
-        } else if name == "next_lookup" {
-            self.next_lookup(pid, x, y)
-        } else if name == "safe_fixtable" {
-            self.safe_fixtable(pid, x, y)
-        } else if name == "setopts" {
-            self.set_options(pid, x, y)
-        } else if name == "info" {
-            self.info(x, y)
-        } else {
-            Err(Refusal::Badarg)
+        match word {
+            Word::New => self.new_call(pid, x, y),
+            Word::Next => self.next(pid, x, y),
+            Word::NextLookup => self.next_lookup(pid, x, y),
+            Word::SafeFixtable => self.safe_fixtable(pid, x, y),
+            Word::Setopts => self.set_options(pid, x, y),
+            Word::Info => self.info(x, y),
+            _ => Err(Refusal::Badarg),
         }
     }
 
     fn calls_of_three(
         &mut self,
         pid: u32,
-        name: &str,
+        word: Word,
         x: &Term,
         y: &Term,
         z: &Term,
     ) -> Result<Reply, Refusal>
-        ensures { Comes (calls_of_three self.old pid name.now x.now y.now z.now) self.old result self.new }
+        ensures { Comes (calls_of_three self.old pid (text_of word) x.now y.now z.now) self.old result self.new }
     {
-        if name == "lookup_element" {
-            self.lookup_element(pid, x, y, z)
-        } else if name == "update_counter" {
-            self.update_counter(pid, x, y, z, None)
-        } else if name == "update_element" {
-            self.update_element(pid, x, y, z, None)
-        } else if name == "give_away" {
-            self.give_away(pid, x, y, z)
-        } else {
-            Err(Refusal::Badarg)
+        match word {
+            Word::LookupElement => self.lookup_element(pid, x, y, z),
+            Word::UpdateCounter => self.update_counter(pid, x, y, z, None),
+            Word::UpdateElement => self.update_element(pid, x, y, z, None),
+            Word::GiveAway => self.give_away(pid, x, y, z),
+            _ => Err(Refusal::Badarg),
         }
     }
 
     fn calls_of_four(
         &mut self,
         pid: u32,
-        name: &str,
+        word: Word,
         x: &Term,
         y: &Term,
         z: &Term,
         default: &Term,
     ) -> Result<Reply, Refusal>
-        ensures { Comes (calls_of_four self.old pid name.now x.now y.now z.now default.now) self.old result self.new }
+        ensures { Comes (calls_of_four self.old pid (text_of word) x.now y.now z.now default.now) self.old result self.new }
     {
-        if name == "lookup_element" {
-            self.lookup_element_or(pid, x, y, z, default)
-        } else if name == "update_counter" {
-            self.update_counter(pid, x, y, z, Some(default))
-        } else if name == "update_element" {
-            self.update_element(pid, x, y, z, Some(default))
-        } else {
-            Err(Refusal::Badarg)
+        match word {
+            Word::LookupElement => self.lookup_element_or(pid, x, y, z, default),
+            Word::UpdateCounter => self.update_counter(pid, x, y, z, Some(default)),
+            Word::UpdateElement => self.update_element(pid, x, y, z, Some(default)),
+            _ => Err(Refusal::Badarg),
         }
     }
 }
