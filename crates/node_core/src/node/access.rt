@@ -7,6 +7,7 @@ ghost use Rattle.ownership.specs.World.{table_at};
 ghost use Rattle.node_core.specs.Access.{may, usable};
 
 use super::Node;
+use super::due::lend;
 use bucket_table::{Rows, SplitRows};
 use ets_term::{KeyHash, Term};
 use fixed_walk::Walked;
@@ -60,7 +61,7 @@ impl<H: KeyHash + Copy + Drop> Node<H> {
         if id >= self.world.made() {
             return None;
         }
-        self.due.insert(id);
+        lend(&self.world, &mut self.due, id);
         self.world.table_mut(id)
     }
 
