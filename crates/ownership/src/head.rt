@@ -1,7 +1,10 @@
-ghost use Rattle.std.specs.Prelude.{◌≡◌};
+ghost use Rattle.std.specs.Prelude.{◌≡◌, option_copied};
 ghost use Rattle.ownership.specs.Heads.{owned_by, may_read, may_write};
+ghost use Rattle.ownership.specs.End.{living_heir};
 
+use crate::process::{Process, process_in};
 use ets_term::{Atom, Term};
+use indexmap::IndexMap;
 
 /// Who uses a table besides its owner (stdlib manual, module ets, section Table Access Rights).
 #[derive(Clone, Copy, Debug, PartialEq, Eq)]
@@ -51,5 +54,18 @@ impl Head {
         ensures { result ≡ may_write self.now pid }
     {
         self.owner == pid || self.protection == Protection::Public
+    }
+
+    /// The heir, where it lives.
+    pub(crate) fn living_heir(&self, processes: &IndexMap<u32, Process>) -> Option<&Heir>
+        ensures { option_copied result ≡ living_heir processes.now.entries self.now }
+    {
+        let Some(heir) = &self.heir else {
+            return None;
+        };
+        match process_in(processes, heir.pid) {
+            Some(process) if process.lives => Some(heir),
+            _ => None,
+        }
     }
 }

@@ -1,11 +1,14 @@
-ghost use Rattle.std.specs.Prelude.{◌≡◌};
+ghost use Rattle.std.specs.Prelude.{◌≡◌, option_copied};
 ghost use Rattle.std.specs.Borrow.{sem};
 ghost use Rattle.ownership.specs.Tables.{passed_to, with_heir};
-ghost use Rattle.ownership.specs.End.{let_go};
+ghost use Rattle.ownership.specs.World.{table_at};
+ghost use Rattle.ownership.specs.End.{let_go, receiver_of};
 
 use crate::head::{Head, Heir};
+use crate::process::Process;
 use bucket_table::Rows;
 use fixed_walk::Walked;
+use indexmap::IndexMap;
 use std::marker::Model;
 
 /// A table with what stands over it.
@@ -74,4 +77,21 @@ impl<R: Rows> Table<R> {
     {
         self.walked.release_all(pid);
     }
+
+    /// The heir that gets the table when this process ends: that of a table of its own, where it lives.
+    pub fn receiver(&self, processes: &IndexMap<u32, Process>, pid: u32) -> Option<&Heir>
+        ensures { option_copied result ≡ receiver_of processes.now.entries pid self.now }
+    {
+        if !self.head.is_owned_by(pid) {
+            return None;
+        }
+        self.head.living_heir(processes)
+    }
+}
+
+/// The table with this identifier.
+pub fn table_in<R: Rows>(places: &[Option<Table<R>>], id: u32) -> Option<&Table<R>>
+    ensures { option_copied result ≡ table_at places.now id }
+{
+    places.get(id as usize)?.as_ref()
 }

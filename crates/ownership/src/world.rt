@@ -2,7 +2,7 @@ ghost use Rattle.std.specs.Prelude.{◌≡◌};
 ghost use Rattle.ownership.specs.World.{empty};
 
 mod access;
-pub(crate) mod end;
+mod end;
 mod enrol;
 mod heirs;
 mod info;

@@ -4,7 +4,7 @@ ghost use Rattle.ownership.specs.inside.Indices.{IsKept, ids_under, is_fixed_at}
 
 use super::Indices;
 use super::identifiers::put_in;
-use crate::table::Table;
+use crate::table::{Table, table_in};
 use bucket_table::Rows;
 use std::alloc::AllocError;
 
@@ -45,7 +45,7 @@ impl Indices {
             return;
         };
         self.lent = None;
-        let Some(Some(table)) = places.get(last as usize) else {
+        let Some(table) = table_in(places, last) else {
             return;
         };
         let walked = table.walked();
@@ -68,8 +68,8 @@ impl Indices {
 fn is_fixed_at<R: Rows>(places: &[Option<Table<R>>], id: u32) -> bool
     ensures { result ≡ is_fixed_at places.now id }
 {
-    match places.get(id as usize) {
-        Some(Some(table)) => table.walked().is_fixed(),
-        _ => false,
+    match table_in(places, id) {
+        Some(table) => table.walked().is_fixed(),
+        None => false,
     }
 }

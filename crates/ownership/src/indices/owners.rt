@@ -9,8 +9,7 @@ ghost use Rattle.ownership.specs.inside.Indices.{Among, Notes, Forgets, AreInher
 use super::Indices;
 use super::identifiers::put_in;
 use crate::process::Process;
-use crate::table::Table;
-use crate::world::end::living_heir;
+use crate::table::{Table, table_in};
 use bucket_table::Rows;
 use indexmap::IndexMap;
 use std::alloc::{AllocError, Global};
@@ -76,10 +75,10 @@ impl Indices {
         ensures stays { Notes self.old self.new }
         ensures ok { OnOk result ((table : model.Table) (heir : heir.Heir) → table_at places.now id ≡ Some table → living_heir processes.now.entries table.head ≡ Some heir → Among id (ids_under self.new heir.pid)) }
     {
-        let Some(Some(table)) = places.get(id as usize) else {
+        let Some(table) = table_in(places, id) else {
             return Ok(());
         };
-        let Some(heir) = living_heir(processes, table.head()) else {
+        let Some(heir) = table.head().living_heir(processes) else {
             return Ok(());
         };
         self.note_owner(alloc, heir.pid, id)

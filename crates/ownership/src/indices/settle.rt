@@ -7,7 +7,6 @@ ghost use Rattle.ownership.specs.inside.Indices.{IsKept, AreOwned, AreBequeathed
 use super::Indices;
 use crate::process::Process;
 use crate::table::Table;
-use crate::world::end::living_heir;
 use bucket_table::Rows;
 use indexmap::IndexMap;
 use std::mem;
@@ -31,19 +30,19 @@ impl Indices {
     {
         self.take_back_lent(places.as_slice());
         for id in own {
-            self.settle_one(places, processes, pid, *id);
+            self.settle_table(places, processes, pid, *id);
         }
         let fixed = self.fixed.len();
         for i in 0..fixed {
             let id = self.fixed[i];
-            self.settle_one(places, processes, pid, id);
+            self.settle_table(places, processes, pid, id);
         }
         self.keep_fixed(places.as_slice());
         self.forget_owner(pid);
     }
 
     /// The same of one of the tables.
-    fn settle_one<R: Rows>(
+    fn settle_table<R: Rows>(
         &mut self,
         places: &mut Vec<Option<Table<R>>>,
         processes: &IndexMap<u32, Process>,
@@ -61,11 +60,11 @@ impl Indices {
             return;
         }
         let table = mem::replace(&mut places[place], None);
-        places[place] = self.after(processes, pid, table);
+        places[place] = self.table_after(processes, pid, table);
     }
 
     /// What it makes of one table: nobody's fixes of the process are left, and one of its own goes to its heir or is gone.
-    fn after<R: Rows>(
+    fn table_after<R: Rows>(
         &mut self,
         processes: &IndexMap<u32, Process>,
         pid: u32,
@@ -80,7 +79,7 @@ impl Indices {
         if !table.head().is_owned_by(pid) {
             return Some(table);
         }
-        let heir = living_heir(processes, table.head()).map(|heir| heir.pid);
+        let heir = table.head().living_heir(processes).map(|heir| heir.pid);
         if let Some(heir) = heir {
             table.pass_to(heir);
             return Some(table);

@@ -1,17 +1,16 @@
-ghost use Rattle.std.specs.Prelude.{◌≡◌, ◌==◌, Some, is_some, true, OnOk, OnErr, option_copied};
+ghost use Rattle.std.specs.Prelude.{◌≡◌, ◌==◌, Some, is_some, true, OnOk, OnErr};
 ghost use Rattle.std.specs.Map.{set_value};
 ghost use Rattle.ownership.specs.World as model;
 ghost use Rattle.ownership.specs.World.{process_at, lives, table_at};
-ghost use Rattle.ownership.specs.End.{End, ended, handed_over, living_heir, receiver_of, message_of};
+ghost use Rattle.ownership.specs.End.{End, ended, handed_over, message_of};
 ghost use Rattle.ownership.specs.Outcomes.{Comes};
 ghost use Rattle.ownership.specs.inside.Ending.{posted, posted_of};
 
 use super::World;
 use crate::fault::WorldFault;
-use crate::head::{Head, Heir};
 use crate::messages::{post, take_back, transfer};
-use crate::process::{Process, process_in};
-use crate::table::Table;
+use crate::process::Process;
+use crate::table::{Table, table_in};
 use bucket_table::Rows;
 use ets_term::Items;
 use indexmap::IndexMap;
@@ -27,14 +26,12 @@ impl<R: Rows> World<R> {
         if !self.lives(pid) {
             return Err(WorldFault::NoProcess);
         }
-        match self.bury(pid) {
-            Ok(()) => Ok(()),
-            Err(_) => Err(WorldFault::Memory),
-        }
+        self.end_living(pid)?;
+        Ok(())
     }
 
     /// The same of a process that lives.
-    fn bury(&mut self, pid: u32) -> Result<(), AllocError>
+    fn end_living(&mut self, pid: u32) -> Result<(), AllocError>
         requires { lives self.old.processes pid ≡ true }
         ensures ok { OnOk result (self.new ≡ handed_over self.old (ended self.old.processes pid) pid) }
         ensures err { OnErr result (self.new ≡ self.old) }
@@ -46,7 +43,7 @@ impl<R: Rows> World<R> {
             self.places.as_slice(),
             own.as_slice(),
         )?;
-        hand_over(
+        end_and_post(
             self.alloc,
             &mut self.processes,
             self.places.as_slice(),
@@ -60,7 +57,7 @@ impl<R: Rows> World<R> {
 }
 
 /// The process lives no more, and its heirs have their messages; or nothing has changed.
-fn hand_over<R: Rows>(
+fn end_and_post<R: Rows>(
     alloc: Global,
     processes: &mut IndexMap<u32, Process>,
     places: &[Option<Table<R>>],
@@ -75,9 +72,9 @@ fn hand_over<R: Rows>(
         lives: false,
         mailbox: Items::new(alloc),
     };
-    let process = exchange(processes, pid, none);
-    if let Err(error) = post_all(alloc, processes, places, ids, pid) {
-        let _ = exchange(processes, pid, process);
+    let process = replace_process(processes, pid, none);
+    if let Err(error) = post_transfers(alloc, processes, places, ids, pid) {
+        let _ = replace_process(processes, pid, process);
         return Err(error);
     }
     drop(process);
@@ -85,7 +82,7 @@ fn hand_over<R: Rows>(
 }
 
 /// Puts another process in the place of one.
-fn exchange(processes: &mut IndexMap<u32, Process>, pid: u32, process: Process) -> Process
+fn replace_process(processes: &mut IndexMap<u32, Process>, pid: u32, process: Process) -> Process
     requires { is_some (process_at processes.old.entries pid) ≡ true }
     ensures old { process_at processes.old.entries pid ≡ Some result }
     ensures new { processes.new.entries ≡ set_value (λ q. pid == q) processes.old.entries process }
@@ -97,7 +94,7 @@ fn exchange(processes: &mut IndexMap<u32, Process>, pid: u32, process: Process) 
 }
 
 /// The messages of these tables are posted, all or none.
-fn post_all<R: Rows>(
+fn post_transfers<R: Rows>(
     alloc: Global,
     processes: &mut IndexMap<u32, Process>,
     places: &[Option<Table<R>>],
@@ -108,8 +105,8 @@ fn post_all<R: Rows>(
     ensures err { OnErr result (processes.new.entries ≡ processes.old.entries) }
 {
     for i in 0..ids.len() {
-        if let Err(error) = post_of(alloc, processes, places, pid, ids[i]) {
-            take_all_back(processes, places, &ids[..i], pid);
+        if let Err(error) = post_transfer(alloc, processes, places, pid, ids[i]) {
+            take_back_transfers(processes, places, &ids[..i], pid);
             return Err(error);
         }
     }
@@ -117,7 +114,7 @@ fn post_all<R: Rows>(
 }
 
 /// The message of one table is posted, if it brings one.
-fn post_of<R: Rows>(
+fn post_transfer<R: Rows>(
     alloc: Global,
     processes: &mut IndexMap<u32, Process>,
     places: &[Option<Table<R>>],
@@ -127,10 +124,10 @@ fn post_of<R: Rows>(
     ensures ok { OnOk result (processes.new.entries ≡ posted_of processes.old.entries (message_of processes.old.entries pid id (table_at places.now id))) }
     ensures err { OnErr result (processes.new.entries ≡ processes.old.entries) }
 {
-    let Some(Some(table)) = places.get(id as usize) else {
+    let Some(table) = table_in(places, id) else {
         return Ok(());
     };
-    let Some(heir) = receiver_of(processes, table, pid) else {
+    let Some(heir) = table.receiver(processes, pid) else {
         return Ok(());
     };
     let message = transfer(alloc, table.head(), id, pid, &heir.gift)?;
@@ -138,7 +135,7 @@ fn post_of<R: Rows>(
 }
 
 /// The messages of these tables are taken back.
-fn take_all_back<R: Rows>(
+fn take_back_transfers<R: Rows>(
     processes: &mut IndexMap<u32, Process>,
     places: &[Option<Table<R>>],
     ids: &[u32],
@@ -148,12 +145,12 @@ fn take_all_back<R: Rows>(
 {
     let len = ids.len();
     for i in 0..len {
-        take_back_of(processes, places, pid, ids[len - 1 - i]);
+        take_back_transfer(processes, places, pid, ids[len - 1 - i]);
     }
 }
 
 /// The message of one table, which was posted last, is taken back.
-fn take_back_of<R: Rows>(
+fn take_back_transfer<R: Rows>(
     processes: &mut IndexMap<u32, Process>,
     places: &[Option<Table<R>>],
     pid: u32,
@@ -161,38 +158,11 @@ fn take_back_of<R: Rows>(
 )
     ensures { (before : model.Processes) → processes.old.entries ≡ posted_of before (message_of before pid id (table_at places.now id)) → processes.new.entries ≡ before }
 {
-    let Some(Some(table)) = places.get(id as usize) else {
+    let Some(table) = table_in(places, id) else {
         return;
     };
-    let Some(heir) = receiver_of(processes, table, pid) else {
+    let Some(heir) = table.receiver(processes, pid) else {
         return;
     };
     take_back(processes, heir.pid);
-}
-
-/// The heir that gets a table of the process.
-fn receiver_of<'a, R: Rows>(
-    processes: &IndexMap<u32, Process>,
-    table: &'a Table<R>,
-    pid: u32,
-) -> Option<&'a Heir>
-    ensures { option_copied result ≡ receiver_of processes.now.entries pid table.now }
-{
-    if !table.head().is_owned_by(pid) {
-        return None;
-    }
-    living_heir(processes, table.head())
-}
-
-/// The heir of a table, where it lives.
-pub fn living_heir<'a>(processes: &IndexMap<u32, Process>, head: &'a Head) -> Option<&'a Heir>
-    ensures { option_copied result ≡ living_heir processes.now.entries head.now }
-{
-    let Some(heir) = &head.heir else {
-        return None;
-    };
-    match process_in(processes, heir.pid) {
-        Some(process) if process.lives => Some(heir),
-        _ => None,
-    }
 }

@@ -28,7 +28,7 @@ impl<R: Rows> World<R> {
             return Err(WorldFault::Badarg);
         }
         let message = transfer(self.alloc, head, id, pid, gift)?;
-        self.pass(id, to, message)?;
+        self.pass_with_message(id, to, message)?;
         Ok(())
     }
 
@@ -53,7 +53,7 @@ impl<R: Rows> World<R> {
     }
 
     /// The table has another owner, which gets the message with it.
-    fn pass(&mut self, id: u32, owner: u32, message: Term) -> Result<(), AllocError>
+    fn pass_with_message(&mut self, id: u32, owner: u32, message: Term) -> Result<(), AllocError>
         ensures ok { OnOk result (self.new ≡ record self.old { processes = post self.old.processes owner message; tables = changed (passed_to owner) self.old.tables id }) }
         ensures err { OnErr result (self.new ≡ self.old) }
     {

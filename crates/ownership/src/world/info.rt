@@ -4,7 +4,7 @@ ghost use Rattle.ownership.specs.Info.{info_of};
 
 use super::World;
 use crate::info::{InfoItem, heir_term, kind_term, protection_term, size_term, truth};
-use crate::table::Table;
+use crate::table::{Table, table_in};
 use bucket_table::Rows;
 use ets_term::{Integer, Term};
 use std::alloc::{AllocError, Global};
@@ -15,9 +15,9 @@ impl<R: Rows> World<R> {
     pub fn info(&self, id: u32, item: InfoItem) -> Result<Option<Term>, AllocError>
         ensures { IfOk result (λ told. told ≡ option_map (info_of item id) (table_at self.now.tables id)) }
     {
-        match self.places.get(id as usize) {
-            Some(Some(table)) => Ok(Some(told(self.alloc, table, id, item)?)),
-            _ => Ok(None),
+        match table_in(self.places.as_slice(), id) {
+            Some(table) => Ok(Some(told(self.alloc, table, id, item)?)),
+            None => Ok(None),
         }
     }
 }

@@ -11,7 +11,7 @@ use crate::fault::WorldFault;
 use crate::head::Head;
 use crate::messages::name_or_identifier;
 use crate::options::NewOptions;
-use crate::table::Table;
+use crate::table::{Table, table_in};
 use bucket_table::Rows;
 use ets_term::{Atom, Term};
 use fixed_walk::Walked;
@@ -32,10 +32,7 @@ impl<R: Rows> World<R> {
     pub fn head(&self, id: u32) -> Option<&Head>
         ensures { option_copied result ≡ head_of (table_at self.now.tables id) }
     {
-        match self.places.get(id as usize) {
-            Some(Some(table)) => Some(table.head()),
-            _ => None,
-        }
+        Some(table_in(self.places.as_slice(), id)?.head())
     }
 
     /// The identifier of the table with this name (stdlib manual, ets:whereis/1).
@@ -63,10 +60,7 @@ impl<R: Rows> World<R> {
     pub fn table(&self, id: u32) -> Option<&Walked<R>>
         ensures { option_copied result ≡ option_map (λ table. table.fixed) (table_at self.now.tables id) }
     {
-        match self.places.get(id as usize) {
-            Some(Some(table)) => Some(table.walked()),
-            _ => None,
-        }
+        Some(table_in(self.places.as_slice(), id)?.walked())
     }
 
     /// The table with this identifier, for a change of it alone.
@@ -102,10 +96,7 @@ impl<R: Rows> World<R> {
             drop(table);
             return Err(WorldFault::SystemLimit);
         }
-        match self.own(pid, name, options, table) {
-            Ok(answer) => Ok(answer),
-            Err(_) => Err(WorldFault::Memory),
-        }
+        Ok(self.own(pid, name, options, table)?)
     }
 
     /// Whether the table is to be a named one, and another has its name.

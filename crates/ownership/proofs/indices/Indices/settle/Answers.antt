@@ -16,10 +16,10 @@ loop-id-preserved g c =
     let i = c.loop-id.id-index in
     let start = c.args.places.now.items in
     let now = c.loop-id.places.items in
-    let new = c.settle_one.new.places.items in
+    let new = c.settle_table.new.places.items in
     let within : i < length own = omega (arith, c.loop-id-test.true) in
-    subst (λ (ids : List ℕ). Settled c.settle_one.new.self ps p ids start new) (sym (take_more own i 0 within))
-    (settled-more ps p c.requires.dead c.loop-id.self (take i own) (get_or own i 0) start now new c.loop-id.invariant c.settle_one.new.self c.settle_one.ensures.rest c.settle_one.ensures.kept c.settle_one.ensures.after)
+    subst (λ (ids : List ℕ). Settled c.settle_table.new.self ps p ids start new) (sym (take_more own i 0 within))
+    (settled-more ps p c.requires.dead c.loop-id.self (take i own) (get_or own i 0) start now new c.loop-id.invariant c.settle_table.new.self c.settle_table.ensures.rest c.settle_table.ensures.kept c.settle_table.ensures.after)
 
 pub loop-i-preserved : goal.loop-i-preserved
 loop-i-preserved g c =
@@ -29,17 +29,17 @@ loop-i-preserved g c =
     let i = c.loop-i.i in
     let start = c.args.places.now.items in
     let now = c.loop-i.places.items in
-    let new = c.settle_one-in-loop-i.new.places.items in
+    let new = c.settle_table-in-loop-i.new.places.items in
     let fixed = c.loop-i.self.fixed.items in
-    let same : c.settle_one-in-loop-i.new.self.fixed ≡ c.loop-i.self.fixed = ap (λ (n : Indices). n.fixed) c.settle_one-in-loop-i.ensures.rest in
+    let same : c.settle_table-in-loop-i.new.self.fixed ≡ c.loop-i.self.fixed = ap (λ (n : Indices). n.fixed) c.settle_table-in-loop-i.ensures.rest in
     let within : i < length fixed = omega (arith, c.loop-i-test.true, c.loop-i.invariant.count) in
     let id = c.index-id.result.now in
     let read : id ≡ get_or fixed i 0 = get_or_read fixed i id within c.index-id.ensures 0 in
     let more : (own ++ take i fixed) ++ id ∷ [] ≡ own ++ take (i + 1) fixed = ap (λ (k : ℕ). (own ++ take i fixed) ++ k ∷ []) read ∙ append_assoc own (take i fixed) (get_or fixed i 0 ∷ []) ∙ ap (λ (ids : List ℕ). own ++ ids) (sym (take_more fixed i 0 within)) in
-    let settled = settled-more ps p c.requires.dead c.loop-i.self (own ++ take i fixed) id start now new c.loop-i.invariant.settled c.settle_one-in-loop-i.new.self c.settle_one-in-loop-i.ensures.rest c.settle_one-in-loop-i.ensures.kept c.settle_one-in-loop-i.ensures.after in
+    let settled = settled-more ps p c.requires.dead c.loop-i.self (own ++ take i fixed) id start now new c.loop-i.invariant.settled c.settle_table-in-loop-i.new.self c.settle_table-in-loop-i.ensures.rest c.settle_table-in-loop-i.ensures.kept c.settle_table-in-loop-i.ensures.after in
     record {
       count = ap (λ (v : Vec ℕ Global). length v.items) same ∙ c.loop-i.invariant.count;
-      settled = subst (λ (v : Vec ℕ Global). Settled c.settle_one-in-loop-i.new.self ps p (own ++ take (i + 1) v.items) start new) (sym same) (subst (λ (ids : List ℕ). Settled c.settle_one-in-loop-i.new.self ps p ids start new) more settled);
+      settled = subst (λ (v : Vec ℕ Global). Settled c.settle_table-in-loop-i.new.self ps p (own ++ take (i + 1) v.items) start new) (sym same) (subst (λ (ids : List ℕ). Settled c.settle_table-in-loop-i.new.self ps p ids start new) more settled);
     }
 
 pub loop-i-init : goal.loop-i-init

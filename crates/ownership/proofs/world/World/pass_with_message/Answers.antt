@@ -2,7 +2,7 @@ use Rattle.std.proofs.Common.{sym, subst}
 use Rattle.ownership.specs.World.{Tables}
 use Rattle.ownership.specs.inside.Indices.{IsKept}
 use Rattle.ownership.proofs.Keeping.{kept-notes, kept-passed}
-use Rattle.ownership.proofs.world.World.pass.Goals as goal
+use Rattle.ownership.proofs.world.World.pass_with_message.Goals as goal
 
 pub invariant_of-self : goal.invariant_of-self
 invariant_of-self g c = kept-notes c.self.inside.indices c.self.inside.places.items c.self.invariant c.note_owner.new.self c.note_owner.ensures.stays

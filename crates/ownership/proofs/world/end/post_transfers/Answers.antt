@@ -4,7 +4,7 @@ use Rattle.ownership.specs.End.{message_of}
 use Rattle.ownership.specs.World.{Processes, table_at}
 use Rattle.ownership.specs.inside.Ending.{posted, posted_of}
 use Rattle.ownership.proofs.Ending.{posted-more}
-use Rattle.ownership.proofs.world.end.post_all.Goals as goal
+use Rattle.ownership.proofs.world.end.post_transfers.Goals as goal
 
 pub loop-i-preserved : goal.loop-i-preserved
 loop-i-preserved g c =

@@ -2,7 +2,7 @@ use Rattle.std.proofs.Common.{rules, ◌≡◌, Some, sym, ap, ◌∙◌}
 use Rattle.ownership.specs.World.{Table, head_of, table_at}
 use Rattle.ownership.specs.End.{table_after}
 use Rattle.ownership.proofs.Keeping.{kept-left}
-use Rattle.ownership.proofs.indices.Indices.after.Goals as goal
+use Rattle.ownership.proofs.indices.Indices.table_after.Goals as goal
 
 pub returns-then-not-is_owned_by-clause-kept : goal.returns-then-not-is_owned_by-clause-kept
 returns-then-not-is_owned_by-clause-kept g c = λ tables t at heirs kept.

@@ -4,7 +4,7 @@ use Rattle.ownership.specs.World.{Tables, table_at}
 use Rattle.ownership.specs.End.{table_after}
 use Rattle.ownership.specs.inside.Indices.{IsKept}
 use Rattle.ownership.proofs.Settling.{written-again}
-use Rattle.ownership.proofs.indices.Indices.settle_one.Goals as goal
+use Rattle.ownership.proofs.indices.Indices.settle_table.Goals as goal
 
 pub returns-clause-after : goal.returns-clause-after
 returns-clause-after g c =
@@ -13,7 +13,7 @@ returns-clause-after g c =
     let within : t < length now = omega (arith, c.args.places.now.ok.0) in
     let read : c.replace-table.result ≡ get_or now t c.replace-table.result = subst (λ x. x ≡ get_or now t x) (sym c.replace-table.ensures.value) c.index_mut.ensures.value in
     let at : c.replace-table.result ≡ table_at now t = get_or_read now t c.replace-table.result within read None in
-    written-again now t c.replace-table.new.dest c.after.result ∙ ap (set now t) (c.after.ensures.after ∙ ap (table_after c.args.processes.now.entries c.args.pid) at)
+    written-again now t c.replace-table.new.dest c.table_after.result ∙ ap (set now t) (c.table_after.ensures.after ∙ ap (table_after c.args.processes.now.entries c.args.pid) at)
 
 pub returns-clause-kept : goal.returns-clause-kept
 returns-clause-kept g c =
@@ -22,4 +22,4 @@ returns-clause-kept g c =
     let within : t < length now = omega (arith, c.args.places.now.ok.0) in
     let read : c.replace-table.result ≡ get_or now t c.replace-table.result = subst (λ x. x ≡ get_or now t x) (sym c.replace-table.ensures.value) c.index_mut.ensures.value in
     let at : table_at now t ≡ c.replace-table.result = sym (get_or_read now t c.replace-table.result within read None) in
-    subst (λ (ts : Tables). IsKept c.after.new.self ts) (sym (written-again now t c.replace-table.new.dest c.after.result)) (c.after.ensures.kept now t at c.requires.heirs c.requires.kept)
+    subst (λ (ts : Tables). IsKept c.table_after.new.self ts) (sym (written-again now t c.replace-table.new.dest c.table_after.result)) (c.table_after.ensures.kept now t at c.requires.heirs c.requires.kept)
