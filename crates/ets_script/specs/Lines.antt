@@ -1,7 +1,10 @@
 -- How the bytes of a script are cut into lines.
 use Rattle.std.specs.Prelude.{◌≡◌, ◌≢◌, ℕ, ◌≤◌, ◌<◌, ◌⊎◌, List, [], ◌∷◌, ◌++◌, length, All}
 use Rattle.std.specs.Io.BufRead.{strip_last}
-use Rattle.ets_script.specs.declared.lines.TheConstants.{MAX_LINE}
+
+-- the most bytes that a line has before its LF
+abbrev pub max_line : ℕ
+max_line = 65536
 
 -- no byte is an LF
 abbrev pub IsOneLine : List ℕ → Type 0
@@ -17,12 +20,12 @@ pub data Line : Type 0 where
 abbrev pub Ends : List ℕ → List ℕ → Type 0 → Type 0
 Ends before bytes last = (bytes ≡ before ++ 10 ∷ []) ⊎ ((bytes ≡ before) × (0 < length before) × last)
 
--- These bytes are one line, `last` where nothing follows them. Past MAX_LINE bytes before the LF it is too long, a CR
+-- These bytes are one line, `last` where nothing follows them. Past max_line bytes before the LF it is too long, a CR
 -- counted. One CR before the LF is no part of the text; where no LF follows it, it is.
 abbrev pub IsLine : List ℕ → Line → Type 0 → Type 0
-IsLine bytes (text t) last = (before : List ℕ) × IsOneLine before × (length before ≤ MAX_LINE)
+IsLine bytes (text t) last = (before : List ℕ) × IsOneLine before × (length before ≤ max_line)
     × (((bytes ≡ before ++ 10 ∷ []) × (t ≡ strip_last 13 before)) ⊎ ((bytes ≡ before) × (0 < length before) × last × (t ≡ before)))
-IsLine bytes too_long last = (before : List ℕ) × IsOneLine before × (MAX_LINE < length before) × Ends before bytes last
+IsLine bytes too_long last = (before : List ℕ) × IsOneLine before × (max_line < length before) × Ends before bytes last
 
 -- these bytes are these lines, of which the last may lack its LF
 abbrev pub IsCutInto : List ℕ → List Line → Type 0
