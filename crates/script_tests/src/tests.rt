@@ -6,6 +6,7 @@ mod faults;
 mod limits;
 mod long;
 mod program;
+mod reads;
 mod rows;
 mod syntax;
 mod threads;
@@ -77,19 +78,8 @@ fn is_run_by<H: KeyHash + Copy + Drop>(
     end: End,
 ) -> bool {
     let seen = Seen::new();
-    let mut source = Source {
-        left: script,
-        most: run.devices.most_read,
-        good: run.devices.good_reads,
-        seen: &seen,
-    };
-    let mut target = Target {
-        taken: Vec::new(alloc),
-        most: run.devices.most_written,
-        good: run.devices.good_writes,
-        fails_to_flush: run.devices.fails_to_flush,
-        seen: &seen,
-    };
+    let mut source = Source::new(&run.devices, script, &seen);
+    let mut target = Target::new(alloc, &run.devices, &seen);
     let done = run_within(alloc, &mut source, &mut target, run.limits, hash, run.reads);
     target.taken.as_slice() == answers
         && end_of(done) == end

@@ -9,10 +9,12 @@ pub struct Devices {
     /// The most bytes that one read gives, and one write takes.
     pub most_read: usize,
     pub most_written: usize,
-    /// How many reads and writes there are before one fails.
+    /// How many reads, writes and flushes there are before one fails.
     pub good_reads: u32,
     pub good_writes: u32,
-    pub fails_to_flush: bool,
+    pub good_flushes: u32,
+    /// What a call that fails says.
+    pub fault: ErrorKind,
 }
 
 /// Devices that give and take all, and never fail.
@@ -21,7 +23,8 @@ pub const GOOD: Devices = Devices {
     most_written: usize::MAX,
     good_reads: u32::MAX,
     good_writes: u32::MAX,
-    fails_to_flush: false,
+    good_flushes: u32::MAX,
+    fault: ErrorKind::Other,
 };
 
 /// What a reader and a writer have seen of each other.
@@ -59,9 +62,19 @@ impl Seen {
 #[derive(Drop)]
 pub struct Source<'a> {
     pub left: &'a [u8],
-    pub most: usize,
-    pub good: u32,
+    pub devices: Devices,
     pub seen: &'a Seen,
+}
+
+impl<'a> Source<'a> {
+    /// The reader of these devices.
+    pub fn new(devices: &Devices, script: &'a [u8], seen: &'a Seen) -> Source<'a> {
+        Source {
+            left: script,
+            devices: *devices,
+            seen,
+        }
+    }
 }
 
 impl Read for Source<'_> {
@@ -70,12 +83,12 @@ impl Read for Source<'_> {
         if seen.flushed.get() != seen.written.get() {
             seen.has_waited.set(true);
         }
-        if self.good == 0 {
+        if self.devices.good_reads == 0 {
             seen.flushed_at_fault.set(Some(seen.flushed.get()));
-            return Err(Error::from(ErrorKind::Other));
+            return Err(Error::from(self.devices.fault));
         }
-        self.good -= 1;
-        let count = self.left.len().min(buf.len()).min(self.most);
+        self.devices.good_reads -= 1;
+        let count = self.left.len().min(buf.len()).min(self.devices.most_read);
         buf[..count].copy_from_slice(&self.left[..count]);
         self.left = &self.left[count..];
         Ok(count)
@@ -86,19 +99,28 @@ impl Read for Source<'_> {
 #[derive(Drop)]
 pub struct Target<'a> {
     pub taken: Vec<u8>,
-    pub most: usize,
-    pub good: u32,
-    pub fails_to_flush: bool,
+    pub devices: Devices,
     pub seen: &'a Seen,
+}
+
+impl<'a> Target<'a> {
+    /// The writer of these devices.
+    pub fn new(alloc: Global, devices: &Devices, seen: &'a Seen) -> Target<'a> {
+        Target {
+            taken: Vec::new(alloc),
+            devices: *devices,
+            seen,
+        }
+    }
 }
 
 impl Write for Target<'_> {
     fn write(&mut self, buf: &[u8]) -> io::Result<usize> {
-        if self.good == 0 {
-            return Err(Error::from(ErrorKind::Other));
+        if self.devices.good_writes == 0 {
+            return Err(Error::from(self.devices.fault));
         }
-        self.good -= 1;
-        let count = buf.len().min(self.most);
+        self.devices.good_writes -= 1;
+        let count = buf.len().min(self.devices.most_written);
         match self.taken.extend_from_slice(&buf[..count]) {
             Ok(()) => {
                 self.seen.written.set(self.taken.len());
@@ -109,9 +131,10 @@ impl Write for Target<'_> {
     }
 
     fn flush(&mut self) -> io::Result<()> {
-        if self.fails_to_flush {
-            return Err(Error::from(ErrorKind::Other));
+        if self.devices.good_flushes == 0 {
+            return Err(Error::from(self.devices.fault));
         }
+        self.devices.good_flushes -= 1;
         self.seen.flushed.set(self.taken.len());
         Ok(())
     }

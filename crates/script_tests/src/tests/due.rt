@@ -28,19 +28,8 @@ fn kind(step: Option<Step>) -> Due {
 
 fn due_after(alloc: Global, script: &[u8]) -> Due {
     let seen = Seen::new();
-    let mut source = Source {
-        left: script,
-        most: GOOD.most_read,
-        good: GOOD.good_reads,
-        seen: &seen,
-    };
-    let mut target = Target {
-        taken: Vec::new(alloc),
-        most: GOOD.most_written,
-        good: GOOD.good_writes,
-        fails_to_flush: GOOD.fails_to_flush,
-        seen: &seen,
-    };
+    let mut source = Source::new(&GOOD, script, &seen);
+    let mut target = Target::new(alloc, &GOOD, &seen);
     match run_script(alloc, &mut source, &mut target, Limits::usual(), Fnv) {
         Ok(node) => kind(node.due()),
         Err(_) => Due::Fault,

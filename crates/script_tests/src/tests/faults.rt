@@ -3,6 +3,7 @@ use super::devices::{Devices, GOOD};
 use super::{End, Run, is_run, is_run_by, usual};
 use ets_term::Fnv;
 use std::alloc::{AllocError, Global};
+use std::io::ErrorKind;
 use std::test::Fail;
 
 const SCRIPT: &[u8] = b"spawn p\nspawn q\nspawn r\nspawn s\n";
@@ -93,7 +94,7 @@ fn stuck_writers(rt: HostRuntime) {
     });
     assert!(rt; is_run(rt.alloc(), &stuck, SCRIPT, b"", End::Write));
     let unflushed = by(Devices {
-        fails_to_flush: true,
+        good_flushes: 0,
         ..GOOD
     });
     assert!(rt; is_run(rt.alloc(), &unflushed, SCRIPT, b"", End::Write));
@@ -120,54 +121,106 @@ fn the_last_read_must_find_the_end(rt: HostRuntime) {
 }
 
 /// So many lines of eight bytes, whose answers have ten.
-const LINES: u32 = 120;
+const LINES: u32 = 300;
 
-fn repeated(alloc: Global, line: &[u8]) -> Result<Vec<u8>, AllocError> {
+fn repeated(alloc: Global, line: &[u8], count: u32) -> Result<Vec<u8>, AllocError> {
     let mut text = Vec::new(alloc);
-    for _ in 0..LINES {
+    for _ in 0..count {
         text.extend_from_slice(line)?;
     }
     Ok(text)
 }
 
-/// Devices that give a line a read, and of which a read or a write fails behind so many, as the end says.
-fn failing(end: End, lines: u32) -> Devices {
+/// What fails of devices.
+#[derive(Clone, Copy)]
+enum Call {
+    Read,
+    Write,
+    Flush,
+}
+
+/// Devices that give a line a read, and of which a call fails with this fault behind so many.
+fn failing(call: Call, good: u32, fault: ErrorKind) -> Devices {
     let slow = Devices {
         most_read: 8,
+        fault,
         ..GOOD
     };
-    match end {
-        End::Write => Devices {
-            good_writes: lines,
+    match call {
+        Call::Read => Devices {
+            good_reads: good,
             ..slow
         },
-        _ => Devices {
-            good_reads: lines,
+        Call::Write => Devices {
+            good_writes: good,
+            ..slow
+        },
+        Call::Flush => Devices {
+            good_flushes: good,
             ..slow
         },
     }
 }
 
-/// The first number of lines behind which the device fails, and the answers to them are not what went out.
-fn wrong_front(alloc: Global, script: &[u8], answers: &[u8], end: End) -> Option<u32> {
-    for lines in 0..LINES {
-        let front = &answers[..answers.len().min(10 * lines as usize)];
-        let run = by(failing(end, lines));
-        if !is_run_by(alloc, &run, Fnv, script, front, end) {
-            return Some(lines);
+/// How a script ends where a call fails.
+fn end_of_call(call: Call) -> End {
+    match call {
+        Call::Read => End::Read,
+        Call::Write | Call::Flush => End::Write,
+    }
+}
+
+/// Of so many calls the first that fails in turn, and the answers to the lines before are not what went out.
+fn wrong_front(
+    alloc: Global,
+    (call, calls): (Call, u32),
+    fault: ErrorKind,
+    script: &[u8],
+    answers: &[u8],
+) -> Option<u32> {
+    for good in 0..calls {
+        let front = &answers[..answers.len().min(10 * good as usize)];
+        let run = by(failing(call, good, fault));
+        if !is_run_by(alloc, &run, Fnv, script, front, end_of_call(call)) {
+            return Some(good);
         }
     }
     None
 }
 
-/// Each read of a long script fails in turn, and each write.
+/// Each read of a long script fails in turn, each write and each flush, with an error or as a call that was interrupted: a read
+/// more than lines finds the end, and a flush more sees to the answers behind it.
 #[test]
 fn each_call_of_a_device_fails(rt: HostRuntime) -> Result<(), Fail> {
     let alloc = rt.alloc();
-    let script = repeated(alloc, b"p a(10)\n")?;
-    let answers = repeated(alloc, b"** noproc\n")?;
+    let script = repeated(alloc, b"p a(10)\n", LINES)?;
+    let answers = repeated(alloc, b"** noproc\n", LINES)?;
     let (script, answers) = (script.as_slice(), answers.as_slice());
-    assert_eq!(rt; wrong_front(alloc, script, answers, End::Read), None);
-    assert_eq!(rt; wrong_front(alloc, script, answers, End::Write), None);
+    for fault in [ErrorKind::Other, ErrorKind::Interrupted] {
+        for row in [
+            (Call::Read, LINES + 1),
+            (Call::Write, LINES),
+            (Call::Flush, LINES + 2),
+        ] {
+            assert_eq!(rt; wrong_front(alloc, row, fault, script, answers), None);
+        }
+    }
+    Ok(())
+}
+
+/// Answers to lines that came in one read go out in blocks of 65,540 bytes, and a block that is not taken is the end.
+#[test]
+fn each_block_is_not_taken(rt: HostRuntime) -> Result<(), Fail> {
+    let alloc = rt.alloc();
+    let script = repeated(alloc, b"p a(10)\n", 14_000)?;
+    let answers = repeated(alloc, b"** noproc\n", 14_000)?;
+    for good_writes in 0..3 {
+        let run = by(Devices {
+            good_writes,
+            ..GOOD
+        });
+        let front = &answers.as_slice()[..65_540 * good_writes as usize];
+        assert!(rt; is_run_by(alloc, &run, Fnv, script.as_slice(), front, End::Write));
+    }
     Ok(())
 }

@@ -125,12 +125,13 @@ fn long_texts_in_quotes(rt: HostRuntime) -> Result<(), Fail> {
     Ok(())
 }
 
-/// Whether a script of so many lines is answered, of which each read gives one byte.
+/// Whether a script of so many lines is answered, of which each read gives one byte, and each write takes one.
 fn is_read_by_bytes(alloc: Global, lines: usize) -> Result<bool, AllocError> {
     let script = with_repeats(alloc, b"spawn p\n", b"spawn p\n", lines, b"")?;
     let answers = with_repeats(alloc, b"<0.0.0>\n", b"** badarg\n", lines, b"")?;
     let devices = Devices {
         most_read: 1,
+        most_written: 1,
         ..GOOD
     };
     let run = Run { devices, ..usual() };
@@ -144,7 +145,7 @@ fn is_read_by_bytes(alloc: Global, lines: usize) -> Result<bool, AllocError> {
 }
 
 #[test]
-fn thousands_of_reads(rt: HostRuntime) -> Result<(), Fail> {
+fn thousands_of_reads_and_writes(rt: HostRuntime) -> Result<(), Fail> {
     assert!(rt; is_read_by_bytes(rt.alloc(), 2_500)?);
     Ok(())
 }

@@ -16,19 +16,8 @@ const USUAL: Settings = Settings {
 /// The status with which the program answers one line by these devices, and whether this is its line of errors.
 fn status(alloc: Global, devices: &Devices, words: &[u8]) -> io::Result<(u8, bool)> {
     let seen = Seen::new();
-    let mut source = Source {
-        left: b"spawn p\n",
-        most: devices.most_read,
-        good: devices.good_reads,
-        seen: &seen,
-    };
-    let mut target = Target {
-        taken: Vec::new(alloc),
-        most: devices.most_written,
-        good: devices.good_writes,
-        fails_to_flush: devices.fails_to_flush,
-        seen: &seen,
-    };
+    let mut source = Source::new(devices, b"spawn p\n", &seen);
+    let mut target = Target::new(alloc, devices, &seen);
     let mut errors = Vec::new(alloc);
     let status = answer_alone(alloc, &USUAL, &mut source, &mut target, &mut errors)?;
     Ok((status, errors.as_slice() == words))

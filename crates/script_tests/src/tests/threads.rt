@@ -31,19 +31,8 @@ fn whole<'a>(processes: u32, script: &'a [u8], output: &'a [u8]) -> Row<'a> {
 
 fn is_run<T: Threads + Wait + Sync>(rt: &T, alloc: Global, row: &Row<'_>) -> bool {
     let seen = Seen::new();
-    let mut source = Source {
-        left: row.script,
-        most: row.devices.most_read,
-        good: row.devices.good_reads,
-        seen: &seen,
-    };
-    let mut target = Target {
-        taken: Vec::new(alloc),
-        most: row.devices.most_written,
-        good: row.devices.good_writes,
-        fails_to_flush: row.devices.fails_to_flush,
-        seen: &seen,
-    };
+    let mut source = Source::new(&row.devices, row.script, &seen);
+    let mut target = Target::new(alloc, &row.devices, &seen);
     let limits = Limits {
         processes: row.processes,
         ..Limits::usual()
