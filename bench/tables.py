@@ -27,8 +27,8 @@ FIELD = ("Mutex<HashMap>", "HashMap", "cds_lfht", "oneTBB")
 OURS = {"calls": "Node::step", "table": "Table<SplitRows<Fnv>>", "rows": "SplitRows<Fnv>"}
 PEERS = {"calls": ("Mutex<HashMap>,copies", "HashMap,copies", "ets"), "table": FIELD, "rows": FIELD}
 CLIENTS = (1, 2, 4)
+SHARED = {"shared": ("Shared", "clients"), "served": ("Server", "callers")}
 CROWD = {
-    "shared": "Shared",
     "Mutex<HashMap>,journal": "Mutex<HashMap>, a journal",
     "Mutex<HashMap>,copies": "Mutex<HashMap>",
     "ets": "ets",
@@ -97,19 +97,21 @@ def walks(quick: bool, programs: Programs) -> list[list[str]]:
 
 
 def clients(quick: bool, programs: Programs) -> list[list[str]]:
-    """Threads that ask one node, each through a client of its own: nanoseconds a call of all together."""
+    """Threads that ask one node, each through a client or a caller of its own: nanoseconds a call of all together."""
     calls, turns = (20_000, 1) if quick else (200_000, 3)
     ours, maps, ets = programs.program("calls_bench"), rust("maps"), erlang("ets_calls")
-    sides = [[ours], *([[maps]] if maps else []), *([ets] if ets else [])]
-    peers = [name for name in CROWD if name != "shared"]
-    rows = [[f"{calls:,} calls each, 90 lookups to 10 insertions, ns", *CROWD.values(), *(f"to {CROWD[name]}" for name in peers)]]
-    single = None
+    sides = [[ours, part] for _, part in SHARED.values()] + [[*side, "clients"] for side in ([maps] if maps else [], ets) if side]
+    rows = [[f"{calls:,} calls each, 90 lookups to 10 insertions, ns", "ours", *CROWD.values(), *(f"to {name}" for name in CROWD.values())]]
+    single = {}
     for threads in CLIENTS:
-        found = least([[*side, "clients", str(threads), str(calls)] for side in sides], turns)
-        figures = [found.get((name, "mixture")) for name in CROWD]
-        single = single or figures[0]
-        rows.append([f"{threads} client{'s' * (threads > 1)}", *map(spread, figures), *(ratio(figures[0], peer) for peer in figures[1:])])
+        found = least([[*side, str(threads), str(calls)] for side in sides], turns)
+        peers = [found.get((name, "mixture")) for name in CROWD]
+        for who, (name, part) in SHARED.items():
+            own = found.get((who, "mixture"))
+            single.setdefault(name, own)
+            shows = f"{name}, {threads} {part if threads > 1 else part[:-1]}"
+            rows.append([shows, spread(own), *map(spread, peers), *(ratio(own, peer) for peer in peers)])
     alone = least([[ours, "alone", str(calls)]], turns)["alone", "mixture"]
     blank = [""] * (len(rows[0]) - 2)
     rows.append(["the same calls as steps of a node, one caller", spread(alone), *blank])
-    return rows + [["one ask over one step", f"{min(single) - min(alone):.0f}", *blank]]
+    return rows + [[f"one ask of {name} over one step", f"{min(own) - min(alone):.0f}", *blank] for name, own in single.items()]

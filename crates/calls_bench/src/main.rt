@@ -1,6 +1,7 @@
-//! Times whole calls of a node, of one caller and of clients in threads, and prints lines of WHO OPERATION FIGURE: calls_bench times|walks|alone|clients|check COUNT CALLS.
+//! Times whole calls of a node, of one caller and of clients in threads, and prints lines of WHO OPERATION FIGURE: calls_bench times|walks|alone|clients|callers|check COUNT CALLS.
 #![tactic(auto)]
 
+mod callers;
 mod calls;
 mod clients;
 mod mixture;
@@ -10,7 +11,7 @@ mod phases;
 mod report;
 mod walks;
 
-use report::{alone, check, crowded, times};
+use report::{alone, check, crowded, served, times};
 use std::alloc::Global;
 use std::rt::Clock;
 use std::sync::Wait;
@@ -20,7 +21,7 @@ use std::{env, io};
 /// What is taken where no number is given.
 const COUNT: u32 = 1_000;
 
-/// Does one part of the measuring: `clients` of so many threads, each with so many calls; the others of so many objects or calls.
+/// Does one part of the measuring: `clients` and `callers` of so many threads, each with so many calls; the others of so many objects or calls.
 fn run<R: Print + Alloc<A = Global> + Clock + Threads + Wait + Sync>(
     rt: &R,
     part: &str,
@@ -32,6 +33,7 @@ fn run<R: Print + Alloc<A = Global> + Clock + Threads + Wait + Sync>(
         "walks" => walks::time_walks(rt, count),
         "alone" => alone(rt, count),
         "clients" => crowded(rt, count.max(1), calls),
+        "callers" => served(rt, count.max(1), calls),
         _ => check(rt, count),
     }
 }

@@ -4,7 +4,7 @@ use crate::clients::crowd;
 use crate::mixture::Outcome;
 use crate::node::{ask_all, fill, mixed_steps, with_table};
 use crate::phases::{PHASES, Phase};
-use crate::walks;
+use crate::{callers, walks};
 use ets_term::Fnv;
 use node_core::Node;
 use std::alloc::{AllocError, Global};
@@ -129,11 +129,22 @@ pub(crate) fn crowded<R: Print + Alloc<A = Global> + Clock + Threads + Wait + Sy
     crowd(rt, clients, calls)?.show(rt, "shared", clients, calls)
 }
 
+/// The same of callers of a server, which stores nothing of a call.
+pub(crate) fn served<R: Print + Alloc<A = Global> + Clock + Threads + Wait + Sync>(
+    rt: &R,
+    count: u32,
+    calls: u32,
+) -> io::Result<()>
+    requires { 0 < count }
+{
+    callers::crowd(rt, count, calls)?.show(rt, "served", count, calls)
+}
+
 pub(crate) fn nanoseconds(spent: Duration) -> u64 {
     u64::try_from(spent.as_nanos()).unwrap_or(u64::MAX)
 }
 
-/// Prints how many steps of each phase, and lookups of some clients, did what they should.
+/// Prints how many steps of each phase, and lookups of some clients and callers, did what they should.
 pub(crate) fn check<R: Print + Alloc<A = Global> + Clock + Threads + Wait + Sync>(
     rt: &R,
     count: u32,
@@ -141,7 +152,9 @@ pub(crate) fn check<R: Print + Alloc<A = Global> + Clock + Threads + Wait + Sync
     check_phases(rt, count)?;
     walks::check(rt, count)?;
     let outcome = crowd(rt, CLIENTS, count)?;
-    println!(rt; "clients found {}", outcome.found)
+    println!(rt; "clients found {}", outcome.found)?;
+    let outcome = callers::crowd(rt, CLIENTS, count)?;
+    println!(rt; "callers found {}", outcome.found)
 }
 
 fn check_phases(rt: &(impl Print + Alloc<A = Global>), count: u32) -> io::Result<()> {
