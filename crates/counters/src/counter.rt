@@ -8,21 +8,21 @@ ghost use Rattle.ets_term.specs.declared.term.Term.TheVariants.{Int, Tuple};
 use crate::fault::CounterFault;
 use crate::list::count_many;
 use crate::ops::{Op, Ops};
-use crate::position::integer_of;
+use crate::position::{Position, integer_of};
 use crate::sum::new_value;
 use ets_term::{Integer, Items, Term};
 use std::alloc::Global;
 
 /// The integer at a position, counted from 1; None where there is none.
-pub fn integer_at(elements: &[Term], position: usize) -> Option<Integer>
+pub fn integer_at(elements: &[Term], position: Position) -> Option<Integer>
     ensures value { result ≡ integer_at position elements.now }
     ensures place { IfSome result (λ n. slice_get elements.now (position - 1) ≡ Some (Int n)) }
     ensures within { OnSome result (position - 1 < length elements.now) }
 {
-    if position == 0 {
+    if position == 0 || position > elements.len() as Position {
         return None;
     }
-    integer_of(elements.get(position - 1)?)
+    integer_of(elements.get((position - 1) as usize)?)
 }
 
 /// Does one operation in place, without memory, and answers the new value.
@@ -38,7 +38,7 @@ fn count_one(elements: &mut Items<Term>, op: Op) -> Result<Term, CounterFault>
     let Some(next) = new_value(op, value) else {
         return Err(CounterFault::SystemLimit);
     };
-    let _old = elements.replace(op.position - 1, Term::Int(next));
+    let _old = elements.replace((op.position - 1) as usize, Term::Int(next));
     Ok(Term::Int(next))
 }
 

@@ -6,14 +6,14 @@ ghost use Rattle.counters.specs.Ops.{is_list};
 ghost use Rattle.ets_term.specs.Depth.{elements};
 
 use crate::fault::CounterFault;
-use crate::position::position_of;
+use crate::position::{Position, position_of};
 use ets_term::{Items, MAX_DEPTH, Term};
 use std::alloc::Global;
 
 /// A value for one element.
 #[derive(Drop)]
 pub struct ElementSpec {
-    pub position: usize,
+    pub position: Position,
     pub value: Term,
 }
 
@@ -91,7 +91,7 @@ fn has_all(count: usize, specs: &[ElementSpec]) -> bool
 {
     specs
         .iter()
-        .all(|spec| 0 < spec.position && spec.position <= count)
+        .all(|spec| 0 < spec.position && spec.position <= count as Position)
 }
 
 /// Whether a value that stays is too deep for an element.
@@ -107,7 +107,7 @@ fn is_over_deep(specs: &[ElementSpec]) -> bool
     false
 }
 
-fn names(specs: &[ElementSpec], position: usize) -> bool
+fn names(specs: &[ElementSpec], position: Position) -> bool
     ensures { result ≡ list_any (λ later. later.position == position) specs.now }
 {
     specs.iter().any(|later| later.position == position)
@@ -160,8 +160,8 @@ fn write(elements: &mut Items<Term>, spec: ElementSpec)
     ensures { elements.new ≡ slice_set elements.old (spec.position - 1) spec.value }
 {
     let at = spec.position.saturating_sub(1);
-    if at < elements.len() {
-        let _old = elements.replace(at, spec.value);
+    if at < elements.len() as Position {
+        let _old = elements.replace(at as usize, spec.value);
     }
 }
 
@@ -171,7 +171,7 @@ fn write_one(elements: &mut Items<Term>, spec: ElementSpec) -> Result<(), Counte
     ensures refused { IfErr result (λ fault. written_elements (spec ∷ []) elements.old ≡ Err fault) }
     ensures kept { OnErr result (elements.new ≡ elements.old) }
 {
-    if spec.position == 0 || spec.position > elements.len() {
+    if spec.position == 0 || spec.position > elements.len() as Position {
         return Err(CounterFault::Badarg);
     }
     if spec.value.depth() >= MAX_DEPTH {

@@ -85,7 +85,7 @@ fn count_next(
     let Some(next) = new_value(op, value) else {
         return Err(CounterFault::SystemLimit);
     };
-    let at = op.position - 1;
+    let at = (op.position - 1) as usize;
     answers.push(Term::Int(next))?;
     saved.push(Saved { at, value })?;
     let _old = elements.replace(at, Term::Int(next));

@@ -3,14 +3,14 @@ ghost use Rattle.std.specs.Prelude.{◌≡◌, false, Some, None, IfOk, IsErrOf}
 ghost use Rattle.counters.specs.Ops.{bound_of, op_from, op_of_parts, op_of, all_ops, ops_of, is_list};
 
 use crate::fault::CounterFault;
-use crate::position::{integer_of, position_of};
+use crate::position::{Position, integer_of, position_of};
 use ets_term::{Integer, Items, Term};
 use std::alloc::Global;
 
 /// What is added to one element, and what stands for sums past a bound.
 #[derive(Clone, Copy, Debug)]
 pub struct Op {
-    pub position: usize,
+    pub position: Position,
     pub increment: Integer,
     pub bound: Option<Bound>,
 }
@@ -98,7 +98,7 @@ pub fn read_ops(alloc: Global, term: &Term, keypos: u32) -> Result<Ops, CounterF
 {
     match term {
         Term::Int(n) => Ok(Ops::One(Op {
-            position: keypos as usize + 1,
+            position: keypos as Position + 1,
             increment: *n,
             bound: None,
         })),

@@ -5,6 +5,9 @@ ghost use Rattle.counters.specs.Positions.{integer_of, position_at, position_of}
 
 use ets_term::{Integer, Term};
 
+/// A position that a caller names, counted from 1. No tuple is as long as some of them.
+pub type Position = u128;
+
 /// The integer that a term is; None where it is none.
 pub fn integer_of(term: &Term) -> Option<Integer>
     ensures value { result ≡ integer_of term.now }
@@ -17,20 +20,20 @@ pub fn integer_of(term: &Term) -> Option<Integer>
 }
 
 /// The position that a term names, of at least 1 and not the key's; None where it names none.
-pub fn position_of(keypos: u32, term: &Term) -> Option<usize>
+pub fn position_of(keypos: u32, term: &Term) -> Option<Position>
     ensures { result ≡ position_of keypos term.now }
 {
     position_at(keypos, integer_of(term)?)
 }
 
-fn position_at(keypos: u32, n: Integer) -> Option<usize>
+fn position_at(keypos: u32, n: Integer) -> Option<Position>
     ensures { result ≡ position_at keypos n }
 {
     if n < 1 {
         return None;
     }
-    let at = n as usize;
-    if at == keypos as usize {
+    let at = n as Position;
+    if at == keypos as Position {
         None
     } else {
         Some(at)

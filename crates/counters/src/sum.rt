@@ -22,9 +22,10 @@ pub fn new_value(op: Op, value: Integer) -> Option<Integer>
     let sum = value.checked_add(op.increment);
     match op.bound {
         None => sum,
-        Some(bound) => Some(match sum {
-            Some(sum) if !is_past(op.increment, bound.threshold, sum) => sum,
-            _ => bound.set_value,
-        }),
+        Some(bound) => match sum {
+            Some(sum) if is_past(op.increment, bound.threshold, sum) => Some(bound.set_value),
+            Some(sum) => Some(sum),
+            None => Some(bound.set_value),
+        },
     }
 }

@@ -1,13 +1,17 @@
 -- The words of a term, and the hash of them by a seed.
-use Rattle.std.specs.Prelude.{ℕ, ◌*◌, ◌/◌, ◌%◌, ◌^◌, List, [], ◌∷◌, length, fold, bit_xor, bit_or}
-use Rattle.std.specs.Int.{cast_unsigned, w64}
+use Rattle.std.specs.Prelude.{ℕ, ℤ, ◌*◌, ◌/◌, ◌%◌, ◌^◌, List, [], ◌∷◌, length, fold, bit_xor, bit_or}
+use Rattle.std.specs.Int.{cast_unsigned, w128}
 use Rattle.ets_term.specs.declared.term.Term.{Term, fold-Term}
 use Rattle.ets_term.specs.declared.term.Term.TheOpen.{Term-F}
 use Rattle.ets_term.specs.Encoding.{joined}
 
--- a word for the kind; then a number in two's complement, or the count and then the parts
+-- an integer in two's complement: its high word, and its low one
+abbrev pub integer_words : ℤ → List ℕ
+integer_words n = cast_unsigned w128 n / 2 ^ 64 ∷ cast_unsigned w128 n % 2 ^ 64 ∷ []
+
+-- a word for the kind; then an integer or a number, or the count and then the parts
 abbrev pub words_form : Term-F (List ℕ) → List ℕ
-words_form (Term-F.Int n) = 1 ∷ cast_unsigned w64 n ∷ []
+words_form (Term-F.Int n) = 1 ∷ integer_words n
 words_form (Term-F.Atom s) = 2 ∷ length s ∷ s
 words_form (Term-F.Pid n) = 3 ∷ n ∷ []
 words_form (Term-F.Tid n) = 4 ∷ n ∷ []

@@ -3,11 +3,12 @@ ghost use Rattle.std.specs.Prelude.{◌≡◌, ◌∷◌, fold, map};
 ghost use Rattle.std.specs.Int.{to_be_bytes, w64};
 ghost use Rattle.ets_term.specs.Encoding.{encoding, joined, fnv_step};
 
+use crate::integer::integer_bytes;
 use crate::key_hash::KeyHash;
 use crate::term::Term;
 
 /// The hash FNV-1a of 32 bits over the encoding of the term: a byte for the kind (integer 1, atom 2, pid 3, table
-/// identifier 4, tuple 5, list 6, binary 7); then 8 bytes of an integer or of a count, 1 byte of an atom's length, or 4
+/// identifier 4, tuple 5, list 6, binary 7); then 16 bytes of an integer, 8 of a count, 1 byte of an atom's length, or 4
 /// bytes of a pid's or an identifier's number, each with the high byte first; then the characters, elements or bytes.
 #[derive(Clone, Copy)]
 pub struct Fnv;
@@ -30,7 +31,7 @@ fn fnv_term(start: u32, term: &Term) -> u32
     ensures { result ≡ fold fnv_step start (encoding term.now) }
 {
     match term {
-        Term::Int(n) => fnv_bytes(fnv_bytes(start, &[1]), &n.to_be_bytes()),
+        Term::Int(n) => fnv_bytes(fnv_bytes(start, &[1]), &integer_bytes(*n)),
         Term::Atom(atom) => {
             let text = atom.text().as_bytes();
             fnv_bytes(fnv_bytes(start, &[2, text.len() as u8]), text)

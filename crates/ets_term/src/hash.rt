@@ -5,6 +5,7 @@ ghost use Rattle.ets_term.specs.Encoding.{encoding, joined};
 ghost use Rattle.ets_term.specs.Writes.{writes};
 ghost use Rattle.ets_term.specs.laws.Hashed.{writes-same};
 
+use crate::integer::integer_bytes;
 use crate::term::Term;
 use std::hash::{Hash, Hasher};
 
@@ -32,7 +33,7 @@ fn feed<H: Hasher>(term: &Term, state: &mut H)
     match term {
         Term::Int(n) => {
             state.write(&[1]);
-            state.write(&n.to_be_bytes());
+            state.write(&integer_bytes(*n));
         }
         Term::Atom(atom) => {
             let text = atom.text().as_bytes();

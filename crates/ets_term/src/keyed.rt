@@ -1,15 +1,16 @@
 //! A hash of terms with a seed.
 ghost use Rattle.std.specs.Prelude.{◌≡◌, ◌∷◌, fold, map};
 ghost use Rattle.ets_term.specs.Encoding.{joined};
-ghost use Rattle.ets_term.specs.Keyed.{words, folded, factor, keyed_step};
+ghost use Rattle.ets_term.specs.Keyed.{words, integer_words, folded, factor, keyed_step};
 
+use crate::integer::Integer;
 use crate::key_hash::KeyHash;
 use crate::term::Term;
 
 /// The hash with this seed: words of 64 bits, each mixed in by an exclusive or and a product of 128 bits, whose halves are
-/// folded. The words of a term are one for its kind, as in `Fnv`; then an integer or a number, or the count and then the
-/// characters, elements or bytes. What is multiplied by comes of the seed, so that keys of one bucket are hard to find for
-/// whoever does not know it.
+/// folded. The words of a term are one for its kind, as in `Fnv`; then the two of an integer, the high one first, or a number,
+/// or the count and then the characters, elements or bytes. What is multiplied by comes of the seed, so that keys of one
+/// bucket are hard to find for whoever does not know it.
 #[derive(Clone, Copy)]
 pub struct Keyed(pub u64);
 
@@ -40,7 +41,7 @@ fn mix_term(factor: u64, start: u64, term: &Term) -> u64
     ensures { result ≡ fold (keyed_step factor) start (words term.now) }
 {
     match term {
-        Term::Int(n) => mix_number(factor, start, 1, n.cast_unsigned()),
+        Term::Int(n) => mix_integer(factor, mix(factor, start, 1), *n),
         Term::Atom(atom) => {
             let text = atom.text().as_bytes();
             mix_bytes(
@@ -85,6 +86,16 @@ fn mix_bytes(factor: u64, start: u64, bytes: &[u8]) -> u64
         hash = mix(factor, hash, u64::from(*byte));
     }
     hash
+}
+
+/// Mixes in the two words of an integer.
+fn mix_integer(factor: u64, start: u64, n: Integer) -> u64
+    ensures { result ≡ fold (keyed_step factor) start (integer_words n) }
+{
+    const WORD: u128 = 1 << 64;
+    let bits = n.cast_unsigned();
+    let high = mix(factor, start, (bits / WORD) as u64);
+    mix(factor, high, (bits % WORD) as u64)
 }
 
 /// Mixes in a kind, and a number or a count.

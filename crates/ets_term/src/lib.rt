@@ -11,6 +11,7 @@ mod compare;
 mod fits;
 mod fnv;
 mod hash;
+mod integer;
 mod items;
 mod key_hash;
 mod keyed;
@@ -19,7 +20,8 @@ mod term;
 
 pub use atom::{Atom, AtomFault, MAX_CHARACTERS};
 pub use fnv::Fnv;
+pub use integer::Integer;
 pub use items::Items;
 pub use key_hash::{AllSame, KeyHash};
 pub use keyed::Keyed;
-pub use term::{Integer, MAX_DEPTH, Term};
+pub use term::{MAX_DEPTH, Term};

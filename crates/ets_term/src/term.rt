@@ -3,11 +3,9 @@ ghost use Rattle.ets_term.specs.Atoms.{is_atom};
 ghost use Rattle.ets_term.specs.Depth.{depth, is_too_deep, largest, element_at};
 
 use crate::atom::Atom;
+use crate::integer::Integer;
 use crate::items::Items;
 use std::alloc::{AllocError, Global};
-
-/// The integers of terms: 64 bits, from -2^63 to 2^63-1.
-pub type Integer = i64;
 
 /// The greatest depth of an argument and of a stored object.
 pub const MAX_DEPTH: usize = 128;

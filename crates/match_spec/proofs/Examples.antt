@@ -74,15 +74,15 @@ unbound = refl
 
 -- the least integer, and what is not evaluated
 least : Data
-least = int (negsuc (2 ^ 63 - 1))
+least = int (negsuc (2 ^ 127 - 1))
 
 abbrev body : List Data → Option Data
 body e = result_of (spec any [] (t e ∷ [])) b2
 
-rem_of_least : body (atom (codes "rem") ∷ int (negsuc 9223372036854775807) ∷ int (negsuc 0) ∷ []) ≡ Some (numeral 0)
+rem_of_least : body (atom (codes "rem") ∷ int (negsuc 170141183460469231731687303715884105727) ∷ int (negsuc 0) ∷ []) ≡ Some (numeral 0)
 rem_of_least = refl
 
-div_of_least : body (atom (codes "div") ∷ int (negsuc 9223372036854775807) ∷ int (negsuc 0) ∷ []) ≡ Some (atom (codes "EXIT"))
+div_of_least : body (atom (codes "div") ∷ int (negsuc 170141183460469231731687303715884105727) ∷ int (negsuc 0) ∷ []) ≡ Some (atom (codes "EXIT"))
 div_of_least = refl
 
 and_also : body (atom (codes "andalso") ∷ atom (codes "false") ∷ t (atom (codes "hd") ∷ l [] ∷ []) ∷ []) ≡ Some (atom (codes "false"))
@@ -161,7 +161,7 @@ difference = refl
 product : call (codes "*") (numeral 2 ∷ int (negsuc 2) ∷ []) ≡ Some (int (negsuc 5))
 product = refl
 
-past_the_range : call (codes "+") (numeral 9223372036854775807 ∷ numeral 1 ∷ []) ≡ Some (w (codes "EXIT"))
+past_the_range : call (codes "+") (numeral 170141183460469231731687303715884105727 ∷ numeral 1 ∷ []) ≡ Some (w (codes "EXIT"))
 past_the_range = refl
 
 quotient : call (codes "div") (int (negsuc 6) ∷ numeral 2 ∷ []) ≡ Some (int (negsuc 2))
@@ -176,7 +176,7 @@ rem_of_zero = refl
 absolute : call (codes "abs") (int (negsuc 6) ∷ []) ≡ Some (numeral 7)
 absolute = refl
 
-abs_of_least : call (codes "abs") (int (negsuc 9223372036854775807) ∷ []) ≡ Some (w (codes "EXIT"))
+abs_of_least : call (codes "abs") (int (negsuc 170141183460469231731687303715884105727) ∷ []) ≡ Some (w (codes "EXIT"))
 abs_of_least = refl
 
 rest : call (codes "tl") (eight ∷ []) ≡ Some (l (numeral 8 ∷ []))

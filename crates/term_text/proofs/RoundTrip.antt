@@ -3,7 +3,7 @@ use Rattle.std.proofs.Common.{◌≡◌, refl, ap, sym, subst, ◌∙◌, ◌+�
 use Rattle.std.proofs.lemmas.List.{append-nil}
 use Rattle.std.proofs.lemmas.Bool.{and_parts, or_parts}
 use Rattle.std.proofs.lemmas.Bool.Decides.{nat_tests}
-use Rattle.std.proofs.lemmas.Fmt.{decimal_is_IsNumeral}
+use Rattle.std.proofs.lemmas.Fmt.{decimal_is_IsNumeral_wide}
 use Rattle.std.proofs.lemmas.Int.{ints}
 use Rattle.std.proofs.lemmas.Str.{digit_value_digit}
 use Rattle.std.proofs.lemmas.Str.Parse.{digit_from_value}
@@ -53,13 +53,13 @@ value_here n (c ∷ cs) h =
     ∙ ap (λ (m : ℕ). spelled m cs) (let r = digit_value_digit c (digit_from_value c h.0) in omega (arith, r))
     ∙ value_here (n * 10 + digit_value c) cs h.1
 
-number_spelled : (kind : Number) (n : ℕ) → n < 2 ^ 64 → n ≤ top kind → SpellsNumber kind (decimal n) n
-number_spelled kind n h k = let e = decimal_is_IsNumeral n h in
+number_spelled : (kind : Number) (n : ℕ) → n < 10 ^ 64 → n ≤ top kind → SpellsNumber kind (decimal n) n
+number_spelled kind n h k = let e = decimal_is_IsNumeral_wide n h in
     record { some = first_here (decimal n) e.0.0 e.0.1; each = digits_here (decimal n) e.0.1; value = value_here 0 (decimal n) e.0.1 ∙ e.1; fits = k }
 
 integer_spelled : (k : ℕ) (n : ℤ) → least ≤ℤ n → n ≤ℤ greatest → Spells (suc k) (signed_decimal n) (Int n)
-integer_spelled k (pos n) low high = positive k (decimal n) n (let r : n ≤ 2 ^ 63 - 1 = omega (arith, ints, high) in number_spelled (integer false) n (omega (arith, r)) r)
-integer_spelled k (negsuc n) low high = negative k (decimal (suc n)) (suc n) (let r : n ≤ 2 ^ 63 - 1 = omega (arith, ints, low) in number_spelled (integer true) (suc n) (omega (arith, r)) (omega (arith, r)))
+integer_spelled k (pos n) low high = positive k (decimal n) n (let r : n ≤ 2 ^ 127 - 1 = omega (arith, ints, high) in number_spelled (integer false) n (omega (arith, r)) r)
+integer_spelled k (negsuc n) low high = negative k (decimal (suc n)) (suc n) (let r : n ≤ 2 ^ 127 - 1 = omega (arith, ints, low) in number_spelled (integer true) (suc n) (omega (arith, r)) (omega (arith, r)))
 
 -- atoms
 quoted_along : (s t cs ds : List ℕ) → s ≡ t → cs ≡ ds → SpellsQuoted 39 s cs → SpellsQuoted 39 t ds

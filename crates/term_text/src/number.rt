@@ -8,15 +8,18 @@ use crate::bytes::is_digit_byte;
 use crate::fault::TextFault;
 
 /// The size of a number, without its sign.
-pub type Magnitude = u64;
+pub type Magnitude = u128;
+
+/// Below this number one more digit stays within 64 bits.
+const SHORT: u64 = u64::MAX / 10;
 
 #[tactic(auto, unfolding(crate::specs::Text::is_digit))]
-fn digit_of(b: u8) -> Magnitude
+fn digit_of(b: u8) -> u64
     requires { is_digit b ≡ true }
     ensures digit { result ≡ b - 48 }
     ensures small { result ≤ 9 }
 {
-    (b - b'0') as Magnitude
+    (b - b'0') as u64
 }
 
 /// The number with one more digit, where it is within the limit.
@@ -31,6 +34,22 @@ fn with_digit(n: Magnitude, digit: Magnitude, limit: Magnitude) -> Option<Magnit
     Some(n * 10 + digit)
 }
 
+/// The number that the digits from this byte on spell as far as 64 bits surely have it, and where it ends.
+fn short_digits_at(text: &[u8], at: usize) -> (u64, usize)
+    requires { at ≤ length text.now }
+    ensures value { spelled result.0 (drop result.1 text.now) ≡ spelled 0 (drop at text.now) }
+    ensures end { result.1 + prefix_len is_digit (drop result.1 text.now) ≡ at + prefix_len is_digit (drop at text.now) }
+    ensures within { result.1 ≤ length text.now }
+{
+    let mut n: u64 = 0;
+    let mut place = at;
+    while place < text.len() && n < SHORT && is_digit_byte(text[place]) {
+        n = n * 10 + digit_of(text[place]);
+        place += 1;
+    }
+    (n, place)
+}
+
 /// The number that the digits from this byte on spell, 0 of none, and where they end. None where it passes the limit.
 #[tactic(auto, using(crate::proofs::Numbers::spelled_grows))]
 pub fn digits_at(text: &[u8], at: usize, limit: Magnitude) -> Option<(Magnitude, usize)>
@@ -38,10 +57,14 @@ pub fn digits_at(text: &[u8], at: usize, limit: Magnitude) -> Option<(Magnitude,
     requires limit_in { 9 ≤ limit }
     ensures { MatchOption result (limit < spelled 0 (drop at text.now)) (λ x. (x.0 ≡ spelled 0 (drop at text.now)) × (x.0 ≤ limit) × (x.1 ≡ at + prefix_len is_digit (drop at text.now)) × (x.1 ≤ length text.now)) }
 {
-    let mut n: Magnitude = 0;
-    let mut place = at;
+    let (short, end) = short_digits_at(text, at);
+    let mut n = short as Magnitude;
+    if n > limit {
+        return None;
+    }
+    let mut place = end;
     while place < text.len() && is_digit_byte(text[place]) {
-        match with_digit(n, digit_of(text[place]), limit) {
+        match with_digit(n, digit_of(text[place]) as Magnitude, limit) {
             Some(more) => n = more,
             None => return None,
         }

@@ -81,10 +81,16 @@ pub(crate) fn element<'a>(n: &Term, tuple: &'a Term) -> Option<&'a Term>
     }
 }
 
-#[tactic(auto, using(crate::proofs::ListLaws::element_at_tree))]
+#[tactic(auto, using(crate::proofs::ListLaws::element_at_tree, crate::proofs::ListLaws::past_tuple))]
 fn numbered(n: Integer, tuple: &Term) -> Option<&Term>
     ensures { option_map data_of (option_copied result) ≡ element (int n) (data_of tuple.now) }
 {
+    let Term::Tuple(items) = tuple else {
+        return None;
+    };
+    if n > items.len() as Integer {
+        return None;
+    }
     match usize::try_from(n) {
         Ok(n) => tuple.element(n),
         Err(_) => None,

@@ -1,0 +1,16 @@
+//! Integers.
+ghost use Rattle.std.specs.Prelude.{◌≡◌};
+ghost use Rattle.ets_term.specs.Integers.{integer_bytes as bytes_of};
+
+/// The integers of terms: 128 bits, from -2^127 to 2^127-1.
+pub type Integer = i128;
+
+/// How many bytes an integer has.
+pub(crate) const INTEGER_BYTES: usize = 16;
+
+/// Its bytes in two's complement, the high byte first.
+pub(crate) fn integer_bytes(n: Integer) -> [u8; INTEGER_BYTES]
+    ensures { result ≡ bytes_of n }
+{
+    n.to_be_bytes()
+}
