@@ -8,9 +8,9 @@ ghost use Rattle.ets_term.specs.declared.term.Term.TheVariants.{Int, Tuple};
 use crate::fault::CounterFault;
 use crate::list::count_many;
 use crate::ops::{Op, Ops};
-use crate::position::{Position, integer_of};
+use crate::position::integer_of;
 use crate::sum::new_value;
-use ets_term::{Integer, Items, Term};
+use ets_term::{Integer, Items, Position, Term};
 use std::alloc::Global;
 
 /// The integer at a position, counted from 1; None where there is none.

@@ -6,8 +6,8 @@ ghost use Rattle.counters.specs.Ops.{is_list};
 ghost use Rattle.ets_term.specs.Depth.{elements};
 
 use crate::fault::CounterFault;
-use crate::position::{Position, position_of};
-use ets_term::{Items, MAX_DEPTH, Term};
+use crate::position::position_of;
+use ets_term::{Items, MAX_DEPTH, Position, Term};
 use std::alloc::Global;
 
 /// A value for one element.

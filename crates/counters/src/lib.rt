@@ -30,5 +30,4 @@ pub use elements::{
     ElementSpec, ElementSpecs, apply_elements, read_element_specs, update_elements,
 };
 pub use fault::CounterFault;
-pub use position::Position;
 pub use ops::{Bound, Op, Ops, read_ops};

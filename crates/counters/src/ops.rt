@@ -3,8 +3,8 @@ ghost use Rattle.std.specs.Prelude.{◌≡◌, false, Some, None, IfOk, IsErrOf}
 ghost use Rattle.counters.specs.Ops.{bound_of, op_from, op_of_parts, op_of, all_ops, ops_of, is_list};
 
 use crate::fault::CounterFault;
-use crate::position::{Position, integer_of, position_of};
-use ets_term::{Integer, Items, Term};
+use crate::position::{integer_of, position_of};
+use ets_term::{Integer, Items, Position, Term};
 use std::alloc::Global;
 
 /// What is added to one element, and what stands for sums past a bound.

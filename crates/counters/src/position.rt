@@ -3,10 +3,7 @@ ghost use Rattle.std.specs.Prelude.{◌≡◌, IfSome};
 ghost use Rattle.ets_term.specs.declared.term.Term.TheVariants.{Int};
 ghost use Rattle.counters.specs.Positions.{integer_of, position_at, position_of};
 
-use ets_term::{Integer, Term};
-
-/// A position that a caller names, counted from 1. No tuple is as long as some of them.
-pub type Position = u128;
+use ets_term::{Integer, Position, Term};
 
 /// The integer that a term is; None where it is none.
 pub fn integer_of(term: &Term) -> Option<Integer>

@@ -1,3 +1,4 @@
+pub mod ElementLaws
 pub mod Joined
 pub mod RowLaws
 pub mod Rows

@@ -1,9 +1,12 @@
-//! Integers.
+//! Integers, and positions in tuples.
 ghost use Rattle.std.specs.Prelude.{◌≡◌};
 ghost use Rattle.ets_term.specs.Integers.{integer_bytes as bytes_of};
 
 /// The integers of terms: 128 bits, from -2^127 to 2^127-1.
 pub type Integer = i128;
+
+/// A position in a tuple, counted from 1, as a caller may name it: no tuple is as long as some of them.
+pub type Position = u128;
 
 /// How many bytes an integer has.
 pub(crate) const INTEGER_BYTES: usize = 16;

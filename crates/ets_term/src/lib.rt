@@ -20,7 +20,7 @@ mod term;
 
 pub use atom::{Atom, AtomFault, MAX_CHARACTERS};
 pub use fnv::Fnv;
-pub use integer::Integer;
+pub use integer::{Integer, Position};
 pub use items::Items;
 pub use key_hash::{AllSame, KeyHash};
 pub use keyed::Keyed;

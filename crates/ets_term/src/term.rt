@@ -3,7 +3,7 @@ ghost use Rattle.ets_term.specs.Atoms.{is_atom};
 ghost use Rattle.ets_term.specs.Depth.{depth, is_too_deep, largest, element_at};
 
 use crate::atom::Atom;
-use crate::integer::Integer;
+use crate::integer::{Integer, Position};
 use crate::items::Items;
 use std::alloc::{AllocError, Global};
 
@@ -73,16 +73,19 @@ impl Term {
     }
 
     /// Element n of a tuple, counted from 1; None where the term is no tuple or has no such element.
-    pub fn element(&self, n: usize) -> Option<&Term>
+    pub fn element(&self, n: Position) -> Option<&Term>
         ensures { option_copied result ≡ element_at n self.now }
     {
         if n == 0 {
             return None;
         }
-        match self {
-            Term::Tuple(items) => items.get(n - 1),
-            _ => None,
+        let Term::Tuple(items) = self else {
+            return None;
+        };
+        if n > items.len() as Position {
+            return None;
         }
+        items.get((n - 1) as usize)
     }
 }
 

@@ -1,7 +1,6 @@
 -- Parts of lists and tuples, of terms and of their trees.
-use Rattle.std.proofs.Common.{◌≡◌, ℕ, zero, suc, ◌-◌, ◌==◌, ◌≤◌, ◌<ℤ◌, ℤ, pos, negsuc, if◌then◌else◌, false, List, [], ◌∷◌, Some, None, map, length, drop, rules, refl, sym, ap, ◌∙◌, arith}
+use Rattle.std.proofs.Common.{◌≡◌, ℕ, zero, suc, ◌-◌, ◌==◌, ℤ, if◌then◌else◌, false, List, [], ◌∷◌, Some, None, map, length, drop, rules, refl, sym, ap, ◌∙◌, arith}
 use Rattle.std.proofs.lemmas.Bool.Decides.{nat_tests}
-use Rattle.std.proofs.lemmas.Int.{ints}
 use Rattle.std.specs.List.{slice_get}
 use Rattle.std.specs.Option.{option_map}
 use Rattle.ets_term.specs.declared.term.Term.{Term, the_lemmas}
@@ -9,7 +8,7 @@ use Rattle.ets_term.specs.declared.term.Term.TheVariants.{Int, Atom, Pid, Tid, T
 use Rattle.ets_term.specs.Data.{Data, int, atom, pid, tid, tuple, list, binary, row_of, data_of}
 use Rattle.ets_term.specs.Depth.{elements, element_at}
 use Rattle.ets_term.specs.laws.Exact.{term_of, terms_of, back, data_of-Tuple, data_of-List}
-use Rattle.match_spec.specs.Functions.{tail, list_length, size, count, row_element, tuple_element, element}
+use Rattle.match_spec.specs.Functions.{tail, list_length, size, count, row_element, tuple_element}
 use Rattle.match_spec.proofs.ExpressionLaws.{row_len_of}
 
 pub row_element_get : (ts : List Term) (i : ℕ) → row_element (row_of (map data_of ts)) i ≡ option_map data_of (slice_get ts i)
@@ -62,17 +61,6 @@ element_at_tree (suc i) t =
     let some : (suc i == 0) ≡ false = grind (arith, nat_tests) in
     let less : suc i - 1 ≡ i = omega arith in
     rw (some, less) (by_kind i t (data_of t) (sym (back t)))
-
-past_row : (ts : List Term) (i : ℕ) → length ts ≤ i → row_element (row_of (map data_of ts)) i ≡ None
-past_row [] i h = refl
-past_row (t ∷ ts) zero h = absurd (omega (arith, h))
-past_row (t ∷ ts) (suc i) h = past_row ts i (omega (arith, h))
-
--- past its end a tuple has no element, however large the number is
-pub past_tuple : (n : ℤ) (t : Term) (ts : List Term) → t ≡ Tuple ts → pos (length ts) <ℤ n → element (int n) (data_of t) ≡ None
-past_tuple (pos zero) t ts e h = refl
-past_tuple (pos (suc i)) t ts e h = rw (e, data_of-Tuple ts) (past_row ts i (omega (arith, ints, h)))
-past_tuple (negsuc n) t ts e h = refl
 
 pub list_length_of : (t : Term) (ts : List Term) → t ≡ Lst ts → list_length (data_of t) ≡ count (length ts)
 list_length_of t ts e = rw (e, data_of-List ts, row_len_of ts) refl

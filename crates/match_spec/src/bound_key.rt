@@ -6,11 +6,11 @@ ghost use Rattle.match_spec.specs.BoundKeys.{is_ground, are_ground, bound_key, c
 
 use crate::spec::check::clause_parts;
 use crate::variable::variable;
-use ets_term::Term;
+use ets_term::{Position, Term};
 
 /// The element of the pattern at `keypos`, where it has neither a variable nor `'_'`.
 #[tactic(auto, using(crate::proofs::KeyLaws::key_of_element, crate::proofs::KeyLaws::key_of_none))]
-pub(crate) fn bound_part(pattern: &Term, keypos: usize) -> Option<&Term>
+pub(crate) fn bound_part(pattern: &Term, keypos: Position) -> Option<&Term>
     ensures { option_map data_of (option_copied result) ≡ bound_key keypos (data_of pattern.now) }
 {
     match pattern.element(keypos) {
@@ -27,7 +27,7 @@ fn ground_or_none(key: &Term) -> Option<&Term>
 
 /// The key that the heads of all clauses bind.
 #[tactic(auto, using(crate::proofs::KeyLaws::key_of_first, crate::proofs::KeyLaws::key_of_no_first, crate::proofs::KeyLaws::key_of_nothing))]
-pub(crate) fn bound_by_all(clauses: &[Term], keypos: usize) -> Option<&Term>
+pub(crate) fn bound_by_all(clauses: &[Term], keypos: Position) -> Option<&Term>
     ensures { option_map data_of (option_copied result) ≡ spec_key keypos (list (row_of (map data_of clauses.now))) }
 {
     if clauses.is_empty() {
@@ -39,7 +39,7 @@ pub(crate) fn bound_by_all(clauses: &[Term], keypos: usize) -> Option<&Term>
     }
 }
 
-fn key_if_all_bind<'a>(clauses: &[Term], keypos: usize, key: &'a Term) -> Option<&'a Term>
+fn key_if_all_bind<'a>(clauses: &[Term], keypos: Position, key: &'a Term) -> Option<&'a Term>
     ensures { option_map data_of (option_copied result) ≡ (if all_bind keypos (data_of key.now) (row_of (map data_of (drop 1 clauses.now))) then Some (data_of key.now) else None) }
 {
     if all_bind(clauses, keypos, key) {
@@ -50,7 +50,7 @@ fn key_if_all_bind<'a>(clauses: &[Term], keypos: usize, key: &'a Term) -> Option
 }
 
 // Whether the clauses behind the first bind this key.
-fn all_bind(clauses: &[Term], keypos: usize, key: &Term) -> bool
+fn all_bind(clauses: &[Term], keypos: Position, key: &Term) -> bool
     ensures { result ≡ all_bind keypos (data_of key.now) (row_of (map data_of (drop 1 clauses.now))) }
 {
     for i in 1..clauses.len() {
@@ -62,7 +62,7 @@ fn all_bind(clauses: &[Term], keypos: usize, key: &Term) -> bool
     true
 }
 
-fn clause_key(clause: &Term, keypos: usize) -> Option<&Term>
+fn clause_key(clause: &Term, keypos: Position) -> Option<&Term>
     ensures { option_map data_of (option_copied result) ≡ clause_key keypos (data_of clause.now) }
 {
     match clause_parts(clause) {

@@ -14,7 +14,7 @@ use crate::fault::SpecFault;
 use crate::pattern::compile::part_of;
 use crate::pattern::part::{Part, fits};
 use crate::pattern::place::{copies_at, first_places, in_order};
-use ets_term::{Items, Term};
+use ets_term::{Items, Position, Term};
 use std::alloc::{AllocError, Global};
 use std::marker::Model;
 
@@ -93,7 +93,7 @@ impl Pattern {
 
     /// The key of every object that matches it, where its element at `keypos`, counted from 1, has neither a variable
     /// nor `'_'`.
-    pub fn bound_key(&self, keypos: usize) -> Option<&Term>
+    pub fn bound_key(&self, keypos: Position) -> Option<&Term>
         ensures key { option_map data_of (option_copied result) ≡ bound_key keypos (data_of self.now) }
         ensures every { IfSome result (λ key. IsKeyOfMatches keypos (data_of self.now) key.now) }
     {

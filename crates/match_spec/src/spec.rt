@@ -16,7 +16,7 @@ use crate::pattern::compile::part_of;
 use crate::pattern::place::{FirstPlaces, first_places, in_order};
 use crate::spec::check::{ClauseParts, clause_parts, is_good};
 use crate::spec::clause::{Clause, first_counted, first_is_true};
-use ets_term::{Items, Term};
+use ets_term::{Items, Position, Term};
 use std::alloc::{AllocError, Global};
 use std::marker::Model;
 
@@ -78,7 +78,7 @@ impl Spec {
 
     /// The key of every object for which it gives something, where the heads of all clauses have the same element at
     /// `keypos`, counted from 1, with neither a variable nor `'_'` in it.
-    pub fn bound_key(&self, keypos: usize) -> Option<&Term>
+    pub fn bound_key(&self, keypos: Position) -> Option<&Term>
         ensures key { option_map data_of (option_copied result) ≡ spec_key keypos (data_of self.now) }
         ensures every { IfSome result (λ key. IsKeyOfResults keypos (data_of self.now) key.now) }
     {

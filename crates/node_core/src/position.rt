@@ -1,14 +1,14 @@
 ghost use Rattle.std.specs.Prelude.{◌≡◌};
 ghost use Rattle.node_core.specs.Positions.{position_of};
 
-use ets_term::Term;
+use ets_term::{Position, Term};
 
 /// The position that a term says, counted from 1; no tuple has an element 0.
-pub fn position_of(term: &Term) -> Option<usize>
+pub fn position_of(term: &Term) -> Option<Position>
     ensures { result ≡ position_of term.now }
 {
     match term {
-        Term::Int(n) if *n >= 0 => Some(*n as usize),
+        Term::Int(n) if *n >= 0 => Some(*n as Position),
         _ => None,
     }
 }

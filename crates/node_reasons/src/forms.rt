@@ -6,7 +6,7 @@ ghost use Rattle.counters.specs.Positions.{integer_of, position_of};
 ghost use Rattle.counters.specs.Ops.{op_of_parts, ops_of};
 ghost use Rattle.counters.specs.Elements.{spec_of_parts, specs_of};
 
-use ets_term::Term;
+use ets_term::{Position, Term};
 
 /// Whether a term is an update of counters.
 #[tactic(auto, using(crate::proofs::FormLaws::update_forms))]
@@ -84,7 +84,7 @@ fn is_position(keypos: u32, term: &Term) -> bool
     ensures { result ≡ is_some (position_of keypos term.now) }
 {
     match term {
-        Term::Int(n) => *n >= 1 && *n as usize != keypos as usize,
+        Term::Int(n) => *n >= 1 && *n as Position != keypos as Position,
         _ => false,
     }
 }

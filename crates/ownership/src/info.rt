@@ -1,10 +1,10 @@
-ghost use Rattle.std.specs.Prelude.{◌≡◌, pos, IfOk};
+ghost use Rattle.std.specs.Prelude.{◌≡◌, IfOk};
 ghost use Rattle.ets_term.specs.Character.{IsAtomText};
 ghost use Rattle.ets_term.specs.declared.term.Term.TheVariants as term;
 ghost use Rattle.ownership.specs.Info.{item_of, word_item, table_item, truth, protection_word, kind_word, heir_term};
 
 use crate::head::{Heir, Protection};
-use ets_term::{Atom, Integer, Term};
+use ets_term::{Atom, Term};
 use std::alloc::{AllocError, Global};
 use table_ops::Kind;
 
@@ -127,12 +127,3 @@ pub fn heir_term(alloc: Global, heir: &Option<Heir>) -> Result<Term, AllocError>
     }
 }
 
-/// How many objects there are, as a term; no memory has more than an integer says.
-pub fn size_term(size: usize) -> Result<Term, AllocError>
-    ensures { IfOk result (λ t. t ≡ term.Int (pos size)) }
-{
-    if size > Integer::MAX as usize {
-        return Err(AllocError);
-    }
-    Ok(Term::Int(size as Integer))
-}

@@ -4,14 +4,14 @@ ghost use Rattle.ets_term.specs.Depth.{is_too_deep};
 ghost use Rattle.ets_term.specs.Order.{same};
 ghost use Rattle.table_ops.specs.Content.{key_of, is_object};
 
-use ets_term::Term;
+use ets_term::{Position, Term};
 
 /// The key of an object of a table with this keypos: a tuple's element at keypos, if that is not the atom
 /// `'$end_of_table'`. None where the term is no object.
 pub fn key_of(keypos: u32, object: &Term) -> Option<&Term>
     ensures { option_copied result ≡ key_of keypos object.now }
 {
-    let key = object.element(keypos as usize)?;
+    let key = object.element(keypos as Position)?;
     if key.is_atom("$end_of_table") {
         None
     } else {

@@ -11,7 +11,7 @@ ghost use Rattle.fixed_walk.specs.Fixed.{on_content};
 use super::Walked;
 use bucket_table::Rows;
 use counters::{ElementSpecs, Ops};
-use ets_term::{Items, Term};
+use ets_term::{Items, Position, Term};
 use std::alloc::AllocError;
 use table_ops::Refusal;
 
@@ -33,7 +33,7 @@ impl<R: Rows> Walked<R> {
 
     /// The element at a position of a key's object, or in a bag the list of these of all its objects, copied. `Badarg`
     /// where the key has no object, or one of them no such element (stdlib manual, ets:lookup_element/3).
-    pub fn lookup_element(&self, key: &Term, position: usize) -> Result<Term, Refusal>
+    pub fn lookup_element(&self, key: &Term, position: Position) -> Result<Term, Refusal>
         ensures { Tells (element_told self.now.content.kind position (objects_under self.now.content.slots key.now)) result }
     {
         self.table.lookup_element(key, position)
@@ -44,7 +44,7 @@ impl<R: Rows> Walked<R> {
     pub fn lookup_element_or(
         &self,
         key: &Term,
-        position: usize,
+        position: Position,
         default: &Term,
     ) -> Result<Term, Refusal>
         ensures { Tells (element_or self.now.content.kind position default.now (objects_under self.now.content.slots key.now)) result }

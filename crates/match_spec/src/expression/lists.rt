@@ -5,7 +5,7 @@ ghost use Rattle.ets_term.specs.Data.{int, list, data_of, row_of};
 ghost use Rattle.match_spec.specs.Functions.{head, tail, element, list_length, size};
 
 use crate::expression::arithmetic::count;
-use ets_term::{Integer, Items, Term};
+use ets_term::{Integer, Items, Position, Term};
 use std::alloc::{AllocError, Global};
 
 /// The first element of a list.
@@ -81,17 +81,11 @@ pub(crate) fn element<'a>(n: &Term, tuple: &'a Term) -> Option<&'a Term>
     }
 }
 
-#[tactic(auto, using(crate::proofs::ListLaws::element_at_tree, crate::proofs::ListLaws::past_tuple))]
+#[tactic(auto, using(crate::proofs::ListLaws::element_at_tree))]
 fn numbered(n: Integer, tuple: &Term) -> Option<&Term>
     ensures { option_map data_of (option_copied result) ≡ element (int n) (data_of tuple.now) }
 {
-    let Term::Tuple(items) = tuple else {
-        return None;
-    };
-    if n > items.len() as Integer {
-        return None;
-    }
-    match usize::try_from(n) {
+    match Position::try_from(n) {
         Ok(n) => tuple.element(n),
         Err(_) => None,
     }

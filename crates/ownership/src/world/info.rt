@@ -3,7 +3,7 @@ ghost use Rattle.ownership.specs.World.{table_at};
 ghost use Rattle.ownership.specs.Info.{info_of};
 
 use super::World;
-use crate::info::{InfoItem, heir_term, kind_term, protection_term, size_term, truth};
+use crate::info::{InfoItem, heir_term, kind_term, protection_term, truth};
 use crate::table::Table;
 use bucket_table::Rows;
 use ets_term::{Integer, Term};
@@ -39,7 +39,7 @@ fn told<R: Rows>(
         InfoItem::Protection => protection_term(alloc, head.protection),
         InfoItem::Heir => heir_term(alloc, &head.heir),
         InfoItem::Id => Ok(Term::Tid(id)),
-        InfoItem::Size => size_term(walked.size()),
+        InfoItem::Size => Ok(Term::Int(walked.size() as Integer)),
         InfoItem::Kind => kind_term(alloc, walked.kind()),
         InfoItem::Keypos => Ok(Term::Int(walked.keypos() as Integer)),
         InfoItem::Fixed => truth(alloc, walked.is_fixed()),

@@ -12,16 +12,16 @@ use super::Store;
 use crate::refusal::Refusal;
 use bucket_table::{Entry, Place, Rows};
 use counters::{CounterFault, ElementSpecs, Op, Ops, is_default, update_counter, update_elements};
-use ets_term::Term;
+use ets_term::{Position, Term};
 use node_list::Chain;
 use std::alloc::AllocError;
 
 impl<R: Rows> Store<R> {
     /// Whether an update may name a position.
-    fn is_open(&self, position: usize) -> bool
+    fn is_open(&self, position: Position) -> bool
         ensures { result ≡ is_open self.now.keypos position }
     {
-        0 < position && position != self.keypos as usize
+        0 < position && position != self.keypos as Position
     }
 
     /// Whether operations name no element that they may not.

@@ -9,7 +9,7 @@ use crate::kind::Kind;
 use crate::refusal::Refusal;
 use crate::slots::all_of;
 use bucket_table::Rows;
-use ets_term::{Items, Term};
+use ets_term::{Items, Position, Term};
 use std::alloc::{AllocError, Global};
 
 impl<R: Rows> Table<R> {
@@ -29,7 +29,7 @@ impl<R: Rows> Table<R> {
 
     /// The element at a position of a key's object, or in a bag the list of these of all its objects, copied. `Badarg`
     /// where the key has no object, or one of them no such element (stdlib manual, ets:lookup_element/3).
-    pub fn lookup_element(&self, key: &Term, position: usize) -> Result<Term, Refusal>
+    pub fn lookup_element(&self, key: &Term, position: Position) -> Result<Term, Refusal>
         ensures { Tells (element_told self.now.content.kind position (objects_under self.now.content.slots key.now)) result }
     {
         told(
@@ -45,7 +45,7 @@ impl<R: Rows> Table<R> {
     pub fn lookup_element_or(
         &self,
         key: &Term,
-        position: usize,
+        position: Position,
         default: &Term,
     ) -> Result<Term, Refusal>
         ensures { Tells (element_or self.now.content.kind position default.now (objects_under self.now.content.slots key.now)) result }
@@ -73,7 +73,7 @@ impl<R: Rows> Table<R> {
 }
 
 /// The element at a position of a set's objects, or the elements of a bag's.
-fn told(alloc: Global, kind: Kind, objects: &[Term], position: usize) -> Result<Term, Refusal>
+fn told(alloc: Global, kind: Kind, objects: &[Term], position: Position) -> Result<Term, Refusal>
     ensures { Tells (element_told kind position objects.now) result }
 {
     match kind {
@@ -83,7 +83,7 @@ fn told(alloc: Global, kind: Kind, objects: &[Term], position: usize) -> Result<
 }
 
 /// The element at a position of the first object.
-fn first_element(alloc: Global, objects: &[Term], position: usize) -> Result<Term, Refusal>
+fn first_element(alloc: Global, objects: &[Term], position: Position) -> Result<Term, Refusal>
     ensures { Tells (element_told Set position objects.now) result }
 {
     let object = objects.first().ok_or(Refusal::Badarg)?;
@@ -92,7 +92,7 @@ fn first_element(alloc: Global, objects: &[Term], position: usize) -> Result<Ter
 }
 
 /// The elements at a position of all objects, of which there is one at least.
-fn elements(alloc: Global, objects: &[Term], position: usize) -> Result<Term, Refusal>
+fn elements(alloc: Global, objects: &[Term], position: Position) -> Result<Term, Refusal>
     ensures { Tells (element_told Bag position objects.now) result }
 {
     if objects.is_empty() {

@@ -13,7 +13,7 @@ use crate::looks::Looks;
 use crate::marks::Marks;
 use crate::trial::{Choose, Give, Matching};
 use bucket_table::Rows;
-use ets_term::{Items, Term};
+use ets_term::{Items, Position, Term};
 use match_spec::{Pattern, Spec};
 use std::alloc::AllocError;
 
@@ -37,7 +37,7 @@ impl<R: Rows> Table<R> {
         ensures looks { OnOk result (looks.new ≡ ticks (tried (bound_key self.now.content.keypos (data_of pattern.now)) self.now.content.slots) looks.old) }
         ensures at_most { looks.new ≤ ticks (tried (bound_key self.now.content.keypos (data_of pattern.now)) self.now.content.slots) looks.old }
     {
-        let key = pattern.bound_key(self.store.keypos as usize);
+        let key = pattern.bound_key(self.store.keypos as Position);
         self.found(pattern, key, looks)
     }
 
@@ -60,7 +60,7 @@ impl<R: Rows> Table<R> {
         ensures at_most { looks.new ≤ ticks (tried (bound_key self.now.content.keypos (data_of pattern.now)) self.now.content.slots) looks.old }
     {
         let matching = Matching { pattern };
-        let key = pattern.bound_key(self.store.keypos as usize);
+        let key = pattern.bound_key(self.store.keypos as Position);
         self.found(&matching, key, looks)
     }
 
@@ -79,7 +79,7 @@ impl<R: Rows> Table<R> {
         ensures looks { OnOk result (looks.new ≡ ticks (tried (spec_key self.now.content.keypos (data_of spec.now)) self.now.content.slots) looks.old) }
         ensures at_most { looks.new ≤ ticks (tried (spec_key self.now.content.keypos (data_of spec.now)) self.now.content.slots) looks.old }
     {
-        self.found(spec, spec.bound_key(self.store.keypos as usize), looks)
+        self.found(spec, spec.bound_key(self.store.keypos as Position), looks)
     }
 
     /// How many objects there are for which the specification gives `true`, fewer than 4,294,967,296 (stdlib manual,
@@ -99,7 +99,7 @@ impl<R: Rows> Table<R> {
         ensures looks { OnOk result (looks.new ≡ ticks (tried (spec_key self.now.content.keypos (data_of spec.now)) self.now.content.slots) looks.old) }
         ensures at_most { looks.new ≤ ticks (tried (spec_key self.now.content.keypos (data_of spec.now)) self.now.content.slots) looks.old }
     {
-        self.chosen(spec, spec.bound_key(self.store.keypos as usize), looks)
+        self.chosen(spec, spec.bound_key(self.store.keypos as Position), looks)
     }
 
     /// Deletes the objects that match (stdlib manual, ets:match_delete/2). Want of memory changes nothing.
@@ -125,7 +125,7 @@ impl<R: Rows> Table<R> {
         ensures at_most { looks.new ≤ ticks (tried (bound_key self.old.content.keypos (data_of pattern.now)) self.old.content.slots) looks.old }
         ensures buckets { self.new.buckets ≡ self.old.buckets }
     {
-        let key = pattern.bound_key(self.store.keypos as usize);
+        let key = pattern.bound_key(self.store.keypos as Position);
         let _gone = self.delete_chosen(pattern, key, hold, looks)?;
         Ok(())
     }
@@ -158,7 +158,7 @@ impl<R: Rows> Table<R> {
         ensures at_most { looks.new ≤ ticks (tried (spec_key self.old.content.keypos (data_of spec.now)) self.old.content.slots) looks.old }
         ensures buckets { self.new.buckets ≡ self.old.buckets }
     {
-        let key = spec.bound_key(self.store.keypos as usize);
+        let key = spec.bound_key(self.store.keypos as Position);
         self.delete_chosen(spec, key, hold, looks)
     }
 
