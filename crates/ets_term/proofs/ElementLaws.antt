@@ -13,6 +13,6 @@ elements_of ts = search (rules, the_lemmas)
 pub element_past : (n : ℕ) (t : Term) (ts : List Term) → t ≡ Tuple ts → length ts < n → None ≡ element_at n t
 element_past zero t ts is past = refl
 element_past (suc i) t ts is past =
-  let some : (suc i == 0) ≡ false = grind (arith, nat_tests) in
-  let at : suc i - 1 ≡ i = omega arith in
-  rw (is, some, at, elements_of ts) (sym (slice_get_past ts i (omega (arith, past))))
+    let some : (suc i == 0) ≡ false = grind (arith, nat_tests) in
+    let at : suc i - 1 ≡ i = omega arith in
+    rw (is, some, at, elements_of ts) (sym (slice_get_past ts i (omega (arith, past))))
