@@ -1,4 +1,5 @@
 pub mod ElementLaws
+pub mod FnvLaws
 pub mod Joined
 pub mod RowLaws
 pub mod Rows

@@ -2,10 +2,16 @@
 ghost use Rattle.std.specs.Prelude.{◌≡◌, ◌∷◌, fold, map};
 ghost use Rattle.std.specs.Int.{to_be_bytes, w64};
 ghost use Rattle.ets_term.specs.Encoding.{encoding, joined, fnv_step};
+ghost use Rattle.ets_term.specs.Integers.{integer_bytes as bytes_of};
 
-use crate::integer::integer_bytes;
+use crate::integer::{Integer, integer_bytes};
 use crate::key_hash::KeyHash;
 use crate::term::Term;
+
+/// The prime of FNV-1a raised to the twelfth and to the eighth power, modulo 2^32: what so many zero bytes multiply by.
+const TWELVE_ZEROS: u32 = 3549196337;
+
+const EIGHT_ZEROS: u32 = 1566662433;
 
 /// The hash FNV-1a of 32 bits over the encoding of the term: a byte for the kind (integer 1, atom 2, pid 3, table
 /// identifier 4, tuple 5, list 6, binary 7); then 16 bytes of an integer, 8 of a count, 1 byte of an atom's length, or 4
@@ -31,7 +37,7 @@ fn fnv_term(start: u32, term: &Term) -> u32
     ensures { result ≡ fold fnv_step start (encoding term.now) }
 {
     match term {
-        Term::Int(n) => fnv_bytes(fnv_bytes(start, &[1]), &integer_bytes(*n)),
+        Term::Int(n) => fnv_integer(fnv_bytes(start, &[1]), *n),
         Term::Atom(atom) => {
             let text = atom.text().as_bytes();
             fnv_bytes(fnv_bytes(start, &[2, text.len() as u8]), text)
@@ -53,6 +59,19 @@ fn fnv_items(start: u32, items: &[Term]) -> u32
         hash = fnv_term(hash, item);
     }
     hash
+}
+
+/// Over the bytes of an integer: the zeros in front of a small one are one product.
+fn fnv_integer(start: u32, n: Integer) -> u32
+    ensures { result ≡ fold fnv_step start (bytes_of n) }
+{
+    if let Ok(low) = u32::try_from(n) {
+        return fnv_bytes(start.wrapping_mul(TWELVE_ZEROS), &low.to_be_bytes());
+    }
+    if let Ok(low) = u64::try_from(n) {
+        return fnv_bytes(start.wrapping_mul(EIGHT_ZEROS), &low.to_be_bytes());
+    }
+    fnv_bytes(start, &integer_bytes(n))
 }
 
 fn fnv_count(start: u32, kind: u8, count: usize) -> u32
