@@ -30,8 +30,9 @@ mod list;
 mod low;
 mod node;
 mod nodes;
+mod packed;
 mod reader;
-mod slot;
+mod seen;
 mod steps;
 mod unlink;
 
