@@ -17,6 +17,7 @@ pub struct Packed {
 }
 
 impl Packed {
+    /// A front, and whether its node is an item.
     #[inline(always)]
     pub fn new(front: Front, has_item: bool) -> Packed
         requires { Fits front.next }
@@ -34,6 +35,7 @@ impl Packed {
         }
     }
 
+    /// The key and the link.
     #[inline(always)]
     pub fn front(self) -> Front
         ensures key { result.key ≡ self.key }
