@@ -1,58 +1,63 @@
--- Where the items stand: a slot that is full has a node, and a node with an item a full slot.
-use Rattle.std.proofs.Common.{◌≡◌, ℕ, ◌<◌, ◌≤◌, inl, inr, List, length, Option, slice_index_or, Some, None, IsSome, refl, sym, ◌∙◌, ap, subst, arith}
+-- Where the items stand: where a front says so.
+use Rattle.std.proofs.Common.{◌≡◌, ℕ, ◌<◌, ◌≤◌, inl, inr, List, length, Option, slice_index_or, Some, None, IsSome, Bool, true, false, refl, sym, ◌∙◌, ap, subst, arith}
 use Rattle.std.proofs.lemmas.Bool.{cases_lt}
-use Rattle.std.proofs.lemmas.List.{get_or_past}
 use Rattle.slab.specs.Slab.{Slab, get}
 use Rattle.node_list.specs.declared.node.Item.{Item}
 use Rattle.node_list.specs.declared.node.Node.{Node}
-use Rattle.node_list.specs.declared.front.Front.{Front}
-use Rattle.node_list.specs.declared.slot.Slot.{Slot}
-use Rattle.node_list.specs.declared.slot.Slot.TheVariants.{Dummy, Full}
-use Rattle.node_list.specs.inside.Slots.{slot_at, node_in, nodes_of, whole, HasItemIn, IsLeastItemIn}
-use Rattle.node_list.proofs.SlotLaws.{get-nodes}
+use Rattle.node_list.specs.declared.packed.Packed.{Packed}
+use Rattle.node_list.specs.inside.Slots.{slot_at, item_if, node_in, nodes_of, whole, marks_item, HasItemIn, IsLeastItemIn}
+use Rattle.node_list.proofs.SlotLaws.{get-nodes, has-front}
 
--- the nodes of a slab and what stands beside it, under which a place with no node has a dummy
-pub record Beside (n : Slab Front) (ss : List Slot) (s : Slab Node) : Type 0 where
+-- the nodes of a slab and what stands beside it
+pub record Beside (n : Slab Packed) (ss : List Item) (s : Slab Node) : Type 0 where
   pub are : nodes_of n.slots ss ≡ s.slots
-  pub vacant : (k : ℕ) → get n k ≡ None → slot_at ss k ≡ Dummy
+  pub within : (k : ℕ) → IsSome (get n k) → k < length ss
 
-node-beside : (n : Slab Front) (ss : List Slot) (s : Slab Node) (k : ℕ) (slot : Slot) → Beside n ss s → slot_at ss k ≡ slot → get s k ≡ node_in (get n k) slot
-node-beside n ss s k slot b e =
-    let N : List (Option Node) → Type 0 = λ zs. slice_index_or zs k None ≡ node_in (get n k) slot in
-    subst N b.are (get-nodes n.slots ss k ∙ ap (node_in (get n k)) e)
+node-beside : (n : Slab Packed) (ss : List Item) (s : Slab Node) (k : ℕ) → Beside n ss s → get s k ≡ node_in (get n k) (slot_at ss k)
+node-beside n ss s k b =
+    let N : List (Option Node) → Type 0 = λ zs. slice_index_or zs k None ≡ node_in (get n k) (slot_at ss k) in
+    subst N b.are (get-nodes n.slots ss k)
 
-full-by : (s : Slab Node) (k : ℕ) (item : Item) (o : Option Front) → get s k ≡ node_in o (Full item) → (o ≡ None → ⊥) → HasItemIn s k
-full-by s k item None e some = absurd (some refl)
-full-by s k item (Some f) e some = record { node = whole f (Full item); is = e; has = refl }
+item-by : (s : Slab Node) (k : ℕ) (o : Option Packed) (slot : Item) → get s k ≡ node_in o slot → marks_item o ≡ true → HasItemIn s k
+item-by s k None slot e marked = absurd (cc)
+item-by s k (Some f) slot e marked =
+    let P : Bool → Type 0 = λ b. IsSome (item_if b slot) in
+    record { node = whole f slot; is = e; has = subst P (sym marked) refl }
 
-full-item : (n : Slab Front) (ss : List Slot) (s : Slab Node) (k : ℕ) (item : Item) → Beside n ss s → slot_at ss k ≡ Full item → HasItemIn s k
-full-item n ss s k item b e =
-    full-by s k item (get n k) (node-beside n ss s k (Full item) b e) (λ none. let dummy : slot_at ss k ≡ Dummy = b.vacant k none in absurd (cc (dummy, e)))
+marked-item : (n : Slab Packed) (ss : List Item) (s : Slab Node) (k : ℕ) → Beside n ss s → marks_item (get n k) ≡ true → HasItemIn s k
+marked-item n ss s k b marked = item-by s k (get n k) (slot_at ss k) (node-beside n ss s k b) marked
 
-dummy-by : (o : Option Front) (m : Node) → node_in o Dummy ≡ Some m → IsSome m.item → ⊥
-dummy-by None m e h = absurd (cc)
-dummy-by (Some f) m e h = let none : m.item ≡ None = ap (λ (z : Node). z.item) (let same : m ≡ whole f Dummy = cc in same) in absurd (cc (none, h))
+dummy-by : (o : Option Packed) (slot : Item) (m : Node) → node_in o slot ≡ Some m → marks_item o ≡ false → IsSome m.item → ⊥
+dummy-by None slot m e unmarked h = absurd (cc)
+dummy-by (Some f) slot m e unmarked h =
+    let same : m ≡ whole f slot = cc in
+    let none : m.item ≡ None = ap (λ (z : Node). z.item) same ∙ ap (λ (b : Bool). item_if b slot) unmarked in
+    absurd (cc (none, h))
 
-no-item : (n : Slab Front) (ss : List Slot) (s : Slab Node) (k : ℕ) → Beside n ss s → slot_at ss k ≡ Dummy → HasItemIn s k → ⊥
-no-item n ss s k b e h = dummy-by (get n k) h.node (sym (node-beside n ss s k Dummy b e) ∙ h.is) h.has
+no-item : (n : Slab Packed) (ss : List Item) (s : Slab Node) (k : ℕ) → Beside n ss s → marks_item (get n k) ≡ false → HasItemIn s k → ⊥
+no-item n ss s k b unmarked h = dummy-by (get n k) (slot_at ss k) h.node (sym (node-beside n ss s k b) ∙ h.is) unmarked h.has
 
--- dummies from a place up to one that is full, or to the end
-pub least-item : (n : Slab Front) (ss : List Slot) (s : Slab Node) (start at : ℕ) (item : Item) → Beside n ss s → ((k : ℕ) → start ≤ k → k < at → slot_at ss k ≡ Dummy)
-    → start ≤ at → slot_at ss at ≡ Full item → IsLeastItemIn start at s
-least-item n ss s start at item b seen h e =
+-- no items from a place up to one that has an item, or to the end
+pub least-item : (n : Slab Packed) (ss : List Item) (s : Slab Node) (start at : ℕ) → Beside n ss s → ((k : ℕ) → start ≤ k → k < at → marks_item (get n k) ≡ false)
+    → start ≤ at → marks_item (get n at) ≡ true → IsLeastItemIn start at s
+least-item n ss s start at b seen h marked =
     record {
-      has = full-item n ss s at item b e;
+      has = marked-item n ss s at b marked;
       from = h;
       least = λ other has after.
           elim (cases_lt other at) [ inl before ↦ absurd (no-item n ss s other b (seen other after before) has) | inr there ↦ there ];
     }
 
-pub no-item_left : (n : Slab Front) (ss : List Slot) (s : Slab Node) (start end : ℕ) → Beside n ss s → ((k : ℕ) → start ≤ k → k < end → slot_at ss k ≡ Dummy)
+pub no-item_left : (n : Slab Packed) (ss : List Item) (s : Slab Node) (start end : ℕ) → Beside n ss s → ((k : ℕ) → start ≤ k → k < end → marks_item (get n k) ≡ false)
     → length ss ≤ end → (other : ℕ) → HasItemIn s other → other < start
 no-item_left n ss s start end b seen h other has =
+    let N : List (Option Node) → Type 0 = λ zs. IsSome (slice_index_or zs other None) in
+    let O : Option Node → Type 0 = λ o. IsSome o in
+    let node : IsSome (slice_index_or (nodes_of n.slots ss) other None) = subst N (sym b.are) (subst O (sym has.is) refl) in
     elim (cases_lt other start) [
       | inl before ↦ before
-      | inr after ↦
-          let dummy : slot_at ss other ≡ Dummy = elim (cases_lt other end) [ inl within ↦ seen other after within | inr past ↦ get_or_past ss other Dummy (omega (arith, past, h)) ] in
-          absurd (no-item n ss s other b dummy has)
+      | inr after ↦ elim (cases_lt other end) [
+        | inl within ↦ absurd (no-item n ss s other b (seen other after within) has)
+        | inr past ↦ absurd (omega (arith, past, h, b.within other (has-front n ss other node)))
+      ]
     ]

@@ -1,7 +1,7 @@
 -- Laws of a slab of fronts with what stands beside them.
-use Rattle.std.proofs.Common.{◌≡◌, ◌≢◌, inl, inr, ℕ, zero, suc, ◌<◌, ◌≤◌, List, [], ◌∷◌, length, get_or, set, slice_get, Option, Some, None, IsSome, is_some, option_map, count_by, Bool, cond, refl, sym, ◌∙◌, ap, subst, arith}
+use Rattle.std.proofs.Common.{◌≡◌, ◌≢◌, inl, inr, ℕ, zero, suc, ◌<◌, ◌≤◌, List, [], ◌∷◌, length, get_or, set, slice_get, Option, Some, None, IsSome, is_some, option_map, count_by, Bool, true, false, cond, refl, sym, ◌∙◌, ap, subst, arith}
 use Rattle.std.specs.List.{AllZip}
-use Rattle.std.proofs.lemmas.Bool.{cases_eq}
+use Rattle.std.proofs.lemmas.Bool.{cases_eq, cases_lt}
 use Rattle.std.proofs.lemmas.List.{get_or-set_same, get_or-set_other, length-set}
 use Rattle.std.proofs.lemmas.List.Sums.{sum_by-cons}
 use Rattle.std.proofs.lemmas.Option.{slice_get_within, slice_get-get_or, get_or_from_slice_get}
@@ -10,144 +10,155 @@ use Rattle.slab.specs.Slab.{Slab, get, Updates, IsSlotClone, IsSlabClone}
 use Rattle.node_list.specs.declared.node.Item.{Item}
 use Rattle.node_list.specs.declared.node.Node.{Node}
 use Rattle.node_list.specs.declared.front.Front.{Front}
-use Rattle.node_list.specs.declared.slot.Slot.{Slot}
-use Rattle.node_list.specs.declared.slot.Slot.TheVariants.{Dummy, Full}
-use Rattle.node_list.specs.inside.Slots.{slot_of, slot_at, item_in, whole, node_in, nodes_of, PutsSlot, IsFull}
+use Rattle.node_list.specs.declared.packed.Packed.{Packed}
+use Rattle.node_list.specs.inside.Packed.{next_in, is_item}
+use Rattle.node_list.specs.inside.Slots.{stand_in, slot_at, item_if, whole, node_in, nodes_of, marks_item, HaveNoItem, PutsSlot}
 use Rattle.node_list.specs.inside.NodeLending.{node_with}
-use Rattle.node_list.specs.inside.SlotLending.{slot_with}
 
-pub get-nodes : (os : List (Option Front)) (ss : List Slot) (k : ℕ) → get_or (nodes_of os ss) k None ≡ node_in (get_or os k None) (get_or ss k Dummy)
+pub get-nodes : (os : List (Option Packed)) (ss : List Item) (k : ℕ) → get_or (nodes_of os ss) k None ≡ node_in (get_or os k None) (get_or ss k stand_in)
 get-nodes [] ss k = refl
 get-nodes (o ∷ os) [] zero = refl
 get-nodes (o ∷ os) [] (suc k) = get-nodes os [] k
 get-nodes (o ∷ os) (s ∷ ss) zero = refl
 get-nodes (o ∷ os) (s ∷ ss) (suc k) = get-nodes os ss k
 
-some-node : (o : Option Front) (s : Slot) → is_some (node_in o s) ≡ is_some o
+some-node : (o : Option Packed) (s : Item) → is_some (node_in o s) ≡ is_some o
 some-node None s = refl
 some-node (Some f) s = refl
 
-pub count-nodes : (os : List (Option Front)) (ss : List Slot) → count_by is_some (nodes_of os ss) ≡ count_by is_some os
+pub count-nodes : (os : List (Option Packed)) (ss : List Item) → count_by is_some (nodes_of os ss) ≡ count_by is_some os
 count-nodes [] ss = refl
 count-nodes (o ∷ os) [] =
     let one : Option Node → ℕ = λ z. cond (is_some z) 1 0 in
-    let two : Option Front → ℕ = λ z. cond (is_some z) 1 0 in
-    omega (arith, count-nodes os [], sum_by-cons one (node_in o Dummy) (nodes_of os []), sum_by-cons two o os, ap {B = ℕ} (λ (b : Bool). cond b 1 0) (some-node o Dummy))
+    let two : Option Packed → ℕ = λ z. cond (is_some z) 1 0 in
+    omega (arith, count-nodes os [], sum_by-cons one (node_in o stand_in) (nodes_of os []), sum_by-cons two o os, ap {B = ℕ} (λ (b : Bool). cond b 1 0) (some-node o stand_in))
 count-nodes (o ∷ os) (s ∷ ss) =
     let one : Option Node → ℕ = λ z. cond (is_some z) 1 0 in
-    let two : Option Front → ℕ = λ z. cond (is_some z) 1 0 in
+    let two : Option Packed → ℕ = λ z. cond (is_some z) 1 0 in
     omega (arith, count-nodes os ss, sum_by-cons one (node_in o s) (nodes_of os ss), sum_by-cons two o os, ap {B = ℕ} (λ (b : Bool). cond b 1 0) (some-node o s))
 
 -- a write of one array alone
-pub nodes-front : (os : List (Option Front)) (ss : List Slot) (k : ℕ) (f : Front) → nodes_of (set os k (Some f)) ss ≡ set (nodes_of os ss) k (Some (whole f (get_or ss k Dummy)))
+pub nodes-front : (os : List (Option Packed)) (ss : List Item) (k : ℕ) (f : Packed) → nodes_of (set os k (Some f)) ss ≡ set (nodes_of os ss) k (Some (whole f (get_or ss k stand_in)))
 nodes-front [] ss k f = refl
 nodes-front (o ∷ os) [] zero f = refl
-nodes-front (o ∷ os) [] (suc k) f = ap (λ (ns : List (Option Node)). node_in o Dummy ∷ ns) (nodes-front os [] k f)
+nodes-front (o ∷ os) [] (suc k) f = ap (λ (ns : List (Option Node)). node_in o stand_in ∷ ns) (nodes-front os [] k f)
 nodes-front (o ∷ os) (s ∷ ss) zero f = refl
 nodes-front (o ∷ os) (s ∷ ss) (suc k) f = ap (λ (ns : List (Option Node)). node_in o s ∷ ns) (nodes-front os ss k f)
 
-pub nodes-slot : (os : List (Option Front)) (ss : List Slot) (k : ℕ) (s : Slot) → k < length ss → nodes_of os (set ss k s) ≡ set (nodes_of os ss) k (node_in (get_or os k None) s)
+pub nodes-slot : (os : List (Option Packed)) (ss : List Item) (k : ℕ) (s : Item) → k < length ss → nodes_of os (set ss k s) ≡ set (nodes_of os ss) k (node_in (get_or os k None) s)
 nodes-slot [] ss k s h = refl
 nodes-slot (o ∷ os) [] k s h = absurd (omega (arith, h))
 nodes-slot (o ∷ os) (t ∷ ss) zero s h = refl
 nodes-slot (o ∷ os) (t ∷ ss) (suc k) s h = ap (λ (ns : List (Option Node)). node_in o t ∷ ns) (nodes-slot os ss k s (omega (arith, h)))
 
 -- ---- what a place with a node has
-front-by : (o : Option Front) (s : Slot) → IsSome (node_in o s) → (f : Front) × (o ≡ Some f)
+front-by : (o : Option Packed) (s : Item) → IsSome (node_in o s) → (f : Packed) × (o ≡ Some f)
 front-by None s h = absurd (cc)
 front-by (Some f) s h = (f, refl)
 
-pub front-at : (n : Slab Front) (ss : List Slot) (k : ℕ) → IsSome (get_or (nodes_of n.slots ss) k None) → (f : Front) × (get n k ≡ Some f)
+pub front-at : (n : Slab Packed) (ss : List Item) (k : ℕ) → IsSome (get_or (nodes_of n.slots ss) k None) → (f : Packed) × (get n k ≡ Some f)
 front-at n ss k h =
     let P : Option Node → Type 0 = λ o. IsSome o in
-    front-by (get n k) (get_or ss k Dummy) (subst P (get-nodes n.slots ss k) h)
+    front-by (get n k) (get_or ss k stand_in) (subst P (get-nodes n.slots ss k) h)
 
-pub has-front : (n : Slab Front) (ss : List Slot) (k : ℕ) → IsSome (get_or (nodes_of n.slots ss) k None) → IsSome (get n k)
-has-front n ss k h = let P : Option Front → Type 0 = λ o. IsSome o in subst P (sym (front-at n ss k h).1) refl
+pub has-front : (n : Slab Packed) (ss : List Item) (k : ℕ) → IsSome (get_or (nodes_of n.slots ss) k None) → IsSome (get n k)
+has-front n ss k h = let P : Option Packed → Type 0 = λ o. IsSome o in subst P (sym (front-at n ss k h).1) refl
 
 -- the node that a read of both arrays shows
-pub node-is : (n : Slab Front) (ss : List Slot) (k : ℕ) (f : Front) (s : Slot) → get n k ≡ Some f → s ≡ get_or ss k Dummy → get_or (nodes_of n.slots ss) k None ≡ Some (whole f s)
-node-is n ss k f s a b = get-nodes n.slots ss k ∙ (ap (λ (o : Option Front). node_in o (get_or ss k Dummy)) a ∙ ap (λ (z : Slot). Some (whole f z)) (sym b))
+pub node-is : (n : Slab Packed) (ss : List Item) (k : ℕ) (f : Packed) (s : Item) → get n k ≡ Some f → s ≡ get_or ss k stand_in → get_or (nodes_of n.slots ss) k None ≡ Some (whole f s)
+node-is n ss k f s a b = get-nodes n.slots ss k ∙ (ap (λ (o : Option Packed). node_in o (get_or ss k stand_in)) a ∙ ap (λ (z : Item). Some (whole f z)) (sym b))
 
 -- ---- a place is written in both arrays
-pub puts-set : (ss : List Slot) (k : ℕ) (s : Slot) → k < length ss → PutsSlot ss (set ss k s) k s
+pub puts-set : (ss : List Item) (k : ℕ) (s : Item) → k < length ss → PutsSlot ss (set ss k s) k s
 puts-set ss k s h =
     record {
       here = slice_get-get_or (set ss k s) k s (omega (arith, length-set ss k s, h)) ∙ ap Some (get_or-set_same ss k s s h);
-      others = λ j other. get_or-set_other ss k j s Dummy other;
+      others = λ j other had. get_or-set_other ss k j s stand_in other;
       length = omega (arith, length-set ss k s);
     }
 
-pub writes : (old new : Slab Front) (ss ts : List Slot) (k : ℕ) (o : Option Front) (s : Slot) → Updates old new k o → PutsSlot ss ts k s
+-- a place with no node shows none, whatever stands there
+node-same : (o : Option Packed) (s t : Item) → (IsSome o → s ≡ t) → node_in o s ≡ node_in o t
+node-same None s t h = refl
+node-same (Some f) s t h = ap (λ (z : Item). Some (whole f z)) (h refl)
+
+pub writes : (old new : Slab Packed) (ss ts : List Item) (k : ℕ) (o : Option Packed) (s : Item) → Updates old new k o → PutsSlot ss ts k s → ((j : ℕ) → IsSome (get old j) → j < length ss)
     → (get_or (nodes_of new.slots ts) k None ≡ node_in o s) × ((j : ℕ) → j ≢ k → get_or (nodes_of new.slots ts) j None ≡ get_or (nodes_of old.slots ss) j None)
-writes old new ss ts k o s u p = (
-  get-nodes new.slots ts k ∙ (ap (λ (z : Option Front). node_in z (get_or ts k Dummy)) u.changed ∙ ap (node_in o) (get_or_from_slice_get ts k s Dummy p.here)),
+writes old new ss ts k o s u p was = (
+  get-nodes new.slots ts k ∙ (ap (λ (z : Option Packed). node_in z (get_or ts k stand_in)) u.changed ∙ ap (node_in o) (get_or_from_slice_get ts k s stand_in p.here)),
   λ j other. get-nodes new.slots ts j
-      ∙ (ap (λ (z : Option Front). node_in z (get_or ts j Dummy)) (u.others j other) ∙ (ap (node_in (get old j)) (p.others j other) ∙ sym (get-nodes old.slots ss j))),
+      ∙ (ap (λ (z : Option Packed). node_in z (get_or ts j stand_in)) (u.others j other) ∙ (node-same (get old j) (get_or ts j stand_in) (get_or ss j stand_in) (λ some. p.others j other (was j some)) ∙ sym (get-nodes old.slots ss j))),
 )
 
--- a place with a node has a slot again, and one with none a dummy
-pub within-after : (old new : Slab Front) (ss ts : List Slot) (k : ℕ) (o : Option Front) (s : Slot) → Updates old new k o → PutsSlot ss ts k s
+-- a place with a node has a slot again
+pub within-after : (old new : Slab Packed) (ss ts : List Item) (k : ℕ) (o : Option Packed) (s : Item) → Updates old new k o → PutsSlot ss ts k s
     → ((j : ℕ) → IsSome (get old j) → j < length ss) → (j : ℕ) → IsSome (get new j) → j < length ts
 within-after old new ss ts k o s u p was j some =
-    let P : Option Front → Type 0 = λ z. IsSome z in
+    let P : Option Packed → Type 0 = λ z. IsSome z in
     elim (cases_eq j k) [
       | inl same ↦ omega (arith, same, slice_get_within ts k s p.here)
       | inr other ↦ omega (arith, p.length, was j (subst P (u.others j other) some))
     ]
 
-pub vacant-after : (old new : Slab Front) (ss ts : List Slot) (k : ℕ) (o : Option Front) (s : Slot) → Updates old new k o → PutsSlot ss ts k s → (o ≡ None → s ≡ Dummy)
-    → ((j : ℕ) → get old j ≡ None → slot_at ss j ≡ Dummy) → (j : ℕ) → get new j ≡ None → slot_at ts j ≡ Dummy
-vacant-after old new ss ts k o s u p says was j none =
-    elim (cases_eq j k) [
-      | inl same ↦ ap (slot_at ts) same ∙ (get_or_from_slice_get ts k s Dummy p.here ∙ says (sym u.changed ∙ (ap (get new) (sym same) ∙ none)))
-      | inr other ↦ p.others j other ∙ was j (sym (u.others j other) ∙ none)
-    ]
-
-not-full : (s : Slot) → (IsFull s → ⊥) → s ≡ Dummy
-not-full Dummy says = refl
-not-full (Full item) says = absurd (says refl)
-
 -- below the lesser place there is no item yet
-pub below-after : (ss ts : List Slot) (k : ℕ) (s : Slot) (low lower : ℕ) → PutsSlot ss ts k s → lower ≤ low → (IsFull s → lower ≤ k) → ((j : ℕ) → j < low → slot_at ss j ≡ Dummy)
-    → (j : ℕ) → j < lower → slot_at ts j ≡ Dummy
-below-after ss ts k s low lower p less item was j h =
+unmarked : (b : Bool) (k lower j : ℕ) → (b ≡ true → lower ≤ k) → j ≡ k → j < lower → b ≡ false
+unmarked true k lower j item same h = absurd (omega (arith, item refl, same, h))
+unmarked false k lower j item same h = refl
+
+pub below-after : (old new : Slab Packed) (k : ℕ) (f : Packed) (low lower : ℕ) → Updates old new k (Some f) → lower ≤ low → (is_item f ≡ true → lower ≤ k) → ((j : ℕ) → j < low → marks_item (get old j) ≡ false)
+    → (j : ℕ) → j < lower → marks_item (get new j) ≡ false
+below-after old new k f low lower u less item was j h =
     elim (cases_eq j k) [
-      | inl same ↦ ap (slot_at ts) same ∙ (get_or_from_slice_get ts k s Dummy p.here ∙ not-full s (λ full. omega (arith, item full, same, h)))
-      | inr other ↦ p.others j other ∙ was j (omega (arith, h, less))
+      | inl same ↦ ap (λ n. marks_item (get new n)) same ∙ (ap marks_item u.changed ∙ unmarked (is_item f) k lower j item same h)
+      | inr other ↦ ap marks_item (u.others j other) ∙ was j (omega (arith, h, less))
     ]
 
--- ---- an item gets another chain
-chain-full : (s : Slot) (w : List Term) → option_map (λ (i : Item). i.chain) (item_in s) ≡ Some w → s ≡ Dummy → ⊥
-chain-full Dummy w e d = absurd (cc)
-chain-full (Full i) w e d = absurd (cc)
-
--- a place with a dummy is another
-pub dummy-with : (ss : List Slot) (k : ℕ) (s t : Slot) (w : List Term) → s ≡ slot_at ss k → option_map (λ (i : Item). i.chain) (item_in s) ≡ Some w
-    → (j : ℕ) → slot_at ss j ≡ Dummy → slot_at (set ss k t) j ≡ Dummy
-dummy-with ss k s t w is e j dummy =
-    elim (cases_eq j k) [
-      | inl same ↦ absurd (chain-full s w e (is ∙ (ap (slot_at ss) (sym same) ∙ dummy)))
-      | inr other ↦ get_or-set_other ss k j t Dummy other ∙ dummy
+-- a removal passes places with no item
+pub below-raised : (old new : Slab Packed) (k low higher : ℕ) → Updates old new k None → HaveNoItem low higher new → ((j : ℕ) → j < low → marks_item (get old j) ≡ false)
+    → (j : ℕ) → j < higher → marks_item (get new j) ≡ false
+below-raised old new k low higher u passed was j h =
+    elim (cases_lt j low) [
+      | inl below ↦ elim (cases_eq j k) [
+        | inl same ↦ ap (λ n. marks_item (get new n)) same ∙ ap marks_item u.changed
+        | inr other ↦ ap marks_item (u.others j other) ∙ was j below
+      ]
+      | inr above ↦ passed j above h
     ]
 
 -- what a read of the second array tells
-pub read : (ss : List Slot) (k : ℕ) (s : Slot) → k < length ss → s ≡ get_or ss k s → s ≡ get_or ss k Dummy
+pub read : (ss : List Item) (k : ℕ) (s : Item) → k < length ss → s ≡ get_or ss k s → s ≡ get_or ss k stand_in
 read ss k s h e =
     let a : slice_get ss k ≡ Some s = slice_get-get_or ss k s h ∙ ap Some (sym e) in
-    let b : slice_get ss k ≡ Some (get_or ss k Dummy) = slice_get-get_or ss k Dummy h in
+    let b : slice_get ss k ≡ Some (get_or ss k stand_in) = slice_get-get_or ss k stand_in h in
     cc (a, b)
 
-pub item-slot : (o : Option Item) → item_in (slot_of o) ≡ o
-item-slot None = refl
-item-slot (Some item) = refl
+-- a node is put, or gets another link
+pub packed-node : (p : Packed) (s : Item) (m : Node) → p.key ≡ m.key → next_in p ≡ m.next → item_if (is_item p) s ≡ m.item → whole p s ≡ m
+packed-node p s m k n i = λ t. let z : Node = record { key = k t; next = n t; item = i t } in z
 
-pub whole-with : (f : Front) (s : Slot) (w : List Term) → whole f (slot_with s w) ≡ node_with (whole f s) w
-whole-with f Dummy w = refl
-whole-with f (Full i) w = refl
+pub relinked : (p q : Packed) (s : Item) (next : Option ℕ) → q.key ≡ p.key → next_in q ≡ next → is_item q ≡ is_item p → whole q s ≡ record (whole p s) { next = next }
+relinked p q s next k n i = λ t. let z : Node = record { key = k t; next = n t; item = item_if (i t) s } in z
+
+-- what a search sees is the node
+pub seen-whole : (p : Packed) (s : Item) (f : Front) (b : Bool) → f.key ≡ p.key → f.next ≡ next_in p → b ≡ is_item p → Some (whole p s) ≡ Some (let m : Node = record { key = f.key; next = f.next; item = item_if b s } in m)
+seen-whole p s f b k n i = λ t. Some (let m : Node = record { key = sym k t; next = sym n t; item = item_if (sym i t) s } in m)
+
+-- the node gets another chain
+pub whole-with : (f : Packed) (s : Item) (w : List Term) → whole f (record s { chain = w }) ≡ node_with (whole f s) w
+whole-with f s w = elim (is_item f) as (λ b. (let m : Node = record { key = f.key; next = next_in f; item = item_if b (record s { chain = w }) } in m) ≡ node_with (record { key = f.key; next = next_in f; item = item_if b s }) w) [ true ↦ refl | false ↦ refl ]
+
+-- the chain of a node that is an item
+chain-if : (b : Bool) (s : Item) → IsSome (item_if b s) → option_map (λ (i : Item). i.chain) (item_if b s) ≡ Some s.chain
+chain-if true s h = refl
+chain-if false s h = absurd (cc)
+
+pub has-chain : (f : Packed) (s : Item) (m : Node) → whole f s ≡ m → IsSome m.item → option_map (λ (i : Item). i.chain) (whole f s).item ≡ Some s.chain
+has-chain f s m same has =
+    let P : Node → Type 0 = λ n. IsSome n.item in
+    chain-if (is_item f) s (subst P (sym same) has)
 
 -- ---- a slab that grows
-slots-same : (xs ys : List (Option Front)) → AllZip (IsSlotClone (λ x y. y ≡ x)) xs ys → ys ≡ xs
+slots-same : (xs ys : List (Option Packed)) → AllZip (IsSlotClone (λ x y. y ≡ x)) xs ys → ys ≡ xs
 slots-same [] [] h = refl
 slots-same [] (y ∷ ys) h = absurd h
 slots-same (x ∷ xs) [] h = absurd h
@@ -155,5 +166,5 @@ slots-same (None ∷ xs) (y ∷ ys) h = rw (h.0, slots-same xs ys h.1) refl
 slots-same (Some f ∷ xs) (None ∷ ys) h = absurd h.0
 slots-same (Some f ∷ xs) (Some g ∷ ys) h = rw (h.0, slots-same xs ys h.1) refl
 
-pub cloned : (n copy : Slab Front) → IsSlabClone (λ x y. y ≡ x) n copy → copy.slots ≡ n.slots
+pub cloned : (n copy : Slab Packed) → IsSlabClone (λ x y. y ≡ x) n copy → copy.slots ≡ n.slots
 cloned n copy c = slots-same n.slots copy.slots c.slots

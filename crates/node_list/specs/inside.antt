@@ -1,6 +1,6 @@
 pub mod NodeLending
+pub mod Packed
 pub mod Seen
-pub mod SlotLending
 pub mod Slots
 pub mod Walks
 pub mod Words

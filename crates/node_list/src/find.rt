@@ -27,7 +27,7 @@ pub fn find_from(
         if key < node.front.key {
             return None;
         }
-        if node.front.key == key && node.slot.holds(term) {
+        if node.front.key == key && node.holds(term) {
             return Some(place);
         }
         at = node.front.next.get();

@@ -12,11 +12,13 @@
 //! order of their places are each found at once, but where an item in front of a long gap comes and goes, the gap is
 //! passed again.
 //!
-//! *Mechanism.* The nodes are linked one way, by the numbers of their places. A slab holds the key and the link of each,
-//! in 24 bytes, and gives out the places; beside it stand the items, of 88 bytes. A search that passes a node reads the
-//! slab alone: terms are looked at where keys are equal. `item_from` and `item` read the items alone: a look at all of
-//! them, in the order of their places, runs once through memory. The place below which there is no item is lowered by an
-//! insertion before it. Where the slab has to grow, a copy of it grows, so that a refusal changes nothing.
+//! *Mechanism.* The nodes are linked one way, by the numbers of their places. A slab holds the key of each and a word with
+//! its link and whether it is an item, in 24 bytes, and gives out the places; beside it stand the slots, of 96 bytes: the
+//! items, and at other places stand-ins that nobody reads, so that a slot has no tag. A search that passes a node reads
+//! the slab alone: terms are looked at where keys are equal. So does `item_from`: a look at all items, in the order of
+//! their places, runs once through the slab and once through the slots, and passes those of dummies. The place below
+//! which there is no item is lowered by an insertion before it. Where the slab has to grow, a copy of it grows, so that a
+//! refusal changes nothing.
 //!
 //! *Limits.* What a place number stands for is the caller's to remember; calls ask that it stands in the list.
 #![tactic(auto)]
@@ -30,8 +32,9 @@ mod list;
 mod low;
 mod node;
 mod nodes;
+mod packed;
 mod reader;
-mod slot;
+mod seen;
 mod steps;
 mod unlink;
 

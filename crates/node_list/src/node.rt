@@ -1,12 +1,37 @@
+ghost use Rattle.std.specs.Prelude.{◌≡◌, is_some};
+ghost use Rattle.node_list.specs.inside.Slots.{item_if};
+
 use crate::chain::Chain;
 use crate::link::Link;
 use ets_term::Term;
+use std::alloc::Global;
 
 /// A term and its chain.
 #[derive(Drop)]
 pub struct Item {
     pub term: Term,
     pub chain: Chain,
+}
+
+impl Item {
+    /// What stands at a place with no item.
+    pub fn stand_in(alloc: Global) -> Item {
+        Item {
+            term: Term::Int(0),
+            chain: Chain::new(alloc),
+        }
+    }
+
+    /// What stands at the place of a node: its item, or a stand-in.
+    #[inline(always)]
+    pub fn or_stand_in(item: Option<Item>, alloc: Global) -> Item
+        ensures { item_if (is_some item) result ≡ item }
+    {
+        match item {
+            Some(item) => item,
+            None => Item::stand_in(alloc),
+        }
+    }
 }
 
 /// A node as it is put in and taken out: an item, or a dummy that marks where a bucket begins.

@@ -2,15 +2,17 @@ ghost use Rattle.std.specs.Prelude.{◌≡◌, ℕ, ◌+◌, ◌<◌, ◌≤◌,
 ghost use Rattle.std.specs.Borrow.{sem};
 ghost use Rattle.slab.specs.Slab.{get, slab_len, ContainsKey, HasRoomFor, Updates};
 ghost use Rattle.node_list.specs.inside.Slots.{ShowsFront, ShowsChain, ShowsItem, Relinks, HasItemIn, IsItemFromIn, PutsSlot};
+ghost use Rattle.node_list.specs.inside.Packed.{Fits};
 ghost use Rattle.node_list.specs.inside.Seen.{seen_node};
 ghost use Rattle.node_list.specs.inside.NodeLending.{LendsChainIn};
 
 use crate::chain::Chain;
 use crate::front::Front;
 use crate::link::Link;
-use crate::low::{lowered, raised};
+use crate::low::{has_item, lowered, raised};
 use crate::node::{Item, Node};
-use crate::slot::Slot;
+use crate::packed::Packed;
+use crate::seen::Seen;
 use slab::Slab;
 use std::alloc::{AllocError, Global};
 use std::marker::Model;
@@ -18,6 +20,9 @@ use std::mem;
 
 /// How many nodes room is made for at first.
 const FIRST_ROOM: usize = 8;
+
+/// For how many nodes there is room at most: memory would not hold as many, and a front's word tells no greater place.
+const MOST_ROOM: usize = usize::MAX / 2;
 
 /// For how many nodes more room is made: as many as there are, so that growth costs each node a constant.
 fn growth(len: usize, additional: usize) -> usize
@@ -28,7 +33,7 @@ fn growth(len: usize, additional: usize) -> usize
 
 /// Puts a slot at a place. The slab gives its places out in turn, but does not promise it, so there may be a gap.
 #[inline(always)]
-fn put_slot(items: &mut Vec<Slot>, at: usize, slot: Slot)
+fn put_slot(items: &mut Vec<Item>, at: usize, slot: Item)
     requires { at < vec_capacity items.old }
     ensures puts { PutsSlot items.old.items items.new.items at slot }
     ensures capacity { vec_capacity items.old ≤ vec_capacity items.new }
@@ -37,26 +42,20 @@ fn put_slot(items: &mut Vec<Slot>, at: usize, slot: Slot)
         items[at] = slot;
         return;
     }
-    if items.len() < at && items.resize_with(at, || Slot::Dummy).is_err() {
+    let alloc = *items.allocator();
+    if items.len() < at && items.resize_with(at, || Item::stand_in(alloc)).is_err() {
         unreachable!();
     }
     items.push_reserved(slot);
-}
-
-/// A node as a search sees it.
-#[derive(Clone, Copy)]
-pub struct Seen<'a> {
-    pub front: Front,
-    pub slot: &'a Slot,
 }
 
 /// Nodes by place, in a slab of fronts with the items beside it: a search that passes a node touches its front alone. A
 /// contract sees them as a slab of whole nodes.
 #[derive(Drop)]
 pub struct Nodes {
-    nodes: Slab<Front>,
-    /// With room for as many as the slab can hold. A place with no node has a dummy, or lies past their end.
-    items: Vec<Slot>,
+    nodes: Slab<Packed>,
+    /// With room for as many as the slab can hold. A place with no item has a stand-in, or lies past their end.
+    items: Vec<Item>,
     /// Below this place there is no item.
     low: usize,
 }
@@ -107,6 +106,9 @@ impl Nodes {
         // A place needs room in both arrays, and either can be refused: so it is a copy of the first that grows.
         let mut nodes = self.nodes.clone()?;
         nodes.reserve_exact(growth(len, additional))?;
+        if nodes.capacity() > MOST_ROOM {
+            return Err(AllocError);
+        }
         let more = nodes.capacity().saturating_sub(self.items.len());
         self.items.reserve_exact(more)?;
         self.nodes = nodes;
@@ -116,18 +118,22 @@ impl Nodes {
     /// Puts a node at a vacant place.
     #[inline(always)]
     pub fn insert_reserved(&mut self, node: Node) -> usize
-        requires { HasRoomFor self.old 1 }
+        requires room { HasRoomFor self.old 1 }
+        requires fits { Fits node.next }
         ensures key { result ≡ self.old.vacant_key }
         ensures was_vacant { get self.old result ≡ None }
         ensures updates { Updates self.old self.new result (Some node) }
         ensures len { slab_len self.new ≡ slab_len self.old + 1 }
-        ensures in_range { result < 2 ^ 64 - 1 }
+        ensures in_range { result < 2 ^ 63 - 1 }
         ensures capacity { self.new.capacity ≡ self.old.capacity }
     {
         let Node { key, next, item } = node;
-        let at = self.nodes.insert_reserved(Front { key, next });
-        let slot = Slot::new(item);
-        self.low = lowered(self.low, at, &slot);
+        let is_item = item.is_some();
+        let slot = Item::or_stand_in(item, *self.items.allocator());
+        let at = self
+            .nodes
+            .insert_reserved(Packed::new(Front { key, next }, is_item));
+        self.low = lowered(self.low, at, is_item);
         put_slot(&mut self.items, at, slot);
         at
     }
@@ -136,17 +142,20 @@ impl Nodes {
     pub fn remove(&mut self, at: usize) -> Node
         requires { ContainsKey self.old at }
         ensures value { get self.old at ≡ Some result }
+        ensures fits { Fits result.next }
         ensures updates { Updates self.old self.new at None }
         ensures len { slab_len self.new + 1 ≡ slab_len self.old }
         ensures capacity { self.new.capacity ≡ self.old.capacity }
     {
-        let Front { key, next } = self.nodes.remove(at);
-        let slot = mem::replace(&mut self.items[at], Slot::Dummy);
-        self.low = raised(&self.items, self.low);
+        let packed = self.nodes.remove(at);
+        let stand_in = Item::stand_in(*self.items.allocator());
+        let slot = mem::replace(&mut self.items[at], stand_in);
+        self.low = raised(&self.nodes, self.low, self.items.len());
+        let Front { key, next } = packed.front();
         Node {
             key,
             next,
-            item: slot.into_item(),
+            item: packed.item_of(slot),
         }
     }
 
@@ -154,7 +163,7 @@ impl Nodes {
         requires { ContainsKey self.now at }
         ensures { ShowsFront self.now at result }
     {
-        self.nodes[at]
+        self.nodes[at].front()
     }
 
     /// A node for a search, which looks at the item where it has to.
@@ -162,29 +171,35 @@ impl Nodes {
         requires { ContainsKey self.now at }
         ensures { get self.now at ≡ Some (seen_node result) }
     {
+        let packed = self.nodes[at];
         Seen {
-            front: self.nodes[at],
+            front: packed.front(),
+            has_item: packed.is_item(),
             slot: &self.items[at],
         }
     }
 
-    /// The item at a place, or `None` for a dummy: a read of the items alone.
+    /// The item at a place, or `None` for a dummy, of which the front alone is read.
     #[inline]
     pub fn item(&self, at: usize) -> Option<&Item>
         requires { ContainsKey self.now at }
         ensures { ShowsItem self.now at (option_copied result) }
     {
-        self.items[at].item()
+        if self.nodes[at].is_item() {
+            Some(&self.items[at])
+        } else {
+            None
+        }
     }
 
-    /// The first place from `start` on that has an item: a read of the items alone, in the order of their places. It
+    /// The first place from `start` on that has an item: a read of the fronts alone, in the order of their places. It
     /// begins at `low` where `start` is before it.
     #[inline]
     pub fn item_from(&self, start: usize) -> Option<usize>
         ensures { IsItemFromIn start result self.now }
     {
         for at in start.max(self.low)..self.items.len() {
-            if let Slot::Full(_) = &self.items[at] {
+            if has_item(&self.nodes, at) {
                 return Some(at);
             }
         }
@@ -211,10 +226,12 @@ impl Nodes {
 
     /// Changes the link of the node at a place.
     pub fn set_next(&mut self, at: usize, next: Link)
-        requires { ContainsKey self.old at }
+        requires has { ContainsKey self.old at }
+        requires fits { Fits next }
         ensures { Relinks self.old self.new at next }
     {
-        self.nodes[at].next = next;
+        let packed = &mut self.nodes[at];
+        *packed = packed.with_next(next);
     }
 
     pub fn chain_mut(&mut self, at: usize) -> &mut Chain
@@ -222,6 +239,6 @@ impl Nodes {
         ensures* lends { sem 𝓛 (LendsChainIn at self.entry result) }
         ensures value { ShowsChain self.old at result.now }
     {
-        self.items[at].chain_mut()
+        &mut self.items[at].chain
     }
 }

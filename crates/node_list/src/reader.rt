@@ -3,7 +3,8 @@ ghost use Rattle.slab.specs.Slab.{get, ContainsKey};
 ghost use Rattle.node_list.specs.inside.Seen.{seen_node};
 ghost use Rattle.node_list.specs.Ticks.{tick};
 
-use crate::nodes::{Nodes, Seen};
+use crate::nodes::Nodes;
+use crate::seen::Seen;
 use crate::steps::Steps;
 
 /// The nodes of a list, for a search: they can be read by one call alone, and it counts.

@@ -1,61 +1,63 @@
--- How nodes lie in two arrays: their fronts in a slab, and what else they have beside it.
-use Rattle.std.specs.Prelude.{◌≡◌, ◌≤◌, ◌<◌, ◌≢◌, ℕ, List, [], ◌∷◌, length, slice_get, slice_index_or, Option, Some, None, IsSome, option_map, Vec, vec_capacity, vec_items}
+-- How nodes lie in two arrays: their fronts in a slab, and beside it a slot for each, which is its item, or at a dummy anything.
+use Rattle.std.specs.Prelude.{◌≡◌, ◌≤◌, ◌<◌, ◌^◌, ◌≢◌, ℕ, pos, Bool, true, false, List, [], ◌∷◌, length, slice_get, slice_index_or, Option, Some, None, IsSome, option_map, Vec, vec_capacity, vec_items}
 use Rattle.slab.specs.Slab.{Slab, get, with_value}
 use Rattle.ets_term.specs.declared.term.Term.{Term}
+use Rattle.ets_term.specs.declared.term.Term.TheVariants.{Int}
 use Rattle.node_list.specs.declared.node.Item.{Item}
 use Rattle.node_list.specs.declared.node.Node.{Node}
 use Rattle.node_list.specs.declared.front.Front.{Front}
-use Rattle.node_list.specs.declared.slot.Slot.{Slot}
-use Rattle.node_list.specs.declared.slot.Slot.TheVariants.{Dummy, Full}
+use Rattle.node_list.specs.declared.packed.Packed.{Packed}
+use Rattle.node_list.specs.inside.Packed.{next_in, is_item, Fits}
 
--- the item of a slot, if it has one
-abbrev pub item_in : Slot → Option Item
-item_in Dummy = None
-item_in (Full item) = Some item
+-- what stands past the end
+abbrev pub stand_in : Item
+stand_in = record { term = Int (pos 0); chain = [] }
 
-abbrev pub slot_of : Option Item → Slot
-slot_of None = Dummy
-slot_of (Some item) = Full item
+-- the item that a slot is, if it is one
+abbrev pub item_if : Bool → Item → Option Item
+item_if true slot = Some slot
+item_if false slot = None
 
 -- the node of a front and what stands beside it
-abbrev pub whole : Front → Slot → Node
-whole f s = record { key = f.key; next = f.next; item = item_in s }
+abbrev pub whole : Packed → Item → Node
+whole p slot = record { key = p.key; next = next_in p; item = item_if (is_item p) slot }
 
 -- a place has a node where the slab has a front
-abbrev pub node_in : Option Front → Slot → Option Node
-node_in None s = None
-node_in (Some f) s = Some (whole f s)
+abbrev pub node_in : Option Packed → Item → Option Node
+node_in None slot = None
+node_in (Some p) slot = Some (whole p slot)
 
 -- the slab's places with what stands beside them
-abbrev pub nodes_of : List (Option Front) → List Slot → List (Option Node)
-nodes_of [] ss = []
-nodes_of (o ∷ os) [] = node_in o Dummy ∷ nodes_of os []
-nodes_of (o ∷ os) (s ∷ ss) = node_in o s ∷ nodes_of os ss
+abbrev pub nodes_of : List (Option Packed) → List Item → List (Option Node)
+nodes_of [] slots = []
+nodes_of (o ∷ os) [] = node_in o stand_in ∷ nodes_of os []
+nodes_of (o ∷ os) (s ∷ slots) = node_in o s ∷ nodes_of os slots
 
--- what stands at a place, a dummy past the end
-abbrev pub slot_at : List Slot → ℕ → Slot
-slot_at slots k = slice_index_or slots k Dummy
+-- what stands at a place
+abbrev pub slot_at : List Item → ℕ → Item
+slot_at slots k = slice_index_or slots k stand_in
 
--- it has an item
-abbrev pub IsFull : Slot → Type 0
-IsFull s = IsSome (item_in s)
+-- a place has the front of an item
+abbrev pub marks_item : Option Packed → Bool
+marks_item None = false
+marks_item (Some p) = is_item p
 
 -- no place from the first up to the second has an item
-abbrev pub AreDummies : ℕ → ℕ → List Slot → Type 0
-AreDummies from to slots = (k : ℕ) → from ≤ k → k < to → slot_at slots k ≡ Dummy
+abbrev pub HaveNoItem : ℕ → ℕ → Slab Packed → Type 0
+HaveNoItem from to nodes = (k : ℕ) → from ≤ k → k < to → marks_item (get nodes k) ≡ false
 
--- whatever place the slab gives out has room for a slot, every place with a node has a slot, and any other has a dummy; so
--- has each below `low`
-pub record AreNodes {A : Type 0} (nodes : Slab Front) (items : Vec Slot A) (low : ℕ) : Type 0 where
+-- each place that the slab gives out can be told in a word, and has room for a slot; every place with a node has a slot; below
+-- `low` there is no item
+pub record AreNodes {A : Type 0} (nodes : Slab Packed) (items : Vec Item A) (low : ℕ) : Type 0 where
+  pub few : nodes.capacity < 2 ^ 63
   pub room : nodes.capacity ≤ vec_capacity items
   pub within : (k : ℕ) → IsSome (get nodes k) → k < length (vec_items items)
-  pub vacant : (k : ℕ) → get nodes k ≡ None → slot_at (vec_items items) k ≡ Dummy
-  pub below : (k : ℕ) → k < low → slot_at (vec_items items) k ≡ Dummy
+  pub below : (k : ℕ) → k < low → marks_item (get nodes k) ≡ false
 
--- a place has this slot now, and every other has what it had
-pub record PutsSlot (old new : List Slot) (at : ℕ) (slot : Slot) : Type 0 where
+-- a place has this slot now, and every other that had one has it yet
+pub record PutsSlot (old new : List Item) (at : ℕ) (slot : Item) : Type 0 where
   pub here : slice_get new at ≡ Some slot
-  pub others : (k : ℕ) → k ≢ at → slot_at new k ≡ slot_at old k
+  pub others : (k : ℕ) → k ≢ at → k < length old → slot_at new k ≡ slot_at old k
   pub length : length old ≤ length new
 
 -- the node at a place has this key and this link
@@ -64,6 +66,7 @@ pub record ShowsFront (s : Slab Node) (at : ℕ) (f : Front) : Type 0 where
   pub is : get s at ≡ Some node
   pub key : node.key ≡ f.key
   pub next : node.next ≡ f.next
+  pub fits : Fits f.next
 
 -- the node at a place has another link, and nothing else has changed
 pub record Relinks (old new : Slab Node) (at : ℕ) (next : Option ℕ) : Type 0 where

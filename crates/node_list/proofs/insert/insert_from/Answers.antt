@@ -49,8 +49,8 @@ pub returns-clause-fresh : goal.returns-clause-fresh
 returns-clause-fresh c =
     apart-vacant (get c.args.nodes.now) c.insert_reserved-place.result c.insert_reserved-place.ensures.was_vacant (Some 0) (rest c.args.nodes.now (Some 0)) c.requires.linked.links
 
-pub set_next-requires : goal.set_next-requires
-set_next-requires c =
+pub set_next-requires-clause-has : goal.set_next-requires-clause-has
+set_next-requires-clause-has c =
     let was : get c.args.nodes.now c.last_up_to-last.result ≡ Some c.front-next.ensures.node = c.front-next.ensures.is in
     let apart : c.last_up_to-last.result ≢ c.insert_reserved-place.result = λ same. let f = ap (get c.args.nodes.now) same ∙ c.insert_reserved-place.ensures.was_vacant in absurd (cc (f, was)) in
     let O : Option Node → Type 0 = λ o. IsSome o in

@@ -47,9 +47,9 @@ remove-node-requires c =
     let O : Option Node → Type 0 = λ o. IsSome o in
     subst O (sym n.1) refl
 
-pub set_next-requires : goal.set_next-requires
-set_next-requires c =
-    let b = stands (goal.at.set_next-requires c).After-last_before-before in
+pub set_next-requires-clause-has : goal.set_next-requires-clause-has
+set_next-requires-clause-has c =
+    let b = stands (goal.at.set_next-requires-clause-has c).After-last_before-before in
     let n = before-node (get c.args.nodes.now) c.last_before-before.result c.args.at (Some 0) (rest c.args.nodes.now (Some 0)) c.requires.linked.links b in
     let other = before-differs (get c.args.nodes.now) c.last_before-before.result c.args.at (Some 0) (rest c.args.nodes.now (Some 0)) c.requires.linked.links b in
     let O : Option Node → Type 0 = λ o. IsSome o in

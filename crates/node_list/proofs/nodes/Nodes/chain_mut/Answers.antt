@@ -1,13 +1,12 @@
 use Rattle.std.proofs.Common.{◌≡◌, ◌<◌, List, length, Some, Option, IsSome, option_map, set, refl, sym, ◌∙◌, ap, subst, arith}
 use Rattle.std.proofs.lemmas.List.{length-set}
 use Rattle.node_list.specs.declared.node.Node.{Node}
-use Rattle.node_list.specs.declared.front.Front.{Front}
+use Rattle.node_list.specs.declared.packed.Packed.{Packed}
 use Rattle.slab.specs.Slab.{Slab, get}
 use Rattle.node_list.specs.declared.node.Item.{Item}
 use Rattle.node_list.specs.inside.Slots.{whole, node_in, nodes_of}
 use Rattle.node_list.specs.inside.NodeLending.{node_with, nodes_with}
-use Rattle.node_list.specs.inside.SlotLending.{slot_with}
-use Rattle.node_list.proofs.SlotLaws.{has-front, front-at, node-is, read, dummy-with, nodes-slot, whole-with}
+use Rattle.node_list.proofs.SlotLaws.{has-front, front-at, node-is, read, nodes-slot, whole-with, has-chain}
 use Rattle.node_list.proofs.nodes.Nodes.chain_mut.Goals as goal
 
 pub index_mut-requires : goal.index_mut-requires
@@ -17,30 +16,13 @@ index_mut-requires c =
     let some = subst O (sym get_is) refl in
     omega (arith, c.self.invariant.within c.args.at (has-front c.self.inside.nodes c.self.inside.items.items c.args.at some), c.self.inside.items.ok.0)
 
-pub chain_mut-requires : goal.chain_mut-requires
-chain_mut-requires c =
-    let O : Option Node → Type 0 = λ o. IsSome o in
-    let get_is = ap (λ (v : Slab Node). get v c.args.at) c.self.view_is ∙ c.requires.is in
-    let some = subst O (sym get_is) refl in
-    let f = front-at c.self.inside.nodes c.self.inside.items.items c.args.at some in
-    let inside : c.args.at < length c.self.inside.items.items = c.self.invariant.within c.args.at (has-front c.self.inside.nodes c.self.inside.items.items c.args.at some) in
-    let p = node-is c.self.inside.nodes c.self.inside.items.items c.args.at f.0 c.index_mut.result.now f.1 (read c.self.inside.items.items c.args.at c.index_mut.result.now inside c.index_mut.ensures.value) in
-    let I : Option Item → Type 0 = λ o. IsSome o in
-    let same : whole f.0 c.index_mut.result.now ≡ c.requires.node = cc (p, get_is) in
-    subst I (sym (ap (λ (n : Node). n.item) same)) c.requires.has
-
 pub invariant_of-self-lent : goal.invariant_of-self-lent
 invariant_of-self-lent c = λ w.
-    let O : Option Node → Type 0 = λ o. IsSome o in
-    let some = subst O (sym (ap (λ (v : Slab Node). get v c.args.at) c.self.view_is ∙ c.requires.is)) refl in
-    let inside : c.args.at < length c.self.inside.items.items = c.self.invariant.within c.args.at (has-front c.self.inside.nodes c.self.inside.items.items c.args.at some) in
-    let is = read c.self.inside.items.items c.args.at c.index_mut.result.now inside c.index_mut.ensures.value in
-    let stays = dummy-with c.self.inside.items.items c.args.at c.index_mut.result.now (slot_with c.index_mut.result.now w) c.chain_mut.result.now is c.chain_mut.ensures.value in
     record {
+      few = c.self.invariant.few;
       room = c.self.invariant.room;
-      within = λ k has. omega (arith, c.self.invariant.within k has, length-set c.self.inside.items.items c.args.at (slot_with c.index_mut.result.now w));
-      vacant = λ k none. stays k (c.self.invariant.vacant k none);
-      below = λ k less. stays k (c.self.invariant.below k less);
+      within = λ k has. omega (arith, c.self.invariant.within k has, length-set c.self.inside.items.items c.args.at (record c.index_mut.result.now { chain = w }));
+      below = c.self.invariant.below;
     }
 
 pub returns : goal.returns
@@ -55,8 +37,8 @@ returns c =
         refl,
         λ w.
             ap (λ (zs : List (Option Node)). let z : Slab Node = record { slots = zs; vacant_key = c.self.inside.nodes.vacant_key; capacity = c.self.inside.nodes.capacity } in z)
-            (nodes-slot c.self.inside.nodes.slots c.self.inside.items.items c.args.at (slot_with c.index_mut.result.now w) inside
-            ∙ (ap (λ (o : Option Front). set (nodes_of c.self.inside.nodes.slots c.self.inside.items.items) c.args.at (node_in o (slot_with c.index_mut.result.now w))) f.1
+            (nodes-slot c.self.inside.nodes.slots c.self.inside.items.items c.args.at (record c.index_mut.result.now { chain = w }) inside
+            ∙ (ap (λ (o : Option Packed). set (nodes_of c.self.inside.nodes.slots c.self.inside.items.items) c.args.at (node_in o (record c.index_mut.result.now { chain = w }))) f.1
             ∙ (ap (λ (n : Node). set (nodes_of c.self.inside.nodes.slots c.self.inside.items.items) c.args.at (Some n)) (whole-with f.0 c.index_mut.result.now w)
             ∙ ap (λ (o : Option Node). set (nodes_of c.self.inside.nodes.slots c.self.inside.items.items) c.args.at (option_map (λ (n : Node). node_with n w) o)) (sym p))))
             ∙ ap (λ (v : Slab Node). nodes_with c.args.at w v) c.self.view_is,
@@ -66,7 +48,7 @@ returns c =
         value = record {
           node = whole f.0 c.index_mut.result.now;
           is = sym (ap (λ (v : Slab Node). get v c.args.at) c.self.view_is) ∙ p;
-          chain = c.chain_mut.ensures.value;
+          chain = has-chain f.0 c.index_mut.result.now c.requires.node (cc (p, get_is)) c.requires.has;
         };
       },
     )

@@ -1,8 +1,7 @@
 use Rattle.std.proofs.Common.{IsSome, get_or, refl, sym, subst}
 use Rattle.node_list.specs.declared.node.Node.{Node}
-use Rattle.node_list.specs.declared.slot.Slot.TheVariants.{Dummy}
 use Rattle.slab.specs.Slab.{Slab, get}
-use Rattle.node_list.specs.inside.Slots.{ShowsFront, whole}
+use Rattle.node_list.specs.inside.Slots.{stand_in, ShowsFront, whole}
 use Rattle.node_list.proofs.SlotLaws.{has-front, node-is}
 use Rattle.node_list.proofs.nodes.Nodes.front.Goals as goal
 
@@ -13,5 +12,13 @@ index-requires c =
 
 pub returns : goal.returns
 returns c =
-    let Q : Slab Node → Type 0 = λ v. ShowsFront v c.args.at c.index.result.now in
-    subst Q c.self.view_is (record { node = whole c.index.result.now (get_or c.self.inside.items.items c.args.at Dummy); is = node-is c.self.inside.nodes c.self.inside.items.items c.args.at c.index.result.now (get_or c.self.inside.items.items c.args.at Dummy) c.index.ensures refl; key = refl; next = refl })
+    let Q : Slab Node → Type 0 = λ v. ShowsFront v c.args.at c.front.result in
+    let slot = get_or c.self.inside.items.items c.args.at stand_in in
+    subst Q c.self.view_is
+    (record {
+      node = whole c.index.result.now slot;
+      is = node-is c.self.inside.nodes c.self.inside.items.items c.args.at c.index.result.now slot c.index.ensures refl;
+      key = sym c.front.ensures.key;
+      next = sym c.front.ensures.next;
+      fits = c.front.ensures.fits;
+    })

@@ -1,19 +1,17 @@
-use Rattle.std.proofs.Common.{◌<◌, ◌≤◌, length, sym, ◌∙◌, ap, arith}
+use Rattle.std.proofs.Common.{◌≤◌, length, sym, ◌∙◌, ap, arith}
 use Rattle.node_list.specs.declared.node.Node.{Node}
 use Rattle.slab.specs.Slab.{Slab}
-use Rattle.node_list.proofs.SlotLaws.{read}
 use Rattle.node_list.proofs.ItemLaws.{Beside, least-item, no-item_left}
 use Rattle.node_list.proofs.nodes.Nodes.item_from.Goals as goal
 
-pub returns-in-Full : goal.returns-in-Full
-returns-in-Full c =
-    let b : Beside c.self.inside.nodes c.self.inside.items.items c.args.self.now = record { are = ap (λ (v : Slab Node). v.slots) c.self.view_is; vacant = c.self.invariant.vacant } in
-    let inside : c.loop-at.at < length c.self.inside.items.items = omega (arith, c.loop-at-test.true, c.len-at-end.ensures, c.self.inside.items.ok.0) in
-    least-item c.self.inside.nodes c.self.inside.items.items c.args.self.now c.args.start c.loop-at.at c.in-Full.field-0 b c.loop-at.invariant (omega (arith, c.loop-at.auto.at, c.max-at.ensures))
-    (sym (read c.self.inside.items.items c.loop-at.at c.index.result.now inside c.index.ensures) ∙ c.in-Full.is)
+pub returns-then-has_item : goal.returns-then-has_item
+returns-then-has_item c =
+    let b : Beside c.self.inside.nodes c.self.inside.items.items c.args.self.now = record { are = ap (λ (v : Slab Node). v.slots) c.self.view_is; within = c.self.invariant.within } in
+    least-item c.self.inside.nodes c.self.inside.items.items c.args.self.now c.args.start c.loop-at.at b c.loop-at.invariant (omega (arith, c.loop-at.auto.at, c.max-at.ensures))
+    (sym c.has_item.ensures ∙ c.if-has_item.true)
 
 pub returns : goal.returns
 returns c =
-    let b : Beside c.self.inside.nodes c.self.inside.items.items c.args.self.now = record { are = ap (λ (v : Slab Node). v.slots) c.self.view_is; vacant = c.self.invariant.vacant } in
+    let b : Beside c.self.inside.nodes c.self.inside.items.items c.args.self.now = record { are = ap (λ (v : Slab Node). v.slots) c.self.view_is; within = c.self.invariant.within } in
     let end : length c.self.inside.items.items ≤ c.loop-at.at = omega (arith, c.loop-at-test.false, c.len-at-end.ensures, c.self.inside.items.ok.0) in
     no-item_left c.self.inside.nodes c.self.inside.items.items c.args.self.now c.args.start c.loop-at.at b c.loop-at.invariant end

@@ -1,12 +1,14 @@
-use Rattle.std.proofs.Common.{◌≡◌, ◌+◌, ◌<◌, length, None, Some, IsSome, set, sym, ◌∙◌, ap, subst}
+use Rattle.std.proofs.Common.{◌≡◌, ◌+◌, ◌<◌, length, None, Some, IsSome, set, sym, ◌∙◌, ap, subst, arith}
+use Rattle.node_list.specs.declared.node.Item.{Item}
 use Rattle.node_list.specs.declared.node.Node.{Node}
 use Rattle.slab.specs.Slab.{Slab, get, slab_len}
-use Rattle.node_list.specs.inside.Slots.{item_in}
-use Rattle.node_list.proofs.SlotLaws.{has-front, node-is, read, writes, puts-set, count-nodes}
+use Rattle.node_list.specs.inside.Packed.{is_item}
+use Rattle.node_list.specs.inside.Slots.{item_if}
+use Rattle.node_list.proofs.SlotLaws.{has-front, node-is, read, writes, within-after, below-raised, puts-set, count-nodes, packed-node}
 use Rattle.node_list.proofs.nodes.Nodes.remove.Goals as goal
 
-pub remove-key-requires : goal.remove-key-requires
-remove-key-requires c =
+pub remove-packed-requires : goal.remove-packed-requires
+remove-packed-requires c =
     let P : Slab Node → Type 0 = λ v. IsSome (get v c.args.at) in
     has-front c.self.inside.nodes c.self.inside.items.items c.args.at (subst P (sym c.self.view_is) c.requires)
 
@@ -14,19 +16,35 @@ pub returns-clause-value : goal.returns-clause-value
 returns-clause-value c =
     let P : Slab Node → Type 0 = λ v. IsSome (get v c.args.at) in
     let inside : c.args.at < length c.self.inside.items.items = c.self.invariant.within c.args.at (has-front c.self.inside.nodes c.self.inside.items.items c.args.at (subst P (sym c.self.view_is) c.requires)) in
-    let item : item_in c.index_mut.result.now ≡ c.into_item.result = ap item_in (sym c.replace-slot.ensures.value) ∙ sym c.into_item.ensures in
+    let packed = c.remove-packed.result in
+    let slot = c.index_mut.result.now in
+    let item : item_if (is_item packed) slot ≡ c.item_of.result = ap (λ (z : Item). item_if (is_item packed) z) (sym c.replace-slot.ensures.value) ∙ sym c.item_of.ensures in
+    let node : Node = record { key = c.front-key.result.key; next = c.front-key.result.next; item = c.item_of.result } in
     sym (ap (λ (v : Slab Node). get v c.args.at) c.self.view_is)
-    ∙ (node-is c.self.inside.nodes c.self.inside.items.items c.args.at c.remove-key.result c.index_mut.result.now c.remove-key.ensures.value (read c.self.inside.items.items c.args.at c.index_mut.result.now inside c.index_mut.ensures.value)
-    ∙ ap (λ o. let n : Node = record { key = c.remove-key.result.key; next = c.remove-key.result.next; item = o } in Some n) item)
+    ∙ (node-is c.self.inside.nodes c.self.inside.items.items c.args.at packed slot c.remove-packed.ensures.value (read c.self.inside.items.items c.args.at slot inside c.index_mut.ensures.value)
+    ∙ ap Some (packed-node packed slot node (sym c.front-key.ensures.key) (sym c.front-key.ensures.next) item))
 
 pub returns-clause-updates : goal.returns-clause-updates
 returns-clause-updates c =
     let P : Slab Node → Type 0 = λ v. IsSome (get v c.args.at) in
     let inside : c.args.at < length c.self.inside.items.items = c.self.invariant.within c.args.at (has-front c.self.inside.nodes c.self.inside.items.items c.args.at (subst P (sym c.self.view_is) c.requires)) in
-    let u = writes c.self.inside.nodes c.remove-key.new.self c.self.inside.items.items (set c.self.inside.items.items c.args.at c.replace-slot.new.dest) c.args.at None c.replace-slot.new.dest c.remove-key.ensures.updates (puts-set c.self.inside.items.items c.args.at c.replace-slot.new.dest inside) in
+    let slots = c.self.inside.items.items in
+    let u = writes c.self.inside.nodes c.remove-packed.new.self slots (set slots c.args.at c.replace-slot.new.dest) c.args.at None c.replace-slot.new.dest c.remove-packed.ensures.updates (puts-set slots c.args.at c.replace-slot.new.dest inside) c.self.invariant.within in
     record { changed = u.0; others = λ k other. u.1 k other ∙ ap (λ (v : Slab Node). get v k) c.self.view_is }
 
 pub returns-clause-len : goal.returns-clause-len
 returns-clause-len c =
-    ap (λ k. k + 1) (count-nodes c.remove-key.new.self.slots (set c.self.inside.items.items c.args.at c.replace-slot.new.dest))
-    ∙ (c.remove-key.ensures.len ∙ (sym (count-nodes c.self.inside.nodes.slots c.self.inside.items.items) ∙ ap (λ (v : Slab Node). slab_len v) c.self.view_is))
+    ap (λ k. k + 1) (count-nodes c.remove-packed.new.self.slots (set c.self.inside.items.items c.args.at c.replace-slot.new.dest))
+    ∙ (c.remove-packed.ensures.len ∙ (sym (count-nodes c.self.inside.nodes.slots c.self.inside.items.items) ∙ ap (λ (v : Slab Node). slab_len v) c.self.view_is))
+
+pub invariant_of-self : goal.invariant_of-self
+invariant_of-self c =
+    let P : Slab Node → Type 0 = λ v. IsSome (get v c.args.at) in
+    let inside : c.args.at < length c.self.inside.items.items = c.self.invariant.within c.args.at (has-front c.self.inside.nodes c.self.inside.items.items c.args.at (subst P (sym c.self.view_is) c.requires)) in
+    let slots = c.self.inside.items.items in
+    record {
+      few = omega (arith, c.remove-packed.ensures.capacity, c.self.invariant.few);
+      room = omega (arith, c.remove-packed.ensures.capacity, c.self.invariant.room);
+      within = within-after c.self.inside.nodes c.remove-packed.new.self slots (set slots c.args.at c.replace-slot.new.dest) c.args.at None c.replace-slot.new.dest c.remove-packed.ensures.updates (puts-set slots c.args.at c.replace-slot.new.dest inside) c.self.invariant.within;
+      below = below-raised c.self.inside.nodes c.remove-packed.new.self c.args.at c.self.inside.low c.raised-self-inside.result c.remove-packed.ensures.updates c.raised-self-inside.ensures c.self.invariant.below;
+    }

@@ -1,6 +1,6 @@
 use Rattle.std.proofs.Common.{◌≡◌, List, Option, count_by, is_some, sym, ◌∙◌, ap, subst, arith}
 use Rattle.node_list.specs.declared.node.Node.{Node}
-use Rattle.node_list.specs.declared.front.Front.{Front}
+use Rattle.node_list.specs.declared.packed.Packed.{Packed}
 use Rattle.slab.specs.Slab.{Slab, HasRoomFor}
 use Rattle.node_list.specs.inside.Slots.{nodes_of}
 use Rattle.node_list.proofs.SlotLaws.{count-nodes, cloned}
@@ -36,16 +36,16 @@ returns-clause-room c =
 pub returns-clause-capacity : goal.returns-clause-capacity
 returns-clause-capacity c =
     let copy : c.in_ok-nodes.nodes.slots ≡ c.self.inside.nodes.slots = cloned c.self.inside.nodes c.in_ok-nodes.nodes c.in_ok-nodes.ensures.cases in
-    let same : c.reserve_exact.new.self.slots ≡ c.self.inside.nodes.slots = ap (λ (s : Slab Front). s.slots) c.reserve_exact.ensures.rest_kept ∙ copy in
-    let len = ap (λ (xs : List (Option Front)). count_by is_some xs) same in
+    let same : c.reserve_exact.new.self.slots ≡ c.self.inside.nodes.slots = ap (λ (s : Slab Packed). s.slots) c.reserve_exact.ensures.rest_kept ∙ copy in
+    let len = ap (λ (xs : List (Option Packed)). count_by is_some xs) same in
     omega (arith, c.growth.ensures, len, c.in_ok-reserve_exact.ensures.room, ap (λ (v : Slab Node). v.capacity) c.self.view_is, c.if-capacity-len.false, c.capacity.ensures.value, c.capacity.ensures.holds_all, c.len-len.ensures)
 
 pub returns-clause-rest_kept : goal.returns-clause-rest_kept
 returns-clause-rest_kept c =
     let copy : c.in_ok-nodes.nodes.slots ≡ c.self.inside.nodes.slots = cloned c.self.inside.nodes c.in_ok-nodes.nodes c.in_ok-nodes.ensures.cases in
-    let same : c.reserve_exact.new.self.slots ≡ c.self.inside.nodes.slots = ap (λ (s : Slab Front). s.slots) c.reserve_exact.ensures.rest_kept ∙ copy in
-    let key : c.reserve_exact.new.self.vacant_key ≡ c.self.inside.nodes.vacant_key = ap (λ (s : Slab Front). s.vacant_key) c.reserve_exact.ensures.rest_kept ∙ c.in_ok-nodes.ensures.cases.vacant_key in
+    let same : c.reserve_exact.new.self.slots ≡ c.self.inside.nodes.slots = ap (λ (s : Slab Packed). s.slots) c.reserve_exact.ensures.rest_kept ∙ copy in
+    let key : c.reserve_exact.new.self.vacant_key ≡ c.self.inside.nodes.vacant_key = ap (λ (s : Slab Packed). s.vacant_key) c.reserve_exact.ensures.rest_kept ∙ c.in_ok-nodes.ensures.cases.vacant_key in
     let items : nodes_of c.self.inside.nodes.slots c.reserve_exact-2.new.self.items ≡ nodes_of c.self.inside.nodes.slots c.self.inside.items.items = ap (nodes_of c.self.inside.nodes.slots) c.reserve_exact-2.ensures.items in
-    let slots = ap (λ (os : List (Option Front)). nodes_of os c.reserve_exact-2.new.self.items) same ∙ (items ∙ ap (λ (v : Slab Node). v.slots) c.self.view_is) in
+    let slots = ap (λ (os : List (Option Packed)). nodes_of os c.reserve_exact-2.new.self.items) same ∙ (items ∙ ap (λ (v : Slab Node). v.slots) c.self.view_is) in
     ap (λ (zs : List (Option Node)). let z : Slab Node = record { slots = zs; vacant_key = c.reserve_exact.new.self.vacant_key; capacity = c.reserve_exact.new.self.capacity } in z) slots
     ∙ ap (λ k. let z : Slab Node = record { slots = c.args.self.now.slots; vacant_key = k; capacity = c.reserve_exact.new.self.capacity } in z) (key ∙ ap (λ (v : Slab Node). v.vacant_key) c.self.view_is)

@@ -1,11 +1,11 @@
 use Rattle.std.proofs.Common.{◌<◌, length, IsSome, sym, ◌∙◌, ap, subst}
 use Rattle.node_list.specs.declared.node.Node.{Node}
 use Rattle.slab.specs.Slab.{Slab, get}
-use Rattle.node_list.proofs.SlotLaws.{has-front, node-is, read}
+use Rattle.node_list.proofs.SlotLaws.{has-front, node-is, read, seen-whole}
 use Rattle.node_list.proofs.nodes.Nodes.see.Goals as goal
 
-pub index-requires : goal.index-requires
-index-requires c =
+pub index-packed-requires : goal.index-packed-requires
+index-packed-requires c =
     let P : Slab Node → Type 0 = λ v. IsSome (get v c.args.at) in
     has-front c.self.inside.nodes c.self.inside.items.items c.args.at (subst P (sym c.self.view_is) c.requires)
 
@@ -14,4 +14,5 @@ returns c =
     let P : Slab Node → Type 0 = λ v. IsSome (get v c.args.at) in
     let inside : c.args.at < length c.self.inside.items.items = c.self.invariant.within c.args.at (has-front c.self.inside.nodes c.self.inside.items.items c.args.at (subst P (sym c.self.view_is) c.requires)) in
     sym (ap (λ (v : Slab Node). get v c.args.at) c.self.view_is)
-    ∙ node-is c.self.inside.nodes c.self.inside.items.items c.args.at c.index.result.now c.index-2.result.now c.index.ensures (read c.self.inside.items.items c.args.at c.index-2.result.now inside c.index-2.ensures)
+    ∙ (node-is c.self.inside.nodes c.self.inside.items.items c.args.at c.index-packed.result.now c.index.result.now c.index-packed.ensures (read c.self.inside.items.items c.args.at c.index.result.now inside c.index.ensures)
+    ∙ seen-whole c.index-packed.result.now c.index.result.now c.front.result c.is_item.result c.front.ensures.key c.front.ensures.next c.is_item.ensures)

@@ -1,0 +1,18 @@
+-- What a packed front tells: its word is twice the place of the next node, and one more where the node is an item. The
+-- greatest place stands for none.
+use Rattle.std.specs.Prelude.{ℕ, ◌<◌, ◌^◌, ◌-◌, ◌/◌, ◌%◌, nat_eq, if◌then◌else◌, Bool, Option, Some, None}
+use Rattle.node_list.specs.declared.packed.Packed.{Packed}
+
+abbrev pub place_in : ℕ → Option ℕ
+place_in place = if nat_eq place (2 ^ 63 - 1) then None else Some place
+
+abbrev pub next_in : Packed → Option ℕ
+next_in p = place_in (p.word / 2)
+
+abbrev pub is_item : Packed → Bool
+is_item p = nat_eq (p.word % 2) 1
+
+-- a word has room for this link
+abbrev pub Fits : Option ℕ → Type 0
+Fits None = Unit {0}
+Fits (Some place) = place < 2 ^ 63 - 1

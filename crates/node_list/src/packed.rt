@@ -1,0 +1,94 @@
+ghost use Rattle.std.specs.Prelude.{◌≡◌};
+ghost use Rattle.node_list.specs.inside.Packed.{next_in, is_item, Fits};
+ghost use Rattle.node_list.specs.inside.Slots.{item_if};
+
+use crate::front::Front;
+use crate::link::Link;
+use crate::node::Item;
+
+/// The number that stands for no place.
+const NO_PLACE: usize = usize::MAX / 2;
+
+/// A front as it is kept: one word has the place of the next node, doubled, and one more where the node is an item.
+#[derive(Clone, Copy)]
+pub struct Packed {
+    key: u64,
+    word: usize,
+}
+
+impl Packed {
+    /// A front, and whether its node is an item.
+    #[inline(always)]
+    pub fn new(front: Front, has_item: bool) -> Packed
+        requires { Fits front.next }
+        ensures key { result.key ≡ front.key }
+        ensures next { next_in result ≡ front.next }
+        ensures item { is_item result ≡ has_item }
+    {
+        let place = match front.next.get() {
+            Some(place) => place,
+            None => NO_PLACE,
+        };
+        Packed {
+            key: front.key,
+            word: place * 2 + usize::from(has_item),
+        }
+    }
+
+    /// The key and the link.
+    #[inline(always)]
+    pub fn front(self) -> Front
+        ensures key { result.key ≡ self.key }
+        ensures next { result.next ≡ next_in self }
+        ensures fits { Fits result.next }
+    {
+        Front {
+            key: self.key,
+            next: self.next(),
+        }
+    }
+
+    #[inline(always)]
+    fn next(self) -> Link
+        ensures next { result ≡ next_in self }
+        ensures fits { Fits result }
+    {
+        let place = self.word / 2;
+        if place == NO_PLACE {
+            Link::none()
+        } else {
+            Link::to(place)
+        }
+    }
+
+    /// Whether the node is an item, and no dummy.
+    #[inline(always)]
+    pub fn is_item(self) -> bool
+        ensures { result ≡ is_item self }
+    {
+        self.word % 2 == 1
+    }
+
+    /// The same with another link.
+    pub fn with_next(self, next: Link) -> Packed
+        requires { Fits next }
+        ensures key { result.key ≡ self.key }
+        ensures next { next_in result ≡ next }
+        ensures item { is_item result ≡ is_item self }
+    {
+        Packed::new(
+            Front {
+                key: self.key,
+                next,
+            },
+            self.is_item(),
+        )
+    }
+
+    /// The item of the node, if it has one, from what stands at its place.
+    pub fn item_of(self, slot: Item) -> Option<Item>
+        ensures { result ≡ item_if (is_item self) slot }
+    {
+        if self.is_item() { Some(slot) } else { None }
+    }
+}
