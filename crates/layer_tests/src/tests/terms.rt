@@ -1,5 +1,5 @@
 //! Values from outside: the order across kinds, the bounds of atoms, and each public call on its happy path.
-use ets_term::{AllSame, Atom, AtomFault, Fnv, Items, KeyHash, MAX_DEPTH, Term};
+use ets_term::{AllSame, Atom, AtomFault, Fnv, Integer, Items, KeyHash, MAX_DEPTH, Term};
 use std::alloc::Global;
 use std::hash::{DefaultHasher, Hash, Hasher};
 use std::mem::size_of;
@@ -97,7 +97,7 @@ fn push_parts(alloc: Global, terms: &mut Vec<Term>) -> Option<()> {
 }
 
 fn push_plain(alloc: Global, terms: &mut Vec<Term>) -> Option<()> {
-    for n in [-1, 7] {
+    for n in [Integer::MIN, -1, 7, 18446744073709551616] {
         terms.push(Term::Int(n)).ok()?;
     }
     for text in ["", "a", "aa", "b"] {
@@ -143,7 +143,7 @@ fn rise(alloc: Global) -> Option<bool> {
     let mut terms = Vec::new(alloc);
     push_plain(alloc, &mut terms)?;
     push_parts(alloc, &mut terms)?;
-    Some(terms.len() == 20 && misplaced(terms.as_slice()) == None)
+    Some(terms.len() == 22 && misplaced(terms.as_slice()) == None)
 }
 
 #[test]
@@ -219,7 +219,7 @@ fn deep_terms_are_copied(rt: HostRuntime) {
     assert!(rt; misnested(rt.alloc(), &LEVELS) == Some(None));
 }
 
-fn long_tuple(alloc: Global, count: i64) -> Option<Term> {
+fn long_tuple(alloc: Global, count: Integer) -> Option<Term> {
     let mut items = Items::new(alloc);
     for n in 0..count {
         items.push(Term::Int(n)).ok()?;
