@@ -1,5 +1,5 @@
 //! Values from outside: the order across kinds, the bounds of atoms, and each public call on its happy path.
-use ets_term::{AllSame, Atom, AtomFault, Fnv, Integer, Items, KeyHash, MAX_DEPTH, Term};
+use ets_term::{AllSame, Atom, AtomFault, Fnv, Integer, Items, KeyHash, MAX_DEPTH, Position, Term};
 use std::alloc::Global;
 use std::hash::{DefaultHasher, Hash, Hasher};
 use std::mem::size_of;
@@ -246,7 +246,7 @@ fn an_atom_has_its_text_alone(rt: HostRuntime) {
     assert!(rt; has_text_alone(rt.alloc()) == Some(true));
 }
 
-fn is_atom_at(term: &Term, position: usize, text: &str) -> bool {
+fn is_atom_at(term: &Term, position: Position, text: &str) -> bool {
     match term.element(position) {
         Some(element) => element.is_atom(text),
         None => false,
@@ -258,6 +258,7 @@ fn pair_has_two(pair: &Term) -> bool {
         && is_atom_at(pair, 1, "a")
         && is_atom_at(pair, 2, "b")
         && pair.element(3).is_none()
+        && pair.element(18446744073709551617).is_none()
 }
 
 /// Whether a pair of atoms has two elements, and a list has none.

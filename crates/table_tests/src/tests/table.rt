@@ -1,7 +1,7 @@
 // Values from the manual's rules. A test is a list of steps with their answers, each told as a number, which one helper
 // runs on tables over each form of rows.
 use bucket_table::{PlainRows, Rows, SplitRows};
-use ets_term::{AllSame, Fnv, Integer};
+use ets_term::{AllSame, Fnv, Integer, Position};
 use std::alloc::Global;
 use steps::change;
 use table_ops::{Kind, Table};
@@ -29,7 +29,7 @@ pub enum Step {
     InsertDeep(Integer, usize),
     InsertNewDeep(Integer, usize),
     Lookup(Integer),
-    Element(Integer, usize),
+    Element(Integer, Position),
     Take(Integer, bool),
     Delete(Integer, bool),
     DeleteObject(Integer, Integer, bool),

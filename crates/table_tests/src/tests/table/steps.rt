@@ -3,7 +3,7 @@ use super::terms::{below, both, digits, nested, number, total, tuple, under, who
 use super::{BADARG, LIMIT, MEMORY, Step};
 use bucket_table::Rows;
 use counters::{read_element_specs, read_ops};
-use ets_term::{Integer, Term};
+use ets_term::{Integer, Position, Term};
 use std::alloc::Global;
 use table_ops::{Looks, Refusal, Table};
 
@@ -30,7 +30,7 @@ pub fn inserted_new<R: Rows>(table: &mut Table<R>, objects: &[Term]) -> Integer 
     }
 }
 
-fn element<R: Rows>(table: &Table<R>, key: Integer, position: usize) -> Integer {
+fn element<R: Rows>(table: &Table<R>, key: Integer, position: Position) -> Integer {
     match table.lookup_element(&Term::Int(key), position) {
         Ok(Term::List(elements)) => whole(elements.len()),
         Ok(element) => number(Some(&element)),
