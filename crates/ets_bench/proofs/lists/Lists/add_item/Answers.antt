@@ -1,4 +1,5 @@
-use Rattle.std.proofs.Common.{Some, w128, to_z, of_z}
+use Rattle.std.proofs.Common.{Some, to_z, of_z}
+use Rattle.std.specs.Int.{w128}
 use Rattle.ets_term.specs.declared.term.Term.TheVariants.{Int}
 use Rattle.node_list.specs.Cells.{new_cell, new_item}
 use Rattle.ets_bench.proofs.DummyLaws.{dummies-kept}
