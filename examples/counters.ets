@@ -21,12 +21,12 @@ p update_counter(t,c,[{2,1},{2,10}])
 p update_counter(t,c,[])
 
 % Sums are exact; a value that is no integer of terms is refused, after every badarg.
-p insert(t,{c,9223372036854775807})
+p insert(t,{c,170141183460469231731687303715884105727})
 p update_counter(t,c,1)
 p update_counter(t,c,[{2,1},{2,-1}])
 p update_counter(t,c,[{2,1},{9,1}])
 p lookup(t,c)
-p update_counter(t,c,{2,1,9223372036854775807,0})
+p update_counter(t,c,{2,1,170141183460469231731687303715884105727,0})
 
 % A key without an object is badarg, or gets the Default with the key in it.
 p update_counter(t,h,1)

@@ -4,7 +4,7 @@ p new(t,[named_table])
 p insert(t,{a,1)
 p insert(t,{a,1}
 p insert(t,{a,1|2})
-p insert(t,9223372036854775808)
+p insert(t,170141183460469231731687303715884105728)
 p lookup t,a)
 P lookup(t,a)
 p lookup(t,a) x

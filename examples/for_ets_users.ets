@@ -2,7 +2,7 @@
 spawn p
 spawn q
 p new(t,[named_table])
-p insert(t,{c,9223372036854775807})
+p insert(t,{c,170141183460469231731687303715884105727})
 p update_counter(t,c,1)
 p insert(t,{'$end_of_table',1})
 p update_counter(t,'$end_of_table',1,{x,1})
@@ -20,7 +20,7 @@ p select(t,[{"a",[],['$_']}])
 p select(t,[])
 p delete_all_objects(t)
 p insert(t,{a,1})
-p select(t,[{'_',[],[{'*',9223372036854775807,2}]}])
+p select(t,[{'_',[],[{'*',170141183460469231731687303715884105727,2}]}])
 p select(t,[{'_',[],[{hd,[]},x]}])
 p select(t,[{'_',[],[{{x,{hd,[]}}}]}])
 p select(t,[{'_',[],[{'andalso',true,5}]}])

@@ -41,8 +41,8 @@ p match_delete(t,[a])
 p select(t,[{'_',[],['$01']}])
 
 % Integers neither wrap nor leave their range.
-p select(t,[{'_',[],[{'rem',-9223372036854775808,-1}]}])
-p select(t,[{'_',[],[{'div',-9223372036854775808,-1}]}])
+p select(t,[{'_',[],[{'rem',-170141183460469231731687303715884105728,-1}]}])
+p select(t,[{'_',[],[{'div',-170141183460469231731687303715884105728,-1}]}])
 p select(t,[{'_',[],[{'andalso',false,{hd,[]}}]}])
 p select(t,[{'_',[],[{'and',false,{hd,[]}}]}])
 

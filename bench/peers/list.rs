@@ -27,8 +27,8 @@ fn fnv(bytes: impl IntoIterator<Item = u8>) -> u32 {
     bytes.into_iter().fold(2_166_136_261, |hash, byte| (hash ^ u32::from(byte)).wrapping_mul(16_777_619))
 }
 
-/// The hash of an integer: FNV-1a over the byte 1, then its eight bytes.
-fn hash(n: i64) -> u32 {
+/// The hash of an integer: FNV-1a over the byte 1, then its sixteen bytes.
+fn hash(n: i128) -> u32 {
     fnv([1].into_iter().chain(n.to_be_bytes()))
 }
 
@@ -80,20 +80,20 @@ pub fn phase(items: u64, buckets: u64, finds: u64) -> u64 {
         dummies.push(list.insert(dummies[parent as usize], 2 * u64::from(bucket.reverse_bits()), None));
     }
     let place = |k: u64| {
-        let hash = hash(k as i64);
+        let hash = hash(k.into());
         (dummies[(hash as u64 & (buckets - 1)) as usize], 2 * u64::from(hash.reverse_bits()) + 1)
     };
     for k in shuffled(items, 1) {
         let (start, key) = place(k);
-        let object = Term::Tuple(vec![Term::Int(k as i64), Term::Int(1)]);
-        list.insert(start, key, Some((Term::Int(k as i64), Chain::One(object))));
+        let object = Term::Tuple(vec![Term::Int(k.into()), Term::Int(1)]);
+        list.insert(start, key, Some((Term::Int(k.into()), Chain::One(object))));
     }
     if finds == 0 {
         return 0;
     }
     let found = |k: &u64| {
         let (start, key) = place(*k);
-        list.find(start, key, &Term::Int(*k as i64)).is_some()
+        list.find(start, key, &Term::Int((*k).into())).is_some()
     };
     shuffled(items, 2).filter(found).count() as u64
 }

@@ -35,7 +35,7 @@ impl Hasher for Fnv {
     }
 }
 
-/// A key, of which the same nine bytes are hashed as in the store.
+/// A key, of which the same seventeen bytes are hashed as in the store.
 #[derive(Clone, PartialEq, Eq)]
 pub struct Key(Term);
 
@@ -80,11 +80,11 @@ impl Door for Open {
 }
 
 pub fn key(k: u64) -> Key {
-    Key(Term::Int(k as i64))
+    Key(Term::Int(k.into()))
 }
 
 pub fn object(k: u64) -> Term {
-    Term::Tuple(vec![Term::Int(k as i64), Term::Int(1)])
+    Term::Tuple(vec![Term::Int(k.into()), Term::Int(1)])
 }
 
 fn insert(map: &mut Map, k: u64) -> bool {

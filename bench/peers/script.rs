@@ -126,7 +126,7 @@ impl Table {
         let stays = |object: &Term| !matches!(object, Term::Tuple(row) if row[1] < *bound);
         self.slots = slots.into_iter().filter(|slot| slot.as_ref().is_some_and(|slot| stays(&slot.1[0]))).collect();
         self.places = self.slots.iter().enumerate().map(|(at, slot)| (slot.as_ref().unwrap().0.clone(), at)).collect();
-        Term::Int((before - self.places.len()) as i64)
+        Term::Int((before - self.places.len()) as i128)
     }
 }
 

@@ -15,21 +15,23 @@
 #include <urcu.h>
 #include <urcu/rculfhash.h>
 
+using Integer = __int128;
+
 struct Term {
     uint64_t kind;
-    int64_t value;
+    Integer value;
 };
 
-// FNV-1a over the encoding of an integer: the byte 1, then eight bytes, high byte first.
-static uint32_t fnv(int64_t value) {
+// FNV-1a over the encoding of an integer: the byte 1, then sixteen bytes, high byte first.
+static uint32_t fnv(Integer value) {
     uint32_t hash = (2166136261u ^ 1u) * 16777619u;
-    for (int shift = 56; shift >= 0; shift -= 8) {
-        hash = (hash ^ static_cast<uint8_t>(static_cast<uint64_t>(value) >> shift)) * 16777619u;
+    for (int shift = 120; shift >= 0; shift -= 8) {
+        hash = (hash ^ static_cast<uint8_t>(static_cast<unsigned __int128>(value) >> shift)) * 16777619u;
     }
     return hash;
 }
 
-static Term *object(int64_t key, int64_t value) {
+static Term *object(Integer key, Integer value) {
     auto *terms = static_cast<Term *>(malloc(2 * sizeof(Term)));
     terms[0] = {0, key};
     terms[1] = {0, value};
@@ -37,19 +39,19 @@ static Term *object(int64_t key, int64_t value) {
 }
 
 // Each number below `count` once, in an order that jumps about, the same as the store's and the other peers'.
-static std::vector<int64_t> shuffled(uint64_t count, uint64_t seed) {
+static std::vector<Integer> shuffled(uint64_t count, uint64_t seed) {
     uint64_t mask = 1;
     while (mask < count) mask *= 2;
     mask -= 1;
     uint64_t odd = seed * 0xD6E8FEB86659FD92ull | 1;
-    std::vector<int64_t> keys;
+    std::vector<Integer> keys;
     for (uint64_t i = 0; i <= mask; i++) {
         uint64_t a = i * odd & mask;
         uint64_t b = (a ^ a >> 9) * (0x85EBCA6Bull ^ seed * 0x2C1B3C6Cull) & mask;
         uint64_t c = (b ^ b >> 7) * (odd ^ 0x9E3779B8ull) & mask;
         uint64_t d = (c ^ c >> 11) * (0xC2B2AE35ull ^ seed * 0x165667B0ull) & mask;
         uint64_t key = d ^ d >> 8;
-        if (key < count) keys.push_back(static_cast<int64_t>(key));
+        if (key < count) keys.push_back(static_cast<Integer>(key));
     }
     return keys;
 }
@@ -87,17 +89,17 @@ struct Entry {
 };
 
 static int has_key(cds_lfht_node *node, const void *key) {
-    return caa_container_of(node, Entry, node)->key.value == *static_cast<const int64_t *>(key);
+    return caa_container_of(node, Entry, node)->key.value == *static_cast<const Integer *>(key);
 }
 
-static Entry *find(cds_lfht *table, int64_t key) {
+static Entry *find(cds_lfht *table, Integer key) {
     cds_lfht_iter at;
     cds_lfht_lookup(table, fnv(key), has_key, &key, &at);
     auto *node = cds_lfht_iter_get_node(&at);
     return node ? caa_container_of(node, Entry, node) : nullptr;
 }
 
-using Keys = std::vector<int64_t>;
+using Keys = std::vector<Integer>;
 
 // Small tables are made again and again, and each figure is the least.
 static size_t repeats(size_t count) { return std::max<size_t>(1, 300000 / count); }
@@ -106,7 +108,7 @@ struct Lfht {
     static constexpr const char *name = "cds_lfht";
     cds_lfht *table = cds_lfht_new(2, 1, 0, CDS_LFHT_AUTO_RESIZE | CDS_LFHT_ACCOUNTING, nullptr);
 
-    void insert(int64_t key) {
+    void insert(Integer key) {
         auto *entry = static_cast<Entry *>(malloc(sizeof(Entry)));
         cds_lfht_node_init(&entry->node);
         entry->key = {0, key};
@@ -116,14 +118,14 @@ struct Lfht {
         rcu_read_unlock();
     }
 
-    Term *get(int64_t key) {
+    Term *get(Integer key) {
         rcu_read_lock();
         Entry *entry = find(table, key);
         rcu_read_unlock();
         return entry ? entry->object : nullptr;
     }
 
-    void remove(int64_t key) {
+    void remove(Integer key) {
         rcu_read_lock();
         Entry *entry = find(table, key);
         cds_lfht_del(table, &entry->node);
@@ -135,21 +137,21 @@ struct Lfht {
 };
 
 struct Hash {
-    size_t operator()(int64_t key) const { return fnv(key); }
+    size_t operator()(Integer key) const { return fnv(key); }
 };
 
 struct Tbb {
     static constexpr const char *name = "oneTBB";
-    tbb::concurrent_unordered_map<int64_t, Term *, Hash> table;
+    tbb::concurrent_unordered_map<Integer, Term *, Hash> table;
 
-    void insert(int64_t key) { table.emplace(key, object(key, 1)); }
+    void insert(Integer key) { table.emplace(key, object(key, 1)); }
 
-    Term *get(int64_t key) {
+    Term *get(Integer key) {
         auto at = table.find(key);
         return at == table.end() ? nullptr : at->second;
     }
 
-    void remove(int64_t key) {
+    void remove(Integer key) {
         auto at = table.find(key);
         free(at->second);
         table.unsafe_erase(at);
@@ -163,12 +165,12 @@ template <class Table> static void times(size_t count) {
     for (uint64_t seed = 1; seed <= 5; seed++) orders.push_back(shuffled(count, seed));
     for (size_t turn = 0; turn < repeats(count); turn++) {
         Table table;
-        int64_t sum = 0, past = static_cast<int64_t>(count);
-        timed("insert", count, [&] { for (int64_t key : orders[0]) table.insert(key); });
-        timed("hit", count, [&] { for (int64_t key : orders[1]) sum += table.get(key)[1].value; });
-        timed("miss", count, [&] { for (int64_t key : orders[2]) sum += table.get(key + past) != nullptr; });
-        timed("counter", count, [&] { for (int64_t key : orders[3]) table.get(key)[1].value += 1; });
-        timed("delete", count, [&] { for (int64_t key : orders[4]) table.remove(key); });
+        Integer sum = 0, past = static_cast<Integer>(count);
+        timed("insert", count, [&] { for (Integer key : orders[0]) table.insert(key); });
+        timed("hit", count, [&] { for (Integer key : orders[1]) sum += table.get(key)[1].value; });
+        timed("miss", count, [&] { for (Integer key : orders[2]) sum += table.get(key + past) != nullptr; });
+        timed("counter", count, [&] { for (Integer key : orders[3]) table.get(key)[1].value += 1; });
+        timed("delete", count, [&] { for (Integer key : orders[4]) table.remove(key); });
         if (sum != past) abort();
         table.end();
     }
@@ -179,7 +181,7 @@ template <class Table> static void times(size_t count) {
 template <class Table> static void longest(size_t count) {
     Table table;
     double most = 0;
-    for (int64_t key : shuffled(count, 1)) {
+    for (Integer key : shuffled(count, 1)) {
         auto start = std::chrono::steady_clock::now();
         table.insert(key);
         std::chrono::duration<double, std::nano> spent = std::chrono::steady_clock::now() - start;
@@ -194,7 +196,7 @@ template <class Table> static void bytes(size_t count) {
     size_t before = in_use();
     auto *tables = new std::vector<Table>(repeats(count));
     for (auto &table : *tables) {
-        for (int64_t key : keys) table.insert(key);
+        for (Integer key : keys) table.insert(key);
     }
     double each = static_cast<double>(in_use() - before) / static_cast<double>(count * tables->size());
     printf("%s bytes %.1f\n", Table::name, each);

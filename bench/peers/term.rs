@@ -3,7 +3,7 @@ use std::io::Write;
 
 #[derive(Clone, Debug, PartialEq, Eq, Hash, PartialOrd, Ord)]
 pub enum Term {
-    Int(i64),
+    Int(i128),
     Atom(Box<str>),
     Tid(u32),
     Pid(u32),
@@ -49,12 +49,12 @@ impl<'a> Reader<'a> {
         std::str::from_utf8(&self.bytes[start..self.at]).unwrap()
     }
 
-    fn number(&mut self) -> i64 {
+    fn number(&mut self) -> i128 {
         let negative = self.peek() == b'-';
         self.at += negative as usize;
-        let mut value: i64 = 0;
+        let mut value: i128 = 0;
         while self.peek().is_ascii_digit() {
-            let digit = i64::from(self.peek() - b'0');
+            let digit = i128::from(self.peek() - b'0');
             value = value.checked_mul(10).and_then(|v| if negative { v.checked_sub(digit) } else { v.checked_add(digit) }).expect("a number in range");
             self.at += 1;
         }

@@ -70,7 +70,7 @@ examples() -> [
     end},
     {"terms there and back", fun(M) ->
         T = M:new(terms, []),
-        Terms = [{'and', 'Quoted \\ \' atom', []}, "text", <<"bytes">>, <<>>, -(1 bsl 63), self(), {{}, [[]]}, T, 'end'],
+        Terms = [{'and', 'Quoted \\ \' atom', []}, "text", <<"bytes">>, <<>>, -(1 bsl 127), self(), {{}, [[]]}, T, 'end'],
         M:insert(T, [{N, Term} || {N, Term} <- lists:zip(lists:seq(1, length(Terms)), Terms)]),
         [M:lookup_element(T, N, 2) =:= Term || {N, Term} <- lists:zip(lists:seq(1, length(Terms)), Terms)]
     end}

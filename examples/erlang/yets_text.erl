@@ -17,7 +17,7 @@ pids(_) -> [].
 commas(Terms, Known) -> lists:join(",", [text(Term, Known) || Term <- Terms]).
 
 %% Atoms stand in quotes, so that reserved words need no list. What the store has no term for is a badarg.
-text(Int, _) when is_integer(Int), Int >= -(1 bsl 63), Int < 1 bsl 63 -> integer_to_list(Int);
+text(Int, _) when is_integer(Int), Int >= -(1 bsl 127), Int < 1 bsl 127 -> integer_to_list(Int);
 text(Atom, _) when is_atom(Atom) ->
     Chars = atom_to_list(Atom),
     lists:all(fun(C) -> C >= 32 andalso C < 127 end, Chars) orelse throw(badarg),

@@ -44,7 +44,7 @@ def some_term(numbers, depth=4):
     some = lambda: [some_term(numbers, depth - 1) for _ in range(numbers.randrange(4))]
     match kind:
         case 0:
-            return numbers.choice([0, -1, 2**63 - 1, -(2**63), numbers.randrange(-1000, 1000)])
+            return numbers.choice([0, -1, 2**127 - 1, -(2**127), 2**64, numbers.randrange(-1000, 1000)])
         case 1:
             return Atom("".join(numbers.choice("abzAZ09_@") for _ in range(numbers.randrange(6))))
         case 2:
@@ -87,7 +87,7 @@ class Terms(unittest.TestCase):
             for term in [value, [value]]:
                 with self.assertRaises(TypeError):
                     spell(term)
-        for value in [2**63, -(2**63) - 1]:
+        for value in [2**127, -(2**127) - 1]:
             with self.assertRaises(ValueError):
                 spell((value,))
         for make in [lambda: Atom("k\np delete(t)"), lambda: Atom("é"), lambda: Atom("a" * 256), lambda: Pid(-1), lambda: Tid(2**32)]:

@@ -1,5 +1,5 @@
 //! The calls that are timed, made before the clock runs, and whether what they answer is right.
-use ets_term::{Atom, Items, Term};
+use ets_term::{Atom, Integer, Items, Term};
 use node_core::{Call, Reply};
 use std::alloc::{AllocError, Global};
 
@@ -58,7 +58,7 @@ pub(crate) fn of_key(alloc: Global, name: &str, k: u64) -> Result<Call, AllocErr
 /// The integer that a reply is.
 pub(crate) fn number_in(reply: &Reply) -> Option<u64> {
     match reply {
-        Reply::Value(Term::Int(k)) => Some(k.cast_unsigned()),
+        Reply::Value(Term::Int(k)) => u64::try_from(*k).ok(),
         _ => None,
     }
 }
@@ -87,7 +87,7 @@ pub(crate) fn is_atom(reply: &Reply, text: &str) -> bool {
 }
 
 fn key(k: u64) -> Term {
-    Term::Int(k.cast_signed())
+    Term::Int(Integer::from(k))
 }
 
 fn atom(alloc: Global, text: &str) -> Result<Term, AllocError> {

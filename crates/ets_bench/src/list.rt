@@ -5,6 +5,7 @@ ghost use Rattle.ets_bench.specs.Buckets.{IsReady};
 
 use crate::lists::Lists;
 use crate::order::{places, shuffled};
+use ets_term::Integer;
 use node_list::Steps;
 use std::alloc::{AllocError, Global};
 
@@ -75,7 +76,7 @@ fn insert(alloc: Global, lists: &mut Lists, items: u64) -> Result<(), AllocError
         let number = shuffled(i, 1, places - 1);
         if number < items && left > 0 {
             left -= 1;
-            lists.add_item(alloc, number as i64)?;
+            lists.add_item(alloc, Integer::from(number))?;
         }
     }
     Ok(())
@@ -91,7 +92,7 @@ fn count_found(lists: &Lists, items: u64) -> u64
     let mut found = 0;
     for i in 0..places {
         let number = shuffled(i, 2, places - 1);
-        if number < items && lists.has_item(number as i64, &mut steps) {
+        if number < items && lists.has_item(Integer::from(number), &mut steps) {
             found += 1;
         }
     }

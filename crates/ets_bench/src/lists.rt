@@ -4,7 +4,7 @@ ghost use Rattle.node_list.specs.Listed.{HasRoom};
 ghost use Rattle.node_list.specs.Places.{StandsUpTo};
 ghost use Rattle.ets_bench.specs.Buckets.{HasDummies, IsReady};
 
-use ets_term::{Fnv, Items, KeyHash, Term};
+use ets_term::{Fnv, Integer, Items, KeyHash, Term};
 use node_list::{At, Chain, NodeList, Steps};
 use split_key::{bucket_of, dummy_key, item_key, laws, parent};
 use std::alloc::{AllocError, Global};
@@ -65,7 +65,7 @@ impl Lists {
     }
 
     /// Puts the object `{K,1}` of a number K into its bucket.
-    pub fn add_item(&mut self, alloc: Global, number: i64) -> Result<(), AllocError>
+    pub fn add_item(&mut self, alloc: Global, number: Integer) -> Result<(), AllocError>
         requires ready { IsReady self.old }
         requires room { HasRoom self.old.list 1 }
         ensures ready { IsReady self.new }
@@ -83,7 +83,7 @@ impl Lists {
     }
 
     /// Whether an item of this number stands in its bucket.
-    pub fn has_item(&self, number: i64, steps: &mut Steps) -> bool
+    pub fn has_item(&self, number: Integer, steps: &mut Steps) -> bool
         requires { IsReady self.now }
     {
         let key = Term::Int(number);

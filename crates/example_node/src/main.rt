@@ -2,7 +2,7 @@
 //! reads the last reply.
 #![tactic(auto)]
 
-use ets_term::{Atom, Fnv, Items, Term};
+use ets_term::{Atom, Fnv, Integer, Items, Term};
 use node_core::{Call, Limits, Node, Reply, Step};
 use std::alloc::{AllocError, Global};
 use std::io;
@@ -29,7 +29,7 @@ fn main(rt: HostRuntime) -> io::Result<ExitCode> {
 }
 
 /// Makes a node, and asks it.
-fn price_of_tea(alloc: Global) -> Result<Option<i64>, AllocError> {
+fn price_of_tea(alloc: Global) -> Result<Option<Integer>, AllocError> {
     let mut node = Node::new(alloc, Limits::usual(), Fnv);
     let found = store_and_look(alloc, &mut node)?;
     Ok(price_in(&found))
@@ -61,7 +61,7 @@ fn lookup(alloc: Global, node: &mut Node<Fnv>) -> Result<Reply, AllocError> {
 }
 
 /// The second element of the only object of a reply to `lookup`.
-fn price_in(reply: &Reply) -> Option<i64> {
+fn price_in(reply: &Reply) -> Option<Integer> {
     let Reply::Value(Term::List(objects)) = reply else {
         return None;
     };

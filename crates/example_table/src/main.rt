@@ -2,7 +2,7 @@
 #![tactic(auto)]
 
 use bucket_table::SplitRows;
-use ets_term::{Atom, Fnv, Items, Term};
+use ets_term::{Atom, Fnv, Integer, Items, Term};
 use std::alloc::{AllocError, Global};
 use std::io;
 use std::process::ExitCode;
@@ -29,7 +29,7 @@ fn main(rt: HostRuntime) -> io::Result<ExitCode> {
 }
 
 /// What a table says of milk after it has doubled its buckets, and how many these are.
-fn count_of_milk(alloc: Global) -> Result<(Option<i64>, u32), Refusal> {
+fn count_of_milk(alloc: Global) -> Result<(Option<Integer>, u32), Refusal> {
     let rows = SplitRows::new(alloc, Fnv)?;
     let mut table = Table::new(alloc, rows, Kind::Set, 1, OBJECTS);
     table.insert(stock(alloc)?.as_slice())?;
@@ -45,7 +45,7 @@ fn stock(alloc: Global) -> Result<Vec<Term>, AllocError> {
 }
 
 /// The second element of the only object of a key.
-fn count_in(objects: &[Term]) -> Option<i64> {
+fn count_in(objects: &[Term]) -> Option<Integer> {
     match objects.first()?.element(2)? {
         Term::Int(count) => Some(*count),
         _ => None,
@@ -53,7 +53,7 @@ fn count_in(objects: &[Term]) -> Option<i64> {
 }
 
 /// The object `{name,number}`.
-fn count(alloc: Global, name: &str, number: i64) -> Result<Term, AllocError> {
+fn count(alloc: Global, name: &str, number: Integer) -> Result<Term, AllocError> {
     let elements = vec![in alloc; atom(alloc, name)?, Term::Int(number)]?;
     Ok(Term::Tuple(Items::from_vec(elements)))
 }

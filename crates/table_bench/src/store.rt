@@ -1,5 +1,5 @@
 //! What is timed: one call on one key. Each call answers whether it did what it should.
-use ets_term::{Items, Term};
+use ets_term::{Integer, Items, Term};
 use std::alloc::{AllocError, Global};
 
 /// Objects a bucket, from which on the buckets double.
@@ -30,7 +30,7 @@ pub trait Store: Drop {
 }
 
 pub(crate) fn number(k: u64) -> Term {
-    Term::Int(k.cast_signed())
+    Term::Int(Integer::from(k))
 }
 
 pub(crate) fn object(alloc: Global, k: u64) -> Result<Term, AllocError> {

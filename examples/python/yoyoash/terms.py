@@ -7,7 +7,7 @@ import re
 from dataclasses import dataclass
 from typing import Union
 
-LEAST, GREATEST = -(2**63), 2**63 - 1
+LEAST, GREATEST = -(2**127), 2**127 - 1
 
 
 @dataclass(frozen=True, slots=True)

@@ -33,9 +33,17 @@ fn hash_of_an_atom(alloc: Global, text: &str) -> Option<u32> {
     Some(Fnv.hash32(&Term::Atom(Atom::new(alloc, text).ok()?)))
 }
 
+/// The encodings of 1 and of -2^64-1: a byte for the kind, then 16 with the high one first.
+const ONE: [u8; 17] = [1, 0, 0, 0, 0, 0, 0, 0, 0, 0, 0, 0, 0, 0, 0, 0, 1];
+
+const BELOW: [u8; 17] = [
+    1, 255, 255, 255, 255, 255, 255, 255, 254, 255, 255, 255, 255, 255, 255, 255, 255,
+];
+
 #[test]
 fn runs_over_the_encoding(rt: HostRuntime) {
     assert!(rt; fnv_1a(&[2, 1, 97]) == 58490007);
     assert!(rt; hash_of_an_atom(rt.alloc(), "a") == Some(58490007));
-    assert!(rt; Fnv.hash32(&Term::Int(1)) == fnv_1a(&[1, 0, 0, 0, 0, 0, 0, 0, 1]));
+    assert!(rt; Fnv.hash32(&Term::Int(1)) == fnv_1a(&ONE));
+    assert!(rt; Fnv.hash32(&Term::Int(-18446744073709551617)) == fnv_1a(&BELOW));
 }

@@ -3,11 +3,11 @@ use ets_term::{Atom, Items, KeyHash, Keyed, Term};
 use std::alloc::Global;
 use std::process::Abort;
 
-/// The elements `a` and -1.
+/// The elements `a` and -2^64-1, whose two words differ.
 fn pair(alloc: Global) -> Option<Items<Term>> {
     let mut pair = Items::new(alloc);
     pair.push(Term::Atom(Atom::new(alloc, "a").ok()?)).ok()?;
-    pair.push(Term::Int(-1)).ok()?;
+    pair.push(Term::Int(-18446744073709551617)).ok()?;
     Some(pair)
 }
 
@@ -42,11 +42,11 @@ fn hash_to(alloc: Global, seed: u64, wanted: &[u32]) -> Option<bool> {
 
 /// The numbers of the terms by the least seed, and by the greatest.
 const LEAST: [u32; 7] = [
-    3020293046, 3392210284, 1234998835, 1461041013, 59783969, 521650583, 1269847963,
+    3020293046, 4059663398, 1234998835, 1461041013, 751183608, 4116343985, 1269847963,
 ];
 
 const GREATEST: [u32; 7] = [
-    3212429134, 3312901293, 160548916, 3176778760, 3473404357, 2591668055, 1497524047,
+    3212429134, 1991252696, 160548916, 3176778760, 509562988, 4265502097, 1497524047,
 ];
 
 #[test]

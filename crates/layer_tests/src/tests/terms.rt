@@ -1,5 +1,5 @@
 //! Values from outside: the order across kinds, the bounds of atoms, and each public call on its happy path.
-use ets_term::{AllSame, Atom, AtomFault, Fnv, Items, KeyHash, MAX_DEPTH, Term};
+use ets_term::{AllSame, Atom, AtomFault, Fnv, Integer, Items, KeyHash, MAX_DEPTH, Position, Term};
 use std::alloc::Global;
 use std::hash::{DefaultHasher, Hash, Hasher};
 use std::mem::size_of;
@@ -97,7 +97,7 @@ fn push_parts(alloc: Global, terms: &mut Vec<Term>) -> Option<()> {
 }
 
 fn push_plain(alloc: Global, terms: &mut Vec<Term>) -> Option<()> {
-    for n in [-1, 7] {
+    for n in [Integer::MIN, -1, 7, 18446744073709551616] {
         terms.push(Term::Int(n)).ok()?;
     }
     for text in ["", "a", "aa", "b"] {
@@ -143,7 +143,7 @@ fn rise(alloc: Global) -> Option<bool> {
     let mut terms = Vec::new(alloc);
     push_plain(alloc, &mut terms)?;
     push_parts(alloc, &mut terms)?;
-    Some(terms.len() == 20 && misplaced(terms.as_slice()) == None)
+    Some(terms.len() == 22 && misplaced(terms.as_slice()) == None)
 }
 
 #[test]
@@ -219,7 +219,7 @@ fn deep_terms_are_copied(rt: HostRuntime) {
     assert!(rt; misnested(rt.alloc(), &LEVELS) == Some(None));
 }
 
-fn long_tuple(alloc: Global, count: i64) -> Option<Term> {
+fn long_tuple(alloc: Global, count: Integer) -> Option<Term> {
     let mut items = Items::new(alloc);
     for n in 0..count {
         items.push(Term::Int(n)).ok()?;
@@ -246,7 +246,7 @@ fn an_atom_has_its_text_alone(rt: HostRuntime) {
     assert!(rt; has_text_alone(rt.alloc()) == Some(true));
 }
 
-fn is_atom_at(term: &Term, position: usize, text: &str) -> bool {
+fn is_atom_at(term: &Term, position: Position, text: &str) -> bool {
     match term.element(position) {
         Some(element) => element.is_atom(text),
         None => false,
@@ -258,6 +258,7 @@ fn pair_has_two(pair: &Term) -> bool {
         && is_atom_at(pair, 1, "a")
         && is_atom_at(pair, 2, "b")
         && pair.element(3).is_none()
+        && pair.element(18446744073709551617).is_none()
 }
 
 /// Whether a pair of atoms has two elements, and a list has none.

@@ -1,5 +1,6 @@
 // The keys that patterns and specifications bind.
 use super::*;
+use ets_term::Position;
 use term_text::read_term;
 
 fn read(alloc: Global, text: &str) -> Option<Term> {
@@ -15,13 +16,14 @@ fn is_key(alloc: Global, found: Option<&Term>, wanted: Option<&'static str>) -> 
 }
 
 /// A pattern, where the key stands, and the key that it binds.
-type PatternRow = (&'static str, usize, Option<&'static str>);
+type PatternRow = (&'static str, Position, Option<&'static str>);
 
-const PATTERNS: [PatternRow; 10] = [
+const PATTERNS: [PatternRow; 11] = [
     ("{7,'_'}", 1, Some("7")),
     ("{7,'_'}", 2, None),
     ("{7,'_'}", 3, None),
     ("{7,'_'}", 0, None),
+    ("{7,'_'}", 18446744073709551617, None),
     ("{'$1',{a,[b]}}", 2, Some("{a,[b]}")),
     ("{{a,'_'},b}", 1, None),
     ("{{a,['$1']},b}", 1, None),

@@ -48,15 +48,16 @@ impl Random {
     }
 
     fn plain_term(&mut self, alloc: Global) -> Option<Term> {
-        match self.below(9) {
+        match self.below(10) {
             0 => atom(alloc, "true"),
             1 => atom(alloc, "false"),
-            2 => Some(Term::Int(self.below(3).cast_signed())),
-            3 => Some(Term::Int(i64::MIN)),
+            2 => Some(Term::Int(self.below(3) as Integer)),
+            3 => Some(Term::Int(Integer::MIN)),
             4 => Some(Term::Int(-2)),
-            5 => Some(Term::Pid(7)),
-            6 => Some(Term::Tid(7)),
-            7 => Some(Term::Binary(Items::from_vec(b"ab".to_vec(alloc).ok()?))),
+            5 => Some(Term::Int(18446744073709551617)),
+            6 => Some(Term::Pid(7)),
+            7 => Some(Term::Tid(7)),
+            8 => Some(Term::Binary(Items::from_vec(b"ab".to_vec(alloc).ok()?))),
             _ => atom(alloc, "a"),
         }
     }

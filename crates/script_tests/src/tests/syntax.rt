@@ -7,7 +7,10 @@ fn first_faults(rt: HostRuntime) {
         (b"p f([a,\n", b"** syntax 7\n"),
         (b"p insert(t,{a,1|2})\n", b"** syntax 15\n"),
         (b"p insert(t,{a,1.5})\n", b"** syntax 15\n"),
-        (b"p insert(t,9223372036854775808)\n", b"** syntax 11\n"),
+        (
+            b"p insert(t,170141183460469231731687303715884105728)\n",
+            b"** syntax 11\n",
+        ),
         (b"nobody f(\n", b"** syntax 9\n"),
         (b"grow(t)\n", b"** syntax 4\n"),
         (

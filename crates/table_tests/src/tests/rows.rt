@@ -2,7 +2,7 @@ ghost use Rattle.std.specs.Prelude.{◌<◌};
 
 // What no clause says: that calls succeed at every size, and that searches are short where they must be.
 use bucket_table::{Entry, Growth, PlainRows, Readying, Rows, SplitRows};
-use ets_term::{AllSame, Fnv, KeyHash, Term};
+use ets_term::{AllSame, Fnv, Integer, KeyHash, Term};
 use node_list::{Chain, Steps};
 use std::alloc::{AllocError, Global};
 use std::process::Abort;
@@ -44,17 +44,17 @@ impl Draws {
 enum Kept {
     Nothing,
     Held,
-    Object(i64),
+    Object(Integer),
 }
 
 fn kept_in(objects: &[Term]) -> Kept {
     match objects.first() {
-        Some(Term::Int(value)) => Kept::Object(*value as i64),
+        Some(Term::Int(value)) => Kept::Object(*value),
         _ => Kept::Held,
     }
 }
 
-fn kept_at<R: Rows>(rows: &R, key: i64) -> Kept {
+fn kept_at<R: Rows>(rows: &R, key: Integer) -> Kept {
     match rows.get(&Term::Int(key)) {
         Some(objects) => kept_in(objects),
         None => Kept::Nothing,
@@ -62,7 +62,7 @@ fn kept_at<R: Rows>(rows: &R, key: i64) -> Kept {
 }
 
 /// Gives a key one object, in a new slot or in its own, and answers what it had.
-fn insert<R: Rows>(rows: &mut R, alloc: Global, key: i64, value: i64) -> Result<Kept, AllocError> {
+fn insert<R: Rows>(rows: &mut R, alloc: Global, key: Integer, value: Integer) -> Result<Kept, AllocError> {
     let term = Term::Int(key);
     let objects = Chain::one(alloc, Term::Int(value));
     match rows.entry(&term) {
@@ -75,7 +75,7 @@ fn insert<R: Rows>(rows: &mut R, alloc: Global, key: i64, value: i64) -> Result<
 }
 
 /// Takes a key's slot away, and answers what it had.
-fn remove<R: Rows>(rows: &mut R, key: i64) -> Kept {
+fn remove<R: Rows>(rows: &mut R, key: Integer) -> Kept {
     match rows.remove(&Term::Int(key)) {
         Some(objects) => kept_in(objects.as_slice()),
         None => Kept::Nothing,

@@ -1,7 +1,7 @@
 // Values from the manual's rules. A test is a list of steps with their answers, each told as a number, which one helper
 // runs on tables over each form of rows.
 use bucket_table::{PlainRows, Rows, SplitRows};
-use ets_term::{AllSame, Fnv};
+use ets_term::{AllSame, Fnv, Integer, Position};
 use std::alloc::Global;
 use steps::change;
 use table_ops::{Kind, Table};
@@ -18,30 +18,30 @@ mod terms;
 /// A call, mostly on pairs of integers.
 #[derive(Clone, Copy)]
 pub enum Step {
-    Insert(i64, i64),
-    InsertTwo(i64, i64, i64, i64),
-    InsertNew(i64, i64),
+    Insert(Integer, Integer),
+    InsertTwo(Integer, Integer, Integer, Integer),
+    InsertNew(Integer, Integer),
     /// An integer, which is no object.
-    InsertOne(i64),
+    InsertOne(Integer),
     /// `{A,B,C}`.
-    InsertThree(i64, i64, i64),
+    InsertThree(Integer, Integer, Integer),
     /// The pair of a key and a term of this depth.
-    InsertDeep(i64, usize),
-    InsertNewDeep(i64, usize),
-    Lookup(i64),
-    Element(i64, usize),
-    Take(i64, bool),
-    Delete(i64, bool),
-    DeleteObject(i64, i64, bool),
+    InsertDeep(Integer, usize),
+    InsertNewDeep(Integer, usize),
+    Lookup(Integer),
+    Element(Integer, Position),
+    Take(Integer, bool),
+    Delete(Integer, bool),
+    DeleteObject(Integer, Integer, bool),
     DeleteAll(bool),
     Purge,
-    Count(i64, i64),
-    CountFrom(i64, i64, i64),
-    Write(i64, i64),
-    Matches(i64),
-    Below(i64),
-    DeleteBelow(i64, bool),
-    DeleteMatching(i64, bool),
+    Count(Integer, Integer),
+    CountFrom(Integer, Integer, Integer),
+    Write(Integer, Integer),
+    Matches(Integer),
+    Below(Integer),
+    DeleteBelow(Integer, bool),
+    DeleteMatching(Integer, bool),
     Objects,
     Size,
     Slots,
@@ -49,19 +49,19 @@ pub enum Step {
 }
 
 /// Refusals as numbers.
-const BADARG: i64 = -1;
+const BADARG: Integer = -1;
 
-const LIMIT: i64 = -2;
+const LIMIT: Integer = -2;
 
-const MEMORY: i64 = -3;
+const MEMORY: Integer = -3;
 
 /// What a step answers.
-fn answer<R: Rows>(alloc: Global, table: &mut Table<R>, step: Step) -> i64 {
+fn answer<R: Rows>(alloc: Global, table: &mut Table<R>, step: Step) -> Integer {
     change(alloc, table, step).unwrap_or(MEMORY)
 }
 
 /// Whether each step has its answer.
-fn runs<R: Rows>(alloc: Global, table: &mut Table<R>, steps: &[(Step, i64)]) -> bool {
+fn runs<R: Rows>(alloc: Global, table: &mut Table<R>, steps: &[(Step, Integer)]) -> bool {
     for (step, wanted) in steps {
         if answer(alloc, table, *step) != *wanted {
             return false;
@@ -86,7 +86,7 @@ fn same(alloc: Global, kind: Kind, keypos: u32, limit: u32) -> Option<Table<Spli
 }
 
 /// A table, by its kind, where the key stands and how many objects it may have; and steps on it, with their answers.
-type Life = (Kind, u32, u32, &'static [(Step, i64)]);
+type Life = (Kind, u32, u32, &'static [(Step, Integer)]);
 
 fn plain_runs(alloc: Global, life: Life) -> bool {
     let (kind, keypos, limit, steps) = life;

@@ -1,9 +1,9 @@
-use ets_term::Term;
+use ets_term::{Integer, Term};
 use node_list::Chain;
 use std::alloc::{AllocError, Global};
 use std::process::Abort;
 
-fn chain_of(alloc: Global, numbers: &[i64]) -> Result<Chain, AllocError> {
+fn chain_of(alloc: Global, numbers: &[Integer]) -> Result<Chain, AllocError> {
     let mut chain = Chain::new(alloc);
     for number in numbers {
         chain.push(Term::Int(*number))?;
@@ -11,7 +11,7 @@ fn chain_of(alloc: Global, numbers: &[i64]) -> Result<Chain, AllocError> {
     Ok(chain)
 }
 
-fn has(terms: &[Term], numbers: &[i64]) -> bool {
+fn has(terms: &[Term], numbers: &[Integer]) -> bool {
     for (term, number) in terms.iter().zip(numbers.iter()) {
         if *term != Term::Int(*number) {
             return false;
@@ -26,14 +26,14 @@ fn a_chain_may_be_empty(rt: HostRuntime) {
     assert!(rt; Chain::one(rt.alloc(), Term::Int(1)).len() == 1);
 }
 
-fn push_all(chain: &mut Chain, count: i64) -> Result<(), AllocError> {
+fn push_all(chain: &mut Chain, count: Integer) -> Result<(), AllocError> {
     for number in 0..count {
         chain.push(Term::Int(number))?;
     }
     Ok(())
 }
 
-fn pops(chain: &mut Chain, number: i64) -> bool {
+fn pops(chain: &mut Chain, number: Integer) -> bool {
     chain.pop() == Some(Term::Int(number))
 }
 

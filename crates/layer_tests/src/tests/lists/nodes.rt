@@ -5,7 +5,7 @@ ghost use Rattle.node_list.specs.Cells.{new_cell, new_item};
 ghost use Rattle.node_list.specs.Places.{IsFresh, HasItem, Stands};
 ghost use Rattle.node_list.specs.Changes.{put_cell};
 
-use ets_term::Term;
+use ets_term::{Integer, Term};
 use node_list::{At, Chain, NodeList, Steps};
 use std::alloc::{AllocError, Global};
 
@@ -28,7 +28,7 @@ fn add_dummy(list: &mut NodeList, key: u64) -> Result<At, AllocError> {
     Ok(list.insert_dummy(head, key))
 }
 
-fn add_item(list: &mut NodeList, alloc: Global, key: u64, number: i64) -> Result<At, AllocError>
+fn add_item(list: &mut NodeList, alloc: Global, key: u64, number: Integer) -> Result<At, AllocError>
     ensures cells { IfOk result (λ at. list.new.cells ≡ put_cell (new_cell at key (Some (new_item (Int number) (Int number ∷ [])))) list.old.cells) }
     ensures fresh { IfOk result (λ at. IsFresh at list.old.cells) }
 {
@@ -101,7 +101,7 @@ fn finds_equal_keys(list: &mut NodeList, alloc: Global) -> Result<bool, AllocErr
 }
 
 /// Whether the node at a place is an item with this number as its term and as its chain.
-fn is_item(list: &NodeList, at: At, number: i64) -> bool
+fn is_item(list: &NodeList, at: At, number: Integer) -> bool
     requires { Stands at list.now.cells }
 {
     match list.item(at) {
@@ -140,7 +140,7 @@ fn changes_chain(list: &mut NodeList, alloc: Global) -> Result<bool, AllocError>
 }
 
 /// Unlinks the item at a place. Whether it had this number as its term and as its chain.
-fn unlinks(list: &mut NodeList, at: At, number: i64) -> bool
+fn unlinks(list: &mut NodeList, at: At, number: Integer) -> bool
     requires { HasItem at list.old.cells }
 {
     let head = list.head();

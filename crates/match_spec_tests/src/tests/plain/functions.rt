@@ -1,6 +1,6 @@
 // What a function gives; None where it fails.
 use super::*;
-use crate::tests::plain::operations::{compared, is_operation, operated};
+use crate::tests::plain::operations::{compared, difference, is_operation, operated};
 
 pub(crate) fn boolean(term: &Term) -> Option<bool> {
     if term.is_atom("true") {
@@ -72,8 +72,8 @@ pub(crate) fn is_kind_test(name: &Term) -> bool {
     is_one_of(name, &KIND_TESTS)
 }
 
-fn integer(n: Option<i128>) -> Option<Term> {
-    Some(Term::Int(i64::try_from(n?).ok()?))
+fn integer(n: Option<Integer>) -> Option<Term> {
+    Some(Term::Int(n?))
 }
 
 fn one(alloc: Global, name: &Term, x: &Term) -> Option<Term> {
@@ -88,12 +88,16 @@ fn one(alloc: Global, name: &Term, x: &Term) -> Option<Term> {
     }
 }
 
+fn absolute(n: Integer) -> Option<Integer> {
+    if n < 0 { difference(0, n) } else { Some(n) }
+}
+
 fn measured(alloc: Global, name: &Term, x: &Term) -> Option<Term> {
     match x {
-        Term::Int(n) if name.is_atom("abs") => integer((*n as i128).checked_abs()),
-        Term::List(items) if name.is_atom("length") => integer(Some(items.len() as i128)),
-        Term::Tuple(items) if name.is_atom("size") => integer(Some(items.len() as i128)),
-        Term::Binary(bytes) if name.is_atom("size") => integer(Some(bytes.len() as i128)),
+        Term::Int(n) if name.is_atom("abs") => integer(absolute(*n)),
+        Term::List(items) if name.is_atom("length") => integer(Some(items.len() as Integer)),
+        Term::Tuple(items) if name.is_atom("size") => integer(Some(items.len() as Integer)),
+        Term::Binary(bytes) if name.is_atom("size") => integer(Some(bytes.len() as Integer)),
         Term::List(items) => end(alloc, name, items.as_slice()),
         _ => None,
     }
@@ -130,9 +134,9 @@ fn two(alloc: Global, name: &Term, x: &Term, y: &Term) -> Option<Term> {
     }
 }
 
-fn whole(term: &Term) -> Option<i128> {
+fn whole(term: &Term) -> Option<Integer> {
     match term {
-        Term::Int(n) => Some(*n as i128),
+        Term::Int(n) => Some(*n),
         _ => None,
     }
 }
@@ -143,7 +147,7 @@ fn element<'t>(position: &Term, term: &'t Term) -> Option<&'t Term> {
         return None;
     };
     for (i, item) in items.iter().enumerate() {
-        if i as i128 + 1 == position {
+        if i as Integer + 1 == position {
             return Some(item);
         }
     }

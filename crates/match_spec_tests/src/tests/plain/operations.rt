@@ -8,17 +8,47 @@ pub(crate) fn is_operation(name: &Term) -> bool {
     is_one_of(name, &OPERATIONS)
 }
 
-pub(crate) fn operated(name: &Term, m: i128, n: i128) -> Option<i128> {
+/// Past the range a sum comes round to the other side of its first number.
+fn sum(m: Integer, n: Integer) -> Option<Integer> {
+    let sum = m.wrapping_add(n);
+    if (sum < m) == (n < 0) { Some(sum) } else { None }
+}
+
+pub(crate) fn difference(m: Integer, n: Integer) -> Option<Integer> {
+    let difference = m.wrapping_sub(n);
+    if (difference < m) == (n > 0) {
+        Some(difference)
+    } else {
+        None
+    }
+}
+
+/// A product that came round is not parted into its numbers again.
+fn product(m: Integer, n: Integer) -> Option<Integer> {
+    let product = m.wrapping_mul(n);
+    if m == 0 || product.checked_div(m) == Some(n) {
+        Some(product)
+    } else {
+        None
+    }
+}
+
+/// What is left by -1 is 0 of every number, also of the least, which has no quotient by it.
+fn left(m: Integer, n: Integer) -> Option<Integer> {
+    if n == -1 { Some(0) } else { m.checked_rem(n) }
+}
+
+pub(crate) fn operated(name: &Term, m: Integer, n: Integer) -> Option<Integer> {
     if name.is_atom("+") {
-        m.checked_add(n)
+        sum(m, n)
     } else if name.is_atom("-") {
-        m.checked_sub(n)
+        difference(m, n)
     } else if name.is_atom("*") {
-        m.checked_mul(n)
+        product(m, n)
     } else if name.is_atom("div") {
         m.checked_div(n)
     } else {
-        m.checked_rem(n)
+        left(m, n)
     }
 }
 

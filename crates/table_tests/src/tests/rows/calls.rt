@@ -6,15 +6,15 @@ const KEYS: u32 = 150;
 /// A call on one key.
 #[derive(Clone, Copy)]
 enum Call {
-    Insert(i64),
-    Put(i64),
+    Insert(Integer),
+    Put(Integer),
     Hold,
     Remove,
     RemoveAtPlace,
 }
 
 fn drawn(draws: &mut Draws) -> Call {
-    let value = i64::from(draws.below(1000));
+    let value = Integer::from(draws.below(1000));
     match draws.below(8) {
         0 => Call::Hold,
         1 => Call::Remove,
@@ -37,7 +37,7 @@ fn after(call: Call, had: Kept) -> Kept {
     }
 }
 
-fn put<R: Rows>(rows: &mut R, alloc: Global, key: i64, value: i64) -> Result<Kept, AllocError> {
+fn put<R: Rows>(rows: &mut R, alloc: Global, key: Integer, value: Integer) -> Result<Kept, AllocError> {
     let term = Term::Int(key);
     if let Some(objects) = rows.get(&term) {
         return Ok(kept_in(objects));
@@ -46,14 +46,14 @@ fn put<R: Rows>(rows: &mut R, alloc: Global, key: i64, value: i64) -> Result<Kep
     Ok(Kept::Nothing)
 }
 
-fn hold<R: Rows>(rows: &mut R, alloc: Global, key: i64) -> Kept {
+fn hold<R: Rows>(rows: &mut R, alloc: Global, key: Integer) -> Kept {
     match rows.replace(&Term::Int(key), Chain::new(alloc)) {
         Some(objects) => kept_in(objects.as_slice()),
         None => Kept::Nothing,
     }
 }
 
-fn remove_at_place<R: Rows>(rows: &mut R, key: i64) -> Kept {
+fn remove_at_place<R: Rows>(rows: &mut R, key: Integer) -> Kept {
     match rows.find(&Term::Int(key)) {
         Some(place) => kept_in(rows.remove_at(place).1.as_slice()),
         None => Kept::Nothing,
@@ -61,7 +61,7 @@ fn remove_at_place<R: Rows>(rows: &mut R, key: i64) -> Kept {
 }
 
 /// Does a call, and answers what the key had.
-fn done<R: Rows>(rows: &mut R, alloc: Global, key: i64, call: Call) -> Result<Kept, AllocError> {
+fn done<R: Rows>(rows: &mut R, alloc: Global, key: Integer, call: Call) -> Result<Kept, AllocError> {
     match call {
         Call::Insert(value) => insert(rows, alloc, key, value),
         Call::Put(value) => put(rows, alloc, key, value),
@@ -88,7 +88,7 @@ fn agrees<R: Rows>(
 ) -> Result<bool, AllocError> {
     let key = draws.below(KEYS);
     let call = drawn(draws);
-    let had = done(rows, alloc, i64::from(key), call)?;
+    let had = done(rows, alloc, Integer::from(key), call)?;
     Ok(listed_done(list, key, call) == Some(had))
 }
 
@@ -125,7 +125,7 @@ fn agree<R: Rows>(rows: &R, list: &[Kept]) -> bool {
     let mut all = true;
     for number in 0..KEYS {
         let wanted = list.get(number as usize).copied().unwrap_or(Kept::Nothing);
-        all = kept_at(rows, i64::from(number)) == wanted && all;
+        all = kept_at(rows, Integer::from(number)) == wanted && all;
         if wanted != Kept::Nothing {
             slots = slots.wrapping_add(1);
         }
@@ -133,21 +133,21 @@ fn agree<R: Rows>(rows: &R, list: &[Kept]) -> bool {
     all && rows.len() == slots && walks(rows)
 }
 
-fn number_of(key: &Term) -> i64 {
+fn number_of(key: &Term) -> Integer {
     match key {
-        Term::Int(number) => *number as i64,
+        Term::Int(number) => *number,
         _ => -1,
     }
 }
 
-fn first_of<R: Rows>(rows: &R) -> Option<i64> {
+fn first_of<R: Rows>(rows: &R) -> Option<Integer> {
     let place = rows.first_place()?;
     let (key, _objects) = rows.slot_at(place);
     Some(number_of(key))
 }
 
 /// The key behind another, by places.
-fn behind<R: Rows>(rows: &R, key: i64) -> Option<i64> {
+fn behind<R: Rows>(rows: &R, key: Integer) -> Option<Integer> {
     let place = rows.find(&Term::Int(key))?;
     let next = rows.place_behind(place)?;
     let (key, _objects) = rows.slot_at(next);
@@ -155,7 +155,7 @@ fn behind<R: Rows>(rows: &R, key: i64) -> Option<i64> {
 }
 
 /// Whether the slot behind a key's own has this key.
-fn is_behind<R: Rows>(rows: &R, key: i64, next: Option<i64>) -> bool {
+fn is_behind<R: Rows>(rows: &R, key: Integer, next: Option<Integer>) -> bool {
     match rows.next_at(&Term::Int(key)) {
         Some(Some((key, _objects))) => next == Some(number_of(key)),
         Some(None) => next == None,

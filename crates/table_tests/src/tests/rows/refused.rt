@@ -4,10 +4,10 @@ use super::several::{put_three, three};
 use super::*;
 
 /// How often three rows are put, the buckets are doubled, and two of them readied.
-const TIMES: i64 = 8;
+const TIMES: u32 = 8;
 
 /// More keys than are put.
-const KEYS: i64 = 27;
+const KEYS: Integer = 27;
 
 fn mixed(told: u64, more: u64) -> u64 {
     told.wrapping_mul(1_000_003).wrapping_add(more)
@@ -15,13 +15,13 @@ fn mixed(told: u64, more: u64) -> u64 {
 
 fn number(objects: &[Term]) -> u64 {
     match objects.first() {
-        Some(Term::Int(value)) => value.cast_unsigned().wrapping_add(2),
+        Some(Term::Int(value)) => u64::try_from(*value).unwrap_or(u64::MAX).wrapping_add(2),
         _ => 1,
     }
 }
 
 /// A number for what a key has, and for the key behind it.
-fn told_at<R: Rows>(rows: &R, key: i64) -> u64 {
+fn told_at<R: Rows>(rows: &R, key: Integer) -> u64 {
     let term = Term::Int(key);
     let own = match rows.get(&term) {
         Some(objects) => number(objects),
@@ -47,7 +47,7 @@ fn told<R: Rows>(rows: &R) -> u64 {
     told
 }
 
-fn put_again<R: Rows>(rows: &mut R, alloc: Global, time: i64) -> Result<bool, AllocError> {
+fn put_again<R: Rows>(rows: &mut R, alloc: Global, time: u32) -> Result<bool, AllocError> {
     let before = told(rows);
     match put_three(rows, alloc, three(time)) {
         Ok(done) => Ok(done),
@@ -71,7 +71,7 @@ fn ready_again<R: Rows>(rows: &mut R, bucket: u32) -> Result<bool, AllocError> {
     }
 }
 
-fn insert_again<R: Rows>(rows: &mut R, alloc: Global, key: i64) -> Result<bool, AllocError> {
+fn insert_again<R: Rows>(rows: &mut R, alloc: Global, key: Integer) -> Result<bool, AllocError> {
     let before = told(rows);
     match insert(rows, alloc, key, key) {
         Ok(had) => Ok(had == Kept::Nothing),
@@ -88,8 +88,9 @@ fn does_again<R: Rows>(rows: &mut R, alloc: Global) -> Result<bool, AllocError> 
         let bucket = rows.least().unwrap_or(0);
         all = ready_again(rows, bucket)? && all;
     }
-    all = insert_again(rows, alloc, TIMES.wrapping_mul(3))? && all;
-    for key in 0..TIMES.wrapping_mul(3) {
+    let put = Integer::from(TIMES.wrapping_mul(3));
+    all = insert_again(rows, alloc, put)? && all;
+    for key in 0..put {
         all = kept_at(rows, key) == Kept::Object(key) && all;
     }
     Ok(all)

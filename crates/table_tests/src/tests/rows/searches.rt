@@ -17,7 +17,7 @@ fn counted<H: KeyHash + Drop>(
     counts.resize(buckets as usize, 0)?;
     for number in 0..slots {
         let bucket = hash
-            .hash32(&Term::Int(i64::from(number)))
+            .hash32(&Term::Int(Integer::from(number)))
             .checked_rem(buckets)
             .unwrap_or(0);
         if let Some(count) = counts.get_mut(bucket as usize) {
@@ -36,7 +36,7 @@ fn is_right<H: KeyHash + Copy + Drop>(
     slots: u32,
     number: u32,
 ) -> bool {
-    let key = Term::Int(i64::from(number));
+    let key = Term::Int(Integer::from(number));
     let mut steps = Steps::new();
     let found = rows.get_counted(&key, &mut steps).is_some();
     let bucket = hash.hash32(&key).checked_rem(rows.buckets()).unwrap_or(0);
@@ -74,7 +74,7 @@ fn put_some<R: Rows>(
 ) -> Result<u32, AllocError> {
     let now = slots.saturating_add(draws.below(20)).min(most);
     for number in slots..now {
-        insert(rows, alloc, i64::from(number), 1)?;
+        insert(rows, alloc, Integer::from(number), 1)?;
     }
     Ok(now)
 }
@@ -195,11 +195,11 @@ fn readying_tells_the_eighths(rt: HostRuntime) {
 
 /// Whether searches among a thousand keys of one hash pass all of them, and no more.
 fn thousand_in_one(rows: &mut SplitRows<AllSame>, alloc: Global) -> Result<bool, AllocError> {
-    for number in 0..1000i64 {
+    for number in 0..1000 {
         insert(rows, alloc, number, 1)?;
     }
     let mut all = true;
-    for number in 0..1000i64 {
+    for number in 0..1000 {
         all = steps_for(rows, &Term::Int(number)) <= 1002 && all;
     }
     let missed = steps_for(rows, &Term::Int(1000));

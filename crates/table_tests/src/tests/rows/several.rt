@@ -1,10 +1,10 @@
 use super::*;
 
 /// How often three rows are put at once.
-const TIMES: i64 = 100;
+const TIMES: u32 = 100;
 
 /// One row of a key that has one object, its own number.
-fn row(alloc: Global, key: i64) -> (Term, Chain) {
+fn row(alloc: Global, key: Integer) -> (Term, Chain) {
     (Term::Int(key), Chain::one(alloc, Term::Int(key)))
 }
 
@@ -12,7 +12,7 @@ fn row(alloc: Global, key: i64) -> (Term, Chain) {
 pub fn put_three<R: Rows>(
     rows: &mut R,
     alloc: Global,
-    keys: (i64, i64, i64),
+    keys: (Integer, Integer, Integer),
 ) -> Result<bool, AllocError> {
     let (a, first) = row(alloc, keys.0);
     let (b, second) = row(alloc, keys.1);
@@ -28,8 +28,8 @@ pub fn put_three<R: Rows>(
 }
 
 /// The three keys of a time, which no other time has.
-pub fn three(time: i64) -> (i64, i64, i64) {
-    let first = time.wrapping_mul(3);
+pub fn three(time: u32) -> (Integer, Integer, Integer) {
+    let first = Integer::from(time).wrapping_mul(3);
     (first, first.wrapping_add(1), first.wrapping_add(2))
 }
 
@@ -41,7 +41,7 @@ fn puts_three_by_three<R: Rows>(rows: &mut R, alloc: Global) -> Result<bool, All
         all = put_three(rows, alloc, three(time))? && all;
         ready_some(rows, &mut draws)?;
     }
-    for key in 0..TIMES.wrapping_mul(3) {
+    for key in 0..Integer::from(TIMES.wrapping_mul(3)) {
         all = kept_at(rows, key) == Kept::Object(key) && all;
     }
     Ok(all && rows.len() == 3 * TIMES as usize)

@@ -1,12 +1,12 @@
 use super::*;
 
 /// Past the last power of two but one that a table of a hundred thousand slots would reach.
-const SLOTS: i64 = 70_000;
+const SLOTS: u32 = 70_000;
 
 /// Whether each key from none on goes in as a new one, the buckets doubled and readied as they fill.
 fn fills<R: Rows>(rows: &mut R, alloc: Global) -> Result<bool, AllocError> {
     let mut all = true;
-    for key in 0..SLOTS {
+    for key in 0..Integer::from(SLOTS) {
         all = insert(rows, alloc, key, key)? == Kept::Nothing && all;
         keep_up(rows)?;
     }
@@ -29,18 +29,18 @@ fn keep_up<R: Rows>(rows: &mut R) -> Result<(), AllocError> {
 /// Whether each key has its own number, and can be given another object.
 fn changes<R: Rows>(rows: &mut R, alloc: Global) -> Result<bool, AllocError> {
     let mut all = true;
-    for key in 0..SLOTS {
+    for key in 0..Integer::from(SLOTS) {
         all = kept_at(rows, key) == Kept::Object(key) && all;
         all = insert(rows, alloc, key, key.wrapping_add(1))? == Kept::Object(key) && all;
     }
-    Ok(all && kept_at(rows, SLOTS) == Kept::Nothing)
+    Ok(all && kept_at(rows, Integer::from(SLOTS)) == Kept::Nothing)
 }
 
 /// Whether each key goes, the last first.
 fn empties<R: Rows>(rows: &mut R) -> bool {
     let mut all = true;
     for back in 0..SLOTS {
-        let key = SLOTS.wrapping_sub(back).wrapping_sub(1);
+        let key = Integer::from(SLOTS.wrapping_sub(back).wrapping_sub(1));
         all = remove(rows, key) == Kept::Object(key.wrapping_add(1)) && all;
     }
     all && rows.len() == 0 && rows.first_at().is_none()

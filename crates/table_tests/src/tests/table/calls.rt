@@ -1,9 +1,10 @@
 // Each call, and each refusal.
 use super::{BADARG, LIMIT, Life, Step, wrong};
+use ets_term::Integer;
 use std::process::Abort;
 use table_ops::Kind;
 
-const SETS: [(Step, i64); 26] = [
+const SETS: [(Step, Integer); 26] = [
     (Step::Insert(7, 1), 1),
     (Step::Insert(7, 2), 1),
     (Step::Lookup(7), 2),
@@ -32,7 +33,7 @@ const SETS: [(Step, i64); 26] = [
     (Step::DeleteAll(false), 0),
 ];
 
-const BAGS: [(Step, i64); 12] = [
+const BAGS: [(Step, Integer); 12] = [
     (Step::Insert(7, 1), 1),
     (Step::Insert(7, 2), 1),
     (Step::Insert(7, 1), 1),
@@ -47,7 +48,7 @@ const BAGS: [(Step, i64); 12] = [
     (Step::Slots, 0),
 ];
 
-const DUPLICATE_BAGS: [(Step, i64); 14] = [
+const DUPLICATE_BAGS: [(Step, Integer); 14] = [
     (Step::InsertTwo(7, 1, 7, 2), 1),
     (Step::Insert(7, 1), 1),
     (Step::Lookup(7), 121),
@@ -64,7 +65,7 @@ const DUPLICATE_BAGS: [(Step, i64); 14] = [
     (Step::Purge, 0),
 ];
 
-const LIMITS: [(Step, i64); 15] = [
+const LIMITS: [(Step, Integer); 15] = [
     (Step::InsertTwo(1, 1, 2, 1), 1),
     (Step::InsertTwo(3, 1, 4, 1), LIMIT),
     (Step::Size, 2),
@@ -82,7 +83,7 @@ const LIMITS: [(Step, i64); 15] = [
     (Step::Slots, 4),
 ];
 
-const UPDATES: [(Step, i64); 16] = [
+const UPDATES: [(Step, Integer); 16] = [
     (Step::Insert(7, 5), 1),
     (Step::Count(7, 3), 8),
     (Step::Lookup(7), 8),
@@ -93,15 +94,15 @@ const UPDATES: [(Step, i64); 16] = [
     (Step::Write(9, 2), 0),
     (Step::Lookup(8), 2),
     (Step::Size, 2),
-    (Step::Insert(7, i64::MAX), 1),
+    (Step::Insert(7, Integer::MAX), 1),
     (Step::Count(7, 1), LIMIT),
-    (Step::Lookup(7), i64::MAX),
+    (Step::Lookup(7), Integer::MAX),
     (Step::Delete(7, true), 1),
     (Step::CountFrom(7, 1, 0), 1),
     (Step::Slots, 2),
 ];
 
-const QUERIES: [(Step, i64); 16] = [
+const QUERIES: [(Step, Integer); 16] = [
     (Step::Matches(7), 0),
     (Step::InsertTwo(7, 1, 8, 2), 1),
     (Step::InsertTwo(9, 3, 10, 4), 1),

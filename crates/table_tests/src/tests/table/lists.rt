@@ -4,14 +4,14 @@ use super::steps::{inserted, inserted_new};
 use super::terms::{digits, tuple};
 use super::{LIMIT, plain, split};
 use bucket_table::Rows;
-use ets_term::Term;
+use ets_term::{Integer, Term};
 use std::alloc::Global;
 use std::process::Abort;
 use table_ops::{Kind, Table};
 
 /// A kind and a limit, and what a table of them then has: the answer of the insertion, the objects, the slots, and the
 /// values of key 0 as digits of one number that wraps.
-type Row = (Kind, u32, i64, usize, usize, i64);
+type Row = (Kind, u32, Integer, usize, usize, Integer);
 
 const ROWS: [Row; 6] = [
     (Kind::Set, 97, 1, 97, 97, 1),
@@ -23,7 +23,7 @@ const ROWS: [Row; 6] = [
 ];
 
 /// The digits of key 0 in a duplicate bag, 104 of them.
-const SAME_KEY: i64 = 6_613_725_569_538_951_701;
+const SAME_KEY: Integer = 17_411_923_686_422_082_608_420_841_024_488_311_317;
 
 fn objects(alloc: Global) -> Option<Vec<Term>> {
     let mut objects = Vec::new(alloc);

@@ -1,6 +1,7 @@
 // Long runs: the same answers over each form of rows, past every power of two.
 use super::{Step, answer, plain, runs, same, split};
 use bucket_table::Rows;
+use ets_term::Integer;
 use std::alloc::Global;
 use std::process::Abort;
 use table_ops::{Kind, Table};
@@ -10,8 +11,8 @@ const CALLS: u32 = 10_000;
 /// The step of a number: the calls on keys that spread with it.
 fn step_at(i: u32) -> Step {
     let mixed = i.wrapping_mul(2_654_435_761);
-    let key = (mixed >> 16) as i64 % 97;
-    let value = (mixed >> 8) as i64 % 10;
+    let key = (mixed >> 16) as Integer % 97;
+    let value = (mixed >> 8) as Integer % 10;
     let hold = i % 64 < 16;
     match mixed >> 27 {
         0 | 1 | 2 | 3 | 4 | 5 | 6 | 7 => Step::Insert(key, value),
@@ -37,8 +38,8 @@ fn step_at(i: u32) -> Step {
 fn whole_step_at(i: u32) -> Step {
     match i % 1024 {
         0 => Step::Objects,
-        256 => Step::Below((i % 7) as i64),
-        512 => Step::DeleteBelow((i % 3) as i64, i % 2048 < 1024),
+        256 => Step::Below((i % 7) as Integer),
+        512 => Step::DeleteBelow((i % 3) as Integer, i % 2048 < 1024),
         700 => Step::Purge,
         _ => step_at(i),
     }
@@ -95,24 +96,24 @@ fn duplicate_bags_answer_alike(rt: HostRuntime) {
 /// Whether a table of one more object each time has what it must, and gives it all up again.
 fn fills<R: Rows>(alloc: Global, table: &mut Table<R>, most: u32) -> bool {
     for i in 0..most {
-        if answer(alloc, table, Step::Insert(i as i64, 1)) != 1 {
+        if answer(alloc, table, Step::Insert(i as Integer, 1)) != 1 {
             return false;
         }
-        if answer(alloc, table, Step::Size) != i as i64 + 1 {
+        if answer(alloc, table, Step::Size) != i as Integer + 1 {
             return false;
         }
         if i % 8 == 0 && answer(alloc, table, Step::Grow) != 1 {
             return false;
         }
-        if i.is_power_of_two() && !has_all(alloc, table, i as i64) {
+        if i.is_power_of_two() && !has_all(alloc, table, i as Integer) {
             return false;
         }
     }
-    answer(alloc, table, Step::DeleteBelow(2, false)) == most as i64
+    answer(alloc, table, Step::DeleteBelow(2, false)) == most as Integer
 }
 
 /// Whether each call does what it must on a table of the keys up to this one, with the value 1.
-fn has_all<R: Rows>(alloc: Global, table: &mut Table<R>, last: i64) -> bool {
+fn has_all<R: Rows>(alloc: Global, table: &mut Table<R>, last: Integer) -> bool {
     let count = last.wrapping_add(1);
     let rows = [
         (Step::Below(2), count.wrapping_mul(100_001)),

@@ -4,13 +4,13 @@ use super::terms::{atom, both, tuple, whole};
 use super::{BADARG, LIMIT, Life, Step, plain, split, wrong};
 use bucket_table::Rows;
 use counters::{read_element_specs, read_ops};
-use ets_term::Term;
+use ets_term::{Integer, Term};
 use std::alloc::Global;
 use std::process::Abort;
 use std::slice;
 use table_ops::{Kind, Table};
 
-const KEY_STANDS_SECOND: [(Step, i64); 15] = [
+const KEY_STANDS_SECOND: [(Step, Integer); 15] = [
     (Step::Insert(1, 7), 1),
     (Step::Insert(2, 7), 1),
     (Step::Insert(2, 8), 1),
@@ -28,7 +28,7 @@ const KEY_STANDS_SECOND: [(Step, i64); 15] = [
     (Step::Size, 1),
 ];
 
-const KEY_STANDS_THIRD: [(Step, i64); 14] = [
+const KEY_STANDS_THIRD: [(Step, Integer); 14] = [
     (Step::Insert(1, 2), BADARG),
     (Step::InsertNew(1, 2), BADARG),
     (Step::InsertThree(1, 2, 7), 1),
@@ -45,7 +45,7 @@ const KEY_STANDS_THIRD: [(Step, i64); 14] = [
     (Step::Size, 1),
 ];
 
-const DEEPEST_OBJECTS: [(Step, i64); 14] = [
+const DEEPEST_OBJECTS: [(Step, Integer); 14] = [
     (Step::InsertDeep(7, 127), 1),
     (Step::InsertDeep(8, 128), LIMIT),
     (Step::InsertDeep(7, 128), LIMIT),

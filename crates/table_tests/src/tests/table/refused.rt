@@ -4,12 +4,12 @@
 use super::steps::every;
 use super::{MEMORY, Step, answer, plain};
 use bucket_table::{Rows, SplitRows};
-use ets_term::{AllSame, Fnv, KeyHash};
+use ets_term::{AllSame, Fnv, Integer, KeyHash};
 use std::alloc::Global;
 use std::process::Abort;
 use table_ops::{Kind, Table};
 
-const LIFE: [(Step, i64); 26] = [
+const LIFE: [(Step, Integer); 26] = [
     (Step::InsertTwo(1, 1, 2, 2), 1),
     (Step::InsertTwo(3, 3, 1, 4), 1),
     (Step::InsertNew(1, 5), 0),
@@ -38,7 +38,7 @@ const LIFE: [(Step, i64); 26] = [
     (Step::DeleteAll(false), 0),
 ];
 
-const BAG_LIFE: [(Step, i64); 10] = [
+const BAG_LIFE: [(Step, Integer); 10] = [
     (Step::InsertTwo(1, 1, 1, 2), 1),
     (Step::InsertTwo(1, 1, 1, 3), 1),
     (Step::Insert(1, 4), 1),
@@ -52,14 +52,14 @@ const BAG_LIFE: [(Step, i64); 10] = [
 ];
 
 /// What a table has: its objects, and how many objects and slots there are.
-fn state<R: Rows>(table: &Table<R>) -> Option<(i64, usize, usize)> {
+fn state<R: Rows>(table: &Table<R>) -> Option<(Integer, usize, usize)> {
     let objects = every(table).or_else(|| every(table))?;
     Some((objects, table.size(), table.slots()))
 }
 
 /// Whether a step has its answer, at once or, where it was refused memory and has changed nothing, when it is done
 /// again.
-fn does_again<R: Rows>(alloc: Global, table: &mut Table<R>, step: Step, wanted: i64) -> bool {
+fn does_again<R: Rows>(alloc: Global, table: &mut Table<R>, step: Step, wanted: Integer) -> bool {
     let before = state(table);
     let first = answer(alloc, table, step);
     if first != MEMORY {
@@ -72,7 +72,7 @@ fn does_again<R: Rows>(alloc: Global, table: &mut Table<R>, step: Step, wanted: 
 fn wrong_again<R: Rows>(
     alloc: Global,
     table: &mut Table<R>,
-    steps: &[(Step, i64)],
+    steps: &[(Step, Integer)],
 ) -> Option<usize> {
     for (place, (step, wanted)) in steps.iter().enumerate() {
         if !does_again(alloc, table, *step, *wanted) {
@@ -82,7 +82,7 @@ fn wrong_again<R: Rows>(
     None
 }
 
-fn wrong_plain(alloc: Global, kind: Kind, steps: &[(Step, i64)]) -> Option<usize> {
+fn wrong_plain(alloc: Global, kind: Kind, steps: &[(Step, Integer)]) -> Option<usize> {
     wrong_again(alloc, &mut plain(alloc, kind, 1, 9), steps)
 }
 
@@ -116,7 +116,7 @@ fn wrong_split<H: KeyHash + Copy + Drop>(
     alloc: Global,
     hash: H,
     kind: Kind,
-    steps: &[(Step, i64)],
+    steps: &[(Step, Integer)],
 ) -> Option<usize> {
     wrong_again(alloc, &mut split_again(alloc, hash, kind)?, steps)
 }

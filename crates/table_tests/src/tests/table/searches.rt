@@ -3,7 +3,7 @@
 use super::terms::{of_keys, one, tuple, under, with_value};
 use super::{plain, split};
 use bucket_table::Rows;
-use ets_term::Term;
+use ets_term::{Integer, Term};
 use match_spec::Pattern;
 use std::alloc::Global;
 use std::process::Abort;
@@ -28,7 +28,7 @@ fn matched<R: Rows>(table: &Table<R>, pattern: &Pattern) -> Found {
 }
 
 /// By `select` and `select_count`, with a clause for each key.
-fn selected<R: Rows>(alloc: Global, table: &Table<R>, keys: &[i64]) -> Found {
+fn selected<R: Rows>(alloc: Global, table: &Table<R>, keys: &[Integer]) -> Found {
     let spec = of_keys(alloc, keys)?;
     let mut looks = Looks::new();
     let results = table.select_counted(&spec, &mut looks).ok()?;
@@ -36,11 +36,11 @@ fn selected<R: Rows>(alloc: Global, table: &Table<R>, keys: &[i64]) -> Found {
     Some((results.len(), count, looks.count()))
 }
 
-fn matches_key<R: Rows>(alloc: Global, table: &Table<R>, key: i64) -> Found {
+fn matches_key<R: Rows>(alloc: Global, table: &Table<R>, key: Integer) -> Found {
     matched(table, &under(alloc, key)?)
 }
 
-fn matches_value<R: Rows>(alloc: Global, table: &Table<R>, value: i64) -> Found {
+fn matches_value<R: Rows>(alloc: Global, table: &Table<R>, value: Integer) -> Found {
     matched(table, &with_value(alloc, value)?)
 }
 
@@ -67,7 +67,7 @@ fn selects_all<R: Rows>(alloc: Global, table: &Table<R>) -> bool {
 }
 
 /// Deletes by a clause for each key: how many go and how many are left, and how many objects are tried.
-fn deleted<R: Rows>(alloc: Global, table: &mut Table<R>, keys: &[i64]) -> Found {
+fn deleted<R: Rows>(alloc: Global, table: &mut Table<R>, keys: &[Integer]) -> Found {
     let spec = of_keys(alloc, keys)?;
     let mut looks = Looks::new();
     let gone = table.select_delete_counted(&spec, false, &mut looks).ok()?;
@@ -75,7 +75,7 @@ fn deleted<R: Rows>(alloc: Global, table: &mut Table<R>, keys: &[i64]) -> Found 
 }
 
 /// Deletes by the pattern of a key: how many are left, with slots and without, and how many objects are tried.
-fn unmatched<R: Rows>(alloc: Global, table: &mut Table<R>, key: i64) -> Found {
+fn unmatched<R: Rows>(alloc: Global, table: &mut Table<R>, key: Integer) -> Found {
     let pattern = under(alloc, key)?;
     let mut looks = Looks::new();
     table.match_delete_counted(&pattern, true, &mut looks).ok()?;

@@ -3,11 +3,11 @@ use super::terms::{below, both, digits, nested, number, total, tuple, under, who
 use super::{BADARG, LIMIT, MEMORY, Step};
 use bucket_table::Rows;
 use counters::{read_element_specs, read_ops};
-use ets_term::Term;
+use ets_term::{Integer, Position, Term};
 use std::alloc::Global;
 use table_ops::{Looks, Refusal, Table};
 
-pub fn refused(refusal: Refusal) -> i64 {
+pub fn refused(refusal: Refusal) -> Integer {
     match refusal {
         Refusal::Badarg => BADARG,
         Refusal::SystemLimit => LIMIT,
@@ -15,14 +15,14 @@ pub fn refused(refusal: Refusal) -> i64 {
     }
 }
 
-pub fn inserted<R: Rows>(table: &mut Table<R>, objects: &[Term]) -> i64 {
+pub fn inserted<R: Rows>(table: &mut Table<R>, objects: &[Term]) -> Integer {
     match table.insert(objects) {
         Ok(()) => 1,
         Err(refusal) => refused(refusal),
     }
 }
 
-pub fn inserted_new<R: Rows>(table: &mut Table<R>, objects: &[Term]) -> i64 {
+pub fn inserted_new<R: Rows>(table: &mut Table<R>, objects: &[Term]) -> Integer {
     match table.insert_new(objects) {
         Ok(true) => 1,
         Ok(false) => 0,
@@ -30,7 +30,7 @@ pub fn inserted_new<R: Rows>(table: &mut Table<R>, objects: &[Term]) -> i64 {
     }
 }
 
-fn element<R: Rows>(table: &Table<R>, key: i64, position: usize) -> i64 {
+fn element<R: Rows>(table: &Table<R>, key: Integer, position: Position) -> Integer {
     match table.lookup_element(&Term::Int(key), position) {
         Ok(Term::List(elements)) => whole(elements.len()),
         Ok(element) => number(Some(&element)),
@@ -38,14 +38,14 @@ fn element<R: Rows>(table: &Table<R>, key: i64, position: usize) -> i64 {
     }
 }
 
-fn taken<R: Rows>(table: &mut Table<R>, key: i64, hold: bool) -> i64 {
+fn taken<R: Rows>(table: &mut Table<R>, key: Integer, hold: bool) -> Integer {
     match table.take(&Term::Int(key), hold) {
         Ok(objects) => digits(objects.as_slice()),
         Err(_) => MEMORY,
     }
 }
 
-fn gone<R: Rows>(table: &mut Table<R>, object: &Term, hold: bool) -> i64 {
+fn gone<R: Rows>(table: &mut Table<R>, object: &Term, hold: bool) -> Integer {
     match table.delete_object(object, hold) {
         Ok(()) => whole(table.size()),
         Err(refusal) => refused(refusal),
@@ -56,10 +56,10 @@ fn gone<R: Rows>(table: &mut Table<R>, object: &Term, hold: bool) -> i64 {
 fn counted<R: Rows>(
     alloc: Global,
     table: &mut Table<R>,
-    key: i64,
-    increment: i64,
+    key: Integer,
+    increment: Integer,
     default: Option<&Term>,
-) -> Option<i64> {
+) -> Option<Integer> {
     let ops = read_ops(alloc, &Term::Int(increment), table.keypos()).ok()?;
     match table.update_counter(&Term::Int(key), &ops, default) {
         Ok(answer) => Some(number(Some(&answer))),
@@ -70,16 +70,16 @@ fn counted<R: Rows>(
 fn counted_from<R: Rows>(
     alloc: Global,
     table: &mut Table<R>,
-    key: i64,
-    increment: i64,
-    start: i64,
-) -> Option<i64> {
+    key: Integer,
+    increment: Integer,
+    start: Integer,
+) -> Option<Integer> {
     let default = tuple(alloc, &[0, start])?;
     counted(alloc, table, key, increment, Some(&default))
 }
 
 /// Writes the second element. The update is read as for a key that stands first: a table asks again.
-fn written<R: Rows>(alloc: Global, table: &mut Table<R>, key: i64, value: i64) -> Option<i64> {
+fn written<R: Rows>(alloc: Global, table: &mut Table<R>, key: Integer, value: Integer) -> Option<Integer> {
     let update = tuple(alloc, &[2, value])?;
     let specs = read_element_specs(alloc, &update, 1).ok()?;
     match table.update_element(&Term::Int(key), specs, None) {
@@ -90,7 +90,7 @@ fn written<R: Rows>(alloc: Global, table: &mut Table<R>, key: i64, value: i64) -
 }
 
 /// How many answers the pattern of a key has, and how many objects it tried.
-fn matching<R: Rows>(alloc: Global, table: &Table<R>, key: i64) -> Option<i64> {
+fn matching<R: Rows>(alloc: Global, table: &Table<R>, key: Integer) -> Option<Integer> {
     let pattern = under(alloc, key)?;
     let mut looks = Looks::new();
     let bindings = table.matches_counted(&pattern, &mut looks).ok()?;
@@ -99,11 +99,11 @@ fn matching<R: Rows>(alloc: Global, table: &Table<R>, key: i64) -> Option<i64> {
     Some(
         counts
             .wrapping_mul(100)
-            .wrapping_add(looks.count().min(99) as i64),
+            .wrapping_add(looks.count().min(99) as Integer),
     )
 }
 
-fn selected<R: Rows>(alloc: Global, table: &Table<R>, limit: i64) -> Option<i64> {
+fn selected<R: Rows>(alloc: Global, table: &Table<R>, limit: Integer) -> Option<Integer> {
     let spec = below(alloc, limit)?;
     let results = table.select(&spec).ok()?;
     let count = table.select_count(&spec).ok()?;
@@ -114,24 +114,24 @@ fn selected<R: Rows>(alloc: Global, table: &Table<R>, limit: i64) -> Option<i64>
     )
 }
 
-fn deleted<R: Rows>(alloc: Global, table: &mut Table<R>, limit: i64, hold: bool) -> Option<i64> {
+fn deleted<R: Rows>(alloc: Global, table: &mut Table<R>, limit: Integer, hold: bool) -> Option<Integer> {
     let spec = below(alloc, limit)?;
     Some(whole(table.select_delete(&spec, hold).ok()?))
 }
 
-fn unmatched<R: Rows>(alloc: Global, table: &mut Table<R>, key: i64, hold: bool) -> Option<i64> {
+fn unmatched<R: Rows>(alloc: Global, table: &mut Table<R>, key: Integer, hold: bool) -> Option<Integer> {
     let pattern = under(alloc, key)?;
     table.match_delete(&pattern, hold).ok()?;
     Some(whole(table.size()))
 }
 
-pub fn every<R: Rows>(table: &Table<R>) -> Option<i64> {
+pub fn every<R: Rows>(table: &Table<R>) -> Option<Integer> {
     let objects = table.objects().ok()?;
     Some(total(objects.as_slice()))
 }
 
 /// Doubles the buckets and readies the least that is not ready.
-fn grown<R: Rows>(table: &mut Table<R>) -> Option<i64> {
+fn grown<R: Rows>(table: &mut Table<R>) -> Option<Integer> {
     let _growth = table.grow().ok()?;
     if let Some(bucket) = table.least() {
         let _readying = table.ready(bucket).ok()?;
@@ -139,28 +139,28 @@ fn grown<R: Rows>(table: &mut Table<R>) -> Option<i64> {
     Some(1)
 }
 
-fn delete_key<R: Rows>(table: &mut Table<R>, key: i64, hold: bool) -> i64 {
+fn delete_key<R: Rows>(table: &mut Table<R>, key: Integer, hold: bool) -> Integer {
     table.delete_key(&Term::Int(key), hold);
     whole(table.size())
 }
 
-fn clear<R: Rows>(table: &mut Table<R>, hold: bool) -> i64 {
+fn clear<R: Rows>(table: &mut Table<R>, hold: bool) -> Integer {
     table.delete_all(hold);
     whole(table.slots())
 }
 
-fn purge<R: Rows>(table: &mut Table<R>) -> i64 {
+fn purge<R: Rows>(table: &mut Table<R>) -> Integer {
     table.purge();
     whole(table.slots())
 }
 
 /// The pair of a key and a term of this depth.
-fn deep(alloc: Global, key: i64, depth: usize) -> Option<Term> {
+fn deep(alloc: Global, key: Integer, depth: usize) -> Option<Term> {
     both(alloc, Term::Int(key), nested(alloc, depth)?)
 }
 
 /// Does a step that inserts.
-pub fn change<R: Rows>(alloc: Global, table: &mut Table<R>, step: Step) -> Option<i64> {
+pub fn change<R: Rows>(alloc: Global, table: &mut Table<R>, step: Step) -> Option<Integer> {
     match step {
         Step::Insert(key, value) => Some(inserted(table, &[tuple(alloc, &[key, value])?])),
         Step::InsertTwo(key, value, other, second) => Some(inserted(
@@ -180,7 +180,7 @@ pub fn change<R: Rows>(alloc: Global, table: &mut Table<R>, step: Step) -> Optio
 }
 
 /// Does a step that deletes.
-fn removal<R: Rows>(alloc: Global, table: &mut Table<R>, step: Step) -> Option<i64> {
+fn removal<R: Rows>(alloc: Global, table: &mut Table<R>, step: Step) -> Option<Integer> {
     match step {
         Step::Take(key, hold) => Some(taken(table, key, hold)),
         Step::Delete(key, hold) => Some(delete_key(table, key, hold)),
@@ -194,7 +194,7 @@ fn removal<R: Rows>(alloc: Global, table: &mut Table<R>, step: Step) -> Option<i
 }
 
 /// Does a step that updates, or deletes what a pattern or a specification chooses.
-fn update<R: Rows>(alloc: Global, table: &mut Table<R>, step: Step) -> Option<i64> {
+fn update<R: Rows>(alloc: Global, table: &mut Table<R>, step: Step) -> Option<Integer> {
     match step {
         Step::Count(key, increment) => counted(alloc, table, key, increment, None),
         Step::CountFrom(key, increment, start) => {
@@ -209,7 +209,7 @@ fn update<R: Rows>(alloc: Global, table: &mut Table<R>, step: Step) -> Option<i6
 }
 
 /// Does a step that changes nothing.
-fn read<R: Rows>(alloc: Global, table: &Table<R>, step: Step) -> Option<i64> {
+fn read<R: Rows>(alloc: Global, table: &Table<R>, step: Step) -> Option<Integer> {
     match step {
         Step::Lookup(key) => Some(digits(table.lookup(&Term::Int(key)))),
         Step::Element(key, position) => Some(element(table, key, position)),

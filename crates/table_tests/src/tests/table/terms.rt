@@ -1,10 +1,10 @@
 // Terms, patterns and specifications as the tests need them, and what a test tells of objects.
-use ets_term::{Atom, Items, Term};
+use ets_term::{Atom, Integer, Items, Term};
 use match_spec::{Pattern, Spec};
 use std::alloc::Global;
 
 /// The tuple of these integers.
-pub fn tuple(alloc: Global, numbers: &[i64]) -> Option<Term> {
+pub fn tuple(alloc: Global, numbers: &[Integer]) -> Option<Term> {
     let mut items = Items::new(alloc);
     for number in numbers {
         items.push(Term::Int(*number)).ok()?;
@@ -12,12 +12,12 @@ pub fn tuple(alloc: Global, numbers: &[i64]) -> Option<Term> {
     Some(Term::Tuple(items))
 }
 
-/// A number of things, which is the greatest there is where it is larger.
-pub fn whole(count: usize) -> i64 {
-    i64::try_from(count).unwrap_or(i64::MAX)
+/// A number of things.
+pub fn whole(count: usize) -> Integer {
+    count as Integer
 }
 
-pub fn number(term: Option<&Term>) -> i64 {
+pub fn number(term: Option<&Term>) -> Integer {
     match term {
         Some(Term::Int(n)) => *n,
         _ => 0,
@@ -25,8 +25,8 @@ pub fn number(term: Option<&Term>) -> i64 {
 }
 
 /// The second elements of pairs as the digits of one number.
-pub fn digits(objects: &[Term]) -> i64 {
-    let mut all: i64 = 0;
+pub fn digits(objects: &[Term]) -> Integer {
+    let mut all: Integer = 0;
     for object in objects {
         all = all.wrapping_mul(10).wrapping_add(number(object.element(2)));
     }
@@ -34,8 +34,8 @@ pub fn digits(objects: &[Term]) -> i64 {
 }
 
 /// A number of pairs that does not know their order.
-pub fn total(objects: &[Term]) -> i64 {
-    let mut all: i64 = 0;
+pub fn total(objects: &[Term]) -> Integer {
+    let mut all: Integer = 0;
     for object in objects {
         let pair = number(object.element(1))
             .wrapping_mul(1_000_003)
@@ -58,14 +58,14 @@ pub fn both(alloc: Global, first: Term, second: Term) -> Option<Term> {
 }
 
 /// The pattern `{Key,'$1'}`.
-pub fn under(alloc: Global, key: i64) -> Option<Pattern> {
+pub fn under(alloc: Global, key: Integer) -> Option<Pattern> {
     let variable = atom(alloc, "$1")?;
     let term = both(alloc, Term::Int(key), variable)?;
     Pattern::compile(alloc, &term).ok()
 }
 
 /// The pattern `{'$1',Value}`.
-pub fn with_value(alloc: Global, value: i64) -> Option<Pattern> {
+pub fn with_value(alloc: Global, value: Integer) -> Option<Pattern> {
     let variable = atom(alloc, "$1")?;
     let term = both(alloc, variable, Term::Int(value))?;
     Pattern::compile(alloc, &term).ok()
@@ -88,7 +88,7 @@ pub fn nested(alloc: Global, depth: usize) -> Option<Term> {
 }
 
 /// The condition `{'<','$1',Limit}`.
-pub fn is_below(alloc: Global, limit: i64) -> Option<Term> {
+pub fn is_below(alloc: Global, limit: Integer) -> Option<Term> {
     let mut items = Items::new(alloc);
     items.push(atom(alloc, "<")?).ok()?;
     items.push(atom(alloc, "$1")?).ok()?;
@@ -106,7 +106,7 @@ fn clause(alloc: Global, head: Term, conditions: Term) -> Option<Term> {
 }
 
 /// The specification `[{{'_','$1'},[{'<','$1',Limit}],[true]}]`.
-pub fn below(alloc: Global, limit: i64) -> Option<Spec> {
+pub fn below(alloc: Global, limit: Integer) -> Option<Spec> {
     let head = both(alloc, atom(alloc, "_")?, atom(alloc, "$1")?)?;
     let conditions = one(alloc, is_below(alloc, limit)?)?;
     let spec = one(alloc, clause(alloc, head, conditions)?)?;
@@ -114,7 +114,7 @@ pub fn below(alloc: Global, limit: i64) -> Option<Spec> {
 }
 
 /// A specification of a clause `{{Key,'_'},[],[true]}` for each of these keys.
-pub fn of_keys(alloc: Global, keys: &[i64]) -> Option<Spec> {
+pub fn of_keys(alloc: Global, keys: &[Integer]) -> Option<Spec> {
     let mut clauses = Items::new(alloc);
     for key in keys {
         let head = both(alloc, Term::Int(*key), atom(alloc, "_")?)?;

@@ -37,20 +37,20 @@ impl Reader<'_> {
         from
     }
 
-    fn digit(&mut self) -> Option<u64> {
+    fn digit(&mut self) -> Option<u128> {
         let digit = self.text.get(self.at)?.wrapping_sub(b'0');
         if digit > 9 {
             return None;
         }
         self.at = self.at.saturating_add(1);
-        Some(u64::from(digit))
+        Some(u128::from(digit))
     }
 
     /// One digit or more, of a number that begins at the start.
-    pub(super) fn digits(&mut self, start: usize, limit: u64) -> Result<u64, TextFault> {
+    pub(super) fn digits(&mut self, start: usize, limit: u128) -> Result<u128, TextFault> {
         let _first = self.byte()?;
         let from = self.at;
-        let mut n: u64 = 0;
+        let mut n: u128 = 0;
         for _ in from..self.text.len() {
             if let Some(digit) = self.digit() {
                 n = n.saturating_mul(10).saturating_add(digit);

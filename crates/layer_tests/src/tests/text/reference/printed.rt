@@ -2,7 +2,7 @@
 use super::pieces::is_name;
 use std::alloc::{AllocError, Global};
 
-pub(super) fn put_number(alloc: Global, out: &mut String, n: u64) -> Result<(), AllocError> {
+pub(super) fn put_number(alloc: Global, out: &mut String, n: u128) -> Result<(), AllocError> {
     let text = format!(in alloc; "{n}")?;
     out.push_str(text.as_str())
 }
@@ -13,7 +13,7 @@ pub(super) fn put_row(alloc: Global, out: &mut String, row: &[u8]) -> Result<(),
         if i > 0 {
             out.push(',')?;
         }
-        put_number(alloc, out, u64::from(*n))?;
+        put_number(alloc, out, u128::from(*n))?;
     }
     Ok(())
 }

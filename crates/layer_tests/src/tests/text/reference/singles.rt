@@ -8,7 +8,7 @@ impl Reader<'_> {
     pub(super) fn single(&mut self, sign: u8) -> Result<(), TextFault> {
         match sign {
             b'-' => self.negative(),
-            b'0'..=b'9' => self.number(self.at, 9223372036854775807),
+            b'0'..=b'9' => self.number(self.at, 170141183460469231731687303715884105727),
             b'\'' => self.quoted_atom(),
             b'"' => self.string(),
             b'#' => self.identifier(),
@@ -17,7 +17,7 @@ impl Reader<'_> {
         }
     }
 
-    fn number(&mut self, start: usize, limit: u64) -> Result<(), TextFault> {
+    fn number(&mut self, start: usize, limit: u128) -> Result<(), TextFault> {
         let n = self.digits(start, limit)?;
         Ok(put_number(self.alloc, &mut self.out, n)?)
     }
@@ -25,7 +25,7 @@ impl Reader<'_> {
     fn negative(&mut self) -> Result<(), TextFault> {
         let start = self.at;
         self.at = self.at.saturating_add(1);
-        let n = self.digits(start, 9223372036854775808)?;
+        let n = self.digits(start, 170141183460469231731687303715884105728)?;
         if n != 0 {
             self.out.push('-')?;
         }

@@ -47,7 +47,7 @@ pub const STEPS: [Row; 22] = [
 ];
 
 /// Calls with something else than an object, a key, a position, a pattern or a specification.
-pub const OBJECTS: [Row; 20] = [
+pub const OBJECTS: [Row; 21] = [
     (Enrol(7), ""),
     (Ask(7, "new(t,[named_table])"), ""),
     (Ask(7, "new(all,[named_table,bag,public])"), ""),
@@ -75,6 +75,10 @@ pub const OBJECTS: [Row; 20] = [
     ),
     (
         Ask(7, "lookup_element(t,a,5)"),
+        "argument 3: a position past the object",
+    ),
+    (
+        Ask(7, "lookup_element(t,a,18446744073709551617)"),
         "argument 3: a position past the object",
     ),
     (
@@ -107,7 +111,7 @@ pub const OBJECTS: [Row; 20] = [
 ];
 
 /// Updates of counters and elements.
-pub const UPDATES: [Row; 19] = [
+pub const UPDATES: [Row; 21] = [
     (Enrol(7), ""),
     (Ask(7, "new(t,[named_table])"), ""),
     (Ask(7, "new(all,[named_table,bag,public])"), ""),
@@ -115,6 +119,7 @@ pub const UPDATES: [Row; 19] = [
     (Ask(7, "insert(t,{n,1})"), ""),
     (Ask(7, "insert(all,[{a,1,x},{a,2}])"), ""),
     (Ask(7, "update_element(t,zz,{2,1})"), ""),
+    (Ask(7, "update_element(t,zz,{18446744073709551617,1})"), ""),
     (
         Ask(7, "update_counter(t,zz,1)"),
         "argument 2: not a key that is there",
@@ -150,6 +155,10 @@ pub const UPDATES: [Row; 19] = [
     ),
     (
         Ask(7, "update_element(t,a,{3,1})"),
+        "argument 3: a position past the object",
+    ),
+    (
+        Ask(7, "update_element(t,a,{18446744073709551617,1})"),
         "argument 3: a position past the object",
     ),
     (
