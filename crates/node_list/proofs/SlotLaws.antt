@@ -12,7 +12,7 @@ use Rattle.node_list.specs.declared.node.Node.{Node}
 use Rattle.node_list.specs.declared.front.Front.{Front}
 use Rattle.node_list.specs.declared.packed.Packed.{Packed}
 use Rattle.node_list.specs.inside.Packed.{next_in, is_item}
-use Rattle.node_list.specs.inside.Slots.{stand_in, slot_at, item_if, whole, node_in, nodes_of, marks_item, HaveNoItem, PutsSlot}
+use Rattle.node_list.specs.inside.Slots.{stand_in, item_if, whole, node_in, nodes_of, marks_item, HaveNoItem, PutsSlot}
 use Rattle.node_list.specs.inside.NodeLending.{node_with}
 
 pub get-nodes : (os : List (Option Packed)) (ss : List Item) (k : ℕ) → get_or (nodes_of os ss) k None ≡ node_in (get_or os k None) (get_or ss k stand_in)

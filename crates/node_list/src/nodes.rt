@@ -21,9 +21,6 @@ use std::mem;
 /// How many nodes room is made for at first.
 const FIRST_ROOM: usize = 8;
 
-/// For how many nodes there is room at most: memory would not hold as many, and a front's word tells no greater place.
-const MOST_ROOM: usize = usize::MAX / 2;
-
 /// For how many nodes more room is made: as many as there are, so that growth costs each node a constant.
 fn growth(len: usize, additional: usize) -> usize
     ensures { additional ≤ result }
@@ -106,9 +103,6 @@ impl Nodes {
         // A place needs room in both arrays, and either can be refused: so it is a copy of the first that grows.
         let mut nodes = self.nodes.clone()?;
         nodes.reserve_exact(growth(len, additional))?;
-        if nodes.capacity() > MOST_ROOM {
-            return Err(AllocError);
-        }
         let more = nodes.capacity().saturating_sub(self.items.len());
         self.items.reserve_exact(more)?;
         self.nodes = nodes;

@@ -1,9 +1,8 @@
-use Rattle.std.proofs.Common.{◌≡◌, ◌<◌, List, length, Some, Option, IsSome, option_map, set, refl, sym, ◌∙◌, ap, subst, arith}
+use Rattle.std.proofs.Common.{◌<◌, List, length, Some, Option, IsSome, option_map, set, refl, sym, ◌∙◌, ap, subst, arith}
 use Rattle.std.proofs.lemmas.List.{length-set}
 use Rattle.node_list.specs.declared.node.Node.{Node}
 use Rattle.node_list.specs.declared.packed.Packed.{Packed}
 use Rattle.slab.specs.Slab.{Slab, get}
-use Rattle.node_list.specs.declared.node.Item.{Item}
 use Rattle.node_list.specs.inside.Slots.{whole, node_in, nodes_of}
 use Rattle.node_list.specs.inside.NodeLending.{node_with, nodes_with}
 use Rattle.node_list.proofs.SlotLaws.{has-front, front-at, node-is, read, nodes-slot, whole-with, has-chain}
@@ -19,7 +18,6 @@ index_mut-requires c =
 pub invariant_of-self-lent : goal.invariant_of-self-lent
 invariant_of-self-lent c = λ w.
     record {
-      few = c.self.invariant.few;
       room = c.self.invariant.room;
       within = λ k has. omega (arith, c.self.invariant.within k has, length-set c.self.inside.items.items c.args.at (record c.index_mut.result.now { chain = w }));
       below = c.self.invariant.below;

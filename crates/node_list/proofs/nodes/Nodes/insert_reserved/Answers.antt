@@ -35,12 +35,11 @@ returns-clause-len c =
     ∙ (c.insert_reserved-at.ensures.len ∙ (ap (λ k. k + 1) (sym (count-nodes c.self.inside.nodes.slots c.self.inside.items.items)) ∙ ap (λ (v : Slab Node). slab_len v + 1) c.self.view_is))
 
 pub returns-clause-in_range : goal.returns-clause-in_range
-returns-clause-in_range c = omega (arith, c.insert_reserved-at.ensures.key_in_range, c.insert_reserved-at.ensures.capacity, c.self.invariant.few)
+returns-clause-in_range c = omega (arith, c.insert_reserved-at.ensures.key_in_range, c.insert_reserved-at.ensures.capacity, c.self.invariant.room, c.self.inside.items.small)
 
 pub invariant_of-self : goal.invariant_of-self
 invariant_of-self c =
     record {
-      few = omega (arith, c.insert_reserved-at.ensures.capacity, c.self.invariant.few);
       room = omega (arith, c.insert_reserved-at.ensures.capacity, c.put_slot.ensures.capacity, c.self.invariant.room);
       within =
           within-after c.self.inside.nodes c.insert_reserved-at.new.self c.self.inside.items.items c.put_slot.new.items.items c.insert_reserved-at.result (Some c.new.result) c.or_stand_in-slot.result

@@ -1,4 +1,4 @@
-use Rattle.std.proofs.Common.{◌≡◌, ◌<◌, Option, Some, None, length, IsSome, Bool, get_or, sym, ◌∙◌, ap, subst, arith, refl}
+use Rattle.std.proofs.Common.{◌<◌, length, IsSome, Bool, get_or, sym, ◌∙◌, ap, subst, arith, refl}
 use Rattle.node_list.specs.declared.node.Node.{Node}
 use Rattle.node_list.specs.inside.Slots.{stand_in, item_if, whole}
 use Rattle.slab.specs.Slab.{Slab, get}

@@ -43,7 +43,6 @@ invariant_of-self c =
     let inside : c.args.at < length c.self.inside.items.items = c.self.invariant.within c.args.at (has-front c.self.inside.nodes c.self.inside.items.items c.args.at (subst P (sym c.self.view_is) c.requires)) in
     let slots = c.self.inside.items.items in
     record {
-      few = omega (arith, c.remove-packed.ensures.capacity, c.self.invariant.few);
       room = omega (arith, c.remove-packed.ensures.capacity, c.self.invariant.room);
       within = within-after c.self.inside.nodes c.remove-packed.new.self slots (set slots c.args.at c.replace-slot.new.dest) c.args.at None c.replace-slot.new.dest c.remove-packed.ensures.updates (puts-set slots c.args.at c.replace-slot.new.dest inside) c.self.invariant.within;
       below = below-raised c.self.inside.nodes c.remove-packed.new.self c.args.at c.self.inside.low c.raised-self-inside.result c.remove-packed.ensures.updates c.raised-self-inside.ensures c.self.invariant.below;
