@@ -62,7 +62,12 @@ fn kept_at<R: Rows>(rows: &R, key: Integer) -> Kept {
 }
 
 /// Gives a key one object, in a new slot or in its own, and answers what it had.
-fn insert<R: Rows>(rows: &mut R, alloc: Global, key: Integer, value: Integer) -> Result<Kept, AllocError> {
+fn insert<R: Rows>(
+    rows: &mut R,
+    alloc: Global,
+    key: Integer,
+    value: Integer,
+) -> Result<Kept, AllocError> {
     let term = Term::Int(key);
     let objects = Chain::one(alloc, Term::Int(value));
     match rows.entry(&term) {

@@ -11,7 +11,11 @@ pub(crate) fn is_operation(name: &Term) -> bool {
 /// Past the range a sum comes round to the other side of its first number.
 fn sum(m: Integer, n: Integer) -> Option<Integer> {
     let sum = m.wrapping_add(n);
-    if (sum < m) == (n < 0) { Some(sum) } else { None }
+    if (sum < m) == (n < 0) {
+        Some(sum)
+    } else {
+        None
+    }
 }
 
 pub(crate) fn difference(m: Integer, n: Integer) -> Option<Integer> {

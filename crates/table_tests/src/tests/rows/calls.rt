@@ -37,7 +37,12 @@ fn after(call: Call, had: Kept) -> Kept {
     }
 }
 
-fn put<R: Rows>(rows: &mut R, alloc: Global, key: Integer, value: Integer) -> Result<Kept, AllocError> {
+fn put<R: Rows>(
+    rows: &mut R,
+    alloc: Global,
+    key: Integer,
+    value: Integer,
+) -> Result<Kept, AllocError> {
     let term = Term::Int(key);
     if let Some(objects) = rows.get(&term) {
         return Ok(kept_in(objects));
@@ -61,7 +66,12 @@ fn remove_at_place<R: Rows>(rows: &mut R, key: Integer) -> Kept {
 }
 
 /// Does a call, and answers what the key had.
-fn done<R: Rows>(rows: &mut R, alloc: Global, key: Integer, call: Call) -> Result<Kept, AllocError> {
+fn done<R: Rows>(
+    rows: &mut R,
+    alloc: Global,
+    key: Integer,
+    call: Call,
+) -> Result<Kept, AllocError> {
     match call {
         Call::Insert(value) => insert(rows, alloc, key, value),
         Call::Put(value) => put(rows, alloc, key, value),

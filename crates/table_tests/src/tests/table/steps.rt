@@ -79,7 +79,12 @@ fn counted_from<R: Rows>(
 }
 
 /// Writes the second element. The update is read as for a key that stands first: a table asks again.
-fn written<R: Rows>(alloc: Global, table: &mut Table<R>, key: Integer, value: Integer) -> Option<Integer> {
+fn written<R: Rows>(
+    alloc: Global,
+    table: &mut Table<R>,
+    key: Integer,
+    value: Integer,
+) -> Option<Integer> {
     let update = tuple(alloc, &[2, value])?;
     let specs = read_element_specs(alloc, &update, 1).ok()?;
     match table.update_element(&Term::Int(key), specs, None) {
@@ -114,12 +119,22 @@ fn selected<R: Rows>(alloc: Global, table: &Table<R>, limit: Integer) -> Option<
     )
 }
 
-fn deleted<R: Rows>(alloc: Global, table: &mut Table<R>, limit: Integer, hold: bool) -> Option<Integer> {
+fn deleted<R: Rows>(
+    alloc: Global,
+    table: &mut Table<R>,
+    limit: Integer,
+    hold: bool,
+) -> Option<Integer> {
     let spec = below(alloc, limit)?;
     Some(whole(table.select_delete(&spec, hold).ok()?))
 }
 
-fn unmatched<R: Rows>(alloc: Global, table: &mut Table<R>, key: Integer, hold: bool) -> Option<Integer> {
+fn unmatched<R: Rows>(
+    alloc: Global,
+    table: &mut Table<R>,
+    key: Integer,
+    hold: bool,
+) -> Option<Integer> {
     let pattern = under(alloc, key)?;
     table.match_delete(&pattern, hold).ok()?;
     Some(whole(table.size()))
