@@ -1,6 +1,5 @@
 // Want of memory. Run with each allocation refused in turn, by `.ci/refusals`: a call that was refused memory has left the
 // object as it was, and answers when it is called again as if it had been called once.
-use super::rows::Call;
 use super::*;
 use crate::tests::text::refused::term_again;
 
@@ -118,12 +117,25 @@ fn writes_default_again(
     }
 }
 
+/// What a row is about.
+#[derive(Clone, Copy)]
+enum Call {
+    /// `[Object,Updates,Answer,Made]`
+    Count,
+    /// `[Default,Key,Updates,Answer,Made]`
+    Start,
+    /// `[Object,Values,Made]`
+    Write,
+    /// `[Default,Key,Values,Made]`
+    WriteDefault,
+}
+
 fn holds_again(alloc: Global, call: Call, row: &[Term]) -> Option<bool> {
     match (call, row) {
-        (Call::Count(_), [object, updates, answer, made]) => {
+        (Call::Count, [object, updates, answer, made]) => {
             counts_again(alloc, object, updates, answer, made)
         }
-        (Call::Start(_), [default, key, updates, answer, made]) => {
+        (Call::Start, [default, key, updates, answer, made]) => {
             starts_again(alloc, default, key, updates, (answer, made))
         }
         (Call::Write, [object, values, made]) => writes_again(alloc, object, values, made),
@@ -152,20 +164,17 @@ fn wrong_again(alloc: Global, rows: &[(Call, &'static str)]) -> Option<&'static 
 }
 
 const REFUSED: [(Call, &str); 9] = [
-    (Call::Count(1), "[{c,5},3,8,{c,8}]"),
+    (Call::Count, "[{c,5},3,8,{c,8}]"),
     (
-        Call::Count(1),
+        Call::Count,
         "[{c,5,x},[{2,1},{2,1},{2,1},{2,1},{2,1},{2,1},{2,1},{2,1},{2,-9}],[6,7,8,9,10,11,12,13,4],{c,4,x}]",
     ),
+    (Call::Count, "[{c,5,a},[{2,1},{2,1},{3,1}],badarg,{c,5,a}]"),
     (
-        Call::Count(1),
-        "[{c,5,a},[{2,1},{2,1},{3,1}],badarg,{c,5,a}]",
-    ),
-    (
-        Call::Start(1),
+        Call::Start,
         "[{x,10,[1,2,3]},[a,key],[{2,1},{2,-5}],[11,6],{[a,key],6,[1,2,3]}]",
     ),
-    (Call::Start(1), "[{x},[a,key],[{2,1}],badarg,none]"),
+    (Call::Start, "[{x},[a,key],[{2,1}],badarg,none]"),
     (
         Call::Write,
         "[{k,1,2},[{2,'a text that needs memory of its own'},{3,[x,{y}]}],{k,'a text that needs memory of its own',[x,{y}]}]",
