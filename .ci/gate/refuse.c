@@ -25,11 +25,15 @@ enum { SECONDS = 20 };
 /* How many allocations this run has taken, and the number of the one that it is refused, from 1. */
 static long taken, refused;
 static long from = -1, to = -1;
+/* Whether all that this run takes is counted. */
+static int counts_all;
 /* How many allocations came before the line, and up to its end. Every run sees it. */
 static struct { long before, end; } *counted;
 
 static int refuses(void) {
-    if (++taken != refused) return 0;
+    taken++;
+    if (counts_all) counted->end = taken;
+    if (taken != refused) return 0;
     errno = ENOMEM;
     return 1;
 }
@@ -75,6 +79,7 @@ static int run(long which) {
         alarm(SECONDS);
         taken = 0;
         refused = which;
+        counts_all = which == 0 && from == 0 && to == -1;
         return 1;
     }
     if (child < 0 || waitpid(child, &status, 0) < 0) fail("fork");
@@ -85,10 +90,6 @@ static int run(long which) {
     close(output);
     close(errors);
     return 0;
-}
-
-__attribute__((destructor)) static void end(void) {
-    if (counted && !refused && from == 0 && to == -1) counted->end = taken;
 }
 
 __attribute__((constructor)) static void run_all(void) {

@@ -31,6 +31,12 @@ def counted(pattern, text):
     return (int(found[1]), int(found[2])) if found else (0, 1)
 
 
+def tests_of_refusals(copy):
+    """The programs of tests that `rt ci` leaves, of the crates with tests of refused memory."""
+    crates = [it for it in crates_of(TOP).values() if any(file.endswith("/refused.rt") for file in it.files("src"))]
+    return [f"{copy}/crates/{it.name}/out/{it.name}_tests" for it in crates]
+
+
 def parts_of(words, copy, logs):
     """What the gate runs: what costs no proof, the test of the program of wrong bodies, `rt ci`, the wrong bodies, and what is tried on the program."""
     politely = ["nice", "-n", "10", f"{TOP}/.ci/wrong_bodies"]
@@ -41,10 +47,12 @@ def parts_of(words, copy, logs):
     program = f"{copy}/{PROGRAM}/out/ets_script_cli"
     door = Part("the front door", [f"{TOP}/.ci/door", program], after=[proofs])
     cuts = Part("the examples, cut at every byte", [f"{TOP}/.ci/cuts", program], after=[proofs])
-    refusals = Part("memory refused", [f"{TOP}/.ci/refusals", program], after=[proofs], show=r"^refusals: ")
+    devices = Part("devices that fail", [f"{TOP}/.ci/devices", program], after=[proofs])
+    tests = tests_of_refusals(copy)
+    refusals = Part("memory refused", [f"{TOP}/.ci/refusals", program, *tests], after=[proofs], show=r"^refusals: ")
     erlang = Part("Erlang over the program", [f"{TOP}/.ci/door_erlang", program], after=[proofs])
     c = Part("the store for C", [f"{TOP}/.ci/door_c", copy], after=[proofs], show=r"^door_c: ")
-    return [*unproved(logs), itself, door, cuts, refusals, erlang, c], proofs, edits
+    return [*unproved(logs), itself, door, cuts, devices, refusals, erlang, c], proofs, edits
 
 
 def report(edits, costs):

@@ -11,3 +11,4 @@ mod keys;
 mod long;
 mod plain;
 mod random;
+mod refused;

@@ -9,6 +9,7 @@ use table_ops::{Kind, Table};
 
 mod calls;
 mod held;
+mod refused;
 mod walks;
 
 fn plain(alloc: Global, kind: Kind) -> Walked<PlainRows> {

@@ -2,6 +2,7 @@
 mod against_reference;
 mod long;
 mod reference;
+pub(crate) mod refused;
 
 use ets_term::Term;
 use std::alloc::{AllocError, Global};

@@ -12,6 +12,7 @@ mod counts;
 mod defaults;
 mod depths;
 mod elements;
+mod refused;
 mod rows;
 
 /// Whether a call answers this, where `badarg` and `system_limit` are its refusals.

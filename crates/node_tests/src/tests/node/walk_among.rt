@@ -9,10 +9,11 @@ use std::process::Abort;
 
 mod handing;
 
-/// A walk of process 0 over the table t: the steps before it, its limit, and what others do meanwhile.
+/// A walk over the table t: the steps before it, the process that walks, its limit, and what others do meanwhile.
 #[derive(Clone, Copy)]
 struct Tried<'a> {
     rows: &'a [Row],
+    walker: u32,
     limit: u32,
     plan: Plan,
 }
@@ -31,7 +32,7 @@ fn walk<H: KeyHash + Copy + Drop>(
     }
     let table = term(alloc, "t")?;
     let mut others = Handing::new(alloc, tried.plan);
-    let result = match walk_among(node, 0, &table, tried.limit, &mut others) {
+    let result = match walk_among(node, tried.walker, &table, tried.limit, &mut others) {
         Ok(walk) => Ok(Term::List(walk.keys)),
         Err(fault) => Err(fault),
     };
@@ -130,6 +131,7 @@ const NINE: [Row; 4] = [
 
 const KEYS_AGAIN: Tried<'static> = Tried {
     rows: &NINE,
+    walker: 0,
     limit: 100,
     plan: Plan::Again,
 };
@@ -141,8 +143,36 @@ fn keys_that_go_and_come_again_are_walked_once(rt: HostRuntime) {
     assert!(rt; comes_to(rt.alloc(), AllSame, KEYS_AGAIN, all) == Ok(true));
 }
 
+const SEVENTY: [Row; 4] = [
+    (Enrol(0), "<0"),
+    (Enrol(7), "<7"),
+    (Ask(0, "new(t,[named_table])"), "t"),
+    (
+        Ask(
+            0,
+            "insert(t,[{1},{2},{3},{4},{5},{6},{7},{8},{9},{10},{11},{12},{13},{14},{15},{16},{17},{18},{19},{20},{21},{22},{23},{24},{25},{26},{27},{28},{29},{30},{31},{32},{33},{34},{35},{36},{37},{38},{39},{40},{41},{42},{43},{44},{45},{46},{47},{48},{49},{50},{51},{52},{53},{54},{55},{56},{57},{58},{59},{60},{61},{62},{63},{64},{65},{66},{67},{68},{69},{70}])",
+        ),
+        "true",
+    ),
+];
+
+const BY_ANOTHER: Tried<'static> = Tried {
+    rows: &SEVENTY,
+    walker: 7,
+    limit: 70,
+    plan: Plan::Always(&[]),
+};
+
+#[test]
+fn seventy_keys_are_walked_by_another_process(rt: HostRuntime) {
+    let all =
+        "[1,2,3,4,5,6,7,8,9,10,11,12,13,14,15,16,17,18,19,20,21,22,23,24,25,26,27,28,29,30,31,32,33,34,35,36,37,38,39,40,41,42,43,44,45,46,47,48,49,50,51,52,53,54,55,56,57,58,59,60,61,62,63,64,65,66,67,68,69,70]";
+    assert!(rt; comes_to(rt.alloc(), Fnv, BY_ANOTHER, all) == Ok(true));
+}
+
 const FURTHER: Tried<'static> = Tried {
     rows: &ONE,
+    walker: 0,
     limit: 5,
     plan: Plan::Further,
 };
@@ -201,6 +231,7 @@ fn stops(alloc: Global, stop: Stop, wanted: &WalkFault) -> Result<bool, AllocErr
     let (plan, then) = stop;
     let tried = Tried {
         rows: &TWO,
+        walker: 0,
         limit: 9,
         plan,
     };
@@ -248,6 +279,7 @@ const CLEARS: [Event; 1] = [Ask(1, "delete_all_objects(t)")];
 
 const EMPTIED: Tried<'static> = Tried {
     rows: &TWO,
+    walker: 0,
     limit: 9,
     plan: Plan::Always(&CLEARS),
 };
@@ -274,6 +306,7 @@ const ENDED: [Row; 4] = [
 fn fault_of(alloc: Global, rows: &[Row], limit: u32) -> Result<Option<WalkFault>, AllocError> {
     let tried = Tried {
         rows,
+        walker: 0,
         limit,
         plan: Plan::Again,
     };
@@ -291,6 +324,7 @@ fn a_table_that_is_not_to_be_read_is_lost(rt: HostRuntime) {
 
 const NO_LIMIT: Tried<'static> = Tried {
     rows: &EMPTY,
+    walker: 0,
     limit: 0,
     plan: Plan::Again,
 };

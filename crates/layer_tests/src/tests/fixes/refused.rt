@@ -1,0 +1,260 @@
+// Want of memory. Run with each allocation refused in turn, by `.ci/refusals`: a call that was refused memory has changed
+// nothing, neither keys nor their order nor fixes, and answers when it is called again as if it had been called once.
+use super::*;
+use bucket_table::{Growth, Readying};
+use fixed_walk::FixFault;
+use table_ops::Refusal;
+
+/// A call, of numbers for keys, values and processes.
+#[derive(Clone, Copy)]
+enum Step {
+    Insert(Integer, Integer),
+    InsertNew(Integer, Integer),
+    Element(Integer),
+    Take(Integer),
+    Delete(Integer),
+    DeleteObject(Integer, Integer),
+    Objects,
+    Fix(u32),
+    Release(u32),
+    Grow,
+    Ready,
+}
+
+/// The answer of a call that was refused memory, and of one that was refused otherwise.
+const MEMORY: Integer = -1;
+
+const OTHERWISE: Integer = -2;
+
+fn refusal(refused: &Refusal) -> Integer {
+    match refused {
+        Refusal::Memory => MEMORY,
+        Refusal::Badarg | Refusal::SystemLimit => OTHERWISE,
+    }
+}
+
+fn object_again(alloc: Global, key: Integer, value: Integer) -> Option<Term> {
+    match object(alloc, key, value) {
+        Some(made) => Some(made),
+        None => object(alloc, key, value),
+    }
+}
+
+fn inserted<R: Rows>(table: &mut Walked<R>, object: Option<Term>) -> Integer {
+    let Some(object) = object else {
+        return OTHERWISE;
+    };
+    match table.insert(&[object]) {
+        Ok(()) => 1,
+        Err(refused) => refusal(&refused),
+    }
+}
+
+fn inserted_new<R: Rows>(table: &mut Walked<R>, object: Option<Term>) -> Integer {
+    let Some(object) = object else {
+        return OTHERWISE;
+    };
+    match table.insert_new(&[object]) {
+        Ok(done) => Integer::from(done),
+        Err(refused) => refusal(&refused),
+    }
+}
+
+fn deleted_object<R: Rows>(table: &mut Walked<R>, object: Option<Term>) -> Integer {
+    let Some(object) = object else {
+        return OTHERWISE;
+    };
+    match table.delete_object(&object) {
+        Ok(()) => 1,
+        Err(refused) => refusal(&refused),
+    }
+}
+
+fn element<R: Rows>(table: &Walked<R>, key: Integer) -> Integer {
+    match table.lookup_element(&Term::Int(key), 2) {
+        Ok(Term::Int(value)) => value,
+        Ok(_) => 0,
+        Err(refused) => refusal(&refused),
+    }
+}
+
+fn taken<R: Rows>(table: &mut Walked<R>, key: Integer) -> Integer {
+    match table.take(&Term::Int(key)) {
+        Ok(objects) => objects.len() as Integer,
+        Err(_) => MEMORY,
+    }
+}
+
+fn listed<R: Rows>(table: &Walked<R>) -> Integer {
+    match table.objects() {
+        Ok(objects) => objects.len() as Integer,
+        Err(_) => MEMORY,
+    }
+}
+
+fn fixed<R: Rows>(table: &mut Walked<R>, pid: u32) -> Integer {
+    match table.fix(pid) {
+        Ok(()) => 1,
+        Err(FixFault::Memory) => MEMORY,
+        Err(FixFault::SystemLimit) => OTHERWISE,
+    }
+}
+
+fn grown<R: Rows>(table: &mut Walked<R>) -> Integer {
+    match table.grow() {
+        Ok(growth) => Integer::from(growth == Growth::Grown),
+        Err(_) => MEMORY,
+    }
+}
+
+fn readied<R: Rows>(table: &mut Walked<R>) -> Integer {
+    let bucket = table.least().unwrap_or(0);
+    match table.ready(bucket) {
+        Ok(readying) => Integer::from(readying == Readying::Ready),
+        Err(_) => MEMORY,
+    }
+}
+
+fn answer<R: Rows>(alloc: Global, table: &mut Walked<R>, step: Step) -> Integer {
+    match step {
+        Step::Insert(key, value) => inserted(table, object_again(alloc, key, value)),
+        Step::InsertNew(key, value) => inserted_new(table, object_again(alloc, key, value)),
+        Step::DeleteObject(key, value) => deleted_object(table, object_again(alloc, key, value)),
+        Step::Element(key) => element(table, key),
+        Step::Take(key) => taken(table, key),
+        Step::Delete(key) => {
+            table.delete_key(&Term::Int(key));
+            1
+        }
+        Step::Objects => listed(table),
+        Step::Fix(pid) => fixed(table, pid),
+        Step::Release(pid) => {
+            table.release(pid);
+            Integer::from(table.is_fixed())
+        }
+        Step::Grow => grown(table),
+        Step::Ready => readied(table),
+    }
+}
+
+/// A number for a key of a walk, with its objects, behind those before.
+fn mixed<R: Rows>(table: &Walked<R>, told: Integer, key: &Term) -> Integer {
+    let own = match key {
+        Term::Int(number) => *number,
+        _ => 0,
+    };
+    let objects = table.lookup(key).len() as Integer;
+    told.wrapping_mul(1_000_003)
+        .wrapping_add(own.wrapping_mul(16).wrapping_add(objects))
+}
+
+/// A number for all keys of a walk, in their order.
+fn walked<R: Rows>(table: &Walked<R>) -> Integer {
+    let mut told = 1;
+    let mut at = table.first();
+    for _ in 0..table.slots() {
+        let Some(key) = at else { break };
+        told = mixed(table, told, key);
+        at = table.next(key).unwrap_or(None);
+    }
+    told
+}
+
+/// What can be seen of a table.
+fn state<R: Rows>(table: &Walked<R>) -> (Integer, usize, u32, bool) {
+    (
+        walked(table),
+        table.size(),
+        table.buckets(),
+        table.is_fixed(),
+    )
+}
+
+/// Whether a call has its answer, at once or, where it was refused memory and has changed nothing, when it is called again.
+fn does_again<R: Rows>(alloc: Global, table: &mut Walked<R>, step: Step, wanted: Integer) -> bool {
+    let before = state(table);
+    let first = answer(alloc, table, step);
+    if first != MEMORY {
+        return first == wanted;
+    }
+    state(table) == before && answer(alloc, table, step) == wanted
+}
+
+/// The place of the first call that is answered otherwise.
+fn wrong_again<R: Rows>(
+    alloc: Global,
+    table: &mut Walked<R>,
+    steps: &[(Step, Integer)],
+) -> Option<usize> {
+    for (place, (step, wanted)) in steps.iter().enumerate() {
+        if !does_again(alloc, table, *step, *wanted) {
+            return Some(place);
+        }
+    }
+    None
+}
+
+const LIFE: [(Step, Integer); 24] = [
+    (Step::Insert(1, 1), 1),
+    (Step::Insert(1, 2), 1),
+    (Step::Insert(2, 3), 1),
+    (Step::Fix(0), 1),
+    (Step::Fix(0), 1),
+    (Step::Fix(1), 1),
+    (Step::Delete(2), 1),
+    (Step::Insert(3, 4), 1),
+    (Step::Insert(2, 5), 1),
+    (Step::InsertNew(4, 6), 1),
+    (Step::InsertNew(4, 7), 0),
+    (Step::Insert(5, 8), 1),
+    (Step::Insert(6, 9), 1),
+    (Step::Take(1), 2),
+    (Step::Element(7), OTHERWISE),
+    (Step::Objects, 5),
+    (Step::DeleteObject(3, 4), 1),
+    (Step::Release(0), 1),
+    (Step::Fix(2), 1),
+    (Step::Release(0), 1),
+    (Step::Release(1), 1),
+    (Step::Release(2), 0),
+    (Step::Insert(3, 1), 1),
+    (Step::Objects, 5),
+];
+
+const GROWTH: [(Step, Integer); 8] = [
+    (Step::Fix(0), 1),
+    (Step::Ready, 1),
+    (Step::Grow, 1),
+    (Step::Ready, 1),
+    (Step::Insert(7, 1), 1),
+    (Step::Ready, 1),
+    (Step::Grow, 1),
+    (Step::Ready, 1),
+];
+
+#[test]
+fn a_refused_call_of_plain_rows_is_called_again(rt: HostRuntime) {
+    assert_eq!(rt;
+        wrong_again(rt.alloc(), &mut plain(rt.alloc(), Kind::Bag), &LIFE),
+        None
+    );
+}
+
+fn one_bucket_again(alloc: Global, kind: Kind) -> Option<Walked<SplitRows<AllSame>>> {
+    match one_bucket(alloc, kind) {
+        Some(table) => Some(table),
+        None => one_bucket(alloc, kind),
+    }
+}
+
+/// Whether the calls are answered so over split rows, whose buckets then double.
+fn holds_on_split_rows(alloc: Global) -> Option<bool> {
+    let mut table = one_bucket_again(alloc, Kind::Bag)?;
+    let all = wrong_again(alloc, &mut table, &LIFE).is_none();
+    Some(all && wrong_again(alloc, &mut table, &GROWTH).is_none())
+}
+
+#[test]
+fn a_refused_call_of_split_rows_is_called_again(rt: HostRuntime) {
+    assert_eq!(rt; holds_on_split_rows(rt.alloc()), Some(true));
+}

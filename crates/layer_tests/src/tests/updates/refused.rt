@@ -1,0 +1,193 @@
+// Want of memory. Run with each allocation refused in turn, by `.ci/refusals`: a call that was refused memory has left the
+// object as it was, and answers when it is called again as if it had been called once.
+use super::*;
+use crate::tests::text::refused::term_again;
+
+fn clone_again(alloc: Global, term: &Term) -> Option<Term> {
+    match term.try_clone(alloc) {
+        Ok(copy) => Some(copy),
+        Err(_) => term.try_clone(alloc).ok(),
+    }
+}
+
+fn ops_again(alloc: Global, updates: &Term, keypos: u32) -> Option<Ops> {
+    match read_ops(alloc, updates, keypos) {
+        Ok(ops) => Some(ops),
+        Err(_) => read_ops(alloc, updates, keypos).ok(),
+    }
+}
+
+fn specs_again(alloc: Global, values: &Term) -> Option<ElementSpecs> {
+    match read_element_specs(alloc, values, 1) {
+        Ok(specs) => Some(specs),
+        Err(_) => read_element_specs(alloc, values, 1).ok(),
+    }
+}
+
+/// What operations answer on an object, again where they were refused memory and the object is as it was.
+fn counted_again(
+    alloc: Global,
+    object: &mut Term,
+    before: &Term,
+    ops: &Ops,
+) -> Result<Term, CounterFault> {
+    match update_counter(alloc, object, ops) {
+        Err(CounterFault::Memory) if *object == *before => update_counter(alloc, object, ops),
+        answered => answered,
+    }
+}
+
+fn copied_again(alloc: Global, object: &Term, ops: &Ops) -> Result<(Term, Term), CounterFault> {
+    match apply_ops(alloc, object, ops) {
+        Err(CounterFault::Memory) => apply_ops(alloc, object, ops),
+        answered => answered,
+    }
+}
+
+fn started_again(
+    alloc: Global,
+    default: &Term,
+    key: &Term,
+    ops: &Ops,
+) -> Result<(Term, Term), CounterFault> {
+    match start_counter(alloc, default, 1, key, ops) {
+        Err(CounterFault::Memory) => start_counter(alloc, default, 1, key, ops),
+        answered => answered,
+    }
+}
+
+/// Whether an answer and what was made are these.
+fn are_told(outcome: &Result<(Term, Term), CounterFault>, answer: &Term, made: &Term) -> bool {
+    match outcome {
+        Ok((object, told)) => *told == *answer && *object == *made,
+        Err(fault) => is_refusal(fault, answer),
+    }
+}
+
+fn counts_again(
+    alloc: Global,
+    object: &Term,
+    updates: &Term,
+    answer: &Term,
+    made: &Term,
+) -> Option<bool> {
+    let ops = ops_again(alloc, updates, 1)?;
+    let mut own = clone_again(alloc, object)?;
+    let in_place = is_told(&counted_again(alloc, &mut own, object, &ops), answer);
+    let copied = copied_again(alloc, object, &ops);
+    Some(in_place && own == *made && are_told(&copied, answer, made))
+}
+
+fn starts_again(
+    alloc: Global,
+    default: &Term,
+    key: &Term,
+    updates: &Term,
+    told: (&Term, &Term),
+) -> Option<bool> {
+    let ops = ops_again(alloc, updates, 1)?;
+    Some(are_told(&started_again(alloc, default, key, &ops), told.0, told.1))
+}
+
+/// Whether values make this of an object, again where they were refused memory.
+fn writes_again(alloc: Global, object: &Term, values: &Term, made: &Term) -> Option<bool> {
+    match apply_elements(alloc, object, specs_again(alloc, values)?) {
+        Err(CounterFault::Memory) => {
+            let again = apply_elements(alloc, object, specs_again(alloc, values)?);
+            Some(is_told(&again, made))
+        }
+        answered => Some(is_told(&answered, made)),
+    }
+}
+
+/// The same of a Default with a key.
+fn writes_default_again(
+    alloc: Global,
+    default: &Term,
+    key: &Term,
+    values: &Term,
+    made: &Term,
+) -> Option<bool> {
+    match start_elements(alloc, default, 1, key, specs_again(alloc, values)?) {
+        Err(CounterFault::Memory) => {
+            let again = start_elements(alloc, default, 1, key, specs_again(alloc, values)?);
+            Some(is_told(&again, made))
+        }
+        answered => Some(is_told(&answered, made)),
+    }
+}
+
+/// What a row is about.
+#[derive(Clone, Copy)]
+enum Call {
+    /// `[Object,Updates,Answer,Made]`
+    Count,
+    /// `[Default,Key,Updates,Answer,Made]`
+    Start,
+    /// `[Object,Values,Made]`
+    Write,
+    /// `[Default,Key,Values,Made]`
+    WriteDefault,
+}
+
+fn holds_again(alloc: Global, call: Call, row: &[Term]) -> Option<bool> {
+    match (call, row) {
+        (Call::Count, [object, updates, answer, made]) => {
+            counts_again(alloc, object, updates, answer, made)
+        }
+        (Call::Start, [default, key, updates, answer, made]) => {
+            starts_again(alloc, default, key, updates, (answer, made))
+        }
+        (Call::Write, [object, values, made]) => writes_again(alloc, object, values, made),
+        (Call::WriteDefault, [default, key, values, made]) => {
+            writes_default_again(alloc, default, key, values, made)
+        }
+        _ => None,
+    }
+}
+
+fn holds_read_again(alloc: Global, call: Call, row: &str) -> Option<bool> {
+    match term_again(alloc, row)? {
+        Term::List(parts) => holds_again(alloc, call, parts.as_slice()),
+        _ => None,
+    }
+}
+
+/// The first row that does not hold.
+fn wrong_again(alloc: Global, rows: &[(Call, &'static str)]) -> Option<&'static str> {
+    for (call, row) in rows {
+        if holds_read_again(alloc, *call, *row) != Some(true) {
+            return Some(*row);
+        }
+    }
+    None
+}
+
+const REFUSED: [(Call, &str); 9] = [
+    (Call::Count, "[{c,5},3,8,{c,8}]"),
+    (
+        Call::Count,
+        "[{c,5,x},[{2,1},{2,1},{2,1},{2,1},{2,1},{2,1},{2,1},{2,1},{2,-9}],[6,7,8,9,10,11,12,13,4],{c,4,x}]",
+    ),
+    (Call::Count, "[{c,5,a},[{2,1},{2,1},{3,1}],badarg,{c,5,a}]"),
+    (
+        Call::Start,
+        "[{x,10,[1,2,3]},[a,key],[{2,1},{2,-5}],[11,6],{[a,key],6,[1,2,3]}]",
+    ),
+    (Call::Start, "[{x},[a,key],[{2,1}],badarg,none]"),
+    (
+        Call::Write,
+        "[{k,1,2},[{2,'a text that needs memory of its own'},{3,[x,{y}]}],{k,'a text that needs memory of its own',[x,{y}]}]",
+    ),
+    (Call::Write, "[{k,1,2},[{2,[a,list]},{4,x}],badarg]"),
+    (
+        Call::WriteDefault,
+        "[{0,1,<<\"binary\">>},[a,key],[{2,[9]}],{[a,key],[9],<<\"binary\">>}]",
+    ),
+    (Call::WriteDefault, "[{0,1},[a,key],[{3,[9]}],badarg]"),
+];
+
+#[test]
+fn a_refused_update_is_done_again(rt: HostRuntime) {
+    assert_eq!(rt; wrong_again(rt.alloc(), &REFUSED), None);
+}

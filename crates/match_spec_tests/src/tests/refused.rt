@@ -1,0 +1,148 @@
+// Want of memory. Run with each allocation refused in turn, by `.ci/refusals`: what is compiled or tried again is what it is at
+// once.
+use super::*;
+use term_text::{TextFault, read_term};
+
+fn term_again(alloc: Global, text: &str) -> Option<Term> {
+    let read = match read_term(alloc, text) {
+        Err(TextFault::Memory) => read_term(alloc, text),
+        read => read,
+    };
+    match read {
+        Ok((term, _)) => Some(term),
+        Err(_) => None,
+    }
+}
+
+fn pattern_again(alloc: Global, term: &Term) -> Option<Pattern> {
+    match Pattern::compile(alloc, term) {
+        Ok(pattern) => Some(pattern),
+        Err(_) => Pattern::compile(alloc, term).ok(),
+    }
+}
+
+fn spec_again(alloc: Global, term: &Term) -> Option<Spec> {
+    match Spec::compile(alloc, term) {
+        Ok(spec) => Some(spec),
+        Err(_) => Spec::compile(alloc, term).ok(),
+    }
+}
+
+/// The values by which an object matches, as a list, or the atom `none`.
+fn found_again(alloc: Global, pattern: &Pattern, object: &Term) -> Option<Term> {
+    let found = match pattern.bindings(alloc, object) {
+        Ok(found) => found,
+        Err(_) => pattern.bindings(alloc, object).ok()?,
+    };
+    match found {
+        Some(values) => Some(Term::List(Items::from_vec(values))),
+        None => term_again(alloc, "none"),
+    }
+}
+
+/// What a specification gives of an object, or the atom `none`.
+fn given_again(alloc: Global, spec: &Spec, object: &Term) -> Option<Term> {
+    let given = match spec.result(alloc, object) {
+        Ok(given) => given,
+        Err(_) => spec.result(alloc, object).ok()?,
+    };
+    match given {
+        Some(value) => Some(value),
+        None => term_again(alloc, "none"),
+    }
+}
+
+fn is_true_again(alloc: Global, spec: &Spec, object: &Term) -> Option<bool> {
+    match spec.is_true(alloc, object) {
+        Ok(is_true) => Some(is_true),
+        Err(_) => spec.is_true(alloc, object).ok(),
+    }
+}
+
+fn is_found(alloc: Global, pattern: &Term, object: &Term, wanted: &Term) -> Option<bool> {
+    let pattern = pattern_again(alloc, pattern)?;
+    Some(found_again(alloc, &pattern, object)? == *wanted)
+}
+
+fn is_given(alloc: Global, spec: &Term, object: &Term, wanted: &Term) -> Option<bool> {
+    let spec = spec_again(alloc, spec)?;
+    let is_true = is_true_again(alloc, &spec, object)? == wanted.is_atom("true");
+    Some(is_true && given_again(alloc, &spec, object)? == *wanted)
+}
+
+/// What a row is about: `[Pattern,Object,Values]`, or `[Specification,Object,Result]`.
+#[derive(Clone, Copy)]
+enum Form {
+    Pattern,
+    Spec,
+}
+
+fn holds(alloc: Global, form: Form, row: &[Term]) -> Option<bool> {
+    match (form, row) {
+        (Form::Pattern, [pattern, object, wanted]) => is_found(alloc, pattern, object, wanted),
+        (Form::Spec, [spec, object, wanted]) => is_given(alloc, spec, object, wanted),
+        _ => None,
+    }
+}
+
+fn holds_read(alloc: Global, form: Form, row: &str) -> Option<bool> {
+    match term_again(alloc, row)? {
+        Term::List(parts) => holds(alloc, form, parts.as_slice()),
+        _ => None,
+    }
+}
+
+/// The first row that does not hold.
+fn wrong(alloc: Global, rows: &[(Form, &'static str)]) -> Option<&'static str> {
+    for (form, row) in rows {
+        if holds_read(alloc, *form, *row) != Some(true) {
+            return Some(*row);
+        }
+    }
+    None
+}
+
+const ROWS: [(Form, &str); 10] = [
+    (
+        Form::Pattern,
+        "[{'$2','$1','_',['$2',{'$0'}]},{a,[b],c,[a,{\"text\"}]},[\"text\",[b],a]]",
+    ),
+    (Form::Pattern, "[{'$2','$2'},{[a],[b]},none]"),
+    (
+        Form::Pattern,
+        "[{'$9','$8','$7','$6','$5','$4','$3','$2','$1'},{1,2,3,4,5,6,7,8,[9]},[[9],8,7,6,5,4,3,2,1]]",
+    ),
+    (
+        Form::Pattern,
+        "[{deep,[{'$1',<<\"a binary\">>}]},{deep,[{x,<<\"a binary\">>}]},[x]]",
+    ),
+    (
+        Form::Spec,
+        "[[{{'$1','$2'},[{'>','$2',2}],['$_']}],{[k],3},{[k],3}]",
+    ),
+    (
+        Form::Spec,
+        "[[{{'$1','$2'},[{'>','$2',2}],['$_']}],{[k],1},none]",
+    ),
+    (
+        Form::Spec,
+        "[[{{'$1','$2'},[],['$$']}],{[k],{v}},[[k],{v}]]",
+    ),
+    (
+        Form::Spec,
+        "[[{'_',[{is_list,a}],[no]},{{'$1','$2'},[],[{{'$2',['$1',{{}}],{'+',1,{'*',2,3}}}}]}],{k,[v]},{[v],[k,{}],7}]",
+    ),
+    (
+        Form::Spec,
+        "[[{{k,'$1'},[{'and',{is_atom,'$1'},{'not',{'=:=','$1',{const,b}}}}],[true]}],{k,a},true]",
+    ),
+    (
+        Form::Spec,
+        "[[{'_',[],[{const,['a literal that needs memory of its own']}]}],{k},['a literal that needs memory of its own']]",
+    ),
+];
+
+#[test]
+fn what_was_refused_is_compiled_and_tried_again(rt: HostRuntime) {
+    assert_eq!(rt; wrong(rt.alloc(), &ROWS), None);
+}
