@@ -3,12 +3,14 @@
 from __future__ import annotations
 
 import re
-from collections.abc import Sequence
+from collections.abc import Callable, Sequence
+from typing import TYPE_CHECKING, Any
 
 from .faults import Fault, Gone, fault
 from .library import LIBRARY, Library
 from .pipe import PROGRAM, Pipe, line_of
-from .terms import Pid, Term, parse, spell
+from .reading import parse
+from .terms import Pid, Term, spell_all
 
 # The calls of docs/calls.md.
 CALLS = (
@@ -53,7 +55,7 @@ class Store:
             if not re.fullmatch(r"[ -~\t]+", line) or not line.strip() or line.lstrip().startswith("%"):
                 raise ValueError(f"{line!r} is no line that is answered")
         answers = self._way.lines(lines)
-        return [parse(it) if _is_term(it) else _fault(line, it) for line, it in zip(lines, answers)]
+        return [parse(it) if _is_term(it) else _fault(line, it) for line, it in zip(lines, answers, strict=True)]
 
     def close(self) -> None:
         """Ends the store. It may be closed again."""
@@ -67,7 +69,7 @@ class Store:
 
 
 def _is_term(answer: str | None) -> bool:
-    return answer is not None and not answer.startswith("** ")
+    return answer is not None and answer[:1] != "*"
 
 
 def _fault(line: str, answer: str | None) -> Fault:
@@ -81,12 +83,20 @@ class _Caller:
     def __init__(self, store: Store, name: str, pid: Pid):
         self.store, self.name, self.pid = store, name, pid
 
+    if TYPE_CHECKING:  # (which does not see that the methods are made, below)
+
+        def __getattr__(self, call: str) -> Callable[..., Any]: ...
+
 
 class Process(_Caller):
     """A process of the store: its calls are methods, which answer or raise a Fault."""
 
+    def __init__(self, store: Store, name: str, pid: Pid):
+        super().__init__(store, name, pid)
+        self._ask = store._way.call
+
     def _call(self, name: str, arguments: str) -> Term:
-        answer = self.store._way.call(self.name, self.pid, name, arguments)
+        answer = self._ask(self.name, self.pid, name, arguments)
         if _is_term(answer):
             return parse(answer)
         raise _fault(line_of(self.name, name, arguments), answer)
@@ -119,7 +129,8 @@ class Pipeline(_Caller):
         """Sends what was collected, and answers the answers."""
         calls, self.calls = self.calls, []
         answers = self.store._way.calls(self.name, self.pid, calls)
-        self.answers = [parse(it) if _is_term(it) else _fault(line_of(self.name, *call), it) for call, it in zip(calls, answers)]
+        told = zip(calls, answers, strict=True)
+        self.answers = [parse(it) if _is_term(it) else _fault(line_of(self.name, *call), it) for call, it in told]
         return self.answers
 
     def __enter__(self) -> Pipeline:
@@ -132,7 +143,7 @@ class Pipeline(_Caller):
 
 def _method(call: str):
     def method(self, *terms: Term):
-        return self._call(call, ",".join(map(spell, terms)))
+        return self._call(call, spell_all(terms))
 
     method.__name__, method.__doc__ = call, f"The call `{call}` of docs/calls.md."
     return method
