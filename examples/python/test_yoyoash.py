@@ -107,6 +107,8 @@ class Terms(unittest.TestCase):
         for value in [2**63, -(2**63) - 1]:
             with self.assertRaises(ValueError):
                 spell((value,))
+        with self.assertRaises(TypeError):
+            Atom(b"k")
         for make in [lambda: Atom("k\np delete(t)"), lambda: Atom("é"), lambda: Atom("a" * 256), lambda: Pid(-1), lambda: Tid(2**32)]:
             with self.assertRaises(ValueError):
                 make()

@@ -14,6 +14,7 @@ from .terms import Pid, spell
 LIBRARY = pathlib.Path(__file__).resolve().parents[3] / "crates/ets_c/out/libets.so"
 VALUE, SYNTAX = 0, 5
 # What stands in an answer for a status of ets.h that is no value; a closed store has none.
+ELSEWHERE = "a store in this process is used on the thread that opened it"
 REFUSALS = {1: "** badarg", 2: "** system_limit", 3: "** noproc", 4: "** nomem", 7: "** untold"}
 _LINE = re.compile(r"[ \t]*([a-z][A-Za-z0-9_@]*)[ \t]+([a-z][A-Za-z0-9_@]*)[ \t]*(?:\((.*)\)[ \t]*)?")
 
@@ -53,12 +54,13 @@ class Library:
 
     def _is_own_thread(self) -> None:
         if get_ident() != self._thread:
-            raise RuntimeError("a store in this process is used on the thread that opened it")
+            raise RuntimeError(ELSEWHERE)
 
     def call(self, process: str, pid: Pid, name: str, arguments: str, offset: int | None = None) -> str | None:
         """The text of the answer to a process's call; None where the store is closed. `offset` is where the arguments stand in their
         line, if that is not the usual one."""
-        self._is_own_thread()
+        if get_ident() != self._thread:
+            raise RuntimeError(ELSEWHERE)
         text = (f"{{{name},{arguments}}}" if arguments else f"{{{name}}}").encode()
         status = self._do(self._store, pid.number, text, _SIZES[len(text)], self._room_at, self._room_size, self._length_at)
         length = self._length.value

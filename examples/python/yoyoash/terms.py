@@ -19,6 +19,8 @@ class Atom:
     _spelled: str = field(init=False, repr=False, compare=False)
 
     def __post_init__(self):
+        if not isinstance(self.text, str):
+            raise TypeError(f"{self.text!r} is no string, as an atom's text is")
         if len(self.text) > 255 or not (self.text.isascii() and self.text.isprintable()):
             raise ValueError(f"{self.text!r} is no atom: it has 0 to 255 printable ASCII characters")
         object.__setattr__(self, "_spelled", "'" + self.text.replace("\\", "\\\\").replace("'", "\\'") + "'")
