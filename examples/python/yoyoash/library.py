@@ -12,9 +12,9 @@ from threading import get_ident
 from .terms import Pid, spell
 
 LIBRARY = pathlib.Path(__file__).resolve().parents[3] / "crates/ets_c/out/libets.so"
+ELSEWHERE = "a store in this process is used on the thread that opened it"
 VALUE, SYNTAX = 0, 5
 # What stands in an answer for a status of ets.h that is no value; a closed store has none.
-ELSEWHERE = "a store in this process is used on the thread that opened it"
 REFUSALS = {1: "** badarg", 2: "** system_limit", 3: "** noproc", 4: "** nomem", 7: "** untold"}
 _LINE = re.compile(r"[ \t]*([a-z][A-Za-z0-9_@]*)[ \t]+([a-z][A-Za-z0-9_@]*)[ \t]*(?:\((.*)\)[ \t]*)?")
 

@@ -58,7 +58,7 @@ class Pipe:
     def _said(self, lines: bytes, count: int) -> str:
         """Sends lines, and reads what the program says until so many answers are there, or it has ended."""
         unsent, blocks = self._send(lines), []
-        while count > 0:
+        while count > 0 or unsent:
             if unsent and self._takes_lines():
                 unsent = self._send(unsent)
                 continue
