@@ -172,7 +172,7 @@ class Programs(unittest.TestCase):
                 store.ask("p member(t,1)")
 
     def test_a_program_that_says_more_than_it_was_asked_is_asked_no_more(self):
-        with Store(says("1\n2")) as store:
+        with Store(says("1\n2"), stderr=subprocess.DEVNULL) as store:
             self.assertEqual(store.ask("p member(t,1)"), 1)
             with self.assertRaises(Gone):
                 store.ask("p member(t,1)")
