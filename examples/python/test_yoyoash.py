@@ -4,12 +4,16 @@ with --library it loads another file than crates/ets_c/out/libets.so:
 python3 examples/python/test_yoyoash.py [--program] [--library FILE]"""
 
 import collections
+import copy
 import enum
 import pathlib
+import pickle
 import random
 import re
+import subprocess
 import sys
 import threading
+import types
 import unittest
 
 from yoyoash import CALLS, Atom, BadArg, Gone, LineTooLong, NoMemory, NoProcess, Pid, Process, Store, Syntax, SystemLimit, Tid, parse, spell
@@ -69,6 +73,19 @@ class Terms(unittest.TestCase):
             self.assertEqual(parse(printed(term)), term)
             self.assertEqual(eval(repr(term)), term)
 
+    def test_more_words_than_are_remembered(self):
+        words = [kind for number in range(3_000) for kind in (Atom(f"a{number}"), Atom(f"A {number}"), Pid(number))]
+        for _ in range(2):
+            self.assertEqual(parse(printed(words)), words)
+
+    def test_an_atom_is_copied_whole(self):
+        atom = Atom("it's")
+        for other in [copy.deepcopy(atom), pickle.loads(pickle.dumps(atom))]:
+            self.assertEqual((other, spell(other)), (atom, "'it\\'s'"))
+
+    def test_only_the_atom_false_is_false(self):
+        self.assertEqual([bool(Atom(text)) for text in ("true", "false", "", "undefined")], [True, False, True, True])
+
     def test_deep_terms_need_no_recursion(self):
         text = "[" * 50_000 + "]" * 50_000
         self.assertEqual(spell(parse(text)), text)
@@ -90,13 +107,17 @@ class Terms(unittest.TestCase):
         for value in [2**127, -(2**127) - 1]:
             with self.assertRaises(ValueError):
                 spell((value,))
+        with self.assertRaises(TypeError):
+            Atom(b"k")
         for make in [lambda: Atom("k\np delete(t)"), lambda: Atom("é"), lambda: Atom("a" * 256), lambda: Pid(-1), lambda: Tid(2**32)]:
             with self.assertRaises(ValueError):
                 make()
 
     def test_other_texts_are_no_terms(self):
-        for text in ["", "{", "}", "{1]", "{1]x", "[1", "1 2", "A", "'a", "1,2", "<<1>", "?"]:
-            with self.assertRaises(ValueError):
+        broken = ["", "{", "}", "{1]", "{1]x", "[1", "1 2", "A", "'a", "1,2", "<<1>", "?", "'", "<", "#", "-", "[1,]", "{,}", "<<1,,2>>", "<<256>>"]
+        # (which Python reads as numbers)
+        for text in [*broken, "\u00b2", "\u0663", "[{\u0663,1}]", "1_0", "[1_0]", "[{1,1_0}]", "[{1,-1_0}]", " 1", "+1"]:
+            with self.subTest(text), self.assertRaises(ValueError):
                 parse(text)
 
 
@@ -131,6 +152,31 @@ class Calls(unittest.TestCase):
 
 
 class Programs(unittest.TestCase):
+    def test_lines_and_answers_that_no_pipe_holds(self):
+        long, lines = "x" * 10_000, [f"p lookup(t,{number:01000d})" for number in range(300)]
+        program = f"import sys\nfor line in sys.stdin:\n print({long!r}, flush=True)"
+        with Store([sys.executable, "-c", program]) as store:
+            self.assertEqual(store._way.lines(lines), [long] * len(lines))
+
+    def test_a_turn_that_was_broken_off_leaves_no_answer_to_another(self):
+        def interrupted(_):
+            raise KeyboardInterrupt
+
+        with Store(ECHO, stderr=subprocess.DEVNULL) as store:
+            self.assertEqual(store.ask("p member(t,1)"), 0)
+            answers, store._way._answers = store._way._answers, types.SimpleNamespace(read=interrupted)
+            with self.assertRaises(KeyboardInterrupt):
+                store.ask("p member(t,1)")
+            store._way._answers = answers
+            with self.assertRaises(Gone):
+                store.ask("p member(t,1)")
+
+    def test_a_program_that_says_more_than_it_was_asked_is_asked_no_more(self):
+        with Store(says("1\n2"), stderr=subprocess.DEVNULL) as store:
+            self.assertEqual(store.ask("p member(t,1)"), 1)
+            with self.assertRaises(Gone):
+                store.ask("p member(t,1)")
+
     def test_each_fault_has_its_kind(self):
         kinds = {"badarg": BadArg, "system_limit": SystemLimit, "noproc": NoProcess, "nomem": NoMemory, "line too long": LineTooLong, "syntax 7": Syntax}
         with Store(says(*[f"** {reason}" for reason in kinds])) as store:

@@ -11,8 +11,9 @@
 docs/python.md tells the rest."""
 
 from .faults import BadArg, Fault, Gone, LineTooLong, NoMemory, NoProcess, Syntax, SystemLimit, Untold
+from .reading import parse
 from .store import CALLS, Pipeline, Process, Store
-from .terms import Atom, Pid, Term, Tid, parse, spell
+from .terms import Atom, Pid, Term, Tid, spell
 
 __all__ = [
     "Atom", "BadArg", "CALLS", "Fault", "Gone", "LineTooLong", "NoMemory", "NoProcess", "Pid", "Pipeline",

@@ -2,16 +2,18 @@
 
 from __future__ import annotations
 
+import os
 import pathlib
+import select
 import subprocess
 import threading
-from collections.abc import Iterator, Sequence
+from collections.abc import Sequence
 
 from .terms import Pid
 
 PROGRAM = pathlib.Path(__file__).resolve().parents[3] / "ets_script"
-# So many bytes of lines are sent before their answers are read: a pipe holds them, so neither side waits for the other.
-TOGETHER = 32_768
+# So many bytes are read at once: a pipe mostly has no more.
+BLOCK = 65_536
 
 
 class Pipe:
@@ -19,60 +21,75 @@ class Pipe:
 
     def __init__(self, command: Sequence[str] = (str(PROGRAM),), **options):
         """Starts the program; `options` are those of subprocess.Popen."""
-        self._program = subprocess.Popen(command, stdin=subprocess.PIPE, stdout=subprocess.PIPE, text=True, encoding="ascii", **options)
+        self._program = subprocess.Popen(command, stdin=subprocess.PIPE, stdout=subprocess.PIPE, bufsize=0, **options)
+        self._lines, self._answers = self._program.stdin, self._program.stdout
+        self._lines_at = self._lines.fileno()
+        # (so that lines which the program cannot take yet keep nobody from reading its answers)
+        os.set_blocking(self._lines_at, False)
+        self._either = select.poll()
+        self._either.register(self._lines, select.POLLOUT)
+        self._either.register(self._answers, select.POLLIN)
         self._is_gone, self._turn = False, threading.Lock()
 
     def call(self, process: str, pid: Pid, name: str, arguments: str) -> str | None:
         """The text of the answer to a process's call; None where the program has ended."""
-        (answer,) = self.lines([line_of(process, name, arguments)])
-        return answer
+        return self._exchange(f"{process} {name}({arguments})\n", 1)[0]
 
     def calls(self, process: str, pid: Pid, calls: Sequence[tuple[str, str]]) -> list[str | None]:
         """Those to its calls, each a name and its arguments."""
-        return self.lines([line_of(process, *call) for call in calls])
+        return self._exchange("".join([f"{process} {name}({arguments})\n" for name, arguments in calls]), len(calls))
 
     def lines(self, lines: Sequence[str]) -> list[str | None]:
         """The texts of the answers to lines, in one turn."""
-        with self._turn:
-            return [answer for part in _parts(lines) for answer in self._exchange(part)]
+        return self._exchange("".join([f"{line}\n" for line in lines]), len(lines))
 
-    def _exchange(self, lines: Sequence[str]) -> Iterator[str | None]:
-        """Sends some lines, and reads as many answers."""
-        if not self._is_gone:
-            try:
-                self._program.stdin.write("".join(f"{line}\n" for line in lines))
-                self._program.stdin.flush()
-            except (BrokenPipeError, ValueError):
-                self._is_gone = True
-        for _ in lines:
-            answer = "" if self._is_gone else self._program.stdout.readline()
-            self._is_gone = not answer.endswith("\n")
-            yield None if self._is_gone else answer[:-1]
+    def _exchange(self, lines: str, count: int) -> list[str | None]:
+        """The answers to so many lines, in one turn."""
+        with self._turn:
+            if self._is_gone:
+                return [None] * count
+            # Where this is broken off, as by Ctrl-C, and where the program says more than it was asked, nobody knows whose its next
+            # answer would be.
+            self._is_gone = True
+            *answers, rest = self._said(lines.encode("ascii"), count).split("\n")
+            self._is_gone = len(answers) != count or rest != ""
+        return answers[:count] + [None] * (count - len(answers))
+
+    def _said(self, lines: bytes, count: int) -> str:
+        """Sends lines, and reads what the program says until so many answers are there, or it has ended."""
+        unsent, blocks = self._send(lines), []
+        while count > 0 or unsent:
+            if unsent and self._takes_lines():
+                unsent = self._send(unsent)
+                continue
+            block = self._answers.read(BLOCK)
+            if not block:
+                break
+            blocks.append(block)
+            count -= block.count(b"\n")
+        return b"".join(blocks).decode("ascii")
+
+    def _send(self, lines: bytes | memoryview) -> bytes | memoryview:
+        """Sends what the program takes of some lines, and answers the rest of them. There is none where it has ended."""
+        try:
+            sent = self._lines.write(lines)
+        except (BrokenPipeError, ValueError):
+            return b""
+        return b"" if sent == len(lines) else memoryview(lines)[sent or 0 :]
+
+    def _takes_lines(self) -> bool:
+        """Waits until the program takes lines or has said something, and answers whether it takes lines."""
+        return any(at == self._lines_at for at, _ in self._either.poll())
 
     def close(self) -> None:
         """Ends the program. It may be closed again."""
-        self._is_gone = True
-        try:
-            self._program.stdin.close()
-        except BrokenPipeError:
-            pass
-        self._program.stdout.close()
-        self._program.wait()
+        self._lines.close()
+        with self._turn:
+            self._is_gone = True
+            self._answers.close()
+            self._program.wait()
 
 
 def line_of(process: str, name: str, arguments: str) -> str:
     """The line of a process's call."""
     return f"{process} {name}({arguments})"
-
-
-def _parts(lines: Sequence[str]) -> Iterator[Sequence[str]]:
-    """The lines, as many together as may be sent before their answers are read."""
-    part, size = [], 0
-    for line in lines:
-        if part and size + len(line) >= TOGETHER:
-            yield part
-            part, size = [], 0
-        part.append(line)
-        size += len(line) + 1
-    if part:
-        yield part

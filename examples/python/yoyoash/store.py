@@ -3,12 +3,14 @@
 from __future__ import annotations
 
 import re
-from collections.abc import Sequence
+from collections.abc import Callable, Sequence
+from typing import TYPE_CHECKING, Any
 
 from .faults import Fault, Gone, fault
 from .library import LIBRARY, Library
 from .pipe import PROGRAM, Pipe, line_of
-from .terms import Pid, Term, parse, spell
+from .reading import parse
+from .terms import Pid, Term, spell_all
 
 # The calls of docs/calls.md.
 CALLS = (
@@ -53,7 +55,7 @@ class Store:
             if not re.fullmatch(r"[ -~\t]+", line) or not line.strip() or line.lstrip().startswith("%"):
                 raise ValueError(f"{line!r} is no line that is answered")
         answers = self._way.lines(lines)
-        return [parse(it) if _is_term(it) else _fault(line, it) for line, it in zip(lines, answers)]
+        return [_told(line, answer) for line, answer in zip(lines, answers, strict=True)]
 
     def close(self) -> None:
         """Ends the store. It may be closed again."""
@@ -66,13 +68,11 @@ class Store:
         self.close()
 
 
-def _is_term(answer: str | None) -> bool:
-    return answer is not None and not answer.startswith("** ")
-
-
-def _fault(line: str, answer: str | None) -> Fault:
-    """What an answer that is no term tells; None tells that no answer came."""
-    return Gone(line, "the store has ended") if answer is None else fault(line, answer[3:])
+def _told(line: str, answer: str | None) -> Term | Fault:
+    """What the text of an answer says; None says that none came."""
+    if answer is None:
+        return Gone(line, "the store has ended")
+    return fault(line, answer[3:]) if answer[:3] == "** " else parse(answer)
 
 
 class _Caller:
@@ -81,15 +81,17 @@ class _Caller:
     def __init__(self, store: Store, name: str, pid: Pid):
         self.store, self.name, self.pid = store, name, pid
 
+    if TYPE_CHECKING:  # (which does not see that the methods are made, below)
+
+        def __getattr__(self, call: str) -> Callable[..., Any]: ...
+
 
 class Process(_Caller):
     """A process of the store: its calls are methods, which answer or raise a Fault."""
 
-    def _call(self, name: str, arguments: str) -> Term:
-        answer = self.store._way.call(self.name, self.pid, name, arguments)
-        if _is_term(answer):
-            return parse(answer)
-        raise _fault(line_of(self.name, name, arguments), answer)
+    def __init__(self, store: Store, name: str, pid: Pid):
+        super().__init__(store, name, pid)
+        self._ask = store._way.call
 
     def exit(self) -> Term:
         """Ends the process."""
@@ -112,14 +114,12 @@ class Pipeline(_Caller):
         self.calls: list[tuple[str, str]] = []
         self.answers: list[Term | Fault] = []
 
-    def _call(self, name: str, arguments: str) -> None:
-        self.calls.append((name, arguments))
-
     def run(self) -> list[Term | Fault]:
         """Sends what was collected, and answers the answers."""
         calls, self.calls = self.calls, []
         answers = self.store._way.calls(self.name, self.pid, calls)
-        self.answers = [parse(it) if _is_term(it) else _fault(line_of(self.name, *call), it) for call, it in zip(calls, answers)]
+        told = zip(calls, answers, strict=True)
+        self.answers = [parse(it) if it and it[0] != "*" else _told(line_of(self.name, *call), it) for call, it in told]
         return self.answers
 
     def __enter__(self) -> Pipeline:
@@ -130,13 +130,25 @@ class Pipeline(_Caller):
             self.run()
 
 
-def _method(call: str):
-    def method(self, *terms: Term):
-        return self._call(call, ",".join(map(spell, terms)))
+def _asks(call: str):
+    def method(self: Process, *terms: Term) -> Term:
+        arguments = spell_all(terms)
+        answer = self._ask(self.name, self.pid, call, arguments)
+        if answer and answer[0] != "*":
+            return parse(answer)
+        raise _told(line_of(self.name, call, arguments), answer)
 
-    method.__name__, method.__doc__ = call, f"The call `{call}` of docs/calls.md."
+    return method
+
+
+def _collects(call: str):
+    def method(self: Pipeline, *terms: Term) -> None:
+        self.calls.append((call, spell_all(terms)))
+
     return method
 
 
 for _call in CALLS:
-    setattr(_Caller, _call, _method(_call))
+    for _kind, _method in (Process, _asks(_call)), (Pipeline, _collects(_call)):
+        _method.__name__, _method.__doc__ = _call, f"The call `{_call}` of docs/calls.md."
+        setattr(_kind, _call, _method)

@@ -2,9 +2,9 @@
 
 from __future__ import annotations
 
-import functools
-import re
-from dataclasses import dataclass
+from collections.abc import Iterable
+from dataclasses import dataclass, field
+from operator import attrgetter
 from typing import Union
 
 LEAST, GREATEST = -(2**127), 2**127 - 1
@@ -15,10 +15,19 @@ class Atom:
     """An atom of 0 to 255 printable ASCII characters. Others are refused here, so none is ever sent."""
 
     text: str
+    # (an atom is spelled once, and sent over and over)
+    _spelled: str = field(init=False, repr=False, compare=False)
 
     def __post_init__(self):
-        if len(self.text) > 255 or not re.fullmatch(r"[ -~]*", self.text):
+        if not isinstance(self.text, str):
+            raise TypeError(f"{self.text!r} is no string, as an atom's text is")
+        if len(self.text) > 255 or not (self.text.isascii() and self.text.isprintable()):
             raise ValueError(f"{self.text!r} is no atom: it has 0 to 255 printable ASCII characters")
+        object.__setattr__(self, "_spelled", "'" + self.text.replace("\\", "\\\\").replace("'", "\\'") + "'")
+
+    def __bool__(self) -> bool:
+        """Only `false` is false: so a call that answers `true` or `false` may stand behind `if`."""
+        return self.text != "false"
 
     def __repr__(self) -> str:
         return f"Atom({self.text!r})"
@@ -51,119 +60,88 @@ class Tid(_Number):
 Term = Union[int, Atom, Pid, Tid, tuple, list, bytes]
 
 
+def _integer(number: int) -> str:
+    if not LEAST <= number <= GREATEST:
+        raise ValueError(f"{number} is past the range of integers")
+    return repr(number)
+
+
+_BYTES = tuple(map(str, range(256)))
+
+# How each kind of term is spelled that has no terms in it.
+LEAVES = {
+    int: _integer,
+    Atom: attrgetter("_spelled"),
+    Pid: lambda it: f"<0.{it.number}.0>",
+    Tid: lambda it: f"#Tid<{it.number}>",
+    bytes: lambda it: f"<<{','.join([_BYTES[byte] for byte in it])}>>",
+}
+
+
+_is_flat = frozenset(LEAVES).issuperset
+
+
+def _tuple(it: tuple) -> str:
+    return f"{{{spell_all(it)}}}" if _is_flat(map(type, it)) else _nest(it)
+
+
+def _list(it: list) -> str:
+    return f"[{spell_all(it)}]" if _is_flat(map(type, it)) else _nest(it)
+
+
 class _Sign(str):
     """A piece of text that stands between terms."""
 
     __slots__ = ()
 
 
-def _integer(number: int) -> str:
-    if not LEAST <= number <= GREATEST:
-        raise ValueError(f"{number} is past the range of integers")
-    return str(int(number))
+_COMMA = _Sign(",")
 
 
-def _quoted(atom: Atom) -> str:
-    return "'" + atom.text.replace("\\", "\\\\").replace("'", "\\'") + "'"
+def _nest(nest: tuple | list) -> str:
+    """The text of a tuple or a list that has others in it, to any depth."""
+    parts: list[str] = []
+    left: list = [nest]
+    while left:
+        it = left.pop()
+        if type(it) is _Sign:
+            parts.append(it)
+        elif not isinstance(it, (tuple, list)) or _is_flat(map(type, it)):
+            parts.append(spell(it))
+        else:
+            opening, closing = "{}" if isinstance(it, tuple) else "[]"
+            parts.append(opening)
+            left.append(_Sign(closing))
+            for element in reversed(it):
+                left += element, _COMMA
+            left.pop()
+    return "".join(parts)
 
 
-# How each kind of term is spelled that has no terms in it.
-LEAVES = {
-    int: _integer,
-    Atom: _quoted,
-    Pid: lambda it: f"<0.{it.number}.0>",
-    Tid: lambda it: f"#Tid<{it.number}>",
-    bytes: lambda it: "<<" + ",".join(map(str, it)) + ">>",
-    _Sign: str,
-}
+class _SpelledBy(dict):
+    """How each type of terms is spelled. One that is derived from the type of a term is spelled as that."""
+
+    def __missing__(self, kind: type):
+        if issubclass(kind, bool):
+            return _refuse
+        if issubclass(kind, int):
+            return lambda it: _integer(int(it))
+        return next((spelled for base, spelled in self.items() if issubclass(kind, base)), _refuse)
+
+
+def _refuse(it):
+    hint = f"; an atom is Atom({str(it).lower()!r})" if isinstance(it, (bool, str)) else ""
+    raise TypeError(f"{it!r} is no term{hint}")
+
+
+SPELLED_BY = _SpelledBy(LEAVES | {tuple: _tuple, list: _list})
+
+
+def spell_all(terms: Iterable[Term]) -> str:
+    """The texts of terms, with commas between them. What is no term is a TypeError, and a number past its range a ValueError."""
+    return ",".join([SPELLED_BY[type(it)](it) for it in terms])
 
 
 def spell(term: Term) -> str:
     """The text of a term. What is no term is a TypeError, and a number past its range a ValueError."""
-    leaf = LEAVES.get(type(term))
-    if leaf:
-        return leaf(term)
-    parts: list[str] = []
-    left: list = [term]
-    while left:
-        it = left.pop()
-        leaf = LEAVES.get(type(it))
-        if leaf:
-            parts.append(leaf(it))
-        elif isinstance(it, (tuple, list)):
-            opening, closing = "{}" if isinstance(it, tuple) else "[]"
-            parts.append(opening)
-            left.append(_Sign(closing))
-            for place, element in enumerate(reversed(it)):
-                if place:
-                    left.append(_COMMA)
-                left.append(element)
-        else:
-            parts.append(_spell_kin(it))
-    return "".join(parts)
-
-
-_COMMA = _Sign(",")
-
-
-def _spell_kin(it) -> str:
-    """The text of a value whose type is derived from that of a term."""
-    if isinstance(it, (bool, str)):
-        raise TypeError(f"{it!r} is no term; an atom is Atom({str(it).lower()!r})")
-    for kind, leaf in LEAVES.items():
-        if isinstance(it, kind):
-            return leaf(it)
-    raise TypeError(f"{it!r} is no term")
-
-
-# An integer, a bracket, an atom, an atom in quotes, a binary, a pid, an identifier, and what else there is.
-TOKEN = re.compile(r"(-?\d+|[{}\[\]]|[a-z]\w*(?:@\w*)*|'(?:[^'\\]|\\.)*'|<<[\d,]*>>|<0\.\d+\.0>|#Tid<\d+>|.),?", re.ASCII | re.DOTALL)
-OPENED_BY = {"}": "{", "]": "["}
-
-
-def parse(text: str) -> Term:
-    """The term with this text, as the store prints it; else a ValueError."""
-    top: list = []
-    terms, outer = top, []
-    for token in TOKEN.findall(text):
-        if token.isdigit():
-            terms.append(int(token))
-        elif token == "[" or token == "{":
-            outer.append((terms, token))
-            terms = []
-        elif token == "]" or token == "}":
-            made, (terms, opening) = terms, outer.pop() if outer else (top, "")
-            if opening != OPENED_BY[token]:
-                raise _no_term(text)
-            terms.append(tuple(made) if token == "}" else made)
-        elif "a" <= token[0] <= "z":
-            terms.append(_plain(token))
-        elif len(token) > 1:
-            terms.append(_leaf(token))
-        else:
-            raise _no_term(text)
-    if outer or len(top) != 1:
-        raise _no_term(text)
-    return top[0]
-
-
-# (a table's replies have few atoms, over and over)
-_plain = functools.lru_cache(1_024)(Atom)
-
-
-def _leaf(token: str) -> Term:
-    """The term of a token of more than a sign: an atom in quotes, a binary, a pid, an identifier, or a negative integer."""
-    match token[0], token[1]:
-        case "'", _:
-            return Atom(re.sub(r"\\(.)", r"\1", token[1:-1]))
-        case "<", "<":
-            return bytes(map(int, filter(None, token[2:-2].split(","))))
-        case "<", _:
-            return Pid(int(token[3:-3]))
-        case "#", _:
-            return Tid(int(token[5:-1]))
-    return int(token)
-
-
-def _no_term(text: str) -> ValueError:
-    return ValueError(f"{text[:80]!r} is not the text of a term")
+    return SPELLED_BY[type(term)](term)
