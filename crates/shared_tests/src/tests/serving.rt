@@ -1,14 +1,17 @@
-// A server does what it is asked, and what is due; it stores nothing.
+// A server does what it is asked, and what is due, and threads may ask it at once.
 ghost use Rattle.std.specs.Prelude.{◌≡◌};
+ghost use Rattle.std.specs.Thread.{IsSync};
 
-use super::{call, limits};
-use ets_term::Fnv;
-use node_core::{Limits, Reply};
+use super::{call, limits, two_seats};
+use ets_term::{Fnv, Integer, KeyHash, Term};
+use node_core::{Call, Limits, Reply};
 use node_shared::{Caller, Drawn, Opening, Pids, Room, Server};
 use std::alloc::Global;
 use std::marker::Brand;
 use std::sync::Wait;
 use std::test::Fail;
+use std::thread;
+use std::thread::Threads;
 
 const NINE: &str = "[t,[{1},{2},{3},{4},{5},{6},{7},{8},{9}]]";
 
@@ -81,5 +84,103 @@ fn a_server_does_what_is_asked_and_due(rt: HostRuntime) -> Result<(), Fail> {
     let drawn = drawn(alloc)?;
     let opening = Opening::new(alloc)?;
     assert!(rt; is_served::<Brand, _>(&rt, alloc, opening, limits(1), drawn)?);
+    Ok(())
+}
+
+/// The callers of two numbers.
+fn two_callers<B: Room, R: Wait>(
+    rt: &R,
+    alloc: Global,
+    server: &Server<B, Fnv>,
+) -> Result<(Caller<B>, Caller<B>), Fail> {
+    let (pids, one, other) = two_seats(alloc)?;
+    let one = server.client(rt, pids.draw(one)).map_err(|_| "a caller")?;
+    let other = server.client(rt, pids.draw(other)).map_err(|_| "a caller")?;
+    Ok((one, other))
+}
+
+/// Fifty insertions, of keys from this one on.
+fn insertions(alloc: Global, first: u32) -> Result<Vec<Call>, Fail> {
+    let mut calls = Vec::new(alloc);
+    for number in 0..50u32 {
+        let key = first.wrapping_add(number);
+        let object = format!(in alloc; "[t,{{{key}}}]")?;
+        calls.push(call(alloc, "insert", object.as_str())?)?;
+    }
+    Ok(calls)
+}
+
+/// The caller, once it has asked all these calls.
+fn asked_all<B: Room, H: KeyHash + Copy + Drop, R: Wait>(
+    rt: &R,
+    server: &Server<B, H>,
+    mut caller: Caller<B>,
+    calls: Vec<Call>,
+) -> Option<Caller<B>> {
+    for call in calls {
+        caller.ask(rt, server, call).ok()?;
+    }
+    Some(caller)
+}
+
+/// Two callers ask at once, each in a thread of its own.
+fn both_ask<B: Room + Send, H: KeyHash + Copy + Drop + Send + Sync, R: Threads + Wait + Sync>(
+    rt: &R,
+    server: &Server<B, H>,
+    one: (Caller<B>, Vec<Call>),
+    other: (Caller<B>, Vec<Call>),
+) -> (Option<Caller<B>>, Option<Caller<B>>) {
+    let (one, calls) = one;
+    let (other, others) = other;
+    let (one_caller, other_caller) = thread::join(
+        rt,
+        move || -> Option<Caller<B>>
+            requires { IsSync R.row }
+        { asked_all(rt, server, one, calls) },
+        move || -> Option<Caller<B>>
+            requires { IsSync R.row }
+        { asked_all(rt, server, other, others) },
+    );
+    (one_caller, other_caller)
+}
+
+/// How many objects there are once two callers have inserted fifty each.
+fn objects_of_both<B: Room + Send, R: Threads + Wait + Sync>(
+    rt: &R,
+    alloc: Global,
+    server: &Server<B, Fnv>,
+) -> Result<Option<Integer>, Fail> {
+    let (mut one, other) = two_callers(rt, alloc, server)?;
+    let _name = one.ask(rt, server, call(alloc, "new", "[t,[named_table,public]]")?)?;
+    let calls = (insertions(alloc, 0)?, insertions(alloc, 50)?);
+    let (one, _other) = both_ask(rt, server, (one, calls.0), (other, calls.1));
+    let mut one = one.ok_or("a caller")?;
+    match one.ask(rt, server, call(alloc, "info", "[t,size]")?)? {
+        Reply::Value(Term::Int(objects)) => Ok(Some(objects)),
+        _ => Ok(None),
+    }
+}
+
+fn is_shared<B: Room + Send, R: Threads + Wait + Sync>(
+    rt: &R,
+    alloc: Global,
+    opening: Opening,
+    limits: Limits,
+) -> Result<Option<Integer>, Fail>
+    requires table { opening.word.shared.table_id ≡ B.table }
+    requires limits { limits ≡ B.limits }
+{
+    objects_of_both(
+        rt,
+        alloc,
+        &Server::<B, Fnv>::new(alloc, opening, limits, Fnv),
+    )
+}
+
+#[test]
+fn two_callers_insert_at_once(rt: HostRuntime) -> Result<(), Fail> {
+    let opening = Opening::new(rt.alloc())?;
+    let objects = is_shared::<Brand, _>(&rt, rt.alloc(), opening, limits(2))?;
+    assert_eq!(rt; objects, Some(100));
     Ok(())
 }
