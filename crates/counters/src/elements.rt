@@ -89,9 +89,7 @@ pub fn read_element_specs(
 fn has_all(count: usize, specs: &[ElementSpec]) -> bool
     ensures { result ≡ has_all count specs.now }
 {
-    specs
-        .iter()
-        .all(|spec| 0 < spec.position && spec.position <= count as Position)
+    specs.iter().all(|spec| 0 < spec.position && spec.position <= count as Position)
 }
 
 /// Whether a value that stays is too deep for an element.

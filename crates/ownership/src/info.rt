@@ -126,4 +126,3 @@ pub fn heir_term(alloc: Global, heir: &Option<Heir>) -> Result<Term, AllocError>
         None => atom(alloc, b"none"),
     }
 }
-
