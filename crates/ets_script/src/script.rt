@@ -1,5 +1,5 @@
 //! A script: the names that it spawned, and its node.
-ghost use Rattle.std.specs.Prelude.{◌≡◌, ◌≤◌, ◌<◌, ◌++◌, ◌+◌, ◌⊎◌, [], false, length, map, vec_items, IfSome, MatchOption};
+ghost use Rattle.std.specs.Prelude.{◌≡◌, ◌≤◌, ◌<◌, ◌++◌, ◌+◌, ◌^◌, ◌⊎◌, [], false, length, map, vec_items, IfSome, MatchOption};
 ghost use Rattle.node_core.specs.State.{empty};
 ghost use Rattle.node_core.specs.Seen.{seen};
 ghost use Rattle.node_core.specs.declared.step.Step.TheVariants.{End, Ask};
@@ -53,19 +53,31 @@ impl<H: KeyHash + Copy + Drop> Script<H> {
         }
     }
 
+    pub fn node(&self) -> &Node<H>
+        ensures { seen result.now ≡ self.now.node }
+    {
+        &self.node
+    }
+
     pub fn into_node(self) -> Node<H>
         ensures { seen result ≡ self.node }
     {
         self.node
     }
 
+    /// The allocator of all that the script takes.
+    pub fn allocator(&self) -> Global {
+        *self.names.allocator()
+    }
+
     /// Does what a line says.
-    pub fn answer(&mut self, alloc: Global, line: &[u8]) -> Answer
+    pub fn answer(&mut self, line: &[u8]) -> Answer
         ensures { AnswersLine self.old (text line.now) result self.new }
     {
         if is_silent(line) {
             return Answer::Silent;
         }
+        let alloc = self.allocator();
         match read_command(alloc, line) {
             Ok(command) => self.obey(alloc, command),
             Err(_) => Answer::NoMemory,
@@ -103,7 +115,7 @@ impl<H: KeyHash + Copy + Drop> Script<H> {
     }
 
     /// The process that a name stands for.
-    fn pid(&self, name: &[u8]) -> Option<u32>
+    pub fn pid(&self, name: &[u8]) -> Option<u32>
         ensures { result ≡ pid_of self.now name.now }
     {
         match self.names.get_index_of(name) {
@@ -112,8 +124,15 @@ impl<H: KeyHash + Copy + Drop> Script<H> {
         }
     }
 
+    /// The number of the process that is spawned next.
+    pub fn next_pid(&self) -> u32
+        ensures { length self.now.names < 2 ^ 32 → result ≡ length self.now.names }
+    {
+        self.names.len() as u32
+    }
+
     /// The table that a term names; else the next identifier.
-    fn table(&self, term: &Term) -> u32
+    pub fn table(&self, term: &Term) -> u32
         ensures { result ≡ table_of self.now term.now }
     {
         match self.node.resolve(term) {
