@@ -29,6 +29,8 @@ pub enum Oddity {
     Variable,
     Float,
     Map,
+    /// What stands behind `#` and is neither a base nor a map.
+    Identifier,
     /// A character as `$a`.
     Character,
     /// A number as `16#ff`.
@@ -111,12 +113,14 @@ fn begun(place: &Place, byte: u8, behind: &[u8]) -> Oddity {
 
 /// What a sign tells that stands where none like it may.
 fn sign(before: &[u8], byte: u8, behind: &[u8]) -> Oddity {
-    let follows_digit = is_digit_byte(last(before, false));
+    let last = last(before, false);
+    let follows_digit = is_digit_byte(last);
     match byte {
+        b'{' if last == b'#' => Oddity::Map,
+        _ if last == b'#' => Oddity::Identifier,
         b'.' if follows_digit && starts_digit(behind) => Oddity::Float,
         b'.' => Oddity::FullStop,
         b'#' if follows_digit => Oddity::Base,
-        b'#' if starts(behind, b'{') => Oddity::Map,
         b'%' => Oddity::Comment,
         b'|' => Oddity::ImproperList,
         b'$' => Oddity::Character,
@@ -150,13 +154,6 @@ fn last(text: &[u8], passes_blanks: bool) -> u8 {
         rest = front;
     }
     0
-}
-
-fn starts(text: &[u8], byte: u8) -> bool {
-    match text {
-        [first, ..] => *first == byte,
-        [] => false,
-    }
 }
 
 fn starts_digit(text: &[u8]) -> bool {

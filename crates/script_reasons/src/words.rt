@@ -16,6 +16,7 @@ impl Oddity {
             Oddity::Variable => "a variable",
             Oddity::Float => "a float",
             Oddity::Map => "a map",
+            Oddity::Identifier => "no identifier of a table, as #Tid<7>",
             Oddity::Character => "a character",
             Oddity::Base => "a number with a base",
             Oddity::ImproperList => "an improper list",
