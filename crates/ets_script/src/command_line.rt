@@ -84,11 +84,7 @@ fn settings_command<'a>(alloc: Global) -> Result<Command<'a>, AllocError>
         "The most objects in one table",
     );
     Command::new(alloc, "ets_script")
-        .arg(flag_option(
-            alloc,
-            "threads",
-            "Run each process in a thread of its own",
-        ))?
+        .arg(flag_option(alloc, "threads", "Run each process in a thread of its own"))?
         .arg(hash)?
         .arg(objects)
 }

@@ -1,4 +1,13 @@
 //! Why a line was refused.
+ghost use Rattle.std.specs.Prelude.{◌≡◌, ◌<◌, ◌^◌, length, option_map, IfOk};
+ghost use Rattle.node_core.specs.State.{State};
+ghost use Rattle.node_core.specs.Machine.{step};
+ghost use Rattle.ets_script.specs.Lines.{text};
+ghost use Rattle.ets_script.specs.Script.{Scripted, AnswersLine, Obeys};
+ghost use Rattle.ets_script.specs.declared.answer.Answer.TheVariants.{Replied};
+ghost use Rattle.ets_script.specs.inside.Says.{command_seen};
+ghost use Rattle.ets_script.specs.inside.Explained.{answer_said, command_said, remark_said, step_said};
+
 use crate::answer::Answer;
 use crate::command::{Command, read_command};
 use crate::script::Script;
@@ -14,7 +23,9 @@ pub fn explain<'a, H: KeyHash + Copy + Drop>(
     script: &Script<H>,
     line: &'a [u8],
     answer: &Answer,
-) -> Result<Option<Remark<'a>>, AllocError> {
+) -> Result<Option<Remark<'a>>, AllocError>
+    ensures { IfOk result (λ said. (new : Scripted) → AnswersLine script.now (text line.entry.now) answer.now new → length script.now.names < 2 ^ 32 → option_map remark_said said ≡ answer_said script.now line.entry.now answer.now) }
+{
     match answer {
         Answer::Silent => Ok(None),
         Answer::Replied(reply) if reply.is_value() => Ok(None),
@@ -34,7 +45,9 @@ fn explain_command<'a, H: KeyHash + Copy + Drop>(
     script: &Script<H>,
     command: Command<'a>,
     reply: &Reply,
-) -> Option<Remark<'a>> {
+) -> Option<Remark<'a>>
+    ensures { (new : Scripted) → Obeys (command_seen command.entry) script.now (Replied reply.now) new → length script.now.names < 2 ^ 32 → option_map remark_said result ≡ command_said script.now (command_seen command.entry) reply.now }
+{
     match command {
         Command::Faulty(_) => None,
         Command::Spawn(name) => match script.pid(name) {
@@ -62,9 +75,11 @@ fn explain_command<'a, H: KeyHash + Copy + Drop>(
 /// What is to be said of a step that has this refusal.
 fn explain_step<'a, H: KeyHash + Copy + Drop>(
     script: &Script<H>,
-    step: Step,
+    event: Step,
     reply: &Reply,
-) -> Option<Remark<'a>> {
-    let reason = why(script.node(), &step, reply)?;
-    Some(Remark::Broken(step, reason))
+) -> Option<Remark<'a>>
+    ensures { (new : State) → step script.now.node event.entry reply.now new → option_map remark_said result ≡ step_said script.now.node event.entry reply.now }
+{
+    let reason = why(script.node(), &event, reply)?;
+    Some(Remark::Broken(event, reason))
 }

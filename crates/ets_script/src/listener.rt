@@ -17,7 +17,12 @@ pub trait Listener {
 pub struct Quiet;
 
 impl Listener for Quiet {
-    fn hear<H: KeyHash + Copy + Drop>(&mut self, _script: &Script<H>, _line: &[u8], _answer: &Answer) {}
+    fn hear<H: KeyHash + Copy + Drop>(
+        &mut self,
+        _script: &Script<H>,
+        _line: &[u8],
+        _answer: &Answer,
+    ) {}
 
     fn tell(&mut self) {}
 }

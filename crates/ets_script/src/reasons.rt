@@ -1,4 +1,6 @@
 //! Why lines were refused, told to a second writer.
+ghost use Rattle.std.specs.Prelude.{◌≡◌, ◌+◌, ◌-◌, ◌<◌, ◌^◌, IfOk};
+
 use crate::answer::Answer;
 use crate::explain::explain;
 use crate::listener::Listener;
@@ -22,7 +24,9 @@ pub struct Reasons<'a, E: Write> {
 
 impl<'a, E: Write> Reasons<'a, E> {
     /// No line was heard of.
-    pub fn new(alloc: Global, writer: &'a mut E) -> Result<Reasons<'a, E>, AllocError> {
+    pub fn new(alloc: Global, writer: &'a mut E) -> Result<Reasons<'a, E>, AllocError>
+        ensures { IfOk result (λ reasons. reasons.lines ≡ 0) }
+    {
         Ok(Reasons {
             alloc,
             writer,
@@ -30,6 +34,15 @@ impl<'a, E: Write> Reasons<'a, E> {
             lines: 0,
             has_failed: false,
         })
+    }
+
+    /// The number of the line that is heard of next; the first is line 1.
+    fn next_number(&mut self) -> u64
+        ensures number { self.old.lines < 2 ^ 64 - 1 → result ≡ self.old.lines + 1 }
+        ensures lines { self.new.lines ≡ result }
+    {
+        self.lines = self.lines.saturating_add(1);
+        self.lines
     }
 
     /// Says what is to be said of this line.
@@ -45,10 +58,9 @@ impl<'a, E: Write> Reasons<'a, E> {
 
 impl<E: Write> Listener for Reasons<'_, E> {
     fn hear<H: KeyHash + Copy + Drop>(&mut self, script: &Script<H>, line: &[u8], answer: &Answer) {
-        self.lines = self.lines.saturating_add(1);
-        match explain(script, line, answer) {
-            Ok(Some(remark)) => self.say(self.lines, &remark),
-            _ => {}
+        let number = self.next_number();
+        if let Ok(Some(remark)) = explain(script, line, answer) {
+            self.say(number, &remark);
         }
     }
 

@@ -94,7 +94,14 @@ fn run_heard<R: Read, W: Write, H: KeyHash + Copy + Drop, L: Listener>(
     let Ok(mut pending) = Pending::new(alloc) else {
         return Err(ScriptFault::Memory);
     };
-    answer_all(reader, &mut feed, &mut pending, writer, &mut script, listener)?;
+    answer_all(
+        reader,
+        &mut feed,
+        &mut pending,
+        writer,
+        &mut script,
+        listener,
+    )?;
     Ok(script.into_node())
 }
 
