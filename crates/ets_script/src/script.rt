@@ -1,5 +1,5 @@
 //! A script: the names that it spawned, and its node.
-ghost use Rattle.std.specs.Prelude.{◌≡◌, ◌≤◌, ◌<◌, ◌++◌, ◌+◌, ◌^◌, ◌⊎◌, [], false, length, map, vec_items, IfSome, MatchOption};
+ghost use Rattle.std.specs.Prelude.{◌≡◌, ◌≤◌, ◌<◌, ◌++◌, ◌+◌, ◌⊎◌, [], false, length, map, vec_items, IfSome, MatchOption};
 ghost use Rattle.node_core.specs.State.{empty};
 ghost use Rattle.node_core.specs.Seen.{seen};
 ghost use Rattle.node_core.specs.declared.step.Step.TheVariants.{End, Ask};
@@ -125,9 +125,7 @@ impl<H: KeyHash + Copy + Drop> Script<H> {
     }
 
     /// The number of the process that is spawned next.
-    pub fn next_pid(&self) -> u32
-        ensures { length self.now.names < 2 ^ 32 → result ≡ length self.now.names }
-    {
+    pub fn next_pid(&self) -> u32 {
         self.names.len() as u32
     }
 

@@ -74,7 +74,7 @@ fn ended(place: &Place) -> Oddity {
 fn quoted(place: &Place, byte: u8) -> Oddity {
     if place.is_escaped() {
         Oddity::Escape
-    } else if place.levels() + 1 >= MAX_LEVELS {
+    } else if place.levels() >= MAX_LEVELS - 1 {
         Oddity::TooDeep
     } else {
         Oddity::Other(byte)
@@ -146,14 +146,13 @@ fn word(byte: u8, behind: &[u8]) -> Oddity {
 
 /// The last byte of a text, blanks passed over or not; 0 where there is none.
 fn last(text: &[u8], passes_blanks: bool) -> u8 {
-    let mut rest = text;
-    while let [front @ .., byte] = rest {
+    let mut last = 0;
+    for byte in text {
         if !passes_blanks || *byte != b' ' && *byte != b'\t' {
-            return *byte;
+            last = *byte;
         }
-        rest = front;
     }
-    0
+    last
 }
 
 fn starts_digit(text: &[u8]) -> bool {
