@@ -72,7 +72,7 @@ fn explain_step<'a, H: KeyHash + Copy + Drop>(
     event: Step,
     reply: &Reply,
 ) -> Option<Remark<'a>>
-    ensures { (new : State) → step script.now.node event.entry reply.now new → result ≡ step_said script.now.node event.entry reply.now }
+    ensures { (new : State) → step script.now.node event reply.now new → result ≡ step_said script.now.node event reply.now }
 {
     let reason = why(script.node(), &event, reply)?;
     Some(Remark::Broken(event, reason))

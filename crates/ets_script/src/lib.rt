@@ -4,7 +4,8 @@
 //! node from its first state on, and what went out before each read is all that was asked. A script that stops early has
 //! answered the whole lines before, or a front of their answers where a write failed.
 //!
-//! *Weakness.* That what was answered is flushed before each read is only tested, and so is what `refuse` prints.
+//! *Weakness.* That what was answered is flushed before each read is only tested, and so is what `refuse` prints, and what
+//! `run_script_aloud` says of refused lines, but for the reason of a step.
 //!
 //! *Mechanism.* Bytes are fed in pieces; a line is looked for by `memchr`, read once from left to right, asked, and answered
 //! into a buffer, which goes out before the next read.

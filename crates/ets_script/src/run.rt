@@ -84,8 +84,8 @@ fn run_heard<R: Read, W: Write, H: KeyHash + Copy + Drop, L: Listener>(
     reads: u32,
     listener: &mut L,
 ) -> Result<Node<H>, ScriptFault>
-    ensures ok { IfOk result (λ node. (end : Scripted) × (end.node ≡ seen node) × Completes script.entry (R.remaining reader.old) (R.remaining reader.new) (W.contents writer.old) (W.contents writer.new) end) }
-    ensures err { IfErr result (Stops script.entry (R.remaining reader.old) (R.remaining reader.new) (W.contents writer.old) (W.contents writer.new)) }
+    ensures ok { IfOk result (λ node. (end : Scripted) × (end.node ≡ seen node) × Completes script (R.remaining reader.old) (R.remaining reader.new) (W.contents writer.old) (W.contents writer.new) end) }
+    ensures err { IfErr result (Stops script (R.remaining reader.old) (R.remaining reader.new) (W.contents writer.old) (W.contents writer.new)) }
 {
     let alloc = script.allocator();
     let Ok(mut feed) = Feed::new(alloc, reads) else {

@@ -1,12 +1,7 @@
 //! What stands where a line has its fault.
 use crate::place::Place;
+use ets_term::{MAX_CHARACTERS, MAX_DEPTH};
 use term_text::{is_character_byte, is_digit_byte, is_name_byte, is_small_byte};
-
-/// How deep a term nests at most.
-const MAX_LEVELS: usize = 128;
-
-/// The most characters that a name or an atom has.
-const MAX_NAME: usize = 255;
 
 /// So many digits make a number that could be past its range wherever it stands.
 const LONG_NUMBER: usize = 10;
@@ -55,7 +50,7 @@ pub fn oddity_at(line: &[u8], at: usize) -> Oddity {
         [] => ended(&place),
         [byte, ..] if *byte != b'\t' && !is_character_byte(*byte) => Oddity::NotPrintable(*byte),
         [byte, ..] if place.quote().is_some() => quoted(&place, *byte),
-        [byte, ..] if place.is_closed() => behind(*byte),
+        [byte, ..] if place.is_closed() => behind_call(*byte),
         [byte, behind @ ..] if wants_term(&place, before) => begun(&place, *byte, behind),
         [byte, behind @ ..] => sign(before, *byte, behind),
     }
@@ -74,14 +69,14 @@ fn ended(place: &Place) -> Oddity {
 fn quoted(place: &Place, byte: u8) -> Oddity {
     if place.is_escaped() {
         Oddity::Escape
-    } else if place.levels() >= MAX_LEVELS - 1 {
+    } else if place.levels() >= MAX_DEPTH - 1 {
         Oddity::TooDeep
     } else {
         Oddity::Other(byte)
     }
 }
 
-fn behind(byte: u8) -> Oddity {
+fn behind_call(byte: u8) -> Oddity {
     match byte {
         b'.' => Oddity::FullStop,
         b'%' => Oddity::Comment,
@@ -100,7 +95,7 @@ fn begun(place: &Place, byte: u8, behind: &[u8]) -> Oddity {
     let begins_atom = is_small_byte(byte) || byte == b'\'';
     let begins_number = is_digit_byte(byte) || byte == b'-';
     let begins_other = matches!(byte, b'"' | b'[' | b'{' | b'<');
-    if place.levels() >= MAX_LEVELS && (begins_atom || begins_number || begins_other) {
+    if place.levels() >= MAX_DEPTH && (begins_atom || begins_number || begins_other) {
         Oddity::TooDeep
     } else if begins_atom {
         Oddity::LongName
@@ -133,7 +128,7 @@ fn sign(before: &[u8], byte: u8, behind: &[u8]) -> Oddity {
 
 /// What a name or a number tells that stands where none may, or that is too long.
 fn word(byte: u8, behind: &[u8]) -> Oddity {
-    if is_small_byte(byte) && behind.iter().take_while(|b| is_name_byte(**b)).count() >= MAX_NAME {
+    if is_small_byte(byte) && behind.iter().take_while(|b| is_name_byte(**b)).count() >= MAX_CHARACTERS {
         Oddity::LongName
     } else if is_digit_byte(byte)
         && behind.iter().take_while(|b| is_digit_byte(**b)).count() + 1 >= LONG_NUMBER
