@@ -126,7 +126,7 @@ impl<H: KeyHash + Copy + Drop> Script<H> {
 
     /// The number of the process that is spawned next.
     pub fn next_pid(&self) -> u32 {
-        self.names.len() as u32
+        u32::try_from(self.names.len()).unwrap_or(u32::MAX)
     }
 
     /// The table that a term names; else the next identifier.

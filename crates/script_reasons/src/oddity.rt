@@ -128,7 +128,9 @@ fn sign(before: &[u8], byte: u8, behind: &[u8]) -> Oddity {
 
 /// What a name or a number tells that stands where none may, or that is too long.
 fn word(byte: u8, behind: &[u8]) -> Oddity {
-    if is_small_byte(byte) && behind.iter().take_while(|b| is_name_byte(**b)).count() >= MAX_CHARACTERS {
+    if is_small_byte(byte)
+        && behind.iter().take_while(|b| is_name_byte(**b)).count() >= MAX_CHARACTERS
+    {
         Oddity::LongName
     } else if is_digit_byte(byte)
         && behind.iter().take_while(|b| is_digit_byte(**b)).count() + 1 >= LONG_NUMBER
