@@ -11,6 +11,7 @@ Options:
       --max-objects <max-objects>      The most objects in one table [default: 1000000]
       --max-processes <max-processes>  The most processes ever [default: 4096]
       --max-tables <max-tables>        The most tables ever [default: 65536]
+      --why                            Tell on standard error why lines were refused
   -h, --help                           Print help
   -V, --version                        Print version
 END
@@ -51,9 +52,9 @@ look_at_word() {
   case $word in
     -h* | --help) help ;;
     -V* | --version) version ;;
-    --threads=* | --help=* | --version=*) refuse_value "$given" "${word%%=*}" "${word#*=}" ;;
+    --threads=* | --why=* | --help=* | --version=*) refuse_value "$given" "${word%%=*}" "${word#*=}" ;;
     -[!-]*) refuse_word "${word:0:2}" ;;
-    --threads) ;;
+    --threads | --why) ;;
     *) takes_value "${word%%=*}" || refuse_word "$word" ;;
   esac
 }
@@ -68,12 +69,12 @@ look_at() {
     case $seen in *" $option "*) refuse "the argument '$(shown "$option")' cannot be used multiple times" '' 'Usage: ets_script [OPTIONS]' ;; esac
     seen+="$option "
     given+=$waits waits=''
-    if [ "$option" = --threads ]; then
+    if [ "$option" = --threads ] || [ "$option" = --why ]; then
       given+="$option "
     elif [ "$word" = "$option" ]; then
       waits="$option "
       case ${1-} in
-        -h* | --help | -V* | --version | --threads) set -- ;;
+        -h* | --help | -V* | --version | --threads | --why) set -- ;;
         -?*) takes_value "${1%%=*}" && set -- || look_at_word "$given" "$1" ;;
       esac
       [ $# -gt 0 ] || needs_value "$option"
@@ -84,6 +85,7 @@ look_at() {
       look_at_value "$option" "${word#*=}"
     fi
   done
+  case $seen in *' --threads '*) case $seen in *' --why '*) refuse "the argument '--threads' cannot be used with '--why'" '' 'Usage: ets_script [OPTIONS]' ;; esac ;; esac
 }
 
 needs_value() {

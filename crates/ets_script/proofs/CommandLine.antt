@@ -13,7 +13,7 @@ use Rattle.clap.specs.Simple.{app_of_fields, has_plain_fields, has_simple_rules,
 use Rattle.clap.specs.Texts.{items_of}
 use Rattle.clap.specs.Walk.{is_empty, is_free_arg, is_simple_arg}
 use Rattle.clap.specs.Words.{App, FailsBy, HasKind, HasMatchesOf, Rule, Shape, Text, app_of, fault_of, found_of, is_simple, is_simple_and_free, kind_of, matches_of, rows_of, rule_of}
-use Rattle.clap.specs.Kinds.{Kinds}
+use Rattle.clap.specs.Kinds.{Kinds, or_else}
 use Rattle.clap.specs.declared.builder.arg.Arg.{Arg}
 use Rattle.clap.specs.declared.builder.command.Command.{Command}
 use Rattle.clap.specs.declared.builder.command.Command.TheViews.{out-Command}
@@ -24,7 +24,7 @@ use Rattle.clap.specs.declared.error.kind.ErrorKind.TheVariants.{OutOfMemory}
 use Rattle.clap.specs.declared.parser.matches.ArgMatches.{ArgMatches}
 use Rattle.clap.proofs.SimpleLemmas.{is_false, is_nil}
 use Rattle.ets_script.proofs.Defaults.{default_reads}
-use Rattle.ets_script.specs.CommandLine.{command_line, number_option, request_line, with_version}
+use Rattle.ets_script.specs.CommandLine.{command_line, flag_option, limited_line, number_option, request_line, with_version}
 use Rattle.ets_script.specs.inside.Options.{HasNumber}
 
 abbrev error_or : {T : Type 0} → Result T Error → Error → Error
@@ -38,6 +38,16 @@ refused kinds (Err f) e (Ok s) fails is told = absurd told
 refused {T} kinds (Err f) e (Err g) fails is told =
     let same : f ≡ g = ap (λ (r : Result T Error). error_or r f) is ∙ sym told in
     subst (HasKind kinds) same fails
+
+among_more : (kinds next : Kinds) (e : Error) → HasKind kinds e → HasKind (or_else kinds next) e
+among_more [] next e (inl memory) = inl memory
+among_more [] next e (inr among) = absurd among
+among_more (k ∷ ks) next e h = h
+
+-- an error of the first kinds is one of these or else of others
+pub fails_first : {U : Type 0} (kinds next : Kinds) (Q : Error → Type 0) (r : Result U Error) → IsErrAnd r Q → FailsBy kinds r → FailsBy (or_else kinds next) r
+fails_first kinds next Q (Ok s) told fails = absurd told
+fails_first kinds next Q (Err e) told fails = among_more kinds next e fails
 
 -- memory ran out
 pub lacks_memory : {U : Type 0} (kinds : Kinds) (r : Result U Error) → IsErrAnd r (λ e. kind_of e ≡ OutOfMemory) → FailsBy kinds r
@@ -112,16 +122,23 @@ added old new a app r adds is rule e =
     let shape = adds.shape (simple a known).own in
     shape ∙ ap₂ with_rule is rule
 
--- the command of the settings, with the options of the limits and a version, is that of a request
-pub requested : (hashes : ValueParser) (one two three four : Command) (processes tables : Arg) (version : Bor Text) → app_of one ≡ command_line hashes
+-- the command of the settings, with the options of the limits
+pub limited : (hashes : ValueParser) (one two three : Command) (processes tables : Arg) → app_of one ≡ command_line hashes
     → AddsArg one processes two → rule_of processes ≡ number_option (codes "max-processes") (codes "4096")
     → AddsArg two tables three → rule_of tables ≡ number_option (codes "max-tables") (codes "65536")
-    → out-Command four ≡ record (out-Command three) { version = Some version } → app_of four ≡ request_line hashes
-requested hashes one two three four processes tables version is adds first adds2 second versioned =
+    → app_of three ≡ limited_line hashes
+limited hashes one two three processes tables is adds first adds2 second =
     let with_first = added one two processes (command_line hashes) (number_option (codes "max-processes") (codes "4096")) adds is first refl in
-    let with_both = added two three tables _ (number_option (codes "max-tables") (codes "65536")) adds2 with_first second refl in
-    let as_fields : app_of four ≡ with_version (app_of three) = ap app_of_fields versioned in
-    as_fields ∙ ap with_version with_both
+    added two three tables _ (number_option (codes "max-tables") (codes "65536")) adds2 with_first second refl
+
+-- and with that of reasons and a version it is that of a request
+pub requested : (hashes : ValueParser) (three four five : Command) (why : Arg) (version : Bor Text) → app_of three ≡ limited_line hashes
+    → AddsArg three why four → rule_of why ≡ flag_option (codes "why")
+    → out-Command five ≡ record (out-Command four) { version = Some version } → app_of five ≡ request_line hashes
+requested hashes three four five why version is adds told versioned =
+    let with_why = added three four why (limited_line hashes) (flag_option (codes "why")) adds is told refl in
+    let as_fields : app_of five ≡ with_version (app_of four) = ap app_of_fields versioned in
+    as_fields ∙ ap with_version with_why
 
 -- the k-th of these has this name, and no other has it
 abbrev only : List Rule → ℕ → Text → Bool

@@ -1,5 +1,5 @@
 -- The command line, by the crate that reads it: its matches are a function of the words.
-use Rattle.std.specs.Prelude.{◌≡◌, ℕ, Bool, true, false, List, [], ◌∷◌, Option, Some, None, Result, IfOk, map, codes, pos}
+use Rattle.std.specs.Prelude.{◌≡◌, ℕ, Bool, true, false, List, [], ◌∷◌, Option, Some, None, Result, IfOk, map, codes, pos, ◌&&◌, if◌then◌else◌}
 use Rattle.std.specs.Option.{option_map_or}
 use Rattle.std.specs.Str.{bytes_eq}
 use Rattle.std.specs.Str.Parse.{IsNumeral, digits_value, without_leading_plus}
@@ -10,7 +10,8 @@ use Rattle.clap.specs.declared.builder.value_parser.ValueParser.{ValueParser}
 use Rattle.clap.specs.declared.builder.value_parser.ValueParser.TheVariants.{Names, Signed}
 use Rattle.clap.specs.declared.error.Error.{Error}
 use Rattle.clap.specs.declared.error.kind.ErrorKind.{ErrorKind}
-use Rattle.clap.specs.declared.error.kind.ErrorKind.TheVariants.{DisplayHelp, DisplayVersion, OutOfMemory}
+use Rattle.clap.specs.declared.error.kind.ErrorKind.TheVariants.{ArgumentConflict, DisplayHelp, DisplayVersion, OutOfMemory}
+use Rattle.clap.specs.Kinds.{Kinds, or_else}
 use Rattle.node_core.specs.declared.limits.Limits.{Limits}
 use Rattle.ets_script.specs.declared.options.Settings.{Settings}
 use Rattle.ets_script.specs.declared.options.Request.{Request}
@@ -23,9 +24,9 @@ TakesNames names _ = ⊥
 abbrev pub hash_names : List Text
 hash_names = codes "fnv" ∷ codes "same" ∷ []
 
--- `--threads`, which takes no value
-abbrev pub threads_option : Rule
-threads_option = record (new_rule (codes "threads")) { long = Some (codes "threads"); action = Some SetTrue }
+-- an option of this name, which takes no value
+abbrev pub flag_option : Text → Rule
+flag_option name = record (new_rule name) { long = Some name; action = Some SetTrue }
 
 -- `--hash`, whose values a parser takes, and without which it is fnv
 abbrev pub hash_option : ValueParser → Rule
@@ -36,7 +37,7 @@ abbrev pub objects_option : Rule
 objects_option = record (new_rule (codes "max-objects")) { long = Some (codes "max-objects"); action = Some Set; parser = Some (Signed (pos 0) (pos 4294967295)); defaults = codes "1000000" ∷ [] }
 
 abbrev pub command_line : ValueParser → App
-command_line hashes = with_rule (with_rule (with_rule (new_app (codes "ets_script")) threads_option) (hash_option hashes)) objects_option
+command_line hashes = with_rule (with_rule (with_rule (new_app (codes "ets_script")) (flag_option (codes "threads"))) (hash_option hashes)) objects_option
 
 -- the text of a number in decimal digits, before which a plus may stand
 abbrev pub Spells : Option Text → ℕ → Type 0
@@ -69,22 +70,40 @@ number_option name default = record (new_rule name) { long = Some name; action =
 abbrev pub with_version : App → App
 with_version = on_top (λ s. record s { has_version = true })
 
--- the same command line, with options more: the limits of processes, which are 4096 without it, and of tables, 65536
+-- the limits of processes, which are 4096 without it, and of tables, 65536
+abbrev pub limited_line : ValueParser → App
+limited_line hashes = with_rule (with_rule (command_line hashes) (number_option (codes "max-processes") (codes "4096"))) (number_option (codes "max-tables") (codes "65536"))
+
+-- the same command line, with options more: these limits, reasons, and the version
 abbrev pub request_line : ValueParser → App
-request_line hashes =
-    with_version (with_rule (with_rule (command_line hashes) (number_option (codes "max-processes") (codes "4096"))) (number_option (codes "max-tables") (codes "65536")))
+request_line hashes = with_version (with_rule (limited_line hashes) (flag_option (codes "why")))
 
 -- what the matches ask of them
 pub record AsksAll (rows : List Row) (request : Request) : Type 0 where
   pub settings : Asks rows request.settings
   pub processes : Spells (one_of (codes "max-processes") rows) request.processes
   pub tables : Spells (one_of (codes "max-tables") rows) request.tables
+  pub why : request.why ≡ is_named (codes "true") (first_of (codes "why") rows)
 
--- as `Settles`
-pub record Requests (words : List Text) (result : Result Request Error) : Type 0 where
+-- as `Settles`, each option by itself
+pub record Parses (words : List Text) (result : Result Request Error) : Type 0 where
   pub hashes : ValueParser
   pub names : TakesNames hash_names hashes
   pub faults : FailsBy (fault_of (request_line hashes) words) result
+  pub request : IfOk result (AsksAll (matches_of (request_line hashes) words))
+
+-- reasons are not told of processes in threads
+abbrev pub conflict_of : List Row → Kinds
+conflict_of rows =
+    if is_named (codes "true") (first_of (codes "why") rows) && is_named (codes "true") (first_of (codes "threads") rows)
+    then ArgumentConflict ∷ []
+    else []
+
+-- the same, and options that do not go together are refused where there is no other fault
+pub record Requests (words : List Text) (result : Result Request Error) : Type 0 where
+  pub hashes : ValueParser
+  pub names : TakesNames hash_names hashes
+  pub faults : FailsBy (or_else (fault_of (request_line hashes) words) (conflict_of (matches_of (request_line hashes) words))) result
   pub request : IfOk result (AsksAll (matches_of (request_line hashes) words))
 
 -- the limits that are asked for

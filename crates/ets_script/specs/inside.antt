@@ -9,3 +9,4 @@ pub mod Planning
 pub mod Journal
 pub mod Processes
 pub mod Options
+pub mod Explained

@@ -1,7 +1,8 @@
 //! The command line, as clap reads it.
 ghost use Rattle.std.specs.Prelude.{IfOk, ◌≡◌, codes, map, option_map};
 ghost use Rattle.clap.specs.Words.{app_of, found_of, kind_of, one_text, rows_of, rule_of};
-ghost use Rattle.ets_script.specs.CommandLine.{Asks, Settles, Requests, Spells, TakesNames, command_line, hash_names, hash_option, is_named, number_option, refused_status, threads_option};
+ghost use Rattle.clap.specs.declared.error.kind.ErrorKind.TheVariants.{ArgumentConflict};
+ghost use Rattle.ets_script.specs.CommandLine.{Asks, Settles, Requests, Parses, Spells, TakesNames, command_line, flag_option, hash_names, hash_option, is_named, number_option, refused_status};
 ghost use Rattle.ets_script.specs.inside.Options.{HasNumber};
 
 use crate::options::{Request, Settings};
@@ -26,22 +27,49 @@ pub fn settings<S: AsStr>(alloc: Global, words: &[S]) -> Result<Settings, Error>
     Ok(asked_settings(&matches))
 }
 
-/// As `settings`, with options more: the limits beside that of a table's objects, and a call for the version.
+/// As `settings`, with options more: the limits beside that of a table's objects, reasons, and a call for the version. Reasons
+/// of processes in threads are refused.
 pub fn request<S: AsStr>(alloc: Global, words: &[S]) -> Result<Request, Error>
     ensures { Requests (map S.text words.entry.now) result }
 {
+    let request = parsed_request(alloc, words)?;
+    if request.why && request.settings.threads {
+        return Err(conflict(alloc)?);
+    }
+    Ok(request)
+}
+
+/// What these words ask, each option by itself.
+fn parsed_request<S: AsStr>(alloc: Global, words: &[S]) -> Result<Request, Error>
+    ensures { Parses (map S.text words.entry.now) result }
+{
     let processes = number_option(alloc, "max-processes", "4096", "The most processes ever");
     let tables = number_option(alloc, "max-tables", "65536", "The most tables ever");
+    let why = flag_option(
+        alloc,
+        "why",
+        "Tell on standard error why lines were refused",
+    );
     let command = settings_command(alloc)?
         .arg(processes)?
         .arg(tables)?
+        .arg(why)?
         .version(VERSION);
     let matches = command.try_get_matches_from(words)?;
     Ok(Request {
         settings: asked_settings(&matches),
         processes: asked_number(&matches, "max-processes"),
         tables: asked_number(&matches, "max-tables"),
+        why: is_named("true", matches.get_str("why")),
     })
+}
+
+/// The refusal of two options that do not go together, in the parser's words.
+fn conflict(alloc: Global) -> Result<Error, AllocError>
+    ensures { IfOk result (λ error. kind_of error ≡ ArgumentConflict) }
+{
+    let words = "the argument '--threads' cannot be used with '--why'";
+    settings_command(alloc)?.error(ErrorKind::ArgumentConflict, words)
 }
 
 /// The command whose options are those of the settings.
@@ -56,17 +84,18 @@ fn settings_command<'a>(alloc: Global) -> Result<Command<'a>, AllocError>
         "The most objects in one table",
     );
     Command::new(alloc, "ets_script")
-        .arg(threads_option(alloc))?
+        .arg(flag_option(alloc, "threads", "Run each process in a thread of its own"))?
         .arg(hash)?
         .arg(objects)
 }
 
-fn threads_option<'a>(alloc: Global) -> Arg<'a>
-    ensures { rule_of result ≡ threads_option }
+/// The option of this name, which takes no value.
+fn flag_option<'a>(alloc: Global, name: &'a str, help: &'a str) -> Arg<'a>
+    ensures { rule_of result ≡ flag_option name.entry.now }
 {
-    Arg::new(alloc, "threads")
-        .long("threads")
-        .help("Run each process in a thread of its own")
+    Arg::new(alloc, name)
+        .long(name)
+        .help(help)
         .action(ArgAction::SetTrue)
 }
 

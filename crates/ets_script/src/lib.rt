@@ -4,7 +4,8 @@
 //! node from its first state on, and what went out before each read is all that was asked. A script that stops early has
 //! answered the whole lines before, or a front of their answers where a write failed.
 //!
-//! *Weakness.* That what was answered is flushed before each read is only tested, and so is what `refuse` prints.
+//! *Weakness.* That what was answered is flushed before each read is only tested, and so is what `refuse` prints, and what
+//! `run_script_aloud` says of refused lines, but for the reason of a step.
 //!
 //! *Mechanism.* Bytes are fed in pieces; a line is looked for by `memchr`, read once from left to right, asked, and answered
 //! into a buffer, which goes out before the next read.
@@ -17,10 +18,12 @@ mod classes;
 mod clean;
 mod command;
 mod command_line;
+mod explain;
 mod fault;
 mod feed;
 mod journal;
 mod lines;
+mod listener;
 mod names;
 pub mod options;
 mod output;
@@ -28,6 +31,7 @@ mod plan;
 mod planning;
 mod processes;
 mod program;
+mod reasons;
 mod run;
 mod script;
 mod stop;
@@ -37,5 +41,5 @@ mod threads;
 pub use command_line::{refuse, request, settings};
 pub use fault::ScriptFault;
 pub use program::{answer_alone, answer_input, answer_request};
-pub use run::{run_script, run_within};
+pub use run::{run_script, run_script_aloud, run_within};
 pub use threads::run_threads;

@@ -11,7 +11,7 @@ pub struct Settings {
     pub objects: u32,
 }
 
-/// What the command line asks of the program, with the limits beside those of `Settings`.
+/// What the command line asks of the program, with what is not in `Settings`: the limits beside theirs, and reasons.
 #[derive(Clone, Copy)]
 pub struct Request {
     /// What `settings` reads too.
@@ -20,4 +20,6 @@ pub struct Request {
     pub processes: u32,
     /// The most tables ever made.
     pub tables: u32,
+    /// Whether it is told why lines were refused.
+    pub why: bool,
 }

@@ -1,15 +1,17 @@
 //! The program between what it is asked, its input, its output and its errors.
 ghost use Rattle.std.specs.Prelude.{◌≡◌, false, true, IfOk, OnOk, IfErr};
 ghost use Rattle.ets_script.specs.CommandLine.{limits_of};
-ghost use Rattle.ets_script.specs.Stops.{EndsWithin, ProgramEnds};
+ghost use Rattle.node_core.specs.State.{empty};
+ghost use Rattle.ets_script.specs.Script.{Scripted, at_start};
+ghost use Rattle.ets_script.specs.Stops.{Completes, EndsWithin, ProgramEnds, Stops};
 ghost use Rattle.ets_script.specs.Threads.{ThreadsEnd, ThreadsStop, ThreadsStatus, ProgramThreads};
 
 use crate::fault::ScriptFault;
 use crate::options::{Request, Settings};
-use crate::run::run_script;
+use crate::run::{run_script, run_script_aloud};
 use crate::threads::run_threads;
 use ets_term::{AllSame, Fnv, KeyHash};
-use node_core::Limits;
+use node_core::{Limits, Node};
 use std::alloc::Global;
 use std::io::{self, Read, Write};
 use std::sync::Wait;
@@ -48,13 +50,14 @@ pub fn answer_alone<R: Read, W: Write, E: Write>(
 
 /// What the settings ask, with the usual limits beside theirs.
 fn usual_request(settings: &Settings) -> Request
-    ensures { result ≡ record { settings = settings.now; processes = 4096; tables = 65536 } }
+    ensures { result ≡ record { settings = settings.now; processes = 4096; tables = 65536; why = false } }
 {
     let usual = Limits::usual();
     Request {
         settings: *settings,
         processes: usual.processes,
         tables: usual.tables,
+        why: false,
     }
 }
 
@@ -87,28 +90,47 @@ fn answer_lines<R: Read, W: Write, E: Write>(
 ) -> io::Result<u8>
     ensures { IfOk result (EndsWithin (limits_of request.now) (R.remaining input.old) (R.remaining input.new) (W.contents output.old) (W.contents output.new)) }
 {
-    let limits = limits_of(request);
     if request.settings.same {
-        answer_by(alloc, limits, AllSame, input, output, errors)
+        answer_by(alloc, request, AllSame, input, output, errors)
     } else {
-        answer_by(alloc, limits, Fnv, input, output, errors)
+        answer_by(alloc, request, Fnv, input, output, errors)
     }
 }
 
-/// Answers a script by these limits, and says the status.
+/// Answers a script by this hash, and says the status.
 fn answer_by<H: KeyHash + Copy + Drop, R: Read, W: Write, E: Write>(
     alloc: Global,
-    limits: Limits,
+    request: &Request,
     hash: H,
     input: &mut R,
     output: &mut W,
     errors: &mut E,
 ) -> io::Result<u8>
-    ensures { IfOk result (EndsWithin limits (R.remaining input.old) (R.remaining input.new) (W.contents output.old) (W.contents output.new)) }
+    ensures { IfOk result (EndsWithin (limits_of request.now) (R.remaining input.old) (R.remaining input.new) (W.contents output.old) (W.contents output.new)) }
 {
-    match run_script(alloc, input, output, limits, hash) {
+    match run_lines(alloc, request, hash, input, output, errors) {
         Ok(_) => Ok(0),
         Err(fault) => tell(&fault, errors),
+    }
+}
+
+/// Runs a script line by line, and tells why lines were refused where that is asked for.
+fn run_lines<H: KeyHash + Copy + Drop, R: Read, W: Write, E: Write>(
+    alloc: Global,
+    request: &Request,
+    hash: H,
+    input: &mut R,
+    output: &mut W,
+    errors: &mut E,
+) -> Result<Node<H>, ScriptFault>
+    ensures ok { OnOk result ((end : Scripted) × Completes (at_start (empty (limits_of request.now))) (R.remaining input.old) (R.remaining input.new) (W.contents output.old) (W.contents output.new) end) }
+    ensures err { IfErr result (Stops (at_start (empty (limits_of request.now))) (R.remaining input.old) (R.remaining input.new) (W.contents output.old) (W.contents output.new)) }
+{
+    let limits = limits_of(request);
+    if request.why {
+        run_script_aloud(alloc, input, output, errors, limits, hash)
+    } else {
+        run_script(alloc, input, output, limits, hash)
     }
 }
 

@@ -13,7 +13,9 @@ use crate::answer::Answer;
 use crate::fault::ScriptFault;
 use crate::feed::{Feed, MAX_READS};
 use crate::lines::NextLine;
+use crate::listener::{Listener, Quiet};
 use crate::output::{Pending, WriteFault};
+use crate::reasons::Reasons;
 use crate::script::Script;
 use ets_term::KeyHash;
 use node_core::{Limits, Node};
@@ -48,25 +50,69 @@ pub fn run_within<R: Read, W: Write, H: KeyHash + Copy + Drop>(
     ensures ok { IfOk result (λ node. (end : Scripted) × (end.node ≡ seen node) × Completes (at_start (empty limits)) (R.remaining reader.old) (R.remaining reader.new) (W.contents writer.old) (W.contents writer.new) end) }
     ensures err { IfErr result (Stops (at_start (empty limits)) (R.remaining reader.old) (R.remaining reader.new) (W.contents writer.old) (W.contents writer.new)) }
 {
+    let script = Script::new(alloc, limits, hash);
+    run_heard(reader, writer, script, reads, &mut Quiet)
+}
+
+/// As `run_script`, and tells why lines were refused: a line for each, behind the answers of the lines that were read with
+/// it. Where that fails, nothing more is told, and the answers go on.
+pub fn run_script_aloud<R: Read, W: Write, E: Write, H: KeyHash + Copy + Drop>(
+    alloc: Global,
+    reader: &mut R,
+    writer: &mut W,
+    errors: &mut E,
+    limits: Limits,
+    hash: H,
+) -> Result<Node<H>, ScriptFault>
+    ensures ok { IfOk result (λ node. (end : Scripted) × (end.node ≡ seen node) × Completes (at_start (empty limits)) (R.remaining reader.old) (R.remaining reader.new) (W.contents writer.old) (W.contents writer.new) end) }
+    ensures err { IfErr result (Stops (at_start (empty limits)) (R.remaining reader.old) (R.remaining reader.new) (W.contents writer.old) (W.contents writer.new)) }
+{
+    let Ok(mut reasons) = Reasons::new(alloc, errors) else {
+        return Err(ScriptFault::Memory);
+    };
+    let script = Script::new(alloc, limits, hash);
+    let ran = run_heard(reader, writer, script, MAX_READS, &mut reasons);
+    reasons.tell();
+    ran
+}
+
+/// Runs a script from where it stands, with at most this many reads, before a listener.
+fn run_heard<R: Read, W: Write, H: KeyHash + Copy + Drop, L: Listener>(
+    reader: &mut R,
+    writer: &mut W,
+    mut script: Script<H>,
+    reads: u32,
+    listener: &mut L,
+) -> Result<Node<H>, ScriptFault>
+    ensures ok { IfOk result (λ node. (end : Scripted) × (end.node ≡ seen node) × Completes script (R.remaining reader.old) (R.remaining reader.new) (W.contents writer.old) (W.contents writer.new) end) }
+    ensures err { IfErr result (Stops script (R.remaining reader.old) (R.remaining reader.new) (W.contents writer.old) (W.contents writer.new)) }
+{
+    let alloc = script.allocator();
     let Ok(mut feed) = Feed::new(alloc, reads) else {
         return Err(ScriptFault::Memory);
     };
     let Ok(mut pending) = Pending::new(alloc) else {
         return Err(ScriptFault::Memory);
     };
-    let mut script = Script::new(alloc, limits, hash);
-    answer_all(alloc, reader, &mut feed, &mut pending, writer, &mut script)?;
+    answer_all(
+        reader,
+        &mut feed,
+        &mut pending,
+        writer,
+        &mut script,
+        listener,
+    )?;
     Ok(script.into_node())
 }
 
 /// Answers all lines, and sends all answers.
-fn answer_all<R: Read, W: Write, H: KeyHash + Copy + Drop>(
-    alloc: Global,
+fn answer_all<R: Read, W: Write, H: KeyHash + Copy + Drop, L: Listener>(
     reader: &mut R,
     feed: &mut Feed,
     pending: &mut Pending,
     writer: &mut W,
     script: &mut Script<H>,
+    listener: &mut L,
 ) -> Result<(), ScriptFault>
     requires waiting { pending.old ≡ [] }
     requires held { (feed.old.bytes ≡ []) × (feed.old.is_skipping ≡ false) }
@@ -74,11 +120,12 @@ fn answer_all<R: Read, W: Write, H: KeyHash + Copy + Drop>(
     ensures err { IfErr result (Stops script.old (R.remaining reader.old) (R.remaining reader.new) (W.contents writer.old) (W.contents writer.new)) }
 {
     loop {
-        let Some(next) = answer_next(alloc, feed, script) else {
+        let Some(next) = answer_next(feed, script, listener) else {
             pending.flush(writer)?;
+            listener.tell();
             feed.skip_long();
             if feed.refill(reader)? == 0 {
-                answer_last(alloc, feed, pending, writer, script)?;
+                answer_last(feed, pending, writer, script, listener)?;
                 return Ok(());
             }
             continue;
@@ -109,20 +156,23 @@ fn print_line<W: Write>(
 }
 
 /// Answers the next line, if its end is held.
-fn answer_next<H: KeyHash + Copy + Drop>(
-    alloc: Global,
+fn answer_next<H: KeyHash + Copy + Drop, L: Listener>(
     feed: &Feed,
     script: &mut Script<H>,
+    listener: &mut L,
 ) -> Option<AnsweredLine>
     ensures { AnswersNext feed.now script.old script.new result }
 {
     match feed.next_line() {
         NextLine::Text { text, taken } => {
-            let answer = script.answer(alloc, &feed.held()[..text]);
+            let line = &feed.held()[..text];
+            let answer = script.answer(line);
+            listener.hear(script, line, &answer);
             Some(AnsweredLine { answer, taken })
         }
         NextLine::TooLong { taken } => {
             let answer = Answer::TooLong;
+            listener.hear(script, &[], &answer);
             Some(AnsweredLine { answer, taken })
         }
         NextLine::NeedsMore => None,
@@ -130,31 +180,28 @@ fn answer_next<H: KeyHash + Copy + Drop>(
 }
 
 /// Answers the last line, which has no LF, and sends all answers.
-fn answer_last<W: Write, H: KeyHash + Copy + Drop>(
-    alloc: Global,
+fn answer_last<W: Write, H: KeyHash + Copy + Drop, L: Listener>(
     feed: &Feed,
     pending: &mut Pending,
     writer: &mut W,
     script: &mut Script<H>,
+    listener: &mut L,
 ) -> Result<(), WriteFault>
     ensures ok { OnOk result (EndsAll feed.now script.old script.new pending.old (W.contents writer.old) (W.contents writer.new)) }
     ensures err { OnErr result (BreaksAtEnd feed.now script.old script.new pending.old (W.contents writer.old) (W.contents writer.new)) }
 {
-    let answer = answer_part(alloc, feed, script);
+    let answer = answer_part(feed, script);
+    listener.hear(script, feed.held(), &answer);
     answer.print(pending, writer)?;
     pending.flush(writer)
 }
 
 /// Answers a part of a line as a line. An empty one is silent.
-fn answer_part<H: KeyHash + Copy + Drop>(
-    alloc: Global,
-    feed: &Feed,
-    script: &mut Script<H>,
-) -> Answer
+fn answer_part<H: KeyHash + Copy + Drop>(feed: &Feed, script: &mut Script<H>) -> Answer
     ensures { AnswersPart feed.now.is_skipping script.old feed.now.bytes result script.new }
 {
     if feed.is_skipping() {
         return Answer::TooLong;
     }
-    script.answer(alloc, feed.held())
+    script.answer(feed.held())
 }

@@ -53,19 +53,31 @@ impl<H: KeyHash + Copy + Drop> Script<H> {
         }
     }
 
+    pub fn node(&self) -> &Node<H>
+        ensures { seen result.now ≡ self.now.node }
+    {
+        &self.node
+    }
+
     pub fn into_node(self) -> Node<H>
         ensures { seen result ≡ self.node }
     {
         self.node
     }
 
+    /// The allocator of all that the script takes.
+    pub fn allocator(&self) -> Global {
+        *self.names.allocator()
+    }
+
     /// Does what a line says.
-    pub fn answer(&mut self, alloc: Global, line: &[u8]) -> Answer
+    pub fn answer(&mut self, line: &[u8]) -> Answer
         ensures { AnswersLine self.old (text line.now) result self.new }
     {
         if is_silent(line) {
             return Answer::Silent;
         }
+        let alloc = self.allocator();
         match read_command(alloc, line) {
             Ok(command) => self.obey(alloc, command),
             Err(_) => Answer::NoMemory,
@@ -103,7 +115,7 @@ impl<H: KeyHash + Copy + Drop> Script<H> {
     }
 
     /// The process that a name stands for.
-    fn pid(&self, name: &[u8]) -> Option<u32>
+    pub fn pid(&self, name: &[u8]) -> Option<u32>
         ensures { result ≡ pid_of self.now name.now }
     {
         match self.names.get_index_of(name) {
@@ -112,8 +124,13 @@ impl<H: KeyHash + Copy + Drop> Script<H> {
         }
     }
 
+    /// The number of the process that is spawned next.
+    pub fn next_pid(&self) -> u32 {
+        u32::try_from(self.names.len()).unwrap_or(u32::MAX)
+    }
+
     /// The table that a term names; else the next identifier.
-    fn table(&self, term: &Term) -> u32
+    pub fn table(&self, term: &Term) -> u32
         ensures { result ≡ table_of self.now term.now }
     {
         match self.node.resolve(term) {

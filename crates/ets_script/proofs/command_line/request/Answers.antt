@@ -1,51 +1,19 @@
-use Rattle.std.proofs.Common.{◌∙◌, arith, ap, codes, List, map, refl, subst, Option}
-use Rattle.clap.specs.Words.{App, Row, Text, app_of, fault_of, found_of, one_of}
-use Rattle.clap.proofs.WalkLemmas.{one_text-rows}
-use Rattle.ets_script.specs.CommandLine.{Asks, Spells, request_line}
-use Rattle.ets_script.proofs.CommandLine.{answered, faults, has_number, refused, requested, rows, unanswered}
+use Rattle.std.proofs.Common.{map}
+use Rattle.clap.specs.Words.{fault_of, matches_of}
+use Rattle.ets_script.specs.CommandLine.{conflict_of, request_line}
+use Rattle.ets_script.proofs.CommandLine.{fails_first, refused, unanswered}
 use Rattle.ets_script.proofs.command_line.request.Goals as goal
 
-pub returns-in_err-matches : goal.returns-in_err-matches
-returns-in_err-matches g c =
-    let given = c.in_ok-settings_command.ensures in
-    let line = request_line given.0 in
-    let command = c.version-command.result in
-    let told = c.from_residual-in_err-matches.ensures.1 in
+pub returns-in_err-request : goal.returns-in_err-request
+returns-in_err-request g c =
+    let parsed = c.parsed_request.ensures in
+    let line = request_line parsed.hashes in
     let words = map g.S.AsStr.text c.args.words.now in
-    let is = requested given.0 c.in_ok-settings_command.field-0 c.in_ok-arg.field-0 c.in_ok-arg-2.field-0 command c.number_option-processes.result c.number_option-tables.result _ given.2
-    c.in_ok-arg.ensures c.number_option-processes.ensures c.in_ok-arg-2.ensures c.number_option-tables.ensures c.version-command.ensures in
-    let known = faults line (app_of command) words c.try_get_matches_from.result is refl c.try_get_matches_from.ensures.kinds in
+    let told = c.from_residual.ensures.1 in
+    let fails = refused (fault_of line words) c.parsed_request.result c.in_err-request.field-0.0 c.from_residual.result parsed.faults c.in_err-request.was told in
     record {
-      hashes = given.0;
-      names = given.1;
-      faults = refused (fault_of line words) c.try_get_matches_from.result c.in_err-matches.field-0.0 c.from_residual-in_err-matches.result known c.in_err-matches.was told;
-      request = unanswered _ _ c.from_residual-in_err-matches.result told;
-    }
-
-pub returns : goal.returns
-returns g c =
-    let given = c.in_ok-settings_command.ensures in
-    let line = request_line given.0 in
-    let command = c.version-command.result in
-    let matches = c.in_ok-matches.matches in
-    let found = found_of matches in
-    let parsed = c.in_ok-matches.ensures.parsed in
-    let words = map g.S.AsStr.text c.args.words.now in
-    let is = requested given.0 c.in_ok-settings_command.field-0 c.in_ok-arg.field-0 c.in_ok-arg-2.field-0 command c.number_option-processes.result c.number_option-tables.result _ given.2
-    c.in_ok-arg.ensures c.number_option-processes.ensures c.in_ok-arg-2.ensures c.number_option-tables.ensures c.version-command.ensures in
-    let known = faults line (app_of command) words c.try_get_matches_from.result is refl c.try_get_matches_from.ensures.kinds in
-    let same = rows line (app_of command) words matches is refl c.in_ok-matches.ensures.matches in
-    let top = ap (λ (a : App). a.top) is in
-    let objects = has_number command matches line.top 2 (codes "max-objects") (codes "1000000") parsed top refl (omega arith) refl refl in
-    let processes = has_number command matches line.top 3 (codes "max-processes") (codes "4096") parsed top refl (omega arith) refl refl in
-    let tables = has_number command matches line.top 4 (codes "max-tables") (codes "65536") parsed top refl (omega arith) refl refl in
-    record {
-      hashes = given.0;
-      names = given.1;
-      faults = answered _ c.try_get_matches_from.result matches known c.in_ok-matches.was;
-      request = record {
-        settings = subst (λ (rs : List Row). Asks rs c.asked_settings.result) same (c.asked_settings.ensures objects);
-        processes = subst (λ (o : Option Text). Spells o c.asked_number.result) (one_text-rows found (codes "max-processes") ∙ ap (one_of (codes "max-processes")) same) (c.asked_number.ensures processes);
-        tables = subst (λ (o : Option Text). Spells o c.asked_number-2.result) (one_text-rows found (codes "max-tables") ∙ ap (one_of (codes "max-tables")) same) (c.asked_number-2.ensures tables);
-      };
+      hashes = parsed.hashes;
+      names = parsed.names;
+      faults = fails_first (fault_of line words) (conflict_of (matches_of line words)) _ c.from_residual.result told fails;
+      request = unanswered _ _ c.from_residual.result told;
     }

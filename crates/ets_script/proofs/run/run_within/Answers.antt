@@ -1,18 +1,16 @@
-use Rattle.std.proofs.Common.{subst}
-use Rattle.node_core.specs.State.{empty}
-use Rattle.ets_script.specs.Script.{Scripted, at_start}
-use Rattle.ets_script.specs.Stops.{Stops}
-use Rattle.ets_script.proofs.ScriptEnds.{not_begun, stop_told}
+use Rattle.std.proofs.Common.{◌≡◌, subst}
+use Rattle.std.specs.Prelude.{IfOk, IfErr}
+use Rattle.node_core.specs.Seen.{seen}
+use Rattle.ets_script.specs.Script.{Scripted}
+use Rattle.ets_script.specs.Stops.{Completes, Stops}
 use Rattle.ets_script.proofs.run.run_within.Goals as goal
 
-pub returns-in_default-clause-err : goal.returns-in_default-clause-err
-returns-in_default-clause-err g c = not_begun (at_start (empty c.args.limits)) (g.R.Read.remaining c.args.reader.now) (g.W.Write.contents c.args.writer.now)
+pub returns-clause-ok : goal.returns-clause-ok
+returns-clause-ok g c =
+    let ends : Scripted → Type 0 = λ s. IfOk c.run_heard.result (λ node. (end : Scripted) × (end.node ≡ seen node) × Completes s (g.R.Read.remaining c.args.reader.now) (g.R.Read.remaining c.run_heard.new.reader) (g.W.Write.contents c.args.writer.now) (g.W.Write.contents c.run_heard.new.writer) end) in
+    subst ends c.new-script.ensures c.run_heard.ensures.ok
 
-pub returns-in_default-new-clause-err : goal.returns-in_default-new-clause-err
-returns-in_default-new-clause-err g c = not_begun (at_start (empty c.args.limits)) (g.R.Read.remaining c.args.reader.now) (g.W.Write.contents c.args.writer.now)
-
-pub returns-in_err-answer_all-clause-err : goal.returns-in_err-answer_all-clause-err
-returns-in_err-answer_all-clause-err g c =
-    let stops : Scripted → Type 0 = λ s. Stops s (g.R.Read.remaining c.args.reader.now) (g.R.Read.remaining c.answer_all.new.reader) (g.W.Write.contents c.args.writer.now) (g.W.Write.contents c.answer_all.new.writer) c.in_err-answer_all.field-0.0 in
-    stop_told (at_start (empty c.args.limits)) (g.R.Read.remaining c.args.reader.now) (g.R.Read.remaining c.answer_all.new.reader) (g.W.Write.contents c.args.writer.now) (g.W.Write.contents c.answer_all.new.writer)
-    c.from_residual.result c.in_err-answer_all.field-0.0 c.from_residual.ensures.1 (subst stops c.new-script.ensures c.in_err-answer_all.ensures.err)
+pub returns-clause-err : goal.returns-clause-err
+returns-clause-err g c =
+    let stops : Scripted → Type 0 = λ s. IfErr c.run_heard.result (Stops s (g.R.Read.remaining c.args.reader.now) (g.R.Read.remaining c.run_heard.new.reader) (g.W.Write.contents c.args.writer.now) (g.W.Write.contents c.run_heard.new.writer)) in
+    subst stops c.new-script.ensures c.run_heard.ensures.err

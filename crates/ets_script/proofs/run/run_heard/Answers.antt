@@ -1,0 +1,13 @@
+use Rattle.ets_script.proofs.ScriptEnds.{not_begun, stop_told}
+use Rattle.ets_script.proofs.run.run_heard.Goals as goal
+
+pub returns-in_default-clause-err : goal.returns-in_default-clause-err
+returns-in_default-clause-err g c = not_begun c.args.script (g.R.Read.remaining c.args.reader.now) (g.W.Write.contents c.args.writer.now)
+
+pub returns-in_default-new-clause-err : goal.returns-in_default-new-clause-err
+returns-in_default-new-clause-err g c = not_begun c.args.script (g.R.Read.remaining c.args.reader.now) (g.W.Write.contents c.args.writer.now)
+
+pub returns-in_err-answer_all-clause-err : goal.returns-in_err-answer_all-clause-err
+returns-in_err-answer_all-clause-err g c =
+    stop_told c.args.script (g.R.Read.remaining c.args.reader.now) (g.R.Read.remaining c.answer_all.new.reader) (g.W.Write.contents c.args.writer.now) (g.W.Write.contents c.answer_all.new.writer)
+    c.from_residual.result c.in_err-answer_all.field-0.0 c.from_residual.ensures.1 c.in_err-answer_all.ensures.err

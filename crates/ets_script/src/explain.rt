@@ -1,0 +1,79 @@
+//! Why a line was refused.
+ghost use Rattle.std.specs.Prelude.{◌≡◌, false, None, IfOk};
+ghost use Rattle.node_core.specs.State.{State};
+ghost use Rattle.node_core.specs.Machine.{step};
+ghost use Rattle.ets_script.specs.inside.Explained.{is_refused, step_said};
+
+use crate::answer::Answer;
+use crate::command::{Command, read_command};
+use crate::script::Script;
+use ets_term::KeyHash;
+use node_core::{Call, Reply, Step};
+use node_reasons::why;
+use script_reasons::{Remark, oddity_at};
+use std::alloc::AllocError;
+
+/// What is to be said of a line that has this answer of a script that stands so since: nothing where it was not refused. A
+/// line that was is read again.
+pub fn explain<'a, H: KeyHash + Copy + Drop>(
+    script: &Script<H>,
+    line: &'a [u8],
+    answer: &Answer,
+) -> Result<Option<Remark<'a>>, AllocError>
+    ensures { IfOk result (λ said. is_refused answer.now ≡ false → said ≡ None) }
+{
+    match answer {
+        Answer::Silent => Ok(None),
+        Answer::Replied(reply) if reply.is_value() => Ok(None),
+        Answer::Replied(reply) => Ok(explain_command(
+            script,
+            read_command(script.allocator(), line)?,
+            reply,
+        )),
+        Answer::NoMemory => Ok(Some(Remark::NoMemory)),
+        Answer::Syntax(at) => Ok(Some(Remark::Faulty(*at, oddity_at(line, *at)))),
+        Answer::TooLong => Ok(Some(Remark::TooLong)),
+    }
+}
+
+/// What is to be said of a command that has this refusal.
+fn explain_command<'a, H: KeyHash + Copy + Drop>(
+    script: &Script<H>,
+    command: Command<'a>,
+    reply: &Reply,
+) -> Option<Remark<'a>> {
+    match command {
+        Command::Faulty(_) => None,
+        Command::Spawn(name) => match script.pid(name) {
+            Some(_) => Some(Remark::SpawnedBefore(name)),
+            None => explain_step(script, Step::Enrol(script.next_pid()), reply),
+        },
+        Command::Exit(name) => match script.pid(name) {
+            Some(pid) => explain_step(script, Step::End(pid), reply),
+            None => Some(Remark::EndedNone(name)),
+        },
+        Command::Ask(name, word, terms) => {
+            let call = Call::new(word, terms.into_vec());
+            match script.pid(name) {
+                Some(pid) => explain_step(script, Step::Ask(pid, call), reply),
+                None => Some(Remark::AskedOfNone(name, call)),
+            }
+        }
+        Command::Grow(table) => explain_step(script, Step::Grow(script.table(&table)), reply),
+        Command::Ready(table, bucket) => {
+            explain_step(script, Step::Ready(script.table(&table), bucket), reply)
+        }
+    }
+}
+
+/// What is to be said of a step that has this refusal.
+fn explain_step<'a, H: KeyHash + Copy + Drop>(
+    script: &Script<H>,
+    event: Step,
+    reply: &Reply,
+) -> Option<Remark<'a>>
+    ensures { (new : State) → step script.now.node event reply.now new → result ≡ step_said script.now.node event reply.now }
+{
+    let reason = why(script.node(), &event, reply)?;
+    Some(Remark::Broken(event, reason))
+}

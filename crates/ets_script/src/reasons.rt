@@ -1,0 +1,72 @@
+//! Why lines were refused, told to a second writer.
+ghost use Rattle.std.specs.Prelude.{◌≡◌, ◌+◌, ◌-◌, ◌<◌, ◌^◌, IfOk};
+
+use crate::answer::Answer;
+use crate::explain::explain;
+use crate::listener::Listener;
+use crate::output::Pending;
+use crate::script::Script;
+use ets_term::KeyHash;
+use script_reasons::Remark;
+use std::alloc::{AllocError, Global};
+use std::io::Write;
+
+/// Tells of each refused line, by its number, why it was. Once the writer has failed, nothing more is told.
+#[derive(Drop)]
+pub struct Reasons<'a, E: Write> {
+    alloc: Global,
+    writer: &'a mut E,
+    pending: Pending,
+    /// How many lines were heard of.
+    lines: u64,
+    has_failed: bool,
+}
+
+impl<'a, E: Write> Reasons<'a, E> {
+    /// No line was heard of.
+    pub fn new(alloc: Global, writer: &'a mut E) -> Result<Reasons<'a, E>, AllocError>
+        ensures { IfOk result (λ reasons. reasons.lines ≡ 0) }
+    {
+        Ok(Reasons {
+            alloc,
+            writer,
+            pending: Pending::new(alloc)?,
+            lines: 0,
+            has_failed: false,
+        })
+    }
+
+    /// The number of the line that is heard of next; the first is line 1.
+    fn next_number(&mut self) -> u64
+        ensures number { self.old.lines < 2 ^ 64 - 1 → result ≡ self.old.lines + 1 }
+        ensures lines { self.new.lines ≡ result }
+    {
+        self.lines = self.lines.saturating_add(1);
+        self.lines
+    }
+
+    /// Says what is to be said of this line.
+    fn say(&mut self, number: u64, remark: &Remark<'_>) {
+        let Ok(text) = format!(in self.alloc; "line {number}: {remark}\n") else {
+            return;
+        };
+        if !self.has_failed {
+            self.has_failed = self.pending.add(self.writer, text.as_bytes()).is_err();
+        }
+    }
+}
+
+impl<E: Write> Listener for Reasons<'_, E> {
+    fn hear<H: KeyHash + Copy + Drop>(&mut self, script: &Script<H>, line: &[u8], answer: &Answer) {
+        let number = self.next_number();
+        if let Ok(Some(remark)) = explain(script, line, answer) {
+            self.say(number, &remark);
+        }
+    }
+
+    fn tell(&mut self) {
+        if !self.has_failed {
+            self.has_failed = self.pending.flush(self.writer).is_err();
+        }
+    }
+}
