@@ -58,7 +58,7 @@ p insert(t,{[x|y]})
 p insert(t,{+1})
 p insert(t,{'a\n'})
 p insert(t,{a;b})
-p insert(t,{9223372036854775808})
+p insert(t,{170141183460469231731687303715884105728})
 p insert(t,{a
 p insert(t,'a
 p insert(t

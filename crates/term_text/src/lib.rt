@@ -12,7 +12,7 @@
 //! part of that reader's way; digits, names and blanks are taken in bulk. Laws over texts tie it to the grammar.
 //!
 //! *Limits.* A term is read at most 128 levels deep, so the descent needs little stack; a deeper one that a program made
-//! is printed too, by a walk as deep as the term. An atom has at most 255 characters, an integer 64 bits.
+//! is printed too, by a walk as deep as the term. An atom has at most 255 characters, an integer 128 bits.
 #![tactic(auto)]
 
 mod binary;
