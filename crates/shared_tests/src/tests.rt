@@ -17,7 +17,6 @@ mod joining;
 mod keeper;
 mod keeping;
 mod meeting;
-mod refused;
 mod serving;
 
 /// The call of this name, with the terms of this list.
