@@ -17,7 +17,7 @@ use std::{io, thread};
 use term_text::read_term;
 
 /// How many objects are in the bag at first, with the keys below this, and how often each client counts and writes.
-const TIMES: Integer = 100;
+const TIMES: u32 = 100;
 
 /// Lets each call go on at once.
 #[derive(Drop)]
@@ -148,7 +148,8 @@ fn fill<L: Ledger, R: Wait>(
     client: &mut Client<L>,
 ) -> Option<()> {
     for key in 0..TIMES {
-        client.ask(rt, shared, &insertion(alloc, key)?).ok()?;
+        let inserting = insertion(alloc, Integer::from(key))?;
+        client.ask(rt, shared, &inserting).ok()?;
     }
     Some(())
 }
@@ -159,10 +160,10 @@ fn with_jobs<L: Ledger>(
     clients: Vec<Client<L>>,
 ) -> Option<Vec<(Client<L>, Vec<Job>)>> {
     let mut work = Vec::with_capacity(alloc, clients.len()).ok()?;
-    let mut key = TIMES;
+    let mut key = Integer::from(TIMES);
     for client in clients {
         work.push((client, jobs(alloc, key)?)).ok()?;
-        key = key.wrapping_add(TIMES);
+        key = key.wrapping_add(Integer::from(TIMES));
     }
     Some(work)
 }
@@ -172,7 +173,7 @@ fn jobs(alloc: Global, first: Integer) -> Option<Vec<Job>> {
     for number in 0..TIMES {
         let counting = call(alloc, "update_counter", "[counts,total,1]")?;
         jobs.push(Job::Ask(counting)).ok()?;
-        let writing = insertion(alloc, first.wrapping_add(number))?;
+        let writing = insertion(alloc, first.wrapping_add(Integer::from(number)))?;
         jobs.push(Job::Ask(writing)).ok()?;
     }
     Some(jobs)
@@ -240,7 +241,7 @@ fn keys_met<L: Ledger, H: KeyHash + Copy + Drop, R: Wait>(
         let Some(key) = asked(rt, shared, client, &asking) else {
             break;
         };
-        met = met.wrapping_add(usize::from(key < TIMES));
+        met = met.wrapping_add(usize::from(key < Integer::from(TIMES)));
         asking = behind(alloc, key)?;
     }
     Some(met)

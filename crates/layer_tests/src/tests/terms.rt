@@ -219,10 +219,10 @@ fn deep_terms_are_copied(rt: HostRuntime) {
     assert!(rt; misnested(rt.alloc(), &LEVELS) == Some(None));
 }
 
-fn long_tuple(alloc: Global, count: Integer) -> Option<Term> {
+fn long_tuple(alloc: Global, count: u32) -> Option<Term> {
     let mut items = Items::new(alloc);
     for n in 0..count {
-        items.push(Term::Int(n)).ok()?;
+        items.push(Term::Int(Integer::from(n))).ok()?;
     }
     Some(Term::Tuple(items))
 }

@@ -3,9 +3,9 @@ use super::*;
 use crate::tests::forms::{atom, one, pair, triple};
 
 /// The number of the last variable.
-const LAST: Integer = 9_999;
+const LAST: u32 = 9_999;
 
-fn variable(alloc: Global, number: Integer) -> Option<Term> {
+fn variable(alloc: Global, number: u32) -> Option<Term> {
     let text = format!(in alloc; "${number}").ok()?;
     atom(alloc, text.as_str())
 }
@@ -25,7 +25,8 @@ fn many_variables(alloc: Global) -> Option<Term> {
 fn many_numbers(alloc: Global) -> Option<Term> {
     let mut numbers = Items::new(alloc);
     for n in 0..=LAST {
-        numbers.push(Term::Int(LAST.saturating_sub(n))).ok()?;
+        let number = Integer::from(LAST.saturating_sub(n));
+        numbers.push(Term::Int(number)).ok()?;
     }
     Some(Term::Tuple(numbers))
 }
@@ -68,8 +69,8 @@ fn clause(alloc: Global, key: Integer) -> Option<Term> {
 
 fn many_clauses(alloc: Global) -> Option<Term> {
     let mut clauses = Items::new(alloc);
-    for n in 0..10_000 {
-        clauses.push(clause(alloc, n)?).ok()?;
+    for n in 0..10_000u32 {
+        clauses.push(clause(alloc, Integer::from(n))?).ok()?;
     }
     Some(Term::List(clauses))
 }

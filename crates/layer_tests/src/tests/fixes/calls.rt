@@ -37,9 +37,9 @@ fn succeeds<R: Rows>(alloc: Global, table: &mut Walked<R>, key: Integer) -> Opti
 }
 
 /// Whether the calls on one key succeed for each of so many keys, while the table grows.
-fn all_succeed<R: Rows>(alloc: Global, table: &mut Walked<R>, keys: Integer) -> Option<bool> {
+fn all_succeed<R: Rows>(alloc: Global, table: &mut Walked<R>, keys: u32) -> Option<bool> {
     for key in 0..keys {
-        if !succeeds(alloc, table, key)? {
+        if !succeeds(alloc, table, Integer::from(key))? {
             return Some(false);
         }
         grow(table)?;

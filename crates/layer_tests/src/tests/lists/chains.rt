@@ -26,9 +26,9 @@ fn a_chain_may_be_empty(rt: HostRuntime) {
     assert!(rt; Chain::one(rt.alloc(), Term::Int(1)).len() == 1);
 }
 
-fn push_all(chain: &mut Chain, count: Integer) -> Result<(), AllocError> {
+fn push_all(chain: &mut Chain, count: u32) -> Result<(), AllocError> {
     for number in 0..count {
-        chain.push(Term::Int(number))?;
+        chain.push(Term::Int(Integer::from(number)))?;
     }
     Ok(())
 }

@@ -7,7 +7,7 @@ use super::*;
 const TIMES: u32 = 8;
 
 /// More keys than are put.
-const KEYS: Integer = 27;
+const KEYS: u32 = 27;
 
 fn mixed(told: u64, more: u64) -> u64 {
     told.wrapping_mul(1_000_003).wrapping_add(more)
@@ -39,7 +39,7 @@ fn told_at<R: Rows>(rows: &R, key: Integer) -> u64 {
 fn told<R: Rows>(rows: &R) -> u64 {
     let mut told = rows.len() as u64;
     for key in 0..KEYS {
-        told = mixed(told, told_at(rows, key));
+        told = mixed(told, told_at(rows, Integer::from(key)));
     }
     for bucket in 0..rows.buckets() {
         told = mixed(told, u64::from(rows.is_ready(bucket)));
@@ -88,9 +88,10 @@ fn does_again<R: Rows>(rows: &mut R, alloc: Global) -> Result<bool, AllocError> 
         let bucket = rows.least().unwrap_or(0);
         all = ready_again(rows, bucket)? && all;
     }
-    let put = Integer::from(TIMES.wrapping_mul(3));
-    all = insert_again(rows, alloc, put)? && all;
+    let put = TIMES.wrapping_mul(3);
+    all = insert_again(rows, alloc, Integer::from(put))? && all;
     for key in 0..put {
+        let key = Integer::from(key);
         all = kept_at(rows, key) == Kept::Object(key) && all;
     }
     Ok(all)

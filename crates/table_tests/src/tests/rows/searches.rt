@@ -195,12 +195,12 @@ fn readying_tells_the_eighths(rt: HostRuntime) {
 
 /// Whether searches among a thousand keys of one hash pass all of them, and no more.
 fn thousand_in_one(rows: &mut SplitRows<AllSame>, alloc: Global) -> Result<bool, AllocError> {
-    for number in 0..1000 {
-        insert(rows, alloc, number, 1)?;
+    for number in 0..1000u32 {
+        insert(rows, alloc, Integer::from(number), 1)?;
     }
     let mut all = true;
-    for number in 0..1000 {
-        all = steps_for(rows, &Term::Int(number)) <= 1002 && all;
+    for number in 0..1000u32 {
+        all = steps_for(rows, &Term::Int(Integer::from(number))) <= 1002 && all;
     }
     let missed = steps_for(rows, &Term::Int(1000));
     Ok(all && 1000 <= missed && missed <= 1002)

@@ -41,7 +41,8 @@ fn puts_three_by_three<R: Rows>(rows: &mut R, alloc: Global) -> Result<bool, All
         all = put_three(rows, alloc, three(time))? && all;
         ready_some(rows, &mut draws)?;
     }
-    for key in 0..Integer::from(TIMES.wrapping_mul(3)) {
+    for key in 0..TIMES.wrapping_mul(3) {
+        let key = Integer::from(key);
         all = kept_at(rows, key) == Kept::Object(key) && all;
     }
     Ok(all && rows.len() == 3 * TIMES as usize)

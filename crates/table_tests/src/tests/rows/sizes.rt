@@ -6,7 +6,8 @@ const SLOTS: u32 = 70_000;
 /// Whether each key from none on goes in as a new one, the buckets doubled and readied as they fill.
 fn fills<R: Rows>(rows: &mut R, alloc: Global) -> Result<bool, AllocError> {
     let mut all = true;
-    for key in 0..Integer::from(SLOTS) {
+    for key in 0..SLOTS {
+        let key = Integer::from(key);
         all = insert(rows, alloc, key, key)? == Kept::Nothing && all;
         keep_up(rows)?;
     }
@@ -29,7 +30,8 @@ fn keep_up<R: Rows>(rows: &mut R) -> Result<(), AllocError> {
 /// Whether each key has its own number, and can be given another object.
 fn changes<R: Rows>(rows: &mut R, alloc: Global) -> Result<bool, AllocError> {
     let mut all = true;
-    for key in 0..Integer::from(SLOTS) {
+    for key in 0..SLOTS {
+        let key = Integer::from(key);
         all = kept_at(rows, key) == Kept::Object(key) && all;
         all = insert(rows, alloc, key, key.wrapping_add(1))? == Kept::Object(key) && all;
     }

@@ -27,7 +27,8 @@ const SAME_KEY: Integer = 17_411_923_686_422_082_608_420_841_024_488_311_317;
 
 fn objects(alloc: Global) -> Option<Vec<Term>> {
     let mut objects = Vec::new(alloc);
-    for place in 0..10_000 {
+    for place in 0..10_000u32 {
+        let place = Integer::from(place);
         objects.push(tuple(alloc, &[place % 97, place % 10])?).ok()?;
     }
     Some(objects)

@@ -13,8 +13,9 @@ use table_ops::{Kind, Looks, Table};
 type Found = Option<(usize, usize, u64)>;
 
 fn fill<R: Rows>(alloc: Global, table: &mut Table<R>) -> Option<()> {
-    for key in 1..1_001 {
-        table.insert(&[tuple(alloc, &[key, 0])?]).ok()?;
+    for key in 1..1_001u32 {
+        let object = tuple(alloc, &[Integer::from(key), 0])?;
+        table.insert(&[object]).ok()?;
     }
     Some(())
 }
