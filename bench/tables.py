@@ -1,6 +1,7 @@
 """What programs of their own show: layers, rows, tables, whole calls, and clients in threads."""
 
 from building import Programs, erlang, layers as built_layers, rust, tables as built_tables
+from plot import Panel
 from timing import Figures, least, ratio, spread
 
 LAYERS = {
@@ -22,6 +23,7 @@ OPERATIONS = {
     "longest": "the longest insertion, its growth included, ns",
     "doubling": "a doubling of its buckets, ns",
 }
+DRAWN = {"insert": "insert", "hit": "lookup, there", "miss": "lookup, not there", "counter": "counter", "delete": "delete"}
 COUNTS = (1_000, 100_000, 1_000_000, 4_000_000)  # objects in a table
 FIELD = ("Mutex<HashMap>", "HashMap", "cds_lfht", "oneTBB")
 OURS = {"calls": "Node::step", "table": "Table<SplitRows<Fnv>>", "rows": "SplitRows<Fnv>"}
@@ -83,6 +85,13 @@ def beside_the_field(found: Figures, who: str, count: int) -> list[list[str]]:
         if ours:
             rows.append([shows, spread(ours), *(spread(peer) if peer else "" for peer in theirs), *(ratio(ours, peer) for peer in theirs)])
     return rows
+
+
+def panels(curve: dict[int, Figures], names: dict[str, str]) -> list[Panel]:
+    """A panel for each operation that has one, of each of these names that has figures."""
+    points = lambda who, operation: [(count, found[who, operation][0]) for count, found in curve.items() if (who, operation) in found]
+    lines = lambda operation: {shown: points(who, operation) for who, shown in names.items() if points(who, operation)}
+    return [Panel(title, lines(operation)) for operation, title in DRAWN.items()]
 
 
 def walks(quick: bool, programs: Programs) -> list[list[str]]:
