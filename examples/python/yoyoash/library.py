@@ -57,7 +57,7 @@ class Library:
             raise MemoryError("no memory for a store")
 
     def _take_room(self, size: int) -> None:
-        self._room = ctypes.create_string_buffer(size)
+        self._room, self._room_length = ctypes.create_string_buffer(size), size
         self._room_at, self._room_size = byref(self._room), _SIZES[size]
 
     def _is_own_thread(self) -> None:
@@ -72,8 +72,8 @@ class Library:
         text = (f"{{{name},{arguments}}}" if arguments else f"{{{name}}}").encode()
         status = self._do(self._store, pid.number, text, _SIZES[len(text)], self._room_at, self._room_size, self._length_at)
         length = self._length.value
-        if status == VALUE:
-            return self._room[:length].decode() if length <= len(self._room) else self._long_text(length)
+        if not status:
+            return self._room[:length].decode() if length <= self._room_length else self._long_text(length)
         if status == SYNTAX:
             at = min(max(length - len(name) - 2, 0), len(arguments))
             return Refused(f"** syntax {at + (len(process) + len(name) + 2 if offset is None else offset)}", self._why())
