@@ -300,6 +300,12 @@ class Reasons(unittest.TestCase):
         ran = subprocess.run([sys.executable, "-B", "-c", client], cwd=HERE, capture_output=True, text=True)
         self.assertEqual((ran.stdout, ran.stderr), ("not a set\n", "building\n"))
 
+    def test_who_takes_the_standard_error_has_it(self):
+        with Store(whys("sys.stdin.readline()\nanswer('** badarg')\nsay(1, 'no memory')"), stderr=subprocess.PIPE) as store:
+            self.assertIsNone(self.refused(store).reason)
+            self.assertEqual(store._way._program.stderr.readline(), b"line 1: no memory\n")
+            store._way._program.stderr.close()
+
     def test_four_threads_have_their_own(self):
         program = "for n, line in enumerate(sys.stdin, 1):\n answer('** badarg')\n say(n, 'lookup/2: ' + line.strip())"
         wrong = []

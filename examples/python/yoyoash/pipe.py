@@ -26,10 +26,11 @@ class Pipe:
     def __init__(self, command: Sequence[str] = COMMAND, **options):
         """Starts the program; `options` are those of subprocess.Popen. Where it is asked `--why`, its standard error is listened to,
         if that is not one of the options."""
-        if "--why" in command:
-            options.setdefault("stderr", subprocess.PIPE)
+        is_told = "--why" in command and "stderr" not in options
+        if is_told:
+            options["stderr"] = subprocess.PIPE
         self._program = subprocess.Popen(command, stdin=subprocess.PIPE, stdout=subprocess.PIPE, bufsize=0, **options)
-        self._reasons = Reasons(self._program.stderr) if self._program.stderr else None
+        self._reasons = Reasons(self._program.stderr) if is_told else None
         self._lines, self._answers = self._program.stdin, self._program.stdout
         self._lines_at = self._lines.fileno()
         # (so that lines which the program cannot take yet keep nobody from reading its answers)
