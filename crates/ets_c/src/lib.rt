@@ -3,7 +3,8 @@
 //! examples/c/ets.h declares these functions.
 //!
 //! *Guarantee.* A call on a handle does what the machine does of the call that its text spells, or is refused and changes nothing;
-//! its status, the length of its text and the text in the caller's room are those of the reply. A closed handle is told.
+//! its status, the length of its text and the text in the caller's room are those of the reply. Why it was refused is told when it is
+//! asked for. A closed handle is told.
 //!
 //! *Weakness.* What C owes, nothing checks: a handle that is moved and never copied, rooms that do not overlap, one thread for a
 //! store, and the handle alone in each call.
