@@ -46,6 +46,12 @@ int32_t ets_call(EtsStore *store, uint32_t pid, const char *text, size_t text_le
 /* Tells the reply of the last step that was done once more, into other room. */
 int32_t ets_reply(EtsStore *store, char *out, size_t room, size_t *len);
 
+/* Tells in words why the last ets_call, ets_enrol or ets_end on the handle was refused: `argument 1: no such table`, after
+   ETS_SYNTAX what stands where the text has its fault, `a full stop`, after ETS_NO_MEMORY `no memory`. It answers ETS_VALUE, with
+   the length of the words in *len and their first bytes in `out`; where nothing was refused *len is 0. ETS_UNTOLD says that there
+   was no memory for the words. No step is done, and no status changes. */
+int32_t ets_why(EtsStore *store, char *out, size_t room, size_t *len);
+
 /* Ends the store, and frees all that it has. A handle that is closed stays so. */
 void ets_close(EtsStore *store);
 

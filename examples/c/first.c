@@ -5,15 +5,20 @@
 
 static const char *const REFUSALS[] = {"", "badarg", "system_limit", "no process", "no memory", "syntax", "closed", "untold"};
 
-/* Asks a call for process 0, and prints its reply. */
+/* As much of a text as its room has. */
+static int shown(size_t len, size_t room) { return (int)(len < room ? len : room); }
+
+/* Asks a call for process 0, and prints its reply, or why it was refused. */
 static void ask(EtsStore *store, const char *call) {
-    char reply[64];
+    char reply[64], why[64];
     size_t len;
     int32_t status = ets_call(store, 0, call, strlen(call), reply, sizeof reply, &len);
-    if (status == ETS_VALUE)
-        printf("%s -> %.*s%s\n", call, (int)(len < sizeof reply ? len : sizeof reply), reply, len > sizeof reply ? ".." : "");
-    else
-        printf("%s -> ** %s\n", call, REFUSALS[status]);
+    if (status == ETS_VALUE) {
+        printf("%s -> %.*s%s\n", call, shown(len, sizeof reply), reply, len > sizeof reply ? ".." : "");
+    } else {
+        ets_why(store, why, sizeof why, &len);
+        printf("%s -> ** %s: %.*s\n", call, REFUSALS[status], shown(len, sizeof why), why);
+    }
 }
 
 int main(void) {
@@ -25,7 +30,8 @@ int main(void) {
     ask(&store, "{update_counter,prices,apple,5}");
     ask(&store, "{lookup,prices,apple}");
     ask(&store, "{lookup,shops,apple}");
-    ask(&store, "{lookup,prices");
+    ask(&store, "{lookup_element,prices,apple,0}");
+    ask(&store, "{lookup,prices,Apple}");
     ets_close(&store);
     return 0;
 }

@@ -13,11 +13,13 @@ import re
 import subprocess
 import sys
 import threading
+import time
 import types
 import unittest
 
 from yoyoash import CALLS, Atom, BadArg, Gone, LineTooLong, NoMemory, NoProcess, Pid, Process, Store, Syntax, SystemLimit, Tid, parse, spell
 from yoyoash.library import LIBRARY
+from yoyoash.pipe import COMMAND
 
 HERE = pathlib.Path(__file__).resolve().parent
 GIVEN = pathlib.Path(sys.argv[sys.argv.index("--library") + 1]) if "--library" in sys.argv else LIBRARY
@@ -123,6 +125,7 @@ class Terms(unittest.TestCase):
 
 class Calls(unittest.TestCase):
     command: list[str] = RECORDED
+    says_why = False
 
     def opened(self):
         return Store(self.command)
@@ -138,6 +141,8 @@ class Calls(unittest.TestCase):
             with self.assertRaises(BadArg) as refused:
                 ben.insert(prices, (Atom("pear"), 1))
             self.assertEqual(refused.exception.line, "ben insert('prices',{'pear',1})")
+            if self.says_why:
+                self.assertEqual(refused.exception.reason, "argument 1: the process may not write to this table")
             self.assertEqual(ben.new(Atom("x"), []), Tid(1))
             self.assertEqual(anna.lookup(prices, Atom("Golden 'Delicious'")), [])
             self.assertEqual(anna.exit(), Atom("true"))
@@ -183,9 +188,15 @@ class Programs(unittest.TestCase):
             for reason, kind in kinds.items():
                 with self.assertRaises(kind) as refused:
                     store.ask("p member(t,1)")
-                self.assertEqual(refused.exception.reason, reason)
+                self.assertEqual((refused.exception.answer, refused.exception.reason), (reason, None))
                 if kind is Syntax:
                     self.assertEqual(refused.exception.at, 7)
+
+    def test_a_fault_is_copied_whole(self):
+        with Store(says("** syntax 7")) as store, self.assertRaises(Syntax) as refused:
+            store.ask("p member(t,1)")
+        for other in [copy.deepcopy(refused.exception), pickle.loads(pickle.dumps(refused.exception))]:
+            self.assertEqual((type(other), other.line, other.at, str(other)), (Syntax, "p member(t,1)", 7, "syntax 7: p member(t,1)"))
 
     def test_a_program_that_has_ended_is_gone(self):
         with self.assertRaises(Gone), Store(says("<0.0.0>")) as store:
@@ -239,8 +250,87 @@ class Programs(unittest.TestCase):
             self.assertIsInstance(fourth, Gone)
 
 
+def whys(program):
+    """A program that says why on its standard error, by `say(number, what)`, behind `answer(what)`."""
+    defined = (
+        "import sys, time\ndef answer(what):\n print(what, flush=True)\n"
+        "def say(number, what):\n print(f'line {number}: {what}', file=sys.stderr, flush=True)\n"
+    )
+    return [sys.executable, "-c", defined + program, "--why"]
+
+
+class Reasons(unittest.TestCase):
+    def refused(self, store):
+        with self.assertRaises(BadArg) as refused:
+            store.ask("p member(t,1)")
+        return refused.exception
+
+    def test_each_line_has_its_own(self):
+        program = "for n, line in enumerate(sys.stdin, 1):\n answer('** badarg' if n % 2 else n)\n if n % 2: say(n, f'member/2: argument {n}: no')"
+        with Store(whys(program)) as store:
+            faults = [self.refused(store) if number % 2 else store.ask("p member(t,1)") for number in range(1, 10)]
+            self.assertEqual([fault.reason for fault in faults[::2]], [f"argument {number}: no" for number in range(1, 10, 2)])
+            self.assertEqual(str(faults[0]), "badarg: p member(t,1) (argument 1: no)")
+
+    def test_one_that_comes_late_is_waited_for(self):
+        with Store(whys("sys.stdin.readline()\nanswer('** badarg')\ntime.sleep(0.2)\nsay(1, 'no memory')")) as store:
+            self.assertEqual(self.refused(store).reason, "no memory")
+
+    def test_one_that_never_comes_blocks_no_answer(self):
+        with Store(whys("for line in sys.stdin: answer('** badarg')")) as store:
+            faults = [self.refused(store) for _ in range(50)]
+            began = time.monotonic()
+            self.assertEqual({fault.reason for fault in faults}, {None})
+            self.assertLess(time.monotonic() - began, 5)
+
+    def test_a_line_behind_it_ends_the_wait(self):
+        with Store(whys("for n, line in enumerate(sys.stdin, 1):\n answer('** badarg')\n if n == 2: say(2, 'byte 3: a float')")) as store:
+            first, second = self.refused(store), self.refused(store)
+            self.assertEqual((first.reason, second.reason), (None, "a float"))
+
+    def test_more_than_a_pipe_holds(self):
+        program = "for n, line in enumerate(sys.stdin, 1):\n say(n, 'member/2: argument 1: ' + 'x' * 500)\n answer('** badarg')"
+        with Store(whys(program)) as store:
+            answers = store.ask_all(["p member(t,1)"] * 2_000)
+            self.assertEqual({(type(it), it.reason) for it in answers}, {(BadArg, "argument 1: " + "x" * 500)})
+
+    def test_what_is_no_reason_goes_on(self):
+        program = "print('building', file=sys.stderr, flush=True)\nsys.stdin.readline()\nanswer('** badarg')\nsay(1, 'a/1: not a set')"
+        client = f"from yoyoash import *\nwith Store({whys(program)!r}) as store:\n try: store.ask('p a(t)')\n except BadArg as it: print(it.reason)"
+        ran = subprocess.run([sys.executable, "-B", "-c", client], cwd=HERE, capture_output=True, text=True)
+        self.assertEqual((ran.stdout, ran.stderr), ("not a set\n", "building\n"))
+
+    def test_who_takes_the_standard_error_has_it(self):
+        with Store(whys("sys.stdin.readline()\nanswer('** badarg')\nsay(1, 'no memory')"), stderr=subprocess.PIPE) as store:
+            self.assertIsNone(self.refused(store).reason)
+            self.assertEqual(store._way._program.stderr.readline(), b"line 1: no memory\n")
+            store._way._program.stderr.close()
+
+    def test_four_threads_have_their_own(self):
+        program = "for n, line in enumerate(sys.stdin, 1):\n answer('** badarg')\n say(n, 'lookup/2: ' + line.strip())"
+        wrong = []
+
+        def look(process, start):
+            for number in range(start, start + 100):
+                try:
+                    process.lookup(Atom("t"), number)
+                except BadArg as refused:
+                    if refused.reason != refused.line:
+                        wrong.append(refused)
+
+        with Store(whys(program)) as store:
+            threads = [threading.Thread(target=look, args=(Process(store, "p", Pid(0)), 1000 * start)) for start in range(4)]
+            for it in threads:
+                it.start()
+            for it in threads:
+                it.join()
+        self.assertEqual(wrong, [])
+
+
 @unittest.skipUnless(GIVEN.is_file(), f"there is no {GIVEN.name} (docs/c.md tells how to build it)")
 class InProcess(Calls):
+    says_why = True
+
     def opened(self, **limits):
         return Store.in_process(GIVEN, **limits)
 
@@ -273,6 +363,23 @@ class InProcess(Calls):
             p.insert(t, (0, list(range(10_000))))
             self.assertEqual(p.take(t, 0), [(0, list(range(10_000)))])
             self.assertEqual(p.take(t, 0), [])
+
+    def test_reasons(self):
+        calls = {
+            "p lookup(u,a)": (BadArg, "argument 1: no such table"),
+            "p lookup_element(t,a,0)": (BadArg, "argument 3: not a position of at least 1"),
+            "p insert(t,[{1},{2},{3}])": (SystemLimit, "the table would have more objects than it may"),
+            "p lookup(t,1.5)": (Syntax, "a float"),
+            "q lookup(t,a)": (NoProcess, "q was never spawned"),
+            "spawn p": (BadArg, "p was spawned before"),
+            "spawn q": (SystemLimit, "as many processes as there may be were enrolled"),
+            "exit p": (Atom, None),
+            "p lookup(t,a)": (NoProcess, "the process does not live"),
+        }
+        with self.opened(processes=1, objects=2) as store:
+            self.table(store)
+            answers = store.ask_all(list(calls))
+            self.assertEqual([(type(it), getattr(it, "reason", None)) for it in answers], list(calls.values()))
 
     def test_lines(self):
         with self.opened() as store:
@@ -326,5 +433,5 @@ if __name__ == "__main__":
         del sys.argv[at : at + 2]
     if "--program" in sys.argv:
         sys.argv.remove("--program")
-        Calls.command = [str(HERE.parents[1] / "ets_script")]
+        Calls.command, Calls.says_why = list(COMMAND), True
     unittest.main()

@@ -3,13 +3,14 @@ mod store;
 
 use store::{Refusal, Store};
 
-const CALLS: [&str; 6] = [
+const CALLS: [&str; 7] = [
     "{new,prices,[named_table]}",
     "{insert,prices,[{apple,30},{pear,40}]}",
     "{update_counter,prices,apple,5}",
     "{lookup,prices,apple}",
     "{lookup,shops,apple}",
-    "{lookup,prices",
+    "{lookup_element,prices,apple,0}",
+    "{lookup,prices,Apple}",
 ];
 
 fn main() -> Result<(), Refusal> {
@@ -18,7 +19,7 @@ fn main() -> Result<(), Refusal> {
     for call in CALLS {
         match store.ask(0, call) {
             Ok(reply) => println!("{call} -> {reply}"),
-            Err(refusal) => println!("{call} -> ** {}", format!("{refusal:?}").to_lowercase()),
+            Err(refusal) => println!("{call} -> ** {}: {}", format!("{refusal:?}").to_lowercase(), store.why()?),
         }
     }
     store.end(0)

@@ -14,6 +14,7 @@ unsafe extern "C" {
     fn ets_end(store: &mut EtsStore, pid: u32) -> i32;
     fn ets_call(store: &mut EtsStore, pid: u32, text: *const u8, text_len: usize, out: *mut u8, room: usize, len: &mut usize) -> i32;
     fn ets_reply(store: &mut EtsStore, out: *mut u8, room: usize, len: &mut usize) -> i32;
+    fn ets_why(store: &mut EtsStore, out: *mut u8, room: usize, len: &mut usize) -> i32;
     fn ets_close(store: &mut EtsStore);
 }
 
@@ -63,6 +64,14 @@ impl Store {
         }
         out.truncate(len);
         Ok(String::from_utf8(out).expect("replies are ASCII"))
+    }
+
+    /// Why the last call was refused, in words; empty where it was not.
+    pub fn why(&mut self) -> Result<String, Refusal> {
+        let (mut out, mut len) = (vec![0; 256], 0);
+        told(unsafe { ets_why(&mut self.0, out.as_mut_ptr(), out.len(), &mut len) })?;
+        out.truncate(len);
+        Ok(String::from_utf8(out).expect("words are ASCII"))
     }
 }
 

@@ -2,7 +2,7 @@
 ghost use Rattle.std.specs.Prelude.{◌≡◌, None, Some, MatchOption, is_some};
 
 use crate::held::{Held, Loose};
-use crate::store::Store;
+use node_text::Store;
 use std::alloc::Global;
 use std::mem;
 

@@ -2,10 +2,10 @@
 ghost use Rattle.std.specs.Prelude.{◌≡◌, Option, None, Some, IsSome};
 ghost use Rattle.std.specs.Coded.{coded_option};
 ghost use Rattle.std_alloc.specs.Box.Ownership.{box_owns};
-ghost use Rattle.ets_c.specs.Stored.{Stored};
-ghost use Rattle.ets_c.specs.contracts.store.Store.{the_row as store_row};
+ghost use Rattle.node_text.specs.Stored.{Stored};
+ghost use Rattle.node_text.specs.contracts.store.Store.{the_row as store_row};
 
-use crate::store::Store;
+use node_text::Store;
 use std::alloc::{Allocator, Global};
 use std::marker::Model;
 
@@ -47,7 +47,7 @@ pub struct Held {
 
 impl Model for Held {
     ghost use Rattle.ets_c.specs.Holds.{holds};
-    ghost use Rattle.ets_c.specs.contracts.store.Store.{the_row};
+    ghost use Rattle.node_text.specs.contracts.store.Store.{the_row};
 
     ghost also_owns = { λ h. holds the_row h.alloc h.at h.store };
 }

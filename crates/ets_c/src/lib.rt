@@ -3,7 +3,8 @@
 //! examples/c/ets.h declares these functions.
 //!
 //! *Guarantee.* A call on a handle does what the machine does of the call that its text spells, or is refused and changes nothing;
-//! its status, the length of its text and the text in the caller's room are those of the reply. A closed handle is told.
+//! its status, the length of its text and the text in the caller's room are those of the reply. Why it was refused is told when it is
+//! asked for. A closed handle is told.
 //!
 //! *Weakness.* What C owes, nothing checks: a handle that is moved and never copied, rooms that do not overlap, one thread for a
 //! store, and the handle alone in each call.
@@ -15,21 +16,15 @@
 
 ghost use Rattle.std.specs.Prelude.{◌≡◌, None};
 ghost use Rattle.node_core.specs.declared.step.Step.TheVariants.{Enrol, End};
-ghost use Rattle.ets_c.specs.Texts.{asked};
-ghost use Rattle.ets_c.specs.Answers.{told};
-ghost use Rattle.ets_c.specs.Calls.{Opens, Steps, StepsOf, Calls, CallsOf, TellsAgain};
+ghost use Rattle.node_text.specs.Answers.{told};
+ghost use Rattle.node_text.specs.Calls.{Opens, Steps, Calls, TellsAgain, TellsReason};
 
-mod asked;
-mod copy;
 mod handle;
 mod held;
-mod status;
-mod store;
 
 use crate::handle::EtsStore;
-use crate::status::{CLOSED, NO_MEMORY, SYNTAX, VALUE};
-use crate::store::{AskFault, Store};
 use node_core::{Limits, Step};
+use node_text::{CLOSED, NO_MEMORY, Store, VALUE};
 use std::alloc::Global;
 
 /// Gives a handle a new store with these limits: how many processes and tables ever, and how many objects in one table. A store
@@ -80,10 +75,7 @@ fn step(alloc: Global, handle: &mut EtsStore, event: &Step) -> i32
     let Some(mut store) = handle.take(alloc) else {
         return CLOSED;
     };
-    let status = match store.step(event) {
-        Ok(()) => store.status(),
-        Err(_) => NO_MEMORY,
-    };
+    let status = store.act(event);
     handle.put(store);
     status
 }
@@ -105,14 +97,7 @@ pub extern "C" fn ets_call(
     let Some(mut store) = handle.take(alloc) else {
         return CLOSED;
     };
-    let status = match store.ask(alloc, pid, text) {
-        Ok(()) => store.tell(alloc, out, len),
-        Err(AskFault::Syntax(at)) => {
-            *len = at;
-            SYNTAX
-        }
-        Err(AskFault::Memory) => NO_MEMORY,
-    };
+    let status = store.call(alloc, pid, text, out, len);
     handle.put(store);
     status
 }
@@ -133,6 +118,26 @@ pub extern "C" fn ets_reply(
         return CLOSED;
     };
     let status = store.tell(alloc, out, len);
+    handle.put(store);
+    status
+}
+
+/// Tells in words why the last call, or the last beginning or end of a process, was refused; nothing where it was not.
+#[unsafe(no_mangle)]
+pub extern "C" fn ets_why(
+    alloc: Global,
+    handle: &mut EtsStore,
+    out: &mut [u8],
+    len: &mut usize,
+) -> i32
+    ensures same { handle.new.held.store ≡ handle.old.held.store }
+    ensures tells { TellsReason handle.old.held.store (told result len.new out.old out.new) }
+{
+    *len = 0;
+    let Some(store) = handle.take(alloc) else {
+        return CLOSED;
+    };
+    let status = store.tell_why(alloc, out, len);
     handle.put(store);
     status
 }

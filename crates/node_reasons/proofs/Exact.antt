@@ -145,3 +145,13 @@ pub told-right : (s new : State) (event : Step) (reply : Reply) → step (seen s
 told-right s new event reply h =
     sym (ap (λ (r : Reason). picked r (left (seen s).world event true) reply) (left-seen s.world event false) ∙ ap (λ (r : Reason). picked (left s.world event false) r reply) (left-seen s.world event true))
     ∙ (right (seen s) new event reply h).1
+
+-- something is told exactly of a refusal
+pub told-where : (w : World) (event : Step) (reply : Reply) → is_some (told w event reply) ≡ not (is_value reply)
+told-where w event reply = by (left w event false) (left w event true) reply
+  where
+    by : (other limit : Reason) (reply : Reply) → is_some (picked other limit reply) ≡ not (is_value reply)
+    by other limit (Value term) = refl
+    by other limit Badarg = refl
+    by other limit SystemLimit = refl
+    by other limit NoProcess = refl

@@ -1,9 +1,10 @@
 // Why a step was refused.
-ghost use Rattle.std.specs.Prelude.{◌≡◌, position};
+ghost use Rattle.std.specs.Prelude.{◌≡◌, is_some, not, position};
 ghost use Rattle.ets_term.specs.Depth.{is_too_deep};
 ghost use Rattle.node_core.specs.Machine.{step};
 ghost use Rattle.node_core.specs.Seen.{seen};
 ghost use Rattle.node_core.specs.State.{State};
+ghost use Rattle.node_core.specs.rules.Replies.{is_value};
 ghost use Rattle.node_reasons.specs.Why.{why};
 ghost use Rattle.node_reasons.specs.inside.LeftCalls.{told, left, asked_left};
 
@@ -19,7 +20,8 @@ use ownership::World;
 /// argument's number; None where the reply is an answer. A refused step changes nothing, so the node is as the step
 /// found it. It takes no memory.
 pub fn why<H: KeyHash + Copy + Drop>(node: &Node<H>, event: &Step, reply: &Reply) -> Option<Reason>
-    ensures { (new : State) → step (seen node.now) event.now reply.now new → result ≡ why (seen node.now) event.now reply.now }
+    ensures exactly { is_some result ≡ not (is_value reply.now) }
+    ensures named { (new : State) → step (seen node.now) event.now reply.now new → result ≡ why (seen node.now) event.now reply.now }
 {
     explained(node, event, reply)
 }

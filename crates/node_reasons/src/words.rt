@@ -1,10 +1,15 @@
 // Reasons in words.
+ghost use Rattle.std.specs.Prelude.{◌≡◌};
+ghost use Rattle.node_reasons.specs.Words.{words_of};
+
 use crate::reason::{Reason, Rule};
 use std::fmt;
 
 impl Rule {
     /// The rule that is broken, in a few words.
-    pub fn words(&self) -> &'static str {
+    pub fn words(&self) -> &'static str
+        ensures { result.now ≡ words_of self.now }
+    {
         match self {
             Rule::NoProcess => "the process does not live",
             Rule::IsKnown => "a process with this number was enrolled before",
@@ -43,6 +48,11 @@ impl Rule {
 
 /// `argument 1: no such table`, or the words alone where the rule speaks of the step.
 impl fmt::Display for Reason {
+    ghost use Rattle.std.specs.Prelude.{Some};
+    ghost use Rattle.node_reasons.specs.Words.{reason_text};
+
+    ghost output = { λ reason. Some (reason_text reason) };
+
     fn fmt<W: fmt::Write>(&self, f: &mut fmt::Formatter<W>) -> fmt::Result {
         match self.argument {
             Some(argument) => write!(f, "argument {argument}: {}", self.rule.words()),

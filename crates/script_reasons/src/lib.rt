@@ -1,4 +1,5 @@
-//! Why a line of a script was refused, in words: the rule that its step breaks, or what stands where it has its fault.
+//! Why a line of a script, or the text of a call, was refused, in words: the rule that its step breaks, or what stands where it
+//! has its fault.
 //!
 //! *Guarantee.* None but that each call returns: what is said of a line is under the contracts of `ets_script`.
 //!
@@ -14,5 +15,5 @@ mod place;
 mod remark;
 mod words;
 
-pub use oddity::{Oddity, oddity_at};
+pub use oddity::{Oddity, oddity_at, oddity_in_call};
 pub use remark::Remark;

@@ -39,6 +39,8 @@ pub enum Oddity {
     PastRange,
     LongName,
     TooDeep,
+    /// A whole term that is no call.
+    NoCall,
     Other(u8),
 }
 
@@ -54,6 +56,25 @@ pub fn oddity_at(line: &[u8], at: usize) -> Oddity {
         [byte, behind @ ..] if wants_term(&place, before) => begun(&place, *byte, behind),
         [byte, behind @ ..] => sign(before, *byte, behind),
     }
+}
+
+/// What stands at an offset of a text that is no call as a tuple, such as `{lookup,t,a}`, where it has its fault; at 0 that
+/// mostly is a term that is none.
+pub fn oddity_in_call(text: &[u8], at: usize) -> Oddity {
+    match oddity_at(text, at) {
+        Oddity::Other(byte) if at == 0 && may_begin(byte) => Oddity::NoCall,
+        oddity => oddity,
+    }
+}
+
+/// Whether a term may begin with this byte, or with blanks.
+fn may_begin(byte: u8) -> bool {
+    is_small_byte(byte)
+        || is_digit_byte(byte)
+        || matches!(
+            byte,
+            b' ' | b'\t' | b'\n' | b'\r' | b'{' | b'[' | b'<' | b'"' | b'\'' | b'#' | b'-'
+        )
 }
 
 fn ended(place: &Place) -> Oddity {

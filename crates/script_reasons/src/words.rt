@@ -26,6 +26,7 @@ impl Oddity {
             Oddity::PastRange => "a number past its range",
             Oddity::LongName => "an atom of over 255 characters",
             Oddity::TooDeep => "over 128 levels deep",
+            Oddity::NoCall => "no tuple that begins with the name of a call",
             Oddity::Other(_) => "not expected here",
         }
     }

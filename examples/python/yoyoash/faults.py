@@ -2,13 +2,39 @@
 
 from __future__ import annotations
 
+from collections.abc import Callable
+
+
+class Refused(str):
+    """The text of an answer that is a refusal. `why` is the reason in words, or a function that has it; None where nobody says it."""
+
+    __slots__ = ("why",)
+
+    def __new__(cls, text: str, why: Callable[[], str | None] | str | None = None) -> Refused:
+        refused = super().__new__(cls, text)
+        refused.why = why
+        return refused
+
 
 class Fault(Exception):
-    """A call that was not answered. `line` is the line that was sent, `reason` what came back for it."""
+    """A call that was not answered. `line` is the line that was sent, `answer` what came back for it, and `reason` why, in words."""
 
-    def __init__(self, line: str, reason: str):
-        super().__init__(f"{reason}: {line}")
-        self.line, self.reason = line, reason
+    def __init__(self, line: str, answer: str, why: Callable[[], str | None] | str | None = None):
+        super().__init__(line, answer)
+        self.line, self.answer, self._why = line, answer, why
+
+    @property
+    def reason(self) -> str | None:
+        """Such as `argument 1: no such table`; None where nobody said it."""
+        if callable(self._why):
+            self._why = self._why()
+        return self._why
+
+    def __str__(self) -> str:
+        return f"{self.answer}: {self.line}" + (f" ({self.reason})" if self.reason else "")
+
+    def __reduce__(self):
+        return type(self), (self.line, self.answer, self.reason)
 
 
 class BadArg(Fault):
@@ -32,7 +58,7 @@ class Syntax(Fault):
 
     @property
     def at(self) -> int:
-        return int(self.reason.rpartition(" ")[2])
+        return int(self.answer.rpartition(" ")[2])
 
 
 class LineTooLong(Fault):
@@ -50,6 +76,12 @@ class Gone(Fault):
 KINDS = {"badarg": BadArg, "system_limit": SystemLimit, "noproc": NoProcess, "nomem": NoMemory, "line too long": LineTooLong, "untold": Untold}
 
 
-def fault(line: str, reason: str) -> Fault:
-    """The fault that an answer behind `** ` tells."""
-    return KINDS.get(reason, Syntax)(line, reason)
+def fault(line: str, answer: Refused) -> Fault:
+    """The fault that an answer tells: behind `** ` stands its kind."""
+    kind = answer[3:]
+    return KINDS.get(kind, Syntax)(line, kind, answer.why)
+
+
+def gone(line: str) -> Gone:
+    """The fault of a line for which no answer came."""
+    return Gone(line, "gone", "the store has ended")

@@ -9,6 +9,7 @@ from collections.abc import Sequence
 from ctypes import byref, c_bool, c_size_t, c_uint32, c_void_p
 from threading import get_ident
 
+from .faults import Refused
 from .terms import Pid, spell
 
 LIBRARY = pathlib.Path(__file__).resolve().parents[3] / "crates/ets_c/out/libets.so"
@@ -17,6 +18,13 @@ VALUE, SYNTAX = 0, 5
 # What stands in an answer for a status of ets.h that is no value; a closed store has none.
 REFUSALS = {1: "** badarg", 2: "** system_limit", 3: "** noproc", 4: "** nomem", 7: "** untold"}
 _LINE = re.compile(r"[ \t]*([a-z][A-Za-z0-9_@]*)[ \t]+([a-z][A-Za-z0-9_@]*)[ \t]*(?:\((.*)\)[ \t]*)?")
+
+
+NO_LINE = "no call, and neither spawn nor exit of a name"
+
+
+def _of_none(name: str) -> Refused:
+    return Refused("** noproc", f"{name} was never spawned")
 
 
 class _Handle(ctypes.Structure):
@@ -49,7 +57,7 @@ class Library:
             raise MemoryError("no memory for a store")
 
     def _take_room(self, size: int) -> None:
-        self._room = ctypes.create_string_buffer(size)
+        self._room, self._room_length = ctypes.create_string_buffer(size), size
         self._room_at, self._room_size = byref(self._room), _SIZES[size]
 
     def _is_own_thread(self) -> None:
@@ -64,12 +72,22 @@ class Library:
         text = (f"{{{name},{arguments}}}" if arguments else f"{{{name}}}").encode()
         status = self._do(self._store, pid.number, text, _SIZES[len(text)], self._room_at, self._room_size, self._length_at)
         length = self._length.value
-        if status == VALUE:
-            return self._room[:length].decode() if length <= len(self._room) else self._long_text(length)
+        if not status:
+            return self._room[:length].decode() if length <= self._room_length else self._long_text(length)
         if status == SYNTAX:
             at = min(max(length - len(name) - 2, 0), len(arguments))
-            return f"** syntax {at + (len(process) + len(name) + 2 if offset is None else offset)}"
-        return REFUSALS.get(status)
+            return Refused(f"** syntax {at + (len(process) + len(name) + 2 if offset is None else offset)}", self._why())
+        return self._refused(status)
+
+    def _refused(self, status: int) -> Refused | None:
+        """What a status says that is no value, and why; None where the store is closed."""
+        refusal = REFUSALS.get(status)
+        return Refused(refusal, self._why()) if refusal else None
+
+    def _why(self) -> str | None:
+        """Why the last call was refused, in words."""
+        status = self._library.ets_why(self._store, self._room_at, self._room_size, self._length_at)
+        return self._room[: self._length.value].decode() if status == VALUE else None
 
     def calls(self, process: str, pid: Pid, calls: Sequence[tuple[str, str]]) -> list[str | None]:
         """Those to its calls, each a name and its arguments."""
@@ -84,35 +102,35 @@ class Library:
         """The text of a reply for which the room was too small, told again."""
         self._take_room(length)
         status = self._library.ets_reply(self._store, self._room_at, self._room_size, self._length_at)
-        return self._room[:length].decode() if status == VALUE else REFUSALS.get(status)
+        return self._room[:length].decode() if status == VALUE else self._refused(status)
 
     def _line(self, line: str) -> str | None:
         parts = _LINE.fullmatch(line)
         if not parts:
-            return "** syntax 0"
+            return Refused("** syntax 0", NO_LINE)
         word, call, arguments = parts.groups()
         if arguments is None:
             named = {"spawn": self._spawn, "exit": self._exit}.get(word)
-            return named(call) if named else f"** syntax {len(line)}"
+            return named(call) if named else Refused(f"** syntax {len(line)}", NO_LINE)
         if word not in self._pids:
-            return "** noproc"
+            return _of_none(word)
         return self.call(word, self._pids[word], call, arguments.strip(" \t") and arguments, parts.start(3))
 
     def _spawn(self, name: str) -> str | None:
         if name in self._pids:
-            return "** badarg"
+            return Refused("** badarg", f"{name} was spawned before")
         pid = Pid(len(self._pids))
         status = self._library.ets_enrol(self._store, pid.number)
         if status != VALUE:
-            return REFUSALS.get(status)
+            return self._refused(status)
         self._pids[name] = pid
         return spell(pid)
 
     def _exit(self, name: str) -> str | None:
         if name not in self._pids:
-            return "** noproc"
+            return _of_none(name)
         status = self._library.ets_end(self._store, self._pids[name].number)
-        return "true" if status == VALUE else REFUSALS.get(status)
+        return "true" if status == VALUE else self._refused(status)
 
     def close(self) -> None:
         """Ends the store. It may be closed again."""

@@ -8,10 +8,14 @@ import select
 import subprocess
 import threading
 from collections.abc import Sequence
+from functools import partial
 
+from .faults import Refused
+from .reasons import Reasons
 from .terms import Pid
 
 PROGRAM = pathlib.Path(__file__).resolve().parents[3] / "ets_script"
+COMMAND = (str(PROGRAM), "--why")
 # So many bytes are read at once: a pipe mostly has no more.
 BLOCK = 65_536
 
@@ -19,9 +23,14 @@ BLOCK = 65_536
 class Pipe:
     """A running `ets_script`. Threads may share it, one exchange at a time."""
 
-    def __init__(self, command: Sequence[str] = (str(PROGRAM),), **options):
-        """Starts the program; `options` are those of subprocess.Popen."""
+    def __init__(self, command: Sequence[str] = COMMAND, **options):
+        """Starts the program; `options` are those of subprocess.Popen. Where it is asked `--why`, its standard error is listened to,
+        if that is not one of the options."""
+        is_told = "--why" in command and "stderr" not in options
+        if is_told:
+            options["stderr"] = subprocess.PIPE
         self._program = subprocess.Popen(command, stdin=subprocess.PIPE, stdout=subprocess.PIPE, bufsize=0, **options)
+        self._reasons = Reasons(self._program.stderr) if is_told else None
         self._lines, self._answers = self._program.stdin, self._program.stdout
         self._lines_at = self._lines.fileno()
         # (so that lines which the program cannot take yet keep nobody from reading its answers)
@@ -29,7 +38,7 @@ class Pipe:
         self._either = select.poll()
         self._either.register(self._lines, select.POLLOUT)
         self._either.register(self._answers, select.POLLIN)
-        self._is_gone, self._turn = False, threading.Lock()
+        self._sent, self._is_gone, self._turn = 0, False, threading.Lock()
 
     def call(self, process: str, pid: Pid, name: str, arguments: str) -> str | None:
         """The text of the answer to a process's call; None where the program has ended."""
@@ -51,9 +60,17 @@ class Pipe:
             # Where this is broken off, as by Ctrl-C, and where the program says more than it was asked, nobody knows whose its next
             # answer would be.
             self._is_gone = True
-            *answers, rest = self._said(lines.encode("ascii"), count).split("\n")
+            first, self._sent = self._sent + 1, self._sent + count
+            said = self._said(lines.encode("ascii"), count)
+            *answers, rest = said.split("\n")
             self._is_gone = len(answers) != count or rest != ""
+        if "** " in said:
+            answers = [self._refused(it, first + place) if it[:3] == "** " else it for place, it in enumerate(answers)]
         return answers[:count] + [None] * (count - len(answers))
+
+    def _refused(self, answer: str, number: int) -> Refused:
+        """The refusal of the line with this number."""
+        return Refused(answer, self._reasons and partial(self._reasons.of, number))
 
     def _said(self, lines: bytes, count: int) -> str:
         """Sends lines, and reads what the program says until so many answers are there, or it has ended."""
@@ -88,6 +105,8 @@ class Pipe:
             self._is_gone = True
             self._answers.close()
             self._program.wait()
+        if self._reasons:
+            self._reasons.close()
 
 
 def line_of(process: str, name: str, arguments: str) -> str:

@@ -6,9 +6,9 @@ import re
 from collections.abc import Callable, Sequence
 from typing import TYPE_CHECKING, Any
 
-from .faults import Fault, Gone, fault
+from .faults import Fault, Refused, fault, gone
 from .library import LIBRARY, Library
-from .pipe import PROGRAM, Pipe, line_of
+from .pipe import COMMAND, Pipe, line_of
 from .reading import parse
 from .terms import Pid, Term, spell_all
 
@@ -24,7 +24,7 @@ class Store:
     """A store, in a program at the other end of a pipe or in this process. A program may be used by several threads, a store in
     this process by the one that opened it."""
 
-    def __init__(self, command: Sequence[str] = (str(PROGRAM),), **options):
+    def __init__(self, command: Sequence[str] = COMMAND, **options):
         """Starts the program; `options` are those of subprocess.Popen."""
         self._way: Pipe | Library = Pipe(command, **options)
 
@@ -71,8 +71,8 @@ class Store:
 def _told(line: str, answer: str | None) -> Term | Fault:
     """What the text of an answer says; None says that none came."""
     if answer is None:
-        return Gone(line, "the store has ended")
-    return fault(line, answer[3:]) if answer[:3] == "** " else parse(answer)
+        return gone(line)
+    return fault(line, answer) if isinstance(answer, Refused) else parse(answer)
 
 
 class _Caller:

@@ -61,9 +61,11 @@ Term = Union[int, Atom, Pid, Tid, tuple, list, bytes]
 
 
 def _integer(number: int) -> str:
-    if not LEAST <= number <= GREATEST:
-        raise ValueError(f"{number} is past the range of integers")
-    return repr(number)
+    text = repr(number)
+    # (with fewer than 39 digits it is no greater than 10^38, which is in range)
+    if len(text) < 39 or LEAST <= number <= GREATEST:
+        return text
+    raise ValueError(f"{text} is past the range of integers")
 
 
 _BYTES = tuple(map(str, range(256)))

@@ -1,6 +1,10 @@
-use Rattle.std.proofs.Common.{◌∙◌}
-use Rattle.node_reasons.proofs.Exact.{told-right}
+use Rattle.std.proofs.Common.{◌∙◌, ap}
+use Rattle.std.specs.Prelude.{is_some}
+use Rattle.node_reasons.proofs.Exact.{told-right, told-where}
 use Rattle.node_reasons.proofs.refusals.why.Goals as goal
 
-pub returns : goal.returns
-returns g c new h = c.explained.ensures ∙ told-right c.args.node.now new c.args.event.now c.args.reply.now h
+pub returns-clause-exactly : goal.returns-clause-exactly
+returns-clause-exactly g c = ap is_some c.explained.ensures ∙ told-where c.args.node.now.world c.args.event.now c.args.reply.now
+
+pub returns-clause-named : goal.returns-clause-named
+returns-clause-named g c new h = c.explained.ensures ∙ told-right c.args.node.now new c.args.event.now c.args.reply.now h

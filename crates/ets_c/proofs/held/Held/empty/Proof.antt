@@ -35,7 +35,7 @@ use Rattle.std.specs.contracts.alloc.Global as heap
 use Rattle.std.proofs.alloc.Global.TheLaws as heap_laws
 use Rattle.std.specs.contracts.impls.GlobalAllocator.TheImpl.{ghosts}
 use Rattle.ets_c.proofs.Values.{both, both_tt}
-use Rattle.ets_c.specs.contracts.store.Store as store
+use Rattle.node_text.specs.contracts.store.Store as store
 use Rattle.ets_c.specs.contracts.held.Loose as loose
 use Rattle.ets_c.specs.contracts.held.Held as handle
 use Rattle.ets_c.specs.contracts.held.Held.empty as F

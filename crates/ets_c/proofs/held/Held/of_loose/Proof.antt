@@ -29,7 +29,7 @@ use Rattle.std.specs.contracts.alloc.Global as heap
 use Rattle.std.proofs.alloc.Global.TheLaws as heap_laws
 use Rattle.std.specs.contracts.impls.GlobalAllocator.TheImpl.{ghosts}
 use Rattle.ets_c.proofs.Values.{both, loose_good, loose_out, loose_in}
-use Rattle.ets_c.specs.contracts.store.Store as store
+use Rattle.node_text.specs.contracts.store.Store as store
 use Rattle.ets_c.specs.contracts.held.Loose as loose
 use Rattle.ets_c.specs.contracts.held.Held as handle
 use Rattle.ets_c.specs.contracts.held.Held.of_loose as F

@@ -1,6 +1,6 @@
 //! What a text asks.
 ghost use Rattle.std.specs.Prelude.{◌≡◌, IfOk};
-ghost use Rattle.ets_c.specs.Texts as spec;
+ghost use Rattle.node_text.specs.Texts as spec;
 
 use ets_term::{Atom, Items, Term};
 use std::alloc::{AllocError, Global};

@@ -1,6 +1,6 @@
 //! What a call of the interface answers: a number, as examples/c/ets.h names them.
 ghost use Rattle.std.specs.Prelude.{◌≡◌};
-ghost use Rattle.ets_c.specs.Answers.{status_of};
+ghost use Rattle.node_text.specs.Answers.{status_of};
 
 use node_core::Reply;
 

@@ -4,8 +4,8 @@ use Rattle.ets_term.specs.declared.term.Term.{Term, out-Term}
 use Rattle.ets_term.specs.declared.term.Term.TheOpen.{Term-F}
 use Rattle.term_text.specs.Given.{offset}
 use Rattle.term_text.specs.Reader.{Reading, goes, found, fails, reading}
-use Rattle.ets_c.specs.declared.asked.Asked.{Asked}
-use Rattle.ets_c.specs.declared.asked.Asked.TheVariants.{Call, Faulty}
+use Rattle.node_text.specs.declared.asked.Asked.{Asked}
+use Rattle.node_text.specs.declared.asked.Asked.TheVariants.{Call, Faulty}
 
 -- arguments behind a name, which is an atom
 abbrev pub named_form : List Term → Term-F Term → Asked

@@ -1,0 +1,74 @@
+-- What each call of a store does.
+use Rattle.std.specs.Prelude.{◌≡◌, ℕ, ℤ, ◌⊎◌, not, List, Option, Some, None, is_some, option_map}
+use Rattle.node_core.specs.State.{State, empty}
+use Rattle.node_core.specs.Machine.{step}
+use Rattle.node_core.specs.rules.Replies.{is_value}
+use Rattle.node_core.specs.declared.limits.Limits.{Limits}
+use Rattle.node_core.specs.declared.step.Step.{Step}
+use Rattle.node_core.specs.declared.step.Step.TheVariants.{Ask}
+use Rattle.node_core.specs.declared.step.Reply.TheVariants.{NoProcess}
+use Rattle.node_reasons.specs.Why.{why}
+use Rattle.script_reasons.specs.declared.oddity.Oddity.{Oddity}
+use Rattle.node_text.specs.Stored.{Stored, refused}
+use Rattle.node_text.specs.Texts.{asked}
+use Rattle.node_text.specs.Answers.{Told, status_of, Tells, TellsWhy, TellsNone, TellsNumber}
+use Rattle.node_text.specs.declared.asked.Asked.{Asked}
+use Rattle.node_text.specs.declared.asked.Asked.TheVariants.{Call, Faulty}
+use Rattle.node_text.specs.declared.refusal.Refusal.TheVariants.{Broken, Odd, NoMemory}
+use Rattle.node_text.specs.declared.status.TheConstants as is
+
+-- a new store by these limits, before its first step
+abbrev pub fresh : Limits → Stored
+fresh limits = record { node = empty limits; reply = NoProcess; refusal = None }
+
+-- Why a step has the reply that is kept: nothing of an answer. Of a refusal the rule that the step breaks, where the machine would
+-- refuse it so once more; a refused step changes nothing.
+pub record Explains (event : Step) (new : Stored) : Type 0 where
+  pub exactly : is_some new.refusal ≡ not (is_value new.reply)
+  pub named : (after : State) → step new.node event new.reply after → new.refusal ≡ option_map Broken (why new.node event new.reply)
+
+-- the machine's step is done, its reply is kept, and why it is one
+abbrev pub Does : Stored → Step → Stored → Type 0
+Does old event new = step old.node event new.reply new.node × Explains event new
+
+-- nothing changes but that it is kept what stands where the text has its fault
+abbrev pub Misreads : Stored → Stored → Type 0
+Misreads old new = (oddity : Oddity) × (new ≡ refused (Odd oddity) old)
+
+-- a step is done; or there is no memory for it, and nothing else changes
+abbrev pub StepsOf : Step → ℤ → Stored → Stored → Type 0
+StepsOf event status old new = (Does old event new × (status ≡ status_of new.reply)) ⊎ ((status ≡ is.NO_MEMORY) × (new ≡ refused NoMemory old))
+
+-- A call is done, and its reply is told; or there is no memory for it, and nothing else changes. A text that is none changes nothing
+-- else, and the offset of its first fault is told in place of a length.
+abbrev pub CallsOf : Asked → ℕ → Told → Stored → Stored → Type 0
+CallsOf (Call name args) pid t old new =
+    (Does old (Ask pid (record { name = name; args = args })) new × Tells new.reply t) ⊎ ((new ≡ refused NoMemory old) × TellsNone is.NO_MEMORY t)
+CallsOf (Faulty at) pid t old new = (Misreads old new × TellsNumber is.SYNTAX at t) ⊎ ((new ≡ refused NoMemory old) × TellsNone is.NO_MEMORY t)
+
+-- What is said of the store of a handle before and after, where it has one; a handle that is closed stays so, and is told.
+abbrev pub OnStore : Type 0 → (Stored → Stored → Type 0) → Option Stored → Option Stored → Type 0
+OnStore closed rule None new = (new ≡ None) × closed
+OnStore closed rule (Some old) new = (stored : Stored) × (new ≡ Some stored) × rule old stored
+
+-- a handle gets a new store, or keeps what it has where there is no memory
+abbrev pub Opens : Limits → Option Stored → ℤ → Option Stored → Type 0
+Opens limits old status new = ((status ≡ is.VALUE) × (new ≡ Some (fresh limits))) ⊎ ((status ≡ is.NO_MEMORY) × (new ≡ old))
+
+-- a step on a handle
+abbrev pub Steps : Option Stored → Step → ℤ → Option Stored → Type 0
+Steps old event status new = OnStore (status ≡ is.CLOSED) (StepsOf event status) old new
+
+-- the call of a text on a handle
+abbrev pub Calls : Option Stored → ℕ → List ℕ → Option Stored → Told → Type 0
+Calls old pid text new t = OnStore (TellsNone is.CLOSED t) (CallsOf (asked text) pid t) old new
+
+-- the last reply is told again
+abbrev pub TellsAgain : Option Stored → Told → Type 0
+TellsAgain None = TellsNone is.CLOSED
+TellsAgain (Some stored) = Tells stored.reply
+
+-- why the last call was refused is told
+abbrev pub TellsReason : Option Stored → Told → Type 0
+TellsReason None = TellsNone is.CLOSED
+TellsReason (Some stored) = TellsWhy stored.refusal

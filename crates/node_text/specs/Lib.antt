@@ -1,0 +1,6 @@
+pub mod Stored
+pub mod Texts
+pub mod Answers
+pub mod Calls
+pub mod Printed
+pub mod inside

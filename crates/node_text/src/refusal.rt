@@ -1,0 +1,60 @@
+//! Why a call was refused.
+ghost use Rattle.std.specs.Prelude.{◌≡◌, not, is_some, option_map, IfOk, IfSome, string_bytes};
+ghost use Rattle.node_core.specs.Machine.{step};
+ghost use Rattle.node_core.specs.Seen.{seen};
+ghost use Rattle.node_core.specs.State.{State};
+ghost use Rattle.node_core.specs.rules.Replies.{is_value};
+ghost use Rattle.node_reasons.specs.Why.{why};
+ghost use Rattle.node_text.specs.Answers.{refusal_text};
+ghost use Rattle.node_text.specs.declared.refusal.Refusal.TheVariants.{Broken};
+
+use ets_term::Fnv;
+use node_core::{Node, Reply, Step};
+use node_reasons::{Reason, why};
+use script_reasons::Oddity;
+use std::alloc::{AllocError, Global};
+use std::fmt;
+
+/// Why a call was refused.
+#[derive(Clone, Copy, Debug, PartialEq, Eq)]
+pub enum Refusal {
+    /// Its step breaks this rule.
+    Broken(Reason),
+    /// Its text is no call, and this stands where that has its first fault.
+    Odd(Oddity),
+    /// There was no memory.
+    NoMemory,
+}
+
+impl Refusal {
+    /// Why a step has this reply, which a node gave that stands so since. It takes no memory.
+    pub(crate) fn of(node: &Node<Fnv>, event: &Step, reply: &Reply) -> Option<Refusal>
+        ensures exactly { is_some result ≡ not (is_value reply.now) }
+        ensures named { (new : State) → step (seen node.now) event.now reply.now new → result ≡ option_map Broken (why (seen node.now) event.now reply.now) }
+    {
+        match why(node, event, reply) {
+            Some(reason) => Some(Refusal::Broken(reason)),
+            None => None,
+        }
+    }
+
+    /// It in words.
+    pub(crate) fn text(&self, alloc: Global) -> Result<String, AllocError>
+        ensures { IfOk result (λ text. IfSome (refusal_text self.now) (λ words. string_bytes text ≡ words)) }
+    {
+        format!(in alloc; "{self}")
+    }
+}
+
+/// `argument 1: no such table`, `a full stop` or `no memory`.
+impl fmt::Display for Refusal {
+    ghost output = { refusal_text };
+
+    fn fmt<W: fmt::Write>(&self, f: &mut fmt::Formatter<W>) -> fmt::Result {
+        match self {
+            Refusal::Broken(reason) => write!(f, "{reason}"),
+            Refusal::Odd(oddity) => write!(f, "{oddity}"),
+            Refusal::NoMemory => write!(f, "no memory"),
+        }
+    }
+}
