@@ -56,108 +56,13 @@ Either test one other reply new = MatchBool test (one reply new) (other reply ne
 abbrev pub Where : {X : Type 0} → Option X → State → (X → Outcome) → Outcome
 Where o old outcome reply new = MatchOption o (gives Badarg old reply new) (λ x. outcome x reply new)
 
-world-flat : {X : Type 0} (answer : X → Reply) → ((x : X) → is_flat (answer x) ≡ true) → (r : Result X WorldFault) (reply : Reply) → IsWorldReply answer r reply → is_flat reply ≡ true
+world-flat : {X : Type 0} (answer : X → Reply) → ((x : X) → is_flat (answer x) ≡ true)
+    → (r : Result X WorldFault) (reply : Reply) → IsWorldReply answer r reply → is_flat reply ≡ true
 world-flat answer flat (Ok x) reply e = ap is_flat e ∙ flat x
 world-flat answer flat (Err fault.Badarg) reply e = ap is_flat e
 world-flat answer flat (Err fault.SystemLimit) reply e = ap is_flat e
 world-flat answer flat (Err fault.NoProcess) reply e = ap is_flat e
 world-flat answer flat (Err fault.Memory) reply e = absurd e
-
--- ---- forms of calls
-module _ (own : ℕ → Bool) (needs : Bool) (old : State) where
-  abbrev pub Lawful : Outcome → Outcome → Type 0
-  Lawful outcome unseen = IsLawfulCall own needs old outcome unseen
-
-  same-stands : (answer : Reply) → Stands own needs old answer old
-  same-stands answer = record { limits = refl; moves = moves-same own old.world; quiet = λ n. inr refl }
-
-  gives-lawful : (answer : Reply) (after unseen : State) → seen after ≡ unseen → Stands own needs old answer after → Lawful (gives answer after) (gives answer unseen)
-  gives-lawful answer after unseen same stands = record {
-    seen = λ reply new h. (h.0, ap seen h.1 ∙ same);
-    stands = λ reply new h. subst₂ (Stands own needs old) (sym h.0) (sym h.1) stands;
-  }
-
-  -- a call that changes nothing
-  pub tells-lawful : (answer : Reply) → Lawful (gives answer old) (gives answer (seen old))
-  tells-lawful answer = gives-lawful answer old (seen old) refl (same-stands answer)
-
-  -- one that tells the same of what is seen
-  pub tells-as : (answer other : Reply) → other ≡ answer → Lawful (gives answer old) (gives other (seen old))
-  tells-as answer other same = subst (λ (r : Reply). Lawful (gives answer old) (gives r (seen old))) (sym same) (tells-lawful answer)
-
-  pub either-lawful : (test : Bool) {one other one' other' : Outcome} → (test ≡ true → Lawful one one') → Lawful other other' → Lawful (Either test one other) (Either test one' other')
-  either-lawful true a b = a refl
-  either-lawful false a b = b
-
-  where-lawful : {X : Type 0} (o : Option X) {outcome unseen : X → Outcome} → ((x : X) → Lawful (outcome x) (unseen x)) → Lawful (Where o old outcome) (Where o (seen old) unseen)
-  where-lawful None lawful = tells-lawful Badarg
-  where-lawful (Some x) lawful = lawful x
-
-  -- the table that was found, and that without its buckets
-  found-lawful : (o : Option (ℕ × Table)) (outcome unseen : ℕ × Table → Outcome) → ((found : ℕ × Table) → o ≡ Some found → Lawful (outcome found) (unseen (seen_found found)))
-      → Lawful (Where o old outcome) (Where (option_map seen_found o) (seen old) unseen)
-  found-lawful None outcome unseen lawful = tells-lawful Badarg
-  found-lawful (Some found) outcome unseen lawful = lawful found refl
-
-  usable-lawful : (access : Access) (p : ℕ) (term : Term) (outcome unseen : ℕ × Table → Outcome)
-      → ((found : ℕ × Table) → usable access old.world.tables p term ≡ Some found → Lawful (outcome found) (unseen (seen_found found)))
-      → Lawful (Where (usable access old.world.tables p term) old outcome) (Where (usable access (seen_tables old.world.tables) p term) (seen old) unseen)
-  usable-lawful access p term outcome unseen lawful =
-      subst (λ (o : Option (ℕ × Table)). Lawful (Where (usable access old.world.tables p term) old outcome) (Where o (seen old) unseen)) (sym (usable-seen access old.world.tables p term))
-      (found-lawful (usable access old.world.tables p term) outcome unseen lawful)
-
-  -- the identifier that a term names, told to what follows
-  resolved-lawful : (term : Term) (outcome unseen : ℕ → Outcome) → ((t : ℕ) → Lawful (outcome t) (unseen t))
-      → Lawful (Where (resolve old.world.tables term) old outcome) (Where (resolve (seen_tables old.world.tables) term) (seen old) unseen)
-  resolved-lawful term outcome unseen lawful =
-      subst (λ (o : Option ℕ). Lawful (Where (resolve old.world.tables term) old outcome) (Where o (seen old) unseen)) (sym (resolve-seen old.world.tables term))
-      (where-lawful (resolve old.world.tables term) lawful)
-
-  -- a call that reads a table changes nothing
-  pub reads-lawful : (p : ℕ) (term : Term) (answer : Fixed → Reply) → ((f : Fixed) → answer (seen_fixed f) ≡ answer f) → Lawful (reads old p term answer) (reads (seen old) p term answer)
-  reads-lawful p term answer same =
-      usable-lawful Read p term (λ found. gives (answer found.1.fixed) old) (λ found. gives (answer found.1.fixed) (seen old)) (λ found there.
-      tells-as (answer found.1.fixed) (answer (seen_fixed found.1.fixed)) (same found.1.fixed))
-
-  abbrev Leaves : State → Rule → ℕ × Table → Outcome
-  Leaves s rule found reply new = (fixed : Fixed) × rule found.1.fixed reply fixed × (new ≡ with_table s found.0 fixed)
-
-  leaves-lawful : (rule : Rule) (found : ℕ × Table) → IsLawful own needs rule → table_at old.world.tables found.0 ≡ Some found.1 → Lawful (Leaves old rule found) (Leaves (seen old) rule (seen_found found))
-  leaves-lawful rule found lawful at = record {
-    seen = λ reply new h. (seen_fixed h.0, lawful.unseen found.1.fixed h.0 reply h.1, ap seen h.2 ∙ sym (with_table-seen old found.0 h.0));
-    stands = λ reply new h. subst (λ (s : State). Stands own needs old reply s) (sym h.2) (record {
-      limits = refl;
-      moves = record { most = refl; known = same.known; tables = follows-fixed own old.world.tables found.0 h.0 (λ was here. tame_at reply h.0 h.1 was here) };
-      quiet = λ n. inl (lawful.flat n found.1.fixed h.0 reply h.1);
-    });
-  }
-    where
-      same : Moves own old.world old.world
-      same = moves-same own old.world
-
-      tame_at : (reply : Reply) (f : Fixed) → rule found.1.fixed reply f → (was : Table) → table_at old.world.tables found.0 ≡ Some was → IsTame own was.fixed f
-      tame_at reply f h was here =
-          let e : Some found.1 ≡ Some was = sym at ∙ here in
-          let is : found.1 ≡ was = cc in
-          subst (λ (table : Table). IsTame own table.fixed f) is (lawful.tame found.1.fixed f reply h)
-
-  -- one that changes it by a rule
-  pub changes-lawful : (p : ℕ) (access : Access) (term : Term) {rule : Rule} → IsLawful own needs rule → Lawful (changes old p access term rule) (changes (seen old) p access term rule)
-  changes-lawful p access term {rule = rule} lawful =
-      usable-lawful access p term (Leaves old rule) (Leaves (seen old) rule) (λ found there.
-      leaves-lawful rule found lawful (usable-there old.world.tables access p term found there).at)
-
-  -- one on processes, heads and names
-  pub asks-lawful : {X : Type 0} (answer : X → Reply) {outcome unseen : world.Outcome X} → (needs ≡ false → (x : X) → is_flat (answer x) ≡ true) → IsLawfulOutcome (Moves own old.world) X outcome unseen
-      → Lawful (asks old answer outcome) (asks (seen old) answer unseen)
-  asks-lawful answer flat lawful = record {
-    seen = λ reply new h. (h.0, lawful.seen h.0 new.world h.1, h.2, ap seen h.3);
-    stands = λ reply new h. record {
-      limits = ap (λ (s : State). s.limits) h.3;
-      moves = lawful.keeps h.0 new.world h.1;
-      quiet = λ n. inl (world-flat answer (flat n) h.0 reply h.2);
-    };
-  }
 
 -- ---- what `info` and `whereis` tell
 abbrev wheres : State → List ℕ → Reply
@@ -175,90 +80,225 @@ item-seen item.Kind t table = refl
 item-seen item.Keypos t table = refl
 item-seen item.Fixed t table = refl
 
-told-of : (i : InfoItem) (t : ℕ) (o : Option Table) → option_map_or (λ table. Some (info_of i t table)) (option_map seen_table o) None ≡ option_map_or (λ table. Some (info_of i t table)) o None
+told-of : (i : InfoItem) (t : ℕ) (o : Option Table)
+    → option_map_or (λ table. Some (info_of i t table)) (option_map seen_table o) None ≡ option_map_or (λ table. Some (info_of i t table)) o None
 told-of i t None = refl
 told-of i t (Some table) = ap Some (item-seen i t table)
 
-told-seen : (w : World) (i : InfoItem) (o : Option ℕ) → option_and_then (told_of i (seen_world w)) o ≡ option_and_then (told_of i w) o
+told-seen : (w : World) (i : InfoItem) (o : Option ℕ)
+    → option_and_then (told_of i (seen_world w)) o ≡ option_and_then (told_of i w) o
 told-seen w i None = refl
-told-seen w i (Some t) = ap (λ o. option_map_or (λ table. Some (info_of i t table)) o None) (at-seen w.tables t) ∙ told-of i t (table_at w.tables t)
+told-seen w i (Some t) =
+    ap (λ o. option_map_or (λ table. Some (info_of i t table)) o None) (at-seen w.tables t)
+    ∙ told-of i t (table_at w.tables t)
 
 abbrev informs : State → Term → InfoItem → Reply
 informs s term i = told_or_undefined (option_and_then (told_of i s.world) (resolve s.world.tables term))
 
 informs-seen : (s : State) (term : Term) (i : InfoItem) → informs (seen s) term i ≡ informs s term i
-informs-seen s term i = ap (λ o. told_or_undefined (option_and_then (told_of i (seen_world s.world)) o)) (resolve-seen s.world.tables term) ∙ ap told_or_undefined (told-seen s.world i (resolve s.world.tables term))
+informs-seen s term i =
+    ap (λ o. told_or_undefined (option_and_then (told_of i (seen_world s.world)) o)) (resolve-seen s.world.tables term)
+    ∙ ap told_or_undefined (told-seen s.world i (resolve s.world.tables term))
 
--- ---- the calls that do not read or change one table's objects
-module _ (p : ℕ) (needs : Bool) (old : State) where
-  abbrev own : ℕ → Bool
-  own w = p == w
+-- ---- forms of calls
+module _ (own : ℕ → Bool) (needs : Bool) (old : State) where
+  abbrev pub Lawful : Outcome → Outcome → Type 0
+  Lawful outcome unseen = IsLawfulCall own needs old outcome unseen
 
-  abbrev Laws : Outcome → Outcome → Type 0
-  Laws outcome unseen = IsLawfulCall own needs old outcome unseen
+  same-stands : (answer : Reply) → Stands own needs old answer old
+  same-stands answer = record { limits = refl; moves = moves-same own old.world; quiet = λ n. inr refl }
 
+  gives-lawful : (answer : Reply) (after unseen : State) → seen after ≡ unseen → Stands own needs old answer after
+      → Lawful (gives answer after) (gives answer unseen)
+  gives-lawful answer after unseen same stands = record {
+    seen = λ reply new h. (h.0, ap seen h.1 ∙ same);
+    stands = λ reply new h. subst₂ (Stands own needs old) (sym h.0) (sym h.1) stands;
+  }
+
+  -- a call that changes nothing
+  pub tells-lawful : (answer : Reply) → Lawful (gives answer old) (gives answer (seen old))
+  tells-lawful answer = gives-lawful answer old (seen old) refl (same-stands answer)
+
+  -- one that tells the same of what is seen
+  pub tells-as : (answer other : Reply) → other ≡ answer → Lawful (gives answer old) (gives other (seen old))
+  tells-as answer other same =
+      subst (λ (r : Reply). Lawful (gives answer old) (gives r (seen old))) (sym same) (tells-lawful answer)
+
+  pub either-lawful : (test : Bool) {one other one' other' : Outcome} → (test ≡ true → Lawful one one')
+      → Lawful other other' → Lawful (Either test one other) (Either test one' other')
+  either-lawful true a b = a refl
+  either-lawful false a b = b
+
+  where-lawful : {X : Type 0} (o : Option X) {outcome unseen : X → Outcome} → ((x : X) → Lawful (outcome x) (unseen x))
+      → Lawful (Where o old outcome) (Where o (seen old) unseen)
+  where-lawful None lawful = tells-lawful Badarg
+  where-lawful (Some x) lawful = lawful x
+
+  -- the table that was found, and that without its buckets
+  found-lawful : (o : Option (ℕ × Table)) (outcome unseen : ℕ × Table → Outcome)
+      → ((found : ℕ × Table) → o ≡ Some found → Lawful (outcome found) (unseen (seen_found found)))
+      → Lawful (Where o old outcome) (Where (option_map seen_found o) (seen old) unseen)
+  found-lawful None outcome unseen lawful = tells-lawful Badarg
+  found-lawful (Some found) outcome unseen lawful = lawful found refl
+
+  usable-lawful : (access : Access) (p : ℕ) (term : Term) (outcome unseen : ℕ × Table → Outcome)
+      → ((found : ℕ × Table) → usable access old.world.tables p term ≡ Some found
+      → Lawful (outcome found) (unseen (seen_found found)))
+      → Lawful (Where (usable access old.world.tables p term) old outcome)
+      (Where (usable access (seen_tables old.world.tables) p term) (seen old) unseen)
+  usable-lawful access p term outcome unseen lawful =
+      subst (λ o. Lawful (Where (usable access old.world.tables p term) old outcome) (Where o (seen old) unseen))
+      (sym (usable-seen access old.world.tables p term))
+      (found-lawful (usable access old.world.tables p term) outcome unseen lawful)
+
+  -- the identifier that a term names, told to what follows
+  resolved-lawful : (term : Term) {outcome unseen : ℕ → Outcome} → ((t : ℕ) → Lawful (outcome t) (unseen t))
+      → Lawful (Where (resolve old.world.tables term) old outcome)
+      (Where (resolve (seen_tables old.world.tables) term) (seen old) unseen)
+  resolved-lawful term {outcome = outcome} {unseen = unseen} lawful =
+      subst (λ o. Lawful (Where (resolve old.world.tables term) old outcome) (Where o (seen old) unseen))
+      (sym (resolve-seen old.world.tables term))
+      (where-lawful (resolve old.world.tables term) lawful)
+
+  -- a call that reads a table changes nothing
+  pub reads-lawful : (p : ℕ) (term : Term) (answer : Fixed → Reply) → ((f : Fixed) → answer (seen_fixed f) ≡ answer f)
+      → Lawful (reads old p term answer) (reads (seen old) p term answer)
+  reads-lawful p term answer same =
+      usable-lawful Read p term (λ found. gives (answer found.1.fixed) old) (λ found. gives (answer found.1.fixed) (seen old)) (λ found there.
+      tells-as (answer found.1.fixed) (answer (seen_fixed found.1.fixed)) (same found.1.fixed))
+
+  abbrev Leaves : State → Rule → ℕ × Table → Outcome
+  Leaves s rule found reply new = (fixed : Fixed) × rule found.1.fixed reply fixed × (new ≡ with_table s found.0 fixed)
+
+  leaves-lawful : (rule : Rule) (found : ℕ × Table) → IsLawful own needs rule
+      → table_at old.world.tables found.0 ≡ Some found.1
+      → Lawful (Leaves old rule found) (Leaves (seen old) rule (seen_found found))
+  leaves-lawful rule found lawful at = record {
+    seen =
+        λ reply new h. (seen_fixed h.0, lawful.unseen found.1.fixed h.0 reply h.1, ap seen h.2 ∙ sym (with_table-seen old found.0 h.0));
+    stands = λ reply new h. subst (λ (s : State). Stands own needs old reply s) (sym h.2) (record {
+      limits = refl;
+      moves =
+          record { most = refl; known = same.known; tables = follows-fixed own old.world.tables found.0 h.0 (λ was here. tame_at reply h.0 h.1 was here) };
+      quiet = λ n. inl (lawful.flat n found.1.fixed h.0 reply h.1);
+    });
+  }
+    where
+      same : Moves own old.world old.world
+      same = moves-same own old.world
+
+      tame_at : (reply : Reply) (f : Fixed) → rule found.1.fixed reply f → (was : Table)
+          → table_at old.world.tables found.0 ≡ Some was → IsTame own was.fixed f
+      tame_at reply f h was here =
+          let e : Some found.1 ≡ Some was = sym at ∙ here in
+          let is : found.1 ≡ was = cc in
+          subst (λ (table : Table). IsTame own table.fixed f) is (lawful.tame found.1.fixed f reply h)
+
+  -- one that changes it by a rule
+  pub changes-lawful : (p : ℕ) (access : Access) (term : Term) {rule : Rule} → IsLawful own needs rule
+      → Lawful (changes old p access term rule) (changes (seen old) p access term rule)
+  changes-lawful p access term {rule = rule} lawful =
+      usable-lawful access p term (Leaves old rule) (Leaves (seen old) rule) (λ found there.
+      leaves-lawful rule found lawful (usable-there old.world.tables access p term found there).at)
+
+  -- one on processes, heads and names
+  pub asks-lawful : {X : Type 0} (answer : X → Reply) {outcome unseen : world.Outcome X}
+      → (needs ≡ false → (x : X) → is_flat (answer x) ≡ true) → IsLawfulOutcome (Moves own old.world) X outcome unseen
+      → Lawful (asks old answer outcome) (asks (seen old) answer unseen)
+  asks-lawful answer flat lawful = record {
+    seen = λ reply new h. (h.0, lawful.seen h.0 new.world h.1, h.2, ap seen h.3);
+    stands = λ reply new h. record {
+      limits = ap (λ (s : State). s.limits) h.3;
+      moves = lawful.keeps h.0 new.world h.1;
+      quiet = λ n. inl (world-flat answer (flat n) h.0 reply h.2);
+    };
+  }
+
+  -- ---- the calls that do not read or change one table's objects
   still : Moves own old.world old.world
   still = moves-same own old.world
 
-  abbrev makes : State → List ℕ → NewOptions → List Bool → Outcome
-  makes s text options buckets = asks s Value (tables.New s.world p text options (new_table_of s.limits.objects options buckets))
+  module _ (p : ℕ) where
+    abbrev makes : State → List ℕ → NewOptions → List Bool → Outcome
+    makes s text options buckets =
+        asks s Value (tables.New s.world p text options (new_table_of s.limits.objects options buckets))
 
-  abbrev Makes : State → List ℕ → NewOptions → Outcome
-  Makes s text options reply new = (buckets : List Bool) × IsFresh buckets × makes s text options buckets reply new
+    abbrev Makes : State → List ℕ → NewOptions → Outcome
+    Makes s text options reply new = (buckets : List Bool) × IsFresh buckets × makes s text options buckets reply new
 
-  makes-lawful : needs ≡ true → (text : List ℕ) (options : NewOptions) → Laws (Makes old text options) (Makes (seen old) text options)
-  makes-lawful needed text options = record {
-    seen = λ reply new h. ([], inl refl, (at h.0 h.1).seen reply new h.2);
-    stands = λ reply new h. (at h.0 h.1).stands reply new h.2;
-  }
-    where
-      at : (buckets : List Bool) → IsFresh buckets → Laws (makes old text options buckets) (makes (seen old) text options [])
-      at buckets fresh =
-          asks-lawful own needs old Value (λ n. contrary needed n)
-          (new-lawful (Moves own old.world) old.world still p text options (new_table_of old.limits.objects options buckets)
-          (new-moves own old.world p text options (new_table_of old.limits.objects options buckets) refl fresh))
+    makes-lawful : needs ≡ true → (text : List ℕ) (options : NewOptions)
+        → Lawful (Makes old text options) (Makes (seen old) text options)
+    makes-lawful needed text options = record {
+      seen = λ reply new h. ([], inl refl, (at h.0 h.1).seen reply new h.2);
+      stands = λ reply new h. (at h.0 h.1).stands reply new h.2;
+    }
+      where
+        at : (buckets : List Bool) → IsFresh buckets
+            → Lawful (makes old text options buckets) (makes (seen old) text options [])
+        at buckets fresh =
+            let fixed = new_table_of old.limits.objects options buckets in
+            asks-lawful Value (λ n. contrary needed n)
+            (new-lawful (Moves own old.world) old.world still p text options fixed
+            (new-moves own old.world p text options fixed refl fresh))
 
-  pub new_call-lawful : needs ≡ true → (name options : Term) → Laws (New old p name options) (New (seen old) p name options)
-  new_call-lawful needed name options =
-      where-lawful own needs old (text_of name) (λ text.
-      where-lawful own needs old (options_of options) (λ options.
-      makes-lawful needed text options))
+    pub new_call-lawful : needs ≡ true → (name options : Term)
+        → Lawful (New old p name options) (New (seen old) p name options)
+    new_call-lawful needed name options =
+        where-lawful (text_of name) (λ text.
+        where-lawful (options_of options) (λ options.
+        makes-lawful needed text options))
 
-  pub delete_table-lawful : (term : Term) → Laws (DeleteTable old p term) (DeleteTable (seen old) p term)
-  delete_table-lawful term =
-      usable-lawful own needs old Write p term (λ found. gives true_reply (record old { world = without_table old.world found.0 })) (λ found. gives true_reply (record (seen old) { world = without_table (seen old).world found.0 })) (λ found there.
-      gives-lawful own needs old true_reply (record old { world = without_table old.world found.0 }) (record (seen old) { world = without_table (seen old).world found.0 })
-      (ap (λ ts. record old { world = record old.world { tables = ts } }) (sym (set-seen old.world.tables found.0 None)))
-      (record { limits = refl; moves = gone-moves own old.world found.0; quiet = λ n. inl true-flat }))
+    abbrev gone : State → ℕ → State
+    gone s t = record s { world = without_table s.world t }
 
-  pub give_away-lawful : (term pid gift : Term) → Laws (GiveAway old p term pid gift) (GiveAway (seen old) p term pid gift)
-  give_away-lawful term pid gift =
-      resolved-lawful own needs old term (λ t. Where (pid_form (out-Term pid)) old (λ q. asks old (λ _. true_reply) (tables.GiveAway old.world p t q gift)))
-      (λ t. Where (pid_form (out-Term pid)) (seen old) (λ q. asks (seen old) (λ _. true_reply) (tables.GiveAway (seen_world old.world) p t q gift))) (λ t.
-      where-lawful own needs old (pid_form (out-Term pid)) (λ q.
-      asks-lawful own needs old (λ _. true_reply) (λ n x. true-flat) (give-lawful (Moves own old.world) old.world still p t q gift (give-moves own old.world p t q gift))))
+    pub delete_table-lawful : (term : Term) → Lawful (DeleteTable old p term) (DeleteTable (seen old) p term)
+    delete_table-lawful term =
+        usable-lawful Write p term (λ found. gives true_reply (gone old found.0))
+        (λ found. gives true_reply (gone (seen old) found.0)) (λ found there.
+        gives-lawful true_reply (gone old found.0) (gone (seen old) found.0)
+        (ap (λ ts. record old { world = record old.world { tables = ts } }) (sym (set-seen old.world.tables found.0 None)))
+        (record { limits = refl; moves = gone-moves own old.world found.0; quiet = λ n. inl true-flat }))
 
-  pub set_options_call-lawful : (term options : Term) → Laws (SetOptions old p term options) (SetOptions (seen old) p term options)
-  set_options_call-lawful term options =
-      resolved-lawful own needs old term (λ t. asks old (λ _. true_reply) (tables.SetOptions old.world p t options)) (λ t. asks (seen old) (λ _. true_reply) (tables.SetOptions (seen_world old.world) p t options)) (λ t.
-      asks-lawful own needs old (λ _. true_reply) (λ n x. true-flat) (set_options-lawful (Moves own old.world) old.world still p t options (heir-moves own old.world t)))
+    pub give_away-lawful : (term pid gift : Term)
+        → Lawful (GiveAway old p term pid gift) (GiveAway (seen old) p term pid gift)
+    give_away-lawful term pid gift =
+        resolved-lawful term (λ t.
+        where-lawful (pid_form (out-Term pid)) (λ q.
+        asks-lawful (λ _. true_reply) (λ n x. true-flat)
+        (give-lawful (Moves own old.world) old.world still p t q gift (give-moves own old.world p t q gift))))
 
-  pub receive-lawful : needs ≡ true → Laws (Receive old p) (Receive (seen old) p)
-  receive-lawful needed = gives-lawful own needs old _ _ _ refl (record { limits = refl; moves = receive-moves own old.world p; quiet = λ n. contrary needed n })
+    pub set_options_call-lawful : (term options : Term)
+        → Lawful (SetOptions old p term options) (SetOptions (seen old) p term options)
+    set_options_call-lawful term options =
+        resolved-lawful term (λ t.
+        asks-lawful (λ _. true_reply) (λ n x. true-flat)
+        (set_options-lawful (Moves own old.world) old.world still p t options (heir-moves own old.world t)))
 
-  pub whereis-lawful : (name : Term) → Laws (Whereis old name) (Whereis (seen old) name)
+    pub receive-lawful : needs ≡ true → Lawful (Receive old p) (Receive (seen old) p)
+    receive-lawful needed =
+        gives-lawful _ _ _ refl (record { limits = refl; moves = receive-moves own old.world p; quiet = λ n. contrary needed n })
+
+  pub whereis-lawful : (name : Term) → Lawful (Whereis old name) (Whereis (seen old) name)
   whereis-lawful name =
-      where-lawful own needs old (text_of name) (λ text.
-      tells-as own needs old (wheres old text) (wheres (seen old) text) (ap (λ o. told_or_undefined (option_map_or (λ t. Some (Tid t)) o None)) (whereis-seen old.world.tables text)))
+      where-lawful (text_of name) (λ text.
+      tells-as (wheres old text) (wheres (seen old) text)
+      (ap (λ o. told_or_undefined (option_map_or (λ t. Some (Tid t)) o None)) (whereis-seen old.world.tables text)))
 
-  pub info-lawful : (term item : Term) → Laws (Info old term item) (Info (seen old) term item)
+  pub info-lawful : (term item : Term) → Lawful (Info old term item) (Info (seen old) term item)
   info-lawful term item =
-      where-lawful own needs old (item_of item) (λ i.
-      either-lawful own needs old (names_form (out-Term term)) (λ _. tells-as own needs old (informs old term i) (informs (seen old) term i) (informs-seen old term i)) (
-      tells-lawful own needs old Badarg))
+      where-lawful (item_of item) (λ i.
+      either-lawful (names_form (out-Term term))
+      (λ _. tells-as (informs old term i) (informs (seen old) term i) (informs-seen old term i)) (
+      tells-lawful Badarg))
 
-  pub fixtable-lawful : (term flag : Term) → Laws (SafeFixtable old p term flag) (SafeFixtable (seen old) p term flag)
-  fixtable-lawful term flag =
-      either-lawful own needs old (is_atom (codes "true") flag) (λ _. changes-lawful own needs old p Read term (fixes-lawful p needs)) (
-      either-lawful own needs old (is_atom (codes "false") flag) (λ _. changes-lawful own needs old p Read term (releases-lawful p needs)) (
-      tells-lawful own needs old Badarg))
+pub fixtable-lawful : (p : ℕ) (needs : Bool) (old : State) (term flag : Term)
+    → IsLawfulCall (λ w. p == w) needs old (SafeFixtable old p term flag) (SafeFixtable (seen old) p term flag)
+fixtable-lawful p needs old term flag =
+    either-lawful own needs old (is_atom (codes "true") flag)
+    (λ _. changes-lawful own needs old p Read term (fixes-lawful p needs)) (
+    either-lawful own needs old (is_atom (codes "false") flag)
+    (λ _. changes-lawful own needs old p Read term (releases-lawful p needs)) (
+    tells-lawful own needs old Badarg))
+  where
+    own : ℕ → Bool
+    own w = p == w

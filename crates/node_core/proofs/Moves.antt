@@ -18,28 +18,34 @@ pub record Enters (old : Tables) (t : ℕ) (table : Table) : Type 0 where
   pub free : table.head.named ≡ true → whereis old table.head.name ≡ None
 
 -- ---- where tables are found after one place is written, one is added, or all are mapped
-pub set-at : (ts : Tables) (place t : ℕ) (o : Option Table) (table : Table) → table_at (slice_set ts place o) t ≡ Some table → (table_at ts t ≡ Some table) ⊎ ((t ≡ place) × (o ≡ Some table))
+pub set-at : (ts : Tables) (place t : ℕ) (o : Option Table) (table : Table)
+    → table_at (slice_set ts place o) t ≡ Some table → (table_at ts t ≡ Some table) ⊎ ((t ≡ place) × (o ≡ Some table))
 set-at [] place t o table at = inl at
 set-at (x ∷ xs) zero zero o table at = inr (refl, at)
 set-at (x ∷ xs) zero (suc t) o table at = inl at
 set-at (x ∷ xs) (suc place) zero o table at = inl at
 set-at (x ∷ xs) (suc place) (suc t) o table at = up (set-at xs place t o table at)
   where
-    up : (table_at xs t ≡ Some table) ⊎ ((t ≡ place) × (o ≡ Some table)) → (table_at xs t ≡ Some table) ⊎ ((suc t ≡ suc place) × (o ≡ Some table))
+    up : (table_at xs t ≡ Some table) ⊎ ((t ≡ place) × (o ≡ Some table))
+        → (table_at xs t ≡ Some table) ⊎ ((suc t ≡ suc place) × (o ≡ Some table))
     up (inl h) = inl h
     up (inr h) = inr (ap suc h.0, h.1)
 
-pub push-at : (ts : Tables) (t : ℕ) (new table : Table) → table_at (ts ++ Some new ∷ []) t ≡ Some table → (table_at ts t ≡ Some table) ⊎ ((t ≡ length ts) × (table_at ts t ≡ None) × (new ≡ table))
+pub push-at : (ts : Tables) (t : ℕ) (new table : Table) → table_at (ts ++ Some new ∷ []) t ≡ Some table
+    → (table_at ts t ≡ Some table) ⊎ ((t ≡ length ts) × (table_at ts t ≡ None) × (new ≡ table))
 push-at [] zero new table at = inr (refl, refl, (cc))
 push-at [] (suc t) new table at = cc
 push-at (x ∷ xs) zero new table at = inl at
 push-at (x ∷ xs) (suc t) new table at = up (push-at xs t new table at)
   where
-    up : (table_at xs t ≡ Some table) ⊎ ((t ≡ length xs) × (table_at xs t ≡ None) × (new ≡ table)) → (table_at xs t ≡ Some table) ⊎ ((suc t ≡ suc (length xs)) × (table_at xs t ≡ None) × (new ≡ table))
+    up : (table_at xs t ≡ Some table) ⊎ ((t ≡ length xs) × (table_at xs t ≡ None) × (new ≡ table))
+        → (table_at xs t ≡ Some table) ⊎ ((suc t ≡ suc (length xs)) × (table_at xs t ≡ None) × (new ≡ table))
     up (inl h) = inl h
     up (inr h) = inr (ap suc h.0, h.1, h.2)
 
-pub map-at : (change : Option Table → Option Table) → change None ≡ None → (ts : Tables) (t : ℕ) (table : Table) → table_at (map change ts) t ≡ Some table → (was : Table) × (table_at ts t ≡ Some was) × (change (Some was) ≡ Some table)
+pub map-at : (change : Option Table → Option Table) → change None ≡ None → (ts : Tables) (t : ℕ) (table : Table)
+    → table_at (map change ts) t ≡ Some table
+    → (was : Table) × (table_at ts t ≡ Some was) × (change (Some was) ≡ Some table)
 map-at change none [] t table at = cc
 map-at change none (None ∷ xs) zero table at = let e : None ≡ Some table = sym none ∙ at in cc
 map-at change none (Some was ∷ xs) zero table at = (was, refl, at)
@@ -69,7 +75,8 @@ module _ (own : ℕ → Bool) where
   pub stays-same : (table : Table) → Stays table table
   stays-same table = record { name = refl; named = refl; fixed = tame-same own table.fixed table.fixed refl }
 
-  stayed : (old : Tables) (t : ℕ) (was table : Table) → table_at old t ≡ Some was → Stays was table → Came old t (table_at old t) table
+  stayed : (old : Tables) (t : ℕ) (was table : Table) → table_at old t ≡ Some was → Stays was table
+      → Came old t (table_at old t) table
   stayed old t was table at stays = subst (λ (o : Option Table). Came old t o table) (sym at) stays
 
   module _ (ts : Tables) where
@@ -81,44 +88,60 @@ module _ (own : ℕ → Bool) where
     Written before o = (table : Table) → o ≡ Some table → (was : Table) × (before ≡ Some was) × Stays was table
 
     follows-set : (place : ℕ) (o : Option Table) → Written (table_at ts place) o → Follows ts (slice_set ts place o)
-    follows-set place o written = record { long = let e = length-set ts place o in omega (arith, e); came = λ t table at. by t table (set-at ts place t o table at) }
+    follows-set place o written =
+        record { long = let e = length-set ts place o in omega (arith, e); came = λ t table at. by t table (set-at ts place t o table at) }
       where
-        by : (t : ℕ) (table : Table) → (table_at ts t ≡ Some table) ⊎ ((t ≡ place) × (o ≡ Some table)) → Came ts t (table_at ts t) table
+        by : (t : ℕ) (table : Table) → (table_at ts t ≡ Some table) ⊎ ((t ≡ place) × (o ≡ Some table))
+            → Came ts t (table_at ts t) table
         by t table (inl same) = stayed ts t table table same (stays-same table)
-        by t table (inr here) = let w = written table here.1 in stayed ts t w.0 table (ap (table_at ts) here.0 ∙ w.1) w.2
+        by t table (inr here) =
+            let w = written table here.1 in stayed ts t w.0 table (ap (table_at ts) here.0 ∙ w.1) w.2
 
     pub follows-gone : (place : ℕ) → Follows ts (slice_set ts place None)
     follows-gone place = follows-set place None (λ table e. cc)
 
-    fixed-written : (before : Option Table) (f : Fixed) → ((was : Table) → before ≡ Some was → IsTame own was.fixed f) → Written before (fixed_in before f)
+    fixed-written : (before : Option Table) (f : Fixed) → ((was : Table) → before ≡ Some was → IsTame own was.fixed f)
+        → Written before (fixed_in before f)
     fixed-written None f tame table e = cc
     fixed-written (Some was) f tame table e =
         let is : record was { fixed = f } ≡ table = cc in
         (was, refl, subst (Stays was) is (record { name = refl; named = refl; fixed = tame was refl }))
 
-    pub follows-fixed : (place : ℕ) (f : Fixed) → ((was : Table) → table_at ts place ≡ Some was → IsTame own was.fixed f) → Follows ts (with_fixed ts place f)
-    follows-fixed place f tame = follows-set place (fixed_in (table_at ts place) f) (fixed-written (table_at ts place) f tame)
+    pub follows-fixed : (place : ℕ) (f : Fixed)
+        → ((was : Table) → table_at ts place ≡ Some was → IsTame own was.fixed f) → Follows ts (with_fixed ts place f)
+    follows-fixed place f tame =
+        follows-set place (fixed_in (table_at ts place) f) (fixed-written (table_at ts place) f tame)
 
-    change-written : (change : Table → Table) → ((table : Table) → Stays table (change table)) → (before : Option Table) → Written before (option_map change before)
+    change-written : (change : Table → Table) → ((table : Table) → Stays table (change table)) → (before : Option Table)
+        → Written before (option_map change before)
     change-written change stays None table e = cc
-    change-written change stays (Some was) table e = let is : change was ≡ table = cc in (was, refl, subst (Stays was) is (stays was))
+    change-written change stays (Some was) table e =
+        let is : change was ≡ table = cc in (was, refl, subst (Stays was) is (stays was))
 
-    pub follows-changed : (change : Table → Table) → ((table : Table) → Stays table (change table)) → (place : ℕ) → Follows ts (changed change ts place)
-    follows-changed change stays place = follows-set place (option_map change (table_at ts place)) (change-written change stays (table_at ts place))
+    pub follows-changed : (change : Table → Table) → ((table : Table) → Stays table (change table)) → (place : ℕ)
+        → Follows ts (changed change ts place)
+    follows-changed change stays place =
+        follows-set place (option_map change (table_at ts place)) (change-written change stays (table_at ts place))
 
-    pub follows-push : (new : Table) → new.fixed.content.slots ≡ [] → IsFresh new.fixed.buckets → (new.head.named ≡ true → whereis ts new.head.name ≡ None) → Follows ts (ts ++ Some new ∷ [])
-    follows-push new bare fresh free = record { long = let e = length-append ts (Some new ∷ []) in omega (arith, e); came = λ t table at. by t table (push-at ts t new table at) }
+    pub follows-push : (new : Table) → new.fixed.content.slots ≡ [] → IsFresh new.fixed.buckets
+        → (new.head.named ≡ true → whereis ts new.head.name ≡ None) → Follows ts (ts ++ Some new ∷ [])
+    follows-push new bare fresh free =
+        record { long = let e = length-append ts (Some new ∷ []) in omega (arith, e); came = λ t table at. by t table (push-at ts t new table at) }
       where
-        by : (t : ℕ) (table : Table) → (table_at ts t ≡ Some table) ⊎ ((t ≡ length ts) × (table_at ts t ≡ None) × (new ≡ table)) → Came ts t (table_at ts t) table
+        by : (t : ℕ) (table : Table)
+            → (table_at ts t ≡ Some table) ⊎ ((t ≡ length ts) × (table_at ts t ≡ None) × (new ≡ table))
+            → Came ts t (table_at ts t) table
         by t table (inl same) = stayed ts t table table same (stays-same table)
         by t table (inr more) =
             subst (λ (o : Option Table). Came ts t o table) (sym more.1) (
             subst (Enters ts t) more.2 (record { place = more.0; bare = bare; fresh = fresh; free = free }))
 
-    pub follows-map : (change : Option Table → Option Table) → change None ≡ None → ((was table : Table) → change (Some was) ≡ Some table → Stays was table) → Follows ts (map change ts)
+    pub follows-map : (change : Option Table → Option Table) → change None ≡ None
+        → ((was table : Table) → change (Some was) ≡ Some table → Stays was table) → Follows ts (map change ts)
     follows-map change none stays = record {
       long = let e = length-map ts change in omega (arith, e);
-      came = λ t table at. let was = map-at change none ts t table at in stayed ts t was.0 table was.1 (stays was.0 table was.2);
+      came =
+          λ t table at. let was = map-at change none ts t table at in stayed ts t was.0 table was.1 (stays was.0 table was.2);
     }
 
   -- ---- the world

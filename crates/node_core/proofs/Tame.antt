@@ -24,12 +24,16 @@ same-number : (q : ℕ) → eq_by_cmp nat_cmp q q ≡ true
 same-number q = grind (arith, nat_tests)
 
 other-count : (m : FixCounts) (q w n : ℕ) → (q == w) ≡ false → fix_count (with_count m q n) w ≡ fix_count m w
-other-count m q w zero h = ap (λ o. unwrap_or o 0) (get-remove nat_cmp_total m q w ∙ ap (λ (b : Bool). cond b None (get m w)) (apart q w h))
-other-count m q w (suc n) h = ap (λ o. unwrap_or o 0) (get-insert nat_cmp_total m q (suc n) w ∙ ap (λ (b : Bool). cond b (Some (suc n)) (get m w)) (apart q w h))
+other-count m q w zero h =
+    ap (λ o. unwrap_or o 0) (get-remove nat_cmp_total m q w ∙ ap (λ (b : Bool). cond b None (get m w)) (apart q w h))
+other-count m q w (suc n) h =
+    ap (λ o. unwrap_or o 0) (get-insert nat_cmp_total m q (suc n) w ∙ ap (λ (b : Bool). cond b (Some (suc n)) (get m w)) (apart q w h))
 
 pub own-count : (m : FixCounts) (q n : ℕ) → fix_count (with_count m q n) q ≡ n
-own-count m q zero = ap (λ o. unwrap_or o 0) (get-remove nat_cmp_total m q q ∙ ap (λ (b : Bool). cond b None (get m q)) (same-number q))
-own-count m q (suc n) = ap (λ o. unwrap_or o 0) (get-insert nat_cmp_total m q (suc n) q ∙ ap (λ (b : Bool). cond b (Some (suc n)) (get m q)) (same-number q))
+own-count m q zero =
+    ap (λ o. unwrap_or o 0) (get-remove nat_cmp_total m q q ∙ ap (λ (b : Bool). cond b None (get m q)) (same-number q))
+own-count m q (suc n) =
+    ap (λ o. unwrap_or o 0) (get-insert nat_cmp_total m q (suc n) q ∙ ap (λ (b : Bool). cond b (Some (suc n)) (get m q)) (same-number q))
 
 -- ---- what is kept by a change that these processes make
 pub record IsTame (own : ℕ → Bool) (old new : Fixed) : Type 0 where
@@ -40,8 +44,10 @@ pub record IsTame (own : ℕ → Bool) (old new : Fixed) : Type 0 where
 
 module _ (own : ℕ → Bool) (old new : Fixed) where
   -- a change of the content alone
-  pub tame-content : new ≡ record old { content = new.content } → KeepsKeys old new → StaysFree old.content.slots new.content.slots → IsTame own old new
-  tame-content e keys ends = record { buckets = ap (λ (f : Fixed). f.buckets) e; keys = keys; ends = ends; fixes = λ w other. ap (λ (f : Fixed). fix_count f.fixes w) e }
+  pub tame-content : new ≡ record old { content = new.content } → KeepsKeys old new
+      → StaysFree old.content.slots new.content.slots → IsTame own old new
+  tame-content e keys ends =
+      record { buckets = ap (λ (f : Fixed). f.buckets) e; keys = keys; ends = ends; fixes = λ w other. ap (λ (f : Fixed). fix_count f.fixes w) e }
 
   pub tame-same : new ≡ old → IsTame own old new
   tame-same e = record {
@@ -52,7 +58,8 @@ module _ (own : ℕ → Bool) (old new : Fixed) where
   }
 
 pub tame-without : (own : ℕ → Bool) (which : Which) (old : Fixed) → IsTame own old (without which old)
-tame-without own which old = tame-content own old (without which old) refl (delete-keeps which old) (dropped-free (is_fixed old.fixes) which old.content.slots)
+tame-without own which old =
+    tame-content own old (without which old) refl (delete-keeps which old) (dropped-free (is_fixed old.fixes) which old.content.slots)
 
 -- ---- held slots go once nobody fixes the table
 abbrev without_held : Fixed → Fixed
@@ -71,27 +78,33 @@ module _ (table : Fixed) where
   settled-seen = either-seen (is_fixed table.fixes) table (without_held table)
 
   settled-buckets : (settled table).buckets ≡ table.buckets
-  settled-buckets = either-has (λ f. f.buckets ≡ table.buckets) (is_fixed table.fixes) table (without_held table) refl refl
+  settled-buckets =
+      either-has (λ f. f.buckets ≡ table.buckets) (is_fixed table.fixes) table (without_held table) refl refl
 
   pub settled-fixes : (settled table).fixes ≡ table.fixes
   settled-fixes = either-has (λ f. f.fixes ≡ table.fixes) (is_fixed table.fixes) table (without_held table) refl refl
 
   settled-free : StaysFree table.content.slots (settled table).content.slots
-  settled-free = either-has (λ f. StaysFree table.content.slots f.content.slots) (is_fixed table.fixes) table (without_held table) (λ free. free) (purged-free table.content.slots)
+  settled-free =
+      either-has (λ f. StaysFree table.content.slots f.content.slots) (is_fixed table.fixes) table (without_held table) (λ free. free) (purged-free table.content.slots)
 
 -- ---- a process fixes and releases the table
 module _ (p : ℕ) where
-  pub fixes-seen : (old new : Fixed) (r : Result (Unit {0}) FixFault) → FixesOnce p old r new → FixesOnce p (seen_fixed old) r (seen_fixed new)
+  pub fixes-seen : (old new : Fixed) (r : Result (Unit {0}) FixFault) → FixesOnce p old r new
+      → FixesOnce p (seen_fixed old) r (seen_fixed new)
   fixes-seen old new (Ok x) h = (h.0, ap seen_fixed h.1)
   fixes-seen old new (Err fault.SystemLimit) h = (h.0, ap seen_fixed h.1)
   fixes-seen old new (Err fault.Memory) h = (h.0, ap seen_fixed h.1)
 
-  pub fixes-tame : (old new : Fixed) (r : Result (Unit {0}) FixFault) → FixesOnce p old r new → IsTame (λ w. p == w) old new
+  pub fixes-tame : (old new : Fixed) (r : Result (Unit {0}) FixFault) → FixesOnce p old r new
+      → IsTame (λ w. p == w) old new
   fixes-tame old new (Ok x) h = record {
     buckets = ap (λ (f : Fixed). f.buckets) h.1;
     keys = fix-keeps p old new (Ok x) h;
     ends = unchanged-free old.content new.content (ap (λ (f : Fixed). f.content) h.1);
-    fixes = λ w other. ap (λ (f : Fixed). fix_count f.fixes w) h.1 ∙ other-count old.fixes p w (fix_count old.fixes p + 1) other;
+    fixes =
+        λ w other. ap (λ (f : Fixed). fix_count f.fixes w) h.1
+        ∙ other-count old.fixes p w (fix_count old.fixes p + 1) other;
   }
   fixes-tame old new (Err fault.SystemLimit) h = tame-same (λ w. p == w) old new h.1
   fixes-tame old new (Err fault.Memory) h = tame-same (λ w. p == w) old new h.1
@@ -106,7 +119,9 @@ module _ (p : ℕ) where
       buckets = settled-buckets (with_fixes n);
       keys = keys;
       ends = settled-free (with_fixes n);
-      fixes = λ w other. ap (λ (m : FixCounts). fix_count m w) (settled-fixes (with_fixes n)) ∙ other-count old.fixes p w n other;
+      fixes =
+          λ w other. ap (λ (m : FixCounts). fix_count m w) (settled-fixes (with_fixes n))
+          ∙ other-count old.fixes p w n other;
     }
 
     pub released-seen : released p (seen_fixed old) ≡ seen_fixed (released p old)

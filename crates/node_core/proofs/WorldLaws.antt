@@ -30,7 +30,8 @@ pub record IsLawfulOutcome (P : World → Type 0) (X : Type 0) (outcome unseen :
 
 -- a table that was given away, in the world without what stands over it
 abbrev pub given : World → ℕ → ℕ → ℕ → Term → Head → World
-given w p t q gift head = record w { processes = post w.processes q (transfer head t p gift); tables = changed (passed_to q) w.tables t }
+given w p t q gift head =
+    record w { processes = post w.processes q (transfer head t p gift); tables = changed (passed_to q) w.tables t }
 
 -- one whose heir was set
 abbrev pub heir_set : World → ℕ → Option Heir → World
@@ -41,34 +42,43 @@ module _ (P : World → Type 0) (old : World) (same : P old) where
   Lawful X outcome unseen = IsLawfulOutcome P X outcome unseen
 
   refused-lawful : {X : Type 0} (fault : WorldFault) → Lawful X (refused fault old) (refused fault (seen_world old))
-  refused-lawful fault = record { seen = λ r new h. (h.0, ap seen_world h.1); keeps = λ r new h. subst P (sym h.1) same }
+  refused-lawful fault =
+      record { seen = λ r new h. (h.0, ap seen_world h.1); keeps = λ r new h. subst P (sym h.1) same }
 
-  gives-lawful : {X : Type 0} (answer : X) (after unseen : World) → seen_world after ≡ unseen → P after → Lawful X (gives answer after) (gives answer unseen)
-  gives-lawful answer after unseen e keeps = record { seen = λ r new h. (h.0, ap seen_world h.1 ∙ e); keeps = λ r new h. subst P (sym h.1) keeps }
+  gives-lawful : {X : Type 0} (answer : X) (after unseen : World) → seen_world after ≡ unseen → P after
+      → Lawful X (gives answer after) (gives answer unseen)
+  gives-lawful answer after unseen e keeps =
+      record { seen = λ r new h. (h.0, ap seen_world h.1 ∙ e); keeps = λ r new h. subst P (sym h.1) keeps }
 
-  refuse-lawful : {X : Type 0} (test : Bool) (fault : WorldFault) {otherwise unseen : Outcome X} → (test ≡ false → Lawful X otherwise unseen) → Lawful X (refuse old test fault otherwise) (refuse (seen_world old) test fault unseen)
+  refuse-lawful : {X : Type 0} (test : Bool) (fault : WorldFault) {otherwise unseen : Outcome X}
+      → (test ≡ false → Lawful X otherwise unseen)
+      → Lawful X (refuse old test fault otherwise) (refuse (seen_world old) test fault unseen)
   refuse-lawful true fault lawful = refused-lawful fault
   refuse-lawful false fault lawful = lawful refl
 
   abbrev Where : {X Y : Type 0} → World → Option Y → (Y → Outcome X) → Outcome X
   Where w o outcome r new = MatchOption o (refused Badarg w r new) (λ y. outcome y r new)
 
-  where-lawful : {X Y : Type 0} (o : Option Y) {outcome unseen : Y → Outcome X} → ((y : Y) → Lawful X (outcome y) (unseen y)) → Lawful X (Where old o outcome) (Where (seen_world old) o unseen)
+  where-lawful : {X Y : Type 0} (o : Option Y) {outcome unseen : Y → Outcome X}
+      → ((y : Y) → Lawful X (outcome y) (unseen y)) → Lawful X (Where old o outcome) (Where (seen_world old) o unseen)
   where-lawful None lawful = refused-lawful Badarg
   where-lawful (Some y) lawful = lawful y
 
-  table-lawful : {X : Type 0} (o : Option Table) (outcome unseen : Table → Outcome X) → ((table : Table) → Lawful X (outcome table) (unseen (seen_table table)))
+  table-lawful : {X : Type 0} (o : Option Table) (outcome unseen : Table → Outcome X)
+      → ((table : Table) → Lawful X (outcome table) (unseen (seen_table table)))
       → Lawful X (Where old o outcome) (Where (seen_world old) (option_map seen_table o) unseen)
   table-lawful None outcome unseen lawful = refused-lawful Badarg
   table-lawful (Some table) outcome unseen lawful = lawful table
 
-  place-lawful : {X : Type 0} (t : ℕ) (outcome unseen : Table → Outcome X) → ((table : Table) → Lawful X (outcome table) (unseen (seen_table table)))
+  place-lawful : {X : Type 0} (t : ℕ) (outcome unseen : Table → Outcome X)
+      → ((table : Table) → Lawful X (outcome table) (unseen (seen_table table)))
       → Lawful X (Where old (table_at old.tables t) outcome) (Where (seen_world old) (table_at (seen_tables old.tables) t) unseen)
   place-lawful {X = X} t outcome unseen lawful =
       subst (λ (o : Option Table). Lawful X (Where old (table_at old.tables t) outcome) (Where (seen_world old) o unseen)) (sym (at-seen old.tables t)) (table-lawful (table_at old.tables t) outcome unseen lawful)
 
   -- ---- processes enter
-  pub enrol-lawful : (p : ℕ) → P (after_enrol old p) → Lawful (Unit {0}) (tables.Enrol old p) (tables.Enrol (seen_world old) p)
+  pub enrol-lawful : (p : ℕ) → P (after_enrol old p)
+      → Lawful (Unit {0}) (tables.Enrol old p) (tables.Enrol (seen_world old) p)
   enrol-lawful p after =
       refuse-lawful (is_some (process_at old.processes p)) Badarg (λ fresh.
       refuse-lawful (nat_le old.most_processes (length old.processes)) SystemLimit (λ room.
@@ -82,7 +92,8 @@ module _ (P : World → Type 0) (old : World) (same : P old) where
         refuse w (nat_le w.most_tables count) SystemLimit (
         gives (told options.named name count) (with_table w (new_head p name options) fixed)))
 
-    made : (fixed : Fixed) → ((options.named && is_some (whereis old.tables name)) ≡ false → P (with_table old (new_head p name options) fixed))
+    made : (fixed : Fixed)
+        → ((options.named && is_some (whereis old.tables name)) ≡ false → P (with_table old (new_head p name options) fixed))
         → Lawful Term (Makes old (whereis old.tables name) (length old.tables) fixed) (Makes (seen_world old) (whereis old.tables name) (length old.tables) (seen_fixed fixed))
     made fixed after =
         refuse-lawful (options.named && is_some (whereis old.tables name)) Badarg (λ fresh.
@@ -90,7 +101,8 @@ module _ (P : World → Type 0) (old : World) (same : P old) where
         gives-lawful (told options.named name (length old.tables)) (with_table old (new_head p name options) fixed) (with_table (seen_world old) (new_head p name options) (seen_fixed fixed))
         (ap (λ ts. record old { tables = ts }) (sym (push-seen old.tables (record { head = new_head p name options; fixed = fixed })))) (after fresh)))
 
-    pub new-lawful : (fixed : Fixed) → ((options.named && is_some (whereis old.tables name)) ≡ false → P (with_table old (new_head p name options) fixed))
+    pub new-lawful : (fixed : Fixed)
+        → ((options.named && is_some (whereis old.tables name)) ≡ false → P (with_table old (new_head p name options) fixed))
         → Lawful Term (tables.New old p name options fixed) (tables.New (seen_world old) p name options (seen_fixed fixed))
     new-lawful fixed after =
         subst₂ (λ (found : Option ℕ) (count : ℕ). Lawful Term (tables.New old p name options fixed) (Makes (seen_world old) found count (seen_fixed fixed)))
@@ -106,7 +118,8 @@ module _ (P : World → Type 0) (old : World) (same : P old) where
           refuse w (not (lives w.processes q)) Badarg (
           gives tt (given w p t q gift head))))
 
-      gives-to : (head : Head) → P (given old p t q gift head) → Lawful (Unit {0}) (Gives old head) (Gives (seen_world old) head)
+      gives-to : (head : Head) → P (given old p t q gift head)
+          → Lawful (Unit {0}) (Gives old head) (Gives (seen_world old) head)
       gives-to head after =
           refuse-lawful (not (owned_by head p)) Badarg (λ its.
           refuse-lawful (q == p) Badarg (λ another.
@@ -114,8 +127,10 @@ module _ (P : World → Type 0) (old : World) (same : P old) where
           gives-lawful tt (given old p t q gift head) (given (seen_world old) p t q gift head)
           (ap (λ ts. record old { processes = post old.processes q (transfer head t p gift); tables = ts }) (sym (changed-seen (passed_to q) (λ table. refl) old.tables t))) after)))
 
-      pub give-lawful : ((head : Head) → P (given old p t q gift head)) → Lawful (Unit {0}) (tables.GiveAway old p t q gift) (tables.GiveAway (seen_world old) p t q gift)
-      give-lawful after = place-lawful t (λ table. Gives old table.head) (λ table. Gives (seen_world old) table.head) (λ table. gives-to table.head (after table.head))
+      pub give-lawful : ((head : Head) → P (given old p t q gift head))
+          → Lawful (Unit {0}) (tables.GiveAway old p t q gift) (tables.GiveAway (seen_world old) p t q gift)
+      give-lawful after =
+          place-lawful t (λ table. Gives old table.head) (λ table. Gives (seen_world old) table.head) (λ table. gives-to table.head (after table.head))
 
     module _ (options : Term) (after : (heir : Option Heir) → P (heir_set old t heir)) where
       abbrev Sets : World → Head → Outcome (Unit {0})
@@ -131,10 +146,12 @@ module _ (P : World → Type 0) (old : World) (same : P old) where
           (ap (λ ts. record old { tables = ts }) (sym (changed-seen (with_heir heir) (λ table. refl) old.tables t))) (after heir)))
 
       pub set_options-lawful : Lawful (Unit {0}) (tables.SetOptions old p t options) (tables.SetOptions (seen_world old) p t options)
-      set_options-lawful = place-lawful t (λ table. Sets old table.head) (λ table. Sets (seen_world old) table.head) (λ table. sets table.head)
+      set_options-lawful =
+          place-lawful t (λ table. Sets old table.head) (λ table. Sets (seen_world old) table.head) (λ table. sets table.head)
 
   -- want of memory changes nothing
-  pub comes-keep : {X : Type 0} {unseen : Outcome X} (outcome : Outcome X) → Lawful X outcome unseen → (r : Result X WorldFault) (new : World) → Comes outcome old r new → P new
+  pub comes-keep : {X : Type 0} {unseen : Outcome X} (outcome : Outcome X) → Lawful X outcome unseen
+      → (r : Result X WorldFault) (new : World) → Comes outcome old r new → P new
   comes-keep outcome lawful (Ok x) new h = lawful.keeps (Ok x) new h
   comes-keep outcome lawful (Err Badarg) new h = lawful.keeps (Err Badarg) new h
   comes-keep outcome lawful (Err SystemLimit) new h = lawful.keeps (Err SystemLimit) new h
@@ -146,7 +163,8 @@ module _ (processes : Processes) (p : ℕ) where
   let_go-seen : (table : Table) → let_go p (seen_table table) ≡ seen_table (let_go p table)
   let_go-seen table = ap (λ f. record table { fixed = f }) (all_released-seen p table.fixed)
 
-  heir-seen : (heir : Option Heir) (table : Table) → option_map (λ h. passed_to h.pid (let_go p (seen_table table))) heir ≡ option_map seen_table (option_map (λ h. passed_to h.pid (let_go p table)) heir)
+  heir-seen : (heir : Option Heir) (table : Table)
+      → option_map (λ h. passed_to h.pid (let_go p (seen_table table))) heir ≡ option_map seen_table (option_map (λ h. passed_to h.pid (let_go p table)) heir)
   heir-seen None table = refl
   heir-seen (Some heir) table = ap (λ t. Some (passed_to heir.pid t)) (let_go-seen table)
 
@@ -156,26 +174,32 @@ module _ (processes : Processes) (p : ℕ) where
   either-seen true heir table = heir-seen heir table
   either-seen false heir table = ap Some (let_go-seen table)
 
-  after-seen : (o : Option Table) → table_after processes p (option_map seen_table o) ≡ option_map seen_table (table_after processes p o)
+  after-seen : (o : Option Table)
+      → table_after processes p (option_map seen_table o) ≡ option_map seen_table (table_after processes p o)
   after-seen None = refl
   after-seen (Some table) = either-seen (owned_by table.head p) (living_heir processes table.head) table
 
-  all-seen : (ts : Tables) → map (table_after processes p) (seen_tables ts) ≡ seen_tables (map (table_after processes p) ts)
+  all-seen : (ts : Tables)
+      → map (table_after processes p) (seen_tables ts) ≡ seen_tables (map (table_after processes p) ts)
   all-seen [] = refl
   all-seen (x ∷ xs) = ap₂ (λ o ts. o ∷ ts) (after-seen x) (all-seen xs)
 
-  message-seen : (t : ℕ) (o : Option Table) → message_of processes p t (option_map seen_table o) ≡ message_of processes p t o
+  message-seen : (t : ℕ) (o : Option Table)
+      → message_of processes p t (option_map seen_table o) ≡ message_of processes p t o
   message-seen t None = refl
   message-seen t (Some table) = refl
 
   messages-seen : (t : ℕ) (ts : Tables) → messages_from processes p t (seen_tables ts) ≡ messages_from processes p t ts
   messages-seen t [] = refl
-  messages-seen t (x ∷ xs) = ap₂ (λ o ms. option_map_or (λ m. m ∷ ms) o ms) (message-seen t x) (messages-seen (suc t) xs)
+  messages-seen t (x ∷ xs) =
+      ap₂ (λ o ms. option_map_or (λ m. m ∷ ms) o ms) (message-seen t x) (messages-seen (suc t) xs)
 
   handed-seen : (w : World) → seen_world (handed_over w processes p) ≡ handed_over (seen_world w) processes p
-  handed-seen w = ap₂ (λ ms ts. record w { processes = post_all processes ms; tables = ts }) (sym (messages-seen 0 w.tables)) (sym (all-seen w.tables))
+  handed-seen w =
+      ap₂ (λ ms ts. record w { processes = post_all processes ms; tables = ts }) (sym (messages-seen 0 w.tables)) (sym (all-seen w.tables))
 
-pub end-lawful : (P : World → Type 0) (old : World) → P old → (p : ℕ) → P (handed_over old (ended old.processes p) p) → IsLawfulOutcome P (Unit {0}) (ends.End old p) (ends.End (seen_world old) p)
+pub end-lawful : (P : World → Type 0) (old : World) → P old → (p : ℕ) → P (handed_over old (ended old.processes p) p)
+    → IsLawfulOutcome P (Unit {0}) (ends.End old p) (ends.End (seen_world old) p)
 end-lawful P old same p after =
     refuse-lawful P old same (not (lives old.processes p)) NoProcess (λ living.
     gives-lawful P old same tt (handed_over old (ended old.processes p) p) (handed_over (seen_world old) (ended old.processes p) p) (handed-seen (ended old.processes p) p old) after)

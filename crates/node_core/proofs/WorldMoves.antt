@@ -23,18 +23,22 @@ use Rattle.node_core.proofs.WorldLaws.{given, heir_set}
 length-post : (processes : Processes) (q : ℕ) (message : Term) → length (post processes q message) ≡ length processes
 length-post processes q message = by (process_at processes q)
   where
-    by : (o : Option _) → length (option_map_or (λ process. set_value (λ x. q == x) processes (record process { mailbox = process.mailbox ++ message ∷ [] })) o processes) ≡ length processes
+    by : (o : Option _)
+        → length (option_map_or (λ process. set_value (λ x. q == x) processes (record process { mailbox = process.mailbox ++ message ∷ [] })) o processes) ≡ length processes
     by None = refl
-    by (Some process) = length-set_value (λ x. q == x) processes (record process { mailbox = process.mailbox ++ message ∷ [] })
+    by (Some process) =
+        length-set_value (λ x. q == x) processes (record process { mailbox = process.mailbox ++ message ∷ [] })
 
-length-post_all : (processes : Processes) (messages : List (ℕ × Term)) → length (post_all processes messages) ≡ length processes
+length-post_all : (processes : Processes) (messages : List (ℕ × Term))
+    → length (post_all processes messages) ≡ length processes
 length-post_all processes [] = refl
 length-post_all processes (m ∷ ms) = length-post_all (post processes m.0 m.1) ms ∙ length-post processes m.0 m.1
 
 length-received : (processes : Processes) (p : ℕ) → length (received processes p) ≡ length processes
 length-received processes p = by (process_at processes p)
   where
-    by : (o : Option _) → length (option_map_or (λ process. set_value (λ x. p == x) processes (record process { mailbox = [] })) o processes) ≡ length processes
+    by : (o : Option _)
+        → length (option_map_or (λ process. set_value (λ x. p == x) processes (record process { mailbox = [] })) o processes) ≡ length processes
     by None = refl
     by (Some process) = length-set_value (λ x. p == x) processes (record process { mailbox = [] })
 
@@ -46,17 +50,21 @@ free-of false found e h = absurd (true≢false (sym h))
 
 module _ (own : ℕ → Bool) (old : World) where
   pub enrol-moves : (p : ℕ) → Moves own old (after_enrol old p)
-  enrol-moves p = record { most = refl; known = let e = length-append old.processes ((p, record { lives = true; mailbox = [] }) ∷ []) in omega (arith, e); tables = follows-same own old.tables }
+  enrol-moves p =
+      record { most = refl; known = let e = length-append old.processes ((p, record { lives = true; mailbox = [] }) ∷ []) in omega (arith, e); tables = follows-same own old.tables }
 
   pub receive-moves : (p : ℕ) → Moves own old (record old { processes = received old.processes p })
-  receive-moves p = record { most = refl; known = let e = length-received old.processes p in omega (arith, e); tables = follows-same own old.tables }
+  receive-moves p =
+      record { most = refl; known = let e = length-received old.processes p in omega (arith, e); tables = follows-same own old.tables }
 
-  pub new-moves : (p : ℕ) (name : List ℕ) (options : NewOptions) (fixed : Fixed) → fixed.content.slots ≡ [] → IsFresh fixed.buckets → (options.named && is_some (whereis old.tables name)) ≡ false
+  pub new-moves : (p : ℕ) (name : List ℕ) (options : NewOptions) (fixed : Fixed) → fixed.content.slots ≡ []
+      → IsFresh fixed.buckets → (options.named && is_some (whereis old.tables name)) ≡ false
       → Moves own old (with_table old (new_head p name options) fixed)
   new-moves p name options fixed bare fresh free = record {
     most = refl;
     known = omega arith;
-    tables = follows-push own old.tables (record { head = new_head p name options; fixed = fixed }) bare fresh (free-of options.named (whereis old.tables name) free);
+    tables =
+        follows-push own old.tables (record { head = new_head p name options; fixed = fixed }) bare fresh (free-of options.named (whereis old.tables name) free);
   }
 
   pub gone-moves : (t : ℕ) → Moves own old (without_table old t)
@@ -66,14 +74,16 @@ module _ (own : ℕ → Bool) (old : World) where
   give-moves p t q gift head = record {
     most = refl;
     known = let e = length-post old.processes q (transfer head t p gift) in omega (arith, e);
-    tables = follows-changed own old.tables (passed_to q) (λ table. let same = stays-same own table in record { name = refl; named = refl; fixed = same.fixed }) t;
+    tables =
+        follows-changed own old.tables (passed_to q) (λ table. let same = stays-same own table in record { name = refl; named = refl; fixed = same.fixed }) t;
   }
 
   pub heir-moves : (t : ℕ) (heir : Option Heir) → Moves own old (heir_set old t heir)
   heir-moves t heir = record {
     most = refl;
     known = omega arith;
-    tables = follows-changed own old.tables (with_heir heir) (λ table. let same = stays-same own table in record { name = refl; named = refl; fixed = same.fixed }) t;
+    tables =
+        follows-changed own old.tables (with_heir heir) (λ table. let same = stays-same own table in record { name = refl; named = refl; fixed = same.fixed }) t;
   }
 
 -- ---- a process ends
@@ -84,15 +94,19 @@ module _ (processes : Processes) (p : ℕ) where
   let_go-stays : (table : Table) → StaysGiven table (let_go p table)
   let_go-stays table = record { name = refl; named = refl; fixed = all_released-tame p table.fixed }
 
-  heir-after : (was : Table) (heir : Option Heir) (table : Table) → option_map (λ h. passed_to h.pid (let_go p was)) heir ≡ Some table → StaysGiven was table
+  heir-after : (was : Table) (heir : Option Heir) (table : Table)
+      → option_map (λ h. passed_to h.pid (let_go p was)) heir ≡ Some table → StaysGiven was table
   heir-after was None table e = cc
   heir-after was (Some heir) table e =
       let is : passed_to heir.pid (let_go p was) ≡ table = cc in
       subst (StaysGiven was) is (record { name = refl; named = refl; fixed = all_released-tame p was.fixed })
 
-  either-after : (its : Bool) (heir : Option Heir) (was table : Table) → cond its (option_map (λ h. passed_to h.pid (let_go p was)) heir) (Some (let_go p was)) ≡ Some table → StaysGiven was table
+  either-after : (its : Bool) (heir : Option Heir) (was table : Table)
+      → cond its (option_map (λ h. passed_to h.pid (let_go p was)) heir) (Some (let_go p was)) ≡ Some table
+      → StaysGiven was table
   either-after true heir was table e = heir-after was heir table e
-  either-after false heir was table e = let is : let_go p was ≡ table = cc in subst (StaysGiven was) is (let_go-stays was)
+  either-after false heir was table e =
+      let is : let_go p was ≡ table = cc in subst (StaysGiven was) is (let_go-stays was)
 
   stays-after : (was table : Table) → table_after processes p (Some was) ≡ Some table → StaysGiven was table
   stays-after was table e = either-after (owned_by was.head p) (living_heir processes was.head) was table e
@@ -104,5 +118,6 @@ end-moves old p = record {
       let e = length-post_all (ended old.processes p) (messages_from (ended old.processes p) p 0 old.tables) in
       let f = length-set_value (λ q. p == q) old.processes (record { lives = false; mailbox = [] }) in
       omega (arith, e, f);
-  tables = follows-map (λ w. p == w) old.tables (table_after (ended old.processes p) p) refl (stays-after (ended old.processes p) p);
+  tables =
+      follows-map (λ w. p == w) old.tables (table_after (ended old.processes p) p) refl (stays-after (ended old.processes p) p);
 }
