@@ -21,10 +21,9 @@ use Rattle.node_core.specs.laws.Kept.{slots_in, is_fixed_in}
 use Rattle.node_core.specs.laws.Walk.{states, walk_call, walk_step, Answers, Walks}
 use Rattle.node_core.specs.Woven.{is_step_of, fixes_in}
 use Rattle.node_core.specs.inside.Walker.{is_there, Walking}
-use Rattle.node_core.proofs.Following.{Came}
-use Rattle.node_core.proofs.Reached.{step-follows}
+use Rattle.node_core.proofs.Moves.{Came}
+use Rattle.node_core.proofs.Table.{step-follows}
 use Rattle.node_core.proofs.WholeWalks.{ground}
-use Rattle.node_core.proofs.Counts.{Spares, step-spares}
 
 -- ---- where the walker has a fix the table is fixed
 fixed-of : (m : FixCounts) (p n : ℕ) → fix_count m p ≡ suc n → is_fixed m ≡ true
@@ -82,28 +81,20 @@ module _ (p t : ℕ) where
     long : t < length old.world.tables → t < length new.world.tables
     there : t < length old.world.tables → is_there t new ≡ true → (is_there t old ≡ true) × (fixes_in p t new ≡ fixes_in p t old)
 
-  was-there : (ts : Tables) (o : Option Table) (table : Table) → t < length ts → Came ts t o table → is_some o ≡ true
-  was-there ts None table within came = let place = came.place in absurd (omega (arith, within, place))
-  was-there ts (Some was) table within came = refl
-
-  same-count : (old new : Tables) (o o' : Option Table) → Spares p old new → table_at old t ≡ o → table_at new t ≡ o' → is_some o ≡ true → is_some o' ≡ true
-      → option_map_or (λ table. fix_count table.fixed.fixes p) o' 0 ≡ option_map_or (λ table. fix_count table.fixed.fixes p) o 0
-  same-count old new None o' spares at at' here here' = absurd (true≢false (sym here))
-  same-count old new (Some was) None spares at at' here here' = absurd (true≢false (sym here'))
-  same-count old new (Some was) (Some table) spares at at' here here' = spares.count t was table at at'
-
-  came-there : (old new : State) (s : Step) (r : Reply) (o : Option Table) → step old s r new → t < length old.world.tables → table_at new.world.tables t ≡ o → is_some o ≡ true → is_there t old ≡ true
-  came-there old new s r None h within at here = absurd (true≢false (sym here))
-  came-there old new s r (Some table) h within at here = was-there old.world.tables (table_at old.world.tables t) table within (step-follows old new s r h t table at)
+  -- what is there was there, with as many fixes
+  there-kept : (s : Step) → is_step_of p s ≡ false → (o o' : Option Table) (ts : Tables) → t < length ts → ((table : Table) → o' ≡ Some table → Came (λ w. is_step_of w s) ts t o table) → is_some o' ≡ true
+      → (is_some o ≡ true) × (option_map_or (λ table. fix_count table.fixed.fixes p) o' 0 ≡ option_map_or (λ table. fix_count table.fixed.fixes p) o 0)
+  there-kept s other o None ts within came here = absurd (true≢false (sym here))
+  there-kept s other None (Some table) ts within came here = let new = came table refl in let place = new.place in absurd (omega (arith, within, place))
+  there-kept s other (Some was) (Some table) ts within came here = let stays = came table refl in (refl, stays.fixed.fixes p other)
 
   other-kept : (old new : State) (s : Step) (r : Reply) → is_step_of p s ≡ false → step old s r new → Kept old new
   other-kept old new s r other h =
-      let spares = step-spares p old new s r other h in
+      let follows = step-follows old new s r h in
+      let long = follows.long in
       record {
-        long = λ within. let more = spares.long in omega (arith, within, more);
-        there = λ within here.
-            let before = came-there old new s r (table_at new.world.tables t) h within refl here in
-            (before, same-count old.world.tables new.world.tables (table_at old.world.tables t) (table_at new.world.tables t) spares refl refl before here);
+        long = λ within. omega (arith, within, long);
+        there = λ within here. there-kept s other (table_at old.world.tables t) (table_at new.world.tables t) old.world.tables within (λ table at. follows.came t table at) here;
       }
 
   -- it is no call of the walk

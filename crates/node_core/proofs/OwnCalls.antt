@@ -42,9 +42,9 @@ use Rattle.node_core.specs.rules.Walking.{Fixes, Releases, key_reply, First, Nex
 use Rattle.node_core.specs.laws.Kept.{slots_in}
 use Rattle.node_core.specs.Woven.{fix, release, first, next, can_read, fixes_in}
 use Rattle.node_core.specs.inside.Walker.{is_there, CanGoOn, call_of, Finds, Holds, LetsGo}
-use Rattle.node_core.proofs.Counts.{own-count, settled-fixes}
 use Rattle.node_core.proofs.SeenTables.{at-seen}
 use Rattle.node_core.proofs.Steps.{done-seen, done-buckets}
+use Rattle.node_core.proofs.Tame.{own-count, settled-fixes}
 
 -- ---- what a walk finds in the slots
 or-left : (a b : Bool) → a ≡ true → (a || b) ≡ true

@@ -1,43 +1,24 @@
 -- What steps keep, every state has that a run reaches from one that has it.
-use Rattle.std.proofs.Common.{◌≡◌, ℕ, true, ◌&&◌, not, List, [], ◌∷◌, Option, None, Some, refl, sym, subst, ap, ◌∙◌, true≢false}
-use Rattle.std.specs.List.{IsDistinct, list_any}
+use Rattle.std.proofs.Common.{◌≡◌, ℕ, Bool, true, ◌&&◌, List, [], ◌∷◌, Option, None, Some, refl, sym, subst, ap, ◌∙◌, true≢false}
+use Rattle.std.specs.List.{IsDistinct}
 use Rattle.std.specs.Str.{bytes_eq}
 use Rattle.std.proofs.lemmas.Slice.Eq.{bytes_eq-Decides}
-use Rattle.ets_term.specs.Depth.{is_too_deep}
 use Rattle.ets_term.specs.Order.{same}
 use Rattle.bucket_table.specs.Slots.{HasDistinctKeys}
-use Rattle.ownership.specs.World.{Table, Tables, table_at, head_of, heads, is_named, whereis, lives}
+use Rattle.ownership.specs.World.{Table, Tables, table_at, head_of, heads, is_named, whereis}
 use Rattle.ownership.specs.inside.Names.{head_at}
 use Rattle.ownership.proofs.Heads.{head-there}
 use Rattle.ownership.proofs.Naming.{is_within}
 use Rattle.ownership.proofs.Places.{position-None}
 use Rattle.node_core.specs.declared.limits.Limits.{Limits}
 use Rattle.node_core.specs.declared.step.Reply.{Reply}
-use Rattle.node_core.specs.declared.step.Reply.TheVariants.{SystemLimit, NoProcess}
 use Rattle.node_core.specs.declared.step.Step.{Step}
-use Rattle.node_core.specs.declared.step.Step.TheVariants.{Enrol, End, Ask, Grow, Ready}
-use Rattle.node_core.specs.State.{State, gives, empty}
-use Rattle.node_core.specs.Seen.{seen}
-use Rattle.node_core.specs.Calls.{call}
+use Rattle.node_core.specs.State.{State, empty}
 use Rattle.node_core.specs.Machine.{step, run}
 use Rattle.node_core.specs.laws.Reached.{HasNoEnd, IsSound, RunsStaySound, ReachedAreSound}
-use Rattle.node_core.proofs.CallLaws.{Either, either-lawful, tells-lawful, call-lawful}
-use Rattle.node_core.proofs.Following.{Follows, Came, follows-same}
-use Rattle.node_core.proofs.Seen.{enrol-call, end-call}
-
--- ---- after a step each table stays or is new
-pub step-follows : (old new : State) (s : Step) (reply : Reply) → step old s reply new → Follows old.world.tables new.world.tables
-step-follows old new (Enrol p) reply h = let lawful = enrol-call old p in lawful.follows reply new h
-step-follows old new (End p) reply h = let lawful = end-call old p in lawful.follows reply new h
-step-follows old new (Ask p asked) reply h =
-    let lawful =
-    either-lawful old (not (lives old.world.processes p)) (gives NoProcess old) (Either (list_any is_too_deep asked.args) (gives SystemLimit old) (call old p asked.name asked.args))
-    (gives NoProcess (seen old)) (Either (list_any is_too_deep asked.args) (gives SystemLimit (seen old)) (call (seen old) p asked.name asked.args)) (tells-lawful NoProcess old)
-    (either-lawful old (list_any is_too_deep asked.args) (gives SystemLimit old) (call old p asked.name asked.args) (gives SystemLimit (seen old)) (call (seen old) p asked.name asked.args)
-    (tells-lawful SystemLimit old) (call-lawful old p asked.name asked.args))
-    in lawful.follows reply new h
-step-follows old new (Grow t) reply h = follows-same old.world.tables new.world.tables (ap (λ (s : State). s.world.tables) h.1)
-step-follows old new (Ready t bucket) reply h = follows-same old.world.tables new.world.tables (ap (λ (s : State). s.world.tables) h.1)
+use Rattle.node_core.specs.Woven.{is_step_of}
+use Rattle.node_core.proofs.Moves.{Came}
+use Rattle.node_core.proofs.Table.{step-follows}
 
 pub run-keeps : (P : State → Type 0) → ((old new : State) (s : Step) (reply : Reply) → step old s reply new → P old → P new)
     → (old : State) (steps : List Step) (replies : List Reply) (new : State) → run old steps replies new → P old → P new
@@ -54,22 +35,22 @@ distinct-none : HasDistinctKeys []
 unfolding IsDistinct
 distinct-none = tt
 
-distinct-came : (old : Tables) (t : ℕ) (o : Option Table) (table : Table) → Came old t o table → ((was : Table) → o ≡ Some was → HasDistinctKeys was.fixed.content.slots) → HasDistinctKeys table.fixed.content.slots
-distinct-came old t None table came d = subst HasDistinctKeys (sym came.bare) distinct-none
-distinct-came old t (Some was) table came d = came.fixed.keys.distinct (d was refl)
+distinct-came : (own : ℕ → Bool) (old : Tables) (t : ℕ) (o : Option Table) (table : Table) → Came own old t o table → ((was : Table) → o ≡ Some was → HasDistinctKeys was.fixed.content.slots) → HasDistinctKeys table.fixed.content.slots
+distinct-came own old t None table came d = subst HasDistinctKeys (sym came.bare) distinct-none
+distinct-came own old t (Some was) table came d = came.fixed.keys.distinct (d was refl)
 
 keys-step : (old new : State) (s : Step) (reply : Reply) → step old s reply new → HasDistinctSlots old → HasDistinctSlots new
-keys-step old new s reply h d t table at = distinct-came old.world.tables t (table_at old.world.tables t) table (step-follows old new s reply h t table at) (λ was before. d t was before)
+keys-step old new s reply h d t table at = distinct-came (λ w. is_step_of w s) old.world.tables t (table_at old.world.tables t) table ((step-follows old new s reply h).came t table at) (λ was before. d t was before)
 
 abbrev HasNoEnds : State → Type 0
 HasNoEnds s = (t : ℕ) (table : Table) → table_at s.world.tables t ≡ Some table → HasNoEnd table.fixed.content.slots
 
-end-came : (old : Tables) (t : ℕ) (o : Option Table) (table : Table) → Came old t o table → ((was : Table) → o ≡ Some was → HasNoEnd was.fixed.content.slots) → HasNoEnd table.fixed.content.slots
-end-came old t None table came d = subst HasNoEnd (sym came.bare) tt
-end-came old t (Some was) table came d = came.fixed.ends (d was refl)
+end-came : (own : ℕ → Bool) (old : Tables) (t : ℕ) (o : Option Table) (table : Table) → Came own old t o table → ((was : Table) → o ≡ Some was → HasNoEnd was.fixed.content.slots) → HasNoEnd table.fixed.content.slots
+end-came own old t None table came d = subst HasNoEnd (sym came.bare) tt
+end-came own old t (Some was) table came d = came.fixed.ends (d was refl)
 
 ends-step : (old new : State) (s : Step) (reply : Reply) → step old s reply new → HasNoEnds old → HasNoEnds new
-ends-step old new s reply h d t table at = end-came old.world.tables t (table_at old.world.tables t) table (step-follows old new s reply h t table at) (λ was before. d t was before)
+ends-step old new s reply h d t table at = end-came (λ w. is_step_of w s) old.world.tables t (table_at old.world.tables t) table ((step-follows old new s reply h).came t table at) (λ was before. d t was before)
 
 -- ---- names
 abbrev HasDistinctNames : State → Type 0
@@ -83,21 +64,21 @@ none-named ts name u was none at named same =
     let is : is_named name (head_at (heads ts) u) ≡ true = ap (is_named name) there ∙ (ap (λ b. b && bytes_eq name was.head.name) named ∙ (bytes_eq-Decides name was.head.name).1 (sym same)) in
     true≢false (sym is ∙ position-None (is_named name) (heads ts) u None none within)
 
-names-came : (ts : Tables) (t u : ℕ) (before other_before : Option Table) (one other : Table) → table_at ts t ≡ before → table_at ts u ≡ other_before → Came ts t before one → Came ts u other_before other
+names-came : (own : ℕ → Bool) (ts : Tables) (t u : ℕ) (before other_before : Option Table) (one other : Table) → table_at ts t ≡ before → table_at ts u ≡ other_before → Came own ts t before one → Came own ts u other_before other
     → ((was other_was : Table) → table_at ts t ≡ Some was → table_at ts u ≡ Some other_was → was.head.named ≡ true → other_was.head.named ≡ true → was.head.name ≡ other_was.head.name → t ≡ u)
     → one.head.named ≡ true → other.head.named ≡ true → one.head.name ≡ other.head.name → t ≡ u
-names-came ts t u (Some was) (Some other_was) one other at at' came came' distinct named named' same =
+names-came own ts t u (Some was) (Some other_was) one other at at' came came' distinct named named' same =
     distinct was other_was at at' (sym came.named ∙ named) (sym came'.named ∙ named') (sym came.name ∙ (same ∙ came'.name))
-names-came ts t u None None one other at at' came came' distinct named named' same = came.place ∙ sym came'.place
-names-came ts t u None (Some other_was) one other at at' came came' distinct named named' same =
+names-came own ts t u None None one other at at' came came' distinct named named' same = came.place ∙ sym came'.place
+names-came own ts t u None (Some other_was) one other at at' came came' distinct named named' same =
     absurd (none-named ts one.head.name u other_was (came.free named) at' (sym came'.named ∙ named') (sym came'.name ∙ sym same))
-names-came ts t u (Some was) None one other at at' came came' distinct named named' same =
+names-came own ts t u (Some was) None one other at at' came came' distinct named named' same =
     absurd (none-named ts other.head.name t was (came'.free named') at (sym came.named ∙ named) (sym came.name ∙ same))
 
 names-step : (old new : State) (s : Step) (reply : Reply) → step old s reply new → HasDistinctNames old → HasDistinctNames new
 names-step old new s reply h distinct t u one other at at' named named' same =
     let follows = step-follows old new s reply h in
-    names-came old.world.tables t u (table_at old.world.tables t) (table_at old.world.tables u) one other refl refl (follows t one at) (follows u other at') (λ was other_was. distinct t u was other_was) named named' same
+    names-came (λ w. is_step_of w s) old.world.tables t u (table_at old.world.tables t) (table_at old.world.tables u) one other refl refl (follows.came t one at) (follows.came u other at') (λ was other_was. distinct t u was other_was) named named' same
 
 -- ---- runs
 pub sound-step : (old new : State) (s : Step) (reply : Reply) → step old s reply new → IsSound old → IsSound new

@@ -11,7 +11,7 @@ use Rattle.node_core.specs.rules.Replies.{true_reply}
 use Rattle.node_core.specs.rules.Walking.{key_reply}
 use Rattle.node_core.specs.Woven.{Given, AreTurns, Adds, fix, release, first, next, walk, woven, RunsWoven}
 use Rattle.node_core.specs.inside.Walker.{Finds, LetsGo, IsHeld, LetsGoOn, Weaves, steps_of, OthersDid, OthersRun}
-use Rattle.node_core.proofs.Following.{follows-same}
+use Rattle.node_core.proofs.Moves.{follows-same}
 use Rattle.node_core.proofs.Runs.{run-on-buckets-push, run-on-buckets-append}
 use Rattle.node_core.proofs.Seen.{buckets-follow}
 use Rattle.node_core.proofs.Turns.{append-none, steps-paired, steps-cut}
@@ -20,7 +20,7 @@ use Rattle.node_core.proofs.Weaving.{paired, walk-more}
 
 -- what only reads leaves the buckets
 reads : (s : State) → KeepsBuckets s s × HasFreshBuckets s s
-reads s = buckets-follow s s (follows-same s.world.tables s.world.tables refl)
+reads s = buckets-follow s s (follows-same (λ w. false) s.world.tables)
 
 module _ (p t : ℕ) (old : State) where
   -- ---- the walk begins

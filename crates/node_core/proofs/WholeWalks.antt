@@ -14,7 +14,6 @@ use Rattle.fixed_walk.proofs.Subsequences.{sub-same, sub-further}
 use Rattle.fixed_walk.proofs.WalkLaws.{whole}
 use Rattle.ownership.specs.World.{Table, table_at}
 use Rattle.node_core.specs.declared.step.Reply.{Reply}
-use Rattle.node_core.specs.declared.step.Reply.TheVariants.{Value}
 use Rattle.node_core.specs.declared.step.Step.{Step}
 use Rattle.node_core.specs.State.{State}
 use Rattle.node_core.specs.Machine.{step, run}
@@ -23,8 +22,9 @@ use Rattle.node_core.specs.laws.Kept.{slots_in, is_fixed_in, StepsKeepKeys}
 use Rattle.node_core.specs.laws.Reached.{HasNoEnd, IsSound}
 use Rattle.node_core.specs.laws.Walk.{states, walk_step, IsKey, Answers, Walks, WalksAreWhole}
 use Rattle.node_core.proofs.EndKeys.{is_end}
-use Rattle.node_core.proofs.Reached.{step-follows, sound-step}
+use Rattle.node_core.proofs.Reached.{sound-step}
 use Rattle.node_core.proofs.Seen.{stays-there}
+use Rattle.node_core.proofs.Table.{step-follows}
 use Rattle.node_core.proofs.WalkCalls.{Replies, asked-free, step-replies, tells-end, tells-key}
 
 -- a table that is there and fixed

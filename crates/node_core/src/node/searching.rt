@@ -29,7 +29,9 @@ impl<H: KeyHash + Copy + Drop> Node<H> {
     {
         let table = self.readable(pid, table).ok_or(Refusal::Badarg)?;
         let pattern = pattern_of(self.alloc, pattern)?;
-        Ok(answers_reply(table.matches(&pattern)?))
+        let found = table.matches(&pattern);
+        drop(pattern);
+        Ok(answers_reply(found?))
     }
 
     pub(crate) fn match_object(
@@ -42,7 +44,9 @@ impl<H: KeyHash + Copy + Drop> Node<H> {
     {
         let table = self.readable(pid, table).ok_or(Refusal::Badarg)?;
         let pattern = pattern_of(self.alloc, pattern)?;
-        Ok(Reply::Value(Term::List(table.match_objects(&pattern)?)))
+        let found = table.match_objects(&pattern);
+        drop(pattern);
+        Ok(Reply::Value(Term::List(found?)))
     }
 
     pub(crate) fn match_delete(
@@ -66,7 +70,9 @@ impl<H: KeyHash + Copy + Drop> Node<H> {
     {
         let table = self.readable(pid, table).ok_or(Refusal::Badarg)?;
         let spec = spec_of(self.alloc, spec)?;
-        Ok(answers_reply(table.select(&spec)?))
+        let found = table.select(&spec);
+        drop(spec);
+        Ok(answers_reply(found?))
     }
 
     pub(crate) fn select_count(&self, pid: u32, table: &Term, spec: &Term) -> Result<Reply, Refusal>
@@ -74,7 +80,9 @@ impl<H: KeyHash + Copy + Drop> Node<H> {
     {
         let table = self.readable(pid, table).ok_or(Refusal::Badarg)?;
         let spec = spec_of(self.alloc, spec)?;
-        Ok(count_reply(table.select_count(&spec)?))
+        let count = table.select_count(&spec);
+        drop(spec);
+        Ok(count_reply(count?))
     }
 
     pub(crate) fn select_delete(
@@ -131,7 +139,9 @@ fn delete_matching<R: Rows>(
     ensures { table_refusals.Comes (DeletesMatching pattern.now table.old) table.old result table.new }
 {
     let pattern = pattern_of(alloc, pattern)?;
-    Ok(table.match_delete(&pattern)?)
+    let done = table.match_delete(&pattern);
+    drop(pattern);
+    Ok(done?)
 }
 
 /// Deletes the objects for which a specification gives `true`, and answers how many they were.
@@ -144,7 +154,9 @@ fn delete_chosen<R: Rows>(
     ensures few { IfOk result (λ count. count < 2 ^ 32) }
 {
     let spec = spec_of(alloc, spec)?;
-    Ok(table.select_delete(&spec)?)
+    let deleted = table.select_delete(&spec);
+    drop(spec);
+    Ok(deleted?)
 }
 
 fn answers_reply(found: Items<Term>) -> Reply

@@ -65,7 +65,9 @@ fn count<R: Rows>(
     ensures { table_refusals.Comes (Counts key.now updates.now (option_copied default.entry) table.old) table.old result table.new }
 {
     let ops = read_ops(alloc, updates, table.keypos())?;
-    table.update_counter(key, &ops, default)
+    let answer = table.update_counter(key, &ops, default);
+    drop(ops);
+    answer
 }
 
 /// Writes the elements that a term tells into a key's object, or into the Default where there is one; whether it did.

@@ -9,6 +9,6 @@ returns-clause-content g c =
     let slots = c.args.table.now.content.slots in
     let same = c.in_ok-spec.ensures.same in
     rw c.in_ok-spec.ensures.good (
-      ap Ok (subst (λ s. c.in_ok-select_delete.field-0 ≡ chosen_count (is_chosen s) (all_objects slots)) same c.in_ok-select_delete.ensures.count),
-      subst (λ s. c.select_delete.new.self ≡ without (λ _. is_chosen s) c.args.table.now) same c.in_ok-select_delete.ensures.ok,
+      ap Ok (subst (λ s. c.in_ok-deleted.field-0 ≡ chosen_count (is_chosen s) (all_objects slots)) same c.in_ok-deleted.ensures.count),
+      subst (λ s. c.select_delete-deleted.new.self ≡ without (λ _. is_chosen s) c.args.table.now) same c.in_ok-deleted.ensures.ok,
     )

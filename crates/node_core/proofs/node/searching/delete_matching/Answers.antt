@@ -5,4 +5,4 @@ use Rattle.node_core.proofs.node.searching.delete_matching.Goals as goal
 
 pub returns : goal.returns
 returns g c =
-    rw c.in_ok-pattern.ensures.good (refl, subst (λ p. c.match_delete.new.self ≡ without (λ _. matches p) c.args.table.now) c.in_ok-pattern.ensures.same c.in_ok-match_delete.ensures.ok)
+    rw c.in_ok-pattern.ensures.good (refl, subst (λ p. c.match_delete-done.new.self ≡ without (λ _. matches p) c.args.table.now) c.in_ok-pattern.ensures.same c.in_ok-done.ensures.ok)

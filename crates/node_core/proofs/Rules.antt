@@ -1,0 +1,269 @@
+-- The laws of each rule that changes a table: it does not see buckets, leaves the table tame, and its reply takes no memory, but where a
+-- call needs some. A new rule has one lemma here.
+use Rattle.std.proofs.Common.{◌≡◌, ℕ, ◌==◌, Bool, true, false, Option, None, Some, Result, Ok, Err, refl, sym, subst, ap, ◌∙◌, true≢false}
+use Rattle.std.specs.Prelude.{MatchOption}
+use Rattle.ets_term.specs.declared.term.Term.{Term, out-Term}
+use Rattle.ets_term.specs.Data.{data_of}
+use Rattle.match_spec.specs.Specifications.{is_pattern, is_spec}
+use Rattle.counters.specs.Ops.{ops_of}
+use Rattle.counters.specs.Elements.{specs_of}
+use Rattle.table_ops.specs.declared.refusal.Refusal.{Refusal}
+use Rattle.table_ops.specs.declared.refusal.Refusal.TheVariants.{Badarg, SystemLimit, Memory}
+use Rattle.table_ops.specs.Content.{Content, key_of}
+use Rattle.table_ops.specs.Refusals.{Change, Comes, gives}
+use Rattle.table_ops.specs.Drop.{Which, of_key, each, equal_to, without_those, DeletesObject}
+use Rattle.table_ops.specs.Put.{Inserts, InsertsNew}
+use Rattle.table_ops.specs.Queries.{chosen_count, matches, is_chosen}
+use Rattle.table_ops.specs.Read.{all_objects}
+use Rattle.table_ops.specs.Update.{UpdatesCounter, UpdatesElement}
+use Rattle.fixed_walk.specs.declared.fault.FixFault.{FixFault}
+use Rattle.fixed_walk.specs.declared.fault.FixFault.TheVariants as fault
+use Rattle.fixed_walk.specs.Fixes.{is_fixed}
+use Rattle.fixed_walk.specs.Fixed.{Fixed, on_content}
+use Rattle.fixed_walk.specs.laws.Kept.{AlwaysKeeps}
+use Rattle.fixed_walk.proofs.KeptLaws.{insert-keeps, insert_new-keeps, update_counter-keeps, update_element-keeps, delete_object-keeps}
+use Rattle.node_core.specs.declared.step.Reply.{Reply}
+use Rattle.node_core.specs.Seen.{seen_fixed}
+use Rattle.node_core.specs.Access.{Rule, IsReply, replies}
+use Rattle.node_core.specs.rules.Insertion.{objects_in, Insert, InsertNew}
+use Rattle.node_core.specs.rules.Removal.{without, Take, Delete, DeleteObject, DeleteAllObjects}
+use Rattle.node_core.specs.rules.Replies.{true_reply, truth_reply}
+use Rattle.node_core.specs.rules.Searching.{Deletes, DeletesMatching, DeletesChosen, MatchDelete, SelectDelete, count_reply}
+use Rattle.node_core.specs.rules.Updates.{Counts, WritesTold, UpdateCounter, UpdateElement}
+use Rattle.node_core.specs.rules.Walking.{IsFixReply, Fixes, Releases}
+use Rattle.node_core.specs.inside.Twice.{is_flat}
+use Rattle.node_core.proofs.EndKeys.{StaysFree, unchanged-free, dropped-free, inserts-free, news-free, counter-free, element-free}
+use Rattle.node_core.proofs.Tame.{IsTame, tame-content, tame-same, tame-without, fixes-seen, fixes-tame, released-seen, released-tame}
+
+-- what is shown of each rule, where `needs` says that its reply may take memory
+pub record IsLawful (own : ℕ → Bool) (needs : Bool) (rule : Rule) : Type 0 where
+  pub unseen : (old new : Fixed) (reply : Reply) → rule old reply new → rule (seen_fixed old) reply (seen_fixed new)
+  pub tame : (old new : Fixed) (reply : Reply) → rule old reply new → IsTame own old new
+  pub flat : needs ≡ false → (old new : Fixed) (reply : Reply) → rule old reply new → is_flat reply ≡ true
+
+-- and of each change
+record IsLawfulChange (own : ℕ → Bool) (X : Type 0) (change : Fixed → Change X Fixed) : Type 0 where
+  unseen : (old new : Fixed) (r : Result X Refusal) → change old r new → change (seen_fixed old) r (seen_fixed new)
+  tame : (old new : Fixed) (r : Result X Refusal) → Comes (change old) old r new → IsTame own old new
+
+-- a reply that needs memory is none that takes none
+pub contrary : {X : Type 0} {needs : Bool} → needs ≡ true → needs ≡ false → X
+contrary needed n = absurd (true≢false (sym needed ∙ n))
+
+-- ---- replies
+pub true-flat : is_flat true_reply ≡ true
+unfolding out-Term denote.Hole.Carrier.out
+true-flat = refl
+
+truth-flat : (b : Bool) → is_flat (truth_reply b) ≡ true
+unfolding out-Term denote.Hole.Carrier.out
+truth-flat true = refl
+truth-flat false = refl
+
+count-flat : (n : ℕ) → is_flat (count_reply n) ≡ true
+unfolding out-Term denote.Hole.Carrier.out
+count-flat n = refl
+
+told-flat : {X : Type 0} (answer : X → Reply) → ((x : X) → is_flat (answer x) ≡ true)
+    → (r : Result X Refusal) (reply : Reply) → IsReply answer r reply → is_flat reply ≡ true
+told-flat answer flat (Ok x) reply e = ap is_flat e ∙ flat x
+told-flat answer flat (Err Badarg) reply e = ap is_flat e
+told-flat answer flat (Err SystemLimit) reply e = ap is_flat e
+told-flat answer flat (Err Memory) reply e = absurd e
+
+fix-flat : (r : Result (Unit {0}) FixFault) (reply : Reply) → IsFixReply r reply → is_flat reply ≡ true
+fix-flat (Ok done) reply e = ap is_flat e ∙ true-flat
+fix-flat (Err fault.SystemLimit) reply e = ap is_flat e
+fix-flat (Err fault.Memory) reply e = absurd e
+
+-- ---- a change of the content
+module _ {X : Type 0} (change : Content → Change X Content) where
+  content-unseen : (old new : Fixed) (r : Result X Refusal) → on_content change old r new
+      → on_content change (seen_fixed old) r (seen_fixed new)
+  content-unseen old new r h = (h.0, ap seen_fixed h.1)
+
+  -- no slot gets the key '$end_of_table' by the change
+  abbrev NeverEnds : Type 0
+  NeverEnds = (old new : Content) (r : Result X Refusal) → change old r new → StaysFree old.slots new.slots
+
+module _ (own : ℕ → Bool) where
+  content-tame : {X : Type 0} (change : Content → Change X Content) → AlwaysKeeps (λ hold. change) → NeverEnds change
+      → (old new : Fixed) (r : Result X Refusal) → Comes (on_content change old) old r new → IsTame own old new
+  content-tame change keeps never old new (Ok x) h =
+      tame-content own old new h.1 (keeps old new (Ok x) h) (never old.content new.content (Ok x) h.0)
+  content-tame change keeps never old new (Err Badarg) h =
+      tame-content own old new h.1 (keeps old new (Err Badarg) h) (never old.content new.content (Err Badarg) h.0)
+  content-tame change keeps never old new (Err SystemLimit) h =
+      tame-content own old new h.1 (keeps old new (Err SystemLimit) h) (never old.content new.content (Err SystemLimit) h.0)
+  content-tame change keeps never old new (Err Memory) h = tame-same own old new h
+
+  on-content : {X : Type 0} (change : Content → Change X Content) → AlwaysKeeps (λ hold. change) → NeverEnds change
+      → IsLawfulChange own X (on_content change)
+  on-content change keeps never = record { unseen = content-unseen change; tame = content-tame change keeps never }
+
+  gave-tame : {X : Type 0} (answer : Result X Refusal) (after old new : Fixed) (r : Result X Refusal)
+      → IsTame own old after → Comes (gives answer after) old r new → IsTame own old new
+  gave-tame answer after old new (Ok x) t h = subst (IsTame own old) (sym h.1) t
+  gave-tame answer after old new (Err Badarg) t h = subst (IsTame own old) (sym h.1) t
+  gave-tame answer after old new (Err SystemLimit) t h = subst (IsTame own old) (sym h.1) t
+  gave-tame answer after old new (Err Memory) t h = tame-same own old new h
+
+  -- what the argument says is done; badarg where it says nothing
+  module _ {X Y : Type 0} (change : Y → Fixed → Change X Fixed) (lawful : (y : Y) → IsLawfulChange own X (change y)) where
+    abbrev By : Option Y → Fixed → Change X Fixed
+    By o old r new = MatchOption o (gives (Err Badarg) old r new) (λ y. change y old r new)
+
+    by-unseen : (o : Option Y) (old new : Fixed) (r : Result X Refusal) → By o old r new
+        → By o (seen_fixed old) r (seen_fixed new)
+    by-unseen None old new r h = (h.0, ap seen_fixed h.1)
+    by-unseen (Some y) old new r h = (lawful y).unseen old new r h
+
+    by-tame : (o : Option Y) (old new : Fixed) (r : Result X Refusal) → Comes (By o old) old r new → IsTame own old new
+    by-tame None old new r h = gave-tame (Err Badarg) old old new r (tame-same own old old refl) h
+    by-tame (Some y) old new r h = (lawful y).tame old new r h
+
+  module _ (needs : Bool) where
+    comes-of : {X : Type 0} (answer : X → Reply) (change : Change X Fixed) (old new : Fixed) (r : Result X Refusal) (reply : Reply)
+        → change r new → IsReply answer r reply → Comes change old r new
+    comes-of answer change old new (Ok x) reply h e = h
+    comes-of answer change old new (Err Badarg) reply h e = h
+    comes-of answer change old new (Err SystemLimit) reply h e = h
+    comes-of answer change old new (Err Memory) reply h e = absurd e
+
+    replied : {X : Type 0} (answer : X → Reply) (change : Fixed → Change X Fixed)
+        → (needs ≡ false → (x : X) → is_flat (answer x) ≡ true) → IsLawfulChange own X change
+        → IsLawful own needs (replies answer change)
+    replied answer change flat lawful = record {
+      unseen = λ old new reply h. (h.0, lawful.unseen old new h.0 h.1, h.2);
+      tame = λ old new reply h. lawful.tame old new h.0 (comes-of answer (change old) old new h.0 reply h.1 h.2);
+      flat = λ n old new reply h. told-flat answer (flat n) h.0 reply h.2;
+    }
+
+    -- ---- insertion
+    pub insert-lawful : (argument : Term) → IsLawful own needs (Insert argument)
+    insert-lawful argument =
+        replied _ (on_content (Inserts (objects_in argument))) (λ n x. true-flat)
+        (on-content (Inserts (objects_in argument)) (insert-keeps (objects_in argument)) (inserts-free (objects_in argument)))
+
+    pub insert_new-lawful : (argument : Term) → IsLawful own needs (InsertNew argument)
+    insert_new-lawful argument =
+        replied _ (on_content (InsertsNew (objects_in argument))) (λ n. truth-flat)
+        (on-content (InsertsNew (objects_in argument)) (insert_new-keeps (objects_in argument)) (news-free (objects_in argument)))
+
+    -- ---- removal
+    -- these objects go, with this answer
+    drops : (answer : Fixed → Reply) (which : Which) → ((old : Fixed) → answer (seen_fixed old) ≡ answer old)
+        → (needs ≡ false → (old : Fixed) → is_flat (answer old) ≡ true)
+        → IsLawful own needs (λ old reply new. (reply ≡ answer old) × (new ≡ without which old))
+    drops answer which same flat = record {
+      unseen = λ old new reply h. (h.0 ∙ sym (same old), ap seen_fixed h.1);
+      tame = λ old new reply h. subst (IsTame own old) (sym h.1) (tame-without own which old);
+      flat = λ n old new reply h. ap is_flat h.0 ∙ flat n old;
+    }
+
+    pub take-lawful : needs ≡ true → (key : Term) → IsLawful own needs (Take key)
+    take-lawful needed key = drops _ (of_key key) (λ old. refl) (λ n. contrary needed n)
+
+    pub delete-lawful : (key : Term) → IsLawful own needs (Delete key)
+    delete-lawful key = drops _ (of_key key) (λ old. refl) (λ n old. true-flat)
+
+    pub delete_all-lawful : IsLawful own needs DeleteAllObjects
+    delete_all-lawful = drops _ each (λ old. refl) (λ n old. true-flat)
+
+    abbrev deletes : Term → Fixed → Change (Unit {0}) Fixed
+    deletes object table = on_content (DeletesObject (is_fixed table.fixes) object) table
+
+    -- the object's every instance goes
+    object-at : (hold : Bool) (o : Option Term) (object : Term) (old new : Content) (r : Result (Unit {0}) Refusal)
+        → MatchOption o (gives (Err Badarg) old r new) (λ _. gives (Ok tt) (without_those hold (equal_to object) old) r new)
+        → StaysFree old.slots new.slots
+    object-at hold None object old new r h = unchanged-free old new h.1
+    object-at hold (Some key) object old new r h =
+        subst (λ (c : Content). StaysFree old.slots c.slots) (sym h.1) (dropped-free hold (equal_to object) old.slots)
+
+    object-done : (object : Term) (old new : Fixed) (r : Result (Unit {0}) Refusal) → deletes object old r new
+        → IsTame own old new
+    object-done object old new r h =
+        tame-content own old new h.1 (delete_object-keeps object old new r h)
+        (object-at (is_fixed old.fixes) (key_of old.content.keypos object) object old.content new.content r h.0)
+
+    object-tame : (object : Term) (old new : Fixed) (r : Result (Unit {0}) Refusal)
+        → Comes (deletes object old) old r new → IsTame own old new
+    object-tame object old new (Ok x) h = object-done object old new (Ok x) h
+    object-tame object old new (Err Badarg) h = object-done object old new (Err Badarg) h
+    object-tame object old new (Err SystemLimit) h = object-done object old new (Err SystemLimit) h
+    object-tame object old new (Err Memory) h = tame-same own old new h
+
+    pub delete_object-lawful : (object : Term) → IsLawful own needs (DeleteObject object)
+    delete_object-lawful object =
+        replied _ (deletes object) (λ n x. true-flat) (record { unseen = λ old new r h. (h.0, ap seen_fixed h.1); tame = object-tame object })
+
+    -- ---- searching
+    deletes-unseen : {X : Type 0} (good : Bool) (answer : X) (which : Which) (old new : Fixed) (r : Result X Refusal)
+        → Deletes good answer which old r new → Deletes good answer which (seen_fixed old) r (seen_fixed new)
+    deletes-unseen true answer which old new r h = (h.0, ap seen_fixed h.1)
+    deletes-unseen false answer which old new r h = (h.0, ap seen_fixed h.1)
+
+    deletes-tame : {X : Type 0} (good : Bool) (answer : X) (which : Which) (old new : Fixed) (r : Result X Refusal)
+        → Comes (Deletes good answer which old) old r new → IsTame own old new
+    deletes-tame true answer which old new r h =
+        gave-tame (Ok answer) (without which old) old new r (tame-without own which old) h
+    deletes-tame false answer which old new r h = gave-tame (Err Badarg) old old new r (tame-same own old old refl) h
+
+    pub match_delete-lawful : (pattern : Term) → IsLawful own needs (MatchDelete pattern)
+    match_delete-lawful pattern = replied _ (DeletesMatching pattern) (λ n x. true-flat) (record {
+      unseen = deletes-unseen (is_pattern (data_of pattern)) tt (λ _. matches pattern);
+      tame = deletes-tame (is_pattern (data_of pattern)) tt (λ _. matches pattern);
+    })
+
+    pub select_delete-lawful : (spec : Term) → IsLawful own needs (SelectDelete spec)
+    select_delete-lawful spec = replied _ (DeletesChosen spec) (λ n. count-flat) (record {
+      unseen =
+          λ old. deletes-unseen (is_spec (data_of spec)) (chosen_count (is_chosen spec) (all_objects old.content.slots)) (λ _. is_chosen spec) old;
+      tame =
+          λ old. deletes-tame (is_spec (data_of spec)) (chosen_count (is_chosen spec) (all_objects old.content.slots)) (λ _. is_chosen spec) old;
+    })
+
+    -- ---- updates
+    pub update_counter-lawful : needs ≡ true → (key updates : Term) (default : Option Term)
+        → IsLawful own needs (UpdateCounter key updates default)
+    update_counter-lawful needed key updates default =
+        replied _ (Counts key updates default) (λ n. contrary needed n) (record {
+          unseen =
+              λ old. by-unseen (λ ops. on_content (UpdatesCounter key ops default)) lawful (ops_of old.content.keypos updates) old;
+          tame =
+              λ old. by-tame (λ ops. on_content (UpdatesCounter key ops default)) lawful (ops_of old.content.keypos updates) old;
+        })
+      where
+        lawful : (ops : _) → IsLawfulChange own Term (on_content (UpdatesCounter key ops default))
+        lawful ops =
+            on-content (UpdatesCounter key ops default) (update_counter-keeps key ops default) (counter-free key ops default)
+
+    pub update_element-lawful : (key updates : Term) (default : Option Term)
+        → IsLawful own needs (UpdateElement key updates default)
+    update_element-lawful key updates default = replied _ (WritesTold key updates default) (λ n. truth-flat) (record {
+      unseen =
+          λ old. by-unseen (λ specs. on_content (UpdatesElement key specs default)) lawful (specs_of old.content.keypos updates) old;
+      tame =
+          λ old. by-tame (λ specs. on_content (UpdatesElement key specs default)) lawful (specs_of old.content.keypos updates) old;
+    })
+      where
+        lawful : (specs : _) → IsLawfulChange own Bool (on_content (UpdatesElement key specs default))
+        lawful specs =
+            on-content (UpdatesElement key specs default) (update_element-keeps key specs default) (element-free key specs default)
+
+-- ---- fixes
+module _ (p : ℕ) (needs : Bool) where
+  pub fixes-lawful : IsLawful (λ w. p == w) needs (Fixes p)
+  fixes-lawful = record {
+    unseen = λ old new reply h. (h.0, fixes-seen p old new h.0 h.1, h.2);
+    tame = λ old new reply h. fixes-tame p old new h.0 h.1;
+    flat = λ n old new reply h. fix-flat h.0 reply h.2;
+  }
+
+  pub releases-lawful : IsLawful (λ w. p == w) needs (Releases p)
+  releases-lawful = record {
+    unseen = λ old new reply h. (h.0, ap seen_fixed h.1 ∙ sym (released-seen p old));
+    tame = λ old new reply h. subst (IsTame (λ w. p == w) old) (sym h.1) (released-tame p old);
+    flat = λ n old new reply h. ap is_flat h.0 ∙ true-flat;
+  }
