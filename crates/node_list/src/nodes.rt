@@ -1,4 +1,4 @@
-ghost use Rattle.std.specs.Prelude.{◌≡◌, ℕ, ◌+◌, ◌<◌, ◌≤◌, ◌-◌, ◌^◌, [], Some, None, IsOk, OnOk, option_copied, vec_capacity};
+ghost use Rattle.std.specs.Prelude.{◌≡◌, ℕ, ◌+◌, ◌<◌, ◌≤◌, ◌-◌, ◌^◌, [], Some, None, IsOk, OnOk, option_copied};
 ghost use Rattle.std.specs.Borrow.{sem};
 ghost use Rattle.slab.specs.Slab.{get, slab_len, ContainsKey, HasRoomFor, Updates};
 ghost use Rattle.node_list.specs.inside.Slots.{ShowsFront, ShowsChain, ShowsItem, Relinks, HasItemIn, IsItemFromIn, PutsSlot};
@@ -13,35 +13,35 @@ use crate::low::{has_item, lowered, raised};
 use crate::node::{Item, Node};
 use crate::packed::Packed;
 use crate::seen::Seen;
+use segments::Segments;
 use slab::Slab;
 use std::alloc::{AllocError, Global};
 use std::marker::Model;
-use std::mem;
 
 /// How many nodes room is made for at first.
 const FIRST_ROOM: usize = 8;
 
-/// For how many nodes more room is made: as many as there are, so that growth costs each node a constant.
+/// For how many nodes more room is made: as many as there are and 8, in step with the segments of the items, so that growth
+/// costs each node a constant.
 fn growth(len: usize, additional: usize) -> usize
     ensures { additional ≤ result }
 {
-    additional.max(len).max(FIRST_ROOM)
+    additional.max(len.saturating_add(FIRST_ROOM))
 }
 
 /// Puts a slot at a place. The slab gives its places out in turn, but does not promise it, so there may be a gap.
 #[inline(always)]
-fn put_slot(items: &mut Vec<Item>, at: usize, slot: Item)
-    requires { at < vec_capacity items.old }
+fn put_slot(items: &mut Segments<Item>, alloc: Global, at: usize, slot: Item)
+    requires { at < items.old.capacity }
     ensures puts { PutsSlot items.old.items items.new.items at slot }
-    ensures capacity { vec_capacity items.old ≤ vec_capacity items.new }
+    ensures capacity { items.new.capacity ≡ items.old.capacity }
 {
     if at < items.len() {
-        items[at] = slot;
+        let _stand_in = items.replace(at, slot);
         return;
     }
-    let alloc = *items.allocator();
-    if items.len() < at && items.resize_with(at, || Item::stand_in(alloc)).is_err() {
-        unreachable!();
+    while items.len() < at {
+        items.push_reserved(Item::stand_in(alloc));
     }
     items.push_reserved(slot);
 }
@@ -50,9 +50,10 @@ fn put_slot(items: &mut Vec<Item>, at: usize, slot: Item)
 /// contract sees them as a slab of whole nodes.
 #[derive(Drop)]
 pub struct Nodes {
+    alloc: Global,
     nodes: Slab<Packed>,
     /// With room for as many as the slab can hold. A place with no item has a stand-in, or lies past their end.
-    items: Vec<Item>,
+    items: Segments<Item>,
     /// Below this place there is no item.
     low: usize,
 }
@@ -83,8 +84,9 @@ impl Nodes {
         ensures first { result.vacant_key ≡ 0 }
     {
         Nodes {
+            alloc,
             nodes: Slab::new(alloc),
-            items: Vec::new(alloc),
+            items: Segments::new(alloc),
             low: 0,
         }
     }
@@ -100,11 +102,11 @@ impl Nodes {
         if self.nodes.capacity() - len >= additional {
             return Ok(());
         }
-        // A place needs room in both arrays, and either can be refused: so it is a copy of the first that grows.
+        // A place needs room in both, and either can be refused: so it is a copy of the slab that grows.
         let mut nodes = self.nodes.clone()?;
         nodes.reserve_exact(growth(len, additional))?;
         let more = nodes.capacity().saturating_sub(self.items.len());
-        self.items.reserve_exact(more)?;
+        self.items.reserve(more)?;
         self.nodes = nodes;
         Ok(())
     }
@@ -121,14 +123,15 @@ impl Nodes {
         ensures in_range { result < 2 ^ 63 - 1 }
         ensures capacity { self.new.capacity ≡ self.old.capacity }
     {
+        let _room = self.items.capacity();
         let Node { key, next, item } = node;
         let is_item = item.is_some();
-        let slot = Item::or_stand_in(item, *self.items.allocator());
+        let slot = Item::or_stand_in(item, self.alloc);
         let at = self
             .nodes
             .insert_reserved(Packed::new(Front { key, next }, is_item));
         self.low = lowered(self.low, at, is_item);
-        put_slot(&mut self.items, at, slot);
+        put_slot(&mut self.items, self.alloc, at, slot);
         at
     }
 
@@ -142,8 +145,8 @@ impl Nodes {
         ensures capacity { self.new.capacity ≡ self.old.capacity }
     {
         let packed = self.nodes.remove(at);
-        let stand_in = Item::stand_in(*self.items.allocator());
-        let slot = mem::replace(&mut self.items[at], stand_in);
+        let stand_in = Item::stand_in(self.alloc);
+        let slot = self.items.replace(at, stand_in);
         self.low = raised(&self.nodes, self.low, self.items.len());
         let Front { key, next } = packed.front();
         Node {
@@ -169,7 +172,7 @@ impl Nodes {
         Seen {
             front: packed.front(),
             has_item: packed.is_item(),
-            slot: &self.items[at],
+            slot: self.items.at(at),
         }
     }
 
@@ -180,7 +183,7 @@ impl Nodes {
         ensures { ShowsItem self.now at (option_copied result) }
     {
         if self.nodes[at].is_item() {
-            Some(&self.items[at])
+            Some(self.items.at(at))
         } else {
             None
         }
@@ -233,6 +236,6 @@ impl Nodes {
         ensures* lends { sem 𝓛 (LendsChainIn at self.entry result) }
         ensures value { ShowsChain self.old at result.now }
     {
-        &mut self.items[at].chain
+        &mut self.items.at_mut(at).chain
     }
 }

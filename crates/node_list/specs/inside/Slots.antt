@@ -1,5 +1,6 @@
 -- How nodes lie in two arrays: their fronts in a slab, and beside it a slot for each, which is its item, or at a dummy anything.
-use Rattle.std.specs.Prelude.{◌≡◌, ◌≤◌, ◌<◌, ◌≢◌, ℕ, pos, Bool, true, false, List, [], ◌∷◌, length, slice_get, slice_index_or, Option, Some, None, IsSome, option_map, Vec, vec_capacity, vec_items}
+use Rattle.std.specs.Prelude.{◌≡◌, ◌≤◌, ◌<◌, ◌≢◌, ℕ, pos, Bool, true, false, List, [], ◌∷◌, length, slice_get, slice_index_or, Option, Some, None, IsSome, option_map}
+use Rattle.segments.specs.Segmented.{Segmented}
 use Rattle.slab.specs.Slab.{Slab, get, with_value}
 use Rattle.ets_term.specs.declared.term.Term.{Term}
 use Rattle.ets_term.specs.declared.term.Term.TheVariants.{Int}
@@ -47,9 +48,9 @@ abbrev pub HaveNoItem : ℕ → ℕ → Slab Packed → Type 0
 HaveNoItem from to nodes = (k : ℕ) → from ≤ k → k < to → marks_item (get nodes k) ≡ false
 
 -- whatever place the slab gives out has room for a slot, and every place with a node has a slot; below `low` there is no item
-pub record AreNodes {A : Type 0} (nodes : Slab Packed) (items : Vec Item A) (low : ℕ) : Type 0 where
-  pub room : nodes.capacity ≤ vec_capacity items
-  pub within : (k : ℕ) → IsSome (get nodes k) → k < length (vec_items items)
+pub record AreNodes (nodes : Slab Packed) (items : Segmented Item) (low : ℕ) : Type 0 where
+  pub room : nodes.capacity ≤ items.capacity
+  pub within : (k : ℕ) → IsSome (get nodes k) → k < length items.items
   pub below : (k : ℕ) → k < low → marks_item (get nodes k) ≡ false
 
 -- a place has this slot now, and every other that had one has it yet

@@ -35,7 +35,7 @@ returns-clause-len c =
     ∙ (c.insert_reserved-at.ensures.len ∙ (ap (λ k. k + 1) (sym (count-nodes c.self.inside.nodes.slots c.self.inside.items.items)) ∙ ap (λ (v : Slab Node). slab_len v + 1) c.self.view_is))
 
 pub returns-clause-in_range : goal.returns-clause-in_range
-returns-clause-in_range c = omega (arith, c.insert_reserved-at.ensures.key_in_range, c.insert_reserved-at.ensures.capacity, c.self.invariant.room, c.self.inside.items.small)
+returns-clause-in_range c = omega (arith, c.insert_reserved-at.ensures.key_in_range, c.insert_reserved-at.ensures.capacity, c.self.invariant.room, c.capacity-room.ensures.value, c.capacity-room.ensures.few)
 
 pub invariant_of-self : goal.invariant_of-self
 invariant_of-self c =

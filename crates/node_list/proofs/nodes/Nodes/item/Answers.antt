@@ -10,20 +10,20 @@ index-requires c =
     let P : Slab Node → Type 0 = λ v. IsSome (get v c.args.at) in
     has-front c.self.inside.nodes c.self.inside.items.items c.args.at (subst P (sym c.self.view_is) c.requires)
 
-pub index-requires-then-is_item : goal.index-requires-then-is_item
-index-requires-then-is_item c =
+pub at-requires : goal.at-requires
+at-requires c =
     let P : Slab Node → Type 0 = λ v. IsSome (get v c.args.at) in
-    omega (arith, c.self.invariant.within c.args.at (has-front c.self.inside.nodes c.self.inside.items.items c.args.at (subst P (sym c.self.view_is) c.requires)), c.self.inside.items.ok.0)
+    omega (arith, c.self.invariant.within c.args.at (has-front c.self.inside.nodes c.self.inside.items.items c.args.at (subst P (sym c.self.view_is) c.requires)))
 
 pub returns-then-is_item : goal.returns-then-is_item
 returns-then-is_item c =
     let P : Slab Node → Type 0 = λ v. IsSome (get v c.args.at) in
     let inside : c.args.at < length c.self.inside.items.items = c.self.invariant.within c.args.at (has-front c.self.inside.nodes c.self.inside.items.items c.args.at (subst P (sym c.self.view_is) c.requires)) in
-    let slot = c.index-then-is_item.result.now in
+    let slot = c.at.result.now in
     record {
       node = whole c.index.result.now slot;
       is = sym (ap (λ (v : Slab Node). get v c.args.at) c.self.view_is)
-          ∙ node-is c.self.inside.nodes c.self.inside.items.items c.args.at c.index.result.now slot c.index.ensures (read c.self.inside.items.items c.args.at slot inside c.index-then-is_item.ensures);
+          ∙ node-is c.self.inside.nodes c.self.inside.items.items c.args.at c.index.result.now slot c.index.ensures (read c.self.inside.items.items c.args.at slot inside c.at.ensures);
       shows = ap (λ (b : Bool). item_if b slot) (sym c.is_item.ensures ∙ c.if-is_item.true);
     }
 

@@ -13,5 +13,5 @@ returns-then-has_item c =
 pub returns : goal.returns
 returns c =
     let b : Beside c.self.inside.nodes c.self.inside.items.items c.args.self.now = record { are = ap (λ (v : Slab Node). v.slots) c.self.view_is; within = c.self.invariant.within } in
-    let end : length c.self.inside.items.items ≤ c.loop-at.at = omega (arith, c.loop-at-test.false, c.len-at-end.ensures, c.self.inside.items.ok.0) in
+    let end : length c.self.inside.items.items ≤ c.loop-at.at = omega (arith, c.loop-at-test.false, c.len-at-end.ensures) in
     no-item_left c.self.inside.nodes c.self.inside.items.items c.args.self.now c.args.start c.loop-at.at b c.loop-at.invariant end

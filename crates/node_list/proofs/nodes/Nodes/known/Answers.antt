@@ -7,4 +7,4 @@ use Rattle.node_list.proofs.nodes.Nodes.known.Goals as goal
 pub returns : goal.returns
 returns c = λ at some.
     let P : Slab Node → Type 0 = λ v. IsSome (get v at) in
-    omega (arith, c.self.invariant.within at (has-front c.self.inside.nodes c.self.inside.items.items at (subst P (sym c.self.view_is) some)), c.len-places.ensures, c.self.inside.items.ok.0)
+    omega (arith, c.self.invariant.within at (has-front c.self.inside.nodes c.self.inside.items.items at (subst P (sym c.self.view_is) some)), c.len-places.ensures)

@@ -23,15 +23,15 @@ returns-in_err-reserve_exact-clause-succeeds c = λ room.
     let have : HasRoomFor (record { slots = nodes_of c.self.inside.nodes.slots c.self.inside.items.items; vacant_key = c.self.inside.nodes.vacant_key; capacity = c.self.inside.nodes.capacity }) c.args.additional = subst P (sym c.self.view_is) room in
     absurd (omega (arith, have, c.if-capacity-len.false, c.capacity.ensures.value, c.capacity.ensures.holds_all, c.len-len.ensures, count-nodes c.self.inside.nodes.slots c.self.inside.items.items))
 
-pub returns-in_err-reserve_exact-2-clause-succeeds : goal.returns-in_err-reserve_exact-2-clause-succeeds
-returns-in_err-reserve_exact-2-clause-succeeds c = λ room.
+pub returns-in_err-reserve-clause-succeeds : goal.returns-in_err-reserve-clause-succeeds
+returns-in_err-reserve-clause-succeeds c = λ room.
     let P : Slab Node → Type 0 = λ v. HasRoomFor v c.args.additional in
     let have : HasRoomFor (record { slots = nodes_of c.self.inside.nodes.slots c.self.inside.items.items; vacant_key = c.self.inside.nodes.vacant_key; capacity = c.self.inside.nodes.capacity }) c.args.additional = subst P (sym c.self.view_is) room in
     absurd (omega (arith, have, c.if-capacity-len.false, c.capacity.ensures.value, c.capacity.ensures.holds_all, c.len-len.ensures, count-nodes c.self.inside.nodes.slots c.self.inside.items.items))
 
 pub returns-clause-room : goal.returns-clause-room
 returns-clause-room c =
-    omega (arith, c.growth.ensures, c.in_ok-reserve_exact.ensures.room, count-nodes c.reserve_exact.new.self.slots c.reserve_exact-2.new.self.items)
+    omega (arith, c.growth.ensures, c.in_ok-reserve_exact.ensures.room, count-nodes c.reserve_exact.new.self.slots c.reserve.new.self.items)
 
 pub returns-clause-capacity : goal.returns-clause-capacity
 returns-clause-capacity c =
@@ -45,7 +45,7 @@ returns-clause-rest_kept c =
     let copy : c.in_ok-nodes.nodes.slots ≡ c.self.inside.nodes.slots = cloned c.self.inside.nodes c.in_ok-nodes.nodes c.in_ok-nodes.ensures.cases in
     let same : c.reserve_exact.new.self.slots ≡ c.self.inside.nodes.slots = ap (λ (s : Slab Packed). s.slots) c.reserve_exact.ensures.rest_kept ∙ copy in
     let key : c.reserve_exact.new.self.vacant_key ≡ c.self.inside.nodes.vacant_key = ap (λ (s : Slab Packed). s.vacant_key) c.reserve_exact.ensures.rest_kept ∙ c.in_ok-nodes.ensures.cases.vacant_key in
-    let items : nodes_of c.self.inside.nodes.slots c.reserve_exact-2.new.self.items ≡ nodes_of c.self.inside.nodes.slots c.self.inside.items.items = ap (nodes_of c.self.inside.nodes.slots) c.reserve_exact-2.ensures.items in
-    let slots = ap (λ (os : List (Option Packed)). nodes_of os c.reserve_exact-2.new.self.items) same ∙ (items ∙ ap (λ (v : Slab Node). v.slots) c.self.view_is) in
+    let items : nodes_of c.self.inside.nodes.slots c.reserve.new.self.items ≡ nodes_of c.self.inside.nodes.slots c.self.inside.items.items = ap (nodes_of c.self.inside.nodes.slots) c.reserve.ensures.items in
+    let slots = ap (λ (os : List (Option Packed)). nodes_of os c.reserve.new.self.items) same ∙ (items ∙ ap (λ (v : Slab Node). v.slots) c.self.view_is) in
     ap (λ (zs : List (Option Node)). let z : Slab Node = record { slots = zs; vacant_key = c.reserve_exact.new.self.vacant_key; capacity = c.reserve_exact.new.self.capacity } in z) slots
     ∙ ap (λ k. let z : Slab Node = record { slots = c.args.self.now.slots; vacant_key = k; capacity = c.reserve_exact.new.self.capacity } in z) (key ∙ ap (λ (v : Slab Node). v.vacant_key) c.self.view_is)

@@ -14,5 +14,5 @@ returns c =
     let P : Slab Node → Type 0 = λ v. IsSome (get v c.args.at) in
     let inside : c.args.at < length c.self.inside.items.items = c.self.invariant.within c.args.at (has-front c.self.inside.nodes c.self.inside.items.items c.args.at (subst P (sym c.self.view_is) c.requires)) in
     sym (ap (λ (v : Slab Node). get v c.args.at) c.self.view_is)
-    ∙ (node-is c.self.inside.nodes c.self.inside.items.items c.args.at c.index-packed.result.now c.index.result.now c.index-packed.ensures (read c.self.inside.items.items c.args.at c.index.result.now inside c.index.ensures)
-    ∙ seen-whole c.index-packed.result.now c.index.result.now c.front.result c.is_item.result c.front.ensures.key c.front.ensures.next c.is_item.ensures)
+    ∙ (node-is c.self.inside.nodes c.self.inside.items.items c.args.at c.index-packed.result.now c.at.result.now c.index-packed.ensures (read c.self.inside.items.items c.args.at c.at.result.now inside c.at.ensures)
+    ∙ seen-whole c.index-packed.result.now c.at.result.now c.front.result c.is_item.result c.front.ensures.key c.front.ensures.next c.is_item.ensures)
