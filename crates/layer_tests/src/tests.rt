@@ -1,4 +1,5 @@
 mod depths;
+mod elements;
 mod fixes;
 mod hashes;
 mod keyed;

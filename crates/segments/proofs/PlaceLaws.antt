@@ -5,7 +5,8 @@ use Rattle.std.proofs.lemmas.Nat.{leading_top, pow-add, pow_pos, mul-le, one_shl
 use Rattle.segments.specs.inside.Places.{IsPlace}
 
 -- the place by the power of two up to an index
-pub placed : (index bits offset : ℕ) → 3 ≤ bits → offset < 2 ^ bits → index + 8 ≡ 2 ^ bits + offset → IsPlace 8 index (bits - 3) offset
+pub placed : (index bits offset : ℕ) → 3 ≤ bits → offset < 2 ^ bits → index + 8 ≡ 2 ^ bits + offset
+    → IsPlace 8 index (bits - 3) offset
 placed index bits offset three below is =
     let k = bits - 3 in
     let e : 2 ^ bits ≡ 8 * 2 ^ k = ap (λ n. 2 ^ n) (omega arith) ∙ pow-add 2 3 k in
@@ -52,7 +53,8 @@ pub record IsBeyond (size index segment offset : ℕ) : Type 0 where
   pub from : size ≤ index
   pub place : IsPlace (size + size) (index - size) segment offset
 
-pub beyond : (size index segment offset : ℕ) → IsPlace size index (suc segment) offset → IsBeyond size index segment offset
+pub beyond : (size index segment offset : ℕ) → IsPlace size index (suc segment) offset
+    → IsBeyond size index segment offset
 beyond size index segment offset p =
     let e = double-size size segment in
     let least = at-least (size + size) segment in

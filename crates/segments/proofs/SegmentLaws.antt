@@ -8,11 +8,13 @@ use Rattle.segments.specs.Segmented.{Segmented}
 use Rattle.segments.proofs.PlaceLaws.{beyond, double-size}
 
 module _ {X : Type 0} where
-  set-append_right : (xs ys : List X) (n i : ℕ) (x : X) → length xs ≡ n → n ≤ i → set (xs ++ ys) i x ≡ xs ++ set ys (i - n) x
+  set-append_right : (xs ys : List X) (n i : ℕ) (x : X) → length xs ≡ n → n ≤ i
+      → set (xs ++ ys) i x ≡ xs ++ set ys (i - n) x
   set-append_right [] ys n i x e h = ap (λ k. set ys k x) (omega (arith, e))
   set-append_right (y ∷ xs) ys n zero x e h = absurd (omega (arith, e, h))
   set-append_right (y ∷ xs) ys n (suc i) x e h =
-      ap (λ zs. y ∷ zs) (set-append_right xs ys (n - 1) i x (omega (arith, e)) (omega (arith, e, h)) ∙ ap (λ k. xs ++ set ys k x) (omega (arith, e)))
+      ap (λ zs. y ∷ zs) (set-append_right xs ys (n - 1) i x (omega (arith, e)) (omega (arith, e, h)) ∙ ap
+      (λ k. xs ++ set ys k x) (omega (arith, e)))
 
 module _ {T A : Type 0} where
   pub items-length : (size len : ℕ) (ss : List (Vec T A)) → AreSegments size len ss → length (items_of ss) ≡ len
@@ -27,7 +29,8 @@ module _ {T A : Type 0} where
   pub room-is : (size : ℕ) (ss : List (Vec T A)) → room_of size ss + size ≡ size * 2 ^ length ss
   room-is size [] = omega arith
   room-is size (s ∷ rest) =
-      let more : size + room_of (size + size) rest + size ≡ (size + size) * 2 ^ length rest = omega (arith, room-is (size + size) rest) in
+      let more : size + room_of (size + size) rest + size ≡ (size + size) * 2 ^ length rest =
+      omega (arith, room-is (size + size) rest) in
       more ∙ sym (double-size size (length rest))
 
   pub room-few : (ss : List (Vec T A)) → length ss ≤ 56 → room_of 8 ss < 2 ^ 62
@@ -92,7 +95,8 @@ module _ {T A : Type 0} where
     pub room : room_of size new ≡ room_of size old
 
   pub pushed : (size len segment offset : ℕ) (ss : List (Vec T A)) → AreSegments size len ss → len < room_of size ss
-      → IsPlace size len segment offset → (s t : Vec T A) → s ≡ get_or ss segment s → (x : T) → t.items ≡ s.items ++ x ∷ [] → t.cap ≡ s.cap
+      → IsPlace size len segment offset → (s t : Vec T A) → s ≡ get_or ss segment s → (x : T)
+      → t.items ≡ s.items ++ x ∷ [] → t.cap ≡ s.cap
       → IsPushed size len ss (set ss segment t) x
   pushed size len segment offset [] a h p s t e x is cap = absurd (omega (arith, h))
   pushed size len zero offset (u ∷ rest) a h p s t e x is cap =
@@ -108,12 +112,15 @@ module _ {T A : Type 0} where
           omega (arith, longer, a.1, p.is, p.within),
           subst F (omega (arith, p.is, p.within)) a.2,
         );
-        items = ap (λ xs. t.items ++ xs) none ∙ (append-nil t.items ∙ (items ∙ ap (λ xs. xs ++ x ∷ []) (sym (ap (λ xs. u.items ++ xs) none ∙ append-nil u.items))));
+        items = ap (λ xs. t.items ++ xs) none ∙
+            (append-nil t.items ∙ (items ∙ ap (λ xs. xs ++ x ∷ [])
+            (sym (ap (λ xs. u.items ++ xs) none ∙ append-nil u.items))));
         room = refl;
       }
   pushed size len (suc segment) offset (u ∷ rest) a h p s t e x is cap =
       let b = beyond size len segment offset p in
-      let r = pushed (size + size) (len - size) segment offset rest a.2 (omega (arith, h, b.from)) b.place s t e x is cap in
+      let r = pushed (size + size) (len - size) segment offset rest a.2 (omega (arith, h, b.from)) b.place s t e x is
+      cap in
       let F : ℕ → Type 0 = λ n. AreSegments (size + size) n (set rest segment t) in
       record {
         filled = (a.0, omega (arith, a.1, b.from), subst F (omega (arith, b.from)) r.filled);
@@ -128,26 +135,31 @@ module _ {T A : Type 0} where
     pub room : room_of size new ≡ room_of size old
 
   pub written : (size len index segment offset : ℕ) (ss : List (Vec T A)) → AreSegments size len ss → index < len
-      → IsPlace size index segment offset → (s t : Vec T A) → s ≡ get_or ss segment s → (x : T) → t.items ≡ set s.items offset x → t.cap ≡ s.cap
+      → IsPlace size index segment offset → (s t : Vec T A) → s ≡ get_or ss segment s → (x : T)
+      → t.items ≡ set s.items offset x → t.cap ≡ s.cap
       → IsWritten size len index ss (set ss segment t) x
   written size len index segment offset [] a h p s t e x is cap = absurd (omega (arith, a, h))
   written size len index zero offset (u ∷ rest) a h p s t e x is cap =
       let at : index ≡ offset = omega (arith, p.is) in
       let same : s.items ≡ u.items = ap (λ (v : Vec T A). v.items) e in
       let room : s.cap ≡ u.cap = ap (λ (v : Vec T A). v.cap) e in
-      let items : t.items ≡ set u.items index x = is ∙ (ap (λ xs. set xs offset x) same ∙ ap (λ n. set u.items n x) (sym at)) in
+      let items : t.items ≡ set u.items index x =
+      is ∙ (ap (λ xs. set xs offset x) same ∙ ap (λ n. set u.items n x) (sym at)) in
       let long : length t.items ≡ length u.items = ap length items ∙ length-set u.items index x in
       record {
         filled = (omega (arith, a.0, cap, room), omega (arith, long, a.1), a.2);
-        items = ap (λ xs. xs ++ items_of rest) items ∙ sym (set-append_left u.items (items_of rest) index x (omega (arith, a.1, p.within, h, at)));
+        items = ap (λ xs. xs ++ items_of rest) items ∙ sym
+            (set-append_left u.items (items_of rest) index x (omega (arith, a.1, p.within, h, at)));
         room = refl;
       }
   written size len index (suc segment) offset (u ∷ rest) a h p s t e x is cap =
       let b = beyond size index segment offset p in
-      let r = written (size + size) (len - size) (index - size) segment offset rest a.2 (omega (arith, h, b.from)) b.place s t e x is cap in
+      let r = written (size + size) (len - size) (index - size) segment offset rest a.2 (omega (arith, h, b.from))
+      b.place s t e x is cap in
       record {
         filled = (a.0, a.1, r.filled);
-        items = ap (λ xs. u.items ++ xs) r.items ∙ sym (set-append_right u.items (items_of rest) size index x (omega (arith, a.1, h, b.from)) b.from);
+        items = ap (λ xs. u.items ++ xs) r.items ∙ sym
+            (set-append_right u.items (items_of rest) size index x (omega (arith, a.1, h, b.from)) b.from);
         room = omega (arith, r.room);
       }
 
@@ -170,7 +182,8 @@ module _ {T A : Type 0} where
       let e = double-size size (length rest) in
       let c : size * 2 ^ suc (length rest) ≤ s.cap = cap in
       let r = extended (size + size) (len - size) rest a.2 s is (omega (arith, c, e)) in
-      let room : size + room_of (size + size) (rest ++ s ∷ []) ≡ size + room_of (size + size) rest + size * 2 ^ suc (length rest) = omega (arith, r.room, e) in
+      let room : size + room_of (size + size) (rest ++ s ∷ []) ≡ size + room_of (size + size) rest + size * 2 ^ suc
+      (length rest) = omega (arith, r.room, e) in
       record {
         filled = (a.0, a.1, r.filled);
         items = ap (λ xs. u.items ++ xs) r.items;
@@ -189,8 +202,8 @@ module _ {T A : Type 0} where
     pub fits : len ≤ v.capacity
     pub few : v.capacity < 2 ^ 62
 
-  pub opens : (ss : List (Vec T A)) (len : ℕ) (v : Segmented T) → AreSound ss len → shown ss ≡ v → Opens ss len v
-  opens ss len v a is =
+  pub opens : {ss : List (Vec T A)} {len : ℕ} {v : Segmented T} → AreSound ss len → shown ss ≡ v → Opens ss len v
+  opens {ss} {len} a is =
       let room = ap (λ (z : Segmented T). z.capacity) is in
       record {
         items = ap (λ (z : Segmented T). z.items) is;
@@ -202,14 +215,17 @@ module _ {T A : Type 0} where
 
   -- segments with another element at an index are sound, and show the list so changed
   pub sound-written : (ss : List (Vec T A)) (len index segment offset : ℕ) → AreSound ss len → index < len
-      → IsPlace 8 index segment offset → (s t : Vec T A) → s ≡ get_or ss segment s → (x : T) → t.items ≡ set s.items offset x → t.cap ≡ s.cap
+      → IsPlace 8 index segment offset → (s t : Vec T A) → s ≡ get_or ss segment s → (x : T)
+      → t.items ≡ set s.items offset x → t.cap ≡ s.cap
       → AreSound (set ss segment t) len
   sound-written ss len index segment offset a h p s t e x is cap =
       let r = written 8 len index segment offset ss a.filled h p s t e x is cap in
       record { filled = r.filled; few = omega (arith, a.few, length-set ss segment t) }
 
-  pub shows-written : (ss : List (Vec T A)) (len index segment offset : ℕ) (v : Segmented T) → AreSound ss len → shown ss ≡ v → index < len
-      → IsPlace 8 index segment offset → (s t : Vec T A) → s ≡ get_or ss segment s → (x : T) → t.items ≡ set s.items offset x → t.cap ≡ s.cap
+  pub shows-written : (ss : List (Vec T A)) (len index segment offset : ℕ) (v : Segmented T) → AreSound ss len
+      → shown ss ≡ v → index < len
+      → IsPlace 8 index segment offset → (s t : Vec T A) → s ≡ get_or ss segment s → (x : T)
+      → t.items ≡ set s.items offset x → t.cap ≡ s.cap
       → shown (set ss segment t) ≡ record v { items = set v.items index x }
   shows-written ss len index segment offset v a is h p s t e x items cap =
       let r = written 8 len index segment offset ss a.filled h p s t e x items cap in

@@ -80,9 +80,7 @@ impl<T> Segments<T> {
         ensures old { result ≡ slice_index_or self.old.items index result }
         ensures new { self.new ≡ record self.old { items = slice_set self.old.items index value } }
     {
-        let _len = self.len;
-        let Place { segment, offset } = place_of(index);
-        mem::replace(&mut self.segments[segment][offset], value)
+        mem::replace(self.at_mut(index), value)
     }
 
     /// The element at an index, for a change.
