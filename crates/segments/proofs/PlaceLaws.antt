@@ -1,7 +1,11 @@
 -- Laws of places.
-use Rattle.std.proofs.Common.{◌≡◌, ℕ, zero, suc, ◌+◌, ◌-◌, ◌*◌, ◌%◌, ◌^◌, ◌<◌, ◌≤◌, ◌∙◌, ap, arith, mod-eq_of_lt}
-use Rattle.std.specs.Int.{leading_zeros, w64}
-use Rattle.std.proofs.lemmas.Nat.{leading_top, pow-add, pow_pos, mul-le, one_shl, pow_below}
+use Rattle.std.proofs.Common.{◌≡◌, ℕ, inl, inr, zero, suc, ◌+◌, ◌-◌, ◌*◌, ◌%◌, ◌^◌, ◌<◌, ◌≤◌, ◌∙◌, ap, arith, mod-eq_of_lt}
+use Rattle.std.proofs.Math.Nat.{div-eq_of_lt-le}
+use Rattle.std.specs.Int.{bit_at}
+use Rattle.std.specs.Int.Bits.{bit_or, bit_and}
+use Rattle.std.proofs.lemmas.Bool.{cases_lt}
+use Rattle.std.proofs.lemmas.Nat.Bits.{and_pow}
+use Rattle.std.proofs.lemmas.Nat.{or_lt, le_or_l, and_comm, and-not, pow-add, pow_pos, mul-le, one_shl, pow_below}
 use Rattle.segments.specs.inside.Places.{IsPlace}
 
 -- the place by the power of two up to an index
@@ -22,25 +26,38 @@ doubled : (j : ℕ) → 2 ^ suc j ≡ 2 * 2 ^ j
 doubled j = ap (λ n. 2 ^ n) (omega arith) ∙ pow-add 2 1 j
 
 -- the highest bit of an index and 8
-pub record Highest (index bits : ℕ) : Type 0 where
+pub record Highest (past bits : ℕ) : Type 0 where
   pub three : 3 ≤ bits
-  pub few : bits < 64
-  pub from : 2 ^ bits ≤ index + 8
-  pub to : index + 8 < 2 ^ bits + 2 ^ bits
+  pub from : 2 ^ bits ≤ past
+  pub to : past < 2 ^ bits + 2 ^ bits
   pub shifted : (1 * 2 ^ bits) % 2 ^ 64 ≡ 2 ^ bits
 
-pub highest : (index : ℕ) → index < 2 ^ 63 → Highest index (63 - leading_zeros w64 (index + 8))
-highest index h =
-    let t = leading_top 64 (index + 8) (omega arith) (omega (arith, h)) in
-    let e : 63 - leading_zeros w64 (index + 8) ≡ t.0 = omega (arith, t.1) in
-    let double : 2 ^ suc t.0 ≡ 2 * 2 ^ t.0 = doubled t.0 in
-    rw e (record {
-      three = three-bits t.0 (index + 8) (omega arith) t.3;
-      few = omega (arith, t.1);
-      from = t.2;
-      to = omega (arith, t.3, double);
-      shifted = one_shl t.0 64 (omega (arith, t.1));
-    })
+-- the bit of 8 makes no highest bit higher, since no number here is below 8
+pub highest : (past bits : ℕ) → 8 ≤ past → 2 ^ bits ≤ bit_or past 8 → bit_or past 8 < 2 * 2 ^ bits → bits < 64
+    → Highest past bits
+highest past bits least from to few =
+    let double : 2 ^ suc bits ≡ 2 * 2 ^ bits = doubled bits in
+    let up : past ≤ bit_or past 8 = le_or_l past 8 in
+    record {
+      three = three-bits bits past least (omega (arith, up, to, double));
+      from = elim (cases_lt past (2 ^ bits)) [
+        | inl below ↦ absurd (omega (arith, or_lt bits past 8 below (omega (arith, below, least)), from))
+        | inr there ↦ there
+      ];
+      to = omega (arith, up, to);
+      shifted = one_shl bits 64 few;
+    }
+
+-- without its highest bit
+pub rest-of : (past bits : ℕ) → 2 ^ bits ≤ past → past < 2 ^ bits + 2 ^ bits → past < 2 ^ 64
+    → bit_and past (2 ^ 64 - 1 - 2 ^ bits) + 2 ^ bits ≡ past
+rest-of past bits from to few =
+    let one : bit_at past bits ≡ 1 =
+    ap (λ n. n % 2) (div-eq_of_lt-le {k = 1} (2 ^ bits) (omega (arith, from)) (omega (arith, to))) in
+    let top : bit_and (2 ^ bits) past ≡ 2 ^ bits =
+    and_comm (2 ^ bits) past ∙ (and_pow past bits ∙ omega (arith, ap (λ n. n * 2 ^ bits) one)) in
+    let both = and-not 64 (2 ^ bits) past (omega (arith, from, few)) few in
+    omega (arith, both, top, and_comm past (2 ^ 64 - 1 - 2 ^ bits))
 
 pub double-size : (size k : ℕ) → size * 2 ^ suc k ≡ (size + size) * 2 ^ k
 double-size size k = grind (arith, doubled k)
