@@ -8,8 +8,8 @@ import time
 from crates import crates_of
 from parts import BEGAN, TOP, Part, end_on_signals, say, side_by_side, unproved
 
-# The list, its keys, and the terms that both stand on.
-PROVED = ["ets_term", "split_key", "node_list"]
+# The list, its keys, where its items stand, and the terms below.
+PROVED = ["ets_term", "segments", "split_key", "node_list"]
 
 
 def main():
