@@ -13,12 +13,12 @@
 //! passed again.
 //!
 //! *Mechanism.* The nodes are linked one way, by the numbers of their places. A slab holds the key of each and a word with
-//! its link and whether it is an item, in 24 bytes, and gives out the places; beside it stand the slots, of 96 bytes: the
-//! items, and at other places stand-ins that nobody reads, so that a slot has no tag. A search that passes a node reads
-//! the slab alone: terms are looked at where keys are equal. So does `item_from`: a look at all items, in the order of
-//! their places, runs once through the slab and once through the slots, and passes those of dummies. The place below
-//! which there is no item is lowered by an insertion before it. Where the slab has to grow, a copy of it grows, so that a
-//! refusal changes nothing.
+//! its link and whether it is an item, in 24 bytes, and gives out the places. Beside it stand the slots, of 96 bytes, in
+//! segments that never move: the items, and at other places stand-ins that nobody reads, so that a slot has no tag. A
+//! search that passes a node reads the slab alone: terms are looked at where keys are equal. So does `item_from`: a look
+//! at all items, in the order of their places, runs once through the slab and once through the slots, and passes those of
+//! dummies. The place below which there is no item is lowered by an insertion before it. Where there is to be more room,
+//! the slots get more segments, and a copy of the slab grows, so that a refusal changes nothing.
 //!
 //! *Limits.* What a place number stands for is the caller's to remember; calls ask that it stands in the list.
 #![tactic(auto)]
