@@ -1,8 +1,5 @@
 -- Laws of a list of slots that gets longer: a gap is filled.
-use Rattle.std.proofs.Common.{◌≡◌, ℕ, zero, suc, ◌<◌, ◌≤◌, List, [], ◌∷◌, ◌++◌, length, take, slice_get, Some, false, OnOk, Result, Ok, Err, refl, sym, ◌∙◌, ap, subst, arith, length-append}
-use Rattle.std.specs.List.{AppendsResults}
-use Rattle.std.specs.Result.{is_err}
-use Rattle.std.proofs.lemmas.List.{take_all}
+use Rattle.std.proofs.Common.{◌≡◌, ℕ, zero, suc, ◌<◌, ◌≤◌, List, [], ◌∷◌, ◌++◌, length, slice_get, Some, refl, sym, ◌∙◌, subst, arith, length-append}
 use Rattle.node_list.specs.declared.node.Item.{Item}
 use Rattle.node_list.specs.inside.Slots.{slot_at, PutsSlot}
 
@@ -10,20 +7,10 @@ use Rattle.node_list.specs.inside.Slots.{slot_at, PutsSlot}
 abbrev pub SameSlots : List Item → List Item → Type 0
 SameSlots old new = (k : ℕ) → k < length old → slot_at new k ≡ slot_at old k
 
-pub went-well : {T E P : Type 0} (r : Result T E) → is_err r ≡ false → OnOk r P → P
-went-well (Ok x) e h = h
-went-well (Err x) e h = absurd (cc)
-
 same-longer : (ss ys : List Item) → SameSlots ss (ss ++ ys)
 same-longer [] ys k h = absurd (omega (arith, h))
 same-longer (s ∷ ss) ys zero h = refl
 same-longer (s ∷ ss) ys (suc k) h = same-longer ss ys k (omega (arith, h))
-
--- slots up to a place past the end
-pub filled : {F : Type 0} (step : F → Item → F → Type 0) (old new : List Item) (at : ℕ) (f : F) → length old ≤ at → AppendsResults step (take at old) new f → SameSlots old new
-filled step old new at f h a =
-    let P : List Item → Type 0 = λ zs. SameSlots old zs in
-    subst P (sym (a.2 ∙ ap (λ (zs : List Item). zs ++ a.0) (take_all at old h))) (same-longer old a.0)
 
 pushed-here : (ss : List Item) (s : Item) → slice_get (ss ++ s ∷ []) (length ss) ≡ Some s
 pushed-here [] s = refl

@@ -107,7 +107,8 @@ impl<T> Segments<T> {
         self.len += 1;
     }
 
-    /// Makes room for `additional` more elements. No element moves.
+    /// Makes room for `additional` more elements, by as many segments as that takes. No element moves. Where memory is
+    /// refused half way, the segments that were got stay.
     pub fn reserve(&mut self, additional: usize) -> Result<(), AllocError>
         ensures room { OnOk result (HasRoomFor self.new additional) }
         ensures items { self.new.items ≡ self.old.items }
