@@ -1,5 +1,5 @@
 -- Rows with their hints stay rows.
-use Rattle.std.proofs.Common.{inl, inr, ◌≤◌, ◌≡◌, ℕ, zero, suc, ◌+◌, ◌-◌, ◌*◌, ◌/◌, ◌^◌, ◌<◌, List, [], ◌∷◌, ◌++◌, length, replicate, take, set, get_or, Option, Some, None, Bool, true, false, nat_eq, ◌&&◌, refl, sym, ◌∙◌, ap, subst, arith}
+use Rattle.std.proofs.Common.{inl, inr, ◌≤◌, ◌≡◌, ℕ, zero, suc, ◌+◌, ◌-◌, ◌*◌, ◌/◌, ◌^◌, ◌<◌, List, [], ◌∷◌, ◌++◌, length, replicate, take, set, get_or, Option, Some, None, Bool, true, false, refl, sym, ◌∙◌, ap, subst, arith}
 use Rattle.std.specs.Map.{lookup}
 use Rattle.std.proofs.lemmas.List.{length-set}
 use Rattle.ets_term.specs.declared.term.Term.{Term}
@@ -15,11 +15,10 @@ use Rattle.node_list.specs.Changes.{put_cell}
 use Rattle.node_list.specs.Changes.{cells_with}
 use Rattle.bucket_table.specs.inside.Nodes.{slots_of}
 use Rattle.bucket_table.specs.inside.Found.{IsFound}
-use Rattle.bucket_table.specs.inside.Firsts.{first_in, AreHints, IsRows, IsNewFirst, KeepsFirst, IsNoted}
-use Rattle.bucket_table.proofs.FirstLaws.{first-on}
+use Rattle.bucket_table.specs.inside.Firsts.{AreHints, IsRows, IsNewFirst, KeepsFirst, IsNoted}
 use Rattle.bucket_table.proofs.NewLaws.{new-split}
 use Rattle.bucket_table.proofs.SplitLaws.{put-split, with-split, ready-split, grown-split, grown-length}
-use Rattle.bucket_table.proofs.HintedLaws.{hints-put, hints-dummy, hints-with}
+use Rattle.bucket_table.proofs.HintedLaws.{hints-put, hints-dummy, hints-with, hints-none}
 
 pub rows-like : (number : Term → ℕ) (dummies : List (Option ℕ)) (shift : ℕ) (firsts fs : List (Option (Option ℕ))) (cells zs : List Cell) → IsRows number dummies shift firsts cells → fs ≡ firsts → zs ≡ cells → IsRows number dummies shift fs zs
 rows-like number dummies shift firsts fs cells zs r e f =
@@ -34,25 +33,10 @@ rows-hinted number dummies shift firsts after cells r h = record {
   hinted = record { doublings = r.hinted.doublings; size = r.hinted.size; narrow = r.hinted.narrow; hints = h };
 }
 
-and-false : (b : Bool) → (b && false) ≡ false
-and-false true = refl
-and-false false = refl
-
-none-first : (wide f k : ℕ) → first_in wide f (new_cell 0 k None ∷ []) ≡ None
-none-first wide f k = first-on wide f (new_cell 0 k None) [] (and-false (nat_eq (k / wide) f))
-
-hints-empty : (wide n : ℕ) (firsts : List (Option (Option ℕ))) (cs : List Cell) → ((f : ℕ) → first_in wide f cs ≡ None) → firsts ≡ replicate n (Some None) → AreHints wide firsts cs
-hints-empty wide n firsts cs none is f first e = none f ∙ go n f first (ap (λ (zs : List (Option (Option ℕ))). get_or zs f None) (sym is) ∙ e)
-  where
-    go : (n f : ℕ) (first : Option ℕ) → get_or (replicate n (Some None)) f None ≡ Some first → None ≡ first
-    go zero f first e = absurd (cc)
-    go (suc n) zero first e = cc
-    go (suc n) (suc f) first e = go n f first e
-
-pub new-rows : (number : Term → ℕ) (head : ℕ) (dummies : List (Option ℕ)) (firsts : List (Option (Option ℕ))) (n : ℕ) (cells : List Cell) → dummies ≡ Some head ∷ None ∷ [] → cells ≡ new_cell 0 0 None ∷ [] → first_place cells ≡ Some head → firsts ≡ replicate n (Some None) → IsRows number dummies 29 firsts cells
+pub new-rows : (number : Term → ℕ) (head : ℕ) (dummies : List (Option ℕ)) (firsts : List (Option (Option ℕ))) (n : ℕ) (cells : List Cell) → dummies ≡ Some head ∷ None ∷ [] → cells ≡ new_cell 0 0 None ∷ [] → first_place cells ≡ Some head → firsts ≡ replicate n None → IsRows number dummies 29 firsts cells
 new-rows number head dummies firsts n cells d e f h = record {
   split = new-split number head dummies cells d e f;
-  hinted = record { doublings = 1; size = ap length d; narrow = refl; hints = hints-empty (2 ^ 29) n firsts cells (λ g. ap (first_in (2 ^ 29) g) e ∙ none-first (2 ^ 29) g 0) h };
+  hinted = record { doublings = 1; size = ap length d; narrow = refl; hints = hints-none (2 ^ 29) n firsts cells h };
 }
 
 -- a node of a greater key stands behind
@@ -88,14 +72,6 @@ no_hints = []
 take-none : (n : ℕ) → take n no_hints ≡ no_hints
 take-none zero = refl
 take-none (suc n) = refl
-
--- a cleared list of hints filled up with one
-pub cleared-grown : (old after : List (Option (Option ℕ))) (unknown what : Option (Option ℕ)) (n m : ℕ) → old ≡ [] → unknown ≡ what → m ≡ 0 → after ≡ take n old ++ replicate (n - m) unknown → after ≡ replicate n what
-cleared-grown old after unknown what n m e u z h =
-    let none : n - m ≡ n = omega (arith, z) in
-    h ∙ (ap (λ (zs : List (Option (Option ℕ))). take n zs ++ replicate (n - m) unknown) e
-    ∙ (ap (λ (zs : List (Option (Option ℕ))). zs ++ replicate (n - m) unknown) (take-none n)
-    ∙ (ap (λ (k : ℕ). replicate k unknown) none ∙ ap (replicate n) u)))
 
 module _ (number : Term → ℕ) (dummies : List (Option ℕ)) (shift : ℕ) (firsts : List (Option (Option ℕ))) (cells : List Cell) (r : IsRows number dummies shift firsts cells) where
   pub rows-put : (after : List (Option (Option ℕ))) (moves : Bool) (at key : ℕ) (term : Term) (chain : List Term) (new : List Cell) → IsFresh at cells → key ≡ key_of_item (number term) → lookup (same term) (slots_of cells) ≡ None

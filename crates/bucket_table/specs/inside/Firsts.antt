@@ -64,6 +64,10 @@ IsHintFilled index hint old new = (f : ℕ) (first : Option ℕ) → get_or new 
 abbrev pub IsHintSet : ℕ → Option (Option ℕ) → List (Option (Option ℕ)) → List (Option (Option ℕ)) → Type 0
 IsHintSet index hint old new = (f : ℕ) (first : Option ℕ) → get_or new f None ≡ Some first → ((f ≢ index) × (get_or old f None ≡ Some first)) ⊎ ((f ≡ index) × (hint ≡ Some first))
 
+-- what is known was known
+abbrev pub NoMoreIsKnown : List (Option (Option ℕ)) → List (Option (Option ℕ)) → Type 0
+NoMoreIsKnown old new = (f : ℕ) (first : Option ℕ) → get_or new f None ≡ Some first → get_or old f None ≡ Some first
+
 -- an item put in with this key is the first of its interval
 abbrev pub IsNewFirst : ℕ → ℕ → List Cell → ℕ → Type 0
 IsNewFirst wide f cells key = (at : ℕ) (item : Item) → first_in wide f (put_cell (new_cell at key (Some item)) cells) ≡ Some at

@@ -2,7 +2,6 @@ ghost use Rattle.std.specs.Prelude.{◌≡◌, ◌^◌, false, IfOk, OnErr, leng
 ghost use Rattle.bucket_table.specs.Buckets.{IsGrown, IsReadied};
 
 use super::SplitRows;
-use super::hint::Hint;
 use crate::growth::{Growth, Readying};
 use ets_term::KeyHash;
 use node_list::Link;
@@ -48,11 +47,7 @@ impl<H: KeyHash + Copy + Drop> SplitRows<H> {
         if buckets >= MAX_BUCKETS {
             return Ok(Growth::AtMost);
         }
-        self.layout.hints.older.clear();
-        self.layout
-            .hints
-            .older
-            .resize(16 * buckets, Hint::unknown())?;
+        self.layout.hints.older.reset(16 * buckets);
         self.layout.dummies.resize(2 * buckets, Link::none())?;
         mem::swap(&mut self.layout.hints.firsts, &mut self.layout.hints.older);
         self.layout.hints.shift -= 1;

@@ -1,5 +1,7 @@
-ghost use Rattle.std.specs.Prelude.{◌≡◌, ◌⊎◌, Some, None, length, get_or};
+ghost use Rattle.std.specs.Prelude.{◌≡◌, ◌⊎◌, Some, None, get_or};
+ghost use Rattle.bucket_table.specs.inside.Firsts.{IsHintSet};
 
+use pages::{Blank, Pages};
 use std::marker::Model;
 
 /// What is known of the first item of an interval of keys, in one word: nothing, that there is none, or its place.
@@ -22,6 +24,16 @@ impl Model for Hint {
     ghost inverse = { λ o. record { word = word_of o } };
 
     ghost inverse_ok = { λ a h. hint_back a h };
+}
+
+impl Blank for Hint {
+    ghost use Rattle.std.specs.Prelude.{None};
+
+    ghost blank = { None };
+
+    fn blank() -> Hint {
+        Hint::unknown()
+    }
 }
 
 impl Hint {
@@ -74,12 +86,25 @@ impl Hint {
 }
 
 /// The hint at an index, unknown past the end.
-pub fn hint_at(firsts: &[Hint], index: usize) -> Option<Option<usize>>
-    ensures { result ≡ get_or firsts.now index None }
+pub fn hint_at(firsts: &Pages<Hint>, index: usize) -> Option<Option<usize>>
+    ensures { result ≡ get_or firsts.now.items index None }
+{
+    firsts.get(index).get()
+}
+
+/// Writes another hint at an index, which takes no memory: where nothing was known, and there is none, so it stays.
+pub fn overwrite(firsts: &mut Pages<Hint>, index: usize, hint: Hint)
+    ensures { IsHintSet index hint firsts.old.items firsts.new.items }
+{
+    firsts.put(index, hint);
+}
+
+/// Writes a hint at an index, if memory is given for it.
+pub fn write(firsts: &mut Pages<Hint>, index: usize, hint: Hint)
+    ensures { IsHintSet index hint firsts.old.items firsts.new.items }
 {
     if index < firsts.len() {
-        firsts[index].get()
-    } else {
-        None
+        let _outcome = firsts.make(index);
     }
+    firsts.put(index, hint);
 }

@@ -1,4 +1,4 @@
-ghost use Rattle.std.specs.Prelude.{◌≡◌, ◌⊎◌, ◌/◌, [], Some, None, IfOk, IfSome, replicate};
+ghost use Rattle.std.specs.Prelude.{◌≡◌, ◌⊎◌, ◌/◌, [], None, IfSome, replicate};
 ghost use Rattle.bucket_table.specs.inside.Firsts.{IsFirstBelow};
 
 mod firsts;
@@ -8,7 +8,8 @@ mod settle;
 pub use self::firsts::{note, succeed};
 use super::hint::{Hint, hint_at};
 use node_list::At;
-use std::alloc::{AllocError, Global};
+use pages::Pages;
+use std::alloc::Global;
 
 /// So many intervals are looked at for a known first item, so that a search passes few hints where hardly one is known.
 const MOST_LOOKED_AT: usize = 64;
@@ -17,27 +18,25 @@ const MOST_LOOKED_AT: usize = 64;
 /// wide, where it was not told yet. A key belongs to the interval that its upper bits say, all but so many.
 #[derive(Drop)]
 pub struct Hints {
-    pub firsts: Vec<Hint>,
-    pub older: Vec<Hint>,
+    pub firsts: Pages<Hint>,
+    pub older: Pages<Hint>,
     pub turn: usize,
     pub shift: u32,
 }
 
 impl Hints {
-    /// Two buckets without an item.
-    pub fn new(alloc: Global) -> Result<Hints, AllocError>
-        ensures firsts { IfOk result (λ hints. hints.firsts.items ≡ replicate 16 (Some None)) }
-        ensures older { IfOk result (λ hints. hints.older.items ≡ []) }
-        ensures shift { IfOk result (λ hints. hints.shift ≡ 29) }
+    /// Two buckets, of which nothing is known.
+    pub fn new(alloc: Global) -> Hints
+        ensures firsts { result.firsts.items ≡ replicate 16 None }
+        ensures older { result.older.items ≡ [] }
+        ensures shift { result.shift ≡ 29 }
     {
-        let mut firsts = Vec::new(alloc);
-        firsts.resize(16, Hint::empty())?;
-        Ok(Hints {
-            firsts,
-            older: Vec::new(alloc),
+        Hints {
+            firsts: Pages::new(alloc, 16),
+            older: Pages::new(alloc, 0),
             turn: 0,
             shift: 29,
-        })
+        }
     }
 
     /// The nearest first item that is known of the intervals below one, down to a floor, or of older intervals there.

@@ -41,7 +41,7 @@ impl<H: KeyHash + Copy + Drop> Layout<H> {
         let mut dummies = Vec::with_capacity(alloc, 2)?;
         dummies.push_reserved(Link::to(head));
         dummies.push_reserved(Link::none());
-        let hints = Hints::new(alloc)?;
+        let hints = Hints::new(alloc);
         Ok(Layout {
             hash,
             list,

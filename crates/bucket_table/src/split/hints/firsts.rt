@@ -4,8 +4,9 @@ ghost use Rattle.bucket_table.specs.inside.Directory.{HaveParity};
 ghost use Rattle.bucket_table.specs.inside.Firsts.{AreRight, IsNewFirst, KeepsFirst, IsNoted, IsItemIn, IsNextHint, IsSucceeded};
 
 use super::Hints;
-use crate::split::hint::{Hint, hint_at};
+use crate::split::hint::{Hint, hint_at, overwrite};
 use node_list::{At, NodeList};
+use pages::Pages;
 
 impl Hints {
     /// Whether an item with this key, put in now, will be the first of its interval.
@@ -48,21 +49,21 @@ impl Hints {
 }
 
 /// Notes the new first item of an interval, where there is one.
-pub fn note(firsts: &mut Vec<Hint>, moves: bool, index: usize, at: At)
+pub fn note(firsts: &mut Pages<Hint>, moves: bool, index: usize, at: At)
     ensures { IsNoted moves index at firsts.old.items firsts.new.items }
 {
-    if moves && index < firsts.len() {
-        firsts[index] = Hint::to(at);
+    if moves {
+        overwrite(firsts, index, Hint::to(at));
     }
 }
 
 /// Puts what will be known in the place of the first item of an interval, where it is this one.
-pub fn succeed(firsts: &mut Vec<Hint>, index: usize, at: At, hint: Hint)
+pub fn succeed(firsts: &mut Pages<Hint>, index: usize, at: At, hint: Hint)
     ensures { IsSucceeded index at hint firsts.old.items firsts.new.items }
 {
     if let Some(Some(first)) = hint_at(firsts, index) {
-        if first == at && index < firsts.len() {
-            firsts[index] = hint;
+        if first == at {
+            overwrite(firsts, index, hint);
         }
     }
 }

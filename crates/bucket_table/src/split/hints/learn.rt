@@ -1,11 +1,12 @@
 // What an insertion learns of its own interval.
 ghost use Rattle.std.specs.Prelude.{◌≡◌, ◌/◌, ◌^◌, None, get_or};
 ghost use Rattle.bucket_table.specs.inside.Directory.{HaveParity, StandsBelow};
-ghost use Rattle.bucket_table.specs.inside.Firsts.{AreRight, StandsInFront, IsRightHint, IsHintFilled, IsHintSet};
+ghost use Rattle.bucket_table.specs.inside.Firsts.{AreRight, StandsInFront, IsRightHint, IsHintFilled};
 
 use super::Hints;
-use crate::split::hint::{Hint, hint_at};
+use crate::split::hint::{Hint, hint_at, write};
 use node_list::{At, NodeList};
+use pages::Pages;
 
 impl Hints {
     /// Walks on from a place in front of a key's interval to the last node in front of its first item, and answers that
@@ -60,19 +61,10 @@ impl Hints {
 }
 
 /// Writes down what is known of an interval, where there is one and nothing was known of it.
-pub fn fill(firsts: &mut Vec<Hint>, index: usize, hint: Hint)
+pub fn fill(firsts: &mut Pages<Hint>, index: usize, hint: Hint)
     ensures { IsHintFilled index hint firsts.old.items firsts.new.items }
 {
-    if index < firsts.len() && hint_at(firsts, index).is_none() {
-        firsts[index] = hint;
-    }
-}
-
-/// Writes down what is known of an interval, where there is one.
-pub fn set(firsts: &mut Vec<Hint>, index: usize, hint: Hint)
-    ensures { IsHintSet index hint firsts.old.items firsts.new.items }
-{
-    if index < firsts.len() {
-        firsts[index] = hint;
+    if hint_at(firsts, index).is_none() {
+        write(firsts, index, hint);
     }
 }

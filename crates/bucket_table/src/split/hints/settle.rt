@@ -1,11 +1,15 @@
 // What was known of older intervals is told of their halves.
-ghost use Rattle.std.specs.Prelude.{◌≡◌, ◌+◌, ◌*◌, ◌/◌, ◌^◌, None, get_or};
-ghost use Rattle.bucket_table.specs.inside.Firsts.{AreRight, IsRightHint};
+ghost use Rattle.std.specs.Prelude.{◌≡◌, ◌+◌, ◌*◌, ◌/◌, ◌^◌, ◌<◌, None, get_or};
+ghost use Rattle.bucket_table.specs.inside.Firsts.{AreRight, IsRightHint, NoMoreIsKnown};
 
 use super::Hints;
-use super::learn::{fill, set};
-use crate::split::hint::{Hint, hint_at};
+use super::learn::fill;
+use crate::split::hint::{Hint, hint_at, overwrite};
 use node_list::NodeList;
+use pages::{PAGE, Pages};
+
+/// So many older intervals there are at most: those of half the greatest number of buckets.
+const MOST_OLDER: usize = 4194304;
 
 impl Hints {
     /// What is known of the lower and of the upper half of an older interval, from what is known of it and the key of its
@@ -32,15 +36,16 @@ impl Hints {
     /// Moves what is known of an older interval to its halves.
     fn settle_pair(&mut self, list: &NodeList, pair: usize)
         requires hints { AreRight self.old list.now.cells }
+        requires few { pair < 2 ^ 63 }
         ensures hints { AreRight self.new list.now.cells }
         ensures shift { self.new.shift ≡ self.old.shift }
         ensures gone { get_or self.new.older.items pair None ≡ None }
     {
-        if pair < self.older.len() && hint_at(&self.older, pair).is_some() {
+        if hint_at(&self.older, pair).is_some() {
             let (lower, upper) = self.halves(list, pair);
             fill(&mut self.firsts, 2 * pair, lower);
             fill(&mut self.firsts, 2 * pair + 1, upper);
-            set(&mut self.older, pair, Hint::unknown());
+            overwrite(&mut self.older, pair, Hint::unknown());
         }
     }
 
@@ -61,10 +66,20 @@ impl Hints {
         ensures shift { self.new.shift ≡ self.old.shift }
     {
         let turn = self.turn;
-        if turn < self.older.len() {
+        if turn < self.older.len().min(MOST_OLDER) {
             self.settle_pair(list, turn);
             self.settle_pair(list, turn + 1);
             self.turn = turn.saturating_add(2);
+            if self.turn % PAGE == 0 {
+                forget(&mut self.older, turn / PAGE);
+            }
         }
     }
+}
+
+/// Gives the memory of a page of hints back, of which nothing is known then.
+fn forget(hints: &mut Pages<Hint>, page: usize)
+    ensures { NoMoreIsKnown hints.old.items hints.new.items }
+{
+    hints.forget(page);
 }

@@ -4,9 +4,10 @@ ghost use Rattle.bucket_table.specs.inside.Layout.{AreRows, Keeps};
 ghost use Rattle.bucket_table.specs.inside.Surveys.{IsCleared, IsMarked};
 
 use super::Layout;
-use crate::split::hint::Hint;
+use crate::split::hint::{Hint, overwrite, write};
 use ets_term::KeyHash;
 use node_list::At;
+use pages::Pages;
 use split_key::{dummy_key, parent};
 
 impl<H: KeyHash + Copy + Drop> Layout<H> {
@@ -68,21 +69,18 @@ impl<H: KeyHash + Copy + Drop> Layout<H> {
 }
 
 /// Writes down that the intervals from one up to another are empty.
-fn clear(firsts: &mut Vec<Hint>, low: usize, high: usize)
+fn clear(firsts: &mut Pages<Hint>, low: usize, high: usize)
     ensures { IsCleared low high firsts.old.items firsts.new.items }
 {
     for f in low..high {
-        if f < firsts.len() {
-            firsts[f] = Hint::empty();
-        }
+        write(firsts, f, Hint::empty());
     }
 }
 
 /// Notes an item in an interval that is noted as empty.
-fn mark(firsts: &mut Vec<Hint>, f: usize, at: At)
+fn mark(firsts: &mut Pages<Hint>, f: usize, at: At)
     ensures { IsMarked f at firsts.old.items firsts.new.items }
 {
-    if f < firsts.len() {
-        firsts[f] = firsts[f].or_first(at);
-    }
+    let hint = firsts.get(f).or_first(at);
+    overwrite(firsts, f, hint);
 }

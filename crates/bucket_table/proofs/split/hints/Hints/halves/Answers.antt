@@ -1,26 +1,26 @@
-use Rattle.std.proofs.Common.{◌≡◌, ◌+◌, ◌*◌, ◌/◌, ◌^◌, Some, None, get_or, sym, ◌∙◌, ap, arith, ℕ, List, Option}
+use Rattle.std.proofs.Common.{◌≡◌, ◌+◌, ◌*◌, ◌/◌, ◌^◌, Some, None, get_or, sym, ◌∙◌, ap, arith}
 use Rattle.std.proofs.lemmas.Nat.{pow_pos}
 use Rattle.bucket_table.proofs.HalveLaws.{part-half, right-empty, right-first, right-below, hint-stands, key-part, upper-part, lower-part, lower-own, upper-own}
 use Rattle.bucket_table.proofs.split.hints.Hints.halves.Goals as goal
 
 pub key-requires : goal.key-requires
 key-requires c =
-    let read = c.hint_at.ensures ∙ ap (λ (hints : List (Option (Option ℕ))). get_or hints c.args.pair None) c.deref.ensures.value in
+    let read = c.hint_at.ensures in
     hint-stands (2 ^ (c.args.self.now.shift + 1)) (2 ^ c.args.self.now.shift) c.args.pair (pow_pos c.args.self.now.shift) (λ k. part-half c.args.self.now.shift k) c.in-Some-Some.first c.args.list.now.cells c.known.ensures.apart (get_or c.args.self.now.older.items c.args.pair None) (c.requires.hints.wider c.args.pair) (sym read ∙ (c.in-Some-Some.is ∙ ap Some c.in-Some-Some.field-0-is))
 
 pub returns-in-Some-None-clause-lower : goal.returns-in-Some-None-clause-lower
 returns-in-Some-None-clause-lower c =
-    let read = c.hint_at.ensures ∙ ap (λ (hints : List (Option (Option ℕ))). get_or hints c.args.pair None) c.deref.ensures.value in
+    let read = c.hint_at.ensures in
     right-empty (2 ^ (c.args.self.now.shift + 1)) (2 ^ c.args.self.now.shift) c.args.pair (pow_pos c.args.self.now.shift) (λ k. part-half c.args.self.now.shift k) (2 * c.args.pair) (lower-own c.args.pair) c.args.list.now.cells (get_or c.args.self.now.older.items c.args.pair None) c.empty.result (c.requires.hints.wider c.args.pair) (sym read ∙ (c.in-Some-None.is ∙ ap Some c.in-Some-None.field-0-is)) c.empty.ensures
 
 pub returns-in-Some-None-clause-upper : goal.returns-in-Some-None-clause-upper
 returns-in-Some-None-clause-upper c =
-    let read = c.hint_at.ensures ∙ ap (λ (hints : List (Option (Option ℕ))). get_or hints c.args.pair None) c.deref.ensures.value in
+    let read = c.hint_at.ensures in
     right-empty (2 ^ (c.args.self.now.shift + 1)) (2 ^ c.args.self.now.shift) c.args.pair (pow_pos c.args.self.now.shift) (λ k. part-half c.args.self.now.shift k) (2 * c.args.pair + 1) (upper-own c.args.pair) c.args.list.now.cells (get_or c.args.self.now.older.items c.args.pair None) c.empty-in-Some-None.result (c.requires.hints.wider c.args.pair) (sym read ∙ (c.in-Some-None.is ∙ ap Some c.in-Some-None.field-0-is)) c.empty-in-Some-None.ensures
 
 pub returns-then-key-self-eq1-clause-lower : goal.returns-then-key-self-eq1-clause-lower
 returns-then-key-self-eq1-clause-lower c =
-    let read = c.hint_at.ensures ∙ ap (λ (hints : List (Option (Option ℕ))). get_or hints c.args.pair None) c.deref.ensures.value in
+    let read = c.hint_at.ensures in
     let e = sym read ∙ (c.in-Some-Some.is ∙ ap Some c.in-Some-Some.field-0-is) in
     let part = key-part (2 ^ (c.args.self.now.shift + 1)) (2 ^ c.args.self.now.shift) c.args.pair (pow_pos c.args.self.now.shift) (λ k. part-half c.args.self.now.shift k) c.in-Some-Some.first c.key.result c.args.list.now.cells c.known.ensures.apart (get_or c.args.self.now.older.items c.args.pair None) (c.requires.hints.wider c.args.pair) e c.key.ensures in
     let q : c.key.result / 2 ^ c.args.self.now.shift ≡ 2 * c.args.pair + 1 = upper-part (c.key.result / 2 ^ c.args.self.now.shift) c.args.pair part c.if-key-self-eq1.true in
@@ -28,7 +28,7 @@ returns-then-key-self-eq1-clause-lower c =
 
 pub returns-then-key-self-eq1-clause-upper : goal.returns-then-key-self-eq1-clause-upper
 returns-then-key-self-eq1-clause-upper c =
-    let read = c.hint_at.ensures ∙ ap (λ (hints : List (Option (Option ℕ))). get_or hints c.args.pair None) c.deref.ensures.value in
+    let read = c.hint_at.ensures in
     let e = sym read ∙ (c.in-Some-Some.is ∙ ap Some c.in-Some-Some.field-0-is) in
     let part = key-part (2 ^ (c.args.self.now.shift + 1)) (2 ^ c.args.self.now.shift) c.args.pair (pow_pos c.args.self.now.shift) (λ k. part-half c.args.self.now.shift k) c.in-Some-Some.first c.key.result c.args.list.now.cells c.known.ensures.apart (get_or c.args.self.now.older.items c.args.pair None) (c.requires.hints.wider c.args.pair) e c.key.ensures in
     let q : c.key.result / 2 ^ c.args.self.now.shift ≡ 2 * c.args.pair + 1 = upper-part (c.key.result / 2 ^ c.args.self.now.shift) c.args.pair part c.if-key-self-eq1.true in
@@ -36,7 +36,7 @@ returns-then-key-self-eq1-clause-upper c =
 
 pub returns-else-key-self-eq1-clause-lower : goal.returns-else-key-self-eq1-clause-lower
 returns-else-key-self-eq1-clause-lower c =
-    let read = c.hint_at.ensures ∙ ap (λ (hints : List (Option (Option ℕ))). get_or hints c.args.pair None) c.deref.ensures.value in
+    let read = c.hint_at.ensures in
     let e = sym read ∙ (c.in-Some-Some.is ∙ ap Some c.in-Some-Some.field-0-is) in
     let part = key-part (2 ^ (c.args.self.now.shift + 1)) (2 ^ c.args.self.now.shift) c.args.pair (pow_pos c.args.self.now.shift) (λ k. part-half c.args.self.now.shift k) c.in-Some-Some.first c.key.result c.args.list.now.cells c.known.ensures.apart (get_or c.args.self.now.older.items c.args.pair None) (c.requires.hints.wider c.args.pair) e c.key.ensures in
     let q : c.key.result / 2 ^ c.args.self.now.shift ≡ 2 * c.args.pair = lower-part (c.key.result / 2 ^ c.args.self.now.shift) c.args.pair part c.if-key-self-eq1.false in

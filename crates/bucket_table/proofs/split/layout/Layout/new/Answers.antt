@@ -12,8 +12,8 @@ returns-clause-rows g c =
     c.push_reserved-2.ensures.items
     ∙ (ap (λ (zs : List (Option ℕ)). zs ++ c.none.result ∷ []) (c.push_reserved.ensures.items ∙ ap (λ (zs : List (Option ℕ)). zs ++ c.to.result ∷ []) c.in_ok-dummies.ensures.items)
     ∙ (ap (λ (z : Option ℕ). z ∷ c.none.result ∷ []) c.to.ensures ∙ ap (λ (z : Option ℕ). Some c.head-head.result ∷ z ∷ []) c.none.ensures)) in
-    let hints = c.in_ok-hints.hints in
-    let e = c.in_ok-hints.ensures in
+    let hints = c.new-hints.result in
+    let e = c.new-hints.ensures in
     let cells = c.in_ok-list.list.cells in
     let number = g.H.KeyHash.number c.args.hash in
     let R : ℕ → Type 0 = λ shift. IsRows number c.push_reserved-2.new.self.items shift hints.firsts.items cells in

@@ -1,4 +1,4 @@
-use Rattle.std.proofs.Common.{◌/◌, ◌^◌, ℕ, Some, refl, ◌∙◌, ap, subst, List, Option, None, get_or}
+use Rattle.std.proofs.Common.{◌/◌, ◌^◌, ℕ, Some, refl, ◌∙◌, ap, subst}
 use Rattle.bucket_table.specs.inside.Directory.{StandsBelow}
 use Rattle.bucket_table.proofs.BecomesLaws.{stands}
 use Rattle.bucket_table.proofs.HintLaws.{hint-says}
@@ -8,13 +8,13 @@ use Rattle.bucket_table.proofs.split.layout.Layout.start_below.Goals as goal
 
 pub key-requires : goal.key-requires
 key-requires g c =
-    let read = c.hint_at.ensures ∙ ap (λ (hints : List (Option (Option ℕ))). get_or hints (c.item_key-key.result / 2 ^ c.args.self.now.hints.shift) None) c.deref.ensures.value in
+    let read = c.hint_at.ensures in
     let is = hint-says (2 ^ c.args.self.now.hints.shift) c.args.self.now.hints.firsts.items c.args.self.now.list.cells c.item_key-key.result c.item_key-key.result c.hint_at.result (Some c.in-Some-Some.first) c.requires.rows.rows.hinted.hints read (c.in-Some-Some.is ∙ ap Some c.in-Some-Some.field-0-is) refl in
     stands (2 ^ c.args.self.now.hints.shift) c.item_key-key.result c.in-Some-Some.first c.args.self.now.list.cells c.known.ensures.sorted c.known.ensures.apart is
 
 pub returns-then-key : goal.returns-then-key
 returns-then-key g c =
-    let read = c.hint_at.ensures ∙ ap (λ (hints : List (Option (Option ℕ))). get_or hints (c.item_key-key.result / 2 ^ c.args.self.now.hints.shift) None) c.deref.ensures.value in
+    let read = c.hint_at.ensures in
     let is = hint-says (2 ^ c.args.self.now.hints.shift) c.args.self.now.hints.firsts.items c.args.self.now.list.cells c.item_key-key.result c.item_key-key.result c.hint_at.result (Some c.in-Some-Some.first) c.requires.rows.rows.hinted.hints read (c.in-Some-Some.is ∙ ap Some c.in-Some-Some.field-0-is) refl in
     let B : ℕ → Type 0 = λ k. StandsBelow k c.in-Some-Some.first c.args.self.now.list.cells in
     subst B c.item_key-key.ensures (own-lesser (2 ^ c.args.self.now.hints.shift) c.item_key-key.result c.in-Some-Some.first c.args.self.now.list.cells c.known.ensures.sorted c.known.ensures.apart c.key.result is c.key.ensures c.if-key.true)
