@@ -88,9 +88,18 @@ module _ {T A : Type 0} where
   pub kept-there : (b : T) (ps : List (Vec T A)) (len : ℕ) (v : Paged T) → paged b ps len ≡ v → (index : ℕ) → IsKept index v → IsThere ps index
   kept-there b ps len v is index kept =
       let e : get_or v.pages (index / 512) 0 ≡ length (words_at ps (index / 512)) =
-          ap (λ (w : Paged T). get_or w.pages (index / 512) 0) (sym is) ∙ at-length ps (index / 512) in
+      ap (λ (w : Paged T). get_or w.pages (index / 512) 0) (sym is) ∙ at-length ps (index / 512) in
       let less : index % 512 < length (words_at ps (index / 512)) = omega (arith, kept.made, e) in
       record { page = page-there ps (index / 512) (index % 512) less; offset = less }
+
+  -- where a page has a word, it is kept
+  pub kept-here : (b : T) (ps : List (Vec T A)) (len index : ℕ) (v : Paged T) → paged b ps len ≡ v → index < length v.items
+      → (p : Vec T A) → p ≡ get_or ps (index / 512) p → index / 512 < length ps → index % 512 < length p.items → IsKept index v
+  kept-here b ps len index v is below p e h less =
+      let words = at-is ps (index / 512) p e h in
+      let pages : get_or v.pages (index / 512) 0 ≡ length (words_at ps (index / 512)) =
+      ap (λ (w : Paged T). get_or w.pages (index / 512) 0) (sym is) ∙ at-length ps (index / 512) in
+      record { below = below; made = omega (arith, less, pages, ap length words) }
 
   -- words alike in other pages are the same list
   pub alike-items : (b : T) (ps qs : List (Vec T A)) (len : ℕ) (v : Paged T) → paged b ps len ≡ v

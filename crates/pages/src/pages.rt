@@ -68,7 +68,21 @@ impl<T: Blank> Pages<T> {
     }
 
     /// Takes memory for the word at an index.
+    #[inline(always)]
     pub fn make(&mut self, index: usize) -> Result<(), AllocError>
+        requires { index < length self.old.items }
+        ensures items { self.new.items ≡ self.old.items }
+        ensures kept { OnOk result (IsKept index self.new) }
+        ensures succeeds { IsKept index self.old → IsOk result }
+    {
+        let page = index / PAGE;
+        if page < self.pages.len() && index % PAGE < self.pages[page].len() {
+            return Ok(());
+        }
+        self.make_page(index)
+    }
+
+    fn make_page(&mut self, index: usize) -> Result<(), AllocError>
         requires { index < length self.old.items }
         ensures items { self.new.items ≡ self.old.items }
         ensures kept { OnOk result (IsKept index self.new) }

@@ -99,12 +99,11 @@ pub fn overwrite(firsts: &mut Pages<Hint>, index: usize, hint: Hint)
     firsts.put(index, hint);
 }
 
-/// Writes a hint at an index, if memory is given for it.
-pub fn write(firsts: &mut Pages<Hint>, index: usize, hint: Hint)
-    ensures { IsHintSet index hint firsts.old.items firsts.new.items }
+/// Takes memory for the hint at an index and those beside it, if it is given.
+pub fn make_room(firsts: &mut Pages<Hint>, index: usize)
+    ensures { firsts.new.items ≡ firsts.old.items }
 {
     if index < firsts.len() {
         let _outcome = firsts.make(index);
     }
-    firsts.put(index, hint);
 }

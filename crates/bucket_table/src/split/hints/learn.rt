@@ -4,7 +4,7 @@ ghost use Rattle.bucket_table.specs.inside.Directory.{HaveParity, StandsBelow};
 ghost use Rattle.bucket_table.specs.inside.Firsts.{AreRight, StandsInFront, IsRightHint, IsHintFilled};
 
 use super::Hints;
-use crate::split::hint::{Hint, hint_at, write};
+use crate::split::hint::{Hint, hint_at, make_room, overwrite};
 use node_list::{At, NodeList};
 use pages::Pages;
 
@@ -55,6 +55,7 @@ impl Hints {
             return start;
         }
         let (at, hint) = self.walk_up(list, key, start);
+        make_room(&mut self.firsts, index);
         fill(&mut self.firsts, index, hint);
         at
     }
@@ -65,6 +66,6 @@ pub fn fill(firsts: &mut Pages<Hint>, index: usize, hint: Hint)
     ensures { IsHintFilled index hint firsts.old.items firsts.new.items }
 {
     if hint_at(firsts, index).is_none() {
-        write(firsts, index, hint);
+        overwrite(firsts, index, hint);
     }
 }

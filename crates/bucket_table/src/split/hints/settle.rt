@@ -4,7 +4,7 @@ ghost use Rattle.bucket_table.specs.inside.Firsts.{AreRight, IsRightHint, NoMore
 
 use super::Hints;
 use super::learn::fill;
-use crate::split::hint::{Hint, hint_at, overwrite};
+use crate::split::hint::{Hint, hint_at, make_room, overwrite};
 use node_list::NodeList;
 use pages::{PAGE, Pages};
 
@@ -43,6 +43,7 @@ impl Hints {
     {
         if hint_at(&self.older, pair).is_some() {
             let (lower, upper) = self.halves(list, pair);
+            make_room(&mut self.firsts, 2 * pair);
             fill(&mut self.firsts, 2 * pair, lower);
             fill(&mut self.firsts, 2 * pair + 1, upper);
             overwrite(&mut self.older, pair, Hint::unknown());

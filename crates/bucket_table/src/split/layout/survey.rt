@@ -4,7 +4,7 @@ ghost use Rattle.bucket_table.specs.inside.Layout.{AreRows, Keeps};
 ghost use Rattle.bucket_table.specs.inside.Surveys.{IsCleared, IsMarked};
 
 use super::Layout;
-use crate::split::hint::{Hint, overwrite, write};
+use crate::split::hint::{Hint, make_room, overwrite};
 use ets_term::KeyHash;
 use node_list::At;
 use pages::Pages;
@@ -72,8 +72,9 @@ impl<H: KeyHash + Copy + Drop> Layout<H> {
 fn clear(firsts: &mut Pages<Hint>, low: usize, high: usize)
     ensures { IsCleared low high firsts.old.items firsts.new.items }
 {
+    make_room(firsts, low);
     for f in low..high {
-        write(firsts, f, Hint::empty());
+        overwrite(firsts, f, Hint::empty());
     }
 }
 
