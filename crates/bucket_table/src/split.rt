@@ -2,6 +2,7 @@ ghost use Rattle.std.specs.Prelude.{◌≡◌, ◌∷◌, [], true, false, IfOk,
 
 mod buckets;
 mod changes;
+mod dummy;
 mod held;
 mod hint;
 mod hints;

@@ -7,3 +7,4 @@ mod lists;
 mod terms;
 mod text;
 mod updates;
+mod words;

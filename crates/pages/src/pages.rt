@@ -52,7 +52,7 @@ impl<T: Blank> Pages<T> {
 
     /// The word at an index, and past the end the blank.
     #[inline(always)]
-    pub fn get(&self, index: usize) -> T
+    pub fn at(&self, index: usize) -> T
         ensures { result ≡ get_or self.now.items index T.blank }
     {
         let pages = &self.pages;
@@ -82,6 +82,7 @@ impl<T: Blank> Pages<T> {
         self.make_page(index)
     }
 
+    #[inline(never)]
     fn make_page(&mut self, index: usize) -> Result<(), AllocError>
         requires { index < length self.old.items }
         ensures items { self.new.items ≡ self.old.items }

@@ -2,9 +2,9 @@ ghost use Rattle.std.specs.Prelude.{◌≡◌, ◌^◌, false, IfOk, OnErr, leng
 ghost use Rattle.bucket_table.specs.Buckets.{IsGrown, IsReadied};
 
 use super::SplitRows;
+use super::dummy::Dummy;
 use crate::growth::{Growth, Readying};
 use ets_term::KeyHash;
-use node_list::Link;
 use split_key::dummy_key;
 use std::alloc::AllocError;
 use std::mem;
@@ -24,13 +24,14 @@ impl<H: KeyHash + Copy + Drop> SplitRows<H> {
         if index >= self.layout.dummies.len() {
             return Ok(Readying::NotABucket);
         }
-        if self.layout.dummies[index].get().is_some() {
+        if self.layout.dummies.at(index).get().is_some() {
             return Ok(Readying::AlreadyReady);
         }
         let start = self.layout.start_of_dummy(bucket);
+        self.layout.dummies.make(index)?;
         self.layout.list.reserve(1)?;
         let at = self.layout.list.insert_dummy(start, dummy_key(bucket));
-        self.layout.dummies[index] = Link::to(at);
+        self.layout.dummies.put(index, Dummy::to(at));
         self.layout.survey_both(bucket);
         self.least = self.layout.next_unready(self.least);
         Ok(Readying::Ready)
@@ -48,7 +49,7 @@ impl<H: KeyHash + Copy + Drop> SplitRows<H> {
             return Ok(Growth::AtMost);
         }
         self.layout.hints.older.reset(16 * buckets);
-        self.layout.dummies.resize(2 * buckets, Link::none())?;
+        self.layout.dummies.lengthen(2 * buckets);
         mem::swap(&mut self.layout.hints.firsts, &mut self.layout.hints.older);
         self.layout.hints.shift -= 1;
         self.layout.hints.turn = 0;
@@ -78,6 +79,6 @@ impl<H: KeyHash + Copy + Drop> SplitRows<H> {
         ensures { result ≡ get_or self.now.ready bucket false }
     {
         let index = bucket as usize;
-        index < self.layout.dummies.len() && self.layout.dummies[index].get().is_some()
+        index < self.layout.dummies.len() && self.layout.dummies.at(index).get().is_some()
     }
 }

@@ -89,7 +89,7 @@ impl Hint {
 pub fn hint_at(firsts: &Pages<Hint>, index: usize) -> Option<Option<usize>>
     ensures { result ≡ get_or firsts.now.items index None }
 {
-    firsts.get(index).get()
+    firsts.at(index).get()
 }
 
 /// Writes another hint at an index, which takes no memory: where nothing was known, and there is none, so it stays.
@@ -100,6 +100,7 @@ pub fn overwrite(firsts: &mut Pages<Hint>, index: usize, hint: Hint)
 }
 
 /// Takes memory for the hint at an index and those beside it, if it is given.
+#[inline(always)]
 pub fn make_room(firsts: &mut Pages<Hint>, index: usize)
     ensures { firsts.new.items ≡ firsts.old.items }
 {

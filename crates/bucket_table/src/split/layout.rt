@@ -12,9 +12,11 @@ mod survey;
 mod sweep;
 
 pub use self::directory::hash_of;
+use super::dummy::Dummy;
 use super::hints::Hints;
 use ets_term::KeyHash;
-use node_list::{Link, NodeList};
+use node_list::NodeList;
+use pages::Pages;
 use std::alloc::{AllocError, Global};
 
 /// The list of the nodes, the directory of its dummies and what is known of its items, together. Each method keeps the
@@ -23,7 +25,7 @@ use std::alloc::{AllocError, Global};
 pub struct Layout<H: KeyHash + Copy + Drop> {
     pub hash: H,
     pub list: NodeList,
-    pub dummies: Vec<Link>,
+    pub dummies: Pages<Dummy>,
     pub hints: Hints,
 }
 
@@ -38,9 +40,9 @@ impl<H: KeyHash + Copy + Drop> Layout<H> {
     {
         let list = NodeList::new(alloc)?;
         let head = list.head();
-        let mut dummies = Vec::with_capacity(alloc, 2)?;
-        dummies.push_reserved(Link::to(head));
-        dummies.push_reserved(Link::none());
+        let mut dummies = Pages::new(alloc, 2);
+        dummies.make(0)?;
+        dummies.put(0, Dummy::to(head));
         let hints = Hints::new(alloc);
         Ok(Layout {
             hash,

@@ -18,7 +18,7 @@ impl<H: KeyHash + Copy + Drop> Layout<H> {
     {
         let mut at = bucket;
         loop {
-            if let Some(place) = self.dummies[at as usize].get() {
+            if let Some(place) = self.dummies.at(at as usize).get() {
                 return (at, place);
             }
             if at == 0 {
@@ -47,7 +47,7 @@ impl<H: KeyHash + Copy + Drop> Layout<H> {
     {
         let mut least = from;
         while least < self.dummies.len() {
-            if self.dummies[least].get().is_none() {
+            if self.dummies.at(least).get().is_none() {
                 return least;
             }
             least += 1;

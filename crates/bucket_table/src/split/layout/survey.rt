@@ -32,7 +32,7 @@ impl<H: KeyHash + Copy + Drop> Layout<H> {
         ensures keeps { Keeps self.old self.new }
         ensures cells { self.new.list.cells ≡ self.old.list.cells }
     {
-        if let Some(start) = self.dummies[bucket as usize].get() {
+        if let Some(start) = self.dummies.at(bucket as usize).get() {
             self.survey(bucket, start);
         }
     }
@@ -82,6 +82,6 @@ fn clear(firsts: &mut Pages<Hint>, low: usize, high: usize)
 fn mark(firsts: &mut Pages<Hint>, f: usize, at: At)
     ensures { IsMarked f at firsts.old.items firsts.new.items }
 {
-    let hint = firsts.get(f).or_first(at);
+    let hint = firsts.at(f).or_first(at);
     overwrite(firsts, f, hint);
 }

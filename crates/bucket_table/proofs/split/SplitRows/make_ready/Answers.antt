@@ -1,5 +1,6 @@
+use Rattle.pages.specs.Paged.{Paged}
 use Rattle.std.proofs.Common.{◌≡◌, ◌<◌, ◌≤◌, ◌+◌, ◌^◌, ℕ, List, Option, Some, None, length, is_some, map, set, sym, ◌∙◌, ap, subst, arith}
-use Rattle.std.proofs.lemmas.List.{length-map, length-set}
+use Rattle.std.proofs.lemmas.List.{length-map, length-set, get_or_default}
 use Rattle.split_key.specs.Keys.{key_of_dummy}
 use Rattle.node_list.specs.Cells.{Cell, new_cell}
 use Rattle.node_list.specs.Changes.{put_cell}
@@ -33,11 +34,13 @@ survey_both-requires-clause-rows g c =
     let items = c.self.inside.layout.dummies.items in
     let cells = c.self.inside.layout.list.cells in
     let below : c.args.bucket < length items = omega arith in
-    let none = read-none items c.args.bucket c.index.result.now below c.index.ensures (ap is_some (sym c.get.ensures) ∙ (sym c.is_some.ensures ∙ c.if-is_some.false)) in
+    let none = read-none items c.args.bucket c.at.result below (c.at.ensures ∙ get_or_default items c.args.bucket None c.at.result below) (ap is_some (sym c.get.ensures) ∙ (sym c.is_some.ensures ∙ c.if-is_some.false)) in
     let F : List Cell → Type 0 = λ zs. IsFresh c.insert_dummy-at.result zs in
     let is = c.insert_dummy-at.ensures.cells ∙ (ap (put_cell (new_cell c.insert_dummy-at.result c.dummy_key.result None)) c.in_ok-reserve.ensures.cells ∙ ap (λ (k : ℕ). put_cell (new_cell c.insert_dummy-at.result k None) cells) c.dummy_key.ensures) in
     let base = rows-ready number items c.self.inside.layout.hints.shift c.self.inside.layout.hints.firsts.items cells c.self.invariant.rows.rows c.args.bucket c.insert_dummy-at.result below none (subst F c.in_ok-reserve.ensures.cells c.insert_dummy-at.ensures.fresh) c.insert_dummy-at.new.self.cells is in
-    let now : set items c.args.bucket c.to.result ≡ set items c.args.bucket (Some c.insert_dummy-at.result) = ap (set items c.args.bucket) c.to.ensures in
+    let put-items : c.put.new.self.items ≡ set items c.args.bucket c.to.result =
+        ap (λ (p : Paged (Option ℕ)). p.items) (c.put.ensures.kept c.in_ok-make.ensures.kept) ∙ ap (λ (zs : List (Option ℕ)). set zs c.args.bucket c.to.result) c.in_ok-make.ensures.items in
+    let now : c.put.new.self.items ≡ set items c.args.bucket (Some c.insert_dummy-at.result) = put-items ∙ ap (set items c.args.bucket) c.to.ensures in
     let hints = c.self.inside.layout.hints in
     let D : List (Option ℕ) → Type 0 = λ ds. IsRows number ds hints.shift hints.firsts.items c.insert_dummy-at.new.self.cells in
     record {
@@ -58,26 +61,32 @@ pub returns-clause-ok : goal.returns-clause-ok
 returns-clause-ok g c =
     let items = c.self.inside.layout.dummies.items in
     let below : c.args.bucket < length items = omega arith in
-    let none = read-none items c.args.bucket c.index.result.now below c.index.ensures (ap is_some (sym c.get.ensures) ∙ (sym c.is_some.ensures ∙ c.if-is_some.false)) in
+    let none = read-none items c.args.bucket c.at.result below (c.at.ensures ∙ get_or_default items c.args.bucket None c.at.result below) (ap is_some (sym c.get.ensures) ∙ (sym c.is_some.ensures ∙ c.if-is_some.false)) in
     let after = c.survey_both.new.self.dummies.items in
+    let put-items : c.put.new.self.items ≡ set items c.args.bucket c.to.result =
+        ap (λ (p : Paged (Option ℕ)). p.items) (c.put.ensures.kept c.in_ok-make.ensures.kept) ∙ ap (λ (zs : List (Option ℕ)). set zs c.args.bucket c.to.result) c.in_ok-make.ensures.items in
     let P : Split g.row.H.Denot → Type 0 = λ v. IsReadied c.args.bucket v.ready Ready (map is_some after) in
     let l : length (map is_some items) ≡ length items = length-map items is_some in
     let within : c.args.bucket < length (map is_some items) = omega (arith, l) in
-    subst P c.self.view_is (within, ready-none items c.args.bucket below none, ready-set items after c.args.bucket c.insert_dummy-at.result (c.survey_both.ensures.keeps.dummies ∙ ap (set items c.args.bucket) c.to.ensures))
+    subst P c.self.view_is (within, ready-none items c.args.bucket below none, ready-set items after c.args.bucket c.insert_dummy-at.result (c.survey_both.ensures.keeps.dummies ∙ (put-items ∙ ap (set items c.args.bucket) c.to.ensures)))
 
 pub next_unready-self-inside-requires-clause-before : goal.next_unready-self-inside-requires-clause-before
 next_unready-self-inside-requires-clause-before g c =
     let items = c.self.inside.layout.dummies.items in
     let below : c.args.bucket < length items = omega arith in
+    let put-items : c.put.new.self.items ≡ set items c.args.bucket c.to.result =
+        ap (λ (p : Paged (Option ℕ)). p.items) (c.put.ensures.kept c.in_ok-make.ensures.kept) ∙ ap (λ (zs : List (Option ℕ)). set zs c.args.bucket c.to.result) c.in_ok-make.ensures.items in
     let D : List (Option ℕ) → Type 0 = λ ds. AreReady ds c.self.inside.least in
-    subst D (sym (c.survey_both.ensures.keeps.dummies ∙ ap (set items c.args.bucket) c.to.ensures)) (ready-still items c.self.inside.least c.args.bucket c.insert_dummy-at.result below c.self.invariant.due.before)
+    subst D (sym (c.survey_both.ensures.keeps.dummies ∙ (put-items ∙ ap (set items c.args.bucket) c.to.ensures))) (ready-still items c.self.inside.least c.args.bucket c.insert_dummy-at.result below c.self.invariant.due.before)
 
 pub next_unready-self-inside-requires-clause-most : goal.next_unready-self-inside-requires-clause-most
 next_unready-self-inside-requires-clause-most g c =
     let items = c.self.inside.layout.dummies.items in
     let l : length (set items c.args.bucket c.to.result) ≡ length items = length-set items c.args.bucket c.to.result in
+    let put-items : c.put.new.self.items ≡ set items c.args.bucket c.to.result =
+        ap (λ (p : Paged (Option ℕ)). p.items) (c.put.ensures.kept c.in_ok-make.ensures.kept) ∙ ap (λ (zs : List (Option ℕ)). set zs c.args.bucket c.to.result) c.in_ok-make.ensures.items in
     let D : List (Option ℕ) → Type 0 = λ ds. c.self.inside.least ≤ length ds in
-    subst D (sym c.survey_both.ensures.keeps.dummies) (omega (arith, l, c.self.invariant.due.most))
+    subst D (sym c.survey_both.ensures.keeps.dummies) (omega (arith, l, c.self.invariant.due.most, ap length put-items))
 
 pub invariant_of-self-2 : goal.invariant_of-self-2
 invariant_of-self-2 g c =

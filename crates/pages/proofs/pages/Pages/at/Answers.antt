@@ -2,8 +2,8 @@ use Rattle.std.proofs.Common.{◌≡◌, ◌≤◌, ◌/◌, ◌%◌, ◌<◌, l
 use Rattle.std.proofs.lemmas.List.{get_or_default}
 use Rattle.pages.specs.inside.Words.{words_at}
 use Rattle.pages.proofs.PageLaws.{word-is, word-here, word-absent, short-page, no-page}
-use Rattle.pages.proofs.pages.Pages.get.Goals as goal
-use Rattle.pages.proofs.pages.Pages.get.Goals.{then-page-len+else-offset-len, else-page-len}
+use Rattle.pages.proofs.pages.Pages.at.Goals as goal
+use Rattle.pages.proofs.pages.Pages.at.Goals.{then-page-len+else-offset-len, else-page-len}
 
 pub returns-then-offset-len : goal.returns-then-offset-len
 returns-then-offset-len g c =
