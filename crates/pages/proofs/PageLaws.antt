@@ -1,7 +1,7 @@
 -- Laws of pages and their words.
-use Rattle.std.proofs.Common.{◌≡◌, ◌≢◌, ◌⊎◌, inl, inr, ℕ, zero, suc, ◌+◌, ◌-◌, ◌*◌, ◌/◌, ◌%◌, ◌<◌, ◌≤◌, List, [], ◌∷◌, ◌++◌, length, get_or, set, replicate, Vec, subst, refl, sym, ◌∙◌, ap, arith, length-set, nat_eq, Bool, true, false, if◌then◌else◌}
+use Rattle.std.proofs.Common.{◌≡◌, ◌≢◌, ◌⊎◌, inl, inr, ℕ, zero, suc, ◌+◌, ◌-◌, ◌/◌, ◌%◌, ◌<◌, ◌≤◌, List, [], ◌∷◌, ◌++◌, length, get_or, set, replicate, Vec, refl, sym, ◌∙◌, ap, arith, length-set, nat_eq, Bool, true, false, if◌then◌else◌}
 use Rattle.std.proofs.lemmas.Bool.{cases_lt, cases_eq, eqb-true, eqb-false}
-use Rattle.std.proofs.lemmas.List.{get_or-set_same, get_or-set_other, get_or_past, get_or_default, set-get_or}
+use Rattle.std.proofs.lemmas.List.{get_or-set_same, get_or-set_other, get_or_past}
 use Rattle.pages.specs.Paged.{Paged, IsKept}
 use Rattle.pages.specs.inside.Words.{words_from, words_at, lengths, word_in, paged, IsBlankPast}
 use Rattle.pages.proofs.WordLaws.{from-length, from-get, from-same, from-set, from-blank, from-more}
@@ -73,32 +73,32 @@ module _ {T A : Type 0} where
   word-is b ps len v past is index =
       ap (λ (w : Paged T). get_or w.items index b) (sym is) ∙ read-in b ps len index past (cases_lt index len)
 
-  pub word-here : (b : T) (ps : List (Vec T A)) (index : ℕ) (p : Vec T A) → p ≡ get_or ps (index / 512) p → index / 512 < length ps
-      → word_in b ps index ≡ get_or p.items (index % 512) b
-  word-here b ps index p e h = ap (λ ws. get_or ws (index % 512) b) (at-is ps (index / 512) p e h)
+  pub word-here : (b : T) (ps : List (Vec T A)) (index : ℕ) (p : Vec T A) → p ≡ get_or ps (index / 4096) p → index / 4096 < length ps
+      → word_in b ps index ≡ get_or p.items (index % 4096) b
+  word-here b ps index p e h = ap (λ ws. get_or ws (index % 4096) b) (at-is ps (index / 4096) p e h)
 
-  pub word-absent : (b : T) (ps : List (Vec T A)) (index : ℕ) → length (words_at ps (index / 512)) ≤ index % 512 → word_in b ps index ≡ b
-  word-absent b ps index h = get_or_past (words_at ps (index / 512)) (index % 512) b h
+  pub word-absent : (b : T) (ps : List (Vec T A)) (index : ℕ) → length (words_at ps (index / 4096)) ≤ index % 4096 → word_in b ps index ≡ b
+  word-absent b ps index h = get_or_past (words_at ps (index / 4096)) (index % 4096) b h
 
   -- there is memory for a word
   pub record IsThere (ps : List (Vec T A)) (index : ℕ) : Type 0 where
-    pub page : index / 512 < length ps
-    pub offset : index % 512 < length (words_at ps (index / 512))
+    pub page : index / 4096 < length ps
+    pub offset : index % 4096 < length (words_at ps (index / 4096))
 
   pub kept-there : (b : T) (ps : List (Vec T A)) (len : ℕ) (v : Paged T) → paged b ps len ≡ v → (index : ℕ) → IsKept index v → IsThere ps index
   kept-there b ps len v is index kept =
-      let e : get_or v.pages (index / 512) 0 ≡ length (words_at ps (index / 512)) =
-      ap (λ (w : Paged T). get_or w.pages (index / 512) 0) (sym is) ∙ at-length ps (index / 512) in
-      let less : index % 512 < length (words_at ps (index / 512)) = omega (arith, kept.made, e) in
-      record { page = page-there ps (index / 512) (index % 512) less; offset = less }
+      let e : get_or v.pages (index / 4096) 0 ≡ length (words_at ps (index / 4096)) =
+      ap (λ (w : Paged T). get_or w.pages (index / 4096) 0) (sym is) ∙ at-length ps (index / 4096) in
+      let less : index % 4096 < length (words_at ps (index / 4096)) = omega (arith, kept.made, e) in
+      record { page = page-there ps (index / 4096) (index % 4096) less; offset = less }
 
   -- where a page has a word, it is kept
   pub kept-here : (b : T) (ps : List (Vec T A)) (len index : ℕ) (v : Paged T) → paged b ps len ≡ v → index < length v.items
-      → (p : Vec T A) → p ≡ get_or ps (index / 512) p → index / 512 < length ps → index % 512 < length p.items → IsKept index v
+      → (p : Vec T A) → p ≡ get_or ps (index / 4096) p → index / 4096 < length ps → index % 4096 < length p.items → IsKept index v
   kept-here b ps len index v is below p e h less =
-      let words = at-is ps (index / 512) p e h in
-      let pages : get_or v.pages (index / 512) 0 ≡ length (words_at ps (index / 512)) =
-      ap (λ (w : Paged T). get_or w.pages (index / 512) 0) (sym is) ∙ at-length ps (index / 512) in
+      let words = at-is ps (index / 4096) p e h in
+      let pages : get_or v.pages (index / 4096) 0 ≡ length (words_at ps (index / 4096)) =
+      ap (λ (w : Paged T). get_or w.pages (index / 4096) 0) (sym is) ∙ at-length ps (index / 4096) in
       record { below = below; made = omega (arith, less, pages, ap length words) }
 
   -- words alike in other pages are the same list
@@ -113,36 +113,36 @@ module _ {T A : Type 0} where
     pub other : (k : ℕ) → k ≢ index → word_in b new k ≡ word_in b old k
     pub pages : lengths new ≡ lengths old
 
-  other-page : (b : T) (ps : List (Vec T A)) (k index : ℕ) (q : Vec T A) → index / 512 ≢ k → word_in b (set ps k q) index ≡ word_in b ps index
-  other-page b ps k index q not = ap (λ ws. get_or ws (index % 512) b) (at-other ps k (index / 512) q not)
+  other-page : (b : T) (ps : List (Vec T A)) (k index : ℕ) (q : Vec T A) → index / 4096 ≢ k → word_in b (set ps k q) index ≡ word_in b ps index
+  other-page b ps k index q not = ap (λ ws. get_or ws (index % 4096) b) (at-other ps k (index / 4096) q not)
 
-  this-page : (b : T) (ps : List (Vec T A)) (k index : ℕ) (q : Vec T A) → index / 512 ≡ k → k < length ps
-      → word_in b (set ps k q) index ≡ get_or q.items (index % 512) b
+  this-page : (b : T) (ps : List (Vec T A)) (k index : ℕ) (q : Vec T A) → index / 4096 ≡ k → k < length ps
+      → word_in b (set ps k q) index ≡ get_or q.items (index % 4096) b
   this-page b ps k index q e h =
-      ap (λ ws. get_or ws (index % 512) b) (ap (λ j. words_at (set ps k q) j) e ∙ at-same ps k q h)
+      ap (λ ws. get_or ws (index % 4096) b) (ap (λ j. words_at (set ps k q) j) e ∙ at-same ps k q h)
 
-  written-other : (b : T) (ps : List (Vec T A)) (index : ℕ) (p q : Vec T A) (x : T) → p ≡ get_or ps (index / 512) p
-      → index / 512 < length ps → q.items ≡ set p.items (index % 512) x
-      → (k : ℕ) → k ≢ index → (k / 512 ≡ index / 512) ⊎ (k / 512 ≢ index / 512)
-      → word_in b (set ps (index / 512) q) k ≡ word_in b ps k
+  written-other : (b : T) (ps : List (Vec T A)) (index : ℕ) (p q : Vec T A) (x : T) → p ≡ get_or ps (index / 4096) p
+      → index / 4096 < length ps → q.items ≡ set p.items (index % 4096) x
+      → (k : ℕ) → k ≢ index → (k / 4096 ≡ index / 4096) ⊎ (k / 4096 ≢ index / 4096)
+      → word_in b (set ps (index / 4096) q) k ≡ word_in b ps k
   written-other b ps index p q x e h is k not (inl same) =
-      this-page b ps (index / 512) k q same h
-      ∙ (ap (λ ws. get_or ws (k % 512) b) is
-      ∙ (get_or-set_other p.items (index % 512) (k % 512) x b (λ f. not (omega (arith, f, same)))
-      ∙ ap (λ ws. get_or ws (k % 512) b) (sym (ap (words_at ps) same ∙ at-is ps (index / 512) p e h))))
-  written-other b ps index p q x e h is k not (inr differs) = other-page b ps (index / 512) k q differs
+      this-page b ps (index / 4096) k q same h
+      ∙ (ap (λ ws. get_or ws (k % 4096) b) is
+      ∙ (get_or-set_other p.items (index % 4096) (k % 4096) x b (λ f. not (omega (arith, f, same)))
+      ∙ ap (λ ws. get_or ws (k % 4096) b) (sym (ap (words_at ps) same ∙ at-is ps (index / 4096) p e h))))
+  written-other b ps index p q x e h is k not (inr differs) = other-page b ps (index / 4096) k q differs
 
-  pub written : (b : T) (ps : List (Vec T A)) (index : ℕ) (p q : Vec T A) (x : T) → p ≡ get_or ps (index / 512) p
-      → index / 512 < length ps → index % 512 < length p.items → q.items ≡ set p.items (index % 512) x
-      → IsWritten b index x ps (set ps (index / 512) q)
+  pub written : (b : T) (ps : List (Vec T A)) (index : ℕ) (p q : Vec T A) (x : T) → p ≡ get_or ps (index / 4096) p
+      → index / 4096 < length ps → index % 4096 < length p.items → q.items ≡ set p.items (index % 4096) x
+      → IsWritten b index x ps (set ps (index / 4096) q)
   written b ps index p q x e h within is =
-      let words = at-is ps (index / 512) p e h in
+      let words = at-is ps (index / 4096) p e h in
       record {
         here =
-            this-page b ps (index / 512) index q refl h
-            ∙ (ap (λ ws. get_or ws (index % 512) b) is ∙ get_or-set_same p.items (index % 512) x b within);
-        other = λ k not. written-other b ps index p q x e h is k not (cases_eq (k / 512) (index / 512));
-        pages = lengths-set ps (index / 512) q (ap length is ∙ (length-set p.items (index % 512) x ∙ ap length (sym words)));
+            this-page b ps (index / 4096) index q refl h
+            ∙ (ap (λ ws. get_or ws (index % 4096) b) is ∙ get_or-set_same p.items (index % 4096) x b within);
+        other = λ k not. written-other b ps index p q x e h is k not (cases_eq (k / 4096) (index / 4096));
+        pages = lengths-set ps (index / 4096) q (ap length is ∙ (length-set p.items (index % 4096) x ∙ ap length (sym words)));
       }
 
   pub past-written : (b : T) (index : ℕ) (x : T) (ps qs : List (Vec T A)) (len : ℕ) → IsWritten b index x ps qs → index < len
@@ -167,11 +167,11 @@ module _ {T A : Type 0} where
 
   -- a page in the place of another with the same words
   pub widened : (b : T) (ps : List (Vec T A)) (k : ℕ) (p q : Vec T A) → p ≡ get_or ps k p → k < length ps
-      → ((j : ℕ) → get_or q.items j b ≡ get_or p.items j b) → (index : ℕ) → (index / 512 ≡ k) ⊎ (index / 512 ≢ k)
+      → ((j : ℕ) → get_or q.items j b ≡ get_or p.items j b) → (index : ℕ) → (index / 4096 ≡ k) ⊎ (index / 4096 ≢ k)
       → word_in b (set ps k q) index ≡ word_in b ps index
   widened b ps k p q e h same index (inl this) =
       this-page b ps k index q this h
-      ∙ (same (index % 512) ∙ ap (λ ws. get_or ws (index % 512) b) (sym (ap (words_at ps) this ∙ at-is ps k p e h)))
+      ∙ (same (index % 4096) ∙ ap (λ ws. get_or ws (index % 4096) b) (sym (ap (words_at ps) this ∙ at-is ps k p e h)))
   widened b ps k p q e h same index (inr other) = other-page b ps k index q other
 
   either-blank : (b : T) (ps : List (Vec T A)) (k : ℕ) (q : Vec T A) (index : ℕ) (t : Bool) → word_in b ps index ≡ b
@@ -180,20 +180,20 @@ module _ {T A : Type 0} where
   either-blank b ps k q index false was is = is ∙ was
 
   -- an empty page in the place of another
-  gone : (b : T) (ps : List (Vec T A)) (k : ℕ) (q : Vec T A) → q.items ≡ [] → (index : ℕ) → index / 512 ≡ k → (k < length ps) ⊎ (length ps ≤ k)
+  gone : (b : T) (ps : List (Vec T A)) (k : ℕ) (q : Vec T A) → q.items ≡ [] → (index : ℕ) → index / 4096 ≡ k → (k < length ps) ⊎ (length ps ≤ k)
       → word_in b (set ps k q) index ≡ b
-  gone b ps k q none index e (inl less) = this-page b ps k index q e less ∙ ap (λ ws. get_or ws (index % 512) b) none
+  gone b ps k q none index e (inl less) = this-page b ps k index q e less ∙ ap (λ ws. get_or ws (index % 4096) b) none
   gone b ps k q none index e (inr more) =
-      ap (λ ws. get_or ws (index % 512) b)
-      (at-past (set ps k q) (index / 512) (omega (arith, e, more, length-set ps k q)))
+      ap (λ ws. get_or ws (index % 4096) b)
+      (at-past (set ps k q) (index / 4096) (omega (arith, e, more, length-set ps k q)))
 
-  pub forgotten : (b : T) (ps : List (Vec T A)) (k : ℕ) (q : Vec T A) → q.items ≡ [] → (index : ℕ) (t : Bool) → nat_eq (index / 512) k ≡ t
+  pub forgotten : (b : T) (ps : List (Vec T A)) (k : ℕ) (q : Vec T A) → q.items ≡ [] → (index : ℕ) (t : Bool) → nat_eq (index / 4096) k ≡ t
       → word_in b (set ps k q) index ≡ (if t then b else word_in b ps index)
-  forgotten b ps k q none index true e = gone b ps k q none index (eqb-true (index / 512) k e) (cases_lt k (length ps))
-  forgotten b ps k q none index false e = other-page b ps k index q (eqb-false (index / 512) k e)
+  forgotten b ps k q none index true e = gone b ps k q none index (eqb-true (index / 4096) k e) (cases_lt k (length ps))
+  forgotten b ps k q none index false e = other-page b ps k index q (eqb-false (index / 4096) k e)
 
   pub past-forgotten : (b : T) (ps : List (Vec T A)) (k : ℕ) (q : Vec T A) (len : ℕ) → q.items ≡ [] → IsBlankPast b ps len → IsBlankPast b (set ps k q) len
-  past-forgotten b ps k q len none past = λ index more. either-blank b ps k q index (nat_eq (index / 512) k) (past index more) (forgotten b ps k q none index (nat_eq (index / 512) k) refl)
+  past-forgotten b ps k q len none past = λ index more. either-blank b ps k q index (nat_eq (index / 4096) k) (past index more) (forgotten b ps k q none index (nat_eq (index / 4096) k) refl)
 
   pub longer : (b : T) (ps : List (Vec T A)) (len : ℕ) (v : Paged T) (more : ℕ) → IsBlankPast b ps len → paged b ps len ≡ v
       → length v.items ≤ more → words_from (word_in b ps) 0 more ≡ v.items ++ replicate (more - length v.items) b
@@ -204,22 +204,22 @@ module _ {T A : Type 0} where
       ∙ ap (λ (z : Paged T). z.items ++ replicate (more - length v.items) b) is)
 
   pub forgets : (b : T) (ps : List (Vec T A)) (k : ℕ) (q : Vec T A) (len : ℕ) (v : Paged T) → q.items ≡ [] → IsBlankPast b ps len → paged b ps len ≡ v
-      → (index : ℕ) → get_or (words_from (word_in b (set ps k q)) 0 len) index b ≡ (if nat_eq (index / 512) k then b else get_or v.items index b)
+      → (index : ℕ) → get_or (words_from (word_in b (set ps k q)) 0 len) index b ≡ (if nat_eq (index / 4096) k then b else get_or v.items index b)
   forgets b ps k q len v none past is index =
-      keep-word (nat_eq (index / 512) k) _ (word_in b ps index) (get_or v.items index b) b
-      (read-in b (set ps k q) len index (past-forgotten b ps k q len none past) (cases_lt index len) ∙ forgotten b ps k q none index (nat_eq (index / 512) k) refl)
+      keep-word (nat_eq (index / 4096) k) _ (word_in b ps index) (get_or v.items index b) b
+      (read-in b (set ps k q) len index (past-forgotten b ps k q len none past) (cases_lt index len) ∙ forgotten b ps k q none index (nat_eq (index / 4096) k) refl)
       (word-is b ps len v past is index)
 
   none-kept : (b : T) (ps : List (Vec T A)) (k : ℕ) (x : T) (index : ℕ) → x ≡ word_in b ps index → length ps ≤ k
-      → (t : Bool) → nat_eq (index / 512) k ≡ t → x ≡ (if t then b else x)
+      → (t : Bool) → nat_eq (index / 4096) k ≡ t → x ≡ (if t then b else x)
   none-kept b ps k x index is more true e =
-      let same = eqb-true (index / 512) k e in
-      is ∙ ap (λ ws. get_or ws (index % 512) b) (at-past ps (index / 512) (omega (arith, same, more)))
+      let same = eqb-true (index / 4096) k e in
+      is ∙ ap (λ ws. get_or ws (index % 4096) b) (at-past ps (index / 4096) (omega (arith, same, more)))
   none-kept b ps k x index is more false e = refl
 
   pub forgets-none : (b : T) (ps : List (Vec T A)) (k len : ℕ) (v : Paged T) → IsBlankPast b ps len → paged b ps len ≡ v → length ps ≤ k
-      → (index : ℕ) → get_or v.items index b ≡ (if nat_eq (index / 512) k then b else get_or v.items index b)
-  forgets-none b ps k len v past is more index = none-kept b ps k _ index (word-is b ps len v past is index) more (nat_eq (index / 512) k) refl
+      → (index : ℕ) → get_or v.items index b ≡ (if nat_eq (index / 4096) k then b else get_or v.items index b)
+  forgets-none b ps k len v past is more index = none-kept b ps k _ index (word-is b ps len v past is index) more (nat_eq (index / 4096) k) refl
 
   -- what a list shows once a word is another
   pub record ShowsPut (b : T) (index : ℕ) (x : T) (len : ℕ) (v : Paged T) (qs : List (Vec T A)) : Type 0 where
@@ -238,14 +238,14 @@ module _ {T A : Type 0} where
       }
 
   -- a page that is absent, or too short, has no word there
-  pub not-kept : (b : T) (ps : List (Vec T A)) (len index : ℕ) (v : Paged T) → paged b ps len ≡ v → length (words_at ps (index / 512)) ≤ index % 512 → IsKept index v → ⊥
+  pub not-kept : (b : T) (ps : List (Vec T A)) (len index : ℕ) (v : Paged T) → paged b ps len ≡ v → length (words_at ps (index / 4096)) ≤ index % 4096 → IsKept index v → ⊥
   not-kept b ps len index v is none kept = let t = kept-there b ps len v is index kept in omega (arith, t.offset, none)
 
   pub blank-past : (b : T) (ps : List (Vec T A)) (len index : ℕ) (v : Paged T) → IsBlankPast b ps len → paged b ps len ≡ v → len ≤ index → get_or v.items index b ≡ b
   blank-past b ps len index v past is more = word-is b ps len v past is index ∙ past index more
 
   pub blank-absent : (b : T) (ps : List (Vec T A)) (len index : ℕ) (v : Paged T) → IsBlankPast b ps len → paged b ps len ≡ v
-      → length (words_at ps (index / 512)) ≤ index % 512 → get_or v.items index b ≡ b
+      → length (words_at ps (index / 4096)) ≤ index % 4096 → get_or v.items index b ≡ b
   blank-absent b ps len index v past is none = word-is b ps len v past is index ∙ word-absent b ps index none
 
   pub no-page : (ps : List (Vec T A)) (k offset : ℕ) → length ps ≤ k → length (words_at ps k) ≤ offset
@@ -262,7 +262,7 @@ module _ {T A : Type 0} where
       → p ≡ get_or more k p → k < length more → ((j : ℕ) → get_or q.items j b ≡ get_or p.items j b)
       → (index : ℕ) → word_in b (set more k q) index ≡ word_in b ps index
   made-word b ps more k p q same e h alike index =
-      widened b more k p q e h alike index (cases_eq (index / 512) k) ∙ ap (λ ws. get_or ws (index % 512) b) (same (index / 512))
+      widened b more k p q e h alike index (cases_eq (index / 4096) k) ∙ ap (λ ws. get_or ws (index % 4096) b) (same (index / 4096))
 
   pub same-word : (b : T) (ps more : List (Vec T A)) → ((j : ℕ) → words_at more j ≡ words_at ps j) → (index : ℕ) → word_in b more index ≡ word_in b ps index
-  same-word b ps more same index = ap (λ ws. get_or ws (index % 512) b) (same (index / 512))
+  same-word b ps more same index = ap (λ ws. get_or ws (index % 4096) b) (same (index / 4096))

@@ -19,4 +19,4 @@ paged_code {T} code =
 -- there is memory for the word at an index
 pub record IsKept {T : Type 0} (index : ℕ) (p : Paged T) : Type 0 where
   pub below : index < length p.items
-  pub made : index % 512 < get_or p.pages (index / 512) 0
+  pub made : index % 4096 < get_or p.pages (index / 4096) 0

@@ -1,4 +1,4 @@
-ghost use Rattle.std.specs.Prelude.{◌≡◌};
+ghost use Rattle.std.specs.Prelude.{◌≡◌, ◌-◌, ◌^◌};
 
 /// Words of which one is the blank.
 pub trait Blank: Copy {
@@ -7,4 +7,13 @@ pub trait Blank: Copy {
     /// The blank.
     fn blank() -> Self
         ensures { result ≡ blank };
+}
+
+/// Of numbers the greatest is the blank.
+impl Blank for u32 {
+    ghost blank = { 2 ^ 32 - 1 };
+
+    fn blank() -> u32 {
+        u32::MAX
+    }
 }

@@ -7,7 +7,7 @@ use std::alloc::{AllocError, Global};
 use std::marker::Model;
 
 /// How many words a page holds at most.
-pub const PAGE: usize = 512;
+pub const PAGE: usize = 4096;
 
 /// A list of words of which most are blank. A contract sees its `items`, and by `IsKept` for which of them there is memory.
 #[derive(Drop)]
@@ -113,7 +113,7 @@ impl<T: Blank> Pages<T> {
     /// Blanks at all indices of a page, of which the memory is given back.
     pub fn forget(&mut self, page: usize)
         ensures len { length self.new.items ≡ length self.old.items }
-        ensures words { (k : ℕ) → get_or self.new.items k T.blank ≡ (if nat_eq (k / 512) page then T.blank else get_or self.old.items k T.blank) }
+        ensures words { (k : ℕ) → get_or self.new.items k T.blank ≡ (if nat_eq (k / 4096) page then T.blank else get_or self.old.items k T.blank) }
     {
         let _len = self.len;
         if page < self.pages.len() {
@@ -127,7 +127,7 @@ impl<T: Blank> Pages<T> {
         requires { length self.old.items ≤ len }
         ensures { self.new.items ≡ self.old.items ++ replicate (len - length self.old.items) T.blank }
     {
-        let _pages = &self.pages;
+        let _before = self.len;
         self.len = len;
     }
 

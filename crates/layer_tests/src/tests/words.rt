@@ -6,10 +6,10 @@ use std::process::Abort;
 const BLANK: u32 = u32::MAX;
 
 /// Indices at the borders of pages.
-const BORDERS: [usize; 7] = [0, 1, 511, 512, 513, 1023, 1024];
+const BORDERS: [usize; 7] = [0, 1, 4095, 4096, 4097, 8191, 8192];
 
 /// More words than the borders ask for.
-const WORDS: usize = 1100;
+const WORDS: usize = 9000;
 
 /// Puts a number at an index, where memory is given.
 fn put(words: &mut Pages<u32>, index: usize, value: u32) -> Result<(), AllocError> {
@@ -39,7 +39,10 @@ fn has_borders(words: &Pages<u32>) -> bool {
         }
         value = value.wrapping_add(1);
     }
-    words.at(2) == BLANK && words.at(514) == BLANK && words.at(1025) == BLANK && words.at(5000) == BLANK
+    words.at(2) == BLANK
+        && words.at(4098) == BLANK
+        && words.at(8193) == BLANK
+        && words.at(20000) == BLANK
 }
 
 #[test]
@@ -53,8 +56,8 @@ fn words_at_borders(rt: HostRuntime) -> Result<(), AllocError> {
 fn page_is_forgotten(rt: HostRuntime) -> Result<(), AllocError> {
     let mut words = borders(rt.alloc())?;
     words.forget(1);
-    let around = words.at(511) == 2 && words.at(1024) == 6;
-    assert!(rt; around && words.at(512) == BLANK && words.at(1023) == BLANK);
+    let around = words.at(4095) == 2 && words.at(8192) == 6;
+    assert!(rt; around && words.at(4096) == BLANK && words.at(8191) == BLANK);
     Ok(())
 }
 
@@ -74,7 +77,7 @@ fn longer_by_blanks(rt: HostRuntime) -> Result<(), AllocError> {
 fn blank_again(rt: HostRuntime) -> Result<(), AllocError> {
     let mut words = borders(rt.alloc())?;
     words.reset(3);
-    assert!(rt; words.len() == 3 && words.at(0) == BLANK && words.at(511) == BLANK);
+    assert!(rt; words.len() == 3 && words.at(0) == BLANK && words.at(4095) == BLANK);
     Ok(())
 }
 

@@ -21,7 +21,7 @@ module _ {T A : Type 0} where
 
   -- the word at an index, and the blank where no page has it
   abbrev pub word_in : T → List (Vec T A) → ℕ → T
-  word_in blank pages index = get_or (words_at pages (index / 512)) (index % 512) blank
+  word_in blank pages index = get_or (words_at pages (index / 4096)) (index % 4096) blank
 
   -- so many of these words
   abbrev pub paged : T → List (Vec T A) → ℕ → Paged T

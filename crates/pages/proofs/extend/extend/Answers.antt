@@ -1,4 +1,4 @@
-use Rattle.std.proofs.Common.{◌≡◌, ◌++◌, ◌∷◌, [], ap, ◌∙◌}
+use Rattle.std.proofs.Common.{ap, ◌∙◌}
 use Rattle.pages.specs.inside.Words.{words_at}
 use Rattle.pages.proofs.PageLaws.{at-more}
 use Rattle.pages.proofs.extend.extend.Goals as goal

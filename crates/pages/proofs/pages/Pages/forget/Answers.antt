@@ -1,7 +1,6 @@
-use Rattle.std.proofs.Common.{◌≡◌, ◌/◌, nat_eq, Bool, true, false, if◌then◌else◌, ℕ, List, length, get_or, set, refl, sym, ◌∙◌, ap, arith}
-use Rattle.pages.specs.inside.Words.{word_in}
+use Rattle.std.proofs.Common.{◌∙◌, arith}
 use Rattle.pages.proofs.WordLaws.{from-length}
-use Rattle.pages.proofs.PageLaws.{long, word-is, forgotten, past-forgotten, forgets, forgets-none}
+use Rattle.pages.proofs.PageLaws.{long, past-forgotten, forgets, forgets-none}
 use Rattle.pages.proofs.pages.Pages.forget.Goals as goal
 
 pub invariant_of-self : goal.invariant_of-self

@@ -1,6 +1,4 @@
-use Rattle.std.proofs.Common.{◌≡◌, ◌+◌, ◌-◌, ◌≤◌, ◌++◌, length, replicate, sym, ◌∙◌, ap, arith}
-use Rattle.pages.specs.Paged.{Paged}
-use Rattle.pages.specs.inside.Words.{word_in, words_from}
+use Rattle.std.proofs.Common.{arith}
 use Rattle.pages.proofs.PageLaws.{long, longer}
 use Rattle.pages.proofs.pages.Pages.lengthen.Goals as goal
 

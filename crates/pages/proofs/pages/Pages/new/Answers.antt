@@ -1,5 +1,5 @@
-use Rattle.std.proofs.Common.{◌≡◌, refl, ap, ℕ, ◌/◌, ◌%◌, get_or}
-use Rattle.pages.specs.inside.Words.{word_in, words_at}
+use Rattle.std.proofs.Common.{ap}
+use Rattle.pages.specs.inside.Words.{word_in}
 use Rattle.pages.proofs.WordLaws.{from-blank}
 use Rattle.pages.proofs.pages.Pages.new.Goals as goal
 
