@@ -17,7 +17,7 @@ pub fn extend<T: Blank>(pages: &mut Vec<Vec<T>>, page: usize) -> Result<(), Allo
     if page < has {
         return Ok(());
     }
-    pages.reserve(page - has + 1)?;
+    pages.reserve_exact(page - has + 1)?;
     while pages.len() <= page {
         pages.push(Vec::new(alloc))?;
     }
