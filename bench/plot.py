@@ -3,7 +3,7 @@
 import math
 from dataclasses import dataclass
 
-COLOURS = ["#0a3d2c", "#27ae60", "#a3d9b1", "#7f7f7f", "#c0392b", "#2e6fb7", "#e0a030"]
+COLOURS = ["#0a3d2c", "#27ae60", "#a3d9b1", "#7f7f7f", "#c0392b", "#2e6fb7", "#e0a030", "#7b4fa3", "#8c564b", "#17a2a2", "#d170b0"]
 WIDTH, HEIGHT, MARGIN = 250, 230, 46  # of a panel, and the room on its left and below it
 ABREAST = 3  # panels side by side
 
