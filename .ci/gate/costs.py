@@ -9,6 +9,15 @@ from crates import read
 TICKS = os.sysconf("SC_CLK_TCK")
 
 
+def words_of(pid):
+    with open(f"/proc/{pid}/cmdline", "rb") as it:
+        return it.read().decode(errors="replace").split("\0")
+
+
+def is_prover(words):
+    return words[0].endswith("/rattle") and "--crate-name" in words
+
+
 class Costs:
     """Looks at the provers that run below a folder, every two seconds, and remembers what each had used when it was last seen."""
 
@@ -26,14 +35,15 @@ class Costs:
             time.sleep(2)
 
     def look(self, pid):
-        with open(f"/proc/{pid}/cmdline", "rb") as it:
-            words = it.read().decode(errors="replace").split("\0")
-        if not words[0].endswith("/rattle") or "--crate-name" not in words:
+        words = words_of(pid)
+        if not is_prover(words) or not os.readlink(f"/proc/{pid}/cwd").startswith(f"{self.folder}/"):
             return
-        if not os.readlink(f"/proc/{pid}/cwd").startswith(f"{self.folder}/"):
-            return
-        # (behind the name, which may have blanks: state is the first field, and the four times are the 12th to the 15th)
+        # (behind the name, which may have blanks: state is the first field, the parent the second, and the four times, of itself and of
+        # the children that have ended, are the 12th to the 15th)
         fields = read(f"/proc/{pid}/stat").rpartition(")")[2].split()
+        if is_prover(words_of(fields[1])):
+            # (one job of a check, whose parent has its time when it has ended)
+            return
         name, kind = words[words.index("--crate-name") + 1], "tests" if "--test" in words else "proofs"
         self.seen[pid, name, kind] = sum(map(int, fields[11:15])) / TICKS
 
