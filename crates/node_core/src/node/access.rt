@@ -7,6 +7,7 @@ ghost use Rattle.ownership.specs.World.{table_at};
 ghost use Rattle.node_core.specs.Access.{may, usable};
 
 use super::Node;
+use super::due::lend;
 use bucket_table::{Rows, SplitRows};
 use ets_term::{KeyHash, Term};
 use fixed_walk::Walked;
@@ -57,10 +58,7 @@ impl<H: KeyHash + Copy + Drop> Node<H> {
         ensures* lends { sem 𝓛 (LendsTable H.row H.KeyHash H.Clone ⟦<SplitRows<H> as Rows>⟧ self.entry id result) }
         ensures value { option_copied_mut result ≡ option_map (λ table. table.fixed) (table_at self.old.world.tables id) }
     {
-        if id >= self.world.made() {
-            return None;
-        }
-        self.due.insert(id);
+        lend(&self.world, &mut self.due, id);
         self.world.table_mut(id)
     }
 

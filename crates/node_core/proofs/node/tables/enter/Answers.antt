@@ -1,9 +1,9 @@
-use Rattle.std.proofs.Common.{◌≡◌, ◌≤◌, ◌+◌, rules, Some, length, sym, subst, arith}
+use Rattle.std.proofs.Common.{◌≡◌, ◌≤◌, ◌+◌, ◌∙◌, rules, Some, length, sym, subst, arith}
 use Rattle.ownership.specs.World.{World}
 use Rattle.ownership.specs.Tables.{new_head, with_table}
 use Rattle.node_core.specs.inside.Identifiers.{AreBelow, IsAmong}
 use Rattle.node_core.specs.inside.Due.{IsIndex}
-use Rattle.node_core.proofs.Index.{grown, added}
+use Rattle.node_core.proofs.Index.{roomier, added}
 use Rattle.node_core.proofs.Keeping.{new-refused, new-made}
 use Rattle.node_core.proofs.node.tables.enter.Goals as goal
 
@@ -11,8 +11,7 @@ pub returns-in_err-answer-clause-index : goal.returns-in_err-answer-clause-index
 returns-in_err-answer-clause-index g c =
     let old = c.args.world.now in
     let same : c.new_table.new.self ≡ old = new-refused old c.new_table.new.self c.args.pid c.args.name.now c.args.options c.args.table c.in_err-answer.field-0.0 c.in_err-answer.ensures in
-    let below : AreBelow c.reserve.new.self.all (length old.tables) = subst (λ ids. AreBelow ids (length old.tables)) (sym c.reserve.ensures.same) c.requires.below in
-    subst (λ (w : World). IsIndex w.tables c.reserve.new.self) (sym same) (grown old.tables c.args.due.now c.reserve.new.self c.requires below c.reserve.ensures.more (λ t among. subst (λ ids. IsAmong ids t) (sym c.reserve.ensures.same) among))
+    subst (λ (w : World). IsIndex w.tables c.reserve.new.self) (sym same) (roomier old.tables c.args.due.now c.reserve.new.self c.requires c.reserve.ensures.same c.reserve.ensures.lent c.reserve.ensures.more)
 
 pub insert-requires : goal.insert-requires
 insert-requires g c =
@@ -36,4 +35,5 @@ returns-clause-index g c =
     (c.insert.ensures.below (length tables + 1) under (omega (arith, c.made-id.ensures)))
     (omega (arith, room, c.made-id.ensures, c.insert.ensures.room))
     (subst (IsAmong c.insert.new.self.all) c.made-id.ensures c.insert.ensures.new)
-    (λ t among. c.insert.ensures.old t (subst (λ ids. IsAmong ids t) (sym c.reserve.ensures.same) among)))
+    (λ t among. c.insert.ensures.old t (subst (λ ids. IsAmong ids t) (sym c.reserve.ensures.same) among))
+    (c.insert.ensures.lent ∙ c.reserve.ensures.lent))
