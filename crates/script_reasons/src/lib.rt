@@ -1,15 +1,17 @@
 //! Why a line of a script, or the text of a call, was refused, in words: the rule that its step breaks, or what stands where it
 //! has its fault.
 //!
-//! *Guarantee.* None but that each call returns: what is said of a line is under the contracts of `ets_script`.
+//! *Guarantee.* What `oddity_at` and `oddity_in_call` find at an offset is what specs/Oddities.antt says of the text before it and
+//! from it on, and its words, as `{}` prints them, are those of specs/Words.antt.
 //!
-//! *Weakness.* The words, and what is found at a fault, are only tested.
+//! *Weakness.* What stands at a fault is a guess of what was meant. The words of a `Remark` are only tested.
 //!
 //! *Mechanism.* A line is looked at again up to its fault, by its quotes and brackets alone.
 //!
 //! *Limits.* It takes no memory.
 #![tactic(auto)]
 
+mod classes;
 mod oddity;
 mod place;
 mod remark;

@@ -1,26 +1,71 @@
 //! Where the text of a line has come to, by its quotes and brackets.
+ghost use Rattle.std.specs.Prelude.{◌≡◌, ◌+◌, ◌^◌, ◌<◌};
+ghost use Rattle.script_reasons.specs.Places as spec;
+ghost use Rattle.script_reasons.specs.inside.Passing.{passed};
+
+/// Whether a text has come to inside of quotes.
+#[derive(Clone, Copy)]
+pub enum Quoting {
+    Outside,
+    /// In quotes, which this sign ends.
+    Inside(u8),
+    /// There, behind a backslash.
+    Escaped(u8),
+}
+
+impl Quoting {
+    pub fn is_quoted(self) -> bool
+        ensures { result ≡ spec.is_quoted self }
+    {
+        match self {
+            Quoting::Outside => false,
+            Quoting::Inside(_) | Quoting::Escaped(_) => true,
+        }
+    }
+
+    pub fn is_escaped(self) -> bool
+        ensures { result ≡ spec.is_escaped self }
+    {
+        match self {
+            Quoting::Escaped(_) => true,
+            Quoting::Outside | Quoting::Inside(_) => false,
+        }
+    }
+
+    /// Behind one byte more.
+    fn past(self, byte: u8) -> Quoting
+        ensures { result ≡ spec.past self byte }
+    {
+        match self {
+            Quoting::Outside if byte == b'\'' || byte == b'"' => Quoting::Inside(byte),
+            Quoting::Outside => Quoting::Outside,
+            Quoting::Inside(quote) if byte == quote => Quoting::Outside,
+            Quoting::Inside(quote) if byte == b'\\' => Quoting::Escaped(quote),
+            Quoting::Inside(quote) => Quoting::Inside(quote),
+            Quoting::Escaped(quote) => Quoting::Inside(quote),
+        }
+    }
+}
 
 /// Where the text of a line has come to.
 #[derive(Clone, Copy)]
 pub struct Place {
-    /// The sign that ends what is quoted, if the text has come to inside of quotes.
-    quote: Option<u8>,
-    /// The next character is one that a backslash stands before.
-    is_escaped: bool,
+    pub quoting: Quoting,
     /// How many brackets of terms are open.
-    levels: usize,
+    pub levels: usize,
     /// The parenthesis before arguments has come.
-    is_open: bool,
+    pub is_open: bool,
     /// The parenthesis behind them has come.
-    is_closed: bool,
+    pub is_closed: bool,
 }
 
 impl Place {
     /// Where a text has come to at its end.
-    pub fn behind(text: &[u8]) -> Place {
+    pub fn behind(text: &[u8]) -> Place
+        ensures { result ≡ spec.place_of text.now }
+    {
         let mut place = Place {
-            quote: None,
-            is_escaped: false,
+            quoting: Quoting::Outside,
             levels: 0,
             is_open: false,
             is_closed: false,
@@ -31,51 +76,28 @@ impl Place {
         place
     }
 
-    pub fn quote(&self) -> Option<u8> {
-        self.quote
-    }
-
-    pub fn is_escaped(&self) -> bool {
-        self.is_escaped
-    }
-
-    pub fn levels(&self) -> usize {
-        self.levels
-    }
-
-    pub fn is_open(&self) -> bool {
-        self.is_open
-    }
-
-    pub fn is_closed(&self) -> bool {
-        self.is_closed
-    }
-
-    fn pass(&mut self, byte: u8) {
-        match self.quote {
-            Some(quote) => self.pass_quoted(quote, byte),
-            None => self.pass_sign(byte),
+    /// Goes on behind one byte more.
+    fn pass(&mut self, byte: u8)
+        requires { self.old.levels + 1 < 2 ^ 64 }
+        ensures { self.new ≡ passed self.old byte }
+    {
+        if !self.quoting.is_quoted() {
+            self.levels = level(self.levels, byte);
+            self.is_open |= byte == b'(';
+            self.is_closed |= byte == b')';
         }
+        self.quoting = self.quoting.past(byte);
     }
+}
 
-    fn pass_quoted(&mut self, quote: u8, byte: u8) {
-        if self.is_escaped {
-            self.is_escaped = false;
-        } else if byte == b'\\' {
-            self.is_escaped = true;
-        } else if byte == quote {
-            self.quote = None;
-        }
-    }
-
-    fn pass_sign(&mut self, byte: u8) {
-        match byte {
-            b'\'' | b'"' => self.quote = Some(byte),
-            b'(' => self.is_open = true,
-            b')' => self.is_closed = true,
-            b'[' | b'{' => self.levels = self.levels.saturating_add(1),
-            b']' | b'}' => self.levels = self.levels.saturating_sub(1),
-            _ => {}
-        }
+/// How many brackets are open behind one byte more, which stands outside quotes.
+fn level(levels: usize, byte: u8) -> usize
+    requires { levels + 1 < 2 ^ 64 }
+    ensures { result ≡ spec.level levels byte }
+{
+    match byte {
+        b'[' | b'{' => levels + 1,
+        b']' | b'}' => levels.saturating_sub(1),
+        _ => levels,
     }
 }

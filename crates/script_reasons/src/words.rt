@@ -1,10 +1,15 @@
 // What stands at a fault, in words.
+ghost use Rattle.std.specs.Prelude.{◌≡◌};
+ghost use Rattle.script_reasons.specs.Words.{words_of};
+
 use crate::oddity::Oddity;
 use std::fmt;
 
 impl Oddity {
     /// What stands there, in a few words; without the byte, where it is one.
-    pub fn words(&self) -> &'static str {
+    pub fn words(&self) -> &'static str
+        ensures { result.now ≡ words_of self.now }
+    {
         match self {
             Oddity::Ends => "the line ends too early",
             Oddity::EndsInCall => "the line ends before the call does",
@@ -34,6 +39,11 @@ impl Oddity {
 
 /// `a full stop`, or with the byte `a byte that is not printable ASCII (195)` and `; is not expected here`.
 impl fmt::Display for Oddity {
+    ghost use Rattle.std.specs.Prelude.{Some};
+    ghost use Rattle.script_reasons.specs.Words.{oddity_text};
+
+    ghost output = { λ oddity. Some (oddity_text oddity) };
+
     fn fmt<W: fmt::Write>(&self, f: &mut fmt::Formatter<W>) -> fmt::Result {
         match self {
             Oddity::NotPrintable(byte) => write!(f, "{} ({byte})", self.words()),

@@ -1,0 +1,21 @@
+-- The last byte that is neither a space nor a tab, in a text with one byte more.
+use Rattle.std.proofs.Common.{◌≡◌, refl, ap, ◌∙◌, ℕ, ◌+◌, ◌<◌, List, [], ◌∷◌, ◌++◌, length, take, get_or, filter, Bool, true, false, not, if◌then◌else◌, arith}
+use Rattle.std.proofs.lemmas.Grind.{common_steps}
+use Rattle.std.proofs.lemmas.List.{take_more}
+use Rattle.std.proofs.lemmas.List.Elements.{filter-append}
+use Rattle.script_reasons.specs.Classes.{is_gap, last, last_sign}
+
+last-push : (bs : List ℕ) (b : ℕ) → last (bs ++ b ∷ []) ≡ b
+last-push bs b = grind (arith, common_steps)
+
+append-none : (bs : List ℕ) → bs ++ [] ≡ bs
+append-none [] = refl
+append-none (b ∷ bs) = ap (λ (r : List ℕ). b ∷ r) (append-none bs)
+
+last-kept : (gap : Bool) (bs : List ℕ) (b : ℕ) → last (bs ++ (if not gap then b ∷ [] else [])) ≡ (if gap then last bs else b)
+last-kept true bs b = ap last (append-none bs)
+last-kept false bs b = last-push bs b
+
+pub sign_more : (text : List ℕ) (i : ℕ) → i < length text → last_sign (take (i + 1) text) ≡ (if is_gap (get_or text i 0) then last_sign (take i text) else get_or text i 0)
+sign_more text i h = let test : ℕ → Bool = λ b. not (is_gap b) in
+    ap last_sign (take_more text i 0 h) ∙ ap last (filter-append test (take i text) (get_or text i 0 ∷ [])) ∙ last-kept (is_gap (get_or text i 0)) (filter test (take i text)) (get_or text i 0)

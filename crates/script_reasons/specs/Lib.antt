@@ -1,0 +1,5 @@
+pub mod Classes
+pub mod Places
+pub mod Oddities
+pub mod Words
+pub mod inside

@@ -1,0 +1,130 @@
+//! Bytes of a line by what they may stand for, and what stands at the ends of a text.
+ghost use Rattle.std.specs.Prelude.{◌≡◌, ◌≤◌, length, if◌then◌else◌};
+ghost use Rattle.std.specs.List.{prefix_len};
+ghost use Rattle.term_text.specs.Text.{is_blank, is_digit, is_name, begins, begins_term};
+ghost use Rattle.script_reasons.specs.Classes as spec;
+
+use term_text::{is_character_byte, is_digit_byte, is_name_byte, is_small_byte};
+
+fn is_gap(byte: u8) -> bool
+    ensures { result ≡ spec.is_gap byte }
+{
+    byte == b' ' || byte == b'\t'
+}
+
+/// Whether the byte may stand on a line.
+pub fn is_clean(byte: u8) -> bool
+    ensures { result ≡ spec.is_clean byte }
+{
+    byte == b'\t' || is_character_byte(byte)
+}
+
+/// Whether a term begins with this byte; an identifier of a table does not count.
+pub fn goes_deeper(byte: u8) -> bool
+    ensures { result ≡ spec.goes_deeper byte }
+{
+    begins_atom(byte) || begins_number(byte) || matches!(byte, b'"' | b'[' | b'{' | b'<')
+}
+
+pub fn begins_atom(byte: u8) -> bool
+    ensures { result ≡ spec.begins_atom byte }
+{
+    is_small_byte(byte) || byte == b'\''
+}
+
+pub fn begins_number(byte: u8) -> bool
+    ensures { result ≡ spec.begins_number byte }
+{
+    is_digit_byte(byte) || byte == b'-'
+}
+
+pub fn begins_variable(byte: u8) -> bool
+    ensures { result ≡ spec.begins_variable byte }
+{
+    matches!(byte, b'A'..=b'Z' | b'_')
+}
+
+/// Whether a term may begin with this byte, or with blanks.
+pub fn may_begin(byte: u8) -> bool
+    ensures { result ≡ spec.may_begin byte }
+{
+    begins_term(byte) || is_blank(byte)
+}
+
+#[tactic(auto, unfolding(term_text::specs::Text::begins_term))]
+fn begins_term(byte: u8) -> bool
+    ensures { result ≡ begins_term byte }
+{
+    byte == b'{'
+        || byte == b'['
+        || byte == b'-'
+        || byte == b'\''
+        || byte == b'"'
+        || byte == b'<'
+        || byte == b'#'
+        || is_digit_byte(byte)
+        || is_small_byte(byte)
+}
+
+#[tactic(auto, unfolding(term_text::specs::Text::is_blank))]
+fn is_blank(byte: u8) -> bool
+    ensures { result ≡ is_blank byte }
+{
+    byte == b' ' || byte == b'\t' || byte == b'\n' || byte == b'\r'
+}
+
+/// Whether a term, or a number of one, is wanted behind this text.
+pub fn wants_term(before: &[u8]) -> bool
+    ensures { result ≡ spec.wants_term before.now }
+{
+    matches!(last_sign(before), b',' | b'{' | b'[' | b'<' | b'(')
+}
+
+/// How many bytes at the front could stand in a name.
+pub fn name_len(text: &[u8]) -> usize
+    ensures { result ≡ prefix_len is_name text.now }
+{
+    text.iter().take_while(|byte| is_name_byte(**byte)).count()
+}
+
+/// How many digits stand at the front.
+pub fn digits_len(text: &[u8]) -> usize
+    ensures len { result ≡ prefix_len is_digit text.now }
+    ensures within { result ≤ length text.now }
+{
+    text.iter().take_while(|byte| is_digit_byte(**byte)).count()
+}
+
+pub fn starts_digit(text: &[u8]) -> bool
+    ensures { result ≡ begins is_digit text.now }
+{
+    match text {
+        [first, ..] => is_digit_byte(*first),
+        [] => false,
+    }
+}
+
+/// The last byte of a text, 0 where there is none.
+pub fn last(text: &[u8]) -> u8
+    ensures { result ≡ spec.last text.now }
+{
+    text.last().copied().unwrap_or(0)
+}
+
+/// The last byte that is neither a space nor a tab, 0 where there is none.
+fn last_sign(text: &[u8]) -> u8
+    ensures { result ≡ spec.last_sign text.now }
+{
+    let mut last = 0;
+    for byte in text {
+        last = later(last, *byte);
+    }
+    last
+}
+
+/// The last sign of a text behind one byte more.
+fn later(last: u8, byte: u8) -> u8
+    ensures { result ≡ (if spec.is_gap byte then last else byte) }
+{
+    if is_gap(byte) { last } else { byte }
+}
