@@ -2,9 +2,9 @@
 //! has its fault.
 //!
 //! *Guarantee.* What `oddity_at` and `oddity_in_call` find at an offset is what specs/Oddities.antt says of the text before it and
-//! from it on, and its words, as `{}` prints them, are those of specs/Words.antt.
+//! from it on. It and a `Remark` are printed in the words of specs/Words.antt and specs/Remarks.antt.
 //!
-//! *Weakness.* What stands at a fault is a guess of what was meant. The words of a `Remark` are only tested.
+//! *Weakness.* What is found at a fault is a guess of what was meant.
 //!
 //! *Mechanism.* A line is looked at again up to its fault, by its quotes and brackets alone.
 //!

@@ -1,4 +1,7 @@
 // What is said of a refused line.
+ghost use Rattle.std.specs.Prelude.{◌≡◌};
+ghost use Rattle.script_reasons.specs.Remarks.{shown};
+
 use crate::oddity::Oddity;
 use node_core::{Call, Step};
 use node_reasons::Reason;
@@ -23,16 +26,22 @@ pub enum Remark<'a> {
 
 /// `lookup/2: argument 1: no such table`, or `byte 17: a full stop`.
 impl fmt::Display for Remark<'_> {
+    ghost use Rattle.std.specs.Prelude.{Some};
+    ghost use Rattle.script_reasons.specs.Remarks.{remark_text};
+
+    ghost output = { λ remark. Some (remark_text remark) };
+
     fn fmt<W: fmt::Write>(&self, f: &mut fmt::Formatter<W>) -> fmt::Result {
         match self {
-            Remark::Broken(step, reason) => {
-                write_subject(f, step)?;
-                write!(f, ": {reason}")
-            }
+            Remark::Broken(step, reason) => write!(f, "{}: {reason}", StepSubject { step }),
             Remark::SpawnedBefore(name) => write!(f, "spawn: {} was spawned before", shown(*name)),
             Remark::AskedOfNone(name, call) => {
-                write_call(f, call)?;
-                write!(f, ": {} was never spawned", shown(*name))
+                write!(
+                    f,
+                    "{}: {} was never spawned",
+                    CallSubject { call },
+                    shown(*name)
+                )
             }
             Remark::EndedNone(name) => write!(f, "exit: {} was never spawned", shown(*name)),
             Remark::Faulty(at, oddity) => write!(f, "byte {at}: {oddity}"),
@@ -43,22 +52,51 @@ impl fmt::Display for Remark<'_> {
 }
 
 /// What a step is on a line: the command's word, or a call.
-fn write_subject<W: fmt::Write>(f: &mut fmt::Formatter<W>, step: &Step) -> fmt::Result {
-    match step {
-        Step::Enrol(_) => write!(f, "spawn"),
-        Step::End(_) => write!(f, "exit"),
-        Step::Ask(_, call) => write_call(f, call),
-        Step::Grow(_) => write!(f, "grow"),
-        Step::Ready(_, _) => write!(f, "ready"),
+#[derive(Clone, Copy)]
+struct StepSubject<'a> {
+    step: &'a Step,
+}
+
+impl fmt::Display for StepSubject<'_> {
+    ghost use Rattle.std.specs.Prelude.{Some};
+    ghost use Rattle.script_reasons.specs.Remarks.{step_subject};
+
+    ghost output = { λ subject. Some (step_subject subject.step.now) };
+
+    fn fmt<W: fmt::Write>(&self, f: &mut fmt::Formatter<W>) -> fmt::Result {
+        match self.step {
+            Step::Enrol(_) => write!(f, "spawn"),
+            Step::End(_) => write!(f, "exit"),
+            Step::Ask(_, call) => write!(f, "{}", CallSubject { call }),
+            Step::Grow(_) => write!(f, "grow"),
+            Step::Ready(_, _) => write!(f, "ready"),
+        }
     }
 }
 
 /// `lookup/2`.
-fn write_call<W: fmt::Write>(f: &mut fmt::Formatter<W>, call: &Call) -> fmt::Result {
-    write!(f, "{}/{}", call.name.text(), call.args.len())
+#[derive(Clone, Copy)]
+struct CallSubject<'a> {
+    call: &'a Call,
+}
+
+impl fmt::Display for CallSubject<'_> {
+    ghost use Rattle.std.specs.Prelude.{Some};
+    ghost use Rattle.script_reasons.specs.Remarks.{call_subject};
+
+    ghost output = { λ subject. Some (call_subject subject.call.now) };
+
+    fn fmt<W: fmt::Write>(&self, f: &mut fmt::Formatter<W>) -> fmt::Result {
+        write!(f, "{}/{}", self.call.name.text(), self.call.args.len())
+    }
 }
 
 /// A name of a process as it stands on a line.
-fn shown(name: &[u8]) -> &str {
-    str::from_utf8(name).unwrap_or("the name")
+fn shown(name: &[u8]) -> &str
+    ensures { result.now ≡ shown name.now }
+{
+    match str::from_utf8(name) {
+        Ok(name) => name,
+        Err(_) => "the name",
+    }
 }
