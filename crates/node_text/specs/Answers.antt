@@ -4,6 +4,7 @@ use Rattle.node_core.specs.declared.step.Reply.{Reply}
 use Rattle.node_core.specs.declared.step.Reply.TheVariants.{Value, Badarg, SystemLimit, NoProcess}
 use Rattle.term_text.specs.Printed.{printed}
 use Rattle.node_reasons.specs.Words.{reason_text}
+use Rattle.script_reasons.specs.Words.{oddity_text}
 use Rattle.node_text.specs.declared.refusal.Refusal.{Refusal}
 use Rattle.node_text.specs.declared.refusal.Refusal.TheVariants.{Broken, Odd, NoMemory}
 use Rattle.node_text.specs.declared.status.TheConstants as is
@@ -48,18 +49,13 @@ Tells Badarg = TellsNone is.BADARG
 Tells SystemLimit = TellsNone is.SYSTEM_LIMIT
 Tells NoProcess = TellsNone is.NO_PROCESS
 
--- a refusal in words; which words there are for what stands at a fault is not said
-abbrev pub refusal_text : Refusal → Option (List ℕ)
-refusal_text (Broken reason) = Some (reason_text reason)
-refusal_text (Odd oddity) = None
-refusal_text NoMemory = Some (codes "no memory")
-
--- this text is told, or some text where none is said
-abbrev pub TellsWords : Option (List ℕ) → Told → Type 0
-TellsWords (Some text) t = TellsText text t
-TellsWords None t = (text : List ℕ) × TellsText text t
+-- a refusal in words
+abbrev pub refusal_text : Refusal → List ℕ
+refusal_text (Broken reason) = reason_text reason
+refusal_text (Odd oddity) = oddity_text oddity
+refusal_text NoMemory = codes "no memory"
 
 -- what is told of why a call was refused: nothing where it was not
 abbrev pub TellsWhy : Option Refusal → Told → Type 0
 TellsWhy None = TellsNone is.VALUE
-TellsWhy (Some refusal) = TellsWords (refusal_text refusal)
+TellsWhy (Some refusal) = TellsText (refusal_text refusal)

@@ -8,7 +8,7 @@ use Rattle.node_core.specs.declared.step.Step.{Step}
 use Rattle.node_core.specs.declared.step.Step.TheVariants.{Ask}
 use Rattle.node_core.specs.declared.step.Reply.TheVariants.{NoProcess}
 use Rattle.node_reasons.specs.Why.{why}
-use Rattle.script_reasons.specs.declared.oddity.Oddity.{Oddity}
+use Rattle.script_reasons.specs.Oddities.{oddity_in_call}
 use Rattle.node_text.specs.Stored.{Stored, refused}
 use Rattle.node_text.specs.Texts.{asked}
 use Rattle.node_text.specs.Answers.{Told, status_of, Tells, TellsWhy, TellsNone, TellsNumber}
@@ -32,8 +32,8 @@ abbrev pub Does : Stored → Step → Stored → Type 0
 Does old event new = step old.node event new.reply new.node × Explains event new
 
 -- nothing changes but that it is kept what stands where the text has its fault
-abbrev pub Misreads : Stored → Stored → Type 0
-Misreads old new = (oddity : Oddity) × (new ≡ refused (Odd oddity) old)
+abbrev pub Misreads : List ℕ → ℕ → Stored → Stored → Type 0
+Misreads text at old new = new ≡ refused (Odd (oddity_in_call text at)) old
 
 -- a step is done; or there is no memory for it, and nothing else changes
 abbrev pub StepsOf : Step → ℤ → Stored → Stored → Type 0
@@ -41,10 +41,10 @@ StepsOf event status old new = (Does old event new × (status ≡ status_of new.
 
 -- A call is done, and its reply is told; or there is no memory for it, and nothing else changes. A text that is none changes nothing
 -- else, and the offset of its first fault is told in place of a length.
-abbrev pub CallsOf : Asked → ℕ → Told → Stored → Stored → Type 0
-CallsOf (Call name args) pid t old new =
+abbrev pub CallsOf : List ℕ → Asked → ℕ → Told → Stored → Stored → Type 0
+CallsOf text (Call name args) pid t old new =
     (Does old (Ask pid (record { name = name; args = args })) new × Tells new.reply t) ⊎ ((new ≡ refused NoMemory old) × TellsNone is.NO_MEMORY t)
-CallsOf (Faulty at) pid t old new = (Misreads old new × TellsNumber is.SYNTAX at t) ⊎ ((new ≡ refused NoMemory old) × TellsNone is.NO_MEMORY t)
+CallsOf text (Faulty at) pid t old new = (Misreads text at old new × TellsNumber is.SYNTAX at t) ⊎ ((new ≡ refused NoMemory old) × TellsNone is.NO_MEMORY t)
 
 -- What is said of the store of a handle before and after, where it has one; a handle that is closed stays so, and is told.
 abbrev pub OnStore : Type 0 → (Stored → Stored → Type 0) → Option Stored → Option Stored → Type 0
@@ -61,7 +61,7 @@ Steps old event status new = OnStore (status ≡ is.CLOSED) (StepsOf event statu
 
 -- the call of a text on a handle
 abbrev pub Calls : Option Stored → ℕ → List ℕ → Option Stored → Told → Type 0
-Calls old pid text new t = OnStore (TellsNone is.CLOSED t) (CallsOf (asked text) pid t) old new
+Calls old pid text new t = OnStore (TellsNone is.CLOSED t) (CallsOf text (asked text) pid t) old new
 
 -- the last reply is told again
 abbrev pub TellsAgain : Option Stored → Told → Type 0

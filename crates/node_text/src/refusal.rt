@@ -1,5 +1,5 @@
 //! Why a call was refused.
-ghost use Rattle.std.specs.Prelude.{◌≡◌, not, is_some, option_map, IfOk, IfSome, string_bytes};
+ghost use Rattle.std.specs.Prelude.{◌≡◌, not, is_some, option_map, IfOk, string_bytes};
 ghost use Rattle.node_core.specs.Machine.{step};
 ghost use Rattle.node_core.specs.Seen.{seen};
 ghost use Rattle.node_core.specs.State.{State};
@@ -40,7 +40,7 @@ impl Refusal {
 
     /// It in words.
     pub(crate) fn text(&self, alloc: Global) -> Result<String, AllocError>
-        ensures { IfOk result (λ text. IfSome (refusal_text self.now) (λ words. string_bytes text ≡ words)) }
+        ensures { IfOk result (λ text. string_bytes text ≡ refusal_text self.now) }
     {
         format!(in alloc; "{self}")
     }
@@ -48,7 +48,9 @@ impl Refusal {
 
 /// `argument 1: no such table`, `a full stop` or `no memory`.
 impl fmt::Display for Refusal {
-    ghost output = { refusal_text };
+    ghost use Rattle.std.specs.Prelude.{Some};
+
+    ghost output = { λ refusal. Some (refusal_text refusal) };
 
     fn fmt<W: fmt::Write>(&self, f: &mut fmt::Formatter<W>) -> fmt::Result {
         match self {

@@ -92,7 +92,7 @@ impl Store {
         out: &mut [u8],
         len: &mut usize,
     ) -> i32
-        ensures { CallsOf (texts.asked text.now) pid (told result len.new out.old out.new) self.old self.new }
+        ensures { CallsOf text.now (texts.asked text.now) pid (told result len.new out.old out.new) self.old self.new }
     {
         *len = 0;
         match self.ask(alloc, pid, text) {
@@ -155,7 +155,7 @@ impl Store {
 
     /// Does the call of a text, and at most two steps that are due. A fault changes nothing, and is kept.
     fn ask(&mut self, alloc: Global, pid: u32, text: &[u8]) -> Result<(), AskFault>
-        ensures { Asks (texts.asked text.now) pid self.old result self.new }
+        ensures { Asks text.now (texts.asked text.now) pid self.old result self.new }
     {
         let Ok(asked) = read_call(alloc, text) else {
             self.refusal = Some(Refusal::NoMemory);

@@ -15,5 +15,5 @@ returns-in_ok-step-in-Call c =
     let same : c.new.result ≡ record { name = c.in-Call.name; args = c.in-Call.args } = search rules in
     let done : Does c.args.self.now (Ask c.args.pid (record { name = c.in-Call.name; args = c.in-Call.args })) c.step.new.self =
     subst (λ (call : Call). Does c.args.self.now (Ask c.args.pid call) c.step.new.self) same c.in_ok-step-in-Call.ensures.ok in
-    subst (λ (what : Asked). Asks what c.args.pid c.args.self.now (Ok (tt {0})) c.tend.new.self) (sym is)
+    subst (λ (what : Asked). Asks c.args.text.now what c.args.pid c.args.self.now (Ok (tt {0})) c.tend.new.self) (sym is)
     (subst (λ (new : Stored). Does c.args.self.now (Ask c.args.pid (record { name = c.in-Call.name; args = c.in-Call.args })) new) (sym c.tend.ensures) done)
