@@ -1,8 +1,8 @@
 //! Why a line was refused.
-ghost use Rattle.std.specs.Prelude.{◌≡◌, false, None, IfOk};
+ghost use Rattle.std.specs.Prelude.{◌≡◌, IfOk};
 ghost use Rattle.node_core.specs.State.{State};
 ghost use Rattle.node_core.specs.Machine.{step};
-ghost use Rattle.ets_script.specs.inside.Explained.{is_refused, step_said};
+ghost use Rattle.ets_script.specs.inside.Explained.{SaidOf, step_said};
 
 use crate::answer::Answer;
 use crate::command::{Command, read_command};
@@ -20,7 +20,7 @@ pub fn explain<'a, H: KeyHash + Copy + Drop>(
     line: &'a [u8],
     answer: &Answer,
 ) -> Result<Option<Remark<'a>>, AllocError>
-    ensures { IfOk result (λ said. is_refused answer.now ≡ false → said ≡ None) }
+    ensures { IfOk result (SaidOf line.now answer.now) }
 {
     match answer {
         Answer::Silent => Ok(None),

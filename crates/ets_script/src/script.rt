@@ -1,5 +1,5 @@
 //! A script: the names that it spawned, and its node.
-ghost use Rattle.std.specs.Prelude.{◌≡◌, ◌≤◌, ◌<◌, ◌++◌, ◌+◌, ◌⊎◌, [], false, length, map, vec_items, IfSome, MatchOption};
+ghost use Rattle.std.specs.Prelude.{◌≡◌, ◌≤◌, ◌<◌, ◌++◌, ◌+◌, ◌-◌, ◌^◌, ◌⊎◌, [], false, length, map, min, vec_items, IfSome, MatchOption};
 ghost use Rattle.node_core.specs.State.{empty};
 ghost use Rattle.node_core.specs.Seen.{seen};
 ghost use Rattle.node_core.specs.declared.step.Step.TheVariants.{End, Ask};
@@ -125,7 +125,9 @@ impl<H: KeyHash + Copy + Drop> Script<H> {
     }
 
     /// The number of the process that is spawned next.
-    pub fn next_pid(&self) -> u32 {
+    pub fn next_pid(&self) -> u32
+        ensures { result ≡ min (length self.now.names) (2 ^ 32 - 1) }
+    {
         u32::try_from(self.names.len()).unwrap_or(u32::MAX)
     }
 
