@@ -5,8 +5,9 @@ use Rattle.std.proofs.lemmas.List.Elements.{All-append}
 use Rattle.std.proofs.lemmas.Bool.{true≢false}
 use Rattle.std.specs.Io.KnownBytes.{IsAtEnd}
 use Rattle.ets_script.specs.Lines.{Line, text, too_long, IsOneLine, IsLine}
-use Rattle.ets_script.specs.inside.Feeds.{Held, Refills, PassedOver, Waits}
+use Rattle.ets_script.specs.inside.Feeds.{Held, Refills, PassedOver, Stays, IsPassed, Waits}
 use Rattle.ets_script.proofs.Feeds.{no_byte}
+use Rattle.ets_script.proofs.KnownBytes.{between}
 
 pub weaker_line : (bytes : List ℕ) (line : Line) (L M : Type 0) → (L → M) → IsLine bytes line L → IsLine bytes line M
 weaker_line bytes (text t) L M f (before, one, short, inl p) = (before, one, short, inl p)
@@ -24,7 +25,7 @@ both_one_line xs ys p q = All-append (λ b. b ≡ 10 → ⊥) xs ys p q
 pub one_line_held : (h1 h2 : Held) → IsOneLine h1.bytes → Waits h1 h2 → IsOneLine h2.bytes
 one_line_held h1 h2 one waits = held waits.kept
   where
-    held : ((h2.bytes ≡ h1.bytes) × (h1.is_skipping ≡ false) × (h2.is_skipping ≡ false)) ⊎ ((h2.bytes ≡ []) × (h2.is_skipping ≡ true) × ((h1.is_skipping ≡ true) ⊎ (65536 < length h1.bytes))) → IsOneLine h2.bytes
+    held : Stays h1 h2 ⊎ IsPassed h1 h2 → IsOneLine h2.bytes
     held (inl (same, was, is)) = subst IsOneLine (sym same) one
     held (inr (none, is, long)) = subst IsOneLine (sym none) no_byte
 
@@ -39,7 +40,7 @@ pub record Ended (h : Held) (left : Option (List ℕ)) : Type 0 where
   pub skipping : h.is_skipping ≡ true → h.bytes ≡ []
   pub end : IsAtEnd left
 
-pub ended : (h1 h2 h3 : Held) (l1 l2 : Option (List ℕ)) (n : ℕ) → IsOneLine h1.bytes → Waits h1 h2 → Refills h2 h3 l1 l2 n → n ≡ 0 → Ended h3 l2
+pub ended : (h1 h2 h3 : Held) (l1 l2 : Option (List ℕ)) (n : ℕ) → IsOneLine h1.bytes → Waits h1 h2 → Refills h2 h3 (between l1 l2) n → n ≡ 0 → Ended h3 l2
 ended h1 h2 h3 l1 l2 n one waits r zero_read =
     let same : h3.bytes ≡ h2.bytes = r.added ∙ ap (λ k. h2.bytes ++ k) (nil_from_length r.more (r.counted ∙ zero_read)) ∙ append-nil h2.bytes in
     record {
@@ -49,6 +50,6 @@ ended h1 h2 h3 l1 l2 n one waits r zero_read =
       end = r.end zero_read;
     }
   where
-    empty : ((h2.bytes ≡ h1.bytes) × (h1.is_skipping ≡ false) × (h2.is_skipping ≡ false)) ⊎ ((h2.bytes ≡ []) × (h2.is_skipping ≡ true) × ((h1.is_skipping ≡ true) ⊎ (65536 < length h1.bytes))) → h2.is_skipping ≡ true → h2.bytes ≡ []
+    empty : Stays h1 h2 ⊎ IsPassed h1 h2 → h2.is_skipping ≡ true → h2.bytes ≡ []
     empty (inl (same, was, is)) skips = absurd (true≢false (sym skips ∙ is))
     empty (inr (none, is, long)) skips = none

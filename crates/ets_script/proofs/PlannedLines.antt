@@ -4,10 +4,10 @@ use Rattle.std.specs.Prelude.{⊤}
 use Rattle.std.specs.Io.KnownBytes.{Consumes, IsAtEnd, prepend_known}
 use Rattle.ets_script.specs.Lines.{Line, text, too_long, IsOneLine, IsLine, IsCutInto}
 use Rattle.ets_script.specs.Plan.{Planned, line_plan, lines_plan}
-use Rattle.ets_script.specs.inside.Feeds.{Held, rest_of, Refills, PassedOver, EndsLine, Waits}
+use Rattle.ets_script.specs.inside.Feeds.{Held, rest_of, Refills, PassedOver, EndsLine, Stays, IsPassed, Waits}
 use Rattle.ets_script.specs.inside.PlanCodes.{Limited}
 use Rattle.ets_script.specs.inside.Planning.{with_line, with_lines, last_line, AreWhole, PlansAll}
-use Rattle.ets_script.proofs.KnownBytes.{nothing_held, read_more, same_known, taken_front, the_none, unheld}
+use Rattle.ets_script.proofs.KnownBytes.{between, nothing_held, read_more, same_known, taken_front, the_none, unheld}
 use Rattle.ets_script.proofs.HeldLines.{weaker_line, none_or_some, one_line_of, both_one_line, Ended}
 
 -- a line behind lines
@@ -74,7 +74,7 @@ planned_line start s1 s2 before h1 h2 left n line g ends plans held whole =
 waited : (start now : Limited) (before : Option (List ℕ)) (h1 h2 : Held) (left : Option (List ℕ)) → Planning start before h1 left now → IsOneLine h1.bytes → Waits h1 h2 → Planning start before h2 left now
 waited start now before h1 h2 left g one waits = kept waits.kept
   where
-    kept : ((h2.bytes ≡ h1.bytes) × (h1.is_skipping ≡ false) × (h2.is_skipping ≡ false)) ⊎ ((h2.bytes ≡ []) × (h2.is_skipping ≡ true) × ((h1.is_skipping ≡ true) ⊎ (65536 < length h1.bytes))) → Planning start before h2 left now
+    kept : Stays h1 h2 ⊎ IsPassed h1 h2 → Planning start before h2 left now
     kept (inl (same, was, is)) = record {
       input = g.input;
       skipped = g.skipped;
@@ -102,7 +102,7 @@ waited start now before h1 h2 left g one waits = kept waits.kept
         enough (inr lt) = omega (arith, lt, length-append g.skipped h1.bytes)
 
 -- more was read
-pub read_on : (start s1 s2 : Limited) (before : Option (List ℕ)) (h1 h2 h3 : Held) (l1 l2 : Option (List ℕ)) (n : ℕ) → Planning start before h1 l1 s1 → s2 ≡ s1 → IsOneLine h1.bytes → Waits h1 h2 → Refills h2 h3 l1 l2 n
+pub read_on : (start s1 s2 : Limited) (before : Option (List ℕ)) (h1 h2 h3 : Held) (l1 l2 : Option (List ℕ)) (n : ℕ) → Planning start before h1 l1 s1 → s2 ≡ s1 → IsOneLine h1.bytes → Waits h1 h2 → Refills h2 h3 (between l1 l2) n
     → Planning start before h3 l2 s2
 read_on start s1 s2 before h1 h2 h3 l1 l2 n progress same one waits r =
     let g = waited start s1 before h1 h2 l1 progress one waits in
@@ -117,7 +117,7 @@ read_on start s1 s2 before h1 h2 h3 l1 l2 n progress same one waits r =
     }
 
 -- the bytes held when the input ended were added as the last line, which has no LF, or were none
-pub all_planned : (start s1 s2 : Limited) (before : Option (List ℕ)) (h : Held) (left : Option (List ℕ)) → Planning start before h left s1 → Ended h left → s2 ≡ with_line (last_line h.is_skipping h.bytes) s1 → PlansAll start before left s2
+pub all_planned : (start s1 s2 : Limited) (before : Option (List ℕ)) (h : Held) (left : Option (List ℕ)) → Planning start before h left s1 → Ended h left → s2 ≡ with_line (last_line h.is_skipping h.bytes) s1 → PlansAll start (between before left) s2
 all_planned start s1 s2 before h left g e last =
     let input = g.input ++ (g.skipped ++ h.bytes) in
     let cut = cut_so h.is_skipping g.passed e.skipping last in

@@ -9,41 +9,41 @@ use Rattle.ets_script.specs.Replies.{reply_text}
 use Rattle.ets_script.specs.Threads.{line_of, own_text, entry_text, stopped_text}
 use Rattle.ets_script.specs.inside.Journal.{stop_text}
 use Rattle.ets_script.specs.inside.Output.{Sends, Breaks}
-use Rattle.ets_script.proofs.KnownBytes.{sends_on, sends_two, sends_none, breaks_on, breaks_first, breaks_two}
+use Rattle.ets_script.proofs.KnownBytes.{between, sends_on, sends_two, sends_none, breaks_on, breaks_first, breaks_two}
 
 -- of a text behind what waited all but this rest was printed
 pub record Printed (a : Option (List ℕ)) (p whole : List ℕ) (b : Option (List ℕ)) (q rest : List ℕ) : Type 0 where
   pub front : List ℕ
   pub parts : whole ≡ front ++ rest
-  pub sent : Sends a b (p ++ front) q
+  pub sent : Sends (between a b) (p ++ front) q
 
 pub printed_none : (a : Option (List ℕ)) (p whole : List ℕ) → Printed a p whole a p whole
-printed_none a p whole = record { front = []; parts = refl; sent = subst (λ (k : List ℕ). Sends a a k p) (sym (append-nil p)) (sends_none a p) }
+printed_none a p whole = record { front = []; parts = refl; sent = subst (λ (k : List ℕ). Sends (between a a) k p) (sym (append-nil p)) (sends_none a p) }
 
-pub printed_more : (a b c : Option (List ℕ)) (p whole q r rest text later : List ℕ) → Printed a p whole b q rest → rest ≡ text ++ later → Sends b c (q ++ text) r → Printed a p whole c r later
+pub printed_more : (a b c : Option (List ℕ)) (p whole q r rest text later : List ℕ) → Printed a p whole b q rest → rest ≡ text ++ later → Sends (between b c) (q ++ text) r → Printed a p whole c r later
 printed_more a b c p whole q r rest text later g is sent = record {
   front = g.front ++ text;
   parts = g.parts ∙ ap (λ k. g.front ++ k) is ∙ sym (append_assoc g.front text later);
   sent = sends_two a b c p g.front q text r g.sent sent;
 }
 
-pub printed_all : (a b : Option (List ℕ)) (p whole q rest : List ℕ) → Printed a p whole b q rest → rest ≡ [] → Sends a b (p ++ whole) q
-printed_all a b p whole q rest g is = subst (λ (k : List ℕ). Sends a b (p ++ k) q) (sym (g.parts ∙ ap (λ k. g.front ++ k) is ∙ append-nil g.front)) g.sent
+pub printed_all : (a b : Option (List ℕ)) (p whole q rest : List ℕ) → Printed a p whole b q rest → rest ≡ [] → Sends (between a b) (p ++ whole) q
+printed_all a b p whole q rest g is = subst (λ (k : List ℕ). Sends (between a b) (p ++ k) q) (sym (g.parts ∙ ap (λ k. g.front ++ k) is ∙ append-nil g.front)) g.sent
 
-pub printed_broken : (a b c : Option (List ℕ)) (p whole q rest text later : List ℕ) → Printed a p whole b q rest → rest ≡ text ++ later → Breaks b c (q ++ text) → Breaks a c (p ++ whole)
+pub printed_broken : (a b c : Option (List ℕ)) (p whole q rest text later : List ℕ) → Printed a p whole b q rest → rest ≡ text ++ later → Breaks (between b c) (q ++ text) → Breaks (between a c) (p ++ whole)
 printed_broken a b c p whole q rest text later g is broken =
     let parts : g.front ++ (text ++ later) ≡ whole = sym (g.parts ∙ ap (λ k. g.front ++ k) is) in
-    subst (λ (k : List ℕ). Breaks a c (p ++ k)) (append_assoc g.front text later ∙ parts) (breaks_first a c p (g.front ++ text) later (breaks_two a b c p g.front q text g.sent broken))
+    subst (λ (k : List ℕ). Breaks (between a c) (p ++ k)) (append_assoc g.front text later ∙ parts) (breaks_first a c p (g.front ++ text) later (breaks_two a b c p g.front q text g.sent broken))
 
 -- a name and a space, and what follows them
-pub line_sent : (a b c : Option (List ℕ)) (p name space q said r : List ℕ) → Sends a b (p ++ (name ++ space)) q → Sends b c (q ++ said) r → Sends a c (p ++ (name ++ (space ++ said))) r
-line_sent a b c p name space q said r s t = subst (λ (k : List ℕ). Sends a c (p ++ k) r) (append_assoc name space said) (sends_two a b c p (name ++ space) q said r s t)
+pub line_sent : (a b c : Option (List ℕ)) (p name space q said r : List ℕ) → Sends (between a b) (p ++ (name ++ space)) q → Sends (between b c) (q ++ said) r → Sends (between a c) (p ++ (name ++ (space ++ said))) r
+line_sent a b c p name space q said r s t = subst (λ (k : List ℕ). Sends (between a c) (p ++ k) r) (append_assoc name space said) (sends_two a b c p (name ++ space) q said r s t)
 
-pub line_first : (a b : Option (List ℕ)) (p name space said : List ℕ) → Breaks a b (p ++ (name ++ space)) → Breaks a b (p ++ (name ++ (space ++ said)))
-line_first a b p name space said s = subst (λ (k : List ℕ). Breaks a b (p ++ k)) (append_assoc name space said) (breaks_first a b p (name ++ space) said s)
+pub line_first : (a b : Option (List ℕ)) (p name space said : List ℕ) → Breaks (between a b) (p ++ (name ++ space)) → Breaks (between a b) (p ++ (name ++ (space ++ said)))
+line_first a b p name space said s = subst (λ (k : List ℕ). Breaks (between a b) (p ++ k)) (append_assoc name space said) (breaks_first a b p (name ++ space) said s)
 
-pub line_broken : (a b c : Option (List ℕ)) (p name space q said : List ℕ) → Sends a b (p ++ (name ++ space)) q → Breaks b c (q ++ said) → Breaks a c (p ++ (name ++ (space ++ said)))
-line_broken a b c p name space q said s t = subst (λ (k : List ℕ). Breaks a c (p ++ k)) (append_assoc name space said) (breaks_two a b c p (name ++ space) q said s t)
+pub line_broken : (a b c : Option (List ℕ)) (p name space q said : List ℕ) → Sends (between a b) (p ++ (name ++ space)) q → Breaks (between b c) (q ++ said) → Breaks (between a c) (p ++ (name ++ (space ++ said)))
+line_broken a b c p name space q said s t = subst (λ (k : List ℕ). Breaks (between a c) (p ++ k)) (append_assoc name space said) (breaks_two a b c p (name ++ space) q said s t)
 
 -- the texts of items from one on
 pub items_at : {X : Type 0} (f : X → List ℕ) (xs : List X) (i : ℕ) (x : X) → i < length xs → get_or xs i x ≡ x → flat_map f (drop i xs) ≡ f x ++ flat_map f (drop (i + 1) xs)
@@ -74,15 +74,15 @@ pub entry_text_own : (names : List (List ℕ)) (e : Entry) (p : ℕ) (name : Lis
 entry_text_own names e p name is named = ap (λ (o : Option ℕ). own_text names o e.reply) is ∙ ap (λ (k : List ℕ). line_of k (reply_text e.reply)) (sym named)
 
 -- a whole text was printed behind nothing, and what waits goes out
-pub out_ok : {T E : Type 0} (r : Result T E) (a b c : Option (List ℕ)) (p text q s : List ℕ) → p ≡ [] → Sends a b (p ++ text) q → OnOk r (Sends b c q s) → OnOk r (s ≡ []) → OnOk r (Appends a c text)
+pub out_ok : {T E : Type 0} (r : Result T E) (a b c : Option (List ℕ)) (p text q s : List ℕ) → p ≡ [] → Sends (between a b) (p ++ text) q → OnOk r (Sends (between b c) q s) → OnOk r (s ≡ []) → OnOk r (Appends a c text)
 out_ok (Ok x) a b c p text q s none first last empty =
-    let all = subst (λ (k : List ℕ). Sends a c (p ++ text) k) empty (sends_on a b c (p ++ text) q s first last) in
+    let all = subst (λ (k : List ℕ). Sends (between a c) (p ++ text) k) empty (sends_on a b c (p ++ text) q s first last) in
     subst (λ (k : List ℕ). Appends a c k) (sym (all.parts ∙ append-nil all.sent) ∙ ap (λ k. k ++ text) none) all.written
 out_ok (Err e) a b c p text q s none first last empty = tt
 
-pub out_broken : (a b : Option (List ℕ)) (p text : List ℕ) → p ≡ [] → Breaks a b (p ++ text) → Breaks a b text
-out_broken a b p text none broken = subst (λ (k : List ℕ). Breaks a b k) (ap (λ k. k ++ text) none) broken
+pub out_broken : (a b : Option (List ℕ)) (p text : List ℕ) → p ≡ [] → Breaks (between a b) (p ++ text) → Breaks (between a b) text
+out_broken a b p text none broken = subst (λ (k : List ℕ). Breaks (between a b) k) (ap (λ k. k ++ text) none) broken
 
-pub out_err : {T E : Type 0} (r : Result T E) (a b c : Option (List ℕ)) (p text q : List ℕ) → p ≡ [] → Sends a b (p ++ text) q → OnErr r (Breaks b c q) → OnErr r (Breaks a c text)
+pub out_err : {T E : Type 0} (r : Result T E) (a b c : Option (List ℕ)) (p text q : List ℕ) → p ≡ [] → Sends (between a b) (p ++ text) q → OnErr r (Breaks (between b c) q) → OnErr r (Breaks (between a c) text)
 out_err (Ok x) a b c p text q none first broken = tt
 out_err (Err e) a b c p text q none first broken = out_broken a c p text none (breaks_on a b c (p ++ text) q first broken)

@@ -4,10 +4,10 @@ use Rattle.std.specs.Io.KnownBytes.{Consumes, prepend_known}
 use Rattle.ets_script.specs.Lines.{Line, IsOneLine}
 use Rattle.ets_script.specs.Replies.{printed}
 use Rattle.ets_script.specs.Script.{Scripted, AnswersLine, AreWholeLines}
-use Rattle.ets_script.specs.inside.Feeds.{Held, rest_of, Refills, PassedOver, EndsLine, Waits}
+use Rattle.ets_script.specs.inside.Feeds.{Held, rest_of, Refills, PassedOver, EndsLine, Stays, IsPassed, Waits}
 use Rattle.ets_script.specs.inside.Output.{Sends}
 use Rattle.ets_script.specs.declared.answer.Answer.{Answer}
-use Rattle.ets_script.proofs.KnownBytes.{sends_on, sends_more, sends_none, nothing_held, read_more, same_known, taken_front, the_none, unheld}
+use Rattle.ets_script.proofs.KnownBytes.{between, sends_on, sends_more, sends_none, nothing_held, read_more, same_known, taken_front, the_none, unheld}
 use Rattle.ets_script.proofs.HeldLines.{both_one_line, one_line_of}
 use Rattle.ets_script.proofs.AnsweredLines.{then_line}
 
@@ -19,7 +19,7 @@ pub record Progress (start : Scripted) (before old : Option (List ℕ)) (held : 
   pub lines : AreWholeLines start input out now
   pub passed : PassedOver held.is_skipping skipped
   pub consumed : Consumes before (rest_of held left) (input ++ skipped)
-  pub sent : Sends old new out pending
+  pub sent : Sends (between old new) out pending
 
 pub nothing_yet : (s : Scripted) (held : Held) (left : Option (List ℕ)) (pending : List ℕ) (w : Option (List ℕ)) → pending ≡ [] → held.bytes ≡ [] → held.is_skipping ≡ false → Progress s left w held left pending w s
 nothing_yet s held left pending w none empty whole = record {
@@ -29,12 +29,12 @@ nothing_yet s held left pending w none empty whole = record {
   lines = (0, (refl, refl, refl));
   passed = subst (λ (b : Bool). PassedOver b the_none) (sym whole) refl;
   consumed = subst (λ (l : Option (List ℕ)). Consumes left l []) (sym (ap (λ k. prepend_known k left) empty ∙ nothing_held left)) (same_known left);
-  sent = subst (λ (p : List ℕ). Sends w w [] p) (sym none) (sends_none w []);
+  sent = subst (λ (p : List ℕ). Sends (between w w) [] p) (sym none) (sends_none w []);
 }
 
 -- a line was answered, and an LF ended it
 pub answered_line : (start s1 s2 : Scripted) (before old w1 w2 : Option (List ℕ)) (h1 h2 : Held) (left : Option (List ℕ)) (p1 p2 : List ℕ) (n : ℕ) (line : Line) (answer : Answer) → Progress start before old h1 left p1 w1 s1
-    → EndsLine h1.bytes h1.is_skipping n line → AnswersLine s1 line answer s2 → Sends w1 w2 (p1 ++ printed answer) p2 → h2.bytes ≡ drop n h1.bytes → h2.is_skipping ≡ false → Progress start before old h2 left p2 w2 s2
+    → EndsLine h1.bytes h1.is_skipping n line → AnswersLine s1 line answer s2 → Sends (between w1 w2) (p1 ++ printed answer) p2 → h2.bytes ≡ drop n h1.bytes → h2.is_skipping ≡ false → Progress start before old h2 left p2 w2 s2
 answered_line start s1 s2 before old w1 w2 h1 h2 left p1 p2 n line answer g ends answers sent held whole =
     let bytes = g.skipped ++ take n h1.bytes in
     record {
@@ -52,7 +52,7 @@ answered_line start s1 s2 before old w1 w2 h1 h2 left p1 p2 n line answer g ends
 pub waited : (start now : Scripted) (before old w : Option (List ℕ)) (h1 h2 : Held) (left : Option (List ℕ)) (p : List ℕ) → Progress start before old h1 left p w now → IsOneLine h1.bytes → Waits h1 h2 → Progress start before old h2 left p w now
 waited start now before old w h1 h2 left p g one waits = kept waits.kept
   where
-    kept : ((h2.bytes ≡ h1.bytes) × (h1.is_skipping ≡ false) × (h2.is_skipping ≡ false)) ⊎ ((h2.bytes ≡ []) × (h2.is_skipping ≡ true) × ((h1.is_skipping ≡ true) ⊎ (65536 < length h1.bytes)))
+    kept : Stays h1 h2 ⊎ IsPassed h1 h2
         → Progress start before old h2 left p w now
     kept (inl (same, was, is)) = record {
       input = g.input;
@@ -81,7 +81,7 @@ waited start now before old w h1 h2 left p g one waits = kept waits.kept
         enough (inr lt) = omega (arith, lt, length-append g.skipped h1.bytes)
 
 -- what waited went out
-pub flushed : (start now : Scripted) (before old w1 w2 : Option (List ℕ)) (h : Held) (left : Option (List ℕ)) (p1 p2 : List ℕ) → Progress start before old h left p1 w1 now → Sends w1 w2 p1 p2 → Progress start before old h left p2 w2 now
+pub flushed : (start now : Scripted) (before old w1 w2 : Option (List ℕ)) (h : Held) (left : Option (List ℕ)) (p1 p2 : List ℕ) → Progress start before old h left p1 w1 now → Sends (between w1 w2) p1 p2 → Progress start before old h left p2 w2 now
 flushed start now before old w1 w2 h left p1 p2 g sent = record {
   input = g.input;
   out = g.out;
@@ -92,7 +92,7 @@ flushed start now before old w1 w2 h left p1 p2 g sent = record {
   sent = sends_on old w1 w2 g.out p1 p2 g.sent sent;
 }
 
-pub refilled : (start now : Scripted) (before old w : Option (List ℕ)) (h1 h2 : Held) (l1 l2 : Option (List ℕ)) (p : List ℕ) (n : ℕ) → Progress start before old h1 l1 p w now → Refills h1 h2 l1 l2 n → Progress start before old h2 l2 p w now
+pub refilled : (start now : Scripted) (before old w : Option (List ℕ)) (h1 h2 : Held) (l1 l2 : Option (List ℕ)) (p : List ℕ) (n : ℕ) → Progress start before old h1 l1 p w now → Refills h1 h2 (between l1 l2) n → Progress start before old h2 l2 p w now
 refilled start now before old w h1 h2 l1 l2 p n g r = record {
   input = g.input;
   out = g.out;
@@ -105,6 +105,6 @@ refilled start now before old w h1 h2 l1 l2 p n g r = record {
 
 -- what waited went out, and more was read
 pub read_on : (start now : Scripted) (before old w1 w2 : Option (List ℕ)) (h1 h2 h3 : Held) (l1 l2 : Option (List ℕ)) (p1 p2 : List ℕ) (n : ℕ) → Progress start before old h1 l1 p1 w1 now → IsOneLine h1.bytes
-    → Sends w1 w2 p1 p2 → Waits h1 h2 → Refills h2 h3 l1 l2 n → Progress start before old h3 l2 p2 w2 now
+    → Sends (between w1 w2) p1 p2 → Waits h1 h2 → Refills h2 h3 (between l1 l2) n → Progress start before old h3 l2 p2 w2 now
 read_on start now before old w1 w2 h1 h2 h3 l1 l2 p1 p2 n g one sent waits r =
     refilled start now before old w2 h2 h3 l1 l2 p2 n (waited start now before old w2 h1 h2 l1 p2 (flushed start now before old w1 w2 h1 l1 p1 p2 g sent) one waits) r

@@ -13,14 +13,14 @@ use Rattle.ets_script.specs.inside.Answered.{AnswersPart, EndsAll, BreaksAtEnd}
 use Rattle.ets_script.specs.declared.answer.Answer.{Answer}
 use Rattle.ets_script.specs.declared.fault.ScriptFault.{ScriptFault}
 use Rattle.ets_script.specs.declared.fault.ScriptFault.TheVariants as faults
-use Rattle.ets_script.proofs.KnownBytes.{sends_on, breaks_on, breaks_more, appends_same, appends_more, kept_left, same_known, taken_front, the_none, unheld}
+use Rattle.ets_script.proofs.KnownBytes.{between, sends_on, breaks_on, breaks_more, appends_same, appends_more, kept_left, same_known, taken_front, the_none, unheld}
 use Rattle.ets_script.proofs.AnsweredLines.{last_lines, no_more, none_is, then_line}
 use Rattle.ets_script.proofs.HeldLines.{Ended, both_one_line, one_line_held, one_line_of, weaker_line}
 use Rattle.ets_script.proofs.Progress.{Progress, flushed, waited}
 
 -- the writer failed at the answer to a line
 pub broken_line : (start s1 s2 : Scripted) (before old w1 w2 : Option (List ℕ)) (h1 : Held) (left : Option (List ℕ)) (p1 : List ℕ) (n : ℕ) (line : Line) (answer : Answer) → Progress start before old h1 left p1 w1 s1
-    → EndsLine h1.bytes h1.is_skipping n line → AnswersLine s1 line answer s2 → Breaks w1 w2 (p1 ++ printed answer) → Stops start before left old w2 faults.Write
+    → EndsLine h1.bytes h1.is_skipping n line → AnswersLine s1 line answer s2 → Breaks (between w1 w2) (p1 ++ printed answer) → Stops start (between before left) (between old w2) faults.Write
 broken_line start s1 s2 before old w1 w2 h1 left p1 n line answer g ends answers broken =
     let bytes = g.skipped ++ take n h1.bytes in
     let b = breaks_more old w1 w2 g.out p1 (printed answer) g.sent broken in
@@ -41,7 +41,7 @@ broken_line start s1 s2 before old w1 w2 h1 left p1 n line answer g ends answers
     )
 
 -- the writer failed before more was read
-pub flush_broken : (start now : Scripted) (before old w1 w2 : Option (List ℕ)) (h : Held) (left : Option (List ℕ)) (p : List ℕ) → Progress start before old h left p w1 now → Breaks w1 w2 p → Stops start before left old w2 faults.Write
+pub flush_broken : (start now : Scripted) (before old w1 w2 : Option (List ℕ)) (h : Held) (left : Option (List ℕ)) (p : List ℕ) → Progress start before old h left p w1 now → Breaks (between w1 w2) p → Stops start (between before left) (between old w2) faults.Write
 flush_broken start now before old w1 w2 h left p g broken =
     let b = breaks_on old w1 w2 g.out p g.sent broken in
     let M : Type 0 = (g.skipped ++ h.bytes ≡ []) × IsAtEnd left in (
@@ -56,9 +56,9 @@ flush_broken start now before old w1 w2 h left p g broken =
     )
 
 -- the reader failed after all that waited had gone out
-pub read_failed : (start now : Scripted) (before old w : Option (List ℕ)) (h : Held) (l1 l2 : Option (List ℕ)) (p : List ℕ) → Progress start before old h l1 p w now → p ≡ [] → IsOneLine h.bytes → Keeps l1 l2 → Stops start before l2 old w faults.Read
+pub read_failed : (start now : Scripted) (before old w : Option (List ℕ)) (h : Held) (l1 l2 : Option (List ℕ)) (p : List ℕ) → Progress start before old h l1 p w now → p ≡ [] → IsOneLine h.bytes → Keeps l1 l2 → Stops start (between before l2) (between old w) faults.Read
 read_failed start now before old w h l1 l2 p g none one kept =
-    let all = subst (λ (k : List ℕ). Sends old w g.out k) none g.sent in (
+    let all = subst (λ (k : List ℕ). Sends (between old w) g.out k) none g.sent in (
       g.input,
       g.skipped ++ h.bytes,
       g.out,
@@ -70,7 +70,7 @@ read_failed start now before old w h l1 l2 p g none one kept =
     )
 
 -- the last line was answered, and all went out
-pub completed : (start s1 s2 : Scripted) (before old w1 w2 : Option (List ℕ)) (h : Held) (left : Option (List ℕ)) (p : List ℕ) → Progress start before old h left p w1 s1 → Ended h left → EndsAll h s1 s2 p w1 w2 → Completes start before left old w2 s2
+pub completed : (start s1 s2 : Scripted) (before old w1 w2 : Option (List ℕ)) (h : Held) (left : Option (List ℕ)) (p : List ℕ) → Progress start before old h left p w1 s1 → Ended h left → EndsAll h s1 s2 p (between w1 w2) → Completes start s2 (between before left) (between old w2)
 completed start s1 s2 before old w1 w2 h left p g e all = (
   g.input ++ (g.skipped ++ h.bytes),
   g.out ++ printed all.answer,
@@ -81,7 +81,7 @@ completed start s1 s2 before old w1 w2 h left p g e all = (
 )
 
 -- the writer failed after the last line
-pub end_broken : (start s1 s2 : Scripted) (before old w1 w2 : Option (List ℕ)) (h : Held) (left : Option (List ℕ)) (p : List ℕ) → Progress start before old h left p w1 s1 → Ended h left → BreaksAtEnd h s1 s2 p w1 w2 → Stops start before left old w2 faults.Write
+pub end_broken : (start s1 s2 : Scripted) (before old w1 w2 : Option (List ℕ)) (h : Held) (left : Option (List ℕ)) (p : List ℕ) → Progress start before old h left p w1 s1 → Ended h left → BreaksAtEnd h s1 s2 p (between w1 w2) → Stops start (between before left) (between old w2) faults.Write
 end_broken start s1 s2 before old w1 w2 h left p g e all =
     let b = breaks_more old w1 w2 g.out p (printed all.answer) g.sent all.broken in
     let M : Type 0 = (the_none ≡ []) × IsAtEnd left in (
@@ -97,30 +97,30 @@ end_broken start s1 s2 before old w1 w2 h left p g e all =
     )
 
 -- a script that had no memory to begin with
-pub not_begun : (start : Scripted) (before old : Option (List ℕ)) → Stops start before before old old faults.Memory
+pub not_begun : (start : Scripted) (before old : Option (List ℕ)) → Stops start (between before before) (between old old) faults.Memory
 not_begun start before old = (same_known before, appends_same old)
 
 pub read_broken : (start now : Scripted) (before old w1 w2 : Option (List ℕ)) (h1 h2 : Held) (l1 l2 : Option (List ℕ)) (p1 p2 : List ℕ) → Progress start before old h1 l1 p1 w1 now → IsOneLine h1.bytes
-    → Sends w1 w2 p1 p2 → p2 ≡ [] → Waits h1 h2 → Keeps l1 l2 → Stops start before l2 old w2 faults.Read
+    → Sends (between w1 w2) p1 p2 → p2 ≡ [] → Waits h1 h2 → Keeps l1 l2 → Stops start (between before l2) (between old w2) faults.Read
 read_broken start now before old w1 w2 h1 h2 l1 l2 p1 p2 g one sent none waits kept =
     read_failed start now before old w2 h2 l1 l2 p2 (waited start now before old w2 h1 h2 l1 p2 (flushed start now before old w1 w2 h1 l1 p1 p2 g sent) one waits) none (one_line_held h1 h2 one waits) kept
 
 -- the last answer was printed, and what waits goes out
-pub end_ok : {T E : Type 0} (r : Result T E) (h : Held) (s1 s2 : Scripted) (p1 p2 p3 : List ℕ) (w1 w2 w3 : Option (List ℕ)) (answer : Answer) → AnswersPart h.is_skipping s1 h.bytes answer s2 → Sends w1 w2 (p1 ++ printed answer) p2
-    → OnOk r (Sends w2 w3 p2 p3) → OnOk r (p3 ≡ []) → OnOk r (EndsAll h s1 s2 p1 w1 w3)
+pub end_ok : {T E : Type 0} (r : Result T E) (h : Held) (s1 s2 : Scripted) (p1 p2 p3 : List ℕ) (w1 w2 w3 : Option (List ℕ)) (answer : Answer) → AnswersPart h.is_skipping s1 h.bytes answer s2 → Sends (between w1 w2) (p1 ++ printed answer) p2
+    → OnOk r (Sends (between w2 w3) p2 p3) → OnOk r (p3 ≡ []) → OnOk r (EndsAll h s1 s2 p1 (between w1 w3))
 end_ok (Ok x) h s1 s2 p1 p2 p3 w1 w2 w3 answer answers printed_so sent none =
-    let all = subst (λ (k : List ℕ). Sends w1 w3 (p1 ++ printed answer) k) none (sends_on w1 w2 w3 (p1 ++ printed answer) p2 p3 printed_so sent) in
+    let all = subst (λ (k : List ℕ). Sends (between w1 w3) (p1 ++ printed answer) k) none (sends_on w1 w2 w3 (p1 ++ printed answer) p2 p3 printed_so sent) in
     record { answer = answer; answers = answers; written = subst (λ (k : List ℕ). Appends w1 w3 k) (sym (all.parts ∙ append-nil all.sent)) all.written }
 end_ok (Err e) h s1 s2 p1 p2 p3 w1 w2 w3 answer answers printed_so sent none = tt
 
-pub end_err : {T E : Type 0} (r : Result T E) (h : Held) (s1 s2 : Scripted) (p1 p2 : List ℕ) (w1 w2 w3 : Option (List ℕ)) (answer : Answer) → AnswersPart h.is_skipping s1 h.bytes answer s2 → Sends w1 w2 (p1 ++ printed answer) p2
-    → OnErr r (Breaks w2 w3 p2) → OnErr r (BreaksAtEnd h s1 s2 p1 w1 w3)
+pub end_err : {T E : Type 0} (r : Result T E) (h : Held) (s1 s2 : Scripted) (p1 p2 : List ℕ) (w1 w2 w3 : Option (List ℕ)) (answer : Answer) → AnswersPart h.is_skipping s1 h.bytes answer s2 → Sends (between w1 w2) (p1 ++ printed answer) p2
+    → OnErr r (Breaks (between w2 w3) p2) → OnErr r (BreaksAtEnd h s1 s2 p1 (between w1 w3))
 end_err (Ok x) h s1 s2 p1 p2 w1 w2 w3 answer answers printed_so broken = tt
 end_err (Err e) h s1 s2 p1 p2 w1 w2 w3 answer answers printed_so broken =
     record { answer = answer; answers = answers; broken = breaks_on w1 w2 w3 (p1 ++ printed answer) p2 printed_so broken }
 
 -- a fault is told as it was found
 pub stop_told : {N : Type 0} (start : Scripted) (before after old new : Option (List ℕ)) (r : Result N ScriptFault) (fault : ScriptFault) → IsErrAnd r (λ told. told ≡ fault)
-    → Stops start before after old new fault → IfErr r (Stops start before after old new)
+    → Stops start (between before after) (between old new) fault → IfErr r (Stops start (between before after) (between old new))
 stop_told start before after old new (Ok x) fault told stops = tt
-stop_told start before after old new (Err e) fault told stops = subst (Stops start before after old new) (sym told) stops
+stop_told start before after old new (Err e) fault told stops = subst (Stops start (between before after) (between old new)) (sym told) stops

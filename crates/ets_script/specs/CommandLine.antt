@@ -30,14 +30,32 @@ flag_option name = record (new_rule name) { long = Some name; action = Some SetT
 
 -- `--hash`, whose values a parser takes, and without which it is fnv
 abbrev pub hash_option : ValueParser → Rule
-hash_option hashes = record (new_rule (codes "hash")) { long = Some (codes "hash"); action = Some Set; parser = Some hashes; defaults = codes "fnv" ∷ [] }
+hash_option hashes = record (new_rule (codes "hash")) {
+  long = Some (codes "hash");
+  action = Some Set;
+  parser = Some hashes;
+  defaults = codes "fnv" ∷ [];
+}
 
--- `--max-objects`, a number below 2^32, and without it 1000000
+-- an option of this name, a number below 2^32, and without it this one
+abbrev pub number_option : Text → Text → Rule
+number_option name default = record (new_rule name) {
+  long = Some name;
+  action = Some Set;
+  parser = Some (Signed (pos 0) (pos 4294967295));
+  defaults = default ∷ [];
+}
+
+-- the limit of objects in one table, which is 1000000 without it
 abbrev pub objects_option : Rule
-objects_option = record (new_rule (codes "max-objects")) { long = Some (codes "max-objects"); action = Some Set; parser = Some (Signed (pos 0) (pos 4294967295)); defaults = codes "1000000" ∷ [] }
+objects_option = number_option (codes "max-objects") (codes "1000000")
 
 abbrev pub command_line : ValueParser → App
-command_line hashes = with_rule (with_rule (with_rule (new_app (codes "ets_script")) (flag_option (codes "threads"))) (hash_option hashes)) objects_option
+command_line hashes =
+    with_rule (with_rule (with_rule (new_app (codes "ets_script"))
+    (flag_option (codes "threads")))
+    (hash_option hashes))
+    objects_option
 
 -- the text of a number in decimal digits, before which a plus may stand
 abbrev pub Spells : Option Text → ℕ → Type 0
@@ -48,9 +66,13 @@ Spells None n = ⊥
 abbrev pub is_named : Text → Option Text → Bool
 is_named name text = option_map_or (λ t. bytes_eq t name) text false
 
--- what the matches ask; the value of `--threads` is true where it is given, and else false
+-- a flag is given: its value is true there, and else false
+abbrev pub is_given : Text → List Row → Bool
+is_given flag rows = is_named (codes "true") (first_of flag rows)
+
+-- what the matches ask
 pub record Asks (rows : List Row) (settings : Settings) : Type 0 where
-  pub threads : settings.threads ≡ is_named (codes "true") (first_of (codes "threads") rows)
+  pub threads : settings.threads ≡ is_given (codes "threads") rows
   pub same : settings.same ≡ is_named (codes "same") (first_of (codes "hash") rows)
   pub objects : Spells (one_of (codes "max-objects") rows) settings.objects
 
@@ -62,17 +84,16 @@ pub record Settles (words : List Text) (result : Result Settings Error) : Type 0
   pub faults : FailsBy (fault_of (command_line hashes) words) result
   pub settings : IfOk result (Asks (matches_of (command_line hashes) words))
 
--- an option of this name, a number below 2^32, and without it this one
-abbrev pub number_option : Text → Text → Rule
-number_option name default = record (new_rule name) { long = Some name; action = Some Set; parser = Some (Signed (pos 0) (pos 4294967295)); defaults = default ∷ [] }
-
 -- `--version`
 abbrev pub with_version : App → App
 with_version = on_top (λ s. record s { has_version = true })
 
 -- the limits of processes, which are 4096 without it, and of tables, 65536
 abbrev pub limited_line : ValueParser → App
-limited_line hashes = with_rule (with_rule (command_line hashes) (number_option (codes "max-processes") (codes "4096"))) (number_option (codes "max-tables") (codes "65536"))
+limited_line hashes =
+    with_rule (with_rule (command_line hashes)
+    (number_option (codes "max-processes") (codes "4096")))
+    (number_option (codes "max-tables") (codes "65536"))
 
 -- the same command line, with options more: these limits, reasons, and the version
 abbrev pub request_line : ValueParser → App
@@ -83,7 +104,7 @@ pub record AsksAll (rows : List Row) (request : Request) : Type 0 where
   pub settings : Asks rows request.settings
   pub processes : Spells (one_of (codes "max-processes") rows) request.processes
   pub tables : Spells (one_of (codes "max-tables") rows) request.tables
-  pub why : request.why ≡ is_named (codes "true") (first_of (codes "why") rows)
+  pub why : request.why ≡ is_given (codes "why") rows
 
 -- as `Settles`, each option by itself
 pub record Parses (words : List Text) (result : Result Request Error) : Type 0 where
@@ -95,20 +116,24 @@ pub record Parses (words : List Text) (result : Result Request Error) : Type 0 w
 -- reasons are not told of processes in threads
 abbrev pub conflict_of : List Row → Kinds
 conflict_of rows =
-    if is_named (codes "true") (first_of (codes "why") rows) && is_named (codes "true") (first_of (codes "threads") rows)
-    then ArgumentConflict ∷ []
-    else []
+    if is_given (codes "why") rows && is_given (codes "threads") rows then ArgumentConflict ∷ [] else []
+
+-- the faults of the words; where there are none, options that do not go together
+abbrev pub request_faults : ValueParser → List Text → Kinds
+request_faults hashes words =
+    or_else (fault_of (request_line hashes) words) (conflict_of (matches_of (request_line hashes) words))
 
 -- the same, and options that do not go together are refused where there is no other fault
 pub record Requests (words : List Text) (result : Result Request Error) : Type 0 where
   pub hashes : ValueParser
   pub names : TakesNames hash_names hashes
-  pub faults : FailsBy (or_else (fault_of (request_line hashes) words) (conflict_of (matches_of (request_line hashes) words))) result
+  pub faults : FailsBy (request_faults hashes words) result
   pub request : IfOk result (AsksAll (matches_of (request_line hashes) words))
 
 -- the limits that are asked for
 abbrev pub limits_of : Request → Limits
-limits_of request = record { processes = request.processes; tables = request.tables; objects = request.settings.objects }
+limits_of request =
+    record { processes = request.processes; tables = request.tables; objects = request.settings.objects }
 
 -- the program's status where its command line gives no settings
 abbrev pub refused_status : ErrorKind → ℕ

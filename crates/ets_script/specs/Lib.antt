@@ -1,5 +1,6 @@
 pub mod Lines
 pub mod Numbers
+pub mod Flows
 pub mod Reads
 pub mod Terms
 pub mod Classes

@@ -17,14 +17,23 @@ pub data Line : Type 0 where
 abbrev pub Ends : List ℕ → List ℕ → Type 0 → Type 0
 Ends before bytes last = (bytes ≡ before ++ 10 ∷ []) ⊎ ((bytes ≡ before) × (0 < length before) × last)
 
+-- The same, of a line with this text: one CR before the LF is no part of it; where no LF follows it, it is.
+abbrev pub EndsText : List ℕ → List ℕ → List ℕ → Type 0 → Type 0
+EndsText before t bytes last =
+    ((bytes ≡ before ++ 10 ∷ []) × (t ≡ strip_last 13 before))
+    ⊎ ((bytes ≡ before) × (0 < length before) × last × (t ≡ before))
+
 -- These bytes are one line, `last` where nothing follows them. Past MAX_LINE bytes before the LF it is too long, a CR
--- counted. One CR before the LF is no part of the text; where no LF follows it, it is.
+-- counted.
 abbrev pub IsLine : List ℕ → Line → Type 0 → Type 0
-IsLine bytes (text t) last = (before : List ℕ) × IsOneLine before × (length before ≤ MAX_LINE)
-    × (((bytes ≡ before ++ 10 ∷ []) × (t ≡ strip_last 13 before)) ⊎ ((bytes ≡ before) × (0 < length before) × last × (t ≡ before)))
-IsLine bytes too_long last = (before : List ℕ) × IsOneLine before × (MAX_LINE < length before) × Ends before bytes last
+IsLine bytes (text t) last =
+    (before : List ℕ) × IsOneLine before × (length before ≤ MAX_LINE) × EndsText before t bytes last
+IsLine bytes too_long last =
+    (before : List ℕ) × IsOneLine before × (MAX_LINE < length before) × Ends before bytes last
 
 -- these bytes are these lines, of which the last may lack its LF
 abbrev pub IsCutInto : List ℕ → List Line → Type 0
 IsCutInto input [] = input ≡ []
-IsCutInto input (line ∷ lines) = (bytes : List ℕ) × (rest : List ℕ) × (input ≡ bytes ++ rest) × IsLine bytes line (rest ≡ []) × IsCutInto rest lines
+IsCutInto input (line ∷ lines) =
+    (bytes : List ℕ) × (rest : List ℕ) × (input ≡ bytes ++ rest)
+    × IsLine bytes line (rest ≡ []) × IsCutInto rest lines

@@ -3,8 +3,8 @@ use Rattle.std.specs.Prelude.{◌≡◌}
 use Rattle.ets_script.specs.declared.lines.TheConstants.{MAX_LINE}
 use Rattle.ets_script.specs.declared.feed.TheConstants.{MAX_READS}
 
--- The bytes that a line may have before its LF, and the reads that a script may take: where none of these finds the end of the
--- input, that is a read fault.
+-- The bytes that a line may have before its LF, and the reads that a script may take: where none of these finds the end
+-- of the input, that is a read fault.
 pub record AreTheNumbers : Type 0 where
   pub line : MAX_LINE ≡ 65536
   pub reads : MAX_READS ≡ 1000000000

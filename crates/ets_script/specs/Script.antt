@@ -3,7 +3,8 @@ use Rattle.std.specs.Prelude.{◌≡◌, ℕ, zero, suc, ◌⊎◌, Bool, true, 
 use Rattle.std.specs.Str.{bytes_eq}
 use Rattle.ets_term.specs.declared.term.Term.{Term}
 use Rattle.ownership.specs.World.{resolve}
-use Rattle.node_core.specs.State.{State, next_identifier}
+use Rattle.node_core.specs.State.{State, empty, next_identifier}
+use Rattle.node_core.specs.declared.limits.Limits.{Limits}
 use Rattle.node_core.specs.Machine.{step}
 use Rattle.node_core.specs.declared.step.Step.{Step}
 use Rattle.node_core.specs.declared.step.Step.TheVariants.{Enrol, End, Ask, Grow, Ready}
@@ -15,8 +16,8 @@ use Rattle.ets_script.specs.Replies.{printed}
 use Rattle.ets_script.specs.declared.answer.Answer.{Answer}
 use Rattle.ets_script.specs.declared.answer.Answer.TheVariants.{Silent, Replied, NoMemory, Syntax, TooLong}
 
--- The names that were spawned, in order: the first stands for process 0, the next for process 1, and so on. And the state of
--- the machine, which is what calls can see of the node.
+-- The names that were spawned, in order: the first stands for process 0, the next for process 1, and so on. And the
+-- state of the machine, which is what calls can see of the node.
 pub record Scripted : Type 0 where
   pub names : List (List ℕ)
   pub node : State
@@ -35,7 +36,8 @@ Unchanged old fixed answer new = (answer ≡ fixed) × (new ≡ old)
 
 -- the node makes a step, and the answer is its reply
 abbrev pub Steps : Scripted → Step → Answer → Scripted → Type 0
-Steps old s answer new = (r : Reply) × (answer ≡ Replied r) × step old.node s r new.node × (new.names ≡ old.names)
+Steps old s answer new =
+    (r : Reply) × (answer ≡ Replied r) × step old.node s r new.node × (new.names ≡ old.names)
 
 -- a step of the process that a name stands for
 abbrev pub StepsOf : Option ℕ → (ℕ → Step) → Scripted → Answer → Scripted → Type 0
@@ -52,13 +54,16 @@ names_after NoProcess names name = names
 -- a name is spawned once, and takes the next number
 abbrev pub Spawns : Option ℕ → Scripted → List ℕ → Answer → Scripted → Type 0
 Spawns (Some p) old name answer new = Unchanged old (Replied Badarg) answer new
-Spawns None old name answer new = (r : Reply) × (answer ≡ Replied r) × step old.node (Enrol (length old.names)) r new.node × (new.names ≡ names_after r old.names name)
+Spawns None old name answer new =
+    (r : Reply) × (answer ≡ Replied r)
+    × step old.node (Enrol (length old.names)) r new.node × (new.names ≡ names_after r old.names name)
 
 abbrev pub Obeys : Command → Scripted → Answer → Scripted → Type 0
 Obeys (faulty at) old answer new = Unchanged old (Syntax at) answer new
 Obeys (spawn name) old answer new = Spawns (pid_of old name) old name answer new
 Obeys (exit name) old answer new = StepsOf (pid_of old name) (λ p. End p) old answer new
-Obeys (ask name word terms) old answer new = StepsOf (pid_of old name) (λ p. Ask p (record { name = word; args = terms })) old answer new
+Obeys (ask name word terms) old answer new =
+    StepsOf (pid_of old name) (λ p. Ask p (record { name = word; args = terms })) old answer new
 Obeys (grow t) old answer new = Steps old (Grow (table_of old t)) answer new
 Obeys (ready t bucket) old answer new = Steps old (Ready (table_of old t) bucket) answer new
 
@@ -73,20 +78,21 @@ AnswersLine old (text t) answer new = AnswersText (is_silent t) old t answer new
 AnswersLine old too_long answer new = Unchanged old TooLong answer new
 
 -- These bytes are one line, which has this output; `last` where nothing follows it.
-pub record IsAnswered (old : Scripted) (bytes : List ℕ) (out : List ℕ) (new : Scripted) (last : Type 0) : Type 0 where
+pub record IsAnswered (old : Scripted) (bytes out : List ℕ) (new : Scripted) (last : Type 0) : Type 0 where
   pub line : Line
   pub answer : Answer
   pub is_line : IsLine bytes line last
   pub answers : AnswersLine old line answer new
   pub prints : out ≡ printed answer
 
--- This number of lines is all of the input, and what they print is all of the output, from one state to another. The last may
--- lack its LF where `last` holds.
+-- This number of lines is all of the input, and what they print is all of the output, from one state to another. The
+-- last may lack its LF where `last` holds.
 abbrev pub ScriptText : ℕ → Type 0 → Scripted → List ℕ → List ℕ → Scripted → Type 0
 ScriptText zero last old input output new = (input ≡ []) × (output ≡ []) × (new ≡ old)
 ScriptText (suc n) last old input output new =
     (mid : Scripted) × (bytes : List ℕ) × (rest : List ℕ) × (first : List ℕ) × (others : List ℕ)
-    × (input ≡ bytes ++ rest) × (output ≡ first ++ others) × IsAnswered old bytes first mid ((rest ≡ []) × last) × ScriptText n last mid rest others new
+    × (input ≡ bytes ++ rest) × (output ≡ first ++ others)
+    × IsAnswered old bytes first mid ((rest ≡ []) × last) × ScriptText n last mid rest others new
 
 abbrev pub AreLines : Type 0 → Scripted → List ℕ → List ℕ → Scripted → Type 0
 AreLines last old input output new = (count : ℕ) × ScriptText count last old input output new
@@ -99,6 +105,6 @@ AreWholeLines = AreLines ⊥
 abbrev pub IsScript : Scripted → List ℕ → List ℕ → Scripted → Type 0
 IsScript = AreLines ⊤
 
--- before the first line
-abbrev pub at_start : State → Scripted
-at_start node = record { names = []; node = node }
+-- before the first line, on a node with these limits
+abbrev pub at_start : Limits → Scripted
+at_start limits = record { names = []; node = empty limits }

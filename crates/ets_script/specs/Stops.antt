@@ -1,40 +1,53 @@
 -- What a script has read and written when it ends.
-use Rattle.std.specs.Prelude.{◌≡◌, ◌⊎◌, ℕ, List, [], ◌++◌, Option}
+use Rattle.std.specs.Prelude.{◌≡◌, ◌⊎◌, ℕ, List, [], ◌++◌}
 use Rattle.std.specs.Io.KnownBytes.{Appends, Consumes, IsAtEnd}
+use Rattle.ets_script.specs.Flows.{Flow}
 use Rattle.ets_script.specs.Lines.{IsOneLine}
-use Rattle.node_core.specs.State.{empty}
+use Rattle.node_core.specs.State.{State}
 use Rattle.node_core.specs.declared.limits.Limits.{Limits}
 use Rattle.ets_script.specs.Script.{Scripted, at_start, IsScript, AreWholeLines, AreLines}
 use Rattle.ets_script.specs.declared.fault.ScriptFault.{ScriptFault}
 use Rattle.ets_script.specs.declared.fault.ScriptFault.TheVariants.{Read, Write, Memory, Differs, Missing}
 
 -- the reader had all of a script, which was read to its end, and all that its lines print was written
-abbrev pub Completes : Scripted → Option (List ℕ) → Option (List ℕ) → Option (List ℕ) → Option (List ℕ) → Scripted → Type 0
-Completes start before after old new end = (input : List ℕ) × (output : List ℕ)
-    × Consumes before after input × IsAtEnd after × Appends old new output × IsScript start input output end
+abbrev pub Completes : Scripted → Scripted → Flow → Flow → Type 0
+Completes start end reader writer =
+    (input : List ℕ) × (output : List ℕ)
+    × Consumes reader.before reader.after input × IsAtEnd reader.after
+    × Appends writer.before writer.after output × IsScript start input output end
+
+-- the same, and this node is left at the end
+abbrev pub LeavesNode : Scripted → State → Flow → Flow → Type 0
+LeavesNode start node reader writer = (end : Scripted) × (end.node ≡ node) × Completes start end reader writer
 
 -- From what the reader had to what it has left. At a read fault these were whole lines, each with its LF, all of whose
 -- answers were written, and a part of a line, which was not answered. At a write fault a prefix of the answers was
 -- written: answers to whole lines, and to a last one without an LF if all of the input was read; some of what was read
 -- may not have been looked at. Without memory to begin with, nothing was read or written. It stops for nothing else.
-abbrev pub Stops : Scripted → Option (List ℕ) → Option (List ℕ) → Option (List ℕ) → Option (List ℕ) → ScriptFault → Type 0
-Stops start before after old new Read = (lines : List ℕ) × (part : List ℕ) × (output : List ℕ) × (end : Scripted)
-    × Consumes before after (lines ++ part) × IsOneLine part × Appends old new output × AreWholeLines start lines output end
-Stops start before after old new Write = (lines : List ℕ) × (unread : List ℕ) × (output : List ℕ) × (unsent : List ℕ) × (end : Scripted)
-    × Consumes before after (lines ++ unread) × Appends old new output × AreLines ((unread ≡ []) × IsAtEnd after) start lines (output ++ unsent) end
-Stops start before after old new Memory = Consumes before after [] × Appends old new []
-Stops start before after old new (Differs p) = ⊥
-Stops start before after old new (Missing p) = ⊥
+abbrev pub Stops : Scripted → Flow → Flow → ScriptFault → Type 0
+Stops start reader writer Read =
+    (lines : List ℕ) × (part : List ℕ) × (output : List ℕ) × (end : Scripted)
+    × Consumes reader.before reader.after (lines ++ part) × IsOneLine part
+    × Appends writer.before writer.after output × AreWholeLines start lines output end
+Stops start reader writer Write =
+    (lines : List ℕ) × (unread : List ℕ) × (output : List ℕ) × (unsent : List ℕ) × (end : Scripted)
+    × Consumes reader.before reader.after (lines ++ unread)
+    × Appends writer.before writer.after output
+    × AreLines ((unread ≡ []) × IsAtEnd reader.after) start lines (output ++ unsent) end
+Stops start reader writer Memory = Consumes reader.before reader.after [] × Appends writer.before writer.after []
+Stops start reader writer (Differs p) = ⊥
+Stops start reader writer (Missing p) = ⊥
 
 -- a node's limits, and the program's status: 0 after a whole script, else 1
-abbrev pub EndsWithin : Limits → Option (List ℕ) → Option (List ℕ) → Option (List ℕ) → Option (List ℕ) → ℕ → Type 0
-EndsWithin limits before after old new status = ((status ≡ 0) × (end : Scripted) × Completes (at_start (empty limits)) before after old new end)
-    ⊎ ((status ≡ 1) × (fault : ScriptFault) × Stops (at_start (empty limits)) before after old new fault)
+abbrev pub EndsWithin : Limits → Flow → Flow → ℕ → Type 0
+EndsWithin limits reader writer status =
+    ((status ≡ 0) × (end : Scripted) × Completes (at_start limits) end reader writer)
+    ⊎ ((status ≡ 1) × (fault : ScriptFault) × Stops (at_start limits) reader writer fault)
 
 -- the limits that are usual, with this number of objects in one table
 abbrev pub usual : ℕ → Limits
 usual objects = record { processes = 4096; tables = 65536; objects = objects }
 
 -- the same by these limits
-abbrev pub ProgramEnds : ℕ → Option (List ℕ) → Option (List ℕ) → Option (List ℕ) → Option (List ℕ) → ℕ → Type 0
+abbrev pub ProgramEnds : ℕ → Flow → Flow → ℕ → Type 0
 ProgramEnds objects = EndsWithin (usual objects)

@@ -2,17 +2,20 @@
 use Rattle.std.specs.Prelude.{◌≡◌, ◌⊎◌, ℕ, zero, suc, ◌-◌, ◌≤◌, ◌<◌, true, List, [], ◌∷◌, ◌++◌, map, flat_map, take, length, Option, Some, None, Err, slice_index_or, codes, min}
 use Rattle.std.specs.Io.KnownBytes.{Appends, Consumes, IsAtEnd}
 use Rattle.node_core.specs.declared.limits.Limits.{Limits}
+use Rattle.node_core.specs.declared.step.Step.{Step}
 use Rattle.node_core.specs.declared.step.Step.TheVariants.{Enrol}
 use Rattle.node_core.specs.declared.step.Reply.{Reply}
 use Rattle.node_core.specs.State.{State}
 use Rattle.node_shared.specs.declared.entry.Entry.{Entry}
 use Rattle.node_shared.specs.declared.job.Job.{Job}
 use Rattle.node_shared.specs.declared.pids.TheConstants.{MAX_PIDS}
+use Rattle.node_shared.specs.declared.transcript.CloseFault.{CloseFault}
 use Rattle.node_shared.specs.declared.transcript.CloseFault.TheVariants as close
 use Rattle.node_shared.specs.Closing.{Closes}
 use Rattle.node_shared.specs.Journal.{IsRun, of, has_entries, process_of}
 use Rattle.node_shared.specs.Records.{Recorded}
 use Rattle.node_shared.specs.Working.{job_step}
+use Rattle.ets_script.specs.Flows.{Flow}
 use Rattle.ets_script.specs.Lines.{Line, IsCutInto}
 use Rattle.ets_script.specs.Plan.{Planned, nothing, lines_plan}
 use Rattle.ets_script.specs.Replies.{printed, reply_text}
@@ -41,25 +44,31 @@ stopped_text names left = []
 
 -- the answers known before, the replies of the processes in the order of the journal, and those that were stopped
 abbrev pub threads_text : List Answer → List (List ℕ) → List Entry → List ℕ → List ℕ
-threads_text answers names done left = flat_map printed answers ++ (flat_map (entry_text names) done ++ stopped_text names left)
+threads_text answers names done left =
+    flat_map printed answers ++ (flat_map (entry_text names) done ++ stopped_text names left)
+
+-- the steps of a process that is enrolled and then does its jobs, in order, all but the last n
+abbrev pub steps_done : ℕ → List Job → ℕ → List Step
+steps_done p jobs n = Enrol p ∷ map (job_step p) (take (length jobs - n) jobs)
 
 -- From process p on, each is enrolled and then does its jobs, in order, all but the last of them that are left.
 abbrev pub AreDone : List Entry → ℕ → List (List Job) → List ℕ → Type 0
 AreDone done p [] [] = Unit {0}
 AreDone done p (jobs ∷ others) (n ∷ left) =
-    (n ≤ length jobs) × (map (λ e. e.step) (of p done) ≡ Enrol p ∷ map (job_step p) (take (length jobs - n) jobs)) × AreDone done (suc p) others left
+    (n ≤ length jobs) × (map (λ e. e.step) (of p done) ≡ steps_done p jobs n) × AreDone done (suc p) others left
 AreDone done p [] (n ∷ left) = ⊥
 AreDone done p (jobs ∷ others) [] = ⊥
 
--- The journal is a run of the node from its empty state, in which each process does its jobs, and none but these has entries.
+-- The journal is a run of the node from its empty state, in which each process does its jobs, and none but these has
+-- entries.
 pub record RunsJobs (limits : Limits) (jobs : List (List Job)) (done : List Entry) (left : List ℕ) : Type 0 where
   pub end : State
   pub run : IsRun limits done end
   pub each : AreDone done 0 jobs left
   pub no_others : (p : ℕ) → has_entries p done ≡ true → p < length jobs
 
--- The input's lines are planned, and what they ask of the processes is done in one run. That run is printed behind the answers
--- that were known before.
+-- The input's lines are planned, and what they ask of the processes is done in one run. That run is printed behind the
+-- answers that were known before.
 pub record ThreadsText (limits : Limits) (input output : List ℕ) : Type 0 where
   pub lines : List Line
   pub plan : Planned
@@ -71,23 +80,36 @@ pub record ThreadsText (limits : Limits) (input output : List ℕ) : Type 0 wher
   pub prints : output ≡ threads_text plan.answers plan.names done left
 
 -- the reader had all of a script, which was read to its end, and all that it prints was written
-abbrev pub ThreadsEnd : Limits → Option (List ℕ) → Option (List ℕ) → Option (List ℕ) → Option (List ℕ) → Type 0
-ThreadsEnd limits before after old new = (input : List ℕ) × (output : List ℕ) × Consumes before after input × IsAtEnd after × Appends old new output × ThreadsText limits input output
+abbrev pub ThreadsEnd : Limits → Flow → Flow → Type 0
+ThreadsEnd limits reader writer =
+    (input : List ℕ) × (output : List ℕ)
+    × Consumes reader.before reader.after input × IsAtEnd reader.after
+    × Appends writer.before writer.after output × ThreadsText limits input output
 
--- At a write fault a prefix of the text of a whole script was written. At any other nothing was. A process differs, or is missing,
--- only where the journal of a run of the node and the records of its clients say so.
-abbrev pub ThreadsStop : Limits → Option (List ℕ) → Option (List ℕ) → Option (List ℕ) → Option (List ℕ) → ScriptFault → Type 0
-ThreadsStop limits before after old new Write = (input : List ℕ) × (output : List ℕ) × (unsent : List ℕ)
-    × Consumes before after input × IsAtEnd after × Appends old new output × ThreadsText limits input (output ++ unsent)
-ThreadsStop limits before after old new Read = Appends old new []
-ThreadsStop limits before after old new Memory = Appends old new []
-ThreadsStop limits before after old new (Differs p) = Appends old new [] × ((clients : List Recorded) × Closes limits clients (Err (close.Differs p)))
-ThreadsStop limits before after old new (Missing p) = Appends old new [] × ((clients : List Recorded) × Closes limits clients (Err (close.Missing p)))
+-- the journal of a run of the node and the records of its clients do not agree, for this
+abbrev pub IsUnclosed : Limits → CloseFault → Type 0
+IsUnclosed limits fault = (clients : List Recorded) × Closes limits clients (Err fault)
+
+-- At a write fault a prefix of the text of a whole script was written. At any other nothing was. A process differs, or
+-- is missing, only where the journal of a run of the node and the records of its clients say so.
+abbrev pub ThreadsStop : Limits → Flow → Flow → ScriptFault → Type 0
+ThreadsStop limits reader writer Write =
+    (input : List ℕ) × (output : List ℕ) × (unsent : List ℕ)
+    × Consumes reader.before reader.after input × IsAtEnd reader.after
+    × Appends writer.before writer.after output × ThreadsText limits input (output ++ unsent)
+ThreadsStop limits reader writer Read = Appends writer.before writer.after []
+ThreadsStop limits reader writer Memory = Appends writer.before writer.after []
+ThreadsStop limits reader writer (Differs p) =
+    Appends writer.before writer.after [] × IsUnclosed limits (close.Differs p)
+ThreadsStop limits reader writer (Missing p) =
+    Appends writer.before writer.after [] × IsUnclosed limits (close.Missing p)
 
 -- the program's status: 0 after a whole script, else 1
-abbrev pub ThreadsStatus : Limits → Option (List ℕ) → Option (List ℕ) → Option (List ℕ) → Option (List ℕ) → ℕ → Type 0
-ThreadsStatus limits before after old new status = ((status ≡ 0) × ThreadsEnd limits before after old new) ⊎ ((status ≡ 1) × (fault : ScriptFault) × ThreadsStop limits before after old new fault)
+abbrev pub ThreadsStatus : Limits → Flow → Flow → ℕ → Type 0
+ThreadsStatus limits reader writer status =
+    ((status ≡ 0) × ThreadsEnd limits reader writer)
+    ⊎ ((status ≡ 1) × (fault : ScriptFault) × ThreadsStop limits reader writer fault)
 
 -- the same by the limits that are usual, with this number of objects in one table
-abbrev pub ProgramThreads : ℕ → Option (List ℕ) → Option (List ℕ) → Option (List ℕ) → Option (List ℕ) → ℕ → Type 0
+abbrev pub ProgramThreads : ℕ → Flow → Flow → ℕ → Type 0
 ProgramThreads objects = ThreadsStatus (usual objects)

@@ -1,5 +1,6 @@
 //! What a line is answered, and how that is printed.
-ghost use Rattle.std.specs.Prelude.{◌≡◌, ◌++◌, OnOk, OnErr, codes};
+ghost use Rattle.std.specs.Prelude.{◌++◌, OnOk, OnErr, codes};
+ghost use Rattle.ets_script.specs.Flows.{flow};
 ghost use Rattle.ets_script.specs.Replies.{printed, reply_text};
 ghost use Rattle.ets_script.specs.inside.Output.{Sends, Breaks};
 
@@ -25,8 +26,10 @@ pub enum Answer {
 impl Answer {
     /// Prints the answer on a line of its own, behind what waits.
     pub fn print<W: Write>(&self, pending: &mut Pending, writer: &mut W) -> Result<(), WriteFault>
-        ensures ok { OnOk result (Sends (W.contents writer.old) (W.contents writer.new) (pending.old ++ printed self.now) pending.new) }
-        ensures err { OnErr result (Breaks (W.contents writer.old) (W.contents writer.new) (pending.old ++ printed self.now)) }
+        ensures ok { OnOk result (Sends (flow W.contents writer.old writer.new)
+            (pending.old ++ printed self.now) pending.new) }
+        ensures err { OnErr result (Breaks (flow W.contents writer.old writer.new)
+            (pending.old ++ printed self.now)) }
     {
         match self {
             Answer::Silent => Ok(()),
@@ -44,8 +47,10 @@ pub fn print_reply<W: Write>(
     pending: &mut Pending,
     writer: &mut W,
 ) -> Result<(), WriteFault>
-    ensures ok { OnOk result (Sends (W.contents writer.old) (W.contents writer.new) (pending.old ++ (reply_text reply.now ++ codes "\n")) pending.new) }
-    ensures err { OnErr result (Breaks (W.contents writer.old) (W.contents writer.new) (pending.old ++ (reply_text reply.now ++ codes "\n"))) }
+    ensures ok { OnOk result (Sends (flow W.contents writer.old writer.new)
+        (pending.old ++ (reply_text reply.now ++ codes "\n")) pending.new) }
+    ensures err { OnErr result (Breaks (flow W.contents writer.old writer.new)
+        (pending.old ++ (reply_text reply.now ++ codes "\n"))) }
 {
     match reply {
         Reply::Value(term) => pending.add_term(writer, term),
@@ -60,8 +65,10 @@ fn print_syntax<W: Write>(
     pending: &mut Pending,
     writer: &mut W,
 ) -> Result<(), WriteFault>
-    ensures ok { OnOk result (Sends (W.contents writer.old) (W.contents writer.new) (pending.old ++ printed (Answer.Syntax at)) pending.new) }
-    ensures err { OnErr result (Breaks (W.contents writer.old) (W.contents writer.new) (pending.old ++ printed (Answer.Syntax at))) }
+    ensures ok { OnOk result (Sends (flow W.contents writer.old writer.new)
+        (pending.old ++ printed (Answer.Syntax at)) pending.new) }
+    ensures err { OnErr result (Breaks (flow W.contents writer.old writer.new)
+        (pending.old ++ printed (Answer.Syntax at))) }
 {
     let mut digits = Buffer::new();
     pending.add(writer, b"** syntax ")?;

@@ -2,7 +2,8 @@
 ghost use Rattle.std.specs.Prelude.{IfOk, ◌≡◌, codes, map, option_map};
 ghost use Rattle.clap.specs.Words.{app_of, found_of, kind_of, one_text, rows_of, rule_of};
 ghost use Rattle.clap.specs.declared.error.kind.ErrorKind.TheVariants.{ArgumentConflict};
-ghost use Rattle.ets_script.specs.CommandLine.{Asks, Settles, Requests, Parses, Spells, TakesNames, command_line, flag_option, hash_names, hash_option, is_named, number_option, refused_status};
+ghost use Rattle.ets_script.specs.CommandLine as spec;
+ghost use Rattle.ets_script.specs.CommandLine.{Asks, Settles, Requests, Parses, Spells, TakesNames};
 ghost use Rattle.ets_script.specs.inside.Options.{HasNumber};
 
 use crate::options::{Request, Settings};
@@ -18,8 +19,8 @@ const VERSION: &str = "0.1.0";
 /// The hashes that `--hash` names.
 const HASHES: [&str; 2] = ["fnv", "same"];
 
-/// What these words ask, of which the first is the program's name. Words that the program does not know are refused with
-/// clap's text, and a call for help is answered with it.
+/// What these words ask, of which the first is the program's name. Words that the program does not know are refused
+/// with clap's text, and a call for help is answered with it.
 pub fn settings<S: AsStr>(alloc: Global, words: &[S]) -> Result<Settings, Error>
     ensures { Settles (map S.text words.entry.now) result }
 {
@@ -27,8 +28,8 @@ pub fn settings<S: AsStr>(alloc: Global, words: &[S]) -> Result<Settings, Error>
     Ok(asked_settings(&matches))
 }
 
-/// As `settings`, with options more: the limits beside that of a table's objects, reasons, and a call for the version. Reasons
-/// of processes in threads are refused.
+/// As `settings`, with options more: the limits beside that of a table's objects, reasons, and a call for the version.
+/// Reasons of processes in threads are refused.
 pub fn request<S: AsStr>(alloc: Global, words: &[S]) -> Result<Request, Error>
     ensures { Requests (map S.text words.entry.now) result }
 {
@@ -74,7 +75,8 @@ fn conflict(alloc: Global) -> Result<Error, AllocError>
 
 /// The command whose options are those of the settings.
 fn settings_command<'a>(alloc: Global) -> Result<Command<'a>, AllocError>
-    ensures { (hashes : _) × TakesNames hash_names hashes × IfOk result (λ command. app_of command ≡ command_line hashes) }
+    ensures { (hashes : _) × TakesNames spec.hash_names hashes
+        × IfOk result (λ command. app_of command ≡ spec.command_line hashes) }
 {
     let hash = hash_option(alloc);
     let objects = number_option(
@@ -91,7 +93,7 @@ fn settings_command<'a>(alloc: Global) -> Result<Command<'a>, AllocError>
 
 /// The option of this name, which takes no value.
 fn flag_option<'a>(alloc: Global, name: &'a str, help: &'a str) -> Arg<'a>
-    ensures { rule_of result ≡ flag_option name.entry.now }
+    ensures { rule_of result ≡ spec.flag_option name.entry.now }
 {
     Arg::new(alloc, name)
         .long(name)
@@ -100,7 +102,8 @@ fn flag_option<'a>(alloc: Global, name: &'a str, help: &'a str) -> Arg<'a>
 }
 
 fn hash_option<'a>(alloc: Global) -> Arg<'a>
-    ensures { (hashes : _) × TakesNames hash_names hashes × (rule_of result ≡ hash_option hashes) }
+    ensures { (hashes : _) × TakesNames spec.hash_names hashes
+        × (rule_of result ≡ spec.hash_option hashes) }
 {
     Arg::new(alloc, "hash")
         .long("hash")
@@ -112,7 +115,7 @@ fn hash_option<'a>(alloc: Global) -> Arg<'a>
 
 /// The option of this name, whose value is a number below 2^32, and this one where it is not given.
 fn number_option<'a>(alloc: Global, name: &'a str, default: &'a str, help: &'a str) -> Arg<'a>
-    ensures { rule_of result ≡ number_option name.entry.now default.entry.now }
+    ensures { rule_of result ≡ spec.number_option name.entry.now default.entry.now }
 {
     Arg::new(alloc, name)
         .long(name)
@@ -124,7 +127,8 @@ fn number_option<'a>(alloc: Global, name: &'a str, default: &'a str, help: &'a s
 
 /// The settings among what was matched, which has a number of objects.
 fn asked_settings(matches: &ArgMatches) -> Settings
-    ensures { HasNumber (found_of matches.now) (codes "max-objects") → Asks (rows_of (found_of matches.now)) result }
+    ensures { HasNumber (found_of matches.now) (codes "max-objects")
+        → Asks (rows_of (found_of matches.now)) result }
 {
     Settings {
         threads: is_named("true", matches.get_str("threads")),
@@ -135,14 +139,15 @@ fn asked_settings(matches: &ArgMatches) -> Settings
 
 /// The number of the option of this name, which has one.
 fn asked_number(matches: &ArgMatches, name: &str) -> u32
-    ensures { HasNumber (found_of matches.now) name.now → Spells (one_text (found_of matches.now) name.now) result }
+    ensures { HasNumber (found_of matches.now) name.now
+        → Spells (one_text (found_of matches.now) name.now) result }
 {
     matches.get_one(name).unwrap_or(0)
 }
 
 /// Whether there is a value, and it is this name.
 fn is_named(name: &str, value: Option<&str>) -> bool
-    ensures { result ≡ is_named name.now (option_map (λ text. text.now) value.entry) }
+    ensures { result ≡ spec.is_named name.now (option_map (λ text. text.now) value.entry) }
 {
     match value {
         Some(text) => text == name,
@@ -153,7 +158,7 @@ fn is_named(name: &str, value: Option<&str>) -> bool
 /// Tells in the parser's words why a command line has no settings, and says the program's status: 0 after the help or
 /// the version that was called for, 2 where the words were refused, and 1 for want of memory.
 pub fn refuse<R: Print + Eprint>(rt: &R, error: &Error) -> io::Result<u8>
-    ensures { IfOk result (λ status. status ≡ refused_status (kind_of error.now)) }
+    ensures { IfOk result (λ status. status ≡ spec.refused_status (kind_of error.now)) }
 {
     match error.kind() {
         ErrorKind::OutOfMemory => {

@@ -13,8 +13,8 @@ use node_reasons::why;
 use script_reasons::{Remark, oddity_at};
 use std::alloc::AllocError;
 
-/// What is to be said of a line that has this answer of a script that stands so since: nothing where it was not refused. A
-/// line that was is read again.
+/// What is to be said of a line that has this answer of a script that stands so since: nothing where it was not
+/// refused. A line that was is read again.
 pub fn explain<'a, H: KeyHash + Copy + Drop>(
     script: &Script<H>,
     line: &'a [u8],
@@ -72,7 +72,8 @@ fn explain_step<'a, H: KeyHash + Copy + Drop>(
     event: Step,
     reply: &Reply,
 ) -> Option<Remark<'a>>
-    ensures { (new : State) → step script.now.node event reply.now new → result ≡ step_said script.now.node event reply.now }
+    ensures { (new : State) → step script.now.node event reply.now new
+        → result ≡ step_said script.now.node event reply.now }
 {
     let reason = why(script.node(), &event, reply)?;
     Some(Remark::Broken(event, reason))

@@ -7,14 +7,15 @@ use thiserror::Error;
 /// Why a script stops before its end.
 #[derive(Debug, Drop, Error)]
 pub enum ScriptFault {
-    /// The reader failed, or gave no end of input in a billion reads. The answers to all whole lines before have gone out.
+    /// The reader failed, or gave no end of input in a billion reads. The answers to all whole lines before have gone
+    /// out.
     #[error("read fault")]
     Read,
     /// The writer failed, or took no byte. What went out is a prefix of the answers.
     #[error("write fault")]
     Write,
-    /// There was no memory to begin with, and nothing was read; or a script whose processes run in threads could not go on, and
-    /// nothing was written.
+    /// There was no memory to begin with, and nothing was read; or a script whose processes run in threads could not go
+    /// on, and nothing was written.
     #[error("** nomem")]
     Memory,
     /// What the client of this process saw is not the process's part of the journal. Nothing was written.

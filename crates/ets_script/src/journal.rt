@@ -1,10 +1,11 @@
 //! How a script is printed whose processes ran in threads of their own.
 ghost use Rattle.std.specs.Prelude.{◌≡◌, ◌≤◌, ◌++◌, flat_map, codes, length, [], OnOk, OnErr};
 ghost use Rattle.std.specs.Io.KnownBytes.{Appends};
+ghost use Rattle.ets_script.specs.Flows.{flow};
 ghost use Rattle.ets_script.specs.Replies.{printed};
-ghost use Rattle.ets_script.specs.Threads.{entry_text, stopped_text, threads_text};
+ghost use Rattle.ets_script.specs.Threads.{entry_text, stopped_text};
 ghost use Rattle.ets_script.specs.inside.Output.{Sends, Breaks};
-ghost use Rattle.ets_script.specs.inside.Journal.{stop_text};
+ghost use Rattle.ets_script.specs.inside.Journal.{stop_text, ran_text, out_text};
 
 use crate::answer::{Answer, print_reply};
 use crate::names::Names;
@@ -23,8 +24,10 @@ pub fn print_out<W: Write>(
 ) -> Result<(), WriteFault>
     requires waiting { pending.old ≡ [] }
     requires named { length ran.now.left.items ≤ length known.now.names }
-    ensures ok { OnOk result (Appends (W.contents writer.old) (W.contents writer.new) (threads_text known.now.answers known.now.names ran.now.entries.items ran.now.left.items)) }
-    ensures err { OnErr result (Breaks (W.contents writer.old) (W.contents writer.new) (threads_text known.now.answers known.now.names ran.now.entries.items ran.now.left.items)) }
+    ensures ok { OnOk result (Appends (W.contents writer.old) (W.contents writer.new)
+        (out_text known.now ran.now)) }
+    ensures err { OnErr result (Breaks (flow W.contents writer.old writer.new)
+        (out_text known.now ran.now)) }
 {
     print_all(known, ran, pending, writer)?;
     pending.flush(writer)
@@ -38,8 +41,10 @@ fn print_all<W: Write>(
     writer: &mut W,
 ) -> Result<(), WriteFault>
     requires { length ran.now.left.items ≤ length known.now.names }
-    ensures ok { OnOk result (Sends (W.contents writer.old) (W.contents writer.new) (pending.old ++ threads_text known.now.answers known.now.names ran.now.entries.items ran.now.left.items) pending.new) }
-    ensures err { OnErr result (Breaks (W.contents writer.old) (W.contents writer.new) (pending.old ++ threads_text known.now.answers known.now.names ran.now.entries.items ran.now.left.items)) }
+    ensures ok { OnOk result (Sends (flow W.contents writer.old writer.new)
+        (pending.old ++ out_text known.now ran.now) pending.new) }
+    ensures err { OnErr result (Breaks (flow W.contents writer.old writer.new)
+        (pending.old ++ out_text known.now ran.now)) }
 {
     print_answers(known.answers.as_slice(), pending, writer)?;
     print_ran(&known.names, ran, pending, writer)
@@ -53,8 +58,10 @@ fn print_ran<W: Write>(
     writer: &mut W,
 ) -> Result<(), WriteFault>
     requires { length ran.now.left.items ≤ length names.now }
-    ensures ok { OnOk result (Sends (W.contents writer.old) (W.contents writer.new) (pending.old ++ (flat_map (entry_text names.now) ran.now.entries.items ++ stopped_text names.now ran.now.left.items)) pending.new) }
-    ensures err { OnErr result (Breaks (W.contents writer.old) (W.contents writer.new) (pending.old ++ (flat_map (entry_text names.now) ran.now.entries.items ++ stopped_text names.now ran.now.left.items))) }
+    ensures ok { OnOk result (Sends (flow W.contents writer.old writer.new)
+        (pending.old ++ ran_text names.now ran.now) pending.new) }
+    ensures err { OnErr result (Breaks (flow W.contents writer.old writer.new)
+        (pending.old ++ ran_text names.now ran.now)) }
 {
     print_entries(names, ran.entries.as_slice(), pending, writer)?;
     print_stopped(names, ran.left.as_slice(), pending, writer)
@@ -66,8 +73,10 @@ fn print_answers<W: Write>(
     pending: &mut Pending,
     writer: &mut W,
 ) -> Result<(), WriteFault>
-    ensures ok { OnOk result (Sends (W.contents writer.old) (W.contents writer.new) (pending.old ++ flat_map printed answers.now) pending.new) }
-    ensures err { OnErr result (Breaks (W.contents writer.old) (W.contents writer.new) (pending.old ++ flat_map printed answers.now)) }
+    ensures ok { OnOk result (Sends (flow W.contents writer.old writer.new)
+        (pending.old ++ flat_map printed answers.now) pending.new) }
+    ensures err { OnErr result (Breaks (flow W.contents writer.old writer.new)
+        (pending.old ++ flat_map printed answers.now)) }
 {
     for answer in answers {
         answer.print(pending, writer)?;
@@ -82,8 +91,10 @@ fn print_entries<W: Write>(
     pending: &mut Pending,
     writer: &mut W,
 ) -> Result<(), WriteFault>
-    ensures ok { OnOk result (Sends (W.contents writer.old) (W.contents writer.new) (pending.old ++ flat_map (entry_text names.now) entries.now) pending.new) }
-    ensures err { OnErr result (Breaks (W.contents writer.old) (W.contents writer.new) (pending.old ++ flat_map (entry_text names.now) entries.now)) }
+    ensures ok { OnOk result (Sends (flow W.contents writer.old writer.new)
+        (pending.old ++ flat_map (entry_text names.now) entries.now) pending.new) }
+    ensures err { OnErr result (Breaks (flow W.contents writer.old writer.new)
+        (pending.old ++ flat_map (entry_text names.now) entries.now)) }
 {
     for entry in entries {
         print_entry(names, entry, pending, writer)?;
@@ -98,8 +109,10 @@ fn print_entry<W: Write>(
     pending: &mut Pending,
     writer: &mut W,
 ) -> Result<(), WriteFault>
-    ensures ok { OnOk result (Sends (W.contents writer.old) (W.contents writer.new) (pending.old ++ entry_text names.now entry.now) pending.new) }
-    ensures err { OnErr result (Breaks (W.contents writer.old) (W.contents writer.new) (pending.old ++ entry_text names.now entry.now)) }
+    ensures ok { OnOk result (Sends (flow W.contents writer.old writer.new)
+        (pending.old ++ entry_text names.now entry.now) pending.new) }
+    ensures err { OnErr result (Breaks (flow W.contents writer.old writer.new)
+        (pending.old ++ entry_text names.now entry.now)) }
 {
     match entry.process() {
         Some(number) => {
@@ -116,8 +129,10 @@ fn print_name<W: Write>(
     pending: &mut Pending,
     writer: &mut W,
 ) -> Result<(), WriteFault>
-    ensures ok { OnOk result (Sends (W.contents writer.old) (W.contents writer.new) (pending.old ++ (name.now ++ codes " ")) pending.new) }
-    ensures err { OnErr result (Breaks (W.contents writer.old) (W.contents writer.new) (pending.old ++ (name.now ++ codes " "))) }
+    ensures ok { OnOk result (Sends (flow W.contents writer.old writer.new)
+        (pending.old ++ (name.now ++ codes " ")) pending.new) }
+    ensures err { OnErr result (Breaks (flow W.contents writer.old writer.new)
+        (pending.old ++ (name.now ++ codes " "))) }
 {
     pending.add(writer, name)?;
     pending.add(writer, b" ")
@@ -131,8 +146,10 @@ fn print_stopped<W: Write>(
     writer: &mut W,
 ) -> Result<(), WriteFault>
     requires { length left.now ≤ length names.now }
-    ensures ok { OnOk result (Sends (W.contents writer.old) (W.contents writer.new) (pending.old ++ stopped_text names.now left.now) pending.new) }
-    ensures err { OnErr result (Breaks (W.contents writer.old) (W.contents writer.new) (pending.old ++ stopped_text names.now left.now)) }
+    ensures ok { OnOk result (Sends (flow W.contents writer.old writer.new)
+        (pending.old ++ stopped_text names.now left.now) pending.new) }
+    ensures err { OnErr result (Breaks (flow W.contents writer.old writer.new)
+        (pending.old ++ stopped_text names.now left.now)) }
 {
     for number in 0..left.len() {
         print_stop(names.name(number), left[number], pending, writer)?;
@@ -147,8 +164,10 @@ fn print_stop<W: Write>(
     pending: &mut Pending,
     writer: &mut W,
 ) -> Result<(), WriteFault>
-    ensures ok { OnOk result (Sends (W.contents writer.old) (W.contents writer.new) (pending.old ++ stop_text name.now left) pending.new) }
-    ensures err { OnErr result (Breaks (W.contents writer.old) (W.contents writer.new) (pending.old ++ stop_text name.now left)) }
+    ensures ok { OnOk result (Sends (flow W.contents writer.old writer.new)
+        (pending.old ++ stop_text name.now left) pending.new) }
+    ensures err { OnErr result (Breaks (flow W.contents writer.old writer.new)
+        (pending.old ++ stop_text name.now left)) }
 {
     if left == 0 {
         return Ok(());

@@ -1,13 +1,11 @@
 //! What the lines of a script come to before any of its steps is done.
-ghost use Rattle.std.specs.Prelude.{◌≡◌, ◌∷◌, ◌++◌, ◌+◌, [], false, map, vec_items, Some, IfOk, IfSome, slice_set, slice_index_or, ◌<◌, length};
+ghost use Rattle.std.specs.Prelude.{◌≡◌, ◌∷◌, ◌++◌, ◌+◌, ◌<◌, [], false, map, vec_items, length, IfOk, IfSome};
 ghost use Rattle.std.specs.Str.{bytes_eq};
 ghost use Rattle.indexmap.specs.IndexSet.{spare, contains_by, index_set_len};
-ghost use Rattle.node_core.specs.declared.step.Reply.TheVariants.{NoProcess};
-ghost use Rattle.ets_script.specs.declared.answer.Answer.TheVariants.{Replied, TooLong};
 ghost use Rattle.ets_script.specs.inside.Says.{command_seen};
-ghost use Rattle.ets_script.specs.inside.Planning.{AreParts};
+ghost use Rattle.ets_script.specs.inside.Planning.{AreParts, no_lines, with_answer, with_command, with_job, with_line, with_name};
 ghost use Rattle.ets_script.specs.Lines.{text, too_long};
-ghost use Rattle.ets_script.specs.Plan.{Planned, nothing, number_of, answered, given, spawned, said, line_plan};
+ghost use Rattle.ets_script.specs.Plan.{jobs_with, number_of};
 
 use crate::answer::Answer;
 use crate::command::{Command, is_silent, read_command};
@@ -26,15 +24,16 @@ pub struct Known {
     pub names: Names,
 }
 
-/// What is to be done: the jobs of each process, in the order of the processes, and how many turns there are to keep the node.
+/// What is to be done: the jobs of each process, in the order of the processes, and how many turns there are to keep
+/// the node.
 #[derive(Drop)]
 pub struct Work {
     pub jobs: Items<Items<Job>>,
     pub turns: u32,
 }
 
-/// What the lines so far come to: the answers that are known, the names that are spawned, and the jobs of each. A contract sees these,
-/// and the most names that there may be.
+/// What the lines so far come to: the answers that are known, the names that are spawned, and the jobs of each. A
+/// contract sees these, and the most names that there may be.
 #[derive(Drop)]
 pub struct Plan {
     alloc: Global,
@@ -55,7 +54,10 @@ impl Model for Plan {
 
     ghost coded = { limited_code };
 
-    ghost view = { λ p. record { most = p.most; plan = record { answers = p.answers; names = map vec_items p.names.keys; jobs = p.jobs } } };
+    ghost view = { λ p. record {
+      most = p.most;
+      plan = record { answers = p.answers; names = map vec_items p.names.keys; jobs = p.jobs };
+    } };
 
     ghost invariant = { λ p. index_set_len p.names ≡ length p.jobs };
 }
@@ -63,7 +65,7 @@ impl Model for Plan {
 impl Plan {
     /// Nothing yet; at most so many names are spawned.
     pub fn new(alloc: Global, most: u32) -> Plan
-        ensures { result ≡ record { most = most; plan = nothing } }
+        ensures { result ≡ no_lines most }
     {
         Plan {
             alloc,
@@ -100,7 +102,7 @@ impl Plan {
 
     /// Adds what a line says.
     pub fn line(&mut self, line: &[u8]) -> Result<(), AllocError>
-        ensures { IfOk result (λ _. self.new ≡ record self.old { plan = line_plan self.old.most (text line.now) self.old.plan }) }
+        ensures { IfOk result (λ _. self.new ≡ with_line (text line.now) self.old) }
     {
         if is_silent(line) {
             return Ok(());
@@ -111,14 +113,14 @@ impl Plan {
 
     /// Adds a line that is too long.
     pub fn too_long(&mut self) -> Result<(), AllocError>
-        ensures { IfOk result (λ _. self.new ≡ record self.old { plan = line_plan self.old.most too_long self.old.plan }) }
+        ensures { IfOk result (λ _. self.new ≡ with_line too_long self.old) }
     {
         self.answered(Answer::TooLong)
     }
 
     /// Adds what a command says.
     fn said(&mut self, command: Command<'_>) -> Result<(), AllocError>
-        ensures { IfOk result (λ _. self.new ≡ record self.old { plan = said self.old.most (command_seen command.entry) self.old.plan }) }
+        ensures { IfOk result (λ _. self.new ≡ with_command (command_seen command.entry) self.old) }
     {
         match command {
             Command::Faulty(at) => self.answered(Answer::Syntax(at)),
@@ -134,7 +136,7 @@ impl Plan {
 
     /// Adds an answer that is known.
     fn answered(&mut self, answer: Answer) -> Result<(), AllocError>
-        ensures { IfOk result (λ _. self.new ≡ record self.old { plan = answered answer self.old.plan }) }
+        ensures { IfOk result (λ _. self.new ≡ with_answer answer self.old) }
     {
         self.answers.push(answer)
     }
@@ -149,7 +151,8 @@ impl Plan {
 
     /// Adds a job for the process of this name.
     fn given(&mut self, name: &[u8], job: Job) -> Result<(), AllocError>
-        ensures { IfOk result (λ _. self.new ≡ record self.old { plan = given (number_of self.old.plan name.now) job self.old.plan }) }
+        ensures { IfOk result (λ _. self.new
+            ≡ with_job (number_of self.old.plan name.now) job self.old) }
     {
         match self.number(name) {
             Some(number) => self.asked(number, job),
@@ -160,14 +163,14 @@ impl Plan {
     /// Adds a job for the process of this number.
     fn asked(&mut self, number: usize, job: Job) -> Result<(), AllocError>
         requires { number < length self.old.plan.jobs }
-        ensures { IfOk result (λ _. self.new ≡ record self.old { plan = given (Some number) job self.old.plan }) }
+        ensures { IfOk result (λ _. self.new ≡ with_job (Some number) job self.old) }
     {
         add_job(self.alloc, &mut self.jobs, number, job)
     }
 
     /// A new name, if it is one and there may be more. Room for it is made first.
     fn spawned(&mut self, name: &[u8]) -> Result<(), AllocError>
-        ensures { IfOk result (λ _. self.new ≡ record self.old { plan = spawned self.old.most (number_of self.old.plan name.now) name.now self.old.plan }) }
+        ensures { IfOk result (λ _. self.new ≡ with_name name.now self.old) }
     {
         match self.names.get_index_of(name) {
             Some(_) => return self.answered(Answer::Replied(Reply::Badarg)),
@@ -202,7 +205,7 @@ fn add_job(
     job: Job,
 ) -> Result<(), AllocError>
     requires { number < length jobs.old }
-    ensures added { IfOk result (λ _. jobs.new ≡ slice_set jobs.old number (slice_index_or jobs.old number [] ++ job ∷ [])) }
+    ensures added { IfOk result (λ _. jobs.new ≡ jobs_with number job jobs.old) }
     ensures len { length jobs.new ≡ length jobs.old }
 {
     let mut own = jobs.replace(number, Items::new(alloc));

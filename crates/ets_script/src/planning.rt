@@ -1,7 +1,7 @@
 //! The plan of a whole script, which is read to its end.
 ghost use Rattle.std.specs.Prelude.{◌≡◌, [], false, IfOk, IfErr};
-ghost use Rattle.ets_script.specs.Plan.{nothing};
-ghost use Rattle.ets_script.specs.inside.Planning.{with_line, last_line, PlansNext, PlansAll, IsUnplanned};
+ghost use Rattle.ets_script.specs.Flows.{flow};
+ghost use Rattle.ets_script.specs.inside.Planning.{no_lines, with_line, last_line, PlansNext, PlansAll, IsUnplanned};
 
 use crate::fault::ScriptFault;
 use crate::feed::{Feed, MAX_READS};
@@ -12,7 +12,7 @@ use std::io::Read;
 
 /// Reads a script to its end, and plans its lines. At most so many names are spawned.
 pub fn plan_input<R: Read>(alloc: Global, reader: &mut R, most: u32) -> Result<Plan, ScriptFault>
-    ensures ok { IfOk result (PlansAll (record { most = most; plan = nothing }) (R.remaining reader.old) (R.remaining reader.new)) }
+    ensures ok { IfOk result (PlansAll (no_lines most) (flow R.remaining reader.old reader.new)) }
     ensures err { IfErr result IsUnplanned }
 {
     let mut feed = Feed::new(alloc, MAX_READS)?;
@@ -24,7 +24,8 @@ pub fn plan_input<R: Read>(alloc: Global, reader: &mut R, most: u32) -> Result<P
 /// Plans all lines.
 fn plan_all<R: Read>(reader: &mut R, feed: &mut Feed, plan: &mut Plan) -> Result<(), ScriptFault>
     requires { (feed.old.bytes ≡ []) × (feed.old.is_skipping ≡ false) }
-    ensures ok { IfOk result (λ _. PlansAll plan.old (R.remaining reader.old) (R.remaining reader.new) plan.new) }
+    ensures ok { IfOk result (λ _. PlansAll plan.old
+        (flow R.remaining reader.old reader.new) plan.new) }
     ensures err { IfErr result IsUnplanned }
 {
     loop {
@@ -60,7 +61,8 @@ fn plan_next(feed: &Feed, plan: &mut Plan) -> Result<Option<usize>, AllocError>
 
 /// Plans what is held as the last line, which has no LF. An empty one is silent, and does not count.
 fn plan_last(feed: &Feed, plan: &mut Plan) -> Result<(), AllocError>
-    ensures { IfOk result (λ _. plan.new ≡ with_line (last_line feed.now.is_skipping feed.now.bytes) plan.old) }
+    ensures { IfOk result (λ _. plan.new
+        ≡ with_line (last_line feed.now.is_skipping feed.now.bytes) plan.old) }
 {
     if feed.is_skipping() || !feed.held().is_empty() {
         plan.count();

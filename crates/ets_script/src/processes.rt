@@ -36,7 +36,8 @@ impl Gate for Quiet {
     fn after(&self, _client: usize, _call: usize) {}
 }
 
-/// Does the work of a script on a node with these limits: each process in a thread of its own, and one more that keeps the node.
+/// Does the work of a script on a node with these limits: each process in a thread of its own, and one more that keeps
+/// the node.
 pub fn run_work<T: Threads + Wait + Sync, H: KeyHash + Copy + Drop + Send + Sync>(
     rt: &T,
     alloc: Global,
@@ -152,8 +153,8 @@ fn draw(pids: &Pids, seats: &mut Vec<Seat>) -> Option<Drawn>
     }
 }
 
-/// The client of the process with this number, which was drawn. The numbers come in order, and the node has room for each: that none
-/// was drawn, or another, or was refused, is told as want of memory, and never comes.
+/// The client of the process with this number, which was drawn. The numbers come in order, and the node has room for
+/// each: that none was drawn, or another, or was refused, is told as want of memory, and never comes.
 fn enrol<L: Ledger, T: Wait, H: KeyHash + Copy + Drop>(
     rt: &T,
     shared: &Shared<L, H>,
@@ -203,7 +204,8 @@ fn part<L: Ledger>(
     alloc: Global,
     workers: Vec<Worked<L>>,
 ) -> Result<(Vec<Client<L>>, Vec<usize>), AllocError>
-    ensures { IfOk result (λ parts. (parts.0.items ≡ map (λ w. w.client) workers.items) × (parts.1.items ≡ map (λ w. w.left) workers.items)) }
+    ensures { IfOk result (λ parts. (parts.0.items ≡ map (λ w. w.client) workers.items)
+        × (parts.1.items ≡ map (λ w. w.left) workers.items)) }
 {
     let mut clients = Vec::with_capacity(alloc, workers.len())?;
     let mut left = Vec::with_capacity(alloc, workers.len())?;

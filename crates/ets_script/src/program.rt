@@ -1,7 +1,7 @@
 //! The program between what it is asked, its input, its output and its errors.
 ghost use Rattle.std.specs.Prelude.{◌≡◌, false, true, IfOk, OnOk, IfErr};
 ghost use Rattle.ets_script.specs.CommandLine.{limits_of};
-ghost use Rattle.node_core.specs.State.{empty};
+ghost use Rattle.ets_script.specs.Flows.{flow};
 ghost use Rattle.ets_script.specs.Script.{Scripted, at_start};
 ghost use Rattle.ets_script.specs.Stops.{Completes, EndsWithin, ProgramEnds, Stops};
 ghost use Rattle.ets_script.specs.Threads.{ThreadsEnd, ThreadsStop, ThreadsStatus, ProgramThreads};
@@ -17,8 +17,8 @@ use std::io::{self, Read, Write};
 use std::sync::Wait;
 use std::thread::Threads;
 
-/// Answers a script as the settings ask, in threads or alone, and says the program's status: 0 at the end of the input; else 1, with
-/// one line of errors. In threads it may wait.
+/// Answers a script as the settings ask, in threads or alone, and says the program's status: 0 at the end of the input;
+/// else 1, with one line of errors. In threads it may wait.
 pub fn answer_input<T: Threads + Wait + Sync, R: Read, W: Write, E: Write>(
     rt: &T,
     alloc: Global,
@@ -27,14 +27,17 @@ pub fn answer_input<T: Threads + Wait + Sync, R: Read, W: Write, E: Write>(
     output: &mut W,
     errors: &mut E,
 ) -> io::Result<u8>
-    ensures alone { settings.now.threads ≡ false → IfOk result (ProgramEnds settings.now.objects (R.remaining input.old) (R.remaining input.new) (W.contents output.old) (W.contents output.new)) }
-    ensures threads { settings.now.threads ≡ true → IfOk result (ProgramThreads settings.now.objects (R.remaining input.old) (R.remaining input.new) (W.contents output.old) (W.contents output.new)) }
+    ensures alone { settings.now.threads ≡ false → IfOk result (ProgramEnds settings.now.objects
+        (flow R.remaining input.old input.new) (flow W.contents output.old output.new)) }
+    ensures threads { settings.now.threads ≡ true → IfOk result (ProgramThreads settings.now.objects
+        (flow R.remaining input.old input.new) (flow W.contents output.old output.new)) }
 {
     let request = usual_request(settings);
     answer_request(rt, alloc, &request, input, output, errors)
 }
 
-/// Answers a script line by line, each when it was read, by the usual limits but for that of the settings, and says the program's status.
+/// Answers a script line by line, each when it was read, by the usual limits but for that of the settings, and says the
+/// program's status.
 pub fn answer_alone<R: Read, W: Write, E: Write>(
     alloc: Global,
     settings: &Settings,
@@ -42,7 +45,8 @@ pub fn answer_alone<R: Read, W: Write, E: Write>(
     output: &mut W,
     errors: &mut E,
 ) -> io::Result<u8>
-    ensures { IfOk result (ProgramEnds settings.now.objects (R.remaining input.old) (R.remaining input.new) (W.contents output.old) (W.contents output.new)) }
+    ensures { IfOk result (ProgramEnds settings.now.objects
+        (flow R.remaining input.old input.new) (flow W.contents output.old output.new)) }
 {
     let request = usual_request(settings);
     answer_lines(alloc, &request, input, output, errors)
@@ -50,7 +54,8 @@ pub fn answer_alone<R: Read, W: Write, E: Write>(
 
 /// What the settings ask, with the usual limits beside theirs.
 fn usual_request(settings: &Settings) -> Request
-    ensures { result ≡ record { settings = settings.now; processes = 4096; tables = 65536; why = false } }
+    ensures { result
+        ≡ record { settings = settings.now; processes = 4096; tables = 65536; why = false } }
 {
     let usual = Limits::usual();
     Request {
@@ -70,8 +75,12 @@ pub fn answer_request<T: Threads + Wait + Sync, R: Read, W: Write, E: Write>(
     output: &mut W,
     errors: &mut E,
 ) -> io::Result<u8>
-    ensures alone { request.now.settings.threads ≡ false → IfOk result (EndsWithin (limits_of request.now) (R.remaining input.old) (R.remaining input.new) (W.contents output.old) (W.contents output.new)) }
-    ensures threads { request.now.settings.threads ≡ true → IfOk result (ThreadsStatus (limits_of request.now) (R.remaining input.old) (R.remaining input.new) (W.contents output.old) (W.contents output.new)) }
+    ensures alone { request.now.settings.threads ≡ false →
+        IfOk result (EndsWithin (limits_of request.now)
+        (flow R.remaining input.old input.new) (flow W.contents output.old output.new)) }
+    ensures threads { request.now.settings.threads ≡ true →
+        IfOk result (ThreadsStatus (limits_of request.now)
+        (flow R.remaining input.old input.new) (flow W.contents output.old output.new)) }
 {
     if request.settings.threads {
         answer_in_threads(rt, alloc, request, input, output, errors)
@@ -88,7 +97,8 @@ fn answer_lines<R: Read, W: Write, E: Write>(
     output: &mut W,
     errors: &mut E,
 ) -> io::Result<u8>
-    ensures { IfOk result (EndsWithin (limits_of request.now) (R.remaining input.old) (R.remaining input.new) (W.contents output.old) (W.contents output.new)) }
+    ensures { IfOk result (EndsWithin (limits_of request.now)
+        (flow R.remaining input.old input.new) (flow W.contents output.old output.new)) }
 {
     if request.settings.same {
         answer_by(alloc, request, AllSame, input, output, errors)
@@ -106,7 +116,8 @@ fn answer_by<H: KeyHash + Copy + Drop, R: Read, W: Write, E: Write>(
     output: &mut W,
     errors: &mut E,
 ) -> io::Result<u8>
-    ensures { IfOk result (EndsWithin (limits_of request.now) (R.remaining input.old) (R.remaining input.new) (W.contents output.old) (W.contents output.new)) }
+    ensures { IfOk result (EndsWithin (limits_of request.now)
+        (flow R.remaining input.old input.new) (flow W.contents output.old output.new)) }
 {
     match run_lines(alloc, request, hash, input, output, errors) {
         Ok(_) => Ok(0),
@@ -123,8 +134,10 @@ fn run_lines<H: KeyHash + Copy + Drop, R: Read, W: Write, E: Write>(
     output: &mut W,
     errors: &mut E,
 ) -> Result<Node<H>, ScriptFault>
-    ensures ok { OnOk result ((end : Scripted) × Completes (at_start (empty (limits_of request.now))) (R.remaining input.old) (R.remaining input.new) (W.contents output.old) (W.contents output.new) end) }
-    ensures err { IfErr result (Stops (at_start (empty (limits_of request.now))) (R.remaining input.old) (R.remaining input.new) (W.contents output.old) (W.contents output.new)) }
+    ensures ok { OnOk result ((end : Scripted) × Completes (at_start (limits_of request.now)) end
+        (flow R.remaining input.old input.new) (flow W.contents output.old output.new)) }
+    ensures err { IfErr result (Stops (at_start (limits_of request.now))
+        (flow R.remaining input.old input.new) (flow W.contents output.old output.new)) }
 {
     let limits = limits_of(request);
     if request.why {
@@ -151,7 +164,8 @@ fn answer_in_threads<T: Threads + Wait + Sync, R: Read, W: Write, E: Write>(
     output: &mut W,
     errors: &mut E,
 ) -> io::Result<u8>
-    ensures { IfOk result (ThreadsStatus (limits_of request.now) (R.remaining input.old) (R.remaining input.new) (W.contents output.old) (W.contents output.new)) }
+    ensures { IfOk result (ThreadsStatus (limits_of request.now)
+        (flow R.remaining input.old input.new) (flow W.contents output.old output.new)) }
 {
     match run_by(rt, alloc, request, input, output) {
         Ok(()) => Ok(0),
@@ -167,8 +181,10 @@ fn run_by<T: Threads + Wait + Sync, R: Read, W: Write>(
     input: &mut R,
     output: &mut W,
 ) -> Result<(), ScriptFault>
-    ensures ok { OnOk result (ThreadsEnd (limits_of request.now) (R.remaining input.old) (R.remaining input.new) (W.contents output.old) (W.contents output.new)) }
-    ensures err { IfErr result (ThreadsStop (limits_of request.now) (R.remaining input.old) (R.remaining input.new) (W.contents output.old) (W.contents output.new)) }
+    ensures ok { OnOk result (ThreadsEnd (limits_of request.now)
+        (flow R.remaining input.old input.new) (flow W.contents output.old output.new)) }
+    ensures err { IfErr result (ThreadsStop (limits_of request.now)
+        (flow R.remaining input.old input.new) (flow W.contents output.old output.new)) }
 {
     let limits = limits_of(request);
     if request.settings.same {

@@ -1,11 +1,11 @@
 //! A script from its first line to its last.
 ghost use Rattle.std.specs.Prelude.{◌≡◌, [], ◌++◌, false, IfOk, IfErr, OnOk, OnErr};
-ghost use Rattle.node_core.specs.State.{empty};
 ghost use Rattle.node_core.specs.Seen.{seen};
+ghost use Rattle.ets_script.specs.Flows.{flow};
 ghost use Rattle.ets_script.specs.Numbers.{AreTheNumbers};
 ghost use Rattle.ets_script.specs.Replies.{printed};
-ghost use Rattle.ets_script.specs.Script.{Scripted, at_start};
-ghost use Rattle.ets_script.specs.Stops.{Stops, Completes};
+ghost use Rattle.ets_script.specs.Script.{at_start};
+ghost use Rattle.ets_script.specs.Stops.{Completes, LeavesNode, Stops};
 ghost use Rattle.ets_script.specs.inside.Output.{Sends, Breaks};
 ghost use Rattle.ets_script.specs.inside.Answered.{AnswersNext, AnswersPart, EndsAll, BreaksAtEnd};
 
@@ -22,8 +22,8 @@ use node_core::{Limits, Node};
 use std::alloc::Global;
 use std::io::{Read, Write};
 
-/// Answers each line of a script, from the first state of a node with these limits to that of the node answered. What was
-/// answered has gone out before each read, and at the end.
+/// Answers each line of a script, from the first state of a node with these limits to that of the node answered. What
+/// was answered has gone out before each read, and at the end.
 pub fn run_script<R: Read, W: Write, H: KeyHash + Copy + Drop>(
     alloc: Global,
     reader: &mut R,
@@ -31,8 +31,10 @@ pub fn run_script<R: Read, W: Write, H: KeyHash + Copy + Drop>(
     limits: Limits,
     hash: H,
 ) -> Result<Node<H>, ScriptFault>
-    ensures ok { IfOk result (λ node. (end : Scripted) × (end.node ≡ seen node) × Completes (at_start (empty limits)) (R.remaining reader.old) (R.remaining reader.new) (W.contents writer.old) (W.contents writer.new) end) }
-    ensures err { IfErr result (Stops (at_start (empty limits)) (R.remaining reader.old) (R.remaining reader.new) (W.contents writer.old) (W.contents writer.new)) }
+    ensures ok { IfOk result (λ node. LeavesNode (at_start limits) (seen node)
+        (flow R.remaining reader.old reader.new) (flow W.contents writer.old writer.new)) }
+    ensures err { IfErr result (Stops (at_start limits)
+        (flow R.remaining reader.old reader.new) (flow W.contents writer.old writer.new)) }
     ensures numbers { AreTheNumbers }
 {
     run_within(alloc, reader, writer, limits, hash, MAX_READS)
@@ -47,15 +49,17 @@ pub fn run_within<R: Read, W: Write, H: KeyHash + Copy + Drop>(
     hash: H,
     reads: u32,
 ) -> Result<Node<H>, ScriptFault>
-    ensures ok { IfOk result (λ node. (end : Scripted) × (end.node ≡ seen node) × Completes (at_start (empty limits)) (R.remaining reader.old) (R.remaining reader.new) (W.contents writer.old) (W.contents writer.new) end) }
-    ensures err { IfErr result (Stops (at_start (empty limits)) (R.remaining reader.old) (R.remaining reader.new) (W.contents writer.old) (W.contents writer.new)) }
+    ensures ok { IfOk result (λ node. LeavesNode (at_start limits) (seen node)
+        (flow R.remaining reader.old reader.new) (flow W.contents writer.old writer.new)) }
+    ensures err { IfErr result (Stops (at_start limits)
+        (flow R.remaining reader.old reader.new) (flow W.contents writer.old writer.new)) }
 {
     let script = Script::new(alloc, limits, hash);
     run_heard(reader, writer, script, reads, &mut Quiet)
 }
 
-/// As `run_script`, and tells why lines were refused: a line for each, behind the answers of the lines that were read with
-/// it. Where that fails, nothing more is told, and the answers go on.
+/// As `run_script`, and tells why lines were refused: a line for each, behind the answers of the lines that were read
+/// with it. Where that fails, nothing more is told, and the answers go on.
 pub fn run_script_aloud<R: Read, W: Write, E: Write, H: KeyHash + Copy + Drop>(
     alloc: Global,
     reader: &mut R,
@@ -64,8 +68,10 @@ pub fn run_script_aloud<R: Read, W: Write, E: Write, H: KeyHash + Copy + Drop>(
     limits: Limits,
     hash: H,
 ) -> Result<Node<H>, ScriptFault>
-    ensures ok { IfOk result (λ node. (end : Scripted) × (end.node ≡ seen node) × Completes (at_start (empty limits)) (R.remaining reader.old) (R.remaining reader.new) (W.contents writer.old) (W.contents writer.new) end) }
-    ensures err { IfErr result (Stops (at_start (empty limits)) (R.remaining reader.old) (R.remaining reader.new) (W.contents writer.old) (W.contents writer.new)) }
+    ensures ok { IfOk result (λ node. LeavesNode (at_start limits) (seen node)
+        (flow R.remaining reader.old reader.new) (flow W.contents writer.old writer.new)) }
+    ensures err { IfErr result (Stops (at_start limits)
+        (flow R.remaining reader.old reader.new) (flow W.contents writer.old writer.new)) }
 {
     let Ok(mut reasons) = Reasons::new(alloc, errors) else {
         return Err(ScriptFault::Memory);
@@ -84,8 +90,10 @@ fn run_heard<R: Read, W: Write, H: KeyHash + Copy + Drop, L: Listener>(
     reads: u32,
     listener: &mut L,
 ) -> Result<Node<H>, ScriptFault>
-    ensures ok { IfOk result (λ node. (end : Scripted) × (end.node ≡ seen node) × Completes script (R.remaining reader.old) (R.remaining reader.new) (W.contents writer.old) (W.contents writer.new) end) }
-    ensures err { IfErr result (Stops script (R.remaining reader.old) (R.remaining reader.new) (W.contents writer.old) (W.contents writer.new)) }
+    ensures ok { IfOk result (λ node. LeavesNode script (seen node)
+        (flow R.remaining reader.old reader.new) (flow W.contents writer.old writer.new)) }
+    ensures err { IfErr result (Stops script
+        (flow R.remaining reader.old reader.new) (flow W.contents writer.old writer.new)) }
 {
     let alloc = script.allocator();
     let Ok(mut feed) = Feed::new(alloc, reads) else {
@@ -116,8 +124,10 @@ fn answer_all<R: Read, W: Write, H: KeyHash + Copy + Drop, L: Listener>(
 ) -> Result<(), ScriptFault>
     requires waiting { pending.old ≡ [] }
     requires held { (feed.old.bytes ≡ []) × (feed.old.is_skipping ≡ false) }
-    ensures ok { OnOk result (Completes script.old (R.remaining reader.old) (R.remaining reader.new) (W.contents writer.old) (W.contents writer.new) script.new) }
-    ensures err { IfErr result (Stops script.old (R.remaining reader.old) (R.remaining reader.new) (W.contents writer.old) (W.contents writer.new)) }
+    ensures ok { OnOk result (Completes script.old script.new
+        (flow R.remaining reader.old reader.new) (flow W.contents writer.old writer.new)) }
+    ensures err { IfErr result (Stops script.old
+        (flow R.remaining reader.old reader.new) (flow W.contents writer.old writer.new)) }
 {
     loop {
         let Some(next) = answer_next(feed, script, listener) else {
@@ -148,8 +158,10 @@ fn print_line<W: Write>(
     writer: &mut W,
 ) -> Result<usize, WriteFault>
     ensures taken { IfOk result (λ taken. taken ≡ line.taken) }
-    ensures ok { OnOk result (Sends (W.contents writer.old) (W.contents writer.new) (pending.old ++ printed line.answer) pending.new) }
-    ensures err { OnErr result (Breaks (W.contents writer.old) (W.contents writer.new) (pending.old ++ printed line.answer)) }
+    ensures ok { OnOk result (Sends (flow W.contents writer.old writer.new)
+        (pending.old ++ printed line.answer) pending.new) }
+    ensures err { OnErr result (Breaks (flow W.contents writer.old writer.new)
+        (pending.old ++ printed line.answer)) }
 {
     line.answer.print(pending, writer)?;
     Ok(line.taken)
@@ -187,8 +199,10 @@ fn answer_last<W: Write, H: KeyHash + Copy + Drop, L: Listener>(
     script: &mut Script<H>,
     listener: &mut L,
 ) -> Result<(), WriteFault>
-    ensures ok { OnOk result (EndsAll feed.now script.old script.new pending.old (W.contents writer.old) (W.contents writer.new)) }
-    ensures err { OnErr result (BreaksAtEnd feed.now script.old script.new pending.old (W.contents writer.old) (W.contents writer.new)) }
+    ensures ok { OnOk result (EndsAll feed.now script.old script.new pending.old
+        (flow W.contents writer.old writer.new)) }
+    ensures err { OnErr result (BreaksAtEnd feed.now script.old script.new pending.old
+        (flow W.contents writer.old writer.new)) }
 {
     let answer = answer_part(feed, script);
     listener.hear(script, feed.held(), &answer);

@@ -1,12 +1,10 @@
 //! A script: the names that it spawned, and its node.
-ghost use Rattle.std.specs.Prelude.{◌≡◌, ◌≤◌, ◌<◌, ◌++◌, ◌+◌, ◌-◌, ◌^◌, ◌⊎◌, [], false, length, map, min, vec_items, IfSome, MatchOption};
-ghost use Rattle.node_core.specs.State.{empty};
+ghost use Rattle.std.specs.Prelude.{◌≡◌, ◌≤◌, ◌<◌, ◌+◌, ◌-◌, ◌^◌, ◌⊎◌, false, length, map, min, vec_items};
 ghost use Rattle.node_core.specs.Seen.{seen};
-ghost use Rattle.node_core.specs.declared.step.Step.TheVariants.{End, Ask};
 ghost use Rattle.ets_script.specs.Lines.{text};
 ghost use Rattle.ets_script.specs.declared.answer.Answer.TheVariants.{NoMemory};
 ghost use Rattle.ets_script.specs.inside.Says.{command_seen};
-ghost use Rattle.ets_script.specs.Script.{Scripted, pid_of, table_of, Unchanged, Steps, StepsOf, Spawns, Obeys, AnswersLine, at_start};
+ghost use Rattle.ets_script.specs.Script.{pid_of, table_of, Unchanged, Steps, Spawns, Obeys, AnswersLine, at_start};
 ghost use Rattle.ets_script.specs.inside.Enrolments.{Enrols};
 ghost use Rattle.std.specs.Str.{bytes_eq};
 ghost use Rattle.indexmap.specs.IndexSet.{spare, contains_by, index_set_len};
@@ -45,7 +43,7 @@ impl<H: KeyHash + Copy + Drop> Model for Script<H> {
 impl<H: KeyHash + Copy + Drop> Script<H> {
     /// No name, and a node without processes and tables.
     pub fn new(alloc: Global, limits: Limits, hash: H) -> Script<H>
-        ensures { result ≡ at_start (empty limits) }
+        ensures { result ≡ at_start limits }
     {
         Script {
             names: IndexSet::new(alloc),
@@ -86,7 +84,8 @@ impl<H: KeyHash + Copy + Drop> Script<H> {
 
     /// Does what a command says.
     fn obey(&mut self, alloc: Global, command: Command<'_>) -> Answer
-        ensures { Obeys (command_seen command.entry) self.old result self.new ⊎ Unchanged self.old NoMemory result self.new }
+        ensures { Obeys (command_seen command.entry) self.old result self.new
+            ⊎ Unchanged self.old NoMemory result self.new }
     {
         match command {
             Command::Faulty(at) => Answer::Syntax(at),
@@ -143,7 +142,8 @@ impl<H: KeyHash + Copy + Drop> Script<H> {
 
     /// A step of the node.
     fn step(&mut self, step: &Step) -> Answer
-        ensures { Steps self.old step.now result self.new ⊎ Unchanged self.old NoMemory result self.new }
+        ensures { Steps self.old step.now result self.new
+            ⊎ Unchanged self.old NoMemory result self.new }
     {
         match self.node.step(step) {
             Ok(reply) => Answer::Replied(reply),
@@ -161,7 +161,8 @@ impl<H: KeyHash + Copy + Drop> Script<H> {
 
     /// Enrols the next number for a name. Room for the name is made first.
     fn spawn(&mut self, alloc: Global, name: &[u8]) -> Answer
-        ensures { Spawns (pid_of self.old name.now) self.old name.now result self.new ⊎ Unchanged self.old NoMemory result self.new }
+        ensures { Spawns (pid_of self.old name.now) self.old name.now result self.new
+            ⊎ Unchanged self.old NoMemory result self.new }
     {
         match self.names.get_index_of(name) {
             Some(_) => return Answer::Replied(Reply::Badarg),
@@ -189,7 +190,8 @@ fn enrol<H: KeyHash + Copy + Drop>(
 ) -> Answer
     requires room { 0 < spare names.old }
     requires new { contains_by (λ k. bytes_eq name.items k.items) names.old ≡ false }
-    ensures enrolled { Enrols (map vec_items names.old.keys) (seen node.old) number name.items result (map vec_items names.new.keys) (seen node.new) }
+    ensures enrolled { Enrols (map vec_items names.old.keys) (seen node.old) number name.items
+        result (map vec_items names.new.keys) (seen node.new) }
     ensures len { index_set_len names.new ≤ index_set_len names.old + 1 }
 {
     match node.step(&Step::Enrol(number)) {

@@ -1,6 +1,7 @@
 //! A script whose processes run in threads of their own.
 ghost use Rattle.std.specs.Prelude.{◌≡◌, min, IfOk, IfErr, OnOk};
 ghost use Rattle.node_shared.specs.declared.pids.TheConstants.{MAX_PIDS};
+ghost use Rattle.ets_script.specs.Flows.{flow};
 ghost use Rattle.ets_script.specs.Numbers.{AreTheNumbers};
 ghost use Rattle.ets_script.specs.Threads.{ThreadsEnd, ThreadsStop};
 ghost use Rattle.ets_script.specs.inside.Processes.{RunsInput, Stops};
@@ -19,9 +20,9 @@ use std::io::{Read, Write};
 use std::sync::Wait;
 use std::thread::Threads;
 
-/// Reads a script to its end, lets each of its processes do its lines in a thread of its own, on a node with these limits, and prints
-/// what came of it: the answers that were known before, the replies in the order of the journal, and the names of those that want of
-/// memory stopped. It may wait.
+/// Reads a script to its end, lets each of its processes do its lines in a thread of its own, on a node with these
+/// limits, and prints what came of it: the answers that were known before, the replies in the order of the journal, and
+/// the names of those that want of memory stopped. It may wait.
 pub fn run_threads<
     T: Threads + Wait + Sync,
     R: Read,
@@ -35,8 +36,10 @@ pub fn run_threads<
     limits: Limits,
     hash: H,
 ) -> Result<(), ScriptFault>
-    ensures ok { OnOk result (ThreadsEnd limits (R.remaining reader.old) (R.remaining reader.new) (W.contents writer.old) (W.contents writer.new)) }
-    ensures err { IfErr result (ThreadsStop limits (R.remaining reader.old) (R.remaining reader.new) (W.contents writer.old) (W.contents writer.new)) }
+    ensures ok { OnOk result (ThreadsEnd limits
+        (flow R.remaining reader.old reader.new) (flow W.contents writer.old writer.new)) }
+    ensures err { IfErr result (ThreadsStop limits
+        (flow R.remaining reader.old reader.new) (flow W.contents writer.old writer.new)) }
     ensures numbers { AreTheNumbers }
 {
     let Ok(mut pending) = Pending::new(alloc) else {
@@ -55,7 +58,8 @@ fn run_input<T: Threads + Wait + Sync, R: Read, H: KeyHash + Copy + Drop + Send 
     limits: Limits,
     hash: H,
 ) -> Result<(Known, Ran), ScriptFault>
-    ensures ok { IfOk result (λ r. RunsInput limits (R.remaining reader.old) (R.remaining reader.new) r.0 r.1) }
+    ensures ok { IfOk result (λ r. RunsInput limits
+        (flow R.remaining reader.old reader.new) r.0 r.1) }
     ensures err { IfErr result (Stops limits) }
 {
     let plan = plan_input(alloc, reader, most_names(limits))?;

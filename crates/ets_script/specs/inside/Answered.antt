@@ -1,6 +1,7 @@
 -- What private contracts say of one line of a script and its answer.
 use Rattle.std.specs.Prelude.{◌≡◌, ℕ, ◌≤◌, ◌<◌, Bool, true, false, List, ◌++◌, length, Option, Some, None}
 use Rattle.std.specs.Io.KnownBytes.{Appends}
+use Rattle.ets_script.specs.Flows.{Flow}
 use Rattle.ets_script.specs.Lines.{Line, text, too_long, IsOneLine}
 use Rattle.ets_script.specs.Replies.{printed}
 use Rattle.ets_script.specs.Script.{Scripted, AnswersLine}
@@ -28,13 +29,13 @@ AnswersPart true old bytes answer new = AnswersLine old too_long answer new
 AnswersPart false old bytes answer new = AnswersLine old (text bytes) answer new
 
 -- the last answer went out behind what waited
-pub record EndsAll (h : Held) (start now : Scripted) (waiting : List ℕ) (old new : Option (List ℕ)) : Type 0 where
+pub record EndsAll (h : Held) (start now : Scripted) (waiting : List ℕ) (writer : Flow) : Type 0 where
   pub answer : Answer
   pub answers : AnswersPart h.is_skipping start h.bytes answer now
-  pub written : Appends old new (waiting ++ printed answer)
+  pub written : Appends writer.before writer.after (waiting ++ printed answer)
 
 -- the last answer was known, and the writer failed
-pub record BreaksAtEnd (h : Held) (start now : Scripted) (waiting : List ℕ) (old new : Option (List ℕ)) : Type 0 where
+pub record BreaksAtEnd (h : Held) (start now : Scripted) (waiting : List ℕ) (writer : Flow) : Type 0 where
   pub answer : Answer
   pub answers : AnswersPart h.is_skipping start h.bytes answer now
-  pub broken : Breaks old new (waiting ++ printed answer)
+  pub broken : Breaks writer (waiting ++ printed answer)

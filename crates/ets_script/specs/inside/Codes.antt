@@ -6,4 +6,6 @@ use Rattle.node_core.specs.inside.Codes.{state_code}
 use Rattle.ets_script.specs.Script.{Scripted}
 
 abbrev pub scripted_code : Coded Scripted
-scripted_code = code_by (List (List ℕ) × State) (coded× (coded_list (coded_list coded_ℕ)) state_code) (λ s. (s.names, s.node)) (λ p. record { names = p.0; node = p.1 }) (λ _. refl)
+scripted_code =
+    code_by (List (List ℕ) × State) (coded× (coded_list (coded_list coded_ℕ)) state_code)
+    (λ s. (s.names, s.node)) (λ p. record { names = p.0; node = p.1 }) (λ _. refl)

@@ -13,8 +13,12 @@ pub record Limited : Type 0 where
 
 abbrev pub planned_code : Coded Planned
 planned_code =
-    code_by ((List Answer × List (List ℕ)) × List (List Job)) (coded× (coded× (coded_list answer.the_row.coded) (coded_list (coded_list coded_ℕ))) (coded_list (coded_list job.the_row.coded)))
+    code_by ((List Answer × List (List ℕ)) × List (List Job))
+    (coded× (coded× (coded_list answer.the_row.coded) (coded_list (coded_list coded_ℕ)))
+    (coded_list (coded_list job.the_row.coded)))
     (λ p. ((p.answers, p.names), p.jobs)) (λ p. record { answers = p.0.0; names = p.0.1; jobs = p.1 }) (λ _. refl)
 
 abbrev pub limited_code : Coded Limited
-limited_code = code_by (ℕ × Planned) (coded× coded_ℕ planned_code) (λ l. (l.most, l.plan)) (λ p. record { most = p.0; plan = p.1 }) (λ _. refl)
+limited_code =
+    code_by (ℕ × Planned) (coded× coded_ℕ planned_code)
+    (λ l. (l.most, l.plan)) (λ p. record { most = p.0; plan = p.1 }) (λ _. refl)

@@ -1,14 +1,38 @@
 -- What private contracts say of the planning of lines that are read part by part.
 use Rattle.std.specs.Prelude.{◌≡◌, ℕ, ◌≤◌, ◌<◌, Bool, true, false, List, [], ◌∷◌, ◌++◌, length, Option, Some, None, ⊤}
 use Rattle.std.specs.Io.KnownBytes.{Consumes, IsAtEnd}
+use Rattle.node_shared.specs.declared.job.Job.{Job}
+use Rattle.ets_script.specs.Commands.{Command}
+use Rattle.ets_script.specs.Flows.{Flow}
 use Rattle.ets_script.specs.Lines.{Line, text, too_long, IsOneLine, IsLine, IsCutInto}
-use Rattle.ets_script.specs.Plan.{Planned, line_plan, lines_plan}
+use Rattle.ets_script.specs.Plan.{Planned, nothing, number_of, answered, given, spawned, said, line_plan, lines_plan}
+use Rattle.ets_script.specs.declared.answer.Answer.{Answer}
 use Rattle.ets_script.specs.declared.plan.Known.{Known}
 use Rattle.ets_script.specs.declared.plan.Work.{Work}
 use Rattle.ets_script.specs.declared.fault.ScriptFault.{ScriptFault}
 use Rattle.ets_script.specs.declared.fault.ScriptFault.TheVariants.{Read, Memory}
 use Rattle.ets_script.specs.inside.Feeds.{Held, EndsLine}
 use Rattle.ets_script.specs.inside.PlanCodes.{Limited}
+
+-- no line yet, and at most so many names
+abbrev pub no_lines : ℕ → Limited
+no_lines most = record { most = most; plan = nothing }
+
+-- an answer that is known is added
+abbrev pub with_answer : Answer → Limited → Limited
+with_answer answer l = record l { plan = answered answer l.plan }
+
+-- a job for the process of this number, if there is one
+abbrev pub with_job : Option ℕ → Job → Limited → Limited
+with_job number job l = record l { plan = given number job l.plan }
+
+-- a name that is spawned
+abbrev pub with_name : List ℕ → Limited → Limited
+with_name name l = record l { plan = spawned l.most (number_of l.plan name) name l.plan }
+
+-- what a command says
+abbrev pub with_command : Command → Limited → Limited
+with_command command l = record l { plan = said l.most command l.plan }
 
 -- a line is added, and lines in order
 abbrev pub with_line : Line → Limited → Limited
@@ -38,11 +62,14 @@ last_line false bytes = text bytes
 -- lines that all have their LF
 abbrev pub AreWhole : List ℕ → List Line → Type 0
 AreWhole input [] = input ≡ []
-AreWhole input (line ∷ lines) = (bytes : List ℕ) × (rest : List ℕ) × (input ≡ bytes ++ rest) × IsLine bytes line ⊥ × AreWhole rest lines
+AreWhole input (line ∷ lines) =
+    (bytes : List ℕ) × (rest : List ℕ) × (input ≡ bytes ++ rest) × IsLine bytes line ⊥ × AreWhole rest lines
 
 -- the reader had these lines and no more, and they were added
-abbrev pub PlansAll : Limited → Option (List ℕ) → Option (List ℕ) → Limited → Type 0
-PlansAll start before after now = (input : List ℕ) × (lines : List Line) × Consumes before after input × IsAtEnd after × IsCutInto input lines × (now ≡ with_lines lines start)
+abbrev pub PlansAll : Limited → Flow → Limited → Type 0
+PlansAll start reader now =
+    (input : List ℕ) × (lines : List Line) × Consumes reader.before reader.after input × IsAtEnd reader.after
+    × IsCutInto input lines × (now ≡ with_lines lines start)
 
 -- a plan's parts
 abbrev pub AreParts : Known → Work → Planned → Type 0

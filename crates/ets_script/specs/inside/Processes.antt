@@ -1,5 +1,5 @@
 -- What private contracts say of a script's processes, from their enrolment to the end of their jobs.
-use Rattle.std.specs.Prelude.{◌≡◌, ℕ, suc, ◌-◌, ◌≤◌, List, [], ◌∷◌, map, take, length, Err, All, Option, ⊤, min}
+use Rattle.std.specs.Prelude.{◌≡◌, ℕ, suc, ◌≤◌, List, [], ◌∷◌, map, length, All, ⊤, min}
 use Rattle.std.specs.Io.KnownBytes.{Consumes, IsAtEnd}
 use Rattle.std.specs.declared.vec.Vec.{Vec}
 use Rattle.std.specs.declared.alloc.Global.{Global}
@@ -11,13 +11,12 @@ use Rattle.node_shared.specs.declared.pids.Pids.{Pids}
 use Rattle.node_shared.specs.declared.pids.Seat.{Seat}
 use Rattle.node_shared.specs.declared.pids.TheConstants.{MAX_PIDS}
 use Rattle.node_shared.specs.declared.transcript.CloseFault.TheVariants as close
-use Rattle.node_shared.specs.Closing.{Closes}
 use Rattle.node_shared.specs.Journal.{entry}
 use Rattle.node_shared.specs.Records.{Recorded}
-use Rattle.node_shared.specs.Working.{job_step}
+use Rattle.ets_script.specs.Flows.{Flow}
 use Rattle.ets_script.specs.Lines.{Line, IsCutInto}
 use Rattle.ets_script.specs.Plan.{Planned, nothing, lines_plan}
-use Rattle.ets_script.specs.Threads.{RunsJobs}
+use Rattle.ets_script.specs.Threads.{IsUnclosed, RunsJobs, steps_done}
 use Rattle.ets_script.specs.declared.fault.ScriptFault.{ScriptFault}
 use Rattle.ets_script.specs.declared.fault.ScriptFault.TheVariants.{Read, Write, Memory, Differs, Missing}
 use Rattle.ets_script.specs.declared.plan.Known.{Known}
@@ -40,12 +39,14 @@ AreEnrolled p (jobs ∷ others) [] = ⊥
 
 -- a process did its jobs, in order, all but the last n
 abbrev pub DidJobs : ℕ → List Job → Recorded → ℕ → Type 0
-DidJobs p jobs client n = (client.pid ≡ p) × (n ≤ length jobs) × (map (λ e. e.step) client.entries ≡ Enrol p ∷ map (job_step p) (take (length jobs - n) jobs))
+DidJobs p jobs client n =
+    (client.pid ≡ p) × (n ≤ length jobs) × (map (λ e. e.step) client.entries ≡ steps_done p jobs n)
 
 -- from process p on, each did
 abbrev pub HaveRun : ℕ → List (List Job) → List Recorded → List ℕ → Type 0
 HaveRun p [] [] [] = Unit {0}
-HaveRun p (jobs ∷ others) (client ∷ clients) (n ∷ left) = DidJobs p jobs client n × HaveRun (suc p) others clients left
+HaveRun p (jobs ∷ others) (client ∷ clients) (n ∷ left) =
+    DidJobs p jobs client n × HaveRun (suc p) others clients left
 HaveRun p [] [] (n ∷ left) = ⊥
 HaveRun p [] (client ∷ clients) left = ⊥
 HaveRun p (jobs ∷ others) [] left = ⊥
@@ -56,16 +57,16 @@ abbrev pub Stops : Limits → ScriptFault → Type 0
 Stops limits Read = ⊤
 Stops limits Write = ⊥
 Stops limits Memory = ⊤
-Stops limits (Differs p) = (clients : List Recorded) × Closes limits clients (Err (close.Differs p))
-Stops limits (Missing p) = (clients : List Recorded) × Closes limits clients (Err (close.Missing p))
+Stops limits (Differs p) = IsUnclosed limits (close.Differs p)
+Stops limits (Missing p) = IsUnclosed limits (close.Missing p)
 
 -- the reader had a whole script, and what it asks of its processes was done
-pub record RunsInput (limits : Limits) (before after : Option (List ℕ)) (known : Known) (ran : Ran) : Type 0 where
+pub record RunsInput (limits : Limits) (reader : Flow) (known : Known) (ran : Ran) : Type 0 where
   pub input : List ℕ
   pub lines : List Line
   pub plan : Planned
-  pub consumed : Consumes before after input
-  pub end : IsAtEnd after
+  pub consumed : Consumes reader.before reader.after input
+  pub end : IsAtEnd reader.after
   pub cut : IsCutInto input lines
   pub planned : plan ≡ lines_plan (min limits.processes MAX_PIDS) lines nothing
   pub answers : known.answers ≡ plan.answers

@@ -1,16 +1,17 @@
-use Rattle.std.proofs.Common.{◌≡◌, subst}
+use Rattle.std.proofs.Common.{subst}
 use Rattle.std.specs.Prelude.{IfOk, IfErr}
 use Rattle.node_core.specs.Seen.{seen}
 use Rattle.ets_script.specs.Script.{Scripted}
-use Rattle.ets_script.specs.Stops.{Completes, Stops}
+use Rattle.ets_script.specs.Flows.{flow}
+use Rattle.ets_script.specs.Stops.{LeavesNode, Stops}
 use Rattle.ets_script.proofs.run.run_within.Goals as goal
 
 pub returns-clause-ok : goal.returns-clause-ok
 returns-clause-ok g c =
-    let ends : Scripted → Type 0 = λ s. IfOk c.run_heard.result (λ node. (end : Scripted) × (end.node ≡ seen node) × Completes s (g.R.Read.remaining c.args.reader.now) (g.R.Read.remaining c.run_heard.new.reader) (g.W.Write.contents c.args.writer.now) (g.W.Write.contents c.run_heard.new.writer) end) in
+    let ends : Scripted → Type 0 = λ s. IfOk c.run_heard.result (λ node. LeavesNode s (seen node) (flow g.R.Read.remaining c.args.reader.now c.run_heard.new.reader) (flow g.W.Write.contents c.args.writer.now c.run_heard.new.writer)) in
     subst ends c.new-script.ensures c.run_heard.ensures.ok
 
 pub returns-clause-err : goal.returns-clause-err
 returns-clause-err g c =
-    let stops : Scripted → Type 0 = λ s. IfErr c.run_heard.result (Stops s (g.R.Read.remaining c.args.reader.now) (g.R.Read.remaining c.run_heard.new.reader) (g.W.Write.contents c.args.writer.now) (g.W.Write.contents c.run_heard.new.writer)) in
+    let stops : Scripted → Type 0 = λ s. IfErr c.run_heard.result (Stops s (flow g.R.Read.remaining c.args.reader.now c.run_heard.new.reader) (flow g.W.Write.contents c.args.writer.now c.run_heard.new.writer)) in
     subst stops c.new-script.ensures c.run_heard.ensures.err

@@ -1,6 +1,6 @@
 use Rattle.std.proofs.lemmas.Result.{err_from_is_err_and}
 use Rattle.ets_script.specs.Threads.{ThreadsStop}
-use Rattle.ets_script.proofs.KnownBytes.{appends_same}
+use Rattle.ets_script.proofs.KnownBytes.{between, appends_same}
 use Rattle.ets_script.proofs.Clients.{fault_told}
 use Rattle.ets_script.proofs.ThreadsEnds.{ended, broken, stopped}
 use Rattle.ets_script.proofs.threads.run_threads.Goals as goal
@@ -13,7 +13,7 @@ returns-in_err-known-clause-err g c =
     let before = g.R.Read.remaining c.args.reader.now in
     let after = g.R.Read.remaining c.run_input.new.reader in
     let old = g.W.Write.contents c.args.writer.now in
-    fault_told (ThreadsStop c.args.limits before after old old) c.from_residual.result _ c.from_residual.ensures.1 (stopped c.args.limits before after old _ c.in_err-known.ensures.err)
+    fault_told (ThreadsStop c.args.limits (between before after) (between old old)) c.from_residual.result _ c.from_residual.ensures.1 (stopped c.args.limits before after old _ c.in_err-known.ensures.err)
 
 pub returns-in_err-print_out-clause-err : goal.returns-in_err-print_out-clause-err
 returns-in_err-print_out-clause-err g c =
