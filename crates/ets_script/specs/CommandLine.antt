@@ -46,7 +46,7 @@ number_option name default = record (new_rule name) {
   defaults = default ∷ [];
 }
 
--- the limit of objects in one table, which is 1000000 without it
+-- `--max-objects`, which is 1000000 where it is not given
 abbrev pub objects_option : Rule
 objects_option = number_option (codes "max-objects") (codes "1000000")
 

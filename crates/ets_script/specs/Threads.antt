@@ -86,7 +86,7 @@ ThreadsEnd limits reader writer =
     × Consumes reader.before reader.after input × IsAtEnd reader.after
     × Appends writer.before writer.after output × ThreadsText limits input output
 
--- the journal of a run of the node and the records of its clients do not agree, for this
+-- the journal of a run of the node, compared with the records of its clients, shows this fault
 abbrev pub IsUnclosed : Limits → CloseFault → Type 0
 IsUnclosed limits fault = (clients : List Recorded) × Closes limits clients (Err fault)
 
