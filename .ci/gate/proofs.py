@@ -40,8 +40,8 @@ class Check:
 class Order:
     """Which check goes when: of those that wait for nothing more, the one with the longest chain of others behind it.
 
-    What is left is nearly as long behind the first of them as behind any: they have a job for each processor. The others have half
-    as many, and take what these leave."""
+    Behind the first of them, two at once, what is left is nearly as long as behind any that waits: they have a job for each processor.
+    The others have half as many, and take what these leave."""
 
     def __init__(self, checks, processors, memory):
         self.running, self.ended = [], set()
@@ -55,7 +55,7 @@ class Order:
         self.waiting = sorted(checks, key=lambda it: -self.behind[it.key])
 
     def is_first(self, check):
-        longest = max(self.behind[it.key] for it in self.waiting + self.running)
+        longest = max(self.behind[it.key] for it in self.waiting)
         return 4 * self.behind[check.key] >= 3 * longest and sum(it.is_first for it in self.running) < 2
 
     def jobs_of(self, is_first):
