@@ -14,8 +14,9 @@ def lanes():
 
 
 def fate(name, text):
-    """What `rt ci` has said of a crate so far: whether it is proved, in this run or in one before, or None."""
-    if re.search(rf"^rt: {name} (proved$|is kept: )", text, re.M):
+    """What `rt ci` has said of a crate so far: whether it is proved, in this run or in one before, or None. A name may be
+    that of a crate's tests, `NAME: its tests are`."""
+    if re.search(rf"^rt: {name} (proved$|is kept: )|^\d+ passed, 0 failed$", text, re.M):
         return True
     has_ended = re.search(rf"^rt: {name} NOT PROVED|^\d+ passed, \d+ failed$", text, re.M)
     return False if has_ended else None
@@ -25,13 +26,20 @@ class Log:
     """What `rt ci` says as it runs; without a file, every crate is taken to be proved."""
 
     def __init__(self, file):
-        self.file = file
+        # (how long it was when it was last read, the text, and what that says of crates)
+        self.file, self.known = file, (0, "", {})
 
     def is_proved(self, name):
         """Whether a crate is proved: True, False, or None where `rt ci` has not said yet."""
         if not self.file:
             return True
-        return fate(name, read(self.file) if os.path.isfile(self.file) else "")
+        size = os.path.getsize(self.file) if os.path.isfile(self.file) else 0
+        if size != self.known[0]:
+            self.known = size, read(self.file), {}
+        _, text, fates = self.known
+        if name not in fates:
+            fates[name] = fate(name, text)
+        return fates[name]
 
 
 class Lanes:

@@ -9,6 +9,7 @@ import time
 
 from costs import Costs, budget, table
 from crates import crates_of
+from lanes import Log
 from parts import BEGAN, PROGRAM, TOP, Part, end_on_signals, say, side_by_side, unproved
 
 
@@ -31,28 +32,47 @@ def counted(pattern, text):
     return (int(found[1]), int(found[2])) if found else (0, 1)
 
 
-def tests_of_refusals(copy):
-    """The programs of tests that `rt ci` leaves, of the crates with tests of refused memory."""
-    crates = [it for it in crates_of(TOP).values() if any(file.endswith("/refused.rt") for file in it.files("src"))]
-    return [f"{copy}/crates/{it.name}/out/{it.name}_tests" for it in crates]
+class Proved:
+    """A crate, or its tests, as a part that others come after, by what is said of the proofs."""
+
+    def __init__(self, name, log):
+        self.name, self.log = name, log
+
+    @property
+    def is_well(self):
+        return self.log.is_proved(self.name)
+
+
+def crates_with_refused_memory():
+    return [it.name for it in crates_of(TOP).values() if any(file.endswith("/refused.rt") for file in it.files("src"))]
+
+
+def on_the_program(copy, log):
+    """What is tried on the program, and on tests of refused memory, as soon as they are proved and built."""
+    program, is_there = f"{copy}/{PROGRAM}/out/ets_script_cli", Proved("ets_script_cli", log)
+    with_tests = crates_with_refused_memory()
+    tests, are_there = [f"{copy}/crates/{it}/out/{it}_tests" for it in with_tests], [Proved(f"{it}: its tests are", log) for it in with_tests]
+    return [
+        Part("the front door", [f"{TOP}/.ci/door", program], after=[is_there]),
+        Part("the examples, cut at every byte", [f"{TOP}/.ci/cuts", program], after=[is_there]),
+        Part("devices that fail", [f"{TOP}/.ci/devices", program], after=[is_there]),
+        Part("memory refused", [f"{TOP}/.ci/refusals", program, *tests], after=[is_there, *are_there], show=r"^refusals: "),
+        Part("Erlang over the program", [f"{TOP}/.ci/door_erlang", program], after=[is_there]),
+    ]
 
 
 def parts_of(words, copy, logs):
-    """What the gate runs: what costs no proof, the test of the program of wrong bodies, `rt ci`, the wrong bodies, and what is tried on the program."""
-    politely = ["nice", "-n", "10", f"{TOP}/.ci/wrong_bodies"]
-    itself = Part("the program of wrong bodies", [*politely, "--self"], ends_all=True)
-    proofs = Part("every proof, test and program (rt ci)", ["rt", "ci"], copy, show=r"^rt: ")
-    tried = [*politely, "--libraries", copy, "--after", proofs.file(logs), *words]
+    """What the gate runs: what costs no proof, the tests of the gate itself, the proofs, the wrong bodies, and what is tried on the program and
+    on the library for C."""
+    politely = ["nice", "-n", "10"]
+    order = Part("the order of checks", [sys.executable, "-B", f"{TOP}/.ci/gate/order_test.py"], ends_all=True)
+    itself = Part("the program of wrong bodies", [*politely, f"{TOP}/.ci/wrong_bodies", "--self"], ends_all=True)
+    proofs = Part("every proof, test and program (rt ci)", [sys.executable, "-B", f"{TOP}/.ci/gate/proofs.py", copy], show=r"^rt: ")
+    tried = [*politely, f"{TOP}/.ci/wrong_bodies", "--libraries", copy, "--after", proofs.file(logs), *words]
     edits = Part("every wrong body", tried, show=r"^wrong bodies: ")
-    program = f"{copy}/{PROGRAM}/out/ets_script_cli"
-    door = Part("the front door", [f"{TOP}/.ci/door", program], after=[proofs])
-    cuts = Part("the examples, cut at every byte", [f"{TOP}/.ci/cuts", program], after=[proofs])
-    devices = Part("devices that fail", [f"{TOP}/.ci/devices", program], after=[proofs])
-    tests = tests_of_refusals(copy)
-    refusals = Part("memory refused", [f"{TOP}/.ci/refusals", program, *tests], after=[proofs], show=r"^refusals: ")
-    erlang = Part("Erlang over the program", [f"{TOP}/.ci/door_erlang", program], after=[proofs])
-    c = Part("the store for C", [f"{TOP}/.ci/door_c", copy], after=[proofs], show=r"^door_c: ")
-    return [*unproved(logs), itself, door, cuts, devices, refusals, erlang, c], proofs, edits
+    log = Log(proofs.file(logs))
+    c = Part("the store for C", [*politely, f"{TOP}/.ci/door_c", copy], after=[Proved("ets_c", log)], show=r"^door_c: ")
+    return [*unproved(logs), order, itself, *on_the_program(copy, log), c], proofs, edits
 
 
 def report(edits, costs):

@@ -1,0 +1,76 @@
+"""The test of the order in which checks go (proofs.py), on crates that are made up."""
+import sys
+
+from proofs import Check, Order, in_order
+
+# Each crate, those below it, and the seconds of its proof and of its tests: a chain of three, two beside it that are short, and one of tests.
+CRATES = {
+    "low": ((), 100, 0),
+    "side": (("low",), 50, 0),
+    "other": (("low",), 40, 0),
+    "middle": (("low",), 400, 0),
+    "tests": (("low",), 0, 200),
+    "high": (("low", "middle"), 300, 0),
+    "top": (("low", "middle", "side", "other", "high"), 10, 0),
+}
+SECONDS = {name: {"proofs": proofs, "tests": tests} for name, (_, proofs, tests) in CRATES.items()}
+
+
+def checks_of(call=None, memory=1):
+    tasks = {}
+    for name, (below, proofs, tests) in CRATES.items():
+        waits = [(it, "proof") for it in below]
+        tasks[name, "proof"] = (waits, proofs, memory, call)
+        tasks[name, "tests"] = (waits, tests, memory, call)
+        tasks[name, "edits"] = ([(name, "proof"), (name, "tests")], 0, memory, call)
+    return [Check(key, task, SECONDS) for key, task in tasks.items()]
+
+
+def turns(processors, memory=100):
+    """What runs at once, turn by turn, each crate with its jobs; all that runs in a turn ends with it."""
+    order, seen = Order(checks_of(), processors, memory), []
+    while order.waiting or order.running:
+        while order.next_check() is not None:
+            pass
+        if any(it.seconds for it in order.running):
+            seen.append({it.key[0]: it.jobs for it in order.running if it.seconds})
+        for it in order.running[:]:
+            order.end(it)
+    return seen
+
+
+def main():
+    faults = []
+
+    def expect(found, wanted, what):
+        if found != wanted:
+            faults.append(what)
+            print(f"{what}: {found} and not {wanted}", file=sys.stderr)
+
+    chain = [{"low": 4}, {"middle": 4, "tests": 2, "side": 2, "other": 2}, {"high": 4}, {"top": 4}]
+    expect(turns(4), chain, "the chain has all processors, the others half of them")
+    expect(turns(2)[1], {"middle": 2, "tests": 1, "side": 1}, "at most as many others as there are processors")
+    expect(turns(4, 1.4)[1], {"middle": 4}, "what has no room waits")
+    expect(len(turns(4, 0.1)), 7, "one check goes, however little room there is")
+
+    def call(given, jobs):
+        return dict(given), jobs
+
+    given = in_order(Order(checks_of(call), 4, 100))
+    expect(len(given), 3 * len(CRATES), "each check is made once")
+    expect({"middle", "high", "side"} <= {name for name, _ in given["top", "proof"][0]}, True, "a check has what it waits for")
+
+    def fails(given, jobs):
+        raise KeyError("planted")
+
+    try:
+        in_order(Order(checks_of(fails), 4, 100))
+        expect("nothing", "an error", "an error in a check is told")
+    except KeyError:
+        pass
+    print(f"the order of checks: {len(faults)} faults")
+    return 1 if faults else 0
+
+
+if __name__ == "__main__":
+    sys.exit(main())
