@@ -1,3 +1,14 @@
 mod node;
 mod text;
 mod world;
+
+/// The value, if what was done to it succeeded.
+fn kept<T: Drop, E>(done: Result<(), E>, value: T) -> Result<T, E> {
+    match done {
+        Ok(()) => Ok(value),
+        Err(error) => {
+            drop(value);
+            Err(error)
+        }
+    }
+}

@@ -1,7 +1,8 @@
 // What no script of examples/rules can say. Values from outside: a test is a table of rows, a step and the reply that the
 // rules want of it. A row that is answered otherwise is named by its place.
-use crate::tests::text::{term, terms};
-use ets_term::{AllSame, Fnv, KeyHash, Term};
+use crate::tests::kept;
+use crate::tests::text::{is_told, term, terms};
+use ets_term::{AllSame, Atom, Fnv, Items, KeyHash, Term};
 use node_core::{Call, Limits, Node, Reply, Step};
 use std::alloc::{AllocError, Global};
 
@@ -31,14 +32,20 @@ type Row = (Event<'static>, &'static str);
 
 /// The step in which a process asks a call.
 fn ask(alloc: Global, pid: u32, call: &str) -> Result<Step, AllocError> {
-    let mut told = terms(alloc, call)?;
-    let Some(Term::List(arguments)) = told.pop() else {
+    let Some((name, rest)) = call.split_once('(') else {
         return Err(AllocError);
     };
-    let Some(Term::Atom(name)) = told.pop() else {
+    let Some(arguments) = rest.strip_suffix(')') else {
         return Err(AllocError);
     };
-    Ok(Step::Ask(pid, Call::new(name, arguments.into_vec())))
+    let arguments = terms(alloc, arguments)?;
+    match Atom::new(alloc, name) {
+        Ok(name) => Ok(Step::Ask(pid, Call::new(name, arguments))),
+        Err(_) => {
+            drop(arguments);
+            Err(AllocError)
+        }
+    }
 }
 
 fn step(alloc: Global, event: Event) -> Result<Step, AllocError> {
@@ -51,20 +58,37 @@ fn step(alloc: Global, event: Event) -> Result<Step, AllocError> {
     }
 }
 
-/// The items of a list, in their order as terms. Any other term is a fault of the test, told as want of memory.
+/// The items of a list. Any other term is a fault of the test, told as want of memory.
+fn items_of(term: Term) -> Result<Items<Term>, AllocError> {
+    match term {
+        Term::List(items) => Ok(items),
+        other => {
+            drop(other);
+            Err(AllocError)
+        }
+    }
+}
+
+/// The same in their order as terms.
 fn sorted(term: Term) -> Result<Vec<Term>, AllocError> {
-    let Term::List(items) = term else {
-        return Err(AllocError);
-    };
-    let mut items = items.into_vec();
-    items.sort()?;
-    Ok(items)
+    let mut items = items_of(term)?.into_vec();
+    kept(items.sort(), items)
 }
 
 /// Whether a list has these items, in any order.
 fn has_items(alloc: Global, value: &Term, wanted: &str) -> Result<bool, AllocError> {
     let items = sorted(value.try_clone(alloc)?)?;
-    Ok(items == sorted(term(alloc, wanted)?)?)
+    let same = are_told(alloc, items.as_slice(), wanted);
+    drop(items);
+    same
+}
+
+/// Whether a text tells a list of these sorted items, in any order.
+fn are_told(alloc: Global, items: &[Term], text: &str) -> Result<bool, AllocError> {
+    let told = sorted(term(alloc, text)?)?;
+    let same = items == told.as_slice();
+    drop(told);
+    Ok(same)
 }
 
 /// Whether this is the reply that is wanted.
@@ -72,7 +96,7 @@ fn is(alloc: Global, reply: &Reply, wanted: &str) -> Result<bool, AllocError> {
     match reply {
         Reply::Value(value) => match wanted.strip_prefix("~") {
             Some(wanted) => has_items(alloc, value, wanted),
-            None => Ok(*value == term(alloc, wanted)?),
+            None => is_told(alloc, value, wanted),
         },
         Reply::Badarg => Ok(wanted == "** badarg"),
         Reply::SystemLimit => Ok(wanted == "** system_limit"),
@@ -88,8 +112,21 @@ fn does<H: KeyHash + Copy + Drop>(
     wanted: &str,
 ) -> Result<bool, AllocError> {
     let step = step(alloc, event)?;
-    let reply = node.step(&step)?;
-    is(alloc, &reply, wanted)
+    let answered = answers_step(alloc, node, &step, wanted);
+    drop(step);
+    answered
+}
+
+fn answers_step<H: KeyHash + Copy + Drop>(
+    alloc: Global,
+    node: &mut Node<H>,
+    step: &Step,
+    wanted: &str,
+) -> Result<bool, AllocError> {
+    let reply = node.step(step)?;
+    let same = is(alloc, &reply, wanted);
+    drop(reply);
+    same
 }
 
 /// The place of the first row that a node answers otherwise.
@@ -114,7 +151,9 @@ fn wrong_by<H: KeyHash + Copy + Drop>(
     rows: &[Row],
 ) -> Result<Option<usize>, AllocError> {
     let mut node = Node::new(alloc, limits, hash);
-    wrong_in(alloc, &mut node, rows)
+    let place = wrong_in(alloc, &mut node, rows);
+    drop(node);
+    place
 }
 
 /// The place of the first row that a new node with these limits answers otherwise, by a hash that spreads keys or by the

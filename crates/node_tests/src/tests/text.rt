@@ -1,6 +1,7 @@
 // Terms as the tests write them: `{a,-1}`, `[x,[]]`, `#7` for an identifier, `<7` for a pid, `@7` for lists in lists, seven deep.
-// An atom is any other word, without quotes. A part in parentheses is read as a list. A text that tells no term is a fault of
-// its test, which then fails as for want of memory.
+// An atom is any other word, without quotes. A text that tells no term is a fault of its test, which then fails as for want of
+// memory.
+use crate::tests::kept;
 use ets_term::{Atom, Integer, Items, Term};
 use std::alloc::{AllocError, Global};
 use std::mem;
@@ -15,11 +16,18 @@ struct Reader {
 }
 
 impl Reader {
+    fn read(&mut self, text: &str) -> Result<(), AllocError> {
+        for letter in text.chars() {
+            self.take(letter)?;
+        }
+        self.end_word()
+    }
+
     fn take(&mut self, letter: char) -> Result<(), AllocError> {
         match letter {
-            '{' | '[' | '(' => self.begin(),
+            '{' | '[' => self.begin(),
             '}' => self.end(true),
-            ']' | ')' => self.end(false),
+            ']' => self.end(false),
             ',' | ' ' => self.end_word(),
             _ => Ok(self.word.push(letter)?),
         }
@@ -65,19 +73,29 @@ pub fn terms(alloc: Global, text: &str) -> Result<Vec<Term>, AllocError> {
         terms: Items::new(alloc),
         word: String::new(alloc),
     };
-    for letter in text.chars() {
-        reader.take(letter)?;
+    match reader.read(text) {
+        Ok(()) => Ok(reader.terms.into_vec()),
+        Err(error) => {
+            drop(reader);
+            Err(error)
+        }
     }
-    reader.end_word()?;
-    Ok(reader.terms.into_vec())
 }
 
 /// The one term that a text tells.
 pub fn term(alloc: Global, text: &str) -> Result<Term, AllocError> {
-    match terms(alloc, text)?.pop() {
-        Some(term) => Ok(term),
-        None => Err(AllocError),
-    }
+    let mut terms = terms(alloc, text)?;
+    let last = terms.pop();
+    drop(terms);
+    last.ok_or(AllocError)
+}
+
+/// Whether a text tells this term.
+pub fn is_told(alloc: Global, value: &Term, text: &str) -> Result<bool, AllocError> {
+    let told = term(alloc, text)?;
+    let same = *value == told;
+    drop(told);
+    Ok(same)
 }
 
 fn word(alloc: Global, word: &str) -> Result<Term, AllocError> {
@@ -111,9 +129,13 @@ fn number(word: &str, sign: &str) -> Option<u32> {
 fn nested(alloc: Global, depth: u32) -> Result<Term, AllocError> {
     let mut term = Term::List(Items::new(alloc));
     for _ in 1..depth {
-        let mut items = Items::new(alloc);
-        items.push(term)?;
-        term = Term::List(items);
+        term = listed(alloc, term)?;
     }
     Ok(term)
+}
+
+/// A list of one term.
+fn listed(alloc: Global, term: Term) -> Result<Term, AllocError> {
+    let mut items = Items::new(alloc);
+    Ok(Term::List(kept(items.push(term), items)?))
 }

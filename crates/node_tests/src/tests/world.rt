@@ -1,8 +1,8 @@
 // Values from outside: each test is a table of rows, a call and the answer that the rules want of it. A row that is
 // answered otherwise is named by its place.
-use crate::tests::text::term;
+use crate::tests::text::{is_told, term};
 use bucket_table::PlainRows;
-use ets_term::{Integer, Items, Term};
+use ets_term::{Atom, Integer, Items, Term};
 use fixed_walk::Walked;
 use ownership::{InfoItem, NewOptions, World, WorldFault};
 use std::alloc::{AllocError, Global};
@@ -54,22 +54,42 @@ fn new_table(
     name: &str,
     options: &str,
 ) -> Result<Term, WorldFault> {
-    let Term::Atom(name) = term(alloc, name)? else {
-        return Err(WorldFault::Badarg);
-    };
-    let options = NewOptions::read(alloc, &term(alloc, options)?)?;
-    let table = Table::new(
-        alloc,
-        PlainRows::new(alloc),
-        options.kind,
-        options.keypos,
-        10,
-    );
-    world.new_table(pid, &name, options, Walked::new(alloc, table))
+    let options = options_of(alloc, options)?;
+    match Atom::new(alloc, name) {
+        Ok(name) => {
+            let made = make_table(alloc, world, pid, &name, options);
+            drop(name);
+            made
+        }
+        Err(_) => {
+            drop(options);
+            Err(WorldFault::Memory)
+        }
+    }
+}
+
+fn options_of(alloc: Global, options: &str) -> Result<NewOptions, WorldFault> {
+    let options = term(alloc, options)?;
+    let read = NewOptions::read(alloc, &options);
+    drop(options);
+    read
+}
+
+/// Puts an empty table in the world, for at most ten objects.
+fn make_table(
+    alloc: Global,
+    world: &mut Tables,
+    pid: u32,
+    name: &Atom,
+    options: NewOptions,
+) -> Result<Term, WorldFault> {
+    let rows = PlainRows::new(alloc);
+    let table = Table::new(alloc, rows, options.kind, options.keypos.max(1), 10);
+    world.new_table(pid, name, options, Walked::new(alloc, table))
 }
 
 fn info(alloc: Global, world: &Tables, id: u32, item: &str) -> Result<Term, WorldFault> {
-    let Some(item) = InfoItem::read(&term(alloc, item)?) else {
+    let Some(item) = item_of(alloc, item)? else {
         return Err(WorldFault::Badarg);
     };
     match world.info(id, item)? {
@@ -78,8 +98,18 @@ fn info(alloc: Global, world: &Tables, id: u32, item: &str) -> Result<Term, Worl
     }
 }
 
+fn item_of(alloc: Global, item: &str) -> Result<Option<InfoItem>, AllocError> {
+    let item = term(alloc, item)?;
+    let read = InfoItem::read(&item);
+    drop(item);
+    Ok(read)
+}
+
 fn resolved(alloc: Global, world: &Tables, named: &str) -> Result<Term, WorldFault> {
-    match world.resolve(&term(alloc, named)?) {
+    let named = term(alloc, named)?;
+    let found = world.resolve(&named);
+    drop(named);
+    match found {
         Some(id) => Ok(Term::Int(id as Integer)),
         None => Ok(term(alloc, "none")?),
     }
@@ -87,10 +117,24 @@ fn resolved(alloc: Global, world: &Tables, named: &str) -> Result<Term, WorldFau
 
 fn rights(alloc: Global, world: &Tables, pid: u32, id: u32) -> Result<Term, WorldFault> {
     let mut rights = Items::new(alloc);
+    match push_rights(world, pid, id, &mut rights) {
+        Ok(()) => Ok(Term::List(rights)),
+        Err(_) => {
+            drop(rights);
+            Err(WorldFault::Memory)
+        }
+    }
+}
+
+fn push_rights(
+    world: &Tables,
+    pid: u32,
+    id: u32,
+    rights: &mut Items<Term>,
+) -> Result<(), AllocError> {
     rights.push(Term::Int(world.may_read(pid, id) as Integer))?;
     rights.push(Term::Int(world.may_write(pid, id) as Integer))?;
-    rights.push(Term::Int(world.is_owner(pid, id) as Integer))?;
-    Ok(Term::List(rights))
+    rights.push(Term::Int(world.is_owner(pid, id) as Integer))
 }
 
 fn fix(alloc: Global, world: &mut Tables, pid: u32, id: u32) -> Result<Term, WorldFault> {
@@ -113,13 +157,40 @@ fn told(alloc: Global, world: &Tables, event: Event) -> Result<Term, WorldFault>
     }
 }
 
+fn give(
+    alloc: Global,
+    world: &mut Tables,
+    pid: u32,
+    id: u32,
+    to: u32,
+    gift: &str,
+) -> Result<(), WorldFault> {
+    let gift = term(alloc, gift)?;
+    let given = world.give_away(pid, id, to, &gift);
+    drop(gift);
+    given
+}
+
+fn set(
+    alloc: Global,
+    world: &mut Tables,
+    pid: u32,
+    id: u32,
+    options: &str,
+) -> Result<(), WorldFault> {
+    let options = term(alloc, options)?;
+    let set = world.set_options(pid, id, &options);
+    drop(options);
+    set
+}
+
 /// What a call does that answers nothing of itself.
 fn doing(alloc: Global, world: &mut Tables, event: Event) -> Result<(), WorldFault> {
     match event {
         Event::Enrol(pid) => world.enrol(pid),
         Event::End(pid) => world.end(pid),
-        Event::Give(pid, id, to, gift) => world.give_away(pid, id, to, &term(alloc, gift)?),
-        Event::Set(pid, id, options) => world.set_options(pid, id, &term(alloc, options)?),
+        Event::Give(pid, id, to, gift) => give(alloc, world, pid, id, to, gift),
+        Event::Set(pid, id, options) => set(alloc, world, pid, id, options),
         Event::Drop(id) => {
             world.drop_table(id);
             Ok(())
@@ -153,7 +224,11 @@ fn refusal(fault: &WorldFault) -> &'static str {
 /// Whether a call is answered so.
 fn does(alloc: Global, world: &mut Tables, event: Event, wanted: &str) -> Result<bool, AllocError> {
     match answer(alloc, world, event) {
-        Ok(told) => Ok(told == term(alloc, wanted)?),
+        Ok(answer) => {
+            let same = is_told(alloc, &answer, wanted);
+            drop(answer);
+            same
+        }
         Err(WorldFault::Memory) => Err(AllocError),
         Err(fault) => Ok(refusal(&fault) == wanted),
     }
@@ -172,7 +247,9 @@ fn wrong_in(alloc: Global, world: &mut Tables, rows: &[Row]) -> Result<Option<us
 /// The place of the first row that a new world for three processes and four tables answers otherwise.
 fn wrong(alloc: Global, rows: &[Row]) -> Result<Option<usize>, AllocError> {
     let mut world = World::new(alloc, 3, 4);
-    wrong_in(alloc, &mut world, rows)
+    let place = wrong_in(alloc, &mut world, rows);
+    drop(world);
+    place
 }
 
 /// The places of the first life, and of the row in it, that a new world answers otherwise.

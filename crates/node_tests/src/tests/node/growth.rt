@@ -7,9 +7,16 @@ use std::process::Abort;
 
 /// What is due, if anything: a table's growth, or that one of its buckets be made ready.
 fn due<H: KeyHash + Copy + Drop>(node: &Node<H>) -> Option<(u32, Option<u32>)> {
-    match node.due()? {
-        Step::Grow(id) => Some((id, None)),
-        Step::Ready(id, bucket) => Some((id, Some(bucket))),
+    let step = node.due()?;
+    let work = work_of(&step);
+    drop(step);
+    work
+}
+
+fn work_of(step: &Step) -> Option<(u32, Option<u32>)> {
+    match step {
+        Step::Grow(id) => Some((*id, None)),
+        Step::Ready(id, bucket) => Some((*id, Some(*bucket))),
         _ => None,
     }
 }
@@ -62,7 +69,9 @@ fn wrong_due<H: KeyHash + Copy + Drop>(
     rows: &[DueRow],
 ) -> Result<Option<usize>, AllocError> {
     let mut node = Node::new(alloc, Limits::usual(), hash);
-    wrong_due_in(alloc, &mut node, rows)
+    let place = wrong_due_in(alloc, &mut node, rows);
+    drop(node);
+    place
 }
 
 #[test]

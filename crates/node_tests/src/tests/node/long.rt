@@ -7,6 +7,7 @@ mod runs;
 
 use super::Event::{Ask, Enrol};
 use super::{Row, does, wrong_in};
+use crate::tests::kept;
 use ets_term::Fnv;
 use node_core::{Limits, Node};
 use std::alloc::{AllocError, Global};
@@ -23,9 +24,15 @@ fn push_numbered(
     number: u32,
 ) -> Result<(), AllocError> {
     let digits = format!(in alloc; "{number}")?;
+    let pushed = push_with(text, told, digits.as_str());
+    drop(digits);
+    pushed
+}
+
+fn push_with(text: &mut String, told: &str, digits: &str) -> Result<(), AllocError> {
     for letter in told.chars() {
         match letter {
-            'N' => text.push_str(digits.as_str())?,
+            'N' => text.push_str(digits)?,
             _ => text.push(letter)?,
         }
     }
@@ -34,18 +41,7 @@ fn push_numbered(
 
 fn numbered(alloc: Global, told: &str, number: u32) -> Result<String, AllocError> {
     let mut text = String::new(alloc);
-    push_numbered(alloc, &mut text, told, number)?;
-    Ok(text)
-}
-
-/// The middle told for each of the numbers, between the two ends.
-fn repeated(alloc: Global, start: &str, middle: &str, end: &str) -> Result<String, AllocError> {
-    let mut text = String::from_str(alloc, start)?;
-    for number in 0..COUNT {
-        push_numbered(alloc, &mut text, middle, number)?;
-    }
-    text.push_str(end)?;
-    Ok(text)
+    kept(push_numbered(alloc, &mut text, told, number), text)
 }
 
 /// A process 0 and its table t, which is a duplicate bag.
@@ -80,7 +76,10 @@ fn passes_on(alloc: Global, node: &mut Node<Fnv>, trial: Trial) -> Result<bool, 
 
 /// Whether a new node passes a trial.
 fn passes(alloc: Global, trial: Trial) -> Result<bool, AllocError> {
-    passes_on(alloc, &mut Node::new(alloc, Limits::usual(), Fnv), trial)
+    let mut node = Node::new(alloc, Limits::usual(), Fnv);
+    let passed = passes_on(alloc, &mut node, trial);
+    drop(node);
+    passed
 }
 
 /// Whether both start in a node.
@@ -107,8 +106,23 @@ fn does_numbered(
     number: u32,
 ) -> Result<bool, AllocError> {
     let call = numbered(alloc, call, number)?;
+    let answered = answers_numbered(alloc, node, call.as_str(), wanted, number);
+    drop(call);
+    answered
+}
+
+/// Whether a call is answered by what is told for a number.
+fn answers_numbered(
+    alloc: Global,
+    node: &mut Node<Fnv>,
+    call: &str,
+    wanted: &str,
+    number: u32,
+) -> Result<bool, AllocError> {
     let wanted = numbered(alloc, wanted, number)?;
-    answers(alloc, node, call.as_str(), wanted.as_str())
+    let answered = answers(alloc, node, call, wanted.as_str());
+    drop(wanted);
+    answered
 }
 
 /// The first number for which the call is answered otherwise.

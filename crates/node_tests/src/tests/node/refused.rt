@@ -36,8 +36,21 @@ fn does_again(
     wanted: &str,
 ) -> Result<bool, AllocError> {
     let step = step_again(alloc, event)?;
-    let reply = reply_again(node, &step)?;
-    is_again(alloc, &reply, wanted)
+    let answered = answers_again(alloc, node, &step, wanted);
+    drop(step);
+    answered
+}
+
+fn answers_again(
+    alloc: Global,
+    node: &mut Node<Fnv>,
+    step: &Step,
+    wanted: &str,
+) -> Result<bool, AllocError> {
+    let reply = reply_again(node, step)?;
+    let same = is_again(alloc, &reply, wanted);
+    drop(reply);
+    same
 }
 
 const LIFE: [Row; 27] = [
@@ -93,7 +106,9 @@ fn wrong_again_in(
 /// The same in a new node.
 fn wrong_again(alloc: Global, rows: &[Row]) -> Result<Option<usize>, AllocError> {
     let mut node = Node::new(alloc, Limits::usual(), Fnv);
-    wrong_again_in(alloc, &mut node, rows)
+    let place = wrong_again_in(alloc, &mut node, rows);
+    drop(node);
+    place
 }
 
 #[test]

@@ -40,11 +40,20 @@ fn resolved_after(
     Ok(node.resolve(named))
 }
 
-/// The same in a new node with a table named t and one that has no name.
+/// The same in a new node.
+fn resolved_in_new(alloc: Global, rows: &[Row], named: &Term) -> Result<Option<u32>, AllocError> {
+    let mut node = Node::new(alloc, Limits::usual(), Fnv);
+    let resolved = resolved_after(alloc, &mut node, rows, named);
+    drop(node);
+    resolved
+}
+
+/// The same where there is a table named t, and one that has no name.
 fn resolved(alloc: Global, named: &str) -> Result<Option<u32>, AllocError> {
     let named = term(alloc, named)?;
-    let mut node = Node::new(alloc, Limits::usual(), Fnv);
-    resolved_after(alloc, &mut node, &TWO, &named)
+    let resolved = resolved_in_new(alloc, &TWO, &named);
+    drop(named);
+    resolved
 }
 
 /// What a term names in a node with these two tables.
@@ -92,7 +101,9 @@ fn next_after(alloc: Global, node: &mut Node<Fnv>, rows: &[Row]) -> Result<u32, 
 /// The next identifier of a node that made two tables and was refused a third.
 fn next(alloc: Global) -> Result<u32, AllocError> {
     let mut node = Node::new(alloc, Limits::usual(), Fnv);
-    next_after(alloc, &mut node, &REFUSED)
+    let next = next_after(alloc, &mut node, &REFUSED);
+    drop(node);
+    next
 }
 
 #[test]

@@ -1,6 +1,7 @@
 // A run that goes past want of memory: where there is memory it passes over nothing.
 use super::Event::{Ask, End, Enrol, Grow, Ready};
 use super::{Row, is, step};
+use crate::tests::kept;
 use ets_term::Fnv;
 use node_core::{Limits, Node, Reply, Step};
 use std::alloc::{AllocError, Global};
@@ -26,12 +27,16 @@ const LIFE: [Row; 16] = [
     (End(0), "** noproc"),
 ];
 
-fn steps_of(alloc: Global, rows: &[Row]) -> Result<Vec<Step>, AllocError> {
-    let mut steps = Vec::new(alloc);
+fn push_steps(alloc: Global, steps: &mut Vec<Step>, rows: &[Row]) -> Result<(), AllocError> {
     for (event, _) in rows {
         steps.push(step(alloc, *event)?)?;
     }
-    Ok(steps)
+    Ok(())
+}
+
+fn steps_of(alloc: Global, rows: &[Row]) -> Result<Vec<Step>, AllocError> {
+    let mut steps = Vec::new(alloc);
+    kept(push_steps(alloc, &mut steps, rows), steps)
 }
 
 /// The place of the first row whose step has another answer, or none.
@@ -58,12 +63,23 @@ fn wrong_through(
     rows: &[Row],
 ) -> Result<Option<usize>, AllocError> {
     let steps = steps_of(alloc, rows)?;
-    let answers = node.run_through(steps.as_slice())?;
-    wrong_answer(alloc, rows, answers.as_slice())
+    let answers = node.run_through(steps.as_slice());
+    drop(steps);
+    let answers = answers?;
+    let place = wrong_answer(alloc, rows, answers.as_slice());
+    drop(answers);
+    place
+}
+
+/// The same of a new node.
+fn wrong_of_new(alloc: Global, rows: &[Row]) -> Result<Option<usize>, AllocError> {
+    let mut node = Node::new(alloc, Limits::usual(), Fnv);
+    let place = wrong_through(alloc, &mut node, rows);
+    drop(node);
+    place
 }
 
 #[test]
 fn every_step_is_answered_where_there_is_memory(rt: HostRuntime) {
-    let mut node = Node::new(rt.alloc(), Limits::usual(), Fnv);
-    assert_eq!(rt; wrong_through(rt.alloc(), &mut node, &LIFE), Ok(None));
+    assert_eq!(rt; wrong_of_new(rt.alloc(), &LIFE), Ok(None));
 }

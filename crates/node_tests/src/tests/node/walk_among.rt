@@ -3,7 +3,7 @@ use super::Event::{Ask, Enrol};
 use super::{Event, Row, does, has_items, term, wrong_in};
 use ets_term::{AllSame, Fnv, KeyHash, Term};
 use handing::{Handing, Plan};
-use node_core::{Limits, Node, Others, WalkFault, walk_among};
+use node_core::{Limits, Node, Others, Walk, WalkFault, walk_among};
 use std::alloc::{AllocError, Global};
 use std::process::Abort;
 
@@ -31,12 +31,29 @@ fn walk<H: KeyHash + Copy + Drop>(
         return Err(AllocError);
     }
     let table = term(alloc, "t")?;
+    let outcome = walk_over(alloc, node, tried, &table);
+    drop(table);
+    Ok(outcome)
+}
+
+fn walk_over<H: KeyHash + Copy + Drop>(
+    alloc: Global,
+    node: &mut Node<H>,
+    tried: Tried,
+    table: &Term,
+) -> Outcome {
     let mut others = Handing::new(alloc, tried.plan);
-    let result = match walk_among(node, tried.walker, &table, tried.limit, &mut others) {
-        Ok(walk) => Ok(Term::List(walk.keys)),
+    let walked = walk_among(node, tried.walker, table, tried.limit, &mut others);
+    let seen = others.seen().len();
+    drop(others);
+    (keys_of(walked), seen)
+}
+
+fn keys_of(walked: Result<Walk, WalkFault>) -> Result<Term, WalkFault> {
+    match walked {
+        Ok(Walk { keys }) => Ok(Term::List(keys)),
         Err(fault) => Err(fault),
-    };
-    Ok((result, others.seen().len()))
+    }
 }
 
 fn comes_to_in<H: KeyHash + Copy + Drop>(
@@ -45,9 +62,17 @@ fn comes_to_in<H: KeyHash + Copy + Drop>(
     tried: Tried,
     wanted: &str,
 ) -> Result<bool, AllocError> {
-    match walk(alloc, node, tried)? {
-        (Ok(keys), _) => has_items(alloc, &keys, wanted),
-        (Err(_), _) => Ok(false),
+    let (walked, _) = walk(alloc, node, tried)?;
+    match walked {
+        Ok(keys) => {
+            let same = has_items(alloc, &keys, wanted);
+            drop(keys);
+            same
+        }
+        Err(fault) => {
+            drop(fault);
+            Ok(false)
+        }
     }
 }
 
@@ -58,12 +83,10 @@ fn comes_to<H: KeyHash + Copy + Drop>(
     tried: Tried,
     wanted: &str,
 ) -> Result<bool, AllocError> {
-    comes_to_in(
-        alloc,
-        &mut Node::new(alloc, Limits::usual(), hash),
-        tried,
-        wanted,
-    )
+    let mut node = Node::new(alloc, Limits::usual(), hash);
+    let comes = comes_to_in(alloc, &mut node, tried, wanted);
+    drop(node);
+    comes
 }
 
 /// The fault of a walk, how many keys the others saw, and whether a step is then answered so.
@@ -75,9 +98,16 @@ fn end_in<H: KeyHash + Copy + Drop>(
     tried: Tried,
     then: Row,
 ) -> Result<End, AllocError> {
-    let (result, seen) = walk(alloc, node, tried)?;
+    let (walked, seen) = walk(alloc, node, tried)?;
+    let fault = walked.err();
     let (event, wanted) = then;
-    Ok((result.err(), seen, does(alloc, node, event, wanted)?))
+    match does(alloc, node, event, wanted) {
+        Ok(stands) => Ok((fault, seen, stands)),
+        Err(error) => {
+            drop(fault);
+            Err(error)
+        }
+    }
 }
 
 /// The same in a new node.
@@ -87,12 +117,10 @@ fn end<H: KeyHash + Copy + Drop>(
     tried: Tried,
     then: Row,
 ) -> Result<End, AllocError> {
-    end_in(
-        alloc,
-        &mut Node::new(alloc, Limits::usual(), hash),
-        tried,
-        then,
-    )
+    let mut node = Node::new(alloc, Limits::usual(), hash);
+    let end = end_in(alloc, &mut node, tried, then);
+    drop(node);
+    end
 }
 
 /// The table is fixed no more.
@@ -236,7 +264,9 @@ fn stops(alloc: Global, stop: Stop, wanted: &WalkFault) -> Result<bool, AllocErr
         plan,
     };
     let (fault, _, stands) = end(alloc, Fnv, tried, then)?;
-    Ok(fault.as_ref() == Some(wanted) && stands)
+    let same = fault.as_ref() == Some(wanted);
+    drop(fault);
+    Ok(same && stands)
 }
 
 const LOST: [Stop; 3] = [

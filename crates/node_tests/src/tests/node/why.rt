@@ -4,9 +4,16 @@ mod misuses;
 use super::{Event, Row, step};
 use ets_term::{Fnv, KeyHash};
 use node_core::{Limits, Node, Reply, Step};
-use node_reasons::why;
+use node_reasons::{Reason, why};
 use std::alloc::{AllocError, Global};
 use std::process::Abort;
+
+fn is_in_words(alloc: Global, reason: Reason, wanted: &str) -> Result<bool, AllocError> {
+    let words = reason.to_string(alloc)?;
+    let same = words.as_str() == wanted;
+    drop(words);
+    Ok(same)
+}
 
 /// Whether the step with this reply has this reason in words, or is answered where there are no words.
 fn has_reason<H: KeyHash + Copy + Drop>(
@@ -17,7 +24,7 @@ fn has_reason<H: KeyHash + Copy + Drop>(
     wanted: &str,
 ) -> Result<bool, AllocError> {
     match why(node, step, reply) {
-        Some(reason) => Ok(reason.to_string(alloc)?.as_str() == wanted),
+        Some(reason) => is_in_words(alloc, reason, wanted),
         None => Ok(wanted.is_empty() && reply.is_value()),
     }
 }
@@ -30,8 +37,21 @@ fn is_explained<H: KeyHash + Copy + Drop>(
     wanted: &str,
 ) -> Result<bool, AllocError> {
     let step = step(alloc, event)?;
-    let reply = node.step(&step)?;
-    has_reason(alloc, node, &step, &reply, wanted)
+    let explained = explains(alloc, node, &step, wanted);
+    drop(step);
+    explained
+}
+
+fn explains<H: KeyHash + Copy + Drop>(
+    alloc: Global,
+    node: &mut Node<H>,
+    step: &Step,
+    wanted: &str,
+) -> Result<bool, AllocError> {
+    let reply = node.step(step)?;
+    let explained = has_reason(alloc, node, step, &reply, wanted);
+    drop(reply);
+    explained
 }
 
 /// The place of the first row that has another reason.
@@ -51,7 +71,9 @@ fn unexplained_in<H: KeyHash + Copy + Drop>(
 /// The same in a new node.
 fn unexplained(alloc: Global, limits: Limits, rows: &[Row]) -> Result<Option<usize>, AllocError> {
     let mut node = Node::new(alloc, limits, Fnv);
-    unexplained_in(alloc, &mut node, rows)
+    let place = unexplained_in(alloc, &mut node, rows);
+    drop(node);
+    place
 }
 
 #[test]

@@ -1,52 +1,21 @@
 // Worlds of hundreds of processes and tables, beside a plain model.
-use super::Tables;
-use crate::tests::text::term;
-use bucket_table::PlainRows;
-use ets_term::{Atom, Items, Term};
-use fixed_walk::Walked;
-use ownership::{NewOptions, World, WorldFault};
-use std::alloc::{AllocError, Global};
+use super::{Tables, fix, new_table};
+use ets_term::Term;
+use ownership::{World, WorldFault};
+use std::alloc::Global;
 use std::process::Abort;
-use table_ops::Table;
 
 const MANY: u32 = 300;
 
 const GONE: u32 = 1_000;
 
-/// `{heir,Heir,1}`.
-fn heir_entry(alloc: Global, heir: u32) -> Result<Term, AllocError> {
-    let mut entry = Items::new(alloc);
-    entry.push(term(alloc, "heir")?)?;
-    entry.push(Term::Pid(heir))?;
-    entry.push(Term::Int(1))?;
-    Ok(Term::Tuple(entry))
-}
-
-/// The same as the only one of the options.
-fn heir_options(alloc: Global, heir: u32) -> Result<Term, AllocError> {
-    let mut list = Items::new(alloc);
-    list.push(heir_entry(alloc, heir)?)?;
-    Ok(Term::List(list))
-}
-
 /// A table of the process, with this heir.
 fn make(alloc: Global, world: &mut Tables, pid: u32, heir: u32) -> Result<(), WorldFault> {
-    let options = NewOptions::read(alloc, &heir_options(alloc, heir)?)?;
-    let name = Atom::new(alloc, "t").map_err(|_| AllocError)?;
-    let rows = PlainRows::new(alloc);
-    let table = Table::new(alloc, rows, options.kind, options.keypos, 10);
-    world.new_table(pid, &name, options, Walked::new(alloc, table))?;
+    let options = format!(in alloc; "[{{heir,<{heir},1}}]")?;
+    let made = new_table(alloc, world, pid, "t", options.as_str());
+    drop(options);
+    drop(made?);
     Ok(())
-}
-
-fn fix(world: &mut Tables, pid: u32, id: u32) -> Result<(), WorldFault> {
-    let Some(table) = world.table_mut(id) else {
-        return Err(WorldFault::Badarg);
-    };
-    match table.fix(pid) {
-        Ok(()) => Ok(()),
-        Err(_) => Err(WorldFault::Memory),
-    }
 }
 
 /// Whose the table is, and whether it is fixed; GONE where there is none.
@@ -101,7 +70,9 @@ fn hands_seventy_on(alloc: Global, world: &mut Tables) -> Result<bool, WorldFaul
 
 fn seventy(alloc: Global) -> Result<bool, WorldFault> {
     let mut world = World::new(alloc, 2, 70);
-    hands_seventy_on(alloc, &mut world)
+    let handed_on = hands_seventy_on(alloc, &mut world);
+    drop(world);
+    handed_on
 }
 
 #[test]
@@ -154,7 +125,7 @@ fn fill(alloc: Global, world: &mut Tables) -> Result<(), WorldFault> {
         make(alloc, world, id, heir_of(id))?;
     }
     for id in 0..MANY {
-        fix(world, fixer_of(id), id)?;
+        drop(fix(alloc, world, fixer_of(id), id)?);
     }
     Ok(())
 }
@@ -182,10 +153,16 @@ fn wrong_while_ending(world: &mut Tables) -> Result<Option<(u32, u32)>, WorldFau
     Ok(None)
 }
 
+fn wrong_in(alloc: Global, world: &mut Tables) -> Result<Option<(u32, u32)>, WorldFault> {
+    fill(alloc, world)?;
+    wrong_while_ending(world)
+}
+
 fn wrong_of_many(alloc: Global) -> Result<Option<(u32, u32)>, WorldFault> {
     let mut world = World::new(alloc, MANY, MANY);
-    fill(alloc, &mut world)?;
-    wrong_while_ending(&mut world)
+    let wrong = wrong_in(alloc, &mut world);
+    drop(world);
+    wrong
 }
 
 #[test]

@@ -3,7 +3,8 @@
 // once. Where the refused allocation is one of the test's own, it is made again.
 use super::Event::{End, Enrol, Fix, Give, Info, New, Receive, Set};
 use super::{Event, Row, Tables, answer, refusal};
-use crate::tests::text::term;
+use crate::tests::kept;
+use crate::tests::text::{is_told, term};
 use ets_term::{Integer, Term};
 use ownership::{InfoItem, World, WorldFault};
 use std::alloc::{AllocError, Global};
@@ -65,8 +66,12 @@ const ITEMS: [InfoItem; 10] = [
     InfoItem::Fixed,
 ];
 
-fn flag(value: bool) -> Term {
-    Term::Int(Integer::from(value))
+fn note(seen: &mut Vec<Term>, told: Term) -> Result<(), AllocError> {
+    Ok(seen.push(told)?)
+}
+
+fn note_flag(seen: &mut Vec<Term>, value: bool) -> Result<(), AllocError> {
+    note(seen, Term::Int(Integer::from(value)))
 }
 
 /// Whether the process lives, and what is in its mailbox.
@@ -76,11 +81,31 @@ fn see_process(
     pid: u32,
     seen: &mut Vec<Term>,
 ) -> Result<(), AllocError> {
-    seen.push(flag(world.lives(pid)))?;
+    note_flag(seen, world.lives(pid))?;
     for message in world.mailbox(pid) {
-        seen.push(message.try_clone(alloc)?)?;
+        note(seen, message.try_clone(alloc)?)?;
     }
     Ok(())
+}
+
+/// Whether the table is found by its identifier.
+fn is_there(world: &Tables, id: u32) -> bool {
+    let named = Term::Tid(id);
+    let found = world.resolve(&named);
+    drop(named);
+    found.is_some()
+}
+
+fn see_item(
+    world: &Tables,
+    id: u32,
+    item: InfoItem,
+    seen: &mut Vec<Term>,
+) -> Result<(), AllocError> {
+    match world.info(id, item)? {
+        Some(told) => note(seen, told),
+        None => Ok(()),
+    }
 }
 
 /// What there is to say of the table.
@@ -90,11 +115,9 @@ fn see_items(
     items: &[InfoItem],
     seen: &mut Vec<Term>,
 ) -> Result<(), AllocError> {
-    seen.push(flag(world.resolve(&Term::Tid(id)).is_some()))?;
+    note_flag(seen, is_there(world, id))?;
     for item in items {
-        if let Some(told) = world.info(id, *item)? {
-            seen.push(told)?;
-        }
+        see_item(world, id, *item, seen)?;
     }
     Ok(())
 }
@@ -102,9 +125,9 @@ fn see_items(
 /// Who may use the table.
 fn see_rights(world: &Tables, id: u32, seen: &mut Vec<Term>) -> Result<(), AllocError> {
     for pid in 0..4 {
-        seen.push(flag(world.may_read(pid, id)))?;
-        seen.push(flag(world.may_write(pid, id)))?;
-        seen.push(flag(world.is_owner(pid, id)))?;
+        note_flag(seen, world.may_read(pid, id))?;
+        note_flag(seen, world.may_write(pid, id))?;
+        note_flag(seen, world.is_owner(pid, id))?;
     }
     Ok(())
 }
@@ -117,26 +140,28 @@ fn see_name(
     seen: &mut Vec<Term>,
 ) -> Result<(), AllocError> {
     let name = term(alloc, name)?;
-    seen.push(flag(world.resolve(&name).is_some()))?;
-    if let Some(id) = world.resolve(&name) {
-        seen.push(Term::Tid(id))?;
+    let found = world.resolve(&name);
+    drop(name);
+    match found {
+        Some(id) => note(seen, Term::Tid(id)),
+        None => note_flag(seen, false),
     }
-    Ok(())
 }
 
 const NAMES: [&str; 5] = ["a_name_longer_than_its_place", "u", "v", "w", "x"];
 
-/// All that can be seen of processes, tables and these names.
+/// All that can be seen of processes, of these items of tables, and of these names.
 fn see(
     alloc: Global,
     world: &Tables,
+    items: &[InfoItem],
     names: &[&'static str],
     seen: &mut Vec<Term>,
 ) -> Result<(), AllocError> {
-    seen.push(Term::Int(Integer::from(world.made())))?;
+    note(seen, Term::Int(Integer::from(world.made())))?;
     for number in 0..4 {
         see_process(alloc, world, number, seen)?;
-        see_items(world, number, &ITEMS, seen)?;
+        see_items(world, number, items, seen)?;
         see_rights(world, number, seen)?;
     }
     for name in names {
@@ -148,8 +173,7 @@ fn see(
 /// All that can be seen of a world.
 fn seen(alloc: Global, world: &Tables) -> Result<Vec<Term>, AllocError> {
     let mut seen = Vec::with_capacity(alloc, 128)?;
-    see(alloc, world, &NAMES, &mut seen)?;
-    Ok(seen)
+    kept(see(alloc, world, &ITEMS, &NAMES, &mut seen), seen)
 }
 
 fn seen_again(alloc: Global, world: &Tables) -> Result<Vec<Term>, AllocError> {
@@ -159,10 +183,10 @@ fn seen_again(alloc: Global, world: &Tables) -> Result<Vec<Term>, AllocError> {
     }
 }
 
-fn term_again(alloc: Global, text: &str) -> Result<Term, AllocError> {
-    match term(alloc, text) {
-        Ok(term) => Ok(term),
-        Err(_) => term(alloc, text),
+fn is_told_again(alloc: Global, value: &Term, wanted: &str) -> Result<bool, AllocError> {
+    match is_told(alloc, value, wanted) {
+        Ok(same) => Ok(same),
+        Err(_) => is_told(alloc, value, wanted),
     }
 }
 
@@ -173,17 +197,42 @@ fn is_answer(
     wanted: &str,
 ) -> Result<bool, AllocError> {
     match answered {
-        Ok(told) => Ok(told == term_again(alloc, wanted)?),
+        Ok(answer) => {
+            let same = is_told_again(alloc, &answer, wanted);
+            drop(answer);
+            same
+        }
         Err(fault) => Ok(refusal(&fault) == wanted),
     }
 }
 
 fn is_unchanged(alloc: Global, world: &Tables, before: &[Term]) -> Result<bool, AllocError> {
-    Ok(seen_again(alloc, world)?.as_slice() == before)
+    let now = seen_again(alloc, world)?;
+    let same = now.as_slice() == before;
+    drop(now);
+    Ok(same)
 }
 
-/// Whether a call is answered so, at once or, where it was refused memory and has changed nothing, when it is called
-/// again.
+/// Whether a call is answered so, at once or, where it was refused memory and has changed nothing of what was seen before,
+/// when it is called again.
+fn does_after(
+    alloc: Global,
+    world: &mut Tables,
+    before: &[Term],
+    event: Event,
+    wanted: &str,
+) -> Result<bool, AllocError> {
+    let first = answer(alloc, world, event);
+    if !matches!(&first, Err(WorldFault::Memory)) {
+        return is_answer(alloc, first, wanted);
+    }
+    drop(first);
+    Ok(
+        is_unchanged(alloc, world, before)?
+            && is_answer(alloc, answer(alloc, world, event), wanted)?,
+    )
+}
+
 fn does_again(
     alloc: Global,
     world: &mut Tables,
@@ -191,13 +240,9 @@ fn does_again(
     wanted: &str,
 ) -> Result<bool, AllocError> {
     let before = seen_again(alloc, world)?;
-    match answer(alloc, world, event) {
-        Err(WorldFault::Memory) => Ok(
-            is_unchanged(alloc, world, before.as_slice())?
-                && is_answer(alloc, answer(alloc, world, event), wanted)?,
-        ),
-        answered => is_answer(alloc, answered, wanted),
-    }
+    let done = does_after(alloc, world, before.as_slice(), event, wanted);
+    drop(before);
+    done
 }
 
 /// The place of the first row that is answered otherwise.
@@ -215,7 +260,10 @@ fn wrong_again_in(
 }
 
 fn wrong_again(alloc: Global, rows: &[Row]) -> Result<Option<usize>, AllocError> {
-    wrong_again_in(alloc, &mut World::new(alloc, 3, 4), rows)
+    let mut world = World::new(alloc, 3, 4);
+    let place = wrong_again_in(alloc, &mut world, rows);
+    drop(world);
+    place
 }
 
 #[test]

@@ -1,14 +1,33 @@
 use super::*;
 
+/// Does what is due first, if anything is, and says whether it was.
+fn tend_once(node: &mut Node<Fnv>) -> Result<bool, AllocError> {
+    match node.due() {
+        Some(step) => {
+            let reply = node.step(&step);
+            drop(step);
+            drop(reply?);
+            Ok(true)
+        }
+        None => Ok(false),
+    }
+}
+
 /// Does what is due, at most so many steps of it, and says how many that were.
 fn tend(node: &mut Node<Fnv>, most: u32) -> Result<u32, AllocError> {
     for done in 0..most {
-        let Some(step) = node.due() else {
+        if !tend_once(node)? {
             return Ok(done);
-        };
-        let _ok = node.step(&step)?;
+        }
     }
     Ok(most)
+}
+
+fn is_tended(node: &Node<Fnv>) -> bool {
+    let due = node.due();
+    let none = due.is_none();
+    drop(due);
+    none
 }
 
 /// The first number whose object does not enter the table, which is tended behind each.
@@ -70,7 +89,7 @@ pub fn grows(alloc: Global, node: &mut Node<Fnv>) -> Result<bool, AllocError> {
             && not_grown(alloc, node, &GROWN)?.is_none()
             && answers(alloc, node, "tab2list(t)", "[]")?
             && tend(node, COUNT)? < COUNT
-            && node.due().is_none(),
+            && is_tended(node),
     )
 }
 

@@ -33,6 +33,76 @@ fn a_table_has_many_objects(rt: HostRuntime) {
     assert!(rt; passes(rt.alloc(), Trial::Objects) == Ok(true));
 }
 
+/// A text: the middle, told for each of the numbers, between the two ends.
+#[derive(Clone, Copy)]
+struct Long<'a> {
+    start: &'a str,
+    middle: &'a str,
+    end: &'a str,
+}
+
+fn push_told(alloc: Global, text: &mut String, told: Long) -> Result<(), AllocError> {
+    text.push_str(told.start)?;
+    for number in 0..COUNT {
+        push_numbered(alloc, text, told.middle, number)?;
+    }
+    text.push_str(told.end)
+}
+
+fn text_of(alloc: Global, told: Long) -> Result<String, AllocError> {
+    let mut text = String::new(alloc);
+    kept(push_told(alloc, &mut text, told), text)
+}
+
+/// What is tried with a new node and two long texts.
+#[derive(Clone, Copy)]
+enum Told {
+    Inserts,
+    Finds,
+    Counts,
+}
+
+fn passes_in(
+    alloc: Global,
+    node: &mut Node<Fnv>,
+    trial: Told,
+    first: &str,
+    second: &str,
+) -> Result<bool, AllocError> {
+    match trial {
+        Told::Inserts => inserts_and_lists(alloc, node, first, second),
+        Told::Finds => finds(alloc, node, first, second),
+        Told::Counts => answers_on_set(alloc, node, first, second),
+    }
+}
+
+fn passes_with(alloc: Global, trial: Told, first: &str, second: &str) -> Result<bool, AllocError> {
+    let mut node = Node::new(alloc, Limits::usual(), Fnv);
+    let passed = passes_in(alloc, &mut node, trial, first, second);
+    drop(node);
+    passed
+}
+
+fn passes_behind(
+    alloc: Global,
+    trial: Told,
+    first: &str,
+    second: Long,
+) -> Result<bool, AllocError> {
+    let second = text_of(alloc, second)?;
+    let passed = passes_with(alloc, trial, first, second.as_str());
+    drop(second);
+    passed
+}
+
+/// Whether a new node passes a trial with these two texts.
+fn passes_told(alloc: Global, trial: Told, first: Long, second: Long) -> Result<bool, AllocError> {
+    let first = text_of(alloc, first)?;
+    let passed = passes_behind(alloc, trial, first.as_str(), second);
+    drop(first);
+    passed
+}
+
 /// Whether all are inserted by this call and listed.
 fn inserts_and_lists(
     alloc: Global,
@@ -51,10 +121,17 @@ fn inserts_and_lists(
 
 /// Whether so many objects are inserted by one call, of many keys or of one.
 fn inserts(alloc: Global, start: &str, object: &str) -> Result<bool, AllocError> {
-    let insert = repeated(alloc, start, object, "])")?;
-    let listed = repeated(alloc, "~[", object, "]")?;
-    let mut node = Node::new(alloc, Limits::usual(), Fnv);
-    inserts_and_lists(alloc, &mut node, insert.as_str(), listed.as_str())
+    let insert = Long {
+        start,
+        middle: object,
+        end: "])",
+    };
+    let listed = Long {
+        start: "~[",
+        middle: object,
+        end: "]",
+    };
+    passes_told(alloc, Told::Inserts, insert, listed)
 }
 
 fn inserts_both(alloc: Global, start: &str) -> Result<bool, AllocError> {
@@ -83,17 +160,22 @@ fn finds(
     )
 }
 
-/// Whether each of many objects is found.
-fn finds_all(alloc: Global) -> Result<bool, AllocError> {
-    let bound = repeated(alloc, "~[", "[N],", "]")?;
-    let results = repeated(alloc, "~[", "N,", "]")?;
-    let mut node = Node::new(alloc, Limits::usual(), Fnv);
-    finds(alloc, &mut node, bound.as_str(), results.as_str())
-}
+/// The keys of many objects as what a pattern bound, and as results.
+const BOUND: Long<'static> = Long {
+    start: "~[",
+    middle: "[N],",
+    end: "]",
+};
+
+const RESULTS: Long<'static> = Long {
+    start: "~[",
+    middle: "N,",
+    end: "]",
+};
 
 #[test]
 fn many_objects_are_found(rt: HostRuntime) {
-    assert!(rt; finds_all(rt.alloc()) == Ok(true));
+    assert!(rt; passes_told(rt.alloc(), Told::Finds, BOUND, RESULTS) == Ok(true));
 }
 
 /// Whether a call on a new table s is answered so.
@@ -110,15 +192,20 @@ fn answers_on_set(
     )
 }
 
-/// Whether a counter is counted up so often by one call.
-fn counts(alloc: Global) -> Result<bool, AllocError> {
-    let call = repeated(alloc, "update_counter(s,c,[", "{2,1},", "],{c,-1})")?;
-    let values = repeated(alloc, "[", "N,", "]")?;
-    let mut node = Node::new(alloc, Limits::usual(), Fnv);
-    answers_on_set(alloc, &mut node, call.as_str(), values.as_str())
-}
+/// A counter is counted up so often by one call.
+const COUNTED: Long<'static> = Long {
+    start: "update_counter(s,c,[",
+    middle: "{2,1},",
+    end: "],{c,-1})",
+};
+
+const VALUES: Long<'static> = Long {
+    start: "[",
+    middle: "N,",
+    end: "]",
+};
 
 #[test]
 fn many_operations_are_done_at_once(rt: HostRuntime) {
-    assert!(rt; counts(rt.alloc()) == Ok(true));
+    assert!(rt; passes_told(rt.alloc(), Told::Counts, COUNTED, VALUES) == Ok(true));
 }

@@ -1,17 +1,37 @@
 use super::super::Event::End;
-use super::super::term;
+use super::super::{Event, term};
 use super::*;
 use ets_term::Term;
 
+/// Whether a step is answered by what is told for a number.
+fn does_for(
+    alloc: Global,
+    node: &mut Node<Fnv>,
+    event: Event,
+    wanted: &str,
+    number: u32,
+) -> Result<bool, AllocError> {
+    let wanted = numbered(alloc, wanted, number)?;
+    let done = does(alloc, node, event, wanted.as_str());
+    drop(wanted);
+    done
+}
+
 fn enters(alloc: Global, node: &mut Node<Fnv>, pid: u32) -> Result<bool, AllocError> {
-    let wanted = numbered(alloc, "<N", pid)?;
-    does(alloc, node, Enrol(pid), wanted.as_str())
+    does_for(alloc, node, Enrol(pid), "<N", pid)
 }
 
 /// Whether a process makes an unnamed table, which gets the identifier.
 fn makes(alloc: Global, node: &mut Node<Fnv>, pid: u32, id: u32) -> Result<bool, AllocError> {
-    let wanted = numbered(alloc, "#N", id)?;
-    does(alloc, node, Ask(pid, "new(u,[])"), wanted.as_str())
+    does_for(alloc, node, Ask(pid, "new(u,[])"), "#N", id)
+}
+
+/// The table with this identifier, if it is there.
+fn resolved(node: &Node<Fnv>, id: u32) -> Option<u32> {
+    let named = Term::Tid(id);
+    let found = node.resolve(&named);
+    drop(named);
+    found
 }
 
 /// Whether so many processes enrol, each with a table.
@@ -39,7 +59,7 @@ pub fn serves(alloc: Global, node: &mut Node<Fnv>, count: u32) -> Result<bool, A
     if !all_enter(alloc, node, count)? || !some_end(alloc, node, count)? {
         return Ok(false);
     }
-    Ok((0..count).all(|pid| node.resolve(&Term::Tid(pid)).is_some() == (pid % 16 != 0)))
+    Ok((0..count).all(|pid| resolved(node, pid).is_some() == (pid % 16 != 0)))
 }
 
 #[test]
@@ -65,10 +85,7 @@ pub fn has_tables(alloc: Global, node: &mut Node<Fnv>, count: u32) -> Result<boo
     {
         return Ok(false);
     }
-    Ok(
-        node.next_identifier() == count
-            && (0..count).all(|id| node.resolve(&Term::Tid(id)).is_none()),
-    )
+    Ok(node.next_identifier() == count && (0..count).all(|id| resolved(node, id).is_none()))
 }
 
 #[test]
@@ -83,14 +100,30 @@ fn takes_name(
     name: &str,
     id: u32,
 ) -> Result<bool, AllocError> {
-    let call = format!(in alloc; "new({name},[named_table])")?;
-    let named = term(alloc, name)?;
-    Ok(answers(alloc, node, call.as_str(), name)? && node.resolve(&named) == Some(id))
+    Ok(makes_named(alloc, node, name)? && names(alloc, node, name, id)?)
 }
 
-/// The length of the first name, up to the longest that an atom has, by which no table is named.
-fn wrong_name(alloc: Global, node: &mut Node<Fnv>) -> Result<Option<u32>, AllocError> {
-    let mut name = String::new(alloc);
+fn makes_named(alloc: Global, node: &mut Node<Fnv>, name: &str) -> Result<bool, AllocError> {
+    let call = format!(in alloc; "new({name},[named_table])")?;
+    let answered = answers(alloc, node, call.as_str(), name);
+    drop(call);
+    answered
+}
+
+/// Whether a name leads to this table.
+fn names(alloc: Global, node: &Node<Fnv>, name: &str, id: u32) -> Result<bool, AllocError> {
+    let named = term(alloc, name)?;
+    let found = node.resolve(&named);
+    drop(named);
+    Ok(found == Some(id))
+}
+
+/// Makes the name longer, up to the longest that an atom has: its first length by which no table is named.
+fn wrong_length(
+    alloc: Global,
+    node: &mut Node<Fnv>,
+    name: &mut String,
+) -> Result<Option<u32>, AllocError> {
     for id in 1..256 {
         name.push('n')?;
         if !takes_name(alloc, node, name.as_str(), id)? {
@@ -102,7 +135,13 @@ fn wrong_name(alloc: Global, node: &mut Node<Fnv>) -> Result<Option<u32>, AllocE
 
 /// Whether tables are named by names of every length.
 pub fn takes_names(alloc: Global, node: &mut Node<Fnv>) -> Result<bool, AllocError> {
-    Ok(starts(alloc, node)? && wrong_name(alloc, node)?.is_none())
+    if !starts(alloc, node)? {
+        return Ok(false);
+    }
+    let mut name = String::new(alloc);
+    let wrong = wrong_length(alloc, node, &mut name);
+    drop(name);
+    Ok(wrong?.is_none())
 }
 
 #[test]

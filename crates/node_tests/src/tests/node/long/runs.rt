@@ -5,50 +5,86 @@ use node_core::{Reply, Step};
 /// A process, its table, and so many times an object and a lookup of it.
 fn life(alloc: Global, count: u32) -> Result<Vec<Step>, AllocError> {
     let mut steps = Vec::new(alloc);
-    steps.push(Step::Enrol(0))?;
-    steps.push(ask(alloc, 0, "new(t,[])")?)?;
+    kept(push_life(alloc, &mut steps, count), steps)
+}
+
+fn push_life(alloc: Global, steps: &mut Vec<Step>, count: u32) -> Result<(), AllocError> {
+    push(steps, step(alloc, Enrol(0))?)?;
+    push(steps, ask(alloc, 0, "new(t,[])")?)?;
     for number in 0..count {
-        let insert = numbered(alloc, "insert(#0,{a,N})", number)?;
-        steps.push(step(alloc, Ask(0, insert.as_str()))?)?;
-        steps.push(ask(alloc, 0, "lookup(#0,a)")?)?;
+        push(steps, insertion(alloc, number)?)?;
+        push(steps, ask(alloc, 0, "lookup(#0,a)")?)?;
     }
-    Ok(steps)
+    Ok(())
 }
 
-/// The last reply of a run that gives one to each step.
-fn last_reply(node: &mut Node<Fnv>, steps: &[Step]) -> Option<Reply> {
-    let mut replies = node.run(steps).ok()?;
-    if replies.len() != steps.len() {
-        return None;
-    }
-    replies.pop()
+fn push(steps: &mut Vec<Step>, step: Step) -> Result<(), AllocError> {
+    Ok(steps.push(step)?)
 }
 
-/// The last reply of a run that passes over no step.
-fn last_answer(node: &mut Node<Fnv>, steps: &[Step]) -> Option<Reply> {
-    let mut answers = node.run_through(steps).ok()?;
-    if answers.iter().any(|answer| answer.is_none()) {
-        return None;
-    }
-    answers.pop()?
+fn insertion(alloc: Global, number: u32) -> Result<Step, AllocError> {
+    let call = numbered(alloc, "insert(#0,{a,N})", number)?;
+    let step = ask(alloc, 0, call.as_str());
+    drop(call);
+    step
 }
 
 /// Whether it is what was stored last.
-fn is_last(alloc: Global, reply: Option<Reply>) -> Result<bool, AllocError> {
+fn is_last(alloc: Global, reply: Option<&Reply>) -> Result<bool, AllocError> {
     match reply {
-        Some(reply) => is(alloc, &reply, "[{a,2099}]"),
+        Some(reply) => is(alloc, reply, "[{a,2099}]"),
+        None => Ok(false),
+    }
+}
+
+/// Whether a run gives a reply to each step, and the last is what was stored last.
+fn replies_to_each(
+    alloc: Global,
+    node: &mut Node<Fnv>,
+    steps: &[Step],
+) -> Result<bool, AllocError> {
+    match node.run(steps) {
+        Ok(replies) => {
+            let all = replies.len() == steps.len();
+            let last = is_last(alloc, replies.as_slice().last());
+            drop(replies);
+            Ok(last? && all)
+        }
+        Err(fault) => {
+            drop(fault);
+            Ok(false)
+        }
+    }
+}
+
+/// The same of a run that passes over no step.
+fn answers_each(alloc: Global, node: &mut Node<Fnv>, steps: &[Step]) -> Result<bool, AllocError> {
+    let answers = node.run_through(steps)?;
+    let is_whole = answers.iter().all(|answer| answer.is_some());
+    let last = is_last_answer(alloc, answers.as_slice());
+    drop(answers);
+    Ok(last? && is_whole)
+}
+
+fn is_last_answer(alloc: Global, answers: &[Option<Reply>]) -> Result<bool, AllocError> {
+    match answers.last() {
+        Some(answer) => is_last(alloc, answer.as_ref()),
         None => Ok(false),
     }
 }
 
 pub fn runs(alloc: Global, node: &mut Node<Fnv>) -> Result<bool, AllocError> {
     let steps = life(alloc, COUNT)?;
-    is_last(alloc, last_reply(node, steps.as_slice()))
+    let replied = replies_to_each(alloc, node, steps.as_slice());
+    drop(steps);
+    replied
 }
 
 pub fn runs_through(alloc: Global, node: &mut Node<Fnv>) -> Result<bool, AllocError> {
     let steps = life(alloc, COUNT)?;
-    is_last(alloc, last_answer(node, steps.as_slice()))
+    let answered = answers_each(alloc, node, steps.as_slice());
+    drop(steps);
+    answered
 }
 
 #[test]

@@ -3,7 +3,8 @@ ghost use Rattle.std.specs.Prelude.{◌≡◌, []};
 
 use super::super::Event::{Ask, Grow, Ready};
 use super::super::{Event, step};
-use ets_term::Term;
+use crate::tests::kept;
+use ets_term::{Integer, Term};
 use node_core::{Others, Step};
 use std::alloc::{AllocError, Global};
 
@@ -57,10 +58,10 @@ impl Others for Handing {
 
     fn between(&mut self, last: &Term) -> Result<(), AllocError> {
         let turn = self.told.len();
-        let steps = planned(self.alloc, self.plan, turn, last)?;
-        let key = last.try_clone(self.alloc)?;
         self.told.reserve(1)?;
+        let steps = planned(self.alloc, self.plan, turn, last)?;
         self.given.reserve(steps.len())?;
+        let key = last.try_clone(self.alloc)?;
         self.told.push_reserved(key);
         for event in steps {
             self.given.push_reserved((turn, event));
@@ -81,10 +82,14 @@ fn planned(alloc: Global, plan: Plan, turn: usize, last: &Term) -> Result<Vec<St
 
 fn steps_of(alloc: Global, events: &[Event]) -> Result<Vec<Step>, AllocError> {
     let mut steps = Vec::with_capacity(alloc, events.len())?;
+    kept(push_steps(alloc, &mut steps, events), steps)
+}
+
+fn push_steps(alloc: Global, steps: &mut Vec<Step>, events: &[Event]) -> Result<(), AllocError> {
     for event in events {
         steps.push(step(alloc, *event)?)?;
     }
-    Ok(steps)
+    Ok(())
 }
 
 fn again(alloc: Global, turn: usize, last: &Term) -> Result<Vec<Step>, AllocError> {
@@ -94,19 +99,31 @@ fn again(alloc: Global, turn: usize, last: &Term) -> Result<Vec<Step>, AllocErro
     let Ok(bucket) = u32::try_from(turn) else {
         return Err(AllocError);
     };
-    let delete = format!(in alloc; "delete(t,{key})")?;
-    let insert = format!(in alloc; "insert(t,{{{key}}})")?;
-    let events = [
-        Ask(1, delete.as_str()),
-        Ask(1, insert.as_str()),
-        Grow(0),
-        Ready(0, bucket),
-    ];
-    steps_of(alloc, &events)
+    let mut steps = Vec::new(alloc);
+    kept(push_again(alloc, &mut steps, *key, bucket), steps)
+}
+
+fn push_again(
+    alloc: Global,
+    steps: &mut Vec<Step>,
+    key: Integer,
+    bucket: u32,
+) -> Result<(), AllocError> {
+    push_asked(alloc, steps, format!(in alloc; "delete(t,{key})")?)?;
+    push_asked(alloc, steps, format!(in alloc; "insert(t,{{{key}}})")?)?;
+    push_steps(alloc, steps, &[Grow(0), Ready(0, bucket)])
+}
+
+/// Process 1 asks a call.
+fn push_asked(alloc: Global, steps: &mut Vec<Step>, call: String) -> Result<(), AllocError> {
+    let pushed = push_steps(alloc, steps, &[Ask(1, call.as_str())]);
+    drop(call);
+    pushed
 }
 
 fn further(alloc: Global, turn: usize) -> Result<Vec<Step>, AllocError> {
     let key = turn.saturating_add(10);
-    let insert = format!(in alloc; "insert(t,{{{key}}})")?;
-    steps_of(alloc, &[Ask(1, insert.as_str())])
+    let call = format!(in alloc; "insert(t,{{{key}}})")?;
+    let mut steps = Vec::new(alloc);
+    kept(push_asked(alloc, &mut steps, call), steps)
 }
