@@ -55,8 +55,23 @@ fn kept_in(objects: &[Term]) -> Kept {
 }
 
 fn kept_at<R: Rows>(rows: &R, key: Integer) -> Kept {
-    match rows.get(&Term::Int(key)) {
+    let term = Term::Int(key);
+    let kept = match rows.get(&term) {
         Some(objects) => kept_in(objects),
+        None => Kept::Nothing,
+    };
+    drop(term);
+    kept
+}
+
+/// What a slot had that is taken away.
+fn kept_of(objects: Option<Chain>) -> Kept {
+    match objects {
+        Some(objects) => {
+            let kept = kept_in(objects.as_slice());
+            drop(objects);
+            kept
+        }
         None => Kept::Nothing,
     }
 }
@@ -75,16 +90,19 @@ fn insert<R: Rows>(
             rows.put_at(hash, term, objects)?;
             Ok(Kept::Nothing)
         }
-        Entry::Occupied(place) => Ok(kept_in(rows.replace_at(place, objects).as_slice())),
+        Entry::Occupied(place) => {
+            drop(term);
+            Ok(kept_of(Some(rows.replace_at(place, objects))))
+        }
     }
 }
 
 /// Takes a key's slot away, and answers what it had.
 fn remove<R: Rows>(rows: &mut R, key: Integer) -> Kept {
-    match rows.remove(&Term::Int(key)) {
-        Some(objects) => kept_in(objects.as_slice()),
-        None => Kept::Nothing,
-    }
+    let term = Term::Int(key);
+    let objects = rows.remove(&term);
+    drop(term);
+    kept_of(objects)
 }
 
 /// Doubles the buckets now and then, and readies some of them in any order.

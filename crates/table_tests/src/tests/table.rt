@@ -90,17 +90,26 @@ type Life = (Kind, u32, u32, &'static [(Step, Integer)]);
 
 fn plain_runs(alloc: Global, life: Life) -> bool {
     let (kind, keypos, limit, steps) = life;
-    runs(alloc, &mut plain(alloc, kind, keypos, limit), steps)
+    let mut table = plain(alloc, kind, keypos, limit);
+    let all = runs(alloc, &mut table, steps);
+    drop(table);
+    all
 }
 
 fn split_runs(alloc: Global, life: Life) -> Option<bool> {
     let (kind, keypos, limit, steps) = life;
-    Some(runs(alloc, &mut split(alloc, kind, keypos, limit)?, steps))
+    let mut table = split(alloc, kind, keypos, limit)?;
+    let all = runs(alloc, &mut table, steps);
+    drop(table);
+    Some(all)
 }
 
 fn same_runs(alloc: Global, life: Life) -> Option<bool> {
     let (kind, keypos, limit, steps) = life;
-    Some(runs(alloc, &mut same(alloc, kind, keypos, limit)?, steps))
+    let mut table = same(alloc, kind, keypos, limit)?;
+    let all = runs(alloc, &mut table, steps);
+    drop(table);
+    Some(all)
 }
 
 fn all_run(alloc: Global, life: Life) -> bool {

@@ -45,22 +45,31 @@ fn put<R: Rows>(
 ) -> Result<Kept, AllocError> {
     let term = Term::Int(key);
     if let Some(objects) = rows.get(&term) {
-        return Ok(kept_in(objects));
+        let had = kept_in(objects);
+        drop(term);
+        return Ok(had);
     }
     rows.put(vec![in alloc; (term, Chain::one(alloc, Term::Int(value)))]?)?;
     Ok(Kept::Nothing)
 }
 
 fn hold<R: Rows>(rows: &mut R, alloc: Global, key: Integer) -> Kept {
-    match rows.replace(&Term::Int(key), Chain::new(alloc)) {
-        Some(objects) => kept_in(objects.as_slice()),
-        None => Kept::Nothing,
-    }
+    let term = Term::Int(key);
+    let objects = rows.replace(&term, Chain::new(alloc));
+    drop(term);
+    kept_of(objects)
 }
 
 fn remove_at_place<R: Rows>(rows: &mut R, key: Integer) -> Kept {
-    match rows.find(&Term::Int(key)) {
-        Some(place) => kept_in(rows.remove_at(place).1.as_slice()),
+    let term = Term::Int(key);
+    let found = rows.find(&term);
+    drop(term);
+    match found {
+        Some(place) => {
+            let (own, objects) = rows.remove_at(place);
+            drop(own);
+            kept_of(Some(objects))
+        }
         None => Kept::Nothing,
     }
 }
@@ -158,7 +167,10 @@ fn first_of<R: Rows>(rows: &R) -> Option<Integer> {
 
 /// The key behind another, by places.
 fn behind<R: Rows>(rows: &R, key: Integer) -> Option<Integer> {
-    let place = rows.find(&Term::Int(key))?;
+    let term = Term::Int(key);
+    let found = rows.find(&term);
+    drop(term);
+    let place = found?;
     let next = rows.place_behind(place)?;
     let (key, _objects) = rows.slot_at(next);
     Some(number_of(key))
@@ -166,11 +178,14 @@ fn behind<R: Rows>(rows: &R, key: Integer) -> Option<Integer> {
 
 /// Whether the slot behind a key's own has this key.
 fn is_behind<R: Rows>(rows: &R, key: Integer, next: Option<Integer>) -> bool {
-    match rows.next_at(&Term::Int(key)) {
+    let term = Term::Int(key);
+    let is_next = match rows.next_at(&term) {
         Some(Some((key, _objects))) => next == Some(number_of(key)),
         Some(None) => next == None,
         None => false,
-    }
+    };
+    drop(term);
+    is_next
 }
 
 /// Whether a walk from the first slot on comes to each slot and ends there.
@@ -190,8 +205,13 @@ fn walks<R: Rows>(rows: &R) -> bool {
 
 fn listed(alloc: Global) -> Result<Vec<Kept>, AllocError> {
     let mut list = Vec::new(alloc);
-    list.resize(KEYS as usize, Kept::Nothing)?;
-    Ok(list)
+    match list.resize(KEYS as usize, Kept::Nothing) {
+        Ok(()) => Ok(list),
+        Err(_) => {
+            drop(list);
+            Err(AllocError)
+        }
+    }
 }
 
 /// A few calls on keys, growth, and sometimes one on all slots.
@@ -212,25 +232,40 @@ fn round<R: Rows>(
     Ok(agree(rows, list) && all)
 }
 
-/// Whether some thousands of calls give what a list gives.
-fn thousands<R: Rows>(rows: &mut R, alloc: Global) -> Result<bool, AllocError> {
-    let mut list = listed(alloc)?;
+fn rounds<R: Rows>(rows: &mut R, alloc: Global, list: &mut [Kept]) -> Result<bool, AllocError> {
     let mut draws = Draws::new();
     let mut all = true;
     for _ in 0..200 {
-        all = round(rows, alloc, list.as_mut_slice(), &mut draws)? && all;
+        all = round(rows, alloc, list, &mut draws)? && all;
     }
     Ok(all)
 }
 
+/// Whether some thousands of calls give what a list gives.
+fn thousands<R: Rows>(rows: &mut R, alloc: Global) -> Result<bool, AllocError> {
+    let mut list = listed(alloc)?;
+    let all = rounds(rows, alloc, list.as_mut_slice());
+    drop(list);
+    all
+}
+
 fn split_thousands<H: KeyHash + Copy + Drop>(alloc: Global, hash: H) -> Result<bool, AllocError> {
-    thousands(&mut SplitRows::new(alloc, hash)?, alloc)
+    let mut rows = SplitRows::new(alloc, hash)?;
+    let all = thousands(&mut rows, alloc);
+    drop(rows);
+    all
+}
+
+fn plain_thousands(alloc: Global) -> Result<bool, AllocError> {
+    let mut rows = PlainRows::new(alloc);
+    let all = thousands(&mut rows, alloc);
+    drop(rows);
+    all
 }
 
 #[test]
 fn plain_rows_are_a_list(rt: HostRuntime) {
-    let alloc = rt.alloc();
-    assert!(rt; thousands(&mut PlainRows::new(alloc), alloc) == Ok(true));
+    assert!(rt; plain_thousands(rt.alloc()) == Ok(true));
 }
 
 #[test]

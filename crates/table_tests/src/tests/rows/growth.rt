@@ -30,7 +30,10 @@ fn doubles<R: Rows>(rows: &mut R) -> Result<bool, AllocError> {
 }
 
 fn split_doubles(alloc: Global) -> Result<bool, AllocError> {
-    doubles(&mut SplitRows::new(alloc, AllSame)?)
+    let mut rows = SplitRows::new(alloc, AllSame)?;
+    let doubled = doubles(&mut rows);
+    drop(rows);
+    doubled
 }
 
 #[test]
@@ -59,7 +62,10 @@ fn readies_some<R: Rows>(
 }
 
 fn split_readies(alloc: Global, wanted: &[(u32, Readying)]) -> Result<bool, AllocError> {
-    readies_some(&mut SplitRows::new(alloc, AllSame)?, 19, wanted)
+    let mut rows = SplitRows::new(alloc, AllSame)?;
+    let readied = readies_some(&mut rows, 19, wanted);
+    drop(rows);
+    readied
 }
 
 #[test]
@@ -75,7 +81,14 @@ fn is_one_bucket<R: Rows>(rows: &mut R, wanted: &[(u32, Readying)]) -> Result<bo
     Ok(told && grown && rows.buckets() == 1 && rows.least() == None)
 }
 
+fn plain_is_one_bucket(alloc: Global, wanted: &[(u32, Readying)]) -> Result<bool, AllocError> {
+    let mut rows = PlainRows::new(alloc);
+    let told = is_one_bucket(&mut rows, wanted);
+    drop(rows);
+    told
+}
+
 #[test]
 fn plain_rows_have_one_bucket(rt: HostRuntime) {
-    assert!(rt; is_one_bucket(&mut PlainRows::new(rt.alloc()), &ONE_BUCKET) == Ok(true));
+    assert!(rt; plain_is_one_bucket(rt.alloc(), &ONE_BUCKET) == Ok(true));
 }

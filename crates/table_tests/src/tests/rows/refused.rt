@@ -32,6 +32,7 @@ fn told_at<R: Rows>(rows: &R, key: Integer) -> u64 {
         Some(None) => 1,
         None => 0,
     };
+    drop(term);
     mixed(own, behind)
 }
 
@@ -113,7 +114,10 @@ fn empty_again(alloc: Global) -> Result<SplitRows<Fnv>, AllocError> {
 }
 
 fn split_does_again(alloc: Global) -> Result<bool, AllocError> {
-    does_again(&mut empty_again(alloc)?, alloc)
+    let mut rows = empty_again(alloc)?;
+    let done = does_again(&mut rows, alloc);
+    drop(rows);
+    done
 }
 
 #[test]
@@ -122,11 +126,21 @@ fn a_refused_call_is_called_again(rt: HostRuntime) {
 }
 
 fn split_refuses(alloc: Global) -> Result<bool, AllocError> {
-    refuses(&mut empty_again(alloc)?, alloc)
+    let mut rows = empty_again(alloc)?;
+    let refused = refuses(&mut rows, alloc);
+    drop(rows);
+    refused
+}
+
+fn plain_refuses(alloc: Global) -> Result<bool, AllocError> {
+    let mut rows = PlainRows::new(alloc);
+    let refused = refuses(&mut rows, alloc);
+    drop(rows);
+    refused
 }
 
 #[test]
 fn too_much_room_is_refused(rt: HostRuntime) {
     assert!(rt; split_refuses(rt.alloc()) == Ok(true));
-    assert!(rt; refuses(&mut PlainRows::new(rt.alloc()), rt.alloc()) == Ok(true));
+    assert!(rt; plain_refuses(rt.alloc()) == Ok(true));
 }

@@ -6,23 +6,41 @@ const MOMENTS: usize = 1_000;
 /// How many searches there are at each, so that there are more than a million in all.
 const AT_ONCE: usize = 334;
 
+fn bucket_of<H: KeyHash + Copy + Drop>(hash: H, key: &Term, buckets: u32) -> u32 {
+    hash.hash32(key).checked_rem(buckets).unwrap_or(0)
+}
+
+/// Counts a key of a slot with those of its bucket.
+fn count_slot<H: KeyHash + Copy + Drop>(counts: &mut [u64], hash: H, buckets: u32, number: u32) {
+    let key = Term::Int(Integer::from(number));
+    let bucket = bucket_of(hash, &key, buckets);
+    drop(key);
+    if let Some(count) = counts.get_mut(bucket as usize) {
+        *count = count.wrapping_add(1);
+    }
+}
+
+fn zeros(alloc: Global, count: usize) -> Result<Vec<u64>, AllocError> {
+    let mut zeros: Vec<u64> = Vec::new(alloc);
+    match zeros.resize(count, 0) {
+        Ok(()) => Ok(zeros),
+        Err(_) => {
+            drop(zeros);
+            Err(AllocError)
+        }
+    }
+}
+
 /// How many keys of slots each bucket has.
-fn counted<H: KeyHash + Drop>(
+fn counted<H: KeyHash + Copy + Drop>(
     alloc: Global,
     hash: H,
     buckets: u32,
     slots: u32,
 ) -> Result<Vec<u64>, AllocError> {
-    let mut counts: Vec<u64> = Vec::new(alloc);
-    counts.resize(buckets as usize, 0)?;
+    let mut counts = zeros(alloc, buckets as usize)?;
     for number in 0..slots {
-        let bucket = hash
-            .hash32(&Term::Int(Integer::from(number)))
-            .checked_rem(buckets)
-            .unwrap_or(0);
-        if let Some(count) = counts.get_mut(bucket as usize) {
-            *count = count.wrapping_add(1);
-        }
+        count_slot(counts.as_mut_slice(), hash, buckets, number);
     }
     Ok(counts)
 }
@@ -39,7 +57,8 @@ fn is_right<H: KeyHash + Copy + Drop>(
     let key = Term::Int(Integer::from(number));
     let mut steps = Steps::new();
     let found = rows.get_counted(&key, &mut steps).is_some();
-    let bucket = hash.hash32(&key).checked_rem(rows.buckets()).unwrap_or(0);
+    let bucket = bucket_of(hash, &key, rows.buckets());
+    drop(key);
     let most = counts
         .get(bucket as usize)
         .copied()
@@ -79,6 +98,20 @@ fn put_some<R: Rows>(
     Ok(now)
 }
 
+/// Whether searches of rows with so many slots are right.
+fn are_right_now<H: KeyHash + Copy + Drop>(
+    rows: &SplitRows<H>,
+    alloc: Global,
+    hash: H,
+    slots: u32,
+    draws: &mut Draws,
+) -> Result<bool, AllocError> {
+    let counts = counted(alloc, hash, rows.buckets(), slots)?;
+    let right = are_right(rows, hash, counts.as_slice(), slots, draws);
+    drop(counts);
+    Ok(right)
+}
+
 /// Whether all searches of rows with this hash are right, at moments of growth up to so many slots.
 fn finds<H: KeyHash + Copy + Drop>(
     rows: &mut SplitRows<H>,
@@ -92,8 +125,7 @@ fn finds<H: KeyHash + Copy + Drop>(
     for _ in 0..MOMENTS {
         slots = put_some(rows, alloc, slots, most, &mut draws)?;
         ready_some(rows, &mut draws)?;
-        let counts = counted(alloc, hash, rows.buckets(), slots)?;
-        all = are_right(rows, hash, counts.as_slice(), slots, &mut draws) && all;
+        all = are_right_now(rows, alloc, hash, slots, &mut draws)? && all;
     }
     Ok(all)
 }
@@ -103,7 +135,10 @@ fn searches<H: KeyHash + Copy + Drop>(
     hash: H,
     most: u32,
 ) -> Result<bool, AllocError> {
-    finds(&mut SplitRows::new(alloc, hash)?, alloc, hash, most)
+    let mut rows = SplitRows::new(alloc, hash)?;
+    let found = finds(&mut rows, alloc, hash, most);
+    drop(rows);
+    found
 }
 
 #[test]
@@ -127,18 +162,25 @@ fn by_the_greatest_hash_alone(rt: HostRuntime) {
 }
 
 /// How many nodes a search looks at.
-fn steps_for<H: KeyHash + Copy + Drop>(rows: &SplitRows<H>, key: &Term) -> u64 {
+fn steps_for<H: KeyHash + Copy + Drop>(rows: &SplitRows<H>, key: Term) -> u64 {
     let mut steps = Steps::new();
-    let _found = rows.get_counted(key, &mut steps);
+    let _found = rows.get_counted(&key, &mut steps);
+    drop(key);
     steps.count()
 }
 
 fn put_process<R: Rows>(rows: &mut R, alloc: Global, number: u32) -> Result<(), AllocError> {
     let key = Term::Pid(number);
-    if let Entry::Vacant(hash) = rows.entry(&key) {
-        rows.put_at(hash, key, Chain::new(alloc))?;
+    match rows.entry(&key) {
+        Entry::Vacant(hash) => {
+            rows.put_at(hash, key, Chain::new(alloc))?;
+            Ok(())
+        }
+        Entry::Occupied(_) => {
+            drop(key);
+            Ok(())
+        }
     }
-    Ok(())
 }
 
 /// Whether searches for the keys 0 to 7 in 8 ready buckets, and for others, are short.
@@ -151,13 +193,16 @@ fn eight_in_eight(rows: &mut SplitRows<Plain>, alloc: Global) -> Result<bool, Al
     }
     let mut all = true;
     for number in 0..64u32 {
-        all = steps_for(rows, &Term::Pid(number)) <= 3 && all;
+        all = steps_for(rows, Term::Pid(number)) <= 3 && all;
     }
     Ok(all)
 }
 
 fn new_eight_in_eight(alloc: Global) -> Result<bool, AllocError> {
-    eight_in_eight(&mut SplitRows::new(alloc, Plain)?, alloc)
+    let mut rows = SplitRows::new(alloc, Plain)?;
+    let short = eight_in_eight(&mut rows, alloc);
+    drop(rows);
+    short
 }
 
 #[test]
@@ -179,13 +224,16 @@ fn eighths_in_eight(rows: &mut SplitRows<Plain>, alloc: Global) -> Result<bool, 
     let mut all = true;
     for number in 0..64u32 {
         let most = u64::from(number < 8);
-        all = steps_for(rows, &Term::Pid(number)) == most && all;
+        all = steps_for(rows, Term::Pid(number)) == most && all;
     }
     Ok(all)
 }
 
 fn new_eighths_in_eight(alloc: Global) -> Result<bool, AllocError> {
-    eighths_in_eight(&mut SplitRows::new(alloc, Plain)?, alloc)
+    let mut rows = SplitRows::new(alloc, Plain)?;
+    let told = eighths_in_eight(&mut rows, alloc);
+    drop(rows);
+    told
 }
 
 #[test]
@@ -200,14 +248,17 @@ fn thousand_in_one(rows: &mut SplitRows<AllSame>, alloc: Global) -> Result<bool,
     }
     let mut all = true;
     for number in 0..1000u32 {
-        all = steps_for(rows, &Term::Int(Integer::from(number))) <= 1002 && all;
+        all = steps_for(rows, Term::Int(Integer::from(number))) <= 1002 && all;
     }
-    let missed = steps_for(rows, &Term::Int(1000));
+    let missed = steps_for(rows, Term::Int(1000));
     Ok(all && 1000 <= missed && missed <= 1002)
 }
 
 fn new_thousand_in_one(alloc: Global) -> Result<bool, AllocError> {
-    thousand_in_one(&mut SplitRows::new(alloc, AllSame)?, alloc)
+    let mut rows = SplitRows::new(alloc, AllSame)?;
+    let passed = thousand_in_one(&mut rows, alloc);
+    drop(rows);
+    passed
 }
 
 #[test]

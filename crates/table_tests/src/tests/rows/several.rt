@@ -3,27 +3,35 @@ use super::*;
 /// How often three rows are put at once.
 const TIMES: u32 = 100;
 
-/// One row of a key that has one object, its own number.
-fn row(alloc: Global, key: Integer) -> (Term, Chain) {
-    (Term::Int(key), Chain::one(alloc, Term::Int(key)))
+/// One object, this number.
+fn one(alloc: Global, number: Integer) -> Chain {
+    Chain::one(alloc, Term::Int(number))
 }
 
-/// Puts the rows of three keys at once, unless two are the same or one has a slot, and answers whether it did.
+/// Puts the rows of three keys at once, each with its own number, unless two are the same or one has a slot, and answers
+/// whether it did.
 pub fn put_three<R: Rows>(
     rows: &mut R,
     alloc: Global,
     keys: (Integer, Integer, Integer),
 ) -> Result<bool, AllocError> {
-    let (a, first) = row(alloc, keys.0);
-    let (b, second) = row(alloc, keys.1);
-    let (c, third) = row(alloc, keys.2);
+    let (first, second, third) = keys;
+    let a = Term::Int(first);
+    let b = Term::Int(second);
+    let c = Term::Int(third);
     if a == b || b == c || a == c {
+        drop((a, b, c));
         return Ok(false);
     }
     if rows.get(&a).is_some() || rows.get(&b).is_some() || rows.get(&c).is_some() {
+        drop((a, b, c));
         return Ok(false);
     }
-    rows.put(vec![in alloc; (a, first), (b, second), (c, third)]?)?;
+    rows.put(vec![in alloc;
+        (a, one(alloc, first)),
+        (b, one(alloc, second)),
+        (c, one(alloc, third)),
+    ]?)?;
     Ok(true)
 }
 
@@ -49,13 +57,23 @@ fn puts_three_by_three<R: Rows>(rows: &mut R, alloc: Global) -> Result<bool, All
 }
 
 fn split_puts<H: KeyHash + Copy + Drop>(alloc: Global, hash: H) -> Result<bool, AllocError> {
-    puts_three_by_three(&mut SplitRows::new(alloc, hash)?, alloc)
+    let mut rows = SplitRows::new(alloc, hash)?;
+    let put = puts_three_by_three(&mut rows, alloc);
+    drop(rows);
+    put
+}
+
+fn plain_puts(alloc: Global) -> Result<bool, AllocError> {
+    let mut rows = PlainRows::new(alloc);
+    let put = puts_three_by_three(&mut rows, alloc);
+    drop(rows);
+    put
 }
 
 #[test]
 fn three_rows_are_put_at_once(rt: HostRuntime) {
     let alloc = rt.alloc();
-    assert!(rt; puts_three_by_three(&mut PlainRows::new(alloc), alloc) == Ok(true));
+    assert!(rt; plain_puts(alloc) == Ok(true));
     assert!(rt; split_puts(alloc, Fnv) == Ok(true));
     assert!(rt; split_puts(alloc, Even) == Ok(true));
     assert!(rt; split_puts(alloc, Last) == Ok(true));

@@ -66,7 +66,17 @@ fn sweeps<R: Rows>(rows: &mut R, alloc: Global) -> Result<bool, AllocError> {
 }
 
 fn split_serves(alloc: Global) -> Result<bool, AllocError> {
-    serves(&mut SplitRows::new(alloc, Fnv)?, alloc)
+    let mut rows = SplitRows::new(alloc, Fnv)?;
+    let served = serves(&mut rows, alloc);
+    drop(rows);
+    served
+}
+
+fn plain_serves(alloc: Global) -> Result<bool, AllocError> {
+    let mut rows = PlainRows::new(alloc);
+    let served = serves(&mut rows, alloc);
+    drop(rows);
+    served
 }
 
 #[test]
@@ -76,11 +86,21 @@ fn split_rows_serve(rt: HostRuntime) {
 
 #[test]
 fn plain_rows_serve(rt: HostRuntime) {
-    assert!(rt; serves(&mut PlainRows::new(rt.alloc()), rt.alloc()) == Ok(true));
+    assert!(rt; plain_serves(rt.alloc()) == Ok(true));
 }
 
 fn split_sweeps(alloc: Global) -> Result<bool, AllocError> {
-    sweeps(&mut SplitRows::new(alloc, Fnv)?, alloc)
+    let mut rows = SplitRows::new(alloc, Fnv)?;
+    let swept = sweeps(&mut rows, alloc);
+    drop(rows);
+    swept
+}
+
+fn plain_sweeps(alloc: Global) -> Result<bool, AllocError> {
+    let mut rows = PlainRows::new(alloc);
+    let swept = sweeps(&mut rows, alloc);
+    drop(rows);
+    swept
 }
 
 #[test]
@@ -90,5 +110,5 @@ fn split_rows_are_swept(rt: HostRuntime) {
 
 #[test]
 fn plain_rows_are_swept(rt: HostRuntime) {
-    assert!(rt; sweeps(&mut PlainRows::new(rt.alloc()), rt.alloc()) == Ok(true));
+    assert!(rt; plain_sweeps(rt.alloc()) == Ok(true));
 }

@@ -1,10 +1,10 @@
 // Lists of 10,000 objects whose keys repeat: the value of one is the last digit of its place, its key the rest of that
 // by 97.
-use super::steps::{inserted, inserted_new};
-use super::terms::{digits, tuple};
+use super::steps::{inserted, inserted_new, looked_up};
+use super::terms::tuple;
 use super::{LIMIT, plain, split};
 use bucket_table::Rows;
-use ets_term::{Integer, Term};
+use ets_term::{Integer, Items, Term};
 use std::alloc::Global;
 use std::process::Abort;
 use table_ops::{Kind, Table};
@@ -25,44 +25,52 @@ const ROWS: [Row; 6] = [
 /// The digits of key 0 in a duplicate bag, 104 of them.
 const SAME_KEY: Integer = 17_411_923_686_422_082_608_420_841_024_488_311_317;
 
-fn objects(alloc: Global) -> Option<Vec<Term>> {
-    let mut objects = Vec::new(alloc);
+fn push_objects(alloc: Global, objects: &mut Items<Term>) -> Option<()> {
     for place in 0..10_000u32 {
         let place = Integer::from(place);
         objects.push(tuple(alloc, &[place % 97, place % 10])?).ok()?;
     }
-    Some(objects)
+    Some(())
 }
 
 fn has<R: Rows>(table: &Table<R>, row: Row) -> bool {
     let (_, _, _, size, slots, values) = row;
-    let first = digits(table.lookup(&Term::Int(0)));
-    table.size() == size && table.slots() == slots && first == values
+    table.size() == size && table.slots() == slots && looked_up(table, 0) == values
 }
 
-/// Whether the list is inserted as the row says, at once and as new; and then not as new again.
-fn does<R: Rows>(first: &mut Table<R>, second: &mut Table<R>, list: &[Term], row: Row) -> bool {
+/// Whether the list is inserted as the row says.
+fn inserts<R: Rows>(table: &mut Table<R>, list: &[Term], row: Row) -> bool {
+    let (_, _, answer, _, _, _) = row;
+    inserted(table, list) == answer && has(table, row)
+}
+
+/// Whether the list is inserted as new as the row says, and then not as new again.
+fn inserts_new<R: Rows>(table: &mut Table<R>, list: &[Term], row: Row) -> bool {
     let (_, _, answer, _, _, _) = row;
     let again = if answer == 1 { 0 } else { answer };
-    inserted(first, list) == answer
-        && has(first, row)
-        && inserted_new(second, list) == answer
-        && has(second, row)
-        && inserted_new(second, list) == again
+    inserted_new(table, list) == answer && has(table, row) && inserted_new(table, list) == again
 }
 
 fn plain_does(alloc: Global, list: &[Term], row: Row) -> bool {
     let (kind, limit, _, _, _, _) = row;
     let mut first = plain(alloc, kind, 1, limit);
+    let done = inserts(&mut first, list, row);
+    drop(first);
     let mut second = plain(alloc, kind, 1, limit);
-    does(&mut first, &mut second, list, row)
+    let done_new = inserts_new(&mut second, list, row);
+    drop(second);
+    done && done_new
 }
 
 fn split_does(alloc: Global, list: &[Term], row: Row) -> Option<bool> {
     let (kind, limit, _, _, _, _) = row;
     let mut first = split(alloc, kind, 1, limit)?;
+    let done = inserts(&mut first, list, row);
+    drop(first);
     let mut second = split(alloc, kind, 1, limit)?;
-    Some(does(&mut first, &mut second, list, row))
+    let done_new = inserts_new(&mut second, list, row);
+    drop(second);
+    Some(done && done_new)
 }
 
 /// The place of the first row that says otherwise of the list.
@@ -76,8 +84,12 @@ fn wrong_row(alloc: Global, list: &[Term], rows: &[Row]) -> Option<usize> {
 }
 
 fn lists_are_inserted(alloc: Global, rows: &[Row]) -> Option<bool> {
-    let list = objects(alloc)?;
-    Some(wrong_row(alloc, list.as_slice(), rows) == None)
+    let mut list = Items::new(alloc);
+    let pushed = push_objects(alloc, &mut list);
+    let wrong = wrong_row(alloc, list.as_slice(), rows);
+    drop(list);
+    pushed?;
+    Some(wrong == None)
 }
 
 #[test]

@@ -63,15 +63,23 @@ fn agree<A: Rows, B: Rows>(
 
 fn agrees_with_plain<B: Rows>(alloc: Global, second: &mut Table<B>) -> bool {
     let mut first = plain(alloc, second.kind(), 1, 1_000_000);
-    agree(alloc, &mut first, second, CALLS)
+    let alike = agree(alloc, &mut first, second, CALLS);
+    drop(first);
+    alike
 }
 
 fn fnv_agrees(alloc: Global, kind: Kind) -> Option<bool> {
-    Some(agrees_with_plain(alloc, &mut split(alloc, kind, 1, 1_000_000)?))
+    let mut table = split(alloc, kind, 1, 1_000_000)?;
+    let alike = agrees_with_plain(alloc, &mut table);
+    drop(table);
+    Some(alike)
 }
 
 fn same_agrees(alloc: Global, kind: Kind) -> Option<bool> {
-    Some(agrees_with_plain(alloc, &mut same(alloc, kind, 1, 1_000_000)?))
+    let mut table = same(alloc, kind, 1, 1_000_000)?;
+    let alike = agrees_with_plain(alloc, &mut table);
+    drop(table);
+    Some(alike)
 }
 
 fn both_agree(alloc: Global, kind: Kind) -> bool {
@@ -136,13 +144,22 @@ fn has_all<R: Rows>(alloc: Global, table: &mut Table<R>, last: Integer) -> bool 
     runs(alloc, table, &rows)
 }
 
+fn plain_fills(alloc: Global) -> bool {
+    let mut table = plain(alloc, Kind::Set, 1, 1_000_000);
+    let filled = fills(alloc, &mut table, 10_000);
+    drop(table);
+    filled
+}
+
 fn fnv_fills(alloc: Global) -> Option<bool> {
-    Some(fills(alloc, &mut split(alloc, Kind::Set, 1, 1_000_000)?, 10_000))
+    let mut table = split(alloc, Kind::Set, 1, 1_000_000)?;
+    let filled = fills(alloc, &mut table, 10_000);
+    drop(table);
+    Some(filled)
 }
 
 #[test]
 fn fills_and_empties(rt: HostRuntime) {
-    let alloc = rt.alloc();
-    assert!(rt; fills(alloc, &mut plain(alloc, Kind::Set, 1, 1_000_000), 10_000));
-    assert!(rt; fnv_fills(alloc) == Some(true));
+    assert!(rt; plain_fills(rt.alloc()));
+    assert!(rt; fnv_fills(rt.alloc()) == Some(true));
 }

@@ -1,10 +1,9 @@
 // What is an object: its key, its depth, and lists in which one is none.
-use super::steps::{inserted, inserted_new};
-use super::terms::{atom, both, tuple, whole};
+use super::steps::{count_of, insert, inserted, inserted_new, ops, specs};
+use super::terms::{Part, atom, tuple, tuple_of, whole};
 use super::{BADARG, LIMIT, Life, Step, plain, split, wrong};
 use bucket_table::Rows;
-use counters::{read_element_specs, read_ops};
-use ets_term::{Integer, Term};
+use ets_term::{Integer, Items, Term};
 use std::alloc::Global;
 use std::process::Abort;
 use std::slice;
@@ -75,64 +74,119 @@ fn keys_and_depths_of_objects(rt: HostRuntime) {
 
 /// The pair of `'$end_of_table'` and 1.
 fn at_end(alloc: Global) -> Option<Term> {
-    both(alloc, atom(alloc, "$end_of_table")?, Term::Int(1))
+    tuple_of(alloc, &[Part::Atom("$end_of_table"), Part::Int(1)])
 }
 
-/// What the calls that insert and update answer where the key is `'$end_of_table'`.
-fn stored_at_end<R: Rows>(alloc: Global, table: &mut Table<R>) -> Option<[bool; 5]> {
-    let end = atom(alloc, "$end_of_table")?;
+/// Whether an object whose key is `'$end_of_table'` is not inserted.
+fn inserts_none<R: Rows>(table: &mut Table<R>, object: &Term) -> bool {
+    inserted(table, slice::from_ref(object)) == BADARG
+        && inserted_new(table, slice::from_ref(object)) == BADARG
+}
+
+/// Whether no counter of that key is counted, with the object as a Default or without.
+fn counts_none<R: Rows>(
+    alloc: Global,
+    table: &mut Table<R>,
+    end: &Term,
+    object: &Term,
+) -> Option<bool> {
+    let ops = ops(alloc, 1, 1)?;
+    let alone = table.update_counter(end, &ops, None).err();
+    let with_default = table.update_counter(end, &ops, Some(object)).err();
+    drop(ops);
+    Some(alone.is_some() && with_default.is_some())
+}
+
+/// Whether no element of that key is written.
+fn writes_none<R: Rows>(alloc: Global, table: &mut Table<R>, end: &Term) -> Option<bool> {
+    let specs = specs(alloc, 5)?;
+    Some(table.update_element(end, specs, None) == Ok(false))
+}
+
+/// Whether that key has nothing to take and nothing to delete.
+fn deletes_none<R: Rows>(table: &mut Table<R>, end: &Term, object: &Term) -> bool {
+    let taken = count_of(table.take(end, false).ok());
+    table.delete_key(end, true);
+    let deleted = table.delete_object(object, true);
+    taken == Some(0) && deleted.is_err() && table.slots() == 0
+}
+
+/// Whether that key has nothing to read.
+fn reads_none<R: Rows>(table: &Table<R>, end: &Term) -> bool {
+    let element = table.lookup_element(end, 1).err();
+    element.is_some() && table.lookup(end).is_empty() && !table.member(end)
+}
+
+/// Whether the calls answer so of `'$end_of_table'` and an object of that key.
+fn refuses_end<R: Rows>(
+    alloc: Global,
+    table: &mut Table<R>,
+    end: &Term,
+    object: &Term,
+) -> Option<bool> {
+    Some(
+        inserts_none(table, object)
+            && counts_none(alloc, table, end, object)?
+            && writes_none(alloc, table, end)?
+            && deletes_none(table, end, object)
+            && reads_none(table, end),
+    )
+}
+
+fn has_none_at<R: Rows>(alloc: Global, table: &mut Table<R>, end: &Term) -> Option<bool> {
     let object = at_end(alloc)?;
-    let ops = read_ops(alloc, &Term::Int(1), 1).ok()?;
-    let specs = read_element_specs(alloc, &tuple(alloc, &[2, 5])?, 1).ok()?;
-    Some([
-        inserted(table, slice::from_ref(&object)) == BADARG,
-        inserted_new(table, slice::from_ref(&object)) == BADARG,
-        table.update_counter(&end, &ops, None).is_err(),
-        table.update_counter(&end, &ops, Some(&object)).is_err(),
-        table.update_element(&end, specs, None) == Ok(false),
-    ])
+    let none = refuses_end(alloc, table, end, &object);
+    drop(object);
+    none
 }
 
-/// What the others answer.
-fn read_at_end<R: Rows>(alloc: Global, table: &mut Table<R>) -> Option<[bool; 5]> {
+fn has_no_end<R: Rows>(alloc: Global, table: &mut Table<R>) -> Option<bool> {
     let end = atom(alloc, "$end_of_table")?;
-    let object = at_end(alloc)?;
-    let taken = table.take(&end, false).ok()?;
-    table.delete_key(&end, true);
-    Some([
-        table.lookup(&end).is_empty() && !table.member(&end),
-        table.lookup_element(&end, 1).is_err(),
-        taken.is_empty(),
-        table.delete_object(&object, true).is_err(),
-        table.slots() == 0,
-    ])
+    let none = has_none_at(alloc, table, &end);
+    drop(end);
+    none
 }
 
-fn has_no_end<R: Rows>(alloc: Global, table: &mut Table<R>) -> bool {
-    stored_at_end(alloc, table) == Some([true; 5]) && read_at_end(alloc, table) == Some([true; 5])
+fn plain_has_no_end(alloc: Global) -> Option<bool> {
+    let mut table = plain(alloc, Kind::Set, 1, 10);
+    let none = has_no_end(alloc, &mut table);
+    drop(table);
+    none
 }
 
 fn split_has_no_end(alloc: Global) -> Option<bool> {
-    Some(has_no_end(alloc, &mut split(alloc, Kind::Set, 1, 10)?))
+    let mut table = split(alloc, Kind::Set, 1, 10)?;
+    let none = has_no_end(alloc, &mut table);
+    drop(table);
+    none
 }
 
 #[test]
 fn end_of_table_is_no_key(rt: HostRuntime) {
-    let alloc = rt.alloc();
-    assert!(rt; has_no_end(alloc, &mut plain(alloc, Kind::Set, 1, 10)));
-    assert!(rt; split_has_no_end(alloc) == Some(true));
+    assert!(rt; plain_has_no_end(rt.alloc()) == Some(true));
+    assert!(rt; split_has_no_end(rt.alloc()) == Some(true));
 }
 
-/// Objects of the keys below `length`, with this term in the place of one.
-fn with_bad(alloc: Global, length: usize, place: usize, bad: Term) -> Option<Vec<Term>> {
-    let mut objects = Vec::new(alloc);
+/// The bad term at its place, and objects of the keys at all others.
+fn object_at(alloc: Global, key: usize, place: usize, bad: &Term) -> Option<Term> {
+    if key == place {
+        bad.try_clone(alloc).ok()
+    } else {
+        tuple(alloc, &[whole(key), 1])
+    }
+}
+
+fn push_objects(
+    alloc: Global,
+    objects: &mut Items<Term>,
+    length: usize,
+    place: usize,
+    bad: &Term,
+) -> Option<()> {
     for key in 0..length {
-        objects.push(tuple(alloc, &[whole(key), 1])?).ok()?;
+        objects.push(object_at(alloc, key, place, bad)?).ok()?;
     }
-    if place < objects.len() {
-        objects[place] = bad;
-    }
-    Some(objects)
+    Some(())
 }
 
 /// Whether a list of this length with such a term at a place is not inserted.
@@ -143,10 +197,12 @@ fn refuses_at<R: Rows>(
     place: usize,
     bad: &Term,
 ) -> Option<bool> {
-    let copy = bad.try_clone(alloc).ok()?;
-    let objects = with_bad(alloc, length, place, copy)?;
+    let mut objects = Items::new(alloc);
+    let pushed = push_objects(alloc, &mut objects, length, place, bad);
     let first = inserted(table, objects.as_slice());
     let second = inserted_new(table, objects.as_slice());
+    drop(objects);
+    pushed?;
     Some(first == BADARG && second == BADARG && table.size() == 1)
 }
 
@@ -160,21 +216,40 @@ fn refuses<R: Rows>(alloc: Global, table: &mut Table<R>, bad: &Term) -> bool {
     refuses_at(alloc, table, 1, 0, bad) == Some(true)
 }
 
+/// The same of a term that is made for it.
+fn refuses_made<R: Rows>(alloc: Global, table: &mut Table<R>, made: Option<Term>) -> Option<bool> {
+    let bad = made?;
+    let refused = refuses(alloc, table, &bad);
+    drop(bad);
+    Some(refused)
+}
+
 /// Whether no list with a term that is no object is inserted into a table of `{3,0}`.
 fn refuses_all<R: Rows>(alloc: Global, table: &mut Table<R>) -> Option<bool> {
-    let stands = inserted(table, &[tuple(alloc, &[3, 0])?]) == 1;
-    let first = refuses(alloc, table, &Term::Int(7));
-    let second = refuses(alloc, table, &tuple(alloc, &[])?);
-    Some(stands && first && second && refuses(alloc, table, &at_end(alloc)?))
+    Some(
+        insert(table, tuple(alloc, &[3, 0]))? == 1
+            && refuses_made(alloc, table, Some(Term::Int(7)))?
+            && refuses_made(alloc, table, tuple(alloc, &[]))?
+            && refuses_made(alloc, table, at_end(alloc))?,
+    )
+}
+
+fn plain_refuses_all(alloc: Global) -> Option<bool> {
+    let mut table = plain(alloc, Kind::Set, 1, 10);
+    let refused = refuses_all(alloc, &mut table);
+    drop(table);
+    refused
 }
 
 fn split_refuses_all(alloc: Global) -> Option<bool> {
-    refuses_all(alloc, &mut split(alloc, Kind::DuplicateBag, 1, 10)?)
+    let mut table = split(alloc, Kind::DuplicateBag, 1, 10)?;
+    let refused = refuses_all(alloc, &mut table);
+    drop(table);
+    refused
 }
 
 #[test]
 fn a_bad_object_at_each_place(rt: HostRuntime) {
-    let alloc = rt.alloc();
-    assert!(rt; refuses_all(alloc, &mut plain(alloc, Kind::Set, 1, 10)) == Some(true));
-    assert!(rt; split_refuses_all(alloc) == Some(true));
+    assert!(rt; plain_refuses_all(rt.alloc()) == Some(true));
+    assert!(rt; split_refuses_all(rt.alloc()) == Some(true));
 }

@@ -83,7 +83,10 @@ fn wrong_again<R: Rows>(
 }
 
 fn wrong_plain(alloc: Global, kind: Kind, steps: &[(Step, Integer)]) -> Option<usize> {
-    wrong_again(alloc, &mut plain(alloc, kind, 1, 9), steps)
+    let mut table = plain(alloc, kind, 1, 9);
+    let place = wrong_again(alloc, &mut table, steps);
+    drop(table);
+    place
 }
 
 #[test]
@@ -118,7 +121,10 @@ fn wrong_split<H: KeyHash + Copy + Drop>(
     kind: Kind,
     steps: &[(Step, Integer)],
 ) -> Option<usize> {
-    wrong_again(alloc, &mut split_again(alloc, hash, kind)?, steps)
+    let mut table = split_again(alloc, hash, kind)?;
+    let place = wrong_again(alloc, &mut table, steps);
+    drop(table);
+    place
 }
 
 #[test]

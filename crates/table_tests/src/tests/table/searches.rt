@@ -1,10 +1,11 @@
 // How many objects a search tries: those of the key that is bound, else all. The objects are `{Key,0}` of the keys 1 to
 // 1,000.
-use super::terms::{of_keys, one, tuple, under, with_value};
+use super::steps::{count_of, insert, insert_all, matched};
+use super::terms::{of_keys, tuple, tuples, under, with_value};
 use super::{plain, split};
 use bucket_table::Rows;
 use ets_term::{Integer, Term};
-use match_spec::Pattern;
+use match_spec::{Pattern, Spec};
 use std::alloc::Global;
 use std::process::Abort;
 use table_ops::{Kind, Looks, Table};
@@ -14,35 +15,41 @@ type Found = Option<(usize, usize, u64)>;
 
 fn fill<R: Rows>(alloc: Global, table: &mut Table<R>) -> Option<()> {
     for key in 1..1_001u32 {
-        let object = tuple(alloc, &[Integer::from(key), 0])?;
-        table.insert(&[object]).ok()?;
+        insert(table, tuple(alloc, &[Integer::from(key), 0]))?;
     }
     Some(())
 }
 
-/// By `match` and `match_object`.
-fn matched<R: Rows>(table: &Table<R>, pattern: &Pattern) -> Found {
+/// By `select` and `select_count`.
+fn selected_by<R: Rows>(table: &Table<R>, spec: &Spec) -> Found {
     let mut looks = Looks::new();
-    let bindings = table.matches_counted(pattern, &mut looks).ok()?;
-    let objects = table.match_objects_counted(pattern, &mut looks).ok()?;
-    Some((bindings.len(), objects.len(), looks.count()))
+    let results = count_of(table.select_counted(spec, &mut looks).ok())?;
+    let count = table.select_count_counted(spec, &mut looks).ok()?;
+    Some((results, count, looks.count()))
 }
 
-/// By `select` and `select_count`, with a clause for each key.
+/// The same with a clause for each key.
 fn selected<R: Rows>(alloc: Global, table: &Table<R>, keys: &[Integer]) -> Found {
     let spec = of_keys(alloc, keys)?;
-    let mut looks = Looks::new();
-    let results = table.select_counted(&spec, &mut looks).ok()?;
-    let count = table.select_count_counted(&spec, &mut looks).ok()?;
-    Some((results.len(), count, looks.count()))
+    let found = selected_by(table, &spec);
+    drop(spec);
+    found
+}
+
+/// By `match` and `match_object` with a pattern that is made for it.
+fn matched_by<R: Rows>(table: &Table<R>, made: Option<Pattern>) -> Found {
+    let pattern = made?;
+    let found = matched(table, &pattern);
+    drop(pattern);
+    found
 }
 
 fn matches_key<R: Rows>(alloc: Global, table: &Table<R>, key: Integer) -> Found {
-    matched(table, &under(alloc, key)?)
+    matched_by(table, under(alloc, key))
 }
 
 fn matches_value<R: Rows>(alloc: Global, table: &Table<R>, value: Integer) -> Found {
-    matched(table, &with_value(alloc, value)?)
+    matched_by(table, with_value(alloc, value))
 }
 
 fn matches_all<R: Rows>(alloc: Global, table: &Table<R>) -> bool {
@@ -52,11 +59,22 @@ fn matches_all<R: Rows>(alloc: Global, table: &Table<R>) -> bool {
         && matches_value(alloc, table, 0) == Some((1_000, 1_000, 2_000))
 }
 
+fn is_zero_alone(bindings: &[Term]) -> bool {
+    match bindings {
+        [Term::List(bound)] => matches!(bound.as_slice(), [Term::Int(0)]),
+        _ => false,
+    }
+}
+
 /// `{7,'$1'}` answers `[[0]]`.
 fn answers_bindings<R: Rows>(alloc: Global, table: &Table<R>) -> Option<bool> {
-    let bindings = table.matches(&under(alloc, 7)?).ok()?;
-    let wanted = one(alloc, one(alloc, Term::Int(0))?)?;
-    Some(Term::List(bindings) == wanted)
+    let pattern = under(alloc, 7)?;
+    let found = table.matches(&pattern);
+    drop(pattern);
+    let bindings = found.ok()?;
+    let same = is_zero_alone(bindings.as_slice());
+    drop(bindings);
+    Some(same)
 }
 
 fn selects_all<R: Rows>(alloc: Global, table: &Table<R>) -> bool {
@@ -71,15 +89,18 @@ fn selects_all<R: Rows>(alloc: Global, table: &Table<R>) -> bool {
 fn deleted<R: Rows>(alloc: Global, table: &mut Table<R>, keys: &[Integer]) -> Found {
     let spec = of_keys(alloc, keys)?;
     let mut looks = Looks::new();
-    let gone = table.select_delete_counted(&spec, false, &mut looks).ok()?;
-    Some((gone, table.size(), looks.count()))
+    let gone = table.select_delete_counted(&spec, false, &mut looks);
+    drop(spec);
+    Some((gone.ok()?, table.size(), looks.count()))
 }
 
 /// Deletes by the pattern of a key: how many are left, with slots and without, and how many objects are tried.
 fn unmatched<R: Rows>(alloc: Global, table: &mut Table<R>, key: Integer) -> Found {
     let pattern = under(alloc, key)?;
     let mut looks = Looks::new();
-    table.match_delete_counted(&pattern, true, &mut looks).ok()?;
+    let done = table.match_delete_counted(&pattern, true, &mut looks);
+    drop(pattern);
+    done.ok()?;
     Some((table.slots(), table.size(), looks.count()))
 }
 
@@ -93,11 +114,12 @@ fn deletes_all<R: Rows>(alloc: Global, table: &mut Table<R>) -> bool {
         && selected(alloc, table, &[10, 11]) == Some((2, 2, 1_994))
 }
 
+/// The pairs of the key 7, three times, and of the keys beside it.
+const SEVEN_THRICE: [[Integer; 2]; 5] = [[6, 0], [7, 0], [7, 0], [7, 0], [8, 0]];
+
 /// Three objects under one key of a duplicate bag are three tries.
 fn tries_three<R: Rows>(alloc: Global, table: &mut Table<R>) -> Option<bool> {
-    for key in [6, 7, 7, 7, 8] {
-        table.insert(&[tuple(alloc, &[key, 0])?]).ok()?;
-    }
+    insert_all(table, tuples(alloc, &SEVEN_THRICE))?;
     let three = matches_key(alloc, table, 7) == Some((3, 3, 6));
     let all = selected(alloc, table, &[7, 6]) == Some((4, 4, 10));
     Some(three && all)
@@ -109,24 +131,42 @@ fn searches<R: Rows>(alloc: Global, table: &mut Table<R>) -> Option<bool> {
     Some(reads && selects_all(alloc, table) && deletes_all(alloc, table))
 }
 
+fn plain_searches(alloc: Global) -> Option<bool> {
+    let mut table = plain(alloc, Kind::Set, 1, 1_000);
+    let found = searches(alloc, &mut table);
+    drop(table);
+    found
+}
+
 fn split_searches(alloc: Global) -> Option<bool> {
-    searches(alloc, &mut split(alloc, Kind::Set, 1, 1_000)?)
+    let mut table = split(alloc, Kind::Set, 1, 1_000)?;
+    let found = searches(alloc, &mut table);
+    drop(table);
+    found
+}
+
+fn plain_tries_three(alloc: Global) -> Option<bool> {
+    let mut table = plain(alloc, Kind::DuplicateBag, 1, 10);
+    let tried = tries_three(alloc, &mut table);
+    drop(table);
+    tried
 }
 
 fn split_tries_three(alloc: Global) -> Option<bool> {
-    tries_three(alloc, &mut split(alloc, Kind::DuplicateBag, 1, 10)?)
+    let mut table = split(alloc, Kind::DuplicateBag, 1, 10)?;
+    let tried = tries_three(alloc, &mut table);
+    drop(table);
+    tried
 }
 
 #[test]
 fn bound_keys(rt: HostRuntime) {
-    let alloc = rt.alloc();
-    assert!(rt; searches(alloc, &mut plain(alloc, Kind::Set, 1, 1_000)) == Some(true));
-    assert!(rt; split_searches(alloc) == Some(true));
+    assert!(rt; plain_searches(rt.alloc()) == Some(true));
+    assert!(rt; split_searches(rt.alloc()) == Some(true));
 }
 
 #[test]
 fn bound_keys_of_bags(rt: HostRuntime) {
-    let alloc = rt.alloc();
-    assert!(rt; tries_three(alloc, &mut plain(alloc, Kind::DuplicateBag, 1, 10)) == Some(true));
-    assert!(rt; split_tries_three(alloc) == Some(true));
+    assert!(rt; plain_tries_three(rt.alloc()) == Some(true));
+    assert!(rt; split_tries_three(rt.alloc()) == Some(true));
 }

@@ -1,10 +1,12 @@
 // What a step does to a table, and the number that tells its answer.
-use super::terms::{below, both, digits, nested, number, total, tuple, under, whole};
+use super::terms::{below, both, digits, nested, number, total, tuple, tuples, under, whole};
 use super::{BADARG, LIMIT, MEMORY, Step};
 use bucket_table::Rows;
-use counters::{read_element_specs, read_ops};
-use ets_term::{Integer, Position, Term};
+use counters::{ElementSpecs, Ops, read_element_specs, read_ops};
+use ets_term::{Integer, Items, Position, Term};
+use match_spec::Pattern;
 use std::alloc::Global;
+use std::slice;
 use table_ops::{Looks, Refusal, Table};
 
 pub fn refused(refusal: Refusal) -> Integer {
@@ -31,25 +33,58 @@ pub fn inserted_new<R: Rows>(table: &mut Table<R>, objects: &[Term]) -> Integer 
 }
 
 fn element<R: Rows>(table: &Table<R>, key: Integer, position: Position) -> Integer {
-    match table.lookup_element(&Term::Int(key), position) {
-        Ok(Term::List(elements)) => whole(elements.len()),
-        Ok(element) => number(Some(&element)),
+    let key = Term::Int(key);
+    let found = table.lookup_element(&key, position);
+    drop(key);
+    match found {
+        Ok(element) => {
+            let told = told_by(&element);
+            drop(element);
+            told
+        }
         Err(refusal) => refused(refusal),
+    }
+}
+
+/// The length of a list, or an integer.
+fn told_by(element: &Term) -> Integer {
+    match element {
+        Term::List(elements) => whole(elements.len()),
+        _ => number(Some(element)),
     }
 }
 
 fn taken<R: Rows>(table: &mut Table<R>, key: Integer, hold: bool) -> Integer {
-    match table.take(&Term::Int(key), hold) {
-        Ok(objects) => digits(objects.as_slice()),
+    let key = Term::Int(key);
+    let taken = table.take(&key, hold);
+    drop(key);
+    match taken {
+        Ok(objects) => {
+            let told = digits(objects.as_slice());
+            drop(objects);
+            told
+        }
         Err(_) => MEMORY,
     }
 }
 
-fn gone<R: Rows>(table: &mut Table<R>, object: &Term, hold: bool) -> Integer {
-    match table.delete_object(object, hold) {
-        Ok(()) => whole(table.size()),
-        Err(refusal) => refused(refusal),
+/// Deletes an object that is made for it.
+fn gone<R: Rows>(table: &mut Table<R>, made: Option<Term>, hold: bool) -> Option<Integer> {
+    let object = made?;
+    let deleted = table.delete_object(&object, hold);
+    drop(object);
+    match deleted {
+        Ok(()) => Some(whole(table.size())),
+        Err(refusal) => Some(refused(refusal)),
     }
+}
+
+/// The update that adds an increment to the element behind the key.
+pub fn ops(alloc: Global, increment: Integer, keypos: u32) -> Option<Ops> {
+    let update = Term::Int(increment);
+    let ops = read_ops(alloc, &update, keypos);
+    drop(update);
+    ops.ok()
 }
 
 /// A counter's update of the element behind the key, with a Default `{0,Start}` or without.
@@ -60,9 +95,17 @@ fn counted<R: Rows>(
     increment: Integer,
     default: Option<&Term>,
 ) -> Option<Integer> {
-    let ops = read_ops(alloc, &Term::Int(increment), table.keypos()).ok()?;
-    match table.update_counter(&Term::Int(key), &ops, default) {
-        Ok(answer) => Some(number(Some(&answer))),
+    let ops = ops(alloc, increment, table.keypos())?;
+    let key = Term::Int(key);
+    let counted = table.update_counter(&key, &ops, default);
+    drop(key);
+    drop(ops);
+    match counted {
+        Ok(answer) => {
+            let told = number(Some(&answer));
+            drop(answer);
+            Some(told)
+        }
         Err(refusal) => Some(refused(refusal)),
     }
 }
@@ -75,47 +118,76 @@ fn counted_from<R: Rows>(
     start: Integer,
 ) -> Option<Integer> {
     let default = tuple(alloc, &[0, start])?;
-    counted(alloc, table, key, increment, Some(&default))
+    let told = counted(alloc, table, key, increment, Some(&default));
+    drop(default);
+    told
 }
 
-/// Writes the second element. The update is read as for a key that stands first: a table asks again.
+/// The update that writes a value to the second element. It is read as for a key that stands first: a table asks again.
+pub fn specs(alloc: Global, value: Integer) -> Option<ElementSpecs> {
+    let update = tuple(alloc, &[2, value])?;
+    let specs = read_element_specs(alloc, &update, 1);
+    drop(update);
+    specs.ok()
+}
+
+/// Writes the second element.
 fn written<R: Rows>(
     alloc: Global,
     table: &mut Table<R>,
     key: Integer,
     value: Integer,
 ) -> Option<Integer> {
-    let update = tuple(alloc, &[2, value])?;
-    let specs = read_element_specs(alloc, &update, 1).ok()?;
-    match table.update_element(&Term::Int(key), specs, None) {
+    let specs = specs(alloc, value)?;
+    let key = Term::Int(key);
+    let updated = table.update_element(&key, specs, None);
+    drop(key);
+    match updated {
         Ok(true) => Some(1),
         Ok(false) => Some(0),
         Err(refusal) => Some(refused(refusal)),
     }
 }
 
+/// How many there are.
+pub fn count_of(found: Option<Items<Term>>) -> Option<usize> {
+    let items = found?;
+    let count = items.len();
+    drop(items);
+    Some(count)
+}
+
+/// How many answers a pattern has by `match` and by `match_object`, and how many objects the two try.
+pub fn matched<R: Rows>(table: &Table<R>, pattern: &Pattern) -> Option<(usize, usize, u64)> {
+    let mut looks = Looks::new();
+    let bindings = count_of(table.matches_counted(pattern, &mut looks).ok())?;
+    let objects = count_of(table.match_objects_counted(pattern, &mut looks).ok())?;
+    Some((bindings, objects, looks.count()))
+}
+
 /// How many answers the pattern of a key has, and how many objects it tried.
 fn matching<R: Rows>(alloc: Global, table: &Table<R>, key: Integer) -> Option<Integer> {
     let pattern = under(alloc, key)?;
-    let mut looks = Looks::new();
-    let bindings = table.matches_counted(&pattern, &mut looks).ok()?;
-    let objects = table.match_objects_counted(&pattern, &mut looks).ok()?;
-    let counts = (whole(bindings.len())).wrapping_add(whole(objects.len()));
+    let found = matched(table, &pattern);
+    drop(pattern);
+    let (bindings, objects, looks) = found?;
+    let counts = whole(bindings).wrapping_add(whole(objects));
     Some(
         counts
             .wrapping_mul(100)
-            .wrapping_add(looks.count().min(99) as Integer),
+            .wrapping_add(looks.min(99) as Integer),
     )
 }
 
 fn selected<R: Rows>(alloc: Global, table: &Table<R>, limit: Integer) -> Option<Integer> {
     let spec = below(alloc, limit)?;
-    let results = table.select(&spec).ok()?;
-    let count = table.select_count(&spec).ok()?;
+    let results = count_of(table.select(&spec).ok());
+    let count = table.select_count(&spec).ok();
+    drop(spec);
     Some(
-        (whole(results.len()))
+        whole(results?)
             .wrapping_mul(100_000)
-            .wrapping_add(whole(count)),
+            .wrapping_add(whole(count?)),
     )
 }
 
@@ -126,7 +198,9 @@ fn deleted<R: Rows>(
     hold: bool,
 ) -> Option<Integer> {
     let spec = below(alloc, limit)?;
-    Some(whole(table.select_delete(&spec, hold).ok()?))
+    let gone = table.select_delete(&spec, hold);
+    drop(spec);
+    Some(whole(gone.ok()?))
 }
 
 fn unmatched<R: Rows>(
@@ -136,13 +210,17 @@ fn unmatched<R: Rows>(
     hold: bool,
 ) -> Option<Integer> {
     let pattern = under(alloc, key)?;
-    table.match_delete(&pattern, hold).ok()?;
+    let done = table.match_delete(&pattern, hold);
+    drop(pattern);
+    done.ok()?;
     Some(whole(table.size()))
 }
 
 pub fn every<R: Rows>(table: &Table<R>) -> Option<Integer> {
     let objects = table.objects().ok()?;
-    Some(total(objects.as_slice()))
+    let told = total(objects.as_slice());
+    drop(objects);
+    Some(told)
 }
 
 /// Doubles the buckets and readies the least that is not ready.
@@ -155,7 +233,9 @@ fn grown<R: Rows>(table: &mut Table<R>) -> Option<Integer> {
 }
 
 fn delete_key<R: Rows>(table: &mut Table<R>, key: Integer, hold: bool) -> Integer {
-    table.delete_key(&Term::Int(key), hold);
+    let key = Term::Int(key);
+    table.delete_key(&key, hold);
+    drop(key);
     whole(table.size())
 }
 
@@ -171,25 +251,45 @@ fn purge<R: Rows>(table: &mut Table<R>) -> Integer {
 
 /// The pair of a key and a term of this depth.
 fn deep(alloc: Global, key: Integer, depth: usize) -> Option<Term> {
-    both(alloc, Term::Int(key), nested(alloc, depth)?)
+    let value = nested(alloc, depth)?;
+    both(alloc, Term::Int(key), value)
+}
+
+/// Inserts an object that is made for it.
+pub fn insert<R: Rows>(table: &mut Table<R>, made: Option<Term>) -> Option<Integer> {
+    let object = made?;
+    let told = inserted(table, slice::from_ref(&object));
+    drop(object);
+    Some(told)
+}
+
+fn insert_new<R: Rows>(table: &mut Table<R>, made: Option<Term>) -> Option<Integer> {
+    let object = made?;
+    let told = inserted_new(table, slice::from_ref(&object));
+    drop(object);
+    Some(told)
+}
+
+/// The same of all of these objects.
+pub fn insert_all<R: Rows>(table: &mut Table<R>, made: Option<Items<Term>>) -> Option<Integer> {
+    let objects = made?;
+    let told = inserted(table, objects.as_slice());
+    drop(objects);
+    Some(told)
 }
 
 /// Does a step that inserts.
 pub fn change<R: Rows>(alloc: Global, table: &mut Table<R>, step: Step) -> Option<Integer> {
     match step {
-        Step::Insert(key, value) => Some(inserted(table, &[tuple(alloc, &[key, value])?])),
-        Step::InsertTwo(key, value, other, second) => Some(inserted(
-            table,
-            &[
-                tuple(alloc, &[key, value])?,
-                tuple(alloc, &[other, second])?,
-            ],
-        )),
-        Step::InsertNew(key, value) => Some(inserted_new(table, &[tuple(alloc, &[key, value])?])),
-        Step::InsertOne(value) => Some(inserted(table, &[Term::Int(value)])),
-        Step::InsertThree(a, b, c) => Some(inserted(table, &[tuple(alloc, &[a, b, c])?])),
-        Step::InsertDeep(key, depth) => Some(inserted(table, &[deep(alloc, key, depth)?])),
-        Step::InsertNewDeep(key, depth) => Some(inserted_new(table, &[deep(alloc, key, depth)?])),
+        Step::Insert(key, value) => insert(table, tuple(alloc, &[key, value])),
+        Step::InsertTwo(key, value, other, second) => {
+            insert_all(table, tuples(alloc, &[[key, value], [other, second]]))
+        }
+        Step::InsertNew(key, value) => insert_new(table, tuple(alloc, &[key, value])),
+        Step::InsertOne(value) => insert(table, Some(Term::Int(value))),
+        Step::InsertThree(a, b, c) => insert(table, tuple(alloc, &[a, b, c])),
+        Step::InsertDeep(key, depth) => insert(table, deep(alloc, key, depth)),
+        Step::InsertNewDeep(key, depth) => insert_new(table, deep(alloc, key, depth)),
         _ => removal(alloc, table, step),
     }
 }
@@ -199,9 +299,7 @@ fn removal<R: Rows>(alloc: Global, table: &mut Table<R>, step: Step) -> Option<I
     match step {
         Step::Take(key, hold) => Some(taken(table, key, hold)),
         Step::Delete(key, hold) => Some(delete_key(table, key, hold)),
-        Step::DeleteObject(key, value, hold) => {
-            Some(gone(table, &tuple(alloc, &[key, value])?, hold))
-        }
+        Step::DeleteObject(key, value, hold) => gone(table, tuple(alloc, &[key, value]), hold),
         Step::DeleteAll(hold) => Some(clear(table, hold)),
         Step::Purge => Some(purge(table)),
         _ => update(alloc, table, step),
@@ -223,10 +321,18 @@ fn update<R: Rows>(alloc: Global, table: &mut Table<R>, step: Step) -> Option<In
     }
 }
 
+/// The second elements of a key's objects, as digits.
+pub fn looked_up<R: Rows>(table: &Table<R>, key: Integer) -> Integer {
+    let key = Term::Int(key);
+    let told = digits(table.lookup(&key));
+    drop(key);
+    told
+}
+
 /// Does a step that changes nothing.
 fn read<R: Rows>(alloc: Global, table: &Table<R>, step: Step) -> Option<Integer> {
     match step {
-        Step::Lookup(key) => Some(digits(table.lookup(&Term::Int(key)))),
+        Step::Lookup(key) => Some(looked_up(table, key)),
         Step::Element(key, position) => Some(element(table, key, position)),
         Step::Matches(key) => matching(alloc, table, key),
         Step::Below(limit) => selected(alloc, table, limit),
