@@ -1,5 +1,6 @@
 // Values from outside: each test is a table of rows, each a call and what it is to answer, over both kept forms of rows.
 // None stands for want of memory.
+use super::filled;
 use bucket_table::{PlainRows, Rows, SplitRows};
 use ets_term::{AllSame, Fnv, Integer, Items, Term};
 use fixed_walk::{Badarg, Walked};
@@ -37,9 +38,12 @@ fn split(alloc: Global, kind: Kind) -> Option<Walked<SplitRows<Fnv>>> {
 /// `{key,value}`.
 fn object(alloc: Global, key: Integer, value: Integer) -> Option<Term> {
     let mut items = Items::new(alloc);
+    Some(Term::Tuple(filled(push_both(&mut items, key, value), items)?))
+}
+
+fn push_both(items: &mut Items<Term>, key: Integer, value: Integer) -> Option<()> {
     items.push(Term::Int(key)).ok()?;
-    items.push(Term::Int(value)).ok()?;
-    Some(Term::Tuple(items))
+    items.push(Term::Int(value)).ok()
 }
 
 fn insert<R: Rows>(
@@ -48,8 +52,32 @@ fn insert<R: Rows>(
     key: Integer,
     value: Integer,
 ) -> Option<bool> {
-    let object = object(alloc, key, value)?;
-    Some(table.insert(&[object]).is_ok())
+    let objects = [object(alloc, key, value)?];
+    let inserted = table.insert(&objects).is_ok();
+    drop(objects);
+    Some(inserted)
+}
+
+fn delete<R: Rows>(table: &mut Walked<R>, key: Integer) {
+    let key = Term::Int(key);
+    table.delete_key(&key);
+    drop(key);
+}
+
+/// How many objects the key has.
+fn count_of<R: Rows>(table: &Walked<R>, key: Integer) -> usize {
+    let key = Term::Int(key);
+    let count = table.lookup(&key).len();
+    drop(key);
+    count
+}
+
+/// The key behind this one in a walk.
+fn behind<R: Rows>(table: &Walked<R>, key: Integer) -> Result<Option<&Term>, Badarg> {
+    let key = Term::Int(key);
+    let found = table.next(&key);
+    drop(key);
+    found
 }
 
 /// Whether a walk came to this key, or to the end.

@@ -1,5 +1,5 @@
 //! FNV-1a, beside a plain reading of it.
-use ets_term::{Atom, Fnv, KeyHash, Term};
+use ets_term::{Atom, Fnv, Integer, KeyHash, Term};
 use std::alloc::Global;
 use std::process::Abort;
 
@@ -30,7 +30,17 @@ fn published_vectors(rt: HostRuntime) {
 }
 
 fn hash_of_an_atom(alloc: Global, text: &str) -> Option<u32> {
-    Some(Fnv.hash32(&Term::Atom(Atom::new(alloc, text).ok()?)))
+    let term = Term::Atom(Atom::new(alloc, text).ok()?);
+    let hash = Fnv.hash32(&term);
+    drop(term);
+    Some(hash)
+}
+
+fn hash_of_an_integer(number: Integer) -> u32 {
+    let term = Term::Int(number);
+    let hash = Fnv.hash32(&term);
+    drop(term);
+    hash
 }
 
 /// The encodings of 1 and of -2^64-1: a byte for the kind, then 16 with the high one first.
@@ -44,6 +54,6 @@ const BELOW: [u8; 17] = [
 fn runs_over_the_encoding(rt: HostRuntime) {
     assert!(rt; fnv_1a(&[2, 1, 97]) == 58490007);
     assert!(rt; hash_of_an_atom(rt.alloc(), "a") == Some(58490007));
-    assert!(rt; Fnv.hash32(&Term::Int(1)) == fnv_1a(&ONE));
-    assert!(rt; Fnv.hash32(&Term::Int(-18446744073709551617)) == fnv_1a(&BELOW));
+    assert!(rt; hash_of_an_integer(1) == fnv_1a(&ONE));
+    assert!(rt; hash_of_an_integer(-18446744073709551617) == fnv_1a(&BELOW));
 }

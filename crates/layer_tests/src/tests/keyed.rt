@@ -1,14 +1,18 @@
 //! The hash with a seed, beside values of its definition that were computed outside.
+use super::filled;
 use ets_term::{Atom, Items, KeyHash, Keyed, Term};
 use std::alloc::Global;
 use std::process::Abort;
 
 /// The elements `a` and -2^64-1, whose two words differ.
+fn push_pair(alloc: Global, pair: &mut Items<Term>) -> Option<()> {
+    pair.push(Term::Atom(Atom::new(alloc, "a").ok()?)).ok()?;
+    pair.push(Term::Int(-18446744073709551617)).ok()
+}
+
 fn pair(alloc: Global) -> Option<Items<Term>> {
     let mut pair = Items::new(alloc);
-    pair.push(Term::Atom(Atom::new(alloc, "a").ok()?)).ok()?;
-    pair.push(Term::Int(-18446744073709551617)).ok()?;
-    Some(pair)
+    filled(push_pair(alloc, &mut pair), pair)
 }
 
 fn binary(alloc: Global) -> Option<Term> {
@@ -16,14 +20,13 @@ fn binary(alloc: Global) -> Option<Term> {
 }
 
 /// A term of each kind, built anew.
-fn terms(alloc: Global) -> Option<Items<Term>> {
-    let mut terms = pair(alloc)?;
+fn push_terms(alloc: Global, terms: &mut Items<Term>) -> Option<()> {
+    push_pair(alloc, terms)?;
     terms.push(Term::Pid(7)).ok()?;
     terms.push(Term::Tid(7)).ok()?;
     terms.push(Term::Tuple(pair(alloc)?)).ok()?;
     terms.push(Term::List(pair(alloc)?)).ok()?;
-    terms.push(binary(alloc)?).ok()?;
-    Some(terms)
+    terms.push(binary(alloc)?).ok()
 }
 
 /// Whether these are the numbers of the terms, one after the other.
@@ -37,7 +40,12 @@ fn are_hashed(hash: Keyed, terms: &[Term], wanted: &[u32]) -> bool {
 }
 
 fn hash_to(alloc: Global, seed: u64, wanted: &[u32]) -> Option<bool> {
-    Some(are_hashed(Keyed(seed), terms(alloc)?.as_slice(), wanted))
+    let mut terms = Items::new(alloc);
+    let pushed = push_terms(alloc, &mut terms);
+    let hashed = are_hashed(Keyed(seed), terms.as_slice(), wanted);
+    drop(terms);
+    pushed?;
+    Some(hashed)
 }
 
 /// The numbers of the terms by the least seed, and by the greatest.

@@ -1,4 +1,7 @@
 //! Values from outside: the order across kinds, the bounds of atoms, and each public call on its happy path.
+use super::depths::nested;
+use super::filled;
+use super::text::long_text;
 use ets_term::{AllSame, Atom, AtomFault, Fnv, Integer, Items, KeyHash, MAX_DEPTH, Position, Term};
 use std::alloc::Global;
 use std::hash::{DefaultHasher, Hash, Hasher};
@@ -10,18 +13,23 @@ fn atom(alloc: Global, text: &str) -> Option<Term> {
 }
 
 fn atom_of(alloc: Global, letter: char) -> Option<Term> {
-    let mut text = String::new(alloc);
-    text.push(letter).ok()?;
-    atom(alloc, text.as_str())
+    let text = format!(in alloc; "{letter}").ok()?;
+    let made = atom(alloc, text.as_str());
+    drop(text);
+    made
+}
+
+fn push_atoms(alloc: Global, items: &mut Items<Term>, letters: &str) -> Option<()> {
+    for letter in letters.chars() {
+        items.push(atom_of(alloc, letter)?).ok()?;
+    }
+    Some(())
 }
 
 /// An atom for each letter.
 fn atoms(alloc: Global, letters: &str) -> Option<Items<Term>> {
     let mut items = Items::new(alloc);
-    for letter in letters.chars() {
-        items.push(atom_of(alloc, letter)?).ok()?;
-    }
-    Some(items)
+    filled(push_atoms(alloc, &mut items, letters), items)
 }
 
 fn tuple(alloc: Global, letters: &str) -> Option<Term> {
@@ -36,20 +44,28 @@ fn binary(alloc: Global, bytes: &[u8]) -> Option<Term> {
     Some(Term::Binary(Items::from_vec(bytes.to_vec(alloc).ok()?)))
 }
 
-fn text_of(alloc: Global, count: usize) -> Option<String> {
-    let mut text = String::new(alloc);
-    for _ in 0..count {
-        text.push('a').ok()?;
-    }
-    Some(text)
+fn copy_has_text(alloc: Global, atom: &Atom, text: &str) -> Option<bool> {
+    let copy = atom.try_clone(alloc).ok()?;
+    let same = copy.text() == text;
+    drop(copy);
+    Some(same)
+}
+
+/// Whether an atom and its copy have its text.
+fn is_kept(alloc: Global, text: &str) -> Option<bool> {
+    let made = Atom::new(alloc, text).ok()?;
+    let same = made.text() == text;
+    let copied = copy_has_text(alloc, &made, text);
+    drop(made);
+    Some(copied? && same)
 }
 
 /// Whether an atom of so many characters and its copy have its text.
 fn keeps_text(alloc: Global, count: usize) -> Option<bool> {
-    let text = text_of(alloc, count)?;
-    let made = Atom::new(alloc, text.as_str()).ok()?;
-    let copy = made.try_clone(alloc).ok()?;
-    Some(made.text() == text.as_str() && copy.text() == text.as_str())
+    let text = long_text(alloc, "", "a", count, "").ok()?;
+    let kept = is_kept(alloc, text.as_str());
+    drop(text);
+    kept
 }
 
 fn keep_text(alloc: Global, counts: &[usize]) -> Option<bool> {
@@ -62,8 +78,10 @@ fn keep_text(alloc: Global, counts: &[usize]) -> Option<bool> {
 }
 
 fn is_too_long(alloc: Global, count: usize) -> Option<bool> {
-    let long = text_of(alloc, count)?;
-    Some(matches!(Atom::new(alloc, long.as_str()), Err(AtomFault::TooLong)))
+    let long = long_text(alloc, "", "a", count, "").ok()?;
+    let fault = Atom::new(alloc, long.as_str()).err();
+    drop(long);
+    Some(matches!(fault, Some(AtomFault::TooLong)))
 }
 
 #[test]
@@ -74,7 +92,7 @@ fn atoms_have_up_to_255_characters(rt: HostRuntime) {
 }
 
 fn is_unprintable(alloc: Global, text: &str) -> bool {
-    matches!(Atom::new(alloc, text), Err(AtomFault::BadCharacter))
+    matches!(Atom::new(alloc, text).err(), Some(AtomFault::BadCharacter))
 }
 
 #[test]
@@ -82,35 +100,63 @@ fn characters_of_atoms_are_printable(rt: HostRuntime) {
     assert!(rt; is_unprintable(rt.alloc(), "\t") && is_unprintable(rt.alloc(), "é"));
 }
 
-/// Terms in rising order, each kind in its place.
-fn push_parts(alloc: Global, terms: &mut Vec<Term>) -> Option<()> {
-    for letters in ["", "z", "aa"] {
-        terms.push(tuple(alloc, letters)?).ok()?;
+/// A term, told.
+#[derive(Clone, Copy)]
+enum Told<'a> {
+    Int(Integer),
+    Atom(&'a str),
+    Tid(u32),
+    Pid(u32),
+    /// The atoms of these letters, in a tuple and in a list.
+    Tuple(&'a str),
+    List(&'a str),
+    Binary(&'a str),
+}
+
+fn term(alloc: Global, told: Told) -> Option<Term> {
+    match told {
+        Told::Int(n) => Some(Term::Int(n)),
+        Told::Atom(text) => atom(alloc, text),
+        Told::Tid(n) => Some(Term::Tid(n)),
+        Told::Pid(n) => Some(Term::Pid(n)),
+        Told::Tuple(letters) => tuple(alloc, letters),
+        Told::List(letters) => list(alloc, letters),
+        Told::Binary(text) => binary(alloc, text.as_bytes()),
     }
-    for letters in ["", "a", "aa", "b"] {
-        terms.push(list(alloc, letters)?).ok()?;
-    }
-    for text in ["", "1~", "2"] {
-        terms.push(binary(alloc, text.as_bytes())?).ok()?;
+}
+
+fn push_terms(alloc: Global, terms: &mut Items<Term>, rows: &[Told]) -> Option<()> {
+    for told in rows {
+        terms.push(term(alloc, *told)?).ok()?;
     }
     Some(())
 }
 
-fn push_plain(alloc: Global, terms: &mut Vec<Term>) -> Option<()> {
-    for n in [Integer::MIN, -1, 7, 18446744073709551616] {
-        terms.push(Term::Int(n)).ok()?;
-    }
-    for text in ["", "a", "aa", "b"] {
-        terms.push(atom(alloc, text)?).ok()?;
-    }
-    for n in [0, 1] {
-        terms.push(Term::Tid(n)).ok()?;
-    }
-    for n in [0, 1] {
-        terms.push(Term::Pid(n)).ok()?;
-    }
-    Some(())
-}
+/// Terms in rising order, each kind in its place.
+const RISING: [Told<'static>; 22] = [
+    Told::Int(Integer::MIN),
+    Told::Int(-1),
+    Told::Int(7),
+    Told::Int(18446744073709551616),
+    Told::Atom(""),
+    Told::Atom("a"),
+    Told::Atom("aa"),
+    Told::Atom("b"),
+    Told::Tid(0),
+    Told::Tid(1),
+    Told::Pid(0),
+    Told::Pid(1),
+    Told::Tuple(""),
+    Told::Tuple("z"),
+    Told::Tuple("aa"),
+    Told::List(""),
+    Told::List("a"),
+    Told::List("aa"),
+    Told::List("b"),
+    Told::Binary(""),
+    Told::Binary("1~"),
+    Told::Binary("2"),
+];
 
 /// Whether terms compare as their places do.
 fn compare(low: (usize, &Term), high: (usize, &Term)) -> bool {
@@ -140,10 +186,12 @@ fn misplaced(terms: &[Term]) -> Option<usize> {
 }
 
 fn rise(alloc: Global) -> Option<bool> {
-    let mut terms = Vec::new(alloc);
-    push_plain(alloc, &mut terms)?;
-    push_parts(alloc, &mut terms)?;
-    Some(terms.len() == 22 && misplaced(terms.as_slice()) == None)
+    let mut terms = Items::new(alloc);
+    let pushed = push_terms(alloc, &mut terms, &RISING);
+    let rising = terms.len() == 22 && misplaced(terms.as_slice()) == None;
+    drop(terms);
+    pushed?;
+    Some(rising)
 }
 
 #[test]
@@ -155,28 +203,46 @@ fn terms_rise(rt: HostRuntime) {
 fn is_of_depth(alloc: Global, term: &Term, depth: usize) -> Option<bool> {
     term.fits();
     term.hashes_its_encoding();
-    Some(term.depth() == depth && term.try_clone(alloc).ok()? == *term)
+    let copy = term.try_clone(alloc).ok()?;
+    let same = copy == *term;
+    drop(copy);
+    Some(same && term.depth() == depth)
+}
+
+/// The same of a term that is made for it.
+fn has_depth(alloc: Global, made: Option<Term>, depth: usize) -> Option<bool> {
+    let term = made?;
+    let same = is_of_depth(alloc, &term, depth);
+    drop(term);
+    same
 }
 
 /// Whether a tuple and a list of these atoms are so deep.
 fn are_of_depth(alloc: Global, letters: &str, depth: usize) -> Option<bool> {
-    let tuple = is_of_depth(alloc, &tuple(alloc, letters)?, depth)?;
-    Some(tuple && is_of_depth(alloc, &list(alloc, letters)?, depth)?)
+    Some(
+        has_depth(alloc, tuple(alloc, letters), depth)?
+            && has_depth(alloc, list(alloc, letters), depth)?,
+    )
+}
+
+fn push_uneven(alloc: Global, parts: &mut Items<Term>) -> Option<()> {
+    parts.push(Term::default()).ok()?;
+    parts.push(tuple(alloc, "ab")?).ok()
 }
 
 /// A list of an integer and a tuple of atoms.
 fn uneven(alloc: Global) -> Option<Term> {
     let mut parts = Items::new(alloc);
-    parts.push(Term::default()).ok()?;
-    parts.push(tuple(alloc, "ab")?).ok()?;
-    Some(Term::List(parts))
+    Some(Term::List(filled(push_uneven(alloc, &mut parts), parts)?))
 }
 
 /// The deepest part counts.
 fn other_terms_are_of_depth(alloc: Global) -> Option<bool> {
-    let int = is_of_depth(alloc, &Term::Int(5), 1)?;
-    let binary = is_of_depth(alloc, &binary(alloc, &[0, 255])?, 1)?;
-    Some(int && binary && is_of_depth(alloc, &uneven(alloc)?, 3)?)
+    Some(
+        has_depth(alloc, Some(Term::Int(5)), 1)?
+            && has_depth(alloc, binary(alloc, &[0, 255]), 1)?
+            && has_depth(alloc, uneven(alloc), 3)?,
+    )
 }
 
 #[test]
@@ -187,25 +253,17 @@ fn depths_and_copies(rt: HostRuntime) {
     assert!(rt; other_terms_are_of_depth(alloc) == Some(true));
 }
 
-/// A list within a list, so many levels deep.
-fn nested(alloc: Global, levels: usize) -> Option<Term> {
-    let mut term = Term::List(Items::new(alloc));
-    for _ in 1..levels {
-        let mut outer = Items::new(alloc);
-        outer.push(term).ok()?;
-        term = Term::List(outer);
-    }
-    Some(term)
-}
-
-fn is_nested(alloc: Global, term: &Term, levels: usize) -> Option<bool> {
-    Some(is_of_depth(alloc, term, levels)? && term.is_too_deep() == (levels > MAX_DEPTH))
+/// Whether a list within a list, so many levels deep, is so deep, and told from what is too deep.
+fn is_nested(alloc: Global, levels: usize) -> Option<bool> {
+    let term = nested(alloc, levels)?;
+    let told = term.is_too_deep() == (levels > MAX_DEPTH);
+    Some(has_depth(alloc, Some(term), levels)? && told)
 }
 
 /// The first of these numbers of levels at which a nested term is not so deep.
 fn misnested(alloc: Global, rows: &[usize]) -> Option<Option<usize>> {
     for levels in rows {
-        if !is_nested(alloc, &nested(alloc, *levels)?, *levels)? {
+        if !is_nested(alloc, *levels)? {
             return Some(Some(*levels));
         }
     }
@@ -219,16 +277,20 @@ fn deep_terms_are_copied(rt: HostRuntime) {
     assert!(rt; misnested(rt.alloc(), &LEVELS) == Some(None));
 }
 
-fn long_tuple(alloc: Global, count: u32) -> Option<Term> {
-    let mut items = Items::new(alloc);
+fn push_numbers(items: &mut Items<Term>, count: u32) -> Option<()> {
     for n in 0..count {
         items.push(Term::Int(Integer::from(n))).ok()?;
     }
-    Some(Term::Tuple(items))
+    Some(())
+}
+
+fn long_tuple(alloc: Global, count: u32) -> Option<Term> {
+    let mut items = Items::new(alloc);
+    Some(Term::Tuple(filled(push_numbers(&mut items, count), items)?))
 }
 
 fn long_tuple_is_copied(alloc: Global) -> Option<bool> {
-    is_of_depth(alloc, &long_tuple(alloc, 70_000)?, 2)
+    has_depth(alloc, long_tuple(alloc, 70_000), 2)
 }
 
 #[test]
@@ -236,9 +298,19 @@ fn long_terms_are_copied(rt: HostRuntime) {
     assert!(rt; long_tuple_is_copied(rt.alloc()) == Some(true));
 }
 
+fn is_named(made: Option<Term>, text: &str) -> Option<bool> {
+    let term = made?;
+    let named = term.is_atom(text);
+    drop(term);
+    Some(named)
+}
+
 fn has_text_alone(alloc: Global) -> Option<bool> {
-    let own = atom(alloc, "ab")?;
-    Some(own.is_atom("ab") && !own.is_atom("a") && !tuple(alloc, "a")?.is_atom("a"))
+    Some(
+        is_named(atom(alloc, "ab"), "ab")?
+            && !is_named(atom(alloc, "ab"), "a")?
+            && !is_named(tuple(alloc, "a"), "a")?,
+    )
 }
 
 #[test]
@@ -261,15 +333,26 @@ fn pair_has_two(pair: &Term) -> bool {
         && pair.element(18446744073709551617).is_none()
 }
 
-/// Whether a pair of atoms has two elements, and a list has none.
-fn have_elements(alloc: Global) -> Option<bool> {
-    let pair = pair_has_two(&tuple(alloc, "ab")?);
-    Some(pair && list(alloc, "ab")?.element(1).is_none())
+/// Whether a pair of atoms has two elements.
+fn a_pair_has_two(alloc: Global) -> Option<bool> {
+    let pair = tuple(alloc, "ab")?;
+    let two = pair_has_two(&pair);
+    drop(pair);
+    Some(two)
+}
+
+/// Whether a list of atoms has no element.
+fn a_list_has_none(alloc: Global) -> Option<bool> {
+    let list = list(alloc, "ab")?;
+    let none = list.element(1).is_none();
+    drop(list);
+    Some(none)
 }
 
 #[test]
 fn elements_count_from_one(rt: HostRuntime) {
-    assert!(rt; have_elements(rt.alloc()) == Some(true));
+    assert!(rt; a_pair_has_two(rt.alloc()) == Some(true));
+    assert!(rt; a_list_has_none(rt.alloc()) == Some(true));
 }
 
 /// The hash of a term by the library's hasher.
@@ -286,7 +369,10 @@ fn hashed_bytes(bytes: &[u8]) -> u64 {
 }
 
 fn hash_of_an_atom(alloc: Global, text: &str) -> Option<u64> {
-    Some(hashed(&atom(alloc, text)?))
+    let term = atom(alloc, text)?;
+    let hash = hashed(&term);
+    drop(term);
+    Some(hash)
 }
 
 #[test]
@@ -294,16 +380,19 @@ fn hashes_take_the_encoding(rt: HostRuntime) {
     assert!(rt; hash_of_an_atom(rt.alloc(), "a") == Some(hashed_bytes(&[2, 1, 97])));
 }
 
-fn hash_apart(pair: &Term, again: &Term, other: &Term) -> bool {
-    AllSame.hash32(pair) == 0
-        && Fnv.hash32(pair) == Fnv.hash32(again)
-        && Fnv.hash32(pair) != Fnv.hash32(other)
+/// The hash of a term by each of two hashes.
+fn hashes(made: Option<Term>) -> Option<(u32, u32)> {
+    let term = made?;
+    let hashes = (AllSame.hash32(&term), Fnv.hash32(&term));
+    drop(term);
+    Some(hashes)
 }
 
 fn tuple_and_list_hash_apart(alloc: Global) -> Option<bool> {
-    let pair = tuple(alloc, "ab")?;
-    let again = tuple(alloc, "ab")?;
-    Some(hash_apart(&pair, &again, &list(alloc, "ab")?))
+    let (all_same, pair) = hashes(tuple(alloc, "ab"))?;
+    let (_, again) = hashes(tuple(alloc, "ab"))?;
+    let (_, other) = hashes(list(alloc, "ab"))?;
+    Some(all_same == 0 && pair == again && pair != other)
 }
 
 #[test]
@@ -314,17 +403,20 @@ fn hashes_tell_tuples_from_lists(rt: HostRuntime) {
 /// Whether items grow by three numbers and lose the last.
 fn grow_and_shrink(items: &mut Items<u8>) -> Option<bool> {
     let empty = items.is_empty();
-    for n in [1, 2, 3] {
-        items.push(n).ok()?;
-    }
+    items.push(1).ok()?;
+    items.push(2).ok()?;
+    items.push(3).ok()?;
     let last = items.pop() == Some(3) && items.len() == 2;
     Some(empty && last && items.get(1) == Some(&2) && items.as_slice() == [1, 2].as_slice())
 }
 
 fn are_a_list(alloc: Global) -> Option<bool> {
     let mut items = Items::new(alloc);
-    let grown = grow_and_shrink(&mut items)?;
-    Some(grown && items.into_vec().as_slice() == [1, 2].as_slice())
+    let grown = grow_and_shrink(&mut items);
+    let vec = items.into_vec();
+    let same = vec.as_slice() == [1, 2].as_slice();
+    drop(vec);
+    Some(grown? && same)
 }
 
 #[test]

@@ -4,6 +4,7 @@ mod long;
 mod reference;
 pub(crate) mod refused;
 
+use super::kept;
 use ets_term::Term;
 use std::alloc::{AllocError, Global};
 use std::io::{self, Error, ErrorKind, Write};
@@ -12,20 +13,31 @@ use term_text::{WriteFault, print_term, read_term, read_term_bytes, write_term};
 
 fn printed(alloc: Global, term: &Term, taken: usize) -> Result<String, AllocError> {
     let mut text = String::new(alloc);
-    print_term(alloc, term, &mut text)?;
-    format!(in alloc; "{text} {taken}")
+    let told = match print_term(alloc, term, &mut text) {
+        Ok(()) => format!(in alloc; "{text} {taken}"),
+        Err(error) => Err(error),
+    };
+    drop(text);
+    told
 }
 
 /// What the text gives: the printed term and how many bytes it took, or the fault.
 fn given(alloc: Global, text: &[u8]) -> Result<String, AllocError> {
     match read_term_bytes(alloc, text) {
-        Ok((term, taken)) => printed(alloc, &term, taken),
+        Ok((term, taken)) => {
+            let told = printed(alloc, &term, taken);
+            drop(term);
+            told
+        }
         Err(fault) => format!(in alloc; "{fault:?}"),
     }
 }
 
-fn gives(alloc: Global, text: &str, wanted: &str) -> Result<bool, AllocError> {
-    Ok(given(alloc, text.as_bytes())?.as_str() == wanted)
+fn gives(alloc: Global, text: &[u8], wanted: &str) -> Result<bool, AllocError> {
+    let given = given(alloc, text)?;
+    let same = given.as_str() == wanted;
+    drop(given);
+    Ok(same)
 }
 
 /// The first text that gives another than is wanted of it.
@@ -34,19 +46,18 @@ fn wrong(
     rows: &[(&'static str, &'static str)],
 ) -> Result<Option<&'static str>, AllocError> {
     for (text, wanted) in rows {
-        if !gives(alloc, *text, *wanted)? {
+        if !gives(alloc, text.as_bytes(), *wanted)? {
             return Ok(Some(*text));
         }
     }
     Ok(None)
 }
 
-fn repeated(alloc: Global, part: &str, count: usize) -> Result<String, AllocError> {
-    let mut text = String::new(alloc);
+fn push_repeated(text: &mut String, part: &str, count: usize) -> Result<(), AllocError> {
     for _ in 0..count {
         text.push_str(part)?;
     }
-    Ok(text)
+    Ok(())
 }
 
 const NUMBERS_AND_ATOMS: [(&str, &str); 26] = [
@@ -140,16 +151,10 @@ fn binaries_pids_and_identifiers(rt: HostRuntime) {
 }
 
 /// A start, a part so often and an end, and what the text of them gives.
-type LongRow = (
-    &'static str,
-    &'static str,
-    usize,
-    &'static str,
-    &'static str,
-);
+type LongRow<'a> = (&'a str, &'a str, usize, &'a str, &'a str);
 
 /// Terms of 128 levels, and atoms of 255 characters.
-const LONG: [LongRow; 9] = [
+const LONG: [LongRow<'static>; 9] = [
     ("", "[", 128, "[", "TooDeep(128)"),
     ("", "[", 128, "A", "Unexpected(128)"),
     ("", "[", 128, "-", "TooDeep(128)"),
@@ -161,23 +166,36 @@ const LONG: [LongRow; 9] = [
     ("'", "a", 255, "\\", "AtomTooLong(0)"),
 ];
 
-fn long_text(
+fn push_long(
+    text: &mut String,
+    start: &str,
+    part: &str,
+    count: usize,
+    end: &str,
+) -> Result<(), AllocError> {
+    text.push_str(start)?;
+    push_repeated(text, part, count)?;
+    text.push_str(end)
+}
+
+/// A start, a part so many times, and an end.
+pub fn long_text(
     alloc: Global,
     start: &str,
     part: &str,
     count: usize,
     end: &str,
 ) -> Result<String, AllocError> {
-    let mut text = String::from_str(alloc, start)?;
-    text.push_str(repeated(alloc, part, count)?.as_str())?;
-    text.push_str(end)?;
-    Ok(text)
+    let mut text = String::new(alloc);
+    kept(push_long(&mut text, start, part, count, end), text)
 }
 
 fn gives_long(alloc: Global, row: LongRow) -> Result<bool, AllocError> {
     let (start, part, count, end, wanted) = row;
     let text = long_text(alloc, start, part, count, end)?;
-    gives(alloc, text.as_str(), wanted)
+    let same = gives(alloc, text.as_bytes(), wanted);
+    drop(text);
+    same
 }
 
 /// The first long text that gives another than is wanted of it: which one it is.
@@ -196,9 +214,10 @@ fn past_the_levels_and_lengths(rt: HostRuntime) {
 }
 
 fn longest_atom_is_read(alloc: Global) -> Result<bool, AllocError> {
-    let text = long_text(alloc, "'", "a", 255, "'")?;
     let printed = long_text(alloc, "", "a", 255, " 257")?;
-    gives(alloc, text.as_str(), printed.as_str())
+    let same = gives_long(alloc, ("'", "a", 255, "'", printed.as_str()));
+    drop(printed);
+    same
 }
 
 #[test]
@@ -207,15 +226,25 @@ fn the_longest_atom(rt: HostRuntime) {
 }
 
 fn deepest_term(alloc: Global) -> Result<String, AllocError> {
-    let closing = repeated(alloc, "]", 128)?;
-    long_text(alloc, "", "[", 128, closing.as_str())
+    let closing = long_text(alloc, "", "]", 128, "")?;
+    let text = long_text(alloc, "", "[", 128, closing.as_str());
+    drop(closing);
+    text
 }
 
 /// The depth of a term and how many bytes it took.
+fn depth_of(alloc: Global, text: &[u8]) -> Option<(usize, usize)> {
+    let (term, taken) = read_term_bytes(alloc, text).ok()?;
+    let depth = term.depth();
+    drop(term);
+    Some((depth, taken))
+}
+
 fn depth_of_deepest(alloc: Global) -> Option<(usize, usize)> {
     let text = deepest_term(alloc).ok()?;
-    let (term, taken) = read_term_bytes(alloc, text.as_bytes()).ok()?;
-    Some((term.depth(), taken))
+    let depth = depth_of(alloc, text.as_bytes());
+    drop(text);
+    depth
 }
 
 #[test]
@@ -256,15 +285,23 @@ fn leaves_a_front(alloc: Global, term: &Term, text: &str, left: usize) -> bool {
         most: 1,
         left,
     };
-    matches!(write_term(term, &mut out), Err(WriteFault::Io(_)))
-        && out.taken.len() == left
-        && text.as_bytes().starts_with(out.taken.as_slice())
+    let written = write_term(term, &mut out);
+    let failed = matches!(&written, Err(WriteFault::Io(_)));
+    drop(written);
+    let front = out.taken.len() == left && text.as_bytes().starts_with(out.taken.as_slice());
+    drop(out);
+    failed && front
 }
 
 /// Whether the text of a term is this.
 fn writes(alloc: Global, term: &Term, text: &str) -> bool {
     let mut whole = Vec::new(alloc);
-    write_term(term, &mut whole).is_ok() && whole.as_slice() == text.as_bytes()
+    let written = write_term(term, &mut whole);
+    let done = written.is_ok();
+    drop(written);
+    let same = whole.as_slice() == text.as_bytes();
+    drop(whole);
+    done && same
 }
 
 fn leaves_each_front(alloc: Global, term: &Term, text: &str) -> bool {
@@ -279,7 +316,11 @@ fn leaves_each_front(alloc: Global, term: &Term, text: &str) -> bool {
 /// Whether a term of a text is written as this text, and a fault leaves a front of it.
 fn is_written(alloc: Global, text: &str) -> bool {
     match read_term(alloc, text) {
-        Ok((term, _)) => writes(alloc, &term, text) && leaves_each_front(alloc, &term, text),
+        Ok((term, _)) => {
+            let done = writes(alloc, &term, text) && leaves_each_front(alloc, &term, text);
+            drop(term);
+            done
+        }
         Err(_) => false,
     }
 }
@@ -296,7 +337,13 @@ fn is_stuck(alloc: Global) -> bool {
         most: 0,
         left: 9,
     };
-    matches!(write_term(&Term::Int(7), &mut stuck), Err(WriteFault::Zero))
+    let term = Term::Int(7);
+    let written = write_term(&term, &mut stuck);
+    drop(term);
+    drop(stuck);
+    let is_stuck = matches!(&written, Err(WriteFault::Zero));
+    drop(written);
+    is_stuck
 }
 
 #[test]

@@ -23,6 +23,13 @@ fn is_told(outcome: &Result<Term, CounterFault>, wanted: &Term) -> bool {
     }
 }
 
+/// The same of an answer that is not needed after.
+fn answers(outcome: Result<Term, CounterFault>, wanted: &Term) -> bool {
+    let told = is_told(&outcome, wanted);
+    drop(outcome);
+    told
+}
+
 fn is_refusal(fault: &CounterFault, wanted: &Term) -> bool {
     match fault {
         CounterFault::Badarg => wanted.is_atom("badarg"),

@@ -3,18 +3,46 @@ use super::*;
 fn is_new<R: Rows>(alloc: Global, table: &mut Walked<R>, key: Integer) -> Option<bool> {
     let objects = [object(alloc, key, 2)?];
     let first = table.insert_new(&objects) == Ok(true);
-    Some(first && table.insert_new(&objects) == Ok(false))
+    let second = table.insert_new(&objects) == Ok(false);
+    drop(objects);
+    Some(first && second)
+}
+
+fn has_element<R: Rows>(table: &Walked<R>, key: &Term) -> bool {
+    match table.lookup_element(key, 2) {
+        Ok(element) => {
+            let is_two = matches!(&element, Term::Int(2));
+            drop(element);
+            is_two
+        }
+        Err(_) => false,
+    }
+}
+
+fn is_member<R: Rows>(table: &Walked<R>, key: Integer) -> bool {
+    let key = Term::Int(key);
+    let is_member = table.member(&key);
+    drop(key);
+    is_member
 }
 
 fn is_read<R: Rows>(table: &Walked<R>, key: Integer) -> bool {
     let term = Term::Int(key);
-    let element = table.lookup_element(&term, 2) == Ok(Term::Int(2));
-    element && table.member(&term) && table.lookup(&term).len() == 1
+    let has_element = has_element(table, &term);
+    drop(term);
+    has_element && is_member(table, key) && count_of(table, key) == 1
 }
 
 fn is_taken<R: Rows>(table: &mut Walked<R>, key: Integer) -> bool {
-    match table.take(&Term::Int(key)) {
-        Ok(objects) => objects.len() == 1,
+    let key = Term::Int(key);
+    let taken = table.take(&key);
+    drop(key);
+    match taken {
+        Ok(objects) => {
+            let count = objects.len();
+            drop(objects);
+            count == 1
+        }
         Err(_) => false,
     }
 }
@@ -22,7 +50,8 @@ fn is_taken<R: Rows>(table: &mut Walked<R>, key: Integer) -> bool {
 fn is_deleted<R: Rows>(alloc: Global, table: &mut Walked<R>, key: Integer) -> Option<bool> {
     let own = object(alloc, key, 1)?;
     let done = table.delete_object(&own).is_ok();
-    Some(done && !table.member(&Term::Int(key)))
+    drop(own);
+    Some(done && !is_member(table, key))
 }
 
 fn succeeds<R: Rows>(alloc: Global, table: &mut Walked<R>, key: Integer) -> Option<bool> {
@@ -63,12 +92,17 @@ fn fix_and_release<R: Rows>(table: &mut Walked<R>, processes: u32) -> bool {
     !table.is_fixed()
 }
 
+/// How many objects there are; None where memory is refused.
+fn count_all<R: Rows>(table: &Walked<R>) -> Option<usize> {
+    let objects = table.objects().ok()?;
+    let count = objects.len();
+    drop(objects);
+    Some(count)
+}
+
 /// Whether the calls on the whole table succeed.
 fn whole_table<R: Rows>(table: &mut Walked<R>, keys: usize) -> bool {
-    let all = match table.objects() {
-        Ok(objects) => objects.len() == keys && table.size() == keys,
-        Err(_) => false,
-    };
+    let all = count_all(table) == Some(keys) && table.size() == keys;
     table.delete_all();
     all && table.size() == 0 && table.slots() == 0
 }
@@ -78,9 +112,22 @@ fn serves<R: Rows>(alloc: Global, table: &mut Walked<R>) -> Option<bool> {
     Some(each && fix_and_release(table, 5_000) && whole_table(table, 5_000))
 }
 
+fn plain_serves(alloc: Global) -> Option<bool> {
+    let mut table = plain(alloc, Kind::Set);
+    let done = serves(alloc, &mut table);
+    drop(table);
+    done
+}
+
+fn split_serves(alloc: Global) -> Option<bool> {
+    let mut table = split(alloc, Kind::Set)?;
+    let done = serves(alloc, &mut table);
+    drop(table);
+    done
+}
+
 fn both_serve(alloc: Global) -> Option<bool> {
-    let on_plain = serves(alloc, &mut plain(alloc, Kind::Set))?;
-    Some(on_plain && serves(alloc, &mut split(alloc, Kind::Set)?)?)
+    Some(plain_serves(alloc)? && split_serves(alloc)?)
 }
 
 #[test]

@@ -20,7 +20,7 @@ enum Row {
 }
 
 fn next<R: Rows>(table: &Walked<R>, key: Integer, wanted: Option<Integer>) -> bool {
-    match table.next(&Term::Int(key)) {
+    match behind(table, key) {
         Ok(found) => is(found, wanted),
         Err(Badarg) => false,
     }
@@ -28,7 +28,7 @@ fn next<R: Rows>(table: &Walked<R>, key: Integer, wanted: Option<Integer>) -> bo
 
 fn changes<R: Rows>(table: &mut Walked<R>, row: Row) -> bool {
     match row {
-        Row::Delete(key) => table.delete_key(&Term::Int(key)),
+        Row::Delete(key) => delete(table, key),
         Row::Release(pid) => table.release(pid),
         Row::ReleaseAll(pid) => table.release_all(pid),
         _ => {}
@@ -40,7 +40,7 @@ fn answers<R: Rows>(table: &Walked<R>, row: Row) -> bool {
     match row {
         Row::First(wanted) => is(table.first(), wanted),
         Row::Next(key, wanted) => next(table, key, wanted),
-        Row::NoNext(key) => table.next(&Term::Int(key)).is_err(),
+        Row::NoNext(key) => behind(table, key).is_err(),
         Row::Has(fixed, slots, objects) => {
             table.is_fixed() == fixed && table.slots() == slots && table.size() == objects
         }
@@ -67,12 +67,16 @@ fn all_do<R: Rows>(alloc: Global, table: &mut Walked<R>, rows: &[Row]) -> Option
 
 fn plain_does(alloc: Global, rows: &[Row]) -> Option<bool> {
     let mut table = plain(alloc, Kind::Set);
-    all_do(alloc, &mut table, rows)
+    let done = all_do(alloc, &mut table, rows);
+    drop(table);
+    done
 }
 
 fn one_bucket_does(alloc: Global, rows: &[Row]) -> Option<bool> {
     let mut table = one_bucket(alloc, Kind::Set)?;
-    all_do(alloc, &mut table, rows)
+    let done = all_do(alloc, &mut table, rows);
+    drop(table);
+    done
 }
 
 fn both_do(alloc: Global, rows: &[Row]) -> Option<bool> {

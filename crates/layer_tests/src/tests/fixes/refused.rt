@@ -44,7 +44,10 @@ fn inserted<R: Rows>(table: &mut Walked<R>, object: Option<Term>) -> Integer {
     let Some(object) = object else {
         return OTHERWISE;
     };
-    match table.insert(&[object]) {
+    let objects = [object];
+    let inserted = table.insert(&objects);
+    drop(objects);
+    match inserted {
         Ok(()) => 1,
         Err(refused) => refusal(&refused),
     }
@@ -54,7 +57,10 @@ fn inserted_new<R: Rows>(table: &mut Walked<R>, object: Option<Term>) -> Integer
     let Some(object) = object else {
         return OTHERWISE;
     };
-    match table.insert_new(&[object]) {
+    let objects = [object];
+    let inserted = table.insert_new(&objects);
+    drop(objects);
+    match inserted {
         Ok(done) => Integer::from(done),
         Err(refused) => refusal(&refused),
     }
@@ -64,30 +70,57 @@ fn deleted_object<R: Rows>(table: &mut Walked<R>, object: Option<Term>) -> Integ
     let Some(object) = object else {
         return OTHERWISE;
     };
-    match table.delete_object(&object) {
+    let deleted = table.delete_object(&object);
+    drop(object);
+    match deleted {
         Ok(()) => 1,
         Err(refused) => refusal(&refused),
     }
 }
 
 fn element<R: Rows>(table: &Walked<R>, key: Integer) -> Integer {
-    match table.lookup_element(&Term::Int(key), 2) {
-        Ok(Term::Int(value)) => value,
-        Ok(_) => 0,
+    let key = Term::Int(key);
+    let found = table.lookup_element(&key, 2);
+    drop(key);
+    match found {
+        Ok(element) => {
+            let value = number_of(&element);
+            drop(element);
+            value
+        }
         Err(refused) => refusal(&refused),
     }
 }
 
+/// An integer, or 0.
+fn number_of(term: &Term) -> Integer {
+    match term {
+        Term::Int(number) => *number,
+        _ => 0,
+    }
+}
+
 fn taken<R: Rows>(table: &mut Walked<R>, key: Integer) -> Integer {
-    match table.take(&Term::Int(key)) {
-        Ok(objects) => objects.len() as Integer,
+    let key = Term::Int(key);
+    let taken = table.take(&key);
+    drop(key);
+    match taken {
+        Ok(objects) => {
+            let count = objects.len() as Integer;
+            drop(objects);
+            count
+        }
         Err(_) => MEMORY,
     }
 }
 
 fn listed<R: Rows>(table: &Walked<R>) -> Integer {
     match table.objects() {
-        Ok(objects) => objects.len() as Integer,
+        Ok(objects) => {
+            let count = objects.len() as Integer;
+            drop(objects);
+            count
+        }
         Err(_) => MEMORY,
     }
 }
@@ -123,7 +156,7 @@ fn answer<R: Rows>(alloc: Global, table: &mut Walked<R>, step: Step) -> Integer 
         Step::Element(key) => element(table, key),
         Step::Take(key) => taken(table, key),
         Step::Delete(key) => {
-            table.delete_key(&Term::Int(key));
+            delete(table, key);
             1
         }
         Step::Objects => listed(table),
@@ -139,10 +172,7 @@ fn answer<R: Rows>(alloc: Global, table: &mut Walked<R>, step: Step) -> Integer 
 
 /// A number for a key of a walk, with its objects, behind those before.
 fn mixed<R: Rows>(table: &Walked<R>, told: Integer, key: &Term) -> Integer {
-    let own = match key {
-        Term::Int(number) => *number,
-        _ => 0,
-    };
+    let own = number_of(key);
     let objects = table.lookup(key).len() as Integer;
     told.wrapping_mul(1_000_003)
         .wrapping_add(own.wrapping_mul(16).wrapping_add(objects))
@@ -232,12 +262,16 @@ const GROWTH: [(Step, Integer); 8] = [
     (Step::Ready, 1),
 ];
 
+fn wrong_on_plain_rows(alloc: Global, steps: &[(Step, Integer)]) -> Option<usize> {
+    let mut table = plain(alloc, Kind::Bag);
+    let place = wrong_again(alloc, &mut table, steps);
+    drop(table);
+    place
+}
+
 #[test]
 fn a_refused_call_of_plain_rows_is_called_again(rt: HostRuntime) {
-    assert_eq!(rt;
-        wrong_again(rt.alloc(), &mut plain(rt.alloc(), Kind::Bag), &LIFE),
-        None
-    );
+    assert_eq!(rt; wrong_on_plain_rows(rt.alloc(), &LIFE), None);
 }
 
 fn one_bucket_again(alloc: Global, kind: Kind) -> Option<Walked<SplitRows<AllSame>>> {
@@ -250,8 +284,10 @@ fn one_bucket_again(alloc: Global, kind: Kind) -> Option<Walked<SplitRows<AllSam
 /// Whether the calls are answered so over split rows, whose buckets then double.
 fn holds_on_split_rows(alloc: Global) -> Option<bool> {
     let mut table = one_bucket_again(alloc, Kind::Bag)?;
-    let all = wrong_again(alloc, &mut table, &LIFE).is_none();
-    Some(all && wrong_again(alloc, &mut table, &GROWTH).is_none())
+    let life = wrong_again(alloc, &mut table, &LIFE);
+    let growth = wrong_again(alloc, &mut table, &GROWTH);
+    drop(table);
+    Some(life.is_none() && growth.is_none())
 }
 
 #[test]

@@ -26,8 +26,7 @@ impl Beside {
             stayed: Vec::new(alloc),
             came: Vec::new(alloc),
         };
-        beside.fill()?;
-        Some(beside)
+        filled(beside.fill(), beside)
     }
 
     fn fill(&mut self) -> Option<()> {
@@ -109,12 +108,14 @@ fn delete_object<R: Rows>(
 ) -> Option<bool> {
     beside.set(key, beside.values(key) & !value);
     let object = object(alloc, Integer::from(key), Integer::from(value))?;
-    Some(table.delete_object(&object).is_ok())
+    let deleted = table.delete_object(&object).is_ok();
+    drop(object);
+    Some(deleted)
 }
 
-fn delete<R: Rows>(table: &mut Walked<R>, beside: &mut Beside, key: u32) -> bool {
+fn delete_all<R: Rows>(table: &mut Walked<R>, beside: &mut Beside, key: u32) -> bool {
     beside.set(key, 0);
-    table.delete_key(&Term::Int(Integer::from(key)));
+    delete(table, Integer::from(key));
     true
 }
 
@@ -126,7 +127,7 @@ fn renew<R: Rows>(
     key: u32,
     value: u32,
 ) -> Option<bool> {
-    table.delete_key(&Term::Int(Integer::from(key)));
+    delete(table, Integer::from(key));
     beside.set(key, value);
     insert(alloc, table, Integer::from(key), Integer::from(value))
 }
@@ -142,7 +143,7 @@ fn meddle<R: Rows>(
     let value = 1u32 << ((seed >> 30) % 3);
     match (seed >> 20) % 10 {
         0 | 1 => put(alloc, table, beside, key, value),
-        2 | 3 => Some(delete(table, beside, key)),
+        2 | 3 => Some(delete_all(table, beside, key)),
         4 => delete_object(alloc, table, beside, key, value),
         5 | 6 => renew(alloc, table, beside, key, value),
         7 => {
@@ -177,7 +178,7 @@ fn meddle_often<R: Rows>(
 fn next<R: Rows>(table: &Walked<R>, last: Option<u32>) -> Result<Option<u32>, Badarg> {
     let found = match last {
         None => table.first(),
-        Some(key) => table.next(&Term::Int(Integer::from(key)))?,
+        Some(key) => behind(table, Integer::from(key))?,
     };
     match found {
         Some(Term::Int(number)) => match u32::try_from(*number) {
@@ -211,8 +212,7 @@ fn walked<R: Rows>(alloc: Global, table: &mut Walked<R>, beside: &mut Beside) ->
 /// Whether each key has as many objects as it should.
 fn agrees<R: Rows>(table: &Walked<R>, beside: &Beside) -> bool {
     for key in 0..beside.keys {
-        let objects = table.lookup(&Term::Int(Integer::from(key)));
-        if objects.len() != beside.values(key).count_ones() as usize {
+        if count_of(table, Integer::from(key)) != beside.values(key).count_ones() as usize {
             return false;
         }
     }
@@ -258,7 +258,10 @@ fn walks_whole<R: Rows>(alloc: Global, table: &mut Walked<R>, beside: &mut Besid
 /// Whether a walk over a table of half of so many keys is whole.
 fn is_whole<R: Rows>(alloc: Global, table: &mut Walked<R>, keys: u32) -> Option<bool> {
     let filled = fill(alloc, table, keys / 2)?;
-    Some(filled && walks_whole(alloc, table, &mut Beside::new(alloc, keys)?)?)
+    let mut beside = Beside::new(alloc, keys)?;
+    let whole = walks_whole(alloc, table, &mut beside);
+    drop(beside);
+    Some(filled && whole?)
 }
 
 /// The same of a table that has more than so many buckets at the end.
@@ -271,14 +274,23 @@ fn is_whole_growing<R: Rows>(
     Some(is_whole(alloc, table, keys)? && table.buckets() > buckets)
 }
 
+fn is_whole_plain(alloc: Global) -> Option<bool> {
+    let mut table = plain(alloc, Kind::Bag);
+    let whole = is_whole(alloc, &mut table, 4000);
+    drop(table);
+    whole
+}
+
 #[test]
 fn whole_over_plain_rows(rt: HostRuntime) {
-    let alloc = rt.alloc();
-    assert!(rt; is_whole(alloc, &mut plain(alloc, Kind::Bag), 4000) == Some(true));
+    assert!(rt; is_whole_plain(rt.alloc()) == Some(true));
 }
 
 fn is_whole_split(alloc: Global, kind: Kind) -> Option<bool> {
-    is_whole_growing(alloc, &mut split(alloc, kind)?, 4000, 1000)
+    let mut table = split(alloc, kind)?;
+    let whole = is_whole_growing(alloc, &mut table, 4000, 1000);
+    drop(table);
+    whole
 }
 
 #[test]
@@ -288,7 +300,10 @@ fn whole_over_split_rows(rt: HostRuntime) {
 }
 
 fn is_whole_in_one_bucket(alloc: Global) -> Option<bool> {
-    is_whole_growing(alloc, &mut one_bucket(alloc, Kind::Bag)?, 800, 50)
+    let mut table = one_bucket(alloc, Kind::Bag)?;
+    let whole = is_whole_growing(alloc, &mut table, 800, 50);
+    drop(table);
+    whole
 }
 
 #[test]

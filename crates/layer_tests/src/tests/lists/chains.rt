@@ -1,29 +1,48 @@
+use crate::tests::kept;
 use ets_term::{Integer, Term};
 use node_list::Chain;
 use std::alloc::{AllocError, Global};
 use std::process::Abort;
 
-fn chain_of(alloc: Global, numbers: &[Integer]) -> Result<Chain, AllocError> {
-    let mut chain = Chain::new(alloc);
+fn push_numbers(chain: &mut Chain, numbers: &[Integer]) -> Result<(), AllocError> {
     for number in numbers {
         chain.push(Term::Int(*number))?;
     }
-    Ok(chain)
+    Ok(())
 }
 
-fn has(terms: &[Term], numbers: &[Integer]) -> bool {
+fn chain_of(alloc: Global, numbers: &[Integer]) -> Result<Chain, AllocError> {
+    let mut chain = Chain::new(alloc);
+    kept(push_numbers(&mut chain, numbers), chain)
+}
+
+pub fn is_number(term: &Term, number: Integer) -> bool {
+    match term {
+        Term::Int(own) => *own == number,
+        _ => false,
+    }
+}
+
+/// Whether the terms are these numbers, in this order.
+pub fn has(terms: &[Term], numbers: &[Integer]) -> bool {
     for (term, number) in terms.iter().zip(numbers.iter()) {
-        if *term != Term::Int(*number) {
+        if !is_number(term, *number) {
             return false;
         }
     }
     terms.len() == numbers.len()
 }
 
+fn length(chain: Chain) -> usize {
+    let length = chain.len();
+    drop(chain);
+    length
+}
+
 #[test]
 fn a_chain_may_be_empty(rt: HostRuntime) {
-    assert!(rt; Chain::new(rt.alloc()).len() == 0);
-    assert!(rt; Chain::one(rt.alloc(), Term::Int(1)).len() == 1);
+    assert!(rt; length(Chain::new(rt.alloc())) == 0);
+    assert!(rt; length(Chain::one(rt.alloc(), Term::Int(1))) == 1);
 }
 
 fn push_all(chain: &mut Chain, count: u32) -> Result<(), AllocError> {
@@ -33,8 +52,16 @@ fn push_all(chain: &mut Chain, count: u32) -> Result<(), AllocError> {
     Ok(())
 }
 
-fn pops(chain: &mut Chain, number: Integer) -> bool {
-    chain.pop() == Some(Term::Int(number))
+/// Whether the last term is this number, and is taken.
+pub fn pops(chain: &mut Chain, number: Integer) -> bool {
+    match chain.pop() {
+        Some(last) => {
+            let same = is_number(&last, number);
+            drop(last);
+            same
+        }
+        None => false,
+    }
 }
 
 /// Whether what is pushed is popped, the last first.
@@ -43,19 +70,39 @@ fn pushes_and_pops(chain: &mut Chain) -> Result<bool, AllocError> {
     Ok(chain.len() == 5_000 && pops(chain, 4_999) && pops(chain, 4_998))
 }
 
+fn a_chain_pushes_and_pops(alloc: Global) -> Result<bool, AllocError> {
+    let mut chain = Chain::new(alloc);
+    let done = pushes_and_pops(&mut chain);
+    drop(chain);
+    done
+}
+
 #[test]
 fn pushed_terms_are_popped(rt: HostRuntime) {
-    assert!(rt; pushes_and_pops(&mut Chain::new(rt.alloc())) == Ok(true));
+    assert!(rt; a_chain_pushes_and_pops(rt.alloc()) == Ok(true));
+}
+
+/// Removes a number wherever it stands, and says how often it did.
+fn removed(chain: &mut Chain, number: Integer) -> usize {
+    let term = Term::Int(number);
+    let count = chain.remove_all(&term);
+    drop(term);
+    count
 }
 
 fn removes(chain: &mut Chain) -> bool {
-    let none = chain.remove_all(&Term::Int(4)) == 0;
-    none && chain.remove_all(&Term::Int(1)) == 3 && has(chain.as_slice(), &[2, 3])
+    let none = removed(chain, 4) == 0;
+    none && removed(chain, 1) == 3 && has(chain.as_slice(), &[2, 3])
 }
 
 fn replaces(chain: &mut Chain) -> bool {
-    let old = chain.len() == 2 && chain.replace(0, Term::Int(7)) == Term::Int(2);
-    old && has(chain.as_slice(), &[7, 3])
+    if chain.len() != 2 {
+        return false;
+    }
+    let old = chain.replace(0, Term::Int(7));
+    let same = is_number(&old, 2);
+    drop(old);
+    same && has(chain.as_slice(), &[7, 3])
 }
 
 fn cuts_off(chain: &mut Chain) -> bool {
@@ -68,7 +115,9 @@ fn cuts_off(chain: &mut Chain) -> bool {
 /// Whether changes of a chain of 1, 2, 1, 3 and 1 leave what they must.
 fn changes(alloc: Global) -> Result<bool, AllocError> {
     let mut chain = chain_of(alloc, &[1, 2, 1, 3, 1])?;
-    Ok(removes(&mut chain) && replaces(&mut chain) && cuts_off(&mut chain))
+    let done = removes(&mut chain) && replaces(&mut chain) && cuts_off(&mut chain);
+    drop(chain);
+    Ok(done)
 }
 
 #[test]
@@ -76,19 +125,32 @@ fn terms_are_removed_replaced_and_cut_off(rt: HostRuntime) {
     assert!(rt; changes(rt.alloc()) == Ok(true));
 }
 
-/// Puts the terms of a chain behind one of a list.
+/// Puts the terms of a chain behind those of a list.
 fn move_behind(terms: &mut Vec<Term>, chain: Chain) -> Result<(), AllocError> {
+    match terms.reserve(chain.len()) {
+        Ok(()) => {
+            chain.move_into(terms);
+            Ok(())
+        }
+        Err(error) => {
+            drop(chain);
+            Err(error)
+        }
+    }
+}
+
+fn move_two(alloc: Global, terms: &mut Vec<Term>) -> Result<(), AllocError> {
     terms.push(Term::Int(1))?;
-    terms.reserve(chain.len())?;
-    chain.move_into(terms);
-    Ok(())
+    move_behind(terms, chain_of(alloc, &[2, 3])?)
 }
 
 fn moves(alloc: Global) -> Result<bool, AllocError> {
-    let chain = chain_of(alloc, &[2, 3])?;
     let mut terms = Vec::new(alloc);
-    move_behind(&mut terms, chain)?;
-    Ok(has(terms.as_slice(), &[1, 2, 3]))
+    let moved = move_two(alloc, &mut terms);
+    let same = has(terms.as_slice(), &[1, 2, 3]);
+    drop(terms);
+    moved?;
+    Ok(same)
 }
 
 #[test]

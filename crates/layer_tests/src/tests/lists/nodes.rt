@@ -5,6 +5,7 @@ ghost use Rattle.node_list.specs.Cells.{new_cell, new_item};
 ghost use Rattle.node_list.specs.Places.{IsFresh, HasItem, Stands};
 ghost use Rattle.node_list.specs.Changes.{put_cell};
 
+use super::chains::{has, is_number, pops};
 use ets_term::{Integer, Term};
 use node_list::{At, Chain, NodeList, Steps};
 use std::alloc::{AllocError, Global};
@@ -17,9 +18,16 @@ fn search(list: &NodeList, key: u64, term: &Term) -> (Option<At>, u64) {
     (found, steps.count())
 }
 
+/// The same of a term that is made for it.
+fn search_for(list: &NodeList, key: u64, term: Term) -> (Option<At>, u64) {
+    let found = search(list, key, &term);
+    drop(term);
+    found
+}
+
 /// How many nodes a search reads for an item of this key that is not there: those up to the key, and the next one.
 fn reads(list: &NodeList, key: u64) -> u64 {
-    search(list, key, &Term::Pid(0)).1
+    search_for(list, key, Term::Pid(0)).1
 }
 
 fn add_dummy(list: &mut NodeList, key: u64) -> Result<At, AllocError> {
@@ -94,9 +102,9 @@ fn finds_equal_keys(list: &mut NodeList, alloc: Global) -> Result<bool, AllocErr
     let (first, second) = add_equal(list, alloc)?;
     Ok(
         second_place(list) == Some(first)
-            && search(list, 5, &Term::Int(2)) == (Some(second), 3)
-            && search(list, 5, &Term::Int(3)) == (None, 4)
-            && search(list, 9, &Term::Int(1)) == (None, 4),
+            && search_for(list, 5, Term::Int(2)) == (Some(second), 3)
+            && search_for(list, 5, Term::Int(3)) == (None, 4)
+            && search_for(list, 9, Term::Int(1)) == (None, 4),
     )
 }
 
@@ -105,9 +113,7 @@ fn is_item(list: &NodeList, at: At, number: Integer) -> bool
     requires { Stands at list.now.cells }
 {
     match list.item(at) {
-        Some((term, chain)) => {
-            *term == Term::Int(number) && chain.as_slice() == [Term::Int(number)].as_slice()
-        }
+        Some((term, chain)) => is_number(term, number) && has(chain.as_slice(), &[number]),
         None => false,
     }
 }
@@ -129,8 +135,7 @@ fn reads_item(list: &mut NodeList, alloc: Global) -> Result<bool, AllocError> {
 fn changes(chain: &mut Chain) -> Result<bool, AllocError> {
     chain.push(Term::Int(2))?;
     chain.push(Term::Int(3))?;
-    let last = chain.pop();
-    Ok(last == Some(Term::Int(3)) && chain.as_slice() == [Term::Int(1), Term::Int(2)].as_slice())
+    Ok(pops(chain, 3) && has(chain.as_slice(), &[1, 2]))
 }
 
 /// Whether the chain of an item can be changed.
@@ -145,7 +150,10 @@ fn unlinks(list: &mut NodeList, at: At, number: Integer) -> bool
 {
     let head = list.head();
     let (term, chain) = list.unlink(head, at);
-    term == Term::Int(number) && chain.as_slice() == [Term::Int(number)].as_slice()
+    let same = is_number(&term, number) && has(chain.as_slice(), &[number]);
+    drop(term);
+    drop(chain);
+    same
 }
 
 /// Whether an item is unlinked, and its place is given out again.
@@ -300,5 +308,8 @@ fn passes_on(list: &mut NodeList, alloc: Global, trial: Trial) -> Result<bool, A
 
 /// Whether a new list passes a trial.
 pub fn passes(alloc: Global, trial: Trial) -> Result<bool, AllocError> {
-    passes_on(&mut NodeList::new(alloc)?, alloc, trial)
+    let mut list = NodeList::new(alloc)?;
+    let passed = passes_on(&mut list, alloc, trial);
+    drop(list);
+    passed
 }

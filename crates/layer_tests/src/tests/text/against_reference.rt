@@ -1,5 +1,5 @@
 //! The reader's answers beside those of the reference, on every front of good texts and on texts with one byte changed.
-use super::given;
+use super::gives;
 use super::reference::by_rules;
 use std::alloc::{AllocError, Global};
 use std::process::Abort;
@@ -7,14 +7,20 @@ use std::process::Abort;
 /// What the rules say that the text gives.
 fn wanted(alloc: Global, text: &[u8]) -> Result<String, AllocError> {
     match by_rules(alloc, text) {
-        Ok((printed, taken)) => format!(in alloc; "{printed} {taken}"),
+        Ok((printed, taken)) => {
+            let told = format!(in alloc; "{printed} {taken}");
+            drop(printed);
+            told
+        }
         Err(fault) => format!(in alloc; "{fault:?}"),
     }
 }
 
 fn is_alike(alloc: Global, text: &[u8]) -> Result<bool, AllocError> {
     let wanted = wanted(alloc, text)?;
-    Ok(given(alloc, text)?.as_str() == wanted.as_str())
+    let alike = gives(alloc, text, wanted.as_str());
+    drop(wanted);
+    alike
 }
 
 const GOOD: [&str; 30] = [
@@ -113,14 +119,20 @@ fn all_changes_are_alike(alloc: Global, text: &mut [u8]) -> Result<bool, AllocEr
     Ok(all)
 }
 
+fn is_alike_changed(alloc: Global, text: &[u8]) -> Result<bool, AllocError> {
+    let mut bytes = text.to_vec(alloc)?;
+    let alike = all_changes_are_alike(alloc, bytes.as_mut_slice());
+    drop(bytes);
+    alike
+}
+
 /// The first text that is read otherwise than by the rules once a byte of it is changed.
 fn wrong_changes(
     alloc: Global,
     texts: &[&'static str],
 ) -> Result<Option<&'static str>, AllocError> {
     for text in texts {
-        let mut bytes = text.as_bytes().to_vec(alloc)?;
-        if !all_changes_are_alike(alloc, bytes.as_mut_slice())? {
+        if !is_alike_changed(alloc, text.as_bytes())? {
             return Ok(Some(*text));
         }
     }

@@ -1,4 +1,5 @@
 //! Long and deep texts with known terms.
+use super::long_text;
 use ets_term::{MAX_DEPTH, Term};
 use std::alloc::{AllocError, Global};
 use term_text::{TextFault, print_term, read_term};
@@ -8,33 +9,23 @@ const COUNTS: [usize; 12] = [2, 3, 5, 9, 17, 33, 65, 129, 257, 513, 1_025, 70_00
 
 fn is_printed(alloc: Global, term: &Term, printed: &str) -> Result<bool, AllocError> {
     let mut out = String::new(alloc);
-    print_term(alloc, term, &mut out)?;
-    Ok(out.as_str() == printed)
+    let done = print_term(alloc, term, &mut out);
+    let same = out.as_str() == printed;
+    drop(out);
+    done?;
+    Ok(same)
 }
 
 /// Whether the text is that of a term, to its last byte, which is printed so.
 fn is_read_whole(alloc: Global, text: &str, printed: &str) -> Result<bool, AllocError> {
     match read_term(alloc, text) {
-        Ok((term, taken)) => Ok(taken == text.len() && is_printed(alloc, &term, printed)?),
+        Ok((term, taken)) => {
+            let same = is_printed(alloc, &term, printed);
+            drop(term);
+            Ok(same? && taken == text.len())
+        }
         Err(_) => Ok(false),
     }
-}
-
-/// A front, a part so many times, and an end.
-fn with_repeats(
-    alloc: Global,
-    front: &str,
-    part: &str,
-    count: usize,
-    end: &str,
-) -> Result<String, AllocError> {
-    let mut text = String::new(alloc);
-    text.push_str(front)?;
-    for _ in 0..count {
-        text.push_str(part)?;
-    }
-    text.push_str(end)?;
-    Ok(text)
 }
 
 /// A text of which a part comes again and again, and how its term is printed.
@@ -61,16 +52,28 @@ const TUPLE: Repeated = Repeated {
 
 fn repeats(alloc: Global, parts: [&'static str; 3], count: usize) -> Result<String, AllocError> {
     let [front, part, end] = parts;
-    with_repeats(alloc, front, part, count, end)
+    long_text(alloc, front, part, count, end)
+}
+
+/// Whether the text of these parts is that of a term which is printed so.
+fn is_printed_so(
+    alloc: Global,
+    parts: [&'static str; 3],
+    count: usize,
+    printed: &str,
+) -> Result<bool, AllocError> {
+    let text = repeats(alloc, parts, count)?;
+    let whole = is_read_whole(alloc, text.as_str(), printed);
+    drop(text);
+    whole
 }
 
 fn is_long(alloc: Global, row: Repeated, count: usize) -> Result<bool, AllocError> {
     let printed = repeats(alloc, row.printed, count)?;
-    let text = repeats(alloc, row.text, count)?;
-    Ok(
-        is_read_whole(alloc, text.as_str(), printed.as_str())?
-            && is_read_whole(alloc, printed.as_str(), printed.as_str())?,
-    )
+    let text = is_printed_so(alloc, row.text, count, printed.as_str());
+    let again = is_read_whole(alloc, printed.as_str(), printed.as_str());
+    drop(printed);
+    Ok(text? && again?)
 }
 
 fn is_long_at_each(alloc: Global, row: Repeated, counts: &[usize]) -> Result<bool, AllocError> {
@@ -91,22 +94,32 @@ fn long_texts(rt: HostRuntime) {
 
 /// Brackets in brackets, so many deep.
 fn nested(alloc: Global, open: &str, close: &str, levels: usize) -> Result<String, AllocError> {
-    let closing = with_repeats(alloc, "", close, levels, "")?;
-    with_repeats(alloc, "", open, levels, closing.as_str())
+    let closing = long_text(alloc, "", close, levels, "")?;
+    let text = long_text(alloc, "", open, levels, closing.as_str());
+    drop(closing);
+    text
 }
 
 fn is_nested(alloc: Global, open: &str, close: &str, levels: usize) -> Result<bool, AllocError> {
     let text = nested(alloc, open, close, levels)?;
-    is_read_whole(alloc, text.as_str(), text.as_str())
+    let whole = is_read_whole(alloc, text.as_str(), text.as_str());
+    drop(text);
+    whole
+}
+
+fn is_refused_as_too_deep(alloc: Global, text: &str) -> bool {
+    let read = read_term(alloc, text);
+    let refused = matches!(&read, Err(TextFault::TooDeep(128)));
+    drop(read);
+    refused
 }
 
 /// Whether brackets one level past that are refused at the last that opens.
 fn is_too_deep(alloc: Global, open: &str, close: &str) -> Result<bool, AllocError> {
     let text = nested(alloc, open, close, 129)?;
-    Ok(matches!(
-        read_term(alloc, text.as_str()),
-        Err(TextFault::TooDeep(128))
-    ))
+    let refused = is_refused_as_too_deep(alloc, text.as_str());
+    drop(text);
+    Ok(refused)
 }
 
 /// Whether brackets are read and printed at every depth that a term may have, and refused at the next.

@@ -110,6 +110,11 @@ impl<'t> Reader<'t> {
 /// The printed term at the front, and how many bytes it takes, by the rules.
 pub fn by_rules(alloc: Global, text: &[u8]) -> Result<(String, usize), TextFault> {
     let mut reader = Reader::new(alloc, text);
-    reader.term()?;
-    Ok((reader.out, reader.at))
+    match reader.term() {
+        Ok(()) => Ok((reader.out, reader.at)),
+        Err(fault) => {
+            drop(reader);
+            Err(fault)
+        }
+    }
 }

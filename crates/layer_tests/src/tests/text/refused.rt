@@ -5,10 +5,12 @@ use term_text::TextFault;
 
 /// What a text is read as, again where memory is refused.
 pub(crate) fn read_again(alloc: Global, text: &str) -> Result<(Term, usize), TextFault> {
-    match read_term(alloc, text) {
-        Err(TextFault::Memory) => read_term(alloc, text),
-        read => read,
+    let read = read_term(alloc, text);
+    if !matches!(&read, Err(TextFault::Memory)) {
+        return read;
     }
+    drop(read);
+    read_term(alloc, text)
 }
 
 /// The term of a text.
@@ -23,11 +25,10 @@ pub(crate) fn term_again(alloc: Global, text: &str) -> Option<Term> {
 const FRONT: &str = "a front: ";
 
 fn front_again(alloc: Global) -> Option<String> {
-    let mut text = String::new(alloc);
-    if text.push_str(FRONT).is_err() {
-        text.push_str(FRONT).ok()?;
+    match String::from_str(alloc, FRONT) {
+        Ok(text) => Some(text),
+        Err(_) => String::from_str(alloc, FRONT).ok(),
     }
-    Some(text)
 }
 
 /// Whether a term is printed behind the front: at once, or again where memory was refused and nothing had come.
@@ -41,8 +42,16 @@ fn prints_again(alloc: Global, term: &Term, text: &mut String) -> bool {
 /// Whether the term of a text is printed as this, the front included.
 fn is_same_again(alloc: Global, text: &str, printed: &str) -> Option<bool> {
     let term = term_again(alloc, text)?;
+    let same = is_printed_again(alloc, &term, printed);
+    drop(term);
+    same
+}
+
+fn is_printed_again(alloc: Global, term: &Term, printed: &str) -> Option<bool> {
     let mut told = front_again(alloc)?;
-    Some(prints_again(alloc, &term, &mut told) && told.as_str() == printed)
+    let same = prints_again(alloc, term, &mut told) && told.as_str() == printed;
+    drop(told);
+    Some(same)
 }
 
 /// The first text that is read or printed otherwise.

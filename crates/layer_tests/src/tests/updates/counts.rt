@@ -3,18 +3,24 @@ use super::*;
 
 /// Whether operations answer this, and leave the object of the row where they are refused.
 fn counts_in_place(alloc: Global, object: &mut Term, ops: &Ops, told: (&Term, &Term)) -> bool {
-    is_told(&update_counter(alloc, object, ops), told.0) && *object == *told.1
+    answers(update_counter(alloc, object, ops), told.0) && *object == *told.1
 }
 
 fn counts_on_a_copy(alloc: Global, object: &Term, ops: &Ops, told: (&Term, &Term)) -> bool {
     match apply_ops(alloc, object, ops) {
-        Ok((copy, answer)) => answer == *told.0 && copy == *told.1,
+        Ok(copied) => {
+            let same = copied.1 == *told.0 && copied.0 == *told.1;
+            drop(copied);
+            same
+        }
         Err(fault) => is_refusal(&fault, told.0),
     }
 }
 
 fn counts_both(alloc: Global, object: &Term, ops: &Ops, told: (&Term, &Term)) -> Option<bool> {
-    let in_place = counts_in_place(alloc, &mut object.try_clone(alloc).ok()?, ops, told);
+    let mut own = object.try_clone(alloc).ok()?;
+    let in_place = counts_in_place(alloc, &mut own, ops, told);
+    drop(own);
     Some(in_place && counts_on_a_copy(alloc, object, ops, told))
 }
 
@@ -27,7 +33,11 @@ pub fn counts(
     told: (&Term, &Term),
 ) -> Option<bool> {
     match read_ops(alloc, updates, keypos) {
-        Ok(ops) => counts_both(alloc, object, &ops, told),
+        Ok(ops) => {
+            let both = counts_both(alloc, object, &ops, told);
+            drop(ops);
+            both
+        }
         Err(_) => Some(false),
     }
 }
@@ -87,11 +97,18 @@ fn operations_where_the_key_stands_second(rt: HostRuntime) {
     assert_eq!(rt; wrong(rt.alloc(), Call::Count(2), &KEY_SECOND), Some(None));
 }
 
+/// Whether a text is no operation on an object whose key stands first.
+fn is_no_update(alloc: Global, text: &str) -> Option<bool> {
+    let (update, _) = read_term(alloc, text).ok()?;
+    let fault = read_ops(alloc, &update, 1).err();
+    drop(update);
+    Some(matches!(fault, Some(CounterFault::Badarg)))
+}
+
 /// The first text that is read as operations on an object whose key stands first.
 fn read_as_updates(alloc: Global, texts: &[&'static str]) -> Option<Option<&'static str>> {
     for text in texts {
-        let (update, _) = read_term(alloc, *text).ok()?;
-        if !matches!(read_ops(alloc, &update, 1), Err(CounterFault::Badarg)) {
+        if !is_no_update(alloc, *text)? {
             return Some(Some(*text));
         }
     }

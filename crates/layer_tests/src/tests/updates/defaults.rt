@@ -8,15 +8,27 @@ fn is_started(told: &Term, answer: &Term, made: &Term) -> bool {
 
 /// Whether a Default makes an object of the key, as both calls have it.
 fn is_object(alloc: Global, keypos: u32, default: &Term, key: &Term) -> bool {
-    is_default(default, keypos, key) && keyed(alloc, default, keypos, key).is_ok()
+    let made = keyed(alloc, default, keypos, key);
+    let is_made = made.is_ok();
+    drop(made);
+    is_made && is_default(default, keypos, key)
 }
 
 fn is_no_object(alloc: Global, keypos: u32, default: &Term, key: &Term) -> bool {
-    !is_default(default, keypos, key)
-        && matches!(
-            keyed(alloc, default, keypos, key),
-            Err(CounterFault::Badarg)
-        )
+    let fault = keyed(alloc, default, keypos, key).err();
+    !is_default(default, keypos, key) && matches!(fault, Some(CounterFault::Badarg))
+}
+
+fn starts_with(alloc: Global, keypos: u32, object: (&Term, &Term), ops: &Ops, told: &Term) -> bool {
+    let (default, key) = object;
+    match start_counter(alloc, default, keypos, key, ops) {
+        Ok(started) => {
+            let same = is_started(told, &started.1, &started.0);
+            drop(started);
+            same && is_object(alloc, keypos, default, key)
+        }
+        Err(fault) => is_refusal(&fault, told),
+    }
 }
 
 /// Whether a Default with a key and the operations done gives this.
@@ -27,15 +39,13 @@ pub fn starts(
     updates: &Term,
     told: &Term,
 ) -> Option<bool> {
-    let Ok(ops) = read_ops(alloc, updates, keypos) else {
-        return Some(false);
-    };
-    let (default, key) = object;
-    match start_counter(alloc, default, keypos, key, &ops) {
-        Ok((made, answer)) => {
-            Some(is_started(told, &answer, &made) && is_object(alloc, keypos, default, key))
+    match read_ops(alloc, updates, keypos) {
+        Ok(ops) => {
+            let started = starts_with(alloc, keypos, object, &ops, told);
+            drop(ops);
+            Some(started)
         }
-        Err(fault) => Some(is_refusal(&fault, told)),
+        Err(_) => Some(false),
     }
 }
 
@@ -48,7 +58,7 @@ pub fn writes_default(
     made: &Term,
 ) -> Option<bool> {
     match read_element_specs(alloc, values, 1) {
-        Ok(specs) => Some(is_told(&start_elements(alloc, default, 1, key, specs), made)),
+        Ok(specs) => Some(answers(start_elements(alloc, default, 1, key, specs), made)),
         Err(_) => Some(false),
     }
 }
@@ -80,17 +90,25 @@ fn values_of_a_default(rt: HostRuntime) {
     assert_eq!(rt; wrong(rt.alloc(), Call::WriteDefault, &WRITTEN), Some(None));
 }
 
+/// Whether a Default with a key of this text is an object, and whether it is none.
+fn is_either(alloc: Global, keypos: u32, default: &Term, key: &str) -> Option<(bool, bool)> {
+    let (key, _) = read_term(alloc, key).ok()?;
+    let is_object = is_object(alloc, keypos, default, &key);
+    let is_none = is_no_object(alloc, keypos, default, &key);
+    drop(key);
+    Some((is_object, is_none))
+}
+
 /// Whether a Default is an object with a key, or is none: as the text says.
 fn is_object_of(alloc: Global, keypos: u32, default: &str, key: &str) -> Option<bool> {
     let (default, _) = read_term(alloc, default).ok()?;
-    let (key, _) = read_term(alloc, key).ok()?;
-    Some(is_object(alloc, keypos, &default, &key))
-}
-
-fn is_no_object_of(alloc: Global, keypos: u32, default: &str, key: &str) -> Option<bool> {
-    let (default, _) = read_term(alloc, default).ok()?;
-    let (key, _) = read_term(alloc, key).ok()?;
-    Some(is_no_object(alloc, keypos, &default, &key))
+    let either = is_either(alloc, keypos, &default, key);
+    drop(default);
+    match either? {
+        (true, false) => Some(true),
+        (false, true) => Some(false),
+        _ => None,
+    }
 }
 
 /// What is no object with a key: where the key stands, what there is, and the key.
@@ -103,7 +121,7 @@ const NO_OBJECTS: [(u32, &str, &str); 4] = [
 
 fn are_no_objects(alloc: Global, rows: &[(u32, &'static str, &'static str)]) -> Option<bool> {
     for (keypos, default, key) in rows {
-        if !is_no_object_of(alloc, *keypos, *default, *key)? {
+        if is_object_of(alloc, *keypos, *default, *key)? {
             return Some(false);
         }
     }

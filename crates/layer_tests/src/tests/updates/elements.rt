@@ -11,17 +11,23 @@ fn writes_in_place(object: &mut Term, specs: ElementSpecs, before: &Term, made: 
 
 fn writes_on_a_copy(alloc: Global, object: &Term, values: &Term, made: &Term) -> bool {
     match read_element_specs(alloc, values, 1) {
-        Ok(specs) => is_told(&apply_elements(alloc, object, specs), made),
+        Ok(specs) => answers(apply_elements(alloc, object, specs), made),
+        Err(_) => false,
+    }
+}
+
+fn writes_in_own(alloc: Global, own: &mut Term, values: &Term, before: &Term, made: &Term) -> bool {
+    match read_element_specs(alloc, values, 1) {
+        Ok(specs) => writes_in_place(own, specs, before, made),
         Err(_) => false,
     }
 }
 
 /// Whether the values make this, in place and on a copy.
 pub fn writes(alloc: Global, object: &Term, values: &Term, made: &Term) -> Option<bool> {
-    let Ok(specs) = read_element_specs(alloc, values, 1) else {
-        return Some(false);
-    };
-    let in_place = writes_in_place(&mut object.try_clone(alloc).ok()?, specs, object, made);
+    let mut own = object.try_clone(alloc).ok()?;
+    let in_place = writes_in_own(alloc, &mut own, values, object, made);
+    drop(own);
     Some(in_place && writes_on_a_copy(alloc, object, values, made))
 }
 
@@ -45,14 +51,18 @@ fn values_of_elements(rt: HostRuntime) {
     assert_eq!(rt; wrong(rt.alloc(), Call::Write, &WRITTEN), Some(None));
 }
 
+/// Whether a text is no value for an object whose key stands first.
+fn is_no_value(alloc: Global, text: &str) -> Option<bool> {
+    let (values, _) = read_term(alloc, text).ok()?;
+    let fault = read_element_specs(alloc, &values, 1).err();
+    drop(values);
+    Some(matches!(fault, Some(CounterFault::Badarg)))
+}
+
 /// The first text that is read as values for an object whose key stands first.
 fn read_as_values(alloc: Global, texts: &[&'static str]) -> Option<Option<&'static str>> {
     for text in texts {
-        let (values, _) = read_term(alloc, *text).ok()?;
-        if !matches!(
-            read_element_specs(alloc, &values, 1),
-            Err(CounterFault::Badarg)
-        ) {
+        if !is_no_value(alloc, *text)? {
             return Some(Some(*text));
         }
     }

@@ -24,6 +24,10 @@ fn specs_again(alloc: Global, values: &Term) -> Option<ElementSpecs> {
     }
 }
 
+fn is_refused_memory<T>(outcome: &Result<T, CounterFault>) -> bool {
+    matches!(outcome, Err(CounterFault::Memory))
+}
+
 /// What operations answer on an object, again where they were refused memory and the object is as it was.
 fn counted_again(
     alloc: Global,
@@ -31,17 +35,21 @@ fn counted_again(
     before: &Term,
     ops: &Ops,
 ) -> Result<Term, CounterFault> {
-    match update_counter(alloc, object, ops) {
-        Err(CounterFault::Memory) if *object == *before => update_counter(alloc, object, ops),
-        answered => answered,
+    let outcome = update_counter(alloc, object, ops);
+    if !is_refused_memory(&outcome) || !(*object == *before) {
+        return outcome;
     }
+    drop(outcome);
+    update_counter(alloc, object, ops)
 }
 
 fn copied_again(alloc: Global, object: &Term, ops: &Ops) -> Result<(Term, Term), CounterFault> {
-    match apply_ops(alloc, object, ops) {
-        Err(CounterFault::Memory) => apply_ops(alloc, object, ops),
-        answered => answered,
+    let outcome = apply_ops(alloc, object, ops);
+    if !is_refused_memory(&outcome) {
+        return outcome;
     }
+    drop(outcome);
+    apply_ops(alloc, object, ops)
 }
 
 fn started_again(
@@ -50,32 +58,51 @@ fn started_again(
     key: &Term,
     ops: &Ops,
 ) -> Result<(Term, Term), CounterFault> {
-    match start_counter(alloc, default, 1, key, ops) {
-        Err(CounterFault::Memory) => start_counter(alloc, default, 1, key, ops),
-        answered => answered,
+    let outcome = start_counter(alloc, default, 1, key, ops);
+    if !is_refused_memory(&outcome) {
+        return outcome;
     }
+    drop(outcome);
+    start_counter(alloc, default, 1, key, ops)
 }
 
 /// Whether an answer and what was made are these.
-fn are_told(outcome: &Result<(Term, Term), CounterFault>, answer: &Term, made: &Term) -> bool {
+fn are_told(outcome: Result<(Term, Term), CounterFault>, told: (&Term, &Term)) -> bool {
     match outcome {
-        Ok((object, told)) => *told == *answer && *object == *made,
-        Err(fault) => is_refusal(fault, answer),
+        Ok(both) => {
+            let same = both.1 == *told.0 && both.0 == *told.1;
+            drop(both);
+            same
+        }
+        Err(fault) => is_refusal(&fault, told.0),
     }
+}
+
+/// Whether operations answer and make this of an object.
+fn counts_in_place_again(
+    alloc: Global,
+    object: &Term,
+    ops: &Ops,
+    told: (&Term, &Term),
+) -> Option<bool> {
+    let mut own = clone_again(alloc, object)?;
+    let answered = answers(counted_again(alloc, &mut own, object, ops), told.0);
+    let made = own == *told.1;
+    drop(own);
+    Some(answered && made)
 }
 
 fn counts_again(
     alloc: Global,
     object: &Term,
     updates: &Term,
-    answer: &Term,
-    made: &Term,
+    told: (&Term, &Term),
 ) -> Option<bool> {
     let ops = ops_again(alloc, updates, 1)?;
-    let mut own = clone_again(alloc, object)?;
-    let in_place = is_told(&counted_again(alloc, &mut own, object, &ops), answer);
-    let copied = copied_again(alloc, object, &ops);
-    Some(in_place && own == *made && are_told(&copied, answer, made))
+    let in_place = counts_in_place_again(alloc, object, &ops, told);
+    let copied = are_told(copied_again(alloc, object, &ops), told);
+    drop(ops);
+    Some(in_place? && copied)
 }
 
 fn starts_again(
@@ -86,18 +113,20 @@ fn starts_again(
     told: (&Term, &Term),
 ) -> Option<bool> {
     let ops = ops_again(alloc, updates, 1)?;
-    Some(are_told(&started_again(alloc, default, key, &ops), told.0, told.1))
+    let started = started_again(alloc, default, key, &ops);
+    drop(ops);
+    Some(are_told(started, told))
 }
 
 /// Whether values make this of an object, again where they were refused memory.
 fn writes_again(alloc: Global, object: &Term, values: &Term, made: &Term) -> Option<bool> {
-    match apply_elements(alloc, object, specs_again(alloc, values)?) {
-        Err(CounterFault::Memory) => {
-            let again = apply_elements(alloc, object, specs_again(alloc, values)?);
-            Some(is_told(&again, made))
-        }
-        answered => Some(is_told(&answered, made)),
+    let outcome = apply_elements(alloc, object, specs_again(alloc, values)?);
+    if !is_refused_memory(&outcome) {
+        return Some(answers(outcome, made));
     }
+    drop(outcome);
+    let again = apply_elements(alloc, object, specs_again(alloc, values)?);
+    Some(answers(again, made))
 }
 
 /// The same of a Default with a key.
@@ -108,13 +137,13 @@ fn writes_default_again(
     values: &Term,
     made: &Term,
 ) -> Option<bool> {
-    match start_elements(alloc, default, 1, key, specs_again(alloc, values)?) {
-        Err(CounterFault::Memory) => {
-            let again = start_elements(alloc, default, 1, key, specs_again(alloc, values)?);
-            Some(is_told(&again, made))
-        }
-        answered => Some(is_told(&answered, made)),
+    let outcome = start_elements(alloc, default, 1, key, specs_again(alloc, values)?);
+    if !is_refused_memory(&outcome) {
+        return Some(answers(outcome, made));
     }
+    drop(outcome);
+    let again = start_elements(alloc, default, 1, key, specs_again(alloc, values)?);
+    Some(answers(again, made))
 }
 
 /// What a row is about.
@@ -133,7 +162,7 @@ enum Call {
 fn holds_again(alloc: Global, call: Call, row: &[Term]) -> Option<bool> {
     match (call, row) {
         (Call::Count, [object, updates, answer, made]) => {
-            counts_again(alloc, object, updates, answer, made)
+            counts_again(alloc, object, updates, (answer, made))
         }
         (Call::Start, [default, key, updates, answer, made]) => {
             starts_again(alloc, default, key, updates, (answer, made))
@@ -147,10 +176,13 @@ fn holds_again(alloc: Global, call: Call, row: &[Term]) -> Option<bool> {
 }
 
 fn holds_read_again(alloc: Global, call: Call, row: &str) -> Option<bool> {
-    match term_again(alloc, row)? {
+    let row = term_again(alloc, row)?;
+    let holds = match &row {
         Term::List(parts) => holds_again(alloc, call, parts.as_slice()),
         _ => None,
-    }
+    };
+    drop(row);
+    holds
 }
 
 /// The first row that does not hold.

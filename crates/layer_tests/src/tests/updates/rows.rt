@@ -34,10 +34,13 @@ fn holds(alloc: Global, call: Call, row: &[Term]) -> Option<bool> {
 }
 
 fn holds_read(alloc: Global, call: Call, row: &str) -> Option<bool> {
-    match read_term(alloc, row).ok()? {
-        (Term::List(parts), _) => holds(alloc, call, parts.as_slice()),
+    let (row, _) = read_term(alloc, row).ok()?;
+    let holds = match &row {
+        Term::List(parts) => holds(alloc, call, parts.as_slice()),
         _ => Some(false),
-    }
+    };
+    drop(row);
+    holds
 }
 
 /// The first row that does not hold.

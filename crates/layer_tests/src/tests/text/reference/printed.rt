@@ -4,7 +4,9 @@ use std::alloc::{AllocError, Global};
 
 pub(super) fn put_number(alloc: Global, out: &mut String, n: u128) -> Result<(), AllocError> {
     let text = format!(in alloc; "{n}")?;
-    out.push_str(text.as_str())
+    let pushed = out.push_str(text.as_str());
+    drop(text);
+    pushed
 }
 
 /// Numbers, with a comma between two.
