@@ -15,7 +15,9 @@ struct Tally {
 /// What a pattern finds in an object, where it is one: None where it does not match.
 fn bindings(alloc: Global, pattern: &Term, object: &Term) -> Option<Option<Term>> {
     let pattern = Pattern::compile(alloc, pattern).ok()?;
-    match pattern.bindings(alloc, object).ok()? {
+    let found = pattern.bindings(alloc, object);
+    drop(pattern);
+    match found.ok()? {
         Some(values) => Some(Some(Term::List(Items::from_vec(values)))),
         None => Some(None),
     }
@@ -30,18 +32,24 @@ impl Tally {
 
     fn pattern(&mut self, alloc: Global, pattern: &Term, object: &Term) {
         let found = bindings(alloc, pattern, object);
-        self.matched = self
-            .matched
-            .saturating_add(matches!(found, Some(Some(_))) as u32);
-        self.count(found == Some(plain::bindings(alloc, pattern, object)));
+        let wanted = Some(plain::bindings(alloc, pattern, object));
+        let matched = matches!(&found, Some(Some(_)));
+        let same = found == wanted;
+        drop(found);
+        drop(wanted);
+        self.matched = self.matched.saturating_add(matched as u32);
+        self.count(same);
     }
 
     fn result(&mut self, alloc: Global, compiled: &Spec, spec: &Term, object: &Term) {
         let result = compiled.result(alloc, object).ok();
-        self.given = self
-            .given
-            .saturating_add(matches!(result, Some(Some(_))) as u32);
-        self.count(result == Some(plain::result(alloc, spec, object)));
+        let wanted = Some(plain::result(alloc, spec, object));
+        let given = matches!(&result, Some(Some(_)));
+        let same = result == wanted;
+        drop(result);
+        drop(wanted);
+        self.given = self.given.saturating_add(given as u32);
+        self.count(same);
     }
 
     fn spec(&mut self, alloc: Global, spec: &Term, object: &Term) {
@@ -51,22 +59,37 @@ impl Tally {
                 self.good = self.good.saturating_add(1);
                 self.count(is_spec);
                 self.result(alloc, &compiled, spec, object);
+                drop(compiled);
             }
             Err(_) => self.count(!is_spec),
         }
     }
 
     fn pattern_of(&mut self, alloc: Global, random: &mut Random, object: &Term) -> Option<()> {
-        self.pattern(alloc, &random.pattern(alloc, object)?, object);
+        let pattern = random.pattern(alloc, object)?;
+        self.pattern(alloc, &pattern, object);
+        drop(pattern);
         Some(())
+    }
+
+    fn spec_of(&mut self, alloc: Global, random: &mut Random, object: &Term) -> Option<()> {
+        let spec = random.spec(alloc, object)?;
+        self.spec(alloc, &spec, object);
+        drop(spec);
+        Some(())
+    }
+
+    fn both_of(&mut self, alloc: Global, random: &mut Random, object: &Term) -> Option<()> {
+        self.pattern_of(alloc, random, object)?;
+        self.spec_of(alloc, random, object)
     }
 
     // A random object with a pattern and a specification of its own.
     fn one_more(&mut self, alloc: Global, random: &mut Random) -> Option<()> {
         let object = random.object(alloc)?;
-        self.pattern_of(alloc, random, &object)?;
-        self.spec(alloc, &random.spec(alloc, &object)?, &object);
-        Some(())
+        let done = self.both_of(alloc, random, &object);
+        drop(object);
+        done
     }
 
     fn add(&mut self, alloc: Global, random: &mut Random, objects: u32) -> Option<()> {

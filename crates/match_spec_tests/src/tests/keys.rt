@@ -4,13 +4,21 @@ use ets_term::Position;
 use term_text::read_term;
 
 fn read(alloc: Global, text: &str) -> Option<Term> {
-    Some(read_term(alloc, text).ok()?.0)
+    let (term, _) = read_term(alloc, text).ok()?;
+    Some(term)
+}
+
+fn is_term(alloc: Global, key: &Term, text: &str) -> Option<bool> {
+    let term = read(alloc, text)?;
+    let same = *key == term;
+    drop(term);
+    Some(same)
 }
 
 /// Whether a key that was found is that of a text, or there is none and no text.
 fn is_key(alloc: Global, found: Option<&Term>, wanted: Option<&'static str>) -> Option<bool> {
     match (found, wanted) {
-        (Some(key), Some(text)) => Some(*key == read(alloc, text)?),
+        (Some(key), Some(text)) => is_term(alloc, key, text),
         (found, wanted) => Some(found.is_none() && wanted.is_none()),
     }
 }
@@ -32,10 +40,19 @@ const PATTERNS: [PatternRow; 11] = [
     ("a", 1, None),
 ];
 
+fn pattern_of(alloc: Global, text: &str) -> Option<Pattern> {
+    let term = read(alloc, text)?;
+    let pattern = Pattern::compile(alloc, &term);
+    drop(term);
+    pattern.ok()
+}
+
 fn pattern_binds(alloc: Global, row: PatternRow) -> Option<bool> {
     let (text, keypos, wanted) = row;
-    let pattern = Pattern::compile(alloc, &read(alloc, text)?).ok()?;
-    is_key(alloc, pattern.bound_key(keypos), wanted)
+    let pattern = pattern_of(alloc, text)?;
+    let binds = is_key(alloc, pattern.bound_key(keypos), wanted);
+    drop(pattern);
+    binds
 }
 
 fn patterns_bind(alloc: Global, rows: &[PatternRow]) -> bool {
@@ -64,10 +81,19 @@ const SPECS: [SpecRow; 6] = [
     ("[{{'$1',7},[],[1]}]", None),
 ];
 
+fn spec_of(alloc: Global, text: &str) -> Option<Spec> {
+    let term = read(alloc, text)?;
+    let spec = Spec::compile(alloc, &term);
+    drop(term);
+    spec.ok()
+}
+
 fn spec_binds(alloc: Global, row: SpecRow) -> Option<bool> {
     let (text, wanted) = row;
-    let spec = Spec::compile(alloc, &read(alloc, text)?).ok()?;
-    is_key(alloc, spec.bound_key(1), wanted)
+    let spec = spec_of(alloc, text)?;
+    let binds = is_key(alloc, spec.bound_key(1), wanted);
+    drop(spec);
+    binds
 }
 
 fn specs_bind(alloc: Global, rows: &[SpecRow]) -> bool {

@@ -1,40 +1,60 @@
 // Patterns, specifications and expressions past the numbers at which a lazy body could stop.
 use super::*;
-use crate::tests::forms::{atom, one, pair, triple};
+use crate::tests::forms::{atom, filled, one, pair, triple};
 
 /// The number of the last variable.
 const LAST: u32 = 9_999;
 
 fn variable(alloc: Global, number: u32) -> Option<Term> {
     let text = format!(in alloc; "${number}").ok()?;
-    atom(alloc, text.as_str())
+    let variable = atom(alloc, text.as_str());
+    drop(text);
+    variable
 }
 
-/// `{$9999,..,$0}`.
-fn many_variables(alloc: Global) -> Option<Term> {
-    let mut variables = Items::new(alloc);
+fn push_variables(alloc: Global, variables: &mut Items<Term>) -> Option<()> {
     for n in 0..=LAST {
         variables
             .push(variable(alloc, LAST.saturating_sub(n))?)
             .ok()?;
     }
-    Some(Term::Tuple(variables))
+    Some(())
+}
+
+/// The pattern `{$9999,..,$0}`.
+fn many_variables(alloc: Global) -> Option<Pattern> {
+    let mut variables = Items::new(alloc);
+    let term = Term::Tuple(filled(push_variables(alloc, &mut variables), variables)?);
+    let pattern = Pattern::compile(alloc, &term);
+    drop(term);
+    pattern.ok()
+}
+
+fn push_numbers(numbers: &mut Items<Term>) -> Option<()> {
+    for n in 0..=LAST {
+        let number = Integer::from(LAST.saturating_sub(n));
+        numbers.push(Term::Int(number)).ok()?;
+    }
+    Some(())
 }
 
 /// `{9999,..,0}`.
 fn many_numbers(alloc: Global) -> Option<Term> {
     let mut numbers = Items::new(alloc);
-    for n in 0..=LAST {
-        let number = Integer::from(LAST.saturating_sub(n));
-        numbers.push(Term::Int(number)).ok()?;
+    Some(Term::Tuple(filled(push_numbers(&mut numbers), numbers)?))
+}
+
+fn is_number(term: &Term, number: Integer) -> bool {
+    match term {
+        Term::Int(own) => *own == number,
+        _ => false,
     }
-    Some(Term::Tuple(numbers))
 }
 
 /// Whether each value is the number of its place.
 fn are_numbered(values: &[Term]) -> bool {
     for (i, value) in values.iter().enumerate() {
-        if *value != Term::Int(i as Integer) {
+        if !is_number(value, i as Integer) {
             return false;
         }
     }
@@ -42,13 +62,20 @@ fn are_numbered(values: &[Term]) -> bool {
 }
 
 fn binds_in_order(alloc: Global, pattern: &Pattern) -> Option<bool> {
-    let values = pattern.bindings(alloc, &many_numbers(alloc)?).ok()??;
-    Some(are_numbered(values.as_slice()))
+    let numbers = many_numbers(alloc)?;
+    let found = pattern.bindings(alloc, &numbers);
+    drop(numbers);
+    let values = found.ok()??;
+    let numbered = are_numbered(values.as_slice());
+    drop(values);
+    Some(numbered)
 }
 
 fn many_bind_in_order(alloc: Global) -> Option<bool> {
-    let pattern = Pattern::compile(alloc, &many_variables(alloc)?).ok()?;
-    binds_in_order(alloc, &pattern)
+    let pattern = many_variables(alloc)?;
+    let bound = binds_in_order(alloc, &pattern);
+    drop(pattern);
+    bound
 }
 
 #[test]
@@ -63,21 +90,55 @@ fn body(alloc: Global) -> Option<Term> {
 
 /// A clause that gives an object with this key its second element.
 fn clause(alloc: Global, key: Integer) -> Option<Term> {
-    let head = pair(alloc, Term::Int(key), atom(alloc, "$1")?)?;
-    triple(alloc, head, Term::List(Items::new(alloc)), body(alloc)?)
+    let variable = atom(alloc, "$1")?;
+    let head = pair(alloc, Term::Int(key), variable)?;
+    unconditional(alloc, head, body(alloc))
+}
+
+/// The clause of a head and a body, with no condition.
+fn unconditional(alloc: Global, head: Term, body: Option<Term>) -> Option<Term> {
+    match body {
+        Some(body) => triple(alloc, head, Term::List(Items::new(alloc)), body),
+        None => {
+            drop(head);
+            None
+        }
+    }
+}
+
+fn push_clauses(alloc: Global, clauses: &mut Items<Term>) -> Option<()> {
+    for n in 0..10_000u32 {
+        clauses.push(clause(alloc, Integer::from(n))?).ok()?;
+    }
+    Some(())
+}
+
+/// The specification of a term that is made for it.
+fn spec_of(alloc: Global, made: Option<Term>) -> Option<Spec> {
+    let term = made?;
+    let spec = Spec::compile(alloc, &term);
+    drop(term);
+    spec.ok()
 }
 
 fn many_clauses(alloc: Global) -> Option<Term> {
     let mut clauses = Items::new(alloc);
-    for n in 0..10_000u32 {
-        clauses.push(clause(alloc, Integer::from(n))?).ok()?;
-    }
-    Some(Term::List(clauses))
+    Some(Term::List(filled(push_clauses(alloc, &mut clauses), clauses)?))
+}
+
+/// Whether a specification gives an object this number. The object is made for it.
+fn gives(alloc: Global, spec: &Spec, made: Option<Term>, wanted: Integer) -> Option<bool> {
+    let object = made?;
+    let result = spec.result(alloc, &object);
+    drop(object);
+    let given = result.ok()??;
+    let same = is_number(&given, wanted);
+    drop(given);
+    Some(same)
 }
 
 fn gives_itself(alloc: Global, spec: &Spec, n: Integer) -> Option<bool> {
-    let object = pair(alloc, Term::Int(n), Term::Int(n))?;
-    Some(spec.result(alloc, &object).ok()?? == Term::Int(n))
+    gives(alloc, spec, pair(alloc, Term::Int(n), Term::Int(n)), n)
 }
 
 fn give_themselves(alloc: Global, spec: &Spec, numbers: &[Integer]) -> bool {
@@ -90,8 +151,10 @@ fn give_themselves(alloc: Global, spec: &Spec, numbers: &[Integer]) -> bool {
 }
 
 fn many_are_tried(alloc: Global, numbers: &[Integer]) -> Option<bool> {
-    let spec = Spec::compile(alloc, &many_clauses(alloc)?).ok()?;
-    Some(give_themselves(alloc, &spec, numbers))
+    let spec = spec_of(alloc, many_clauses(alloc))?;
+    let given = give_themselves(alloc, &spec, numbers);
+    drop(spec);
+    Some(given)
 }
 
 #[test]
@@ -100,38 +163,60 @@ fn thousands_of_clauses_are_tried_in_order(rt: HostRuntime) {
     assert!(rt; many_are_tried(rt.alloc(), &numbers) == Some(true));
 }
 
+/// `{+,Sum,1}`.
+fn one_more(alloc: Global, sum: Term) -> Option<Term> {
+    match atom(alloc, "+") {
+        Some(plus) => triple(alloc, plus, sum, Term::Int(1)),
+        None => {
+            drop(sum);
+            None
+        }
+    }
+}
+
 /// `{+,{+,..{+,2,1}..,1},1}`.
 fn deep_sum(alloc: Global, levels: usize) -> Option<Term> {
     let mut sum = Term::Int(2);
     for _ in 0..levels {
-        sum = triple(alloc, atom(alloc, "+")?, sum, Term::Int(1))?;
+        sum = one_more(alloc, sum)?;
     }
     Some(sum)
 }
 
 /// The specification that gives each object the value of an expression.
 fn giving(alloc: Global, expression: Term) -> Option<Term> {
-    let body = Term::List(one(alloc, expression)?);
-    let clause = triple(
-        alloc,
-        atom(alloc, "_")?,
-        Term::List(Items::new(alloc)),
-        body,
-    )?;
+    let body = one(alloc, expression)?;
+    let head = atom(alloc, "_");
+    let clause = headed(alloc, head, Term::List(body))?;
     Some(Term::List(one(alloc, clause)?))
 }
 
-fn value(alloc: Global, expression: Term) -> Option<Term> {
-    let spec = Spec::compile(alloc, &giving(alloc, expression)?).ok()?;
-    spec.result(alloc, &Term::Tuple(one(alloc, Term::Int(1))?))
-        .ok()?
+/// The clause of a head and a body, with no condition.
+fn headed(alloc: Global, head: Option<Term>, body: Term) -> Option<Term> {
+    match head {
+        Some(head) => unconditional(alloc, head, Some(body)),
+        None => {
+            drop(body);
+            None
+        }
+    }
 }
 
-fn deep_value(alloc: Global, levels: usize) -> Option<Term> {
-    value(alloc, deep_sum(alloc, levels)?)
+/// `{1}`.
+fn number_alone(alloc: Global) -> Option<Term> {
+    Some(Term::Tuple(one(alloc, Term::Int(1))?))
+}
+
+/// Whether a sum so deep has this value.
+fn has_deep_value(alloc: Global, levels: usize, wanted: Integer) -> Option<bool> {
+    let expression = deep_sum(alloc, levels)?;
+    let spec = spec_of(alloc, giving(alloc, expression))?;
+    let given = gives(alloc, &spec, number_alone(alloc), wanted);
+    drop(spec);
+    given
 }
 
 #[test]
 fn an_expression_128_deep_has_its_value(rt: HostRuntime) {
-    assert!(rt; deep_value(rt.alloc(), 128) == Some(Term::Int(130)));
+    assert!(rt; has_deep_value(rt.alloc(), 128, 130) == Some(true));
 }

@@ -1,6 +1,6 @@
 // Random objects, patterns and specifications, made from pools of terms that grow by tuples and lists of what is there.
 use super::*;
-use crate::tests::forms::{atom, copy, one, triple};
+use crate::tests::forms::{atom, copy, filled, one};
 
 /// Numbers that are the same in each run.
 #[derive(Drop)]
@@ -30,8 +30,7 @@ impl Random {
     fn some_of(&mut self, alloc: Global, terms: &[Term], most: u64) -> Option<Items<Term>> {
         let mut some = Items::new(alloc);
         let count = self.below(most.saturating_add(1));
-        self.push_some(alloc, terms, count, &mut some)?;
-        Some(some)
+        filled(self.push_some(alloc, terms, count, &mut some), some)
     }
 
     fn push_some(
@@ -86,7 +85,13 @@ impl Random {
     /// A tuple of up to three elements, some of them tuples and lists.
     pub(crate) fn object(&mut self, alloc: Global) -> Option<Term> {
         let mut pool = Vec::new(alloc);
-        self.push_parts(alloc, &mut pool)?;
+        let object = self.object_from(alloc, &mut pool);
+        drop(pool);
+        object
+    }
+
+    fn object_from(&mut self, alloc: Global, pool: &mut Vec<Term>) -> Option<Term> {
+        self.push_parts(alloc, pool)?;
         Some(Term::Tuple(self.some_of(alloc, pool.as_slice(), 3)?))
     }
 
@@ -115,20 +120,33 @@ impl Random {
         }
     }
 
-    fn holes(&mut self, alloc: Global, terms: &[Term]) -> Option<Items<Term>> {
-        let mut parts = Items::new(alloc);
+    fn push_holes(&mut self, alloc: Global, terms: &[Term], parts: &mut Items<Term>) -> Option<()> {
         for term in terms {
             parts.push(self.part(alloc, term)?).ok()?;
         }
-        Some(parts)
+        Some(())
+    }
+
+    fn holes(&mut self, alloc: Global, terms: &[Term]) -> Option<Items<Term>> {
+        let mut parts = Items::new(alloc);
+        filled(self.push_holes(alloc, terms, &mut parts), parts)
+    }
+
+    fn push_inner_holes(
+        &mut self,
+        alloc: Global,
+        terms: &[Term],
+        parts: &mut Items<Term>,
+    ) -> Option<()> {
+        for term in terms {
+            parts.push(self.hole(alloc, term)?).ok()?;
+        }
+        Some(())
     }
 
     fn inner_holes(&mut self, alloc: Global, terms: &[Term]) -> Option<Items<Term>> {
         let mut parts = Items::new(alloc);
-        for term in terms {
-            parts.push(self.hole(alloc, term)?).ok()?;
-        }
-        Some(parts)
+        filled(self.push_inner_holes(alloc, terms, &mut parts), parts)
     }
 
     /// The object with variables and other terms in place of some of its parts.
@@ -201,8 +219,7 @@ impl Random {
             count
         };
         let mut parts = one(alloc, atom(alloc, name)?)?;
-        self.push_some(alloc, pool, count, &mut parts)?;
-        Some(Term::Tuple(parts))
+        Some(Term::Tuple(filled(self.push_some(alloc, pool, count, &mut parts), parts)?))
     }
 
     // An expression of those that are there.
@@ -232,23 +249,42 @@ impl Random {
 
     fn expressions(&mut self, alloc: Global, most: u64) -> Option<Term> {
         let mut pool = Vec::new(alloc);
-        self.push_expressions(alloc, &mut pool)?;
+        let expressions = self.expressions_from(alloc, &mut pool, most);
+        drop(pool);
+        expressions
+    }
+
+    fn expressions_from(&mut self, alloc: Global, pool: &mut Vec<Term>, most: u64) -> Option<Term> {
+        self.push_expressions(alloc, pool)?;
         Some(Term::List(self.some_of(alloc, pool.as_slice(), most)?))
     }
 
+    fn push_clause(&mut self, alloc: Global, object: &Term, parts: &mut Items<Term>) -> Option<()> {
+        parts.push(self.pattern(alloc, object)?).ok()?;
+        parts.push(self.expressions(alloc, 1)?).ok()?;
+        parts.push(self.expressions(alloc, 2)?).ok()
+    }
+
     fn clause(&mut self, alloc: Global, object: &Term) -> Option<Term> {
-        let head = self.pattern(alloc, object)?;
-        let conditions = self.expressions(alloc, 1)?;
-        let body = self.expressions(alloc, 2)?;
-        triple(alloc, head, conditions, body)
+        let mut parts = Items::new(alloc);
+        Some(Term::Tuple(filled(self.push_clause(alloc, object, &mut parts), parts)?))
+    }
+
+    fn push_clauses(
+        &mut self,
+        alloc: Global,
+        object: &Term,
+        clauses: &mut Items<Term>,
+    ) -> Option<()> {
+        for _ in 0..self.below(2).saturating_add(1) {
+            clauses.push(self.clause(alloc, object)?).ok()?;
+        }
+        Some(())
     }
 
     /// One or two clauses whose heads are made from the object.
     pub(crate) fn spec(&mut self, alloc: Global, object: &Term) -> Option<Term> {
         let mut clauses = Items::new(alloc);
-        for _ in 0..self.below(2).saturating_add(1) {
-            clauses.push(self.clause(alloc, object)?).ok()?;
-        }
-        Some(Term::List(clauses))
+        Some(Term::List(filled(self.push_clauses(alloc, object, &mut clauses), clauses)?))
     }
 }

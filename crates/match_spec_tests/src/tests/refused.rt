@@ -3,12 +3,17 @@
 use super::*;
 use term_text::{TextFault, read_term};
 
+fn read_again(alloc: Global, text: &str) -> Result<(Term, usize), TextFault> {
+    let read = read_term(alloc, text);
+    if !matches!(&read, Err(TextFault::Memory)) {
+        return read;
+    }
+    drop(read);
+    read_term(alloc, text)
+}
+
 fn term_again(alloc: Global, text: &str) -> Option<Term> {
-    let read = match read_term(alloc, text) {
-        Err(TextFault::Memory) => read_term(alloc, text),
-        read => read,
-    };
-    match read {
+    match read_again(alloc, text) {
         Ok((term, _)) => Some(term),
         Err(_) => None,
     }
@@ -59,15 +64,26 @@ fn is_true_again(alloc: Global, spec: &Spec, object: &Term) -> Option<bool> {
     }
 }
 
+fn is_same(found: Option<Term>, wanted: &Term) -> Option<bool> {
+    let term = found?;
+    let same = term == *wanted;
+    drop(term);
+    Some(same)
+}
+
 fn is_found(alloc: Global, pattern: &Term, object: &Term, wanted: &Term) -> Option<bool> {
     let pattern = pattern_again(alloc, pattern)?;
-    Some(found_again(alloc, &pattern, object)? == *wanted)
+    let found = found_again(alloc, &pattern, object);
+    drop(pattern);
+    is_same(found, wanted)
 }
 
 fn is_given(alloc: Global, spec: &Term, object: &Term, wanted: &Term) -> Option<bool> {
     let spec = spec_again(alloc, spec)?;
-    let is_true = is_true_again(alloc, &spec, object)? == wanted.is_atom("true");
-    Some(is_true && given_again(alloc, &spec, object)? == *wanted)
+    let is_true = is_true_again(alloc, &spec, object);
+    let given = given_again(alloc, &spec, object);
+    drop(spec);
+    Some(is_same(given, wanted)? && is_true? == wanted.is_atom("true"))
 }
 
 /// What a row is about: `[Pattern,Object,Values]`, or `[Specification,Object,Result]`.
@@ -86,10 +102,13 @@ fn holds(alloc: Global, form: Form, row: &[Term]) -> Option<bool> {
 }
 
 fn holds_read(alloc: Global, form: Form, row: &str) -> Option<bool> {
-    match term_again(alloc, row)? {
+    let row = term_again(alloc, row)?;
+    let holds = match &row {
         Term::List(parts) => holds(alloc, form, parts.as_slice()),
         _ => None,
-    }
+    };
+    drop(row);
+    holds
 }
 
 /// The first row that does not hold.

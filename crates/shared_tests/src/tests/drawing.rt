@@ -25,8 +25,12 @@ fn visit<L: Ledger, H: KeyHash + Copy + Drop, R: Wait>(
     requires { seat.seat.table_id ≡ pids.now.table.shared.table_id }
 {
     let mut client = shared.client(rt, pids.draw(seat)).ok()?;
-    client.ask(rt, shared, asked).ok()?;
-    Some(client)
+    let is_answered = client.ask(rt, shared, asked).is_ok();
+    if is_answered {
+        return Some(client);
+    }
+    drop(client);
+    None
 }
 
 /// The clients of two seats, each from a thread of its own.
@@ -63,10 +67,30 @@ fn visitors<L: Ledger + Send + Sync, R: Threads + Wait + Sync>(
     alloc: Global,
     shared: &Shared<L, Fnv>,
 ) -> Result<Vec<Client<L>>, Fail> {
-    let (pids, one, other) = two_seats(alloc)?;
     let asked = call(alloc, "receive", "[]")?;
-    let (one, other) = visits(rt, shared, &pids, one, other, &asked);
+    let visitors = two_visitors(rt, alloc, shared, &asked);
+    drop(asked);
+    visitors
+}
+
+fn two_visitors<L: Ledger + Send + Sync, R: Threads + Wait + Sync>(
+    rt: &R,
+    alloc: Global,
+    shared: &Shared<L, Fnv>,
+    asked: &Call,
+) -> Result<Vec<Client<L>>, Fail> {
+    let (pids, one, other) = two_seats(alloc)?;
+    let (one, other) = visits(rt, shared, &pids, one, other, asked);
+    drop(pids);
     both(alloc, one, other)
+}
+
+/// Whether there is a client, and it is put behind the others.
+fn push_client<L: Ledger>(clients: &mut Vec<Client<L>>, client: Option<Client<L>>) -> bool {
+    match client {
+        Some(client) => clients.push(client).ok().is_some(),
+        None => false,
+    }
 }
 
 /// Both clients, if there are two, with the numbers 0 and 1.
@@ -75,13 +99,14 @@ fn both<L: Ledger>(
     one: Option<Client<L>>,
     other: Option<Client<L>>,
 ) -> Result<Vec<Client<L>>, Fail> {
-    let mut clients = Vec::with_capacity(alloc, 2)?;
-    clients.push(one.ok_or("a client")?)?;
-    clients.push(other.ok_or("a client")?)?;
-    if !are_numbered(&clients) {
-        return Err("the numbers 0 and 1")?;
+    let mut clients = Vec::new(alloc);
+    let has_one = push_client(&mut clients, one);
+    let has_other = push_client(&mut clients, other);
+    if has_one && has_other && are_numbered(&clients) {
+        return Ok(clients);
     }
-    Ok(clients)
+    drop(clients);
+    Err("two clients, with the numbers 0 and 1")?
 }
 
 fn are_numbered<L: Ledger>(clients: &[Client<L>]) -> bool {
@@ -101,7 +126,7 @@ fn two_visit<L: Ledger + Send + Sync, R: Threads + Wait + Sync>(
     requires enough { blank.parts ≡ 3 }
 {
     let shared = Shared::<L, Fnv>::new(alloc, blank, limits(2), Fnv);
-    let clients = visitors(rt, alloc, &shared)?;
+    let clients = visitors(rt, alloc, &shared);
     entries_of(shared, clients, 0)
 }
 

@@ -2,11 +2,11 @@
 ghost use Rattle.std.specs.Prelude.{◌≡◌};
 
 use super::keeper::worked;
-use super::{asks, joined, limits};
+use super::{Plan, joined, kept, limits, push_asks, transcript_of, work_of};
 use ets_term::AllSame;
 use node_core::Reply;
-use node_shared::{Client, Entry, Job, Shared, close};
-use std::alloc::Global;
+use node_shared::{Client, Entry, Job, Shared, Transcript};
+use std::alloc::{AllocError, Global};
 use std::marker::Brand;
 use std::sync::Wait;
 use std::sync::ledger::{Blank, Ledger};
@@ -15,17 +15,22 @@ use std::thread::Threads;
 
 const TEN: &str = "[t,[{0},{1},{2},{3},{4},{5},{6},{7},{8},{9}]]";
 
-/// Three calls, the end of the process, and the same calls again.
-fn jobs(alloc: Global) -> Result<Vec<Job>, Fail> {
-    let calls = [
-        ("new", "[t,[named_table]]"),
-        ("insert", TEN),
-        ("lookup", "[t,7]"),
-    ];
-    let mut jobs = asks(alloc, &calls)?;
+const CALLS: [(&str, &str); 3] = [
+    ("new", "[t,[named_table]]"),
+    ("insert", TEN),
+    ("lookup", "[t,7]"),
+];
+
+fn push_jobs(alloc: Global, jobs: &mut Vec<Job>, calls: &[(&str, &str)]) -> Result<(), Fail> {
+    push_asks(alloc, jobs, calls)?;
     jobs.push(Job::End)?;
-    jobs.append(&mut asks(alloc, &calls)?)?;
-    Ok(jobs)
+    push_asks(alloc, jobs, calls)
+}
+
+/// Three calls, the end of the process, and the same calls again.
+pub(super) fn jobs(alloc: Global) -> Result<Vec<Job>, Fail> {
+    let mut jobs = Vec::new(alloc);
+    kept(push_jobs(alloc, &mut jobs, &CALLS), jobs)
 }
 
 /// Two clients, after their jobs.
@@ -34,10 +39,8 @@ fn ended<L: Ledger + Send + Sync, R: Threads + Wait + Sync>(
     alloc: Global,
     shared: &Shared<L, AllSame>,
 ) -> Result<Vec<Client<L>>, Fail> {
-    let mut clients = joined(rt, alloc, shared, 2)?;
-    let second = clients.pop().ok_or("a client")?;
-    let first = clients.pop().ok_or("a client")?;
-    let work = vec![in alloc; (first, jobs(alloc)?), (second, jobs(alloc)?)]?;
+    let clients = joined(rt, alloc, shared, 2)?;
+    let work = work_of(alloc, clients, Plan::End)?;
     worked(rt, alloc, shared, work)
 }
 
@@ -51,6 +54,13 @@ fn is_silent(own: &[&Entry]) -> bool {
             .all(|(at, entry)| is_refused(entry) == (at > 4))
 }
 
+fn is_silent_in(transcript: &Transcript, pid: u32) -> Result<bool, AllocError> {
+    let own = transcript.of(pid)?;
+    let silent = is_silent(own.as_slice());
+    drop(own);
+    Ok(silent)
+}
+
 fn two_end<L: Ledger + Send + Sync, R: Threads + Wait + Sync>(
     rt: &R,
     alloc: Global,
@@ -61,9 +71,12 @@ fn two_end<L: Ledger + Send + Sync, R: Threads + Wait + Sync>(
     requires enough { blank.parts ≡ 3 }
 {
     let shared = Shared::<L, AllSame>::new(alloc, blank, limits(2), AllSame);
-    let clients = ended(rt, alloc, &shared)?;
-    let transcript = close(shared, clients).map_err(|_| "close")?;
-    Ok(is_silent(transcript.of(0)?.as_slice()) && is_silent(transcript.of(1)?.as_slice()))
+    let clients = ended(rt, alloc, &shared);
+    let transcript = transcript_of(shared, clients)?;
+    let first = is_silent_in(&transcript, 0);
+    let second = is_silent_in(&transcript, 1);
+    drop(transcript);
+    Ok(first == Ok(true) && second == Ok(true))
 }
 
 #[test]

@@ -2,9 +2,9 @@
 ghost use Rattle.std.specs.Prelude.{◌≡◌};
 
 use super::keeper::worked;
-use super::{call, joined, limits};
+use super::{Plan, call, joined, kept, limits, transcript_of, work_of};
 use ets_term::Fnv;
-use node_shared::{Client, Job, Shared, close};
+use node_shared::{Client, Job, Shared};
 use std::alloc::{AllocError, Global};
 use std::marker::Brand;
 use std::sync::Wait;
@@ -24,7 +24,9 @@ fn job(alloc: Global, own: u32, number: u32) -> Result<Job, Fail> {
         return Ok(Job::End);
     }
     let arguments = arguments(alloc, own, own ^ 1, number)?;
-    Ok(Job::Ask(call(alloc, name(number), arguments.as_str())?))
+    let asked = call(alloc, name(number), arguments.as_str());
+    drop(arguments);
+    Ok(Job::Ask(asked?))
 }
 
 fn name(number: u32) -> &'static str {
@@ -48,27 +50,28 @@ fn arguments(alloc: Global, own: u32, neighbour: u32, number: u32) -> Result<Str
     }
 }
 
-/// All jobs of a client.
-fn jobs(alloc: Global, own: u32) -> Result<Vec<Job>, Fail> {
-    let mut jobs = Vec::with_capacity(alloc, 20_000)?;
+fn push_jobs(alloc: Global, jobs: &mut Vec<Job>, own: u32) -> Result<(), Fail> {
     for number in 0..JOBS {
         jobs.push(job(alloc, own, number)?)?;
     }
-    Ok(jobs)
+    Ok(())
 }
 
-/// Eight clients, each with its jobs.
-fn eight<L: Ledger, R: Wait>(
+/// All jobs of a client.
+pub(super) fn jobs(alloc: Global, own: u32) -> Result<Vec<Job>, Fail> {
+    let mut jobs = Vec::with_capacity(alloc, 20_000)?;
+    kept(push_jobs(alloc, &mut jobs, own), jobs)
+}
+
+/// Eight clients, after their jobs.
+fn eight<L: Ledger + Send + Sync, R: Threads + Wait + Sync>(
     rt: &R,
     alloc: Global,
     shared: &Shared<L, Fnv>,
-) -> Result<Vec<(Client<L>, Vec<Job>)>, Fail> {
-    let mut work = Vec::with_capacity(alloc, 8)?;
-    for client in joined(rt, alloc, shared, 8)? {
-        let jobs = jobs(alloc, client.pid())?;
-        work.push((client, jobs))?;
-    }
-    Ok(work)
+) -> Result<Vec<Client<L>>, Fail> {
+    let clients = joined(rt, alloc, shared, 8)?;
+    let work = work_of(alloc, clients, Plan::Endure)?;
+    worked(rt, alloc, shared, work)
 }
 
 /// How many entries the transcript has.
@@ -82,10 +85,11 @@ fn steps_of_eight<L: Ledger + Send + Sync, R: Threads + Wait + Sync>(
     requires enough { blank.parts ≡ 9 }
 {
     let shared = Shared::<L, Fnv>::new(alloc, blank, limits(8), Fnv);
-    let work = eight(rt, alloc, &shared)?;
-    let clients = worked(rt, alloc, &shared, work)?;
-    let transcript = close(shared, clients).map_err(|_| "close")?;
-    Ok(transcript.entries.len())
+    let clients = eight(rt, alloc, &shared);
+    let transcript = transcript_of(shared, clients)?;
+    let count = transcript.entries.len();
+    drop(transcript);
+    Ok(count)
 }
 
 /// Whether each of two rounds has all steps of the clients, and due ones.

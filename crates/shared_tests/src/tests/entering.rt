@@ -24,7 +24,9 @@ fn ask<L: Ledger>(
     ensures { share.new.pid ≡ share.old.pid }
 {
     let step = Step::Ask(0, call(alloc, name, arguments)?);
-    let _reply = book.step(share, &step)?;
+    let reply = book.step(share, &step);
+    drop(step);
+    drop(reply?);
     Ok(())
 }
 
@@ -34,12 +36,30 @@ fn is_tended<L: Ledger>(book: &mut Book<L, Fnv>) -> Result<bool, AllocError> {
     Ok(tended && !book.tend()? && book.journal().len() == 7)
 }
 
+/// The share's process makes a table, and gives it nine objects.
+fn fill<L: Ledger>(alloc: Global, book: &mut Book<L, Fnv>, share: &mut Share<L>) -> Result<(), Fail>
+    requires { share.old.pid ≡ 0 }
+{
+    ask(alloc, book, share, "new", "[t,[named_table]]")?;
+    ask(alloc, book, share, "insert", NINE)
+}
+
 /// Whether it is so of a table that got nine objects.
 fn is_grown<L: Ledger>(alloc: Global, book: &mut Book<L, Fnv>) -> Result<bool, Fail> {
-    let (mut share, _reply) = book.join(0).map_err(|_| "join")?;
-    ask(alloc, book, &mut share, "new", "[t,[named_table]]")?;
-    ask(alloc, book, &mut share, "insert", NINE)?;
-    Ok(is_tended(book)?)
+    match book.join(0) {
+        Ok((share, reply)) => {
+            drop(reply);
+            let mut share = share;
+            let filled = fill(alloc, book, &mut share);
+            drop(share);
+            filled?;
+            Ok(is_tended(book)?)
+        }
+        Err(fault) => {
+            drop(fault);
+            Err("join")?
+        }
+    }
 }
 
 fn is_entered<L: Ledger>(alloc: Global, blank: Blank) -> Result<bool, Fail>
@@ -47,10 +67,10 @@ fn is_entered<L: Ledger>(alloc: Global, blank: Blank) -> Result<bool, Fail>
     requires parts { blank.parts ≡ L.parts }
     requires enough { blank.parts ≡ 2 }
 {
-    is_grown(
-        alloc,
-        &mut Book::<L, Fnv>::new(alloc, blank, limits(1), Fnv),
-    )
+    let mut book = Book::<L, Fnv>::new(alloc, blank, limits(1), Fnv);
+    let grown = is_grown(alloc, &mut book);
+    drop(book);
+    grown
 }
 
 #[test]

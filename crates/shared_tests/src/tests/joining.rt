@@ -13,7 +13,12 @@ use std::test::Fail;
 
 #[test]
 fn no_more_numbers_than_the_most(rt: HostRuntime) {
-    assert!(rt; matches!(Pids::open(rt.alloc(), 4_097), Err(PidsFault::TooMany)));
+    assert!(rt;
+        matches!(
+            Pids::open(rt.alloc(), 4_097).err(),
+            Some(PidsFault::TooMany)
+        )
+    );
 }
 
 fn twice_the_same<L: Ledger>(alloc: Global, blank: Blank) -> bool
@@ -22,12 +27,27 @@ fn twice_the_same<L: Ledger>(alloc: Global, blank: Blank) -> bool
     requires enough { blank.parts ≡ 3 }
 {
     let mut book = Book::<L, Fnv>::new(alloc, blank, limits(2), Fnv);
-    book.join(0).is_ok() && matches!(book.join(0), Err(BookFault::Refused(Reply::Badarg)))
+    let first = book.join(0).ok();
+    let second = book.join(0).err();
+    drop(book);
+    let is_joined = first.is_some();
+    drop(first);
+    let is_refused = matches!(&second, Some(BookFault::Refused(Reply::Badarg)));
+    drop(second);
+    is_joined && is_refused
 }
 
 #[test]
 fn a_number_joins_once(rt: HostRuntime) {
     assert!(rt; twice_the_same::<Brand>(rt.alloc(), Blank::new(3)));
+}
+
+/// The number that comes back, if the limit refused it.
+fn number_of(fault: &Option<JoinFault>) -> Option<u32> {
+    match fault {
+        Some(JoinFault::Refused(Reply::SystemLimit, drawn)) => Some(drawn.pid()),
+        _ => None,
+    }
 }
 
 /// The number that comes back where the second client is refused by the limit.
@@ -37,11 +57,17 @@ fn refused<L: Ledger, R: Wait>(
     shared: &Shared<L, Fnv>,
 ) -> Result<Option<u32>, Fail> {
     let (pids, one, other) = two_seats(alloc)?;
-    let _client = shared.client(rt, pids.draw(one)).map_err(|_| "a client")?;
-    match shared.client(rt, pids.draw(other)) {
-        Err(JoinFault::Refused(Reply::SystemLimit, drawn)) => Ok(Some(drawn.pid())),
-        _ => Ok(None),
+    let client = shared.client(rt, pids.draw(one)).ok();
+    let fault = shared.client(rt, pids.draw(other)).err();
+    drop(pids);
+    let is_joined = client.is_some();
+    drop(client);
+    let back = number_of(&fault);
+    drop(fault);
+    if !is_joined {
+        return Err("a client")?;
     }
+    Ok(back)
 }
 
 fn second_of_one<L: Ledger, R: Wait>(
@@ -53,11 +79,10 @@ fn second_of_one<L: Ledger, R: Wait>(
     requires parts { blank.parts ≡ L.parts }
     requires enough { blank.parts ≡ 2 }
 {
-    refused(
-        rt,
-        alloc,
-        &Shared::<L, Fnv>::new(alloc, blank, limits(1), Fnv),
-    )
+    let shared = Shared::<L, Fnv>::new(alloc, blank, limits(1), Fnv);
+    let back = refused(rt, alloc, &shared);
+    drop(shared);
+    back
 }
 
 #[test]
@@ -76,8 +101,9 @@ fn second_of_two<L: Ledger, R: Wait>(
     shared: &Shared<L, Fnv>,
 ) -> Result<Vec<Client<L>>, Fail> {
     let mut clients = joined(rt, alloc, shared, 2)?;
-    let second = clients.pop().ok_or("a client")?;
-    Ok(vec![in alloc; second]?)
+    let second = clients.pop();
+    drop(clients);
+    Ok(vec![in alloc; second.ok_or("a client")?]?)
 }
 
 fn fault_without_the_first<L: Ledger, R: Wait>(
@@ -90,8 +116,13 @@ fn fault_without_the_first<L: Ledger, R: Wait>(
     requires enough { blank.parts ≡ 3 }
 {
     let shared = Shared::<L, Fnv>::new(alloc, blank, limits(2), Fnv);
-    let clients = second_of_two(rt, alloc, &shared)?;
-    Ok(close(shared, clients).err())
+    match second_of_two(rt, alloc, &shared) {
+        Ok(clients) => Ok(close(shared, clients).err()),
+        Err(fail) => {
+            drop(shared);
+            Err(fail)
+        }
+    }
 }
 
 #[test]

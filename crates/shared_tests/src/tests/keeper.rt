@@ -50,7 +50,9 @@ pub(super) fn worked<
     work: Vec<(Client<L>, Vec<Job>)>,
 ) -> Result<Vec<Client<L>>, Fail> {
     let are_through = AtomicBool::new(false);
-    done(alloc, beside(rt, alloc, shared, work, &are_through)?)
+    let workers = beside(rt, alloc, shared, work, &are_through);
+    drop(are_through);
+    done(alloc, workers?)
 }
 
 /// What came of the clients. Another thread does what is due until they are through.

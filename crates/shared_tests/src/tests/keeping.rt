@@ -1,7 +1,7 @@
 // Due steps are done in turns.
 ghost use Rattle.std.specs.Prelude.{◌≡◌};
 
-use super::{call, joined, limits};
+use super::{ask, call, joined, kept, limits};
 use ets_term::Fnv;
 use node_shared::{Client, Shared, keep};
 use std::alloc::Global;
@@ -12,31 +12,33 @@ use std::test::Fail;
 
 const NINE: &str = "[t,[{1},{2},{3},{4},{5},{6},{7},{8},{9}]]";
 
-/// The client makes a table, and gives it nine objects.
+/// The first of the clients makes a table, and gives it nine objects.
 fn fill<L: Ledger, R: Wait>(
     rt: &R,
     alloc: Global,
     shared: &Shared<L, Fnv>,
-    client: &mut Client<L>,
+    clients: &mut [Client<L>],
 ) -> Result<(), Fail> {
-    let _name = client.ask(rt, shared, &call(alloc, "new", "[t,[named_table]]")?)?;
-    let _true = client.ask(rt, shared, &call(alloc, "insert", NINE)?)?;
-    Ok(())
+    let client = clients.first_mut().ok_or("a client")?;
+    ask(rt, shared, client, call(alloc, "new", "[t,[named_table]]")?)?;
+    ask(rt, shared, client, call(alloc, "insert", NINE)?)
 }
 
 /// How many due steps are done in 3, 9 and 9 turns.
-fn kept<L: Ledger, R: Wait>(
+fn turns<L: Ledger, R: Wait>(
     rt: &R,
     alloc: Global,
     shared: &Shared<L, Fnv>,
 ) -> Result<(u32, u32, u32), Fail> {
     let mut clients = joined(rt, alloc, shared, 1)?;
-    fill(rt, alloc, shared, clients.first_mut().ok_or("a client")?)?;
-    Ok((
+    let filled = fill(rt, alloc, shared, clients.as_mut_slice());
+    let turns = (
         keep(rt, shared, 3),
         keep(rt, shared, 9),
         keep(rt, shared, 9),
-    ))
+    );
+    drop(clients);
+    kept(filled, turns)
 }
 
 fn due_steps<L: Ledger, R: Wait>(
@@ -48,11 +50,10 @@ fn due_steps<L: Ledger, R: Wait>(
     requires parts { blank.parts ≡ L.parts }
     requires enough { blank.parts ≡ 2 }
 {
-    kept(
-        rt,
-        alloc,
-        &Shared::<L, Fnv>::new(alloc, blank, limits(1), Fnv),
-    )
+    let shared = Shared::<L, Fnv>::new(alloc, blank, limits(1), Fnv);
+    let turns = turns(rt, alloc, &shared);
+    drop(shared);
+    turns
 }
 
 #[test]

@@ -1,8 +1,8 @@
 // Two clients run at once: the first call of each waits until the other is at its own, and a later one until a reply is there.
 ghost use Rattle.std.specs.Prelude.{◌≡◌};
 
-use super::{asks, call, done, entries_of, joined, limits};
-use ets_term::Fnv;
+use super::{Plan, ask, asks, call, done, entries_of, joined, kept, limits, work_of};
+use ets_term::{Fnv, Term};
 use node_core::Reply;
 use node_shared::{Client, Gate, Job, Shared, run_clients};
 use std::alloc::Global;
@@ -69,6 +69,35 @@ impl Gate for Meeting {
     }
 }
 
+const READS: [(&str, &str); 2] = [("lookup", "[t,b]"), ("lookup", "[t,a]")];
+
+const WRITES: [(&str, &str); 2] = [("lookup", "[t,b]"), ("insert", "[t,{a,1}]")];
+
+/// The client 0 reads what the other inserts.
+pub(super) fn jobs(alloc: Global, pid: u32) -> Result<Vec<Job>, Fail> {
+    if pid == 0 {
+        asks(alloc, &READS)
+    } else {
+        asks(alloc, &WRITES)
+    }
+}
+
+/// The first of the clients makes the table.
+fn make<L: Ledger, R: Wait>(
+    rt: &R,
+    alloc: Global,
+    shared: &Shared<L, Fnv>,
+    clients: &mut [Client<L>],
+) -> Result<(), Fail> {
+    let client = clients.first_mut().ok_or("a client")?;
+    ask(
+        rt,
+        shared,
+        client,
+        call(alloc, "new", "[t,[named_table,public]]")?,
+    )
+}
+
 /// Two clients with their jobs: the first, which has made the table, reads what the second inserts.
 fn reader_and_writer<L: Ledger, R: Wait>(
     rt: &R,
@@ -76,22 +105,37 @@ fn reader_and_writer<L: Ledger, R: Wait>(
     shared: &Shared<L, Fnv>,
 ) -> Result<Vec<(Client<L>, Vec<Job>)>, Fail> {
     let mut clients = joined(rt, alloc, shared, 2)?;
-    let writer = clients.pop().ok_or("a client")?;
-    let mut reader = clients.pop().ok_or("a client")?;
-    let new = call(alloc, "new", "[t,[named_table,public]]")?;
-    let _name = reader.ask(rt, shared, &new)?;
-    let reads = asks(alloc, &[("lookup", "[t,b]"), ("lookup", "[t,a]")])?;
-    let writes = asks(alloc, &[("lookup", "[t,b]"), ("insert", "[t,{a,1}]")])?;
-    Ok(vec![in alloc; (reader, reads), (writer, writes)]?)
+    let made = make(rt, alloc, shared, clients.as_mut_slice());
+    work_of(alloc, kept(made, clients)?, Plan::Meet)
+}
+
+fn is_value(reply: &Reply, wanted: &Term) -> bool {
+    match reply {
+        Reply::Value(term) => *term == *wanted,
+        _ => false,
+    }
 }
 
 /// Whether the last reply to the client is this term.
 fn is_last<L: Ledger>(alloc: Global, client: &Client<L>, wanted: &str) -> Result<bool, Fail> {
-    let (wanted, _) = read_term(alloc, wanted).map_err(|_| "a term")?;
-    match client.entries().last() {
-        Some(entry) => Ok(matches!(&entry.reply, Reply::Value(term) if *term == wanted)),
-        None => Ok(false),
+    let (wanted, _) = read_term(alloc, wanted).ok().ok_or("a term")?;
+    let is_last = match client.entries().last() {
+        Some(entry) => is_value(&entry.reply, &wanted),
+        None => false,
+    };
+    drop(wanted);
+    Ok(is_last)
+}
+
+/// The clients did not wait in vain, and the first has read the object.
+fn have_met<L: Ledger>(alloc: Global, clients: &[Client<L>], failed: bool) -> Result<(), Fail> {
+    if failed {
+        return Err("one client waited in vain")?;
     }
+    if !is_last(alloc, clients.first().ok_or("a client")?, "[{a,1}]")? {
+        return Err("the object is not read")?;
+    }
+    Ok(())
 }
 
 /// The clients, after the first has read what the second inserted meanwhile.
@@ -102,14 +146,11 @@ fn met<L: Ledger + Send + Sync, R: Threads + Wait + Sync>(
 ) -> Result<Vec<Client<L>>, Fail> {
     let work = reader_and_writer(rt, alloc, shared)?;
     let meeting = Meeting::new();
-    let clients = done(alloc, run_clients(rt, alloc, shared, work, &meeting)?)?;
-    if meeting.failed.load(Ordering::SeqCst) {
-        return Err("one client waited in vain")?;
-    }
-    if !is_last(alloc, clients.first().ok_or("a client")?, "[{a,1}]")? {
-        return Err("the object is not read")?;
-    }
-    Ok(clients)
+    let workers = run_clients(rt, alloc, shared, work, &meeting);
+    let failed = meeting.failed.load(Ordering::SeqCst);
+    drop(meeting);
+    let clients = done(alloc, workers?)?;
+    kept(have_met(alloc, clients.as_slice(), failed), clients)
 }
 
 fn two_meet<L: Ledger + Send + Sync, R: Threads + Wait + Sync>(
@@ -122,7 +163,7 @@ fn two_meet<L: Ledger + Send + Sync, R: Threads + Wait + Sync>(
     requires enough { blank.parts ≡ 3 }
 {
     let shared = Shared::<L, Fnv>::new(alloc, blank, limits(2), Fnv);
-    let clients = met(rt, alloc, &shared)?;
+    let clients = met(rt, alloc, &shared);
     entries_of(shared, clients, 0)
 }
 

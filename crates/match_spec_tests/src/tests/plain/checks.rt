@@ -98,7 +98,9 @@ fn is_clause(alloc: Global, clause: &Term) -> bool {
     };
     let mut found = Vec::new(alloc);
     collect(alloc, head, &mut found);
-    matches!(head, Term::Atom(_) | Term::Tuple(_)) && are_good(conditions, body, found.as_slice())
+    let good = are_good(conditions, body, found.as_slice());
+    drop(found);
+    good && matches!(head, Term::Atom(_) | Term::Tuple(_))
 }
 
 /// Whether a list of tuples with lists behind the head is a specification.

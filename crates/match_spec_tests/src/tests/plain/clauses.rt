@@ -13,7 +13,11 @@ pub(crate) fn elements(term: &Term) -> &[Term] {
 
 fn is_true(alloc: Global, condition: &Term, object: &Term, bindings: &[Binding]) -> bool {
     match value(alloc, condition, object, bindings) {
-        Some(term) => term.is_atom("true"),
+        Some(term) => {
+            let is_true = term.is_atom("true");
+            drop(term);
+            is_true
+        }
         None => false,
     }
 }
@@ -27,21 +31,38 @@ fn all_true(alloc: Global, conditions: &[Term], object: &Term, bindings: &[Bindi
     true
 }
 
+// The value behind another, which goes.
+fn next(last: Term, value: Option<Term>) -> Option<Term> {
+    drop(last);
+    value
+}
+
 // The last of the values; None where one of them fails.
 fn last_value(alloc: Global, body: &[Term], object: &Term, bindings: &[Binding]) -> Option<Term> {
     let mut last = Term::default();
     for expression in body {
-        last = value(alloc, expression, object, bindings)?;
+        last = next(last, value(alloc, expression, object, bindings))?;
     }
     Some(last)
 }
 
 fn clause_result(alloc: Global, clause: &Term, object: &Term) -> Option<Term> {
+    let mut bindings = Vec::new(alloc);
+    let given = bound_result(alloc, clause, object, &mut bindings);
+    drop(bindings);
+    given
+}
+
+fn bound_result(
+    alloc: Global,
+    clause: &Term,
+    object: &Term,
+    bindings: &mut Vec<Binding>,
+) -> Option<Term> {
     let [head, conditions, body] = elements(clause) else {
         return None;
     };
-    let mut bindings = Vec::new(alloc);
-    if !matches(alloc, head, object, &mut bindings)
+    if !matches(alloc, head, object, bindings)
         || !all_true(alloc, elements(conditions), object, bindings.as_slice())
     {
         return None;

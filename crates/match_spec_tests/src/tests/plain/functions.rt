@@ -114,12 +114,16 @@ fn end(alloc: Global, name: &Term, items: &[Term]) -> Option<Term> {
     }
 }
 
-fn all_of(alloc: Global, terms: &[Term]) -> Option<Term> {
-    let mut items = Items::new(alloc);
+fn push_all(alloc: Global, terms: &[Term], items: &mut Items<Term>) -> Option<()> {
     for term in terms {
         items.push(copy(alloc, term)?).ok()?;
     }
-    Some(Term::List(items))
+    Some(())
+}
+
+fn all_of(alloc: Global, terms: &[Term]) -> Option<Term> {
+    let mut items = Items::new(alloc);
+    Some(Term::List(filled(push_all(alloc, terms, &mut items), items)?))
 }
 
 fn two(alloc: Global, name: &Term, x: &Term, y: &Term) -> Option<Term> {

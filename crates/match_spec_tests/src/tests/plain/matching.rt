@@ -8,13 +8,19 @@ pub(crate) struct Binding {
     pub(crate) value: Term,
 }
 
-pub(crate) fn number(term: &Term) -> Option<u32> {
-    for (n, name) in [(0, "$0"), (1, "$1"), (2, "$2")] {
-        if term.is_atom(name) {
-            return Some(n);
+const VARIABLES: [(u32, &str); 3] = [(0, "$0"), (1, "$1"), (2, "$2")];
+
+fn number_among(term: &Term, variables: &[(u32, &'static str)]) -> Option<u32> {
+    for (n, name) in variables {
+        if term.is_atom(*name) {
+            return Some(*n);
         }
     }
     None
+}
+
+pub(crate) fn number(term: &Term) -> Option<u32> {
+    number_among(term, &VARIABLES)
 }
 
 pub(crate) fn bound(n: u32, bindings: &[Binding]) -> Option<&Term> {
@@ -73,21 +79,28 @@ fn bind(alloc: Global, n: u32, term: &Term, bindings: &mut Vec<Binding>) -> bool
     }
 }
 
-// The values in order of number.
-pub(crate) fn in_order(alloc: Global, bindings: &[Binding]) -> Option<Term> {
-    let mut values = Items::new(alloc);
+fn push_in_order(alloc: Global, bindings: &[Binding], values: &mut Items<Term>) -> Option<()> {
     for n in 0..3 {
         if let Some(value) = bound(n, bindings) {
             values.push(copy(alloc, value)?).ok()?;
         }
     }
-    Some(Term::List(values))
+    Some(())
+}
+
+// The values in order of number.
+pub(crate) fn in_order(alloc: Global, bindings: &[Binding]) -> Option<Term> {
+    let mut values = Items::new(alloc);
+    Some(Term::List(filled(push_in_order(alloc, bindings, &mut values), values)?))
 }
 
 pub(crate) fn bindings(alloc: Global, pattern: &Term, object: &Term) -> Option<Term> {
     let mut bindings = Vec::new(alloc);
-    if !matches(alloc, pattern, object, &mut bindings) {
-        return None;
-    }
-    in_order(alloc, bindings.as_slice())
+    let values = if matches(alloc, pattern, object, &mut bindings) {
+        in_order(alloc, bindings.as_slice())
+    } else {
+        None
+    };
+    drop(bindings);
+    values
 }

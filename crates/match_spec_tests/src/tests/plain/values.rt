@@ -13,8 +13,11 @@ pub(crate) fn value(
     match expression {
         Term::Atom(_) => named(alloc, expression, object, bindings),
         Term::List(items) => {
-            let values = values(alloc, items.as_slice(), 0, object, bindings)?;
-            Some(Term::List(values))
+            let mut values = Items::new(alloc);
+            Some(Term::List(filled(
+                push_values(alloc, items.as_slice(), 0, object, bindings, &mut values),
+                values,
+            )?))
         }
         Term::Tuple(items) => tuple_value(alloc, items.as_slice(), object, bindings),
         _ => copy(alloc, expression),
@@ -34,20 +37,27 @@ fn named(alloc: Global, name: &Term, object: &Term, bindings: &[Binding]) -> Opt
 }
 
 #[cycle(plain_value)]
-fn values(
+fn push_values(
     alloc: Global,
     items: &[Term],
     start: usize,
     object: &Term,
     bindings: &[Binding],
-) -> Option<Items<Term>> {
-    let mut values = Items::new(alloc);
+    values: &mut Items<Term>,
+) -> Option<()> {
     for i in start..items.len() {
         values
             .push(value(alloc, &items[i], object, bindings)?)
             .ok()?;
     }
-    Some(values)
+    Some(())
+}
+
+fn applied_to(alloc: Global, name: &Term, values: Option<Items<Term>>) -> Option<Term> {
+    let values = values?;
+    let given = applied(alloc, name, values.as_slice());
+    drop(values);
+    given
 }
 
 #[cycle(plain_value)]
@@ -57,8 +67,11 @@ fn tuple_value(alloc: Global, items: &[Term], object: &Term, bindings: &[Binding
     }
     match &items[0] {
         Term::Tuple(parts) => {
-            let values = values(alloc, parts.as_slice(), 0, object, bindings)?;
-            Some(Term::Tuple(values))
+            let mut values = Items::new(alloc);
+            Some(Term::Tuple(filled(
+                push_values(alloc, parts.as_slice(), 0, object, bindings, &mut values),
+                values,
+            )?))
         }
         name => {
             if name.is_atom("const") {
@@ -67,10 +80,24 @@ fn tuple_value(alloc: Global, items: &[Term], object: &Term, bindings: &[Binding
             if name.is_atom("andalso") || name.is_atom("orelse") {
                 return decided(alloc, items, name.is_atom("orelse"), object, bindings);
             }
-            let values = values(alloc, items, 1, object, bindings)?;
-            applied(alloc, name, values.as_slice())
+            let mut values = Items::new(alloc);
+            applied_to(
+                alloc,
+                name,
+                filled(
+                    push_values(alloc, items, 1, object, bindings, &mut values),
+                    values,
+                ),
+            )
         }
     }
+}
+
+fn boolean_of(value: Option<Term>) -> Option<bool> {
+    let term = value?;
+    let known = boolean(&term);
+    drop(term);
+    known
 }
 
 #[cycle(plain_value)]
@@ -82,8 +109,7 @@ fn decided(
     bindings: &[Binding],
 ) -> Option<Term> {
     for i in 1..items.len() {
-        let term = value(alloc, &items[i], object, bindings)?;
-        if boolean(&term)? == stop {
+        if boolean_of(value(alloc, &items[i], object, bindings))? == stop {
             return truth(alloc, stop);
         }
     }
