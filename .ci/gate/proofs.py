@@ -19,7 +19,7 @@ import threading
 from costs import budget
 from parts import TOP
 
-# The kit reckons with more memory than a check takes: of ours none took over 0.55 of it, whether by one job or four.
+# The kit reckons with more memory than most checks take: of ours the larger took 0.4 to 0.7 of it, two small ones 0.7 and 0.8.
 OF_RECKONED = 0.6
 # Seconds of what the gate does once a check has ended, beside the other checks: what is tried on the program.
 BEHIND = {("ets_script_cli", "proof"): 300}
