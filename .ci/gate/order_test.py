@@ -1,7 +1,9 @@
 """The test of the order in which checks go (proofs.py), on crates that are made up."""
 import sys
+import types
 
-from proofs import Check, Order, in_order
+from parts import CHECKED
+from proofs import Check, Order, in_order, leave_checked
 
 # Each crate, those below it, and the seconds of its proof and of its tests: a chain of three, two beside it that are short, and one of tests.
 CRATES = {
@@ -39,6 +41,21 @@ def turns(processors, memory=100):
     return seen
 
 
+class Made:
+    """A crate of the kit's program, which answers what it is asked to prove."""
+
+    folder, is_static = "/made", True
+
+    def words(self, flags, keeps):
+        return [*flags, "keeps"] if keeps else flags
+
+    def prove(self, words):
+        return words
+
+    def ci(self, flags, tests):
+        return "the kit's own"
+
+
 def main():
     faults = []
 
@@ -68,6 +85,12 @@ def main():
         expect("nothing", "an error", "an error in a check is told")
     except KeyError:
         pass
+
+    rt, other = types.SimpleNamespace(Crate=Made), Made()
+    other.is_static = False
+    leave_checked(rt)
+    expect(Made().ci(["--jobs", "2"], False), ["check", "--jobs", "2", "-o", f"/made/{CHECKED}"], "a static library's check is written")
+    expect([other.ci([], False), Made().ci([], True)], ["the kit's own"] * 2, "no other check is touched")
     print(f"the order of checks: {len(faults)} faults")
     return 1 if faults else 0
 

@@ -12,6 +12,8 @@ from crates import read
 
 TOP = os.path.realpath(f"{os.path.dirname(os.path.realpath(__file__))}/../..")
 PROGRAM = "crates/ets_script_cli"
+# What the check of a static library proved, in its folder, from which it is built.
+CHECKED = "out/checked"
 BEGAN = time.time()
 # What a failure's report leaves out.
 PROVED = re.compile(r"(fn|struct|enum|impl|trait) \S+: proved$|statements ")

@@ -2,10 +2,11 @@
 
     python3 proofs.py TREE
 
-`rt ci` makes a task of each check, and one function of its program, `in_lanes`, says which task goes when. That function alone is
-replaced here; what is checked, how, and the verdict are the kit's. Its own gives a proof a second processor only where nearly all
-are idle, so the longest chain of crates goes at the pace of one processor, and it decides how long all takes. Where the kit's
-program has no such function, it runs as it is."""
+`rt ci` makes a task of each check, and one function of its program, `in_lanes`, says which task goes when. That function is replaced
+here; what is checked, how, and the verdict are the kit's. Its own gives a proof a second processor only where nearly all are idle, so
+the longest chain of crates goes at the pace of one processor, and it decides how long all takes. Where the kit's program has no such
+function, it runs as it is. And what the check of a static library proved is left in its out/, as that of a program is where it is
+built: .ci/door_c builds it without a second proof."""
 import importlib.machinery
 import importlib.util
 import inspect
@@ -17,7 +18,7 @@ import sys
 import threading
 
 from costs import budget
-from parts import TOP
+from parts import CHECKED, TOP
 
 # The kit reckons with more memory than most checks take: of ours the larger took 0.4 to 0.7 of it, two small ones 0.7 and 0.8.
 OF_RECKONED = 0.6
@@ -120,6 +121,18 @@ def program():
         return None
 
 
+def leave_checked(rt):
+    """Has the kit's check of a static library write what it proved, which `rt ci` itself lets go."""
+    own = rt.Crate.ci
+
+    def ci(crate, flags, tests):
+        if tests or not crate.is_static:
+            return own(crate, flags, tests)
+        return crate.prove(["check", *crate.words(flags, keeps=False), "-o", f"{crate.folder}/{CHECKED}"])
+
+    rt.Crate.ci = ci
+
+
 def main(tree):
     os.chdir(tree)
     rt = program()
@@ -134,6 +147,7 @@ def main(tree):
         return in_order(Order(checks, len(os.sched_getaffinity(0)), 0.75 * rt.free()))
 
     rt.in_lanes = in_lanes
+    leave_checked(rt)
     return rt.main(["ci"])
 
 
