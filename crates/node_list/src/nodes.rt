@@ -19,7 +19,7 @@ use std::marker::Model;
 use std::mem;
 
 /// How many nodes room is made for at first.
-const FIRST_ROOM: usize = 8;
+const FIRST_ROOM: usize = 4;
 
 /// For how many nodes more room is made: as many as there are, so that growth costs each node a constant.
 fn growth(len: usize, additional: usize) -> usize
