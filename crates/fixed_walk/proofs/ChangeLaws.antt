@@ -1,14 +1,16 @@
 -- What staying, one change after another, and giving a key other objects keep of the slots, every call keeps that inserts or updates.
-use Rattle.std.proofs.Common.{◌≡◌, ℕ, Bool, true, false, cond, List, [], ◌∷◌, ◌++◌, Option, None, Some, refl, sym, subst}
-use Rattle.std.specs.Prelude.{◌&&◌, nat_lt, MatchOption, Ok, Err, Result}
+use Rattle.std.proofs.Common.{◌≡◌, ℕ, Bool, true, false, cond, List, [], ◌∷◌, ◌++◌, Option, None, Some, option_and_then, refl, sym, subst, codes, length}
+use Rattle.std.specs.Prelude.{◌&&◌, not, nat_lt, nat_le, MatchOption, Ok, Err, Result}
 use Rattle.std.specs.Bool.{MatchBool}
 use Rattle.std.specs.List.{list_any, list_all}
-use Rattle.ets_term.specs.declared.term.Term.{Term}
-use Rattle.ets_term.specs.Depth.{is_too_deep}
+use Rattle.ets_term.specs.declared.term.Term.{Term, out-Term}
+use Rattle.ets_term.specs.declared.term.Term.TheOpen.{Term-F}
+use Rattle.ets_term.specs.Atoms.{is_atom}
+use Rattle.ets_term.specs.Depth.{element_at, is_too_deep}
 use Rattle.ets_term.specs.Order.{same}
 use Rattle.bucket_table.specs.Slots.{Slot, Enters, objects_of, with_objects, has_objects, object_count}
 use Rattle.counters.specs.Counters.{updated_counters}
-use Rattle.counters.specs.Defaults.{keyed, counted_from, written_from}
+use Rattle.counters.specs.Defaults.{keyed, keyed_form, counted_from, written_from}
 use Rattle.counters.specs.Elements.{updated_elements}
 use Rattle.counters.specs.declared.elements.ElementSpecs.{ElementSpecs}
 use Rattle.counters.specs.declared.fault.CounterFault.{CounterFault}
@@ -22,11 +24,14 @@ use Rattle.table_ops.specs.Put.{add, Writes, PutsAll, Stores, Inserts, InsertsNe
 use Rattle.table_ops.specs.Refusals.{Comes, gives}
 use Rattle.table_ops.specs.Update.{is_set, ops_open, specs_open, is_good, with_object, Counts, Starts, CountsUnder, UpdatesCounter, WritesElements, with_true, WritesUnder, UpdatesElement}
 
--- what a change keeps
+abbrev pub is_end : Term → Bool
+is_end key = is_atom (codes "$end_of_table") key
+
+-- what a change keeps; the key '$end_of_table' never enters
 pub record Keeping (Q : List Slot → List Slot → Type 0) : Type 0 where
   pub staying : (slots : List Slot) → Q slots slots
   pub further : (slots next last : List Slot) → Q slots next → Q next last → Q slots last
-  pub enters : (old new : List Slot) (key : Term) (objects : List Term) → has_objects objects ≡ true → objects_of old key ≡ None → Enters old key objects new → Q old new
+  pub enters : (old new : List Slot) (key : Term) (objects : List Term) → is_end key ≡ false → has_objects objects ≡ true → objects_of old key ≡ None → Enters old key objects new → Q old new
   pub filled : (old : List Slot) (key : Term) (objects : List Term) → has_objects objects ≡ true → Q old (with_objects old key objects)
 
 pushed : (os : List Term) (o : Term) → has_objects (os ++ o ∷ []) ≡ true
@@ -43,20 +48,55 @@ add-some Set os o = refl
 add-some Bag os o = bag_at (list_any (same o) os) os o refl
 add-some DuplicateBag os o = pushed os o
 
+-- ---- the key that an object is put under
+key-at : (b : Bool) (k key : Term) → is_end k ≡ b → cond b None (Some k) ≡ Some key → is_end key ≡ false
+key-at true k key e h = cc
+key-at false k key e h = let is : k ≡ key = cc in subst (λ (t : Term). is_end t ≡ false) is e
+
+key-free : (o : Option Term) (key : Term) → option_and_then (λ k. cond (is_end k) None (Some k)) o ≡ Some key → is_end key ≡ false
+key-free None key h = cc
+key-free (Some k) key h = key-at (is_end k) k key refl h
+
+second : (a b : Bool) → (a && not b) ≡ true → b ≡ false
+second true true h = cc
+second true false h = refl
+second false b h = cc
+
+keyed-at : (test : Bool) (term object : Term) → cond test (Some term) None ≡ Some object → test ≡ true
+keyed-at true term object e = refl
+keyed-at false term object e = cc
+
+tuple-key : (keypos : ℕ) (key object : Term) (form : Term-F Term) → keyed_form keypos key form ≡ Some object → is_end key ≡ false
+tuple-key keypos key object (Term-F.Tuple ts) e = second (nat_lt 0 keypos && nat_le keypos (length ts)) (is_end key) (keyed-at (nat_lt 0 keypos && nat_le keypos (length ts) && not (is_end key)) _ object e)
+tuple-key keypos key object (Term-F.Int n) e = cc
+tuple-key keypos key object (Term-F.Atom n) e = cc
+tuple-key keypos key object (Term-F.Pid n) e = cc
+tuple-key keypos key object (Term-F.Tid n) e = cc
+tuple-key keypos key object (Term-F.List n) e = cc
+tuple-key keypos key object (Term-F.Binary n) e = cc
+
+counted-key : (keypos : ℕ) (key d : Term) (ops : Ops) (o : Option Term) (made : Term × Term) → keyed keypos key d ≡ o → counted_from ops o ≡ Ok made → is_end key ≡ false
+counted-key keypos key d ops None made k e = cc
+counted-key keypos key d ops (Some object) made k e = tuple-key keypos key object (out-Term d) k
+
+written-key : (keypos : ℕ) (key d : Term) (specs : ElementSpecs) (o : Option Term) (made : Term × Bool) → keyed keypos key d ≡ o → with_true (written_from specs o) ≡ Ok made → is_end key ≡ false
+written-key keypos key d specs None made k e = cc
+written-key keypos key d specs (Some object) made k e = tuple-key keypos key object (out-Term d) k
+
 module _ (Q : List Slot → List Slot → Type 0) (keeping : Keeping Q) where
   pub unchanged : (old new : Content) → new ≡ old → Q old.slots new.slots
   unchanged old new e = subst (λ (t : Content). Q old.slots t.slots) (sym e) (keeping.staying old.slots)
 
-  writes_at : (found : Option (List Term)) (old new : List Slot) (key : Term) (os : List Term) → has_objects os ≡ true → objects_of old key ≡ found → MatchOption found (Enters old key os new) (λ _. new ≡ with_objects old key os) → Q old new
-  writes_at None old new key os h e w = keeping.enters old new key os h e w
-  writes_at (Some c) old new key os h e w = subst (Q old) (sym w) (keeping.filled old key os h)
+  writes_at : (found : Option (List Term)) (old new : List Slot) (key : Term) (os : List Term) → is_end key ≡ false → has_objects os ≡ true → objects_of old key ≡ found → MatchOption found (Enters old key os new) (λ _. new ≡ with_objects old key os) → Q old new
+  writes_at None old new key os own h e w = keeping.enters old new key os own h e w
+  writes_at (Some c) old new key os own h e w = subst (Q old) (sym w) (keeping.filled old key os h)
 
-  writes-keep : (old new : List Slot) (key : Term) (os : List Term) → has_objects os ≡ true → Writes old key os new → Q old new
-  writes-keep old new key os h w = writes_at (objects_of old key) old new key os h refl w
+  writes-keep : (old new : List Slot) (key : Term) (os : List Term) → is_end key ≡ false → has_objects os ≡ true → Writes old key os new → Q old new
+  writes-keep old new key os own h w = writes_at (objects_of old key) old new key os own h refl w
 
   all-keep : (kind : Kind) (keypos : ℕ) (objects : List Term) (old new : List Slot) → PutsAll kind keypos old objects new → Q old new
   all-keep kind keypos [] old new p = subst (Q old) (sym p) (keeping.staying old)
-  all-keep kind keypos (o ∷ os) old new p = keeping.further old p.2.0 new (writes-keep old p.2.0 p.0 (add kind (objects_under old p.0) o) (add-some kind (objects_under old p.0) o) p.2.1) (all-keep kind keypos os p.2.0 new p.2.2)
+  all-keep kind keypos (o ∷ os) old new p = keeping.further old p.2.0 new (writes-keep old p.2.0 p.0 (add kind (objects_under old p.0) o) (key-free (element_at keypos o) p.0 p.1) (add-some kind (objects_under old p.0) o) p.2.1) (all-keep kind keypos os p.2.0 new p.2.2)
 
   limit_at : {X : Type 0} (done : X) (old new : Content) (b : Bool) (slots : List Slot) (r : Result X Refusal) → MatchBool b (gives (Err SystemLimit) old r new) (gives (Ok done) (record old { slots = slots }) r new) → Q old.slots slots → Q old.slots new.slots
   limit_at done old new true slots r c q = unchanged old new c.1
@@ -97,14 +137,14 @@ module _ (Q : List Slot → List Slot → Type 0) (keeping : Keeping Q) where
   counts_at key old new (Ok counted) r c = fills key counted.0 old new c.1
   counts_at key old new (Err fault) r c = unchanged old new c.1
 
-  starts_at : {X : Type 0} (key : Term) (old new : Content) (c : Result (Term × X) CounterFault) (r : Result X Refusal) → Starts key old c r new → Q old.slots new.slots
-  starts_at key old new (Ok made) r c = limit_at made.1 old new (nat_lt old.limit (object_count c.0)) c.0 r c.2 (writes-keep old.slots c.0 key (made.0 ∷ []) refl c.1)
-  starts_at key old new (Err fault) r c = unchanged old new c.1
+  starts_at : {X : Type 0} (key : Term) (old new : Content) (c : Result (Term × X) CounterFault) (r : Result X Refusal) → ((made : Term × X) → c ≡ Ok made → is_end key ≡ false) → Starts key old c r new → Q old.slots new.slots
+  starts_at key old new (Ok made) r own c = limit_at made.1 old new (nat_lt old.limit (object_count c.0)) c.0 r c.2 (writes-keep old.slots c.0 key (made.0 ∷ []) (own made refl) refl c.1)
+  starts_at key old new (Err fault) r own c = unchanged old new c.1
 
   default_at : (key : Term) (ops : Ops) (default : Option Term) (old new : Content) (r : Result Term Refusal)
       → MatchOption default (gives (Err Badarg) old r new) (λ d. Starts key old (counted_from ops (keyed old.keypos key d)) r new) → Q old.slots new.slots
   default_at key ops None old new r c = unchanged old new c.1
-  default_at key ops (Some d) old new r c = starts_at key old new (counted_from ops (keyed old.keypos key d)) r c
+  default_at key ops (Some d) old new r c = starts_at key old new (counted_from ops (keyed old.keypos key d)) r (λ made e. counted-key old.keypos key d ops (keyed old.keypos key d) made refl e) c
 
   under_at : (key : Term) (ops : Ops) (default : Option Term) (old new : Content) (objects : List Term) (r : Result Term Refusal) → CountsUnder key ops default old objects r new → Q old.slots new.slots
   under_at key ops default old new [] r c = default_at key ops default old new r c
@@ -125,19 +165,19 @@ module _ (Q : List Slot → List Slot → Type 0) (keeping : Keeping Q) where
   written_at : (key : Term) (specs : ElementSpecs) (default : Option Term) (old new : Content) (r : Result Bool Refusal)
       → MatchOption default (gives (Ok false) old r new) (λ d. Starts key old (with_true (written_from specs (keyed old.keypos key d))) r new) → Q old.slots new.slots
   written_at key specs None old new r c = unchanged old new c.1
-  written_at key specs (Some d) old new r c = starts_at key old new (with_true (written_from specs (keyed old.keypos key d))) r c
+  written_at key specs (Some d) old new r c = starts_at key old new (with_true (written_from specs (keyed old.keypos key d))) r (λ made e. written-key old.keypos key d specs (keyed old.keypos key d) made refl e) c
 
   write_at : (key : Term) (specs : ElementSpecs) (default : Option Term) (old new : Content) (objects : List Term) (r : Result Bool Refusal) → WritesUnder key specs default old objects r new → Q old.slots new.slots
   write_at key specs default old new [] r c = written_at key specs default old new r c
   write_at key specs default old new (o ∷ os) r c = elements_at key old new (updated_elements specs o) r c
 
-  element_at : (b : Bool) (key : Term) (specs : ElementSpecs) (default : Option Term) (old new : Content) (r : Result Bool Refusal)
+  specs_at : (b : Bool) (key : Term) (specs : ElementSpecs) (default : Option Term) (old new : Content) (r : Result Bool Refusal)
       → MatchBool b (WritesUnder key specs default old (objects_under old.slots key) r new) (gives (Err Badarg) old r new) → Q old.slots new.slots
-  element_at true key specs default old new r c = write_at key specs default old new (objects_under old.slots key) r c
-  element_at false key specs default old new r c = unchanged old new c.1
+  specs_at true key specs default old new r c = write_at key specs default old new (objects_under old.slots key) r c
+  specs_at false key specs default old new r c = unchanged old new c.1
 
   pub element-keeps : (key : Term) (specs : ElementSpecs) (default : Option Term) (old new : Content) (r : Result Bool Refusal) → UpdatesElement key specs default old r new → Q old.slots new.slots
-  element-keeps key specs default old new r c = element_at (is_set old.kind && (specs_open old.keypos specs && is_good old.keypos key default)) key specs default old new r c
+  element-keeps key specs default old new r c = specs_at (is_set old.kind && (specs_open old.keypos specs && is_good old.keypos key default)) key specs default old new r c
 
   -- want of memory changes nothing
   pub comes-keep : {X : Type 0} (change : Content → Result X Refusal → Content → Type 0) → ((old new : Content) (r : Result X Refusal) → change old r new → Q old.slots new.slots)

@@ -16,7 +16,7 @@ use Rattle.counters.specs.declared.elements.ElementSpecs.{ElementSpecs}
 use Rattle.counters.specs.declared.ops.Ops.{Ops}
 use Rattle.fixed_walk.specs.Fixes.{is_fixed}
 use Rattle.fixed_walk.specs.Fixed.{Fixed, NoneHeld, HeldWhileFixed, released, all_released}
-use Rattle.fixed_walk.proofs.ChangeLaws.{Keeping, comes-keep, inserts-keep, news-keep, counter-keeps, element-keeps}
+use Rattle.fixed_walk.proofs.ChangeLaws.{Keeping, is_end, comes-keep, inserts-keep, news-keep, counter-keeps, element-keeps}
 use Rattle.fixed_walk.proofs.CountLaws.{free-released, free-cleared}
 
 module _ (k : Term → Bool) where
@@ -45,8 +45,8 @@ pub between-none : (front back : List Slot) (s : Slot) → has_objects s.1 ≡ t
 between-none [] back s h n = (h, n)
 between-none (f ∷ front) back s h n = (n.0, between-none front back s h n.1)
 
-enters-none : (old new : List Slot) (key : Term) (os : List Term) → has_objects os ≡ true → objects_of old key ≡ None → Enters old key os new → NoneHeld old → NoneHeld new
-enters-none old new key os h absent w n = subst NoneHeld (sym w.after) (between-none w.front w.back (key, os) h (subst NoneHeld w.before n))
+enters-none : (old new : List Slot) (key : Term) (os : List Term) → is_end key ≡ false → has_objects os ≡ true → objects_of old key ≡ None → Enters old key os new → NoneHeld old → NoneHeld new
+enters-none old new key os own h absent w n = subst NoneHeld (sym w.after) (between-none w.front w.back (key, os) h (subst NoneHeld w.before n))
 
 keeping : Keeping (λ old new. NoneHeld old → NoneHeld new)
 keeping = record { staying = λ slots n. n; further = λ slots next last p q n. q (p n); enters = enters-none; filled = λ old key os h n. set-none (same key) old os h n }

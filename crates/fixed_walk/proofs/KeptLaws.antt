@@ -23,7 +23,7 @@ use Rattle.fixed_walk.specs.Fixes.{FixCounts, is_fixed, with_count, fix_count}
 use Rattle.fixed_walk.specs.Fixed.{Fixed, on_content, FixesOnce, released, all_released}
 use Rattle.fixed_walk.specs.laws.Kept.{IsSubsequence, KeepsKeys, AlwaysKeeps}
 use Rattle.fixed_walk.proofs.Subsequences.{sub-same, sub-on, sub-further, sub-distinct}
-use Rattle.fixed_walk.proofs.ChangeLaws.{Keeping, unchanged, inserts-keep, news-keep, counter-keeps, element-keeps}
+use Rattle.fixed_walk.proofs.ChangeLaws.{Keeping, is_end, unchanged, inserts-keep, news-keep, counter-keeps, element-keeps}
 
 -- these slots are there still, in the same order
 abbrev pub KeysStay : List Slot → List Slot → Type 0
@@ -36,8 +36,8 @@ between : (front back : List Slot) (s : Slot) → KeysStay (front ++ back) (fron
 between [] back s = sub-on (keys_of back) (keys_of back) s.0 (sub-same (keys_of back))
 between (f ∷ front) back s = inl (refl, between front back s)
 
-enters-stay : (old new : List Slot) (key : Term) (os : List Term) → has_objects os ≡ true → objects_of old key ≡ None → Enters old key os new → KeysStay old new
-enters-stay old new key os h absent w = subst (KeysStay old) (sym w.after) (subst (λ (zs : List Slot). KeysStay zs (w.front ++ (key, os) ∷ w.back)) (sym w.before) (between w.front w.back (key, os)))
+enters-stay : (old new : List Slot) (key : Term) (os : List Term) → is_end key ≡ false → has_objects os ≡ true → objects_of old key ≡ None → Enters old key os new → KeysStay old new
+enters-stay old new key os own h absent w = subst (KeysStay old) (sym w.after) (subst (λ (zs : List Slot). KeysStay zs (w.front ++ (key, os) ∷ w.back)) (sym w.before) (between w.front w.back (key, os)))
 
 pub keeping : Keeping KeysStay
 keeping = record {
@@ -64,7 +64,7 @@ pub apart : Keeping StayApart
 apart = record {
   staying = λ slots d. d;
   further = λ slots next last p q d. q (p d);
-  enters = λ old new key os h absent w d. distinct-added old new key os w absent d;
+  enters = λ old new key os own h absent w d. distinct-added old new key os w absent d;
   filled = λ old key os h d. subst (IsDistinct same) (sym (keys-set_value (same key) old os)) d;
 }
 

@@ -33,7 +33,7 @@ use Rattle.node_core.specs.rules.Walking.{key_reply, slot_reply, key_and_objects
 use Rattle.node_core.specs.laws.Reached.{HasNoEnd}
 use Rattle.node_core.specs.laws.Walk.{is_table, walk_call, walk_step, IsKey}
 use Rattle.node_core.proofs.Changes.{usable-there}
-use Rattle.node_core.proofs.EndKeys.{is_end}
+use Rattle.fixed_walk.proofs.ChangeLaws.{is_end}
 
 -- ---- keys of slots without '$end_of_table'
 first-at : (b : Bool) (s : Slot) (ss : List Slot) (k : Term) → is_end s.0 ≡ false → (first_key ss ≡ Some k → is_end k ≡ false) → cond b (Some s.0) (first_key ss) ≡ Some k → is_end k ≡ false

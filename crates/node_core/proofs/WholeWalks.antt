@@ -21,7 +21,7 @@ use Rattle.node_core.specs.rules.Walking.{key_reply}
 use Rattle.node_core.specs.laws.Kept.{slots_in, is_fixed_in, StepsKeepKeys}
 use Rattle.node_core.specs.laws.Reached.{HasNoEnd, IsSound}
 use Rattle.node_core.specs.laws.Walk.{states, walk_step, IsKey, Answers, Walks, WalksAreWhole}
-use Rattle.node_core.proofs.EndKeys.{is_end}
+use Rattle.fixed_walk.proofs.ChangeLaws.{is_end}
 use Rattle.node_core.proofs.Reached.{sound-step}
 use Rattle.node_core.proofs.Seen.{stays-there}
 use Rattle.node_core.proofs.Table.{step-follows}
