@@ -29,9 +29,11 @@ bucket_keys number size bucket slots = count_by (λ slot. nat_eq (number slot.0 
 
 -- a search for a key has looked at so many nodes: at least one where the key has a slot, else one for each key of its
 -- hash at least; and at most those of its bucket and two more, where that is ready
-pub record HasLooked (number : Term → ℕ) (slots : List Slot) (ready : List Bool) (key : Term) (old new : ℕ) : Type 0 where
+pub record HasLooked (number : Term → ℕ) (slots : List Slot) (ready : List Bool)
+    (key : Term) (old new : ℕ) : Type 0 where
   pub nodes : ℕ
   pub ticked : new ≡ ticks nodes old
   pub present : IsSome (objects_of slots key) → 1 ≤ nodes
   pub absent : objects_of slots key ≡ None → hash_keys number (number key) slots ≤ nodes
-  pub bound : get_or ready (number key % length ready) false ≡ true → nodes ≤ bucket_keys number (length ready) (number key % length ready) slots + 2
+  pub bound : get_or ready (number key % length ready) false ≡ true
+      → nodes ≤ bucket_keys number (length ready) (number key % length ready) slots + 2

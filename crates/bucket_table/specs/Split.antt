@@ -6,7 +6,8 @@ use Rattle.ets_term.specs.declared.term.Term.{Term}
 use Rattle.ets_term.specs.contracts.term.Term as term
 use Rattle.bucket_table.specs.Slots.{Slot}
 
--- the hash, the slots in the order of their places, the place and key of each, how many more fit with no allocation, and for each bucket whether it is ready
+-- the hash, the slots in the order of their places, the place and key of each, how many more fit with no allocation,
+-- and for each bucket whether it is ready
 pub record Split (H : Type 0) : Type 0 where
   pub hash : H
   pub slots : List Slot
@@ -25,7 +26,8 @@ abbrev pub split_code : {H : Type 0} → Coded H → Coded (Split H)
 split_code {H} code =
     code_by
     (H × (List Slot × (List (ℕ × Term) × (ℕ × List Bool))))
-    (coded× code (coded× (coded_list slot_code) (coded× (coded_list (coded× coded_ℕ term.the_row.coded)) (coded× coded_ℕ (coded_list coded_bool)))))
+    (coded× code (coded× (coded_list slot_code)
+    (coded× (coded_list (coded× coded_ℕ term.the_row.coded)) (coded× coded_ℕ (coded_list coded_bool)))))
     (λ s. (s.hash, (s.slots, (s.places, (s.room, s.ready)))))
     (λ p. record { hash = p.0; slots = p.1.0; places = p.1.1.0; room = p.1.1.1.0; ready = p.1.1.1.1 })
     (λ _. refl)

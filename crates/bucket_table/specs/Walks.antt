@@ -21,7 +21,8 @@ behind_in slots None = None
 behind_in slots (Some key) = slots_behind slots key
 
 -- the place of the first of the slots behind the one whose key is this one
-pub record IsNextPlace (key_at : ℕ → Option Term) (slots : List Slot) (key : Option Term) (next : Option ℕ) : Type 0 where
+pub record IsNextPlace (key_at : ℕ → Option Term) (slots : List Slot)
+    (key : Option Term) (next : Option ℕ) : Type 0 where
   pub rest : List Slot
   pub is : behind_in slots key ≡ Some rest
   pub first : IsFirstPlace key_at rest next

@@ -1,8 +1,8 @@
 //! The rows of a table: slots with distinct keys, in two kept forms with one content.
 //!
 //! *Guarantee.* No call changes the order of the slots that stay, each call has its exact effect on the list of slots,
-//! growth leaves it as it is, and a refusal of memory changes nothing. A search in a ready bucket looks at no more nodes
-//! than the bucket has keys, and two.
+//! growth leaves it as it is, and a refusal of memory changes nothing. A search in a ready bucket looks at no more
+//! nodes than the bucket has keys, and two.
 //!
 //! *Weakness.* Keys of one hash stand in one bucket at every size, so a bad hash makes searches long. A `clear`
 //! walks over all nodes, and so does a `purge` after more slots became held than there was room to note. A walk looks

@@ -87,11 +87,13 @@ pub trait Rows: Drop {
 
     /// The slot behind that of the key; the outer `None` says that the key has none.
     fn next_at(&self, key: &Term) -> Option<Option<(&Term, &[Term])>>
-        ensures { option_map (option_map deref_pair) result ≡ option_map (λ slots. slice_get slots 0) (slots_behind (content self.now) key.now) };
+        ensures { option_map (option_map deref_pair) result
+            ≡ option_map (λ slots. slice_get slots 0) (slots_behind (content self.now) key.now) };
 
     /// Finds the place of the key's slot.
     fn find(&self, key: &Term) -> Option<Place>
-        ensures { MatchOption result (objects_of (content self.now) key.now ≡ None) (λ place. (key_at self.now place ≡ Some key.now) × IsSome (objects_of (content self.now) key.now)) };
+        ensures { MatchOption result (objects_of (content self.now) key.now ≡ None)
+            (λ place. (key_at self.now place ≡ Some key.now) × IsSome (objects_of (content self.now) key.now)) };
 
     /// Finds the place of the key's slot, or says what `put_at` takes for a new one.
     fn entry(&self, key: &Term) -> Entry
@@ -144,7 +146,9 @@ pub trait Rows: Drop {
         ensures key { key_at self.old place ≡ Some result.0 }
         ensures was { objects_of (content self.old) result.0 ≡ Some result.1 }
         ensures now { content self.new ≡ without (content self.old) result.0 }
-        ensures before { (other : ℕ) (key : Term) → key_at self.old other ≡ Some key → StandsBefore (content self.old) key result.0 → key_at self.new other ≡ Some key }
+        ensures before { (other : ℕ) (key : Term) → key_at self.old other ≡ Some key
+            → StandsBefore (content self.old) key result.0
+            → key_at self.new other ≡ Some key }
         ensures hash { number self.new ≡ number self.old }
         ensures buckets { readiness self.new ≡ readiness self.old };
 

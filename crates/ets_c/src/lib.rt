@@ -2,14 +2,15 @@
 //!
 //! examples/c/ets.h declares these functions.
 //!
-//! *Guarantee.* A call on a handle does what the machine does of the call that its text spells, or is refused and changes nothing;
-//! its status, the length of its text and the text in the caller's room are those of the reply. Why it was refused is told when it is
-//! asked for. A closed handle is told.
+//! *Guarantee.* A call on a handle does what the machine does of the call that its text spells, or is refused and
+//! changes nothing; its status, the length of its text and the text in the caller's room are those of the reply. Why it
+//! was refused is told when it is asked for. A closed handle is told.
 //!
-//! *Weakness.* What C owes, nothing checks: a handle that is moved and never copied, rooms that do not overlap, one thread for a
-//! store, and the handle alone in each call.
+//! *Weakness.* What C owes, nothing checks: a handle that is moved and never copied, rooms that do not overlap, one
+//! thread for a store, and the handle alone in each call.
 //!
-//! *Mechanism.* A handle is a pointer to a box, and whether it has one. A call takes the box out, does its step, and puts it back.
+//! *Mechanism.* A handle is a pointer to a box, and whether it has one. A call takes the box out, does its step, and
+//! puts it back.
 //!
 //! *Limits.* A text is read 128 levels deep with the tuple of the call, so an argument may have 127.
 #![tactic(auto)]
@@ -27,8 +28,8 @@ use node_core::{Limits, Step};
 use node_text::{CLOSED, NO_MEMORY, Store, VALUE};
 use std::alloc::Global;
 
-/// Gives a handle a new store with these limits: how many processes and tables ever, and how many objects in one table. A store
-/// that it had ends. `NO_MEMORY` changes nothing.
+/// Gives a handle a new store with these limits: how many processes and tables ever, and how many objects in one table.
+/// A store that it had ends. `NO_MEMORY` changes nothing.
 #[unsafe(no_mangle)]
 pub extern "C" fn ets_open(
     alloc: Global,
@@ -37,7 +38,8 @@ pub extern "C" fn ets_open(
     tables: u32,
     objects: u32,
 ) -> i32
-    ensures { Opens (record { processes = processes; tables = tables; objects = objects }) handle.old.held.store result handle.new.held.store }
+    ensures { Opens (record { processes = processes; tables = tables; objects = objects })
+        handle.old.held.store result handle.new.held.store }
 {
     let limits = Limits {
         processes,
@@ -80,8 +82,9 @@ fn step(alloc: Global, handle: &mut EtsStore, event: &Step) -> i32
     status
 }
 
-/// Does the call of a text for the process of this number: a tuple of the call's name and its arguments, such as `{lookup,t,a}`.
-/// The reply's whole length goes into `len`, and what fits of it into `out`; after `SYNTAX` the length is the offset of the fault.
+/// Does the call of a text for the process of this number: a tuple of the call's name and its arguments, such as
+/// `{lookup,t,a}`. The reply's whole length goes into `len`, and what fits of it into `out`; after `SYNTAX` the length
+/// is the offset of the fault.
 #[unsafe(no_mangle)]
 pub extern "C" fn ets_call(
     alloc: Global,

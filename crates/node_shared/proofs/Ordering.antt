@@ -7,7 +7,7 @@ use Rattle.atomic_table.specs.Table.{State, Me, Allows, Splits, Joins, step, kee
 use Rattle.atomic_table.proofs.Lists.{at_set, at_snoc}
 use Rattle.node_shared.specs.declared.entry.Entry.{Entry}
 use Rattle.node_shared.specs.declared.history.rule.Known.{Known}
-use Rattle.node_shared.specs.History.{Within, IsOrdered, Added, opening, keeper, author, joined, kept, given, spent}
+use Rattle.node_shared.specs.History.{Within, Knows, IsOrdered, Added, opening, keeper, author, joined, kept, given, spent}
 
 -- what stands in a list stands in a longer one
 pub within-more : (xs ys : List Entry) (e : Entry) → Within xs ys → Within xs (ys ++ e ∷ [])
@@ -21,10 +21,6 @@ within-on [] [] e h = inl (refl, tt)
 within-on [] (y ∷ ys) e h = inr (within-on [] ys e tt)
 within-on (x ∷ xs) [] e h = absurd h
 within-on (x ∷ xs) (y ∷ ys) e h = ⊎_elim (λ (t : (x ≡ y) × Within xs ys). inl (t.0, within-on xs ys e t.1)) (λ (t : Within (x ∷ xs) ys). inr (within-on (x ∷ xs) ys e t)) h
-
--- a seat of a history
-abbrev Knows : ℕ → List Entry → ℕ → Known → Type 0
-Knows seat all i v = (v.keeps ≡ true → (i ≡ seat) × (v.all ≡ all)) × Within v.own all
 
 abbrev pub Holds : State Entry Known → Type 0
 Holds s = IsOrdered s.views

@@ -11,4 +11,6 @@ use Rattle.node_shared.specs.contracts.client.Client as client
 module _ (L : RattleType) (l : ledger.Ghosts L.Denot) where
   -- its record has one entry more, the step with the reply that was answered; on want of memory it is as it was
   abbrev pub Answers : {E : Type 0} → MutBor Recorded → Step → Result (Bor Reply) E → Fml
-  Answers c s r = follows_so (client.the_row L l) (client.the_row L l) c.ghost_name none (λ _ _. ⊤) (λ new. MatchResult r (λ reply. new ≡ records c.now s reply.now) (λ _. new ≡ c.now))
+  Answers c s r =
+      follows_so (client.the_row L l) (client.the_row L l) c.ghost_name none (λ _ _. ⊤)
+      (λ new. MatchResult r (λ reply. new ≡ records c.now s reply.now) (λ _. new ≡ c.now))

@@ -41,11 +41,13 @@ pub record IsLeastMissing (journal : List Entry) (clients : List Recorded) (p : 
 
 -- what the comparison of the journal with the clients' records comes to
 abbrev pub Compares : List Entry → List Recorded → Result Transcript CloseFault → Type 0
-Compares journal clients (Ok transcript) = (transcript.entries.items ≡ journal) × AreParts journal clients × NoneMissing journal clients
+Compares journal clients (Ok transcript) =
+    (transcript.entries.items ≡ journal) × AreParts journal clients × NoneMissing journal clients
 Compares journal clients (Err (Differs p)) = IsFirstOther journal clients p
 Compares journal clients (Err (Missing p)) = AreParts journal clients × IsLeastMissing journal clients p
 Compares journal clients (Err Memory) = Unit {0}
 
 -- the same, with a journal that is a run of the node with these limits
 abbrev pub Closes : Limits → List Recorded → Result Transcript CloseFault → Type 0
-Closes limits clients result = (journal : List Entry) × (state : State) × IsRun limits journal state × Compares journal clients result
+Closes limits clients result =
+    (journal : List Entry) × (state : State) × IsRun limits journal state × Compares journal clients result

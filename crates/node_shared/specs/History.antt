@@ -42,12 +42,20 @@ kept v = record { keeps = v.keeps; all = v.all; own = [] }
 abbrev pub given : Known → Known
 given v = author v.own
 
+-- what a seat knows where this one alone may be the keeper's, who has all: what it has stands in that
+abbrev pub Knows : ℕ → List Entry → ℕ → Known → Type 0
+Knows seat all i v = (v.keeps ≡ true → (i ≡ seat) × (v.all ≡ all)) × Within v.own all
+
 -- at most one seat is the keeper's, who has all, and what a seat has stands in it
 abbrev pub IsOrdered : List Known → Type 0
 IsOrdered views =
     (seat : ℕ) × (all : List Entry)
-    × ((i : ℕ) (v : Known) → get_elem? views i ≡ some v → (v.keeps ≡ true → (i ≡ seat) × (v.all ≡ all)) × Within v.own all)
+    × ((i : ℕ) (v : Known) → get_elem? views i ≡ some v → Knows seat all i v)
+
+-- the keeper that knows one entry more, behind all and behind its own
+abbrev pub longer : Known → Entry → Known
+longer v e = keeper (v.all ++ e ∷ []) (v.own ++ e ∷ [])
 
 -- the entry that was said goes behind all, and behind its own, which stood there
 abbrev pub Added : Step Entry → Me Entry Known → ℕ → Me Entry Known → Type 0
-Added s v found w = (e : Entry) × (s.said ≡ some e) × (w ≡ (keeper (v.0.all ++ e ∷ []) (v.0.own ++ e ∷ []), v.1)) × Within v.0.own v.0.all
+Added s v found w = (e : Entry) × (s.said ≡ some e) × (w ≡ (longer v.0 e, v.1)) × Within v.0.own v.0.all

@@ -22,7 +22,8 @@ Does old s r new = step (seen old) s r (seen new) × step_on_buckets old s r new
 
 -- from the empty state the node may do these steps with these replies, and end in this state
 abbrev pub IsRun : Limits → List Entry → State → Type 0
-IsRun limits entries state = run_on_buckets (empty limits) (map (λ e. e.step) entries) (map (λ e. e.reply) entries) state
+IsRun limits entries state =
+    run_on_buckets (empty limits) (map (λ e. e.step) entries) (map (λ e. e.reply) entries) state
 
 -- the process whose step it is; growing tables is no step of a process
 abbrev pub process_of : Step → Option ℕ

@@ -34,7 +34,8 @@ all_owed (v ∷ vs) = owed v + all_owed vs
 abbrev pub Has : List View → ℕ → ℕ → Type 0
 Has views i x = get_elem? views i ≡ some (Drawn x)
 
--- At n seats: the numbers drawn are distinct, they are below the word and are all the numbers below it, and the word is at most n
+-- At n seats: the numbers drawn are distinct, they are below the word and are all the numbers below it, and the word is
+-- at most n
 pub record IsNumbered (n word : ℕ) (views : List View) : Type 0 where
   pub distinct : (i j x : ℕ) → Has views i x → Has views j x → i ≡ j
   pub below : (i x : ℕ) → Has views i x → x < word

@@ -1,5 +1,5 @@
 -- What callers see of a book, of a share and of a client.
-use Rattle.std.specs.Prelude.{◌≡◌, ℕ, Bool, List, [], ◌∷◌, ◌++◌, None}
+use Rattle.std.specs.Prelude.{◌≡◌, ℕ, Bool, true, List, [], ◌∷◌, ◌++◌, None}
 use Rattle.std.specs.Bool.{MatchBool}
 use Rattle.std.specs.Option.{IsSomeAnd}
 use Rattle.node_core.specs.declared.step.Step.{Step}
@@ -7,6 +7,7 @@ use Rattle.node_core.specs.declared.step.Step.TheVariants.{Enrol}
 use Rattle.node_core.specs.declared.step.Reply.{Reply}
 use Rattle.node_core.specs.State.{State}
 use Rattle.node_core.specs.rules.Growth.{due}
+use Rattle.node_core.specs.rules.Replies.{is_value}
 use Rattle.node_shared.specs.declared.entry.Entry.{Entry}
 use Rattle.node_shared.specs.Journal.{entry, Does}
 
@@ -22,7 +23,10 @@ Enters old s r new = Does old.state s r new.state × (new.journal ≡ old.journa
 
 -- the step that is due is done, and entered; or none is due
 abbrev pub Tends : Kept → Kept → Bool → Type 0
-Tends old new did = MatchBool did (IsSomeAnd (due old.state) (λ event. (r : Reply) × Enters old event r new)) ((due old.state ≡ None) × (new ≡ old))
+Tends old new did =
+    MatchBool did
+    (IsSomeAnd (due old.state) (λ event. (r : Reply) × Enters old event r new))
+    ((due old.state ≡ None) × (new ≡ old))
 
 -- a process, and how many entries are counted for it
 pub record Held : Type 0 where
@@ -33,6 +37,14 @@ pub record Held : Type 0 where
 pub record Recorded : Type 0 where
   pub pid : ℕ
   pub entries : List Entry
+
+-- the record of a process that was enrolled with this reply, and did nothing more
+abbrev pub enrolled : ℕ → Reply → Recorded
+enrolled p r = record { pid = p; entries = entry (Enrol p) r ∷ [] }
+
+-- a client begins so, and was enrolled by a reply that is no refusal
+abbrev pub IsEnrolled : ℕ → Recorded → Type 0
+IsEnrolled p client = (r : Reply) × (is_value r ≡ true) × (client ≡ enrolled p r)
 
 -- the record has one entry more
 abbrev pub records : Recorded → Step → Reply → Recorded

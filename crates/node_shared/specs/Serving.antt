@@ -11,7 +11,7 @@ use Rattle.node_core.specs.rules.Growth.{due}
 use Rattle.node_core.specs.rules.Replies.{is_value}
 use Rattle.node_shared.specs.declared.entry.Entry.{Entry}
 use Rattle.node_shared.specs.Journal.{entry, Does, IsRun}
-use Rattle.node_shared.specs.Records.{Recorded}
+use Rattle.node_shared.specs.Records.{Recorded, enrolled}
 use Rattle.node_shared.specs.History.{Within}
 
 -- a state, and the steps with their replies that led to it
@@ -25,12 +25,18 @@ Goes old s r new = Does old.state s r new.state × (new.history ≡ old.history 
 
 -- the step that is due is done so; or none is due
 abbrev pub Tended : Reached → Reached → Bool → Type 0
-Tended old new did = MatchBool did (IsSomeAnd (due old.state) (λ event. (r : Reply) × Goes old event r new)) ((due old.state ≡ None) × (new ≡ old))
+Tended old new did =
+    MatchBool did
+    (IsSomeAnd (due old.state) (λ event. (r : Reply) × Goes old event r new))
+    ((due old.state ≡ None) × (new ≡ old))
 
 -- some run of a node with these limits has these entries, in their order, and then ends with this step and this reply
 abbrev pub Continues : Limits → List Entry → Step → Reply → Type 0
-Continues limits entries s r = (before : List Entry) × (state : State) × Within entries before × IsRun limits (before ++ entry s r ∷ []) state
+Continues limits entries s r =
+    (before : List Entry) × (state : State)
+    × Within entries before × IsRun limits (before ++ entry s r ∷ []) state
 
 -- a caller whose process was enrolled, and did nothing more
 abbrev pub Begun : Limits → ℕ → Recorded → Type 0
-Begun limits p caller = (r : Reply) × (is_value r ≡ true) × (caller ≡ record { pid = p; entries = entry (Enrol p) r ∷ [] }) × Continues limits [] (Enrol p) r
+Begun limits p caller =
+    (r : Reply) × (is_value r ≡ true) × (caller ≡ enrolled p r) × Continues limits [] (Enrol p) r

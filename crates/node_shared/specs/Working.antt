@@ -20,10 +20,15 @@ job_step p End = step.End p
 abbrev pub DidJob : Recorded → Job → Recorded → Type 0
 DidJob old job new = (r : Reply) × (new ≡ records old (job_step old.pid job) r)
 
--- the record has entries more, those of the jobs in order, but for the last `left` of them
+-- these entries are those of the jobs of a process in order, but for the last `left` of them
+abbrev pub AreOfJobs : ℕ → List Job → ℕ → List Entry → Type 0
+AreOfJobs p jobs left done = map (λ e. e.step) done ≡ map (job_step p) (take (length jobs - left) jobs)
+
+-- the record has such entries more
 abbrev pub DidAll : Recorded → List Job → ℕ → Recorded → Type 0
 DidAll old jobs left new =
-    (left ≤ length jobs) × ((done : List Entry) × (new ≡ record old { entries = old.entries ++ done }) × (map (λ e. e.step) done ≡ map (job_step old.pid) (take (length jobs - left) jobs)))
+    (left ≤ length jobs)
+    × ((done : List Entry) × (new ≡ record old { entries = old.entries ++ done }) × AreOfJobs old.pid jobs left done)
 
 abbrev pub HasWorked : {T : Type 0} → Recorded → List Job → Worked T → Type 0
 HasWorked old jobs worked = DidAll old jobs worked.left worked.client

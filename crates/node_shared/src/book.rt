@@ -18,9 +18,9 @@ use std::marker::Model;
 use std::sync::ledger;
 use std::sync::ledger::{Blank, Ledger};
 
-/// What lies under the lock: the node, the journal of the steps that were done, and the ledger that counts the entries of processes. A
-/// contract sees the node's state, the journal and the ledger's total. The journal is a run of the node from its empty state, and the
-/// total is the number of its entries of processes.
+/// What lies under the lock: the node, the journal of the steps that were done, and the ledger that counts the entries
+/// of processes. A contract sees the node's state, the journal and the ledger's total. The journal is a run of the node
+/// from its empty state, and the total is the number of its entries of processes.
 #[derive(Drop)]
 pub struct Book<L: Ledger, H: KeyHash + Copy + Drop> {
     alloc: Global,
@@ -55,8 +55,8 @@ pub enum BookFault {
 }
 
 impl<L: Ledger, H: KeyHash + Copy + Drop> Book<L, H> {
-    /// The opening book: a node without processes and tables, and an empty journal. It takes the blank of `L`, which has a part for each
-    /// process and one more.
+    /// The opening book: a node without processes and tables, and an empty journal. It takes the blank of `L`, which
+    /// has a part for each process and one more.
     pub fn new(alloc: Global, blank: Blank, limits: Limits, hash: H) -> Self
         requires name { blank.name ≡ L.name }
         requires parts { blank.parts ≡ L.parts }
@@ -141,8 +141,8 @@ impl<L: Ledger, H: KeyHash + Copy + Drop> Book<L, H> {
         Ok(true)
     }
 
-    /// The journal: a run of the node from its empty state to the state that it has. The total counts its entries of processes. It takes
-    /// no memory.
+    /// The journal: a run of the node from its empty state to the state that it has. The total counts its entries of
+    /// processes. It takes no memory.
     pub fn journal(&self) -> &[Entry]
         ensures entries { result.now ≡ self.now.journal }
         ensures run { IsRun self.now.state.limits self.now.journal self.now.state }

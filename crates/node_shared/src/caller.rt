@@ -11,8 +11,8 @@ use std::alloc::AllocError;
 use std::marker::Model;
 use std::sync::Wait;
 
-/// What speaks for one process of a server. A contract sees the process, and its steps with the replies that came, which stand in the
-/// server's history in this order. The program has no list of them.
+/// What speaks for one process of a server. A contract sees the process, and its steps with the replies that came,
+/// which stand in the server's history in this order. The program has no list of them.
 #[derive(Drop)]
 pub struct Caller<B: Room> {
     pid: u32,
@@ -44,8 +44,8 @@ impl<B: Room> Caller<B> {
         self.pid
     }
 
-    /// Asks a call, and answers its reply. Some run of the node has all that this caller was answered before, in order, and ends with this
-    /// call and this reply. Want of memory changes nothing. It may wait for the lock.
+    /// Asks a call, and answers its reply. Some run of the node has all that this caller was answered before, in order,
+    /// and ends with this call and this reply. Want of memory changes nothing. It may wait for the lock.
     pub fn ask<H: KeyHash + Copy + Drop, R: Wait>(
         &mut self,
         rt: &R,
@@ -60,8 +60,8 @@ impl<B: Room> Caller<B> {
         self.step(rt, server, event)
     }
 
-    /// Ends the process, and answers the reply; calls after it answer `NoProcess`. Of order and want of memory it is as `ask`. It may wait for
-    /// the lock.
+    /// Ends the process, and answers the reply; calls after it answer `NoProcess`. Of order and want of memory it is as
+    /// `ask`. It may wait for the lock.
     pub fn end<H: KeyHash + Copy + Drop, R: Wait>(
         &mut self,
         rt: &R,

@@ -14,8 +14,8 @@ use std::marker::Model;
 use std::sync::Wait;
 use std::sync::ledger::Ledger;
 
-/// What speaks for one process: its share, and a record of its steps, each with the reply that came. A contract sees the process and the
-/// record, which begins with the enrolment and is as long as the share's count.
+/// What speaks for one process: its share, and a record of its steps, each with the reply that came. A contract sees
+/// the process and the record, which begins with the enrolment and is as long as the share's count.
 #[derive(Drop)]
 pub struct Client<L: Ledger> {
     alloc: Global,
@@ -69,7 +69,8 @@ impl<L: Ledger> Client<L> {
         self.entries.as_slice()
     }
 
-    /// Asks a call, and answers its reply; the record has both. Want of memory changes nothing. It may wait for the lock.
+    /// Asks a call, and answers its reply; the record has both. Want of memory changes nothing. It may wait for the
+    /// lock.
     pub fn ask<H: KeyHash + Copy + Drop, R: Wait>(
         &mut self,
         rt: &R,
@@ -83,8 +84,8 @@ impl<L: Ledger> Client<L> {
         Ok(self.last())
     }
 
-    /// Ends the process, and answers the reply; the record has both. Calls after it answer `NoProcess`. Want of memory changes nothing.
-    /// It may wait for the lock.
+    /// Ends the process, and answers the reply; the record has both. Calls after it answer `NoProcess`. Want of memory
+    /// changes nothing. It may wait for the lock.
     pub fn end<H: KeyHash + Copy + Drop, R: Wait>(
         &mut self,
         rt: &R,
@@ -97,7 +98,8 @@ impl<L: Ledger> Client<L> {
         Ok(self.last())
     }
 
-    /// Does a step of the process, and keeps it with its reply. The journal's copy of it is made before the lock is taken.
+    /// Does a step of the process, and keeps it with its reply. The journal's copy of it is made before the lock is
+    /// taken.
     pub(crate) fn step<H: KeyHash + Copy + Drop, R: Wait>(
         &mut self,
         rt: &R,

@@ -1,5 +1,5 @@
-//! A history that exists in proofs alone: its keeper knows it whole, and an author those entries that it added, which stand in it in their
-//! order. What runs is one atomic word, which stays 0.
+//! A history that exists in proofs alone: its keeper knows it whole, and an author those entries that it added, which
+//! stand in it in their order. What runs is one atomic word, which stays 0.
 ghost use Rattle.std.specs.Prelude.{◌≡◌, [], ◌∷◌, ◌++◌, IfOk};
 ghost use Rattle.node_shared.specs.Journal.{entry};
 ghost use Rattle.node_shared.specs.History.{Within, opening};
@@ -135,7 +135,8 @@ impl<B: Room> Keeper<B> {
         }
     }
 
-    /// Adds the entry of a step and its reply, which goes last in the history and last of what the author added. The reply comes back.
+    /// Adds the entry of a step and its reply, which goes last in the history and last of what the author added. The
+    /// reply comes back.
     pub(crate) fn enter(
         &mut self,
         word: &Word,

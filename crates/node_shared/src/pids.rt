@@ -12,7 +12,8 @@ use std::alloc::{AllocError, Global};
 /// As many numbers can be drawn at most.
 pub const MAX_PIDS: usize = 4_096;
 
-/// Process numbers that threads draw, from 0 on, each once: one atomic word, which has the next. Drawing waits for nobody.
+/// Process numbers that threads draw, from 0 on, each once: one atomic word, which has the next. Drawing waits for
+/// nobody.
 #[derive(Drop)]
 pub struct Pids {
     table: Table<(), View, u64, Numbers, Global>,
@@ -47,7 +48,8 @@ impl Pids {
     /// The numbers below `n`, and a seat for each.
     pub fn open(alloc: Global, n: usize) -> Result<(Pids, Vec<Seat>), PidsFault>
         requires { 0 < n }
-        ensures seats { IfOk result (λ opened. (vec_len opened.1 ≡ n) × All (λ s. s.seat.table_id ≡ opened.0.table.shared.table_id) opened.1.items) }
+        ensures seats { IfOk result (λ opened. (vec_len opened.1 ≡ n)
+            × All (λ s. s.seat.table_id ≡ opened.0.table.shared.table_id) opened.1.items) }
         ensures numbers { IfOk result (λ opened. (opened.0.table.shared.key ≡ n) × (n ≤ MAX_PIDS)) }
         ensures fault { IfErr result (λ fault. (fault ≡ TooMany) ↔ (MAX_PIDS < n)) }
     {
@@ -80,7 +82,8 @@ impl Drawn {
 
 fn open_seats(alloc: Global, n: usize) -> Result<(Pids, Vec<Seat>), AllocError>
     requires { n ≤ MAX_PIDS }
-    ensures seats { IfOk result (λ opened. (vec_len opened.1 ≡ n) × All (λ s. s.seat.table_id ≡ opened.0.table.shared.table_id) opened.1.items) }
+    ensures seats { IfOk result (λ opened. (vec_len opened.1 ≡ n)
+        × All (λ s. s.seat.table_id ≡ opened.0.table.shared.table_id) opened.1.items) }
     ensures numbers { IfOk result (λ opened. opened.0.table.shared.key ≡ n) }
 {
     let mut seats = Vec::with_capacity(alloc, n)?;

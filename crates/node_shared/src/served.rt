@@ -13,8 +13,8 @@ use node_core::{Limits, Node, Reply, Step};
 use std::alloc::{AllocError, Global};
 use std::marker::Model;
 
-/// What lies under the lock of a server: the node, and the keeper of its history. A contract sees the node's state and the history, which is a
-/// run of the node from its empty state. Of a step nothing is stored.
+/// What lies under the lock of a server: the node, and the keeper of its history. A contract sees the node's state and
+/// the history, which is a run of the node from its empty state. Of a step nothing is stored.
 #[derive(Drop)]
 pub struct Served<B: Room, H: KeyHash + Copy + Drop> {
     node: Node<H>,
@@ -90,7 +90,8 @@ impl<B: Room, H: KeyHash + Copy + Drop> Served<B, H> {
         Ok((author, reply))
     }
 
-    /// Does the step that is due, if any, which goes last in the history; says whether one was. Want of memory changes nothing.
+    /// Does the step that is due, if any, which goes last in the history; says whether one was. Want of memory changes
+    /// nothing.
     pub fn tend(&mut self, word: &Word) -> Result<bool, AllocError>
         requires table { word.now.shared.table_id ≡ B.table }
         requires one { word.now.shared.table_id.words ≡ 1 }

@@ -1,8 +1,4 @@
-ghost use Rattle.std.specs.Prelude.{◌≡◌, ◌≤◌, true, [], ◌∷◌, IfOk, IfErr};
-ghost use Rattle.node_core.specs.declared.step.Reply.{Reply};
-ghost use Rattle.node_core.specs.rules.Replies.{is_value};
-ghost use Rattle.node_core.specs.declared.step.Step.TheVariants.{Enrol};
-ghost use Rattle.node_shared.specs.Journal.{entry};
+ghost use Rattle.std.specs.Prelude.{◌≡◌, ◌≤◌, true, IfOk, IfErr};
 ghost use Rattle.node_shared.specs.Serving.{Begun};
 ghost use Rattle.node_shared.specs.Faults.{HandsBack};
 
@@ -27,9 +23,9 @@ pub struct Server<B: Room, H: KeyHash + Copy + Drop> {
 }
 
 impl<B: Room, H: KeyHash + Copy + Drop> Server<B, H> {
-    /// A node without processes and tables, as `Served::new` makes it, behind the lock. Its history is the one that was opened. A lock's
-    /// value is known by its type alone, so of the node itself no clause here says more: the type says of it that the history is a
-    /// run of a node with these limits.
+    /// A node without processes and tables, as `Served::new` makes it, behind the lock. Its history is the one that was
+    /// opened. A lock's value is known by its type alone, so of the node itself no clause here says more: the type says
+    /// of it that the history is a run of a node with these limits.
     pub fn new(alloc: Global, opening: Opening, limits: Limits, hash: H) -> Self
         requires table { opening.word.shared.table_id ≡ B.table }
         requires limits { limits ≡ B.limits }
@@ -56,8 +52,8 @@ impl<B: Room, H: KeyHash + Copy + Drop> Server<B, H> {
         }
     }
 
-    /// Does due steps, with the lock taken for each anew, until none is due, memory is refused, or so many turns were taken; answers how
-    /// many it did. It may wait for the lock.
+    /// Does due steps, with the lock taken for each anew, until none is due, memory is refused, or so many turns were
+    /// taken; answers how many it did. It may wait for the lock.
     pub fn keep<R: Wait>(&self, rt: &R, turns: u32) -> u32
         ensures { result ≤ turns }
     {

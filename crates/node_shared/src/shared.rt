@@ -1,10 +1,8 @@
-ghost use Rattle.std.specs.Prelude.{◌≡◌, ◌≤◌, true, ◌+◌, [], ◌∷◌, IfOk, IfErr, IfSome};
+ghost use Rattle.std.specs.Prelude.{◌≡◌, ◌≤◌, true, ◌+◌, IfOk, IfErr, IfSome};
 ghost use Rattle.std.specs.Bool.{Decides};
 ghost use Rattle.node_core.specs.State.{State};
-ghost use Rattle.node_core.specs.declared.step.Reply.{Reply};
-ghost use Rattle.node_core.specs.rules.Replies.{is_value};
-ghost use Rattle.node_core.specs.declared.step.Step.TheVariants.{Enrol};
-ghost use Rattle.node_shared.specs.Journal.{IsRun, entry};
+ghost use Rattle.node_shared.specs.Journal.{IsRun};
+ghost use Rattle.node_shared.specs.Records.{IsEnrolled};
 ghost use Rattle.node_shared.specs.Faults.{HandsBack};
 
 use crate::book::{Book, BookFault};
@@ -51,7 +49,7 @@ impl<L: Ledger, H: KeyHash + Copy + Drop> Shared<L, H> {
 
     /// Enrols the number that was drawn, and makes the client of that process. It may wait for the lock.
     pub fn client<R: Wait>(&self, rt: &R, drawn: Drawn) -> Result<Client<L>, JoinFault>
-        ensures ok { IfOk result (λ c. (r : Reply) × (is_value r ≡ true) × (c ≡ record { pid = drawn.number; entries = entry (Enrol drawn.number) r ∷ [] })) }
+        ensures ok { IfOk result (IsEnrolled drawn.number) }
         ensures err { IfErr result (HandsBack drawn) }
     {
         let Ok(mut entries) = Vec::with_capacity(self.alloc, 1) else {
@@ -75,8 +73,8 @@ impl<L: Ledger, H: KeyHash + Copy + Drop> Shared<L, H> {
         matches!(self.book.lock(rt).tend(), Ok(true))
     }
 
-    /// The journal, which is a run of the node with these limits. A lock's value is known by its type alone, so the book says once more
-    /// which limits it has; they are never others.
+    /// The journal, which is a run of the node with these limits. A lock's value is known by its type alone, so the
+    /// book says once more which limits it has; they are never others.
     pub(crate) fn into_journal(self) -> Option<Vec<Entry>>
         ensures { IfSome result (λ journal. (state : State) × IsRun self.limits journal.items state) }
     {
@@ -94,8 +92,8 @@ impl<L: Ledger, H: KeyHash + Copy + Drop> Shared<L, H> {
     }
 }
 
-/// Does due steps, with the lock taken for each anew, until none is due, memory is refused, or so many turns were taken; answers how many it
-/// did. It may wait for the lock.
+/// Does due steps, with the lock taken for each anew, until none is due, memory is refused, or so many turns were
+/// taken; answers how many it did. It may wait for the lock.
 pub fn keep<L: Ledger, H: KeyHash + Copy + Drop, R: Wait>(
     rt: &R,
     shared: &Shared<L, H>,

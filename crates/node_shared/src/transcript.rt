@@ -1,9 +1,8 @@
-ghost use Rattle.std.specs.Prelude.{◌≡◌, ◌++◌, [], ◌∷◌, List, map, IfOk};
+ghost use Rattle.std.specs.Prelude.{◌≡◌, map, IfOk};
 ghost use Rattle.std.specs.Bool.{Decides};
-ghost use Rattle.node_shared.specs.declared.entry.Entry as entries;
 ghost use Rattle.node_shared.specs.Journal.{of};
 ghost use Rattle.node_shared.specs.Closing.{Closes, Compares, has_client};
-ghost use Rattle.node_shared.specs.inside.Closing.{Strays, Misses};
+ghost use Rattle.node_shared.specs.inside.Closing.{Strays, Misses, MissesNext};
 
 use crate::client::Client;
 use crate::entry::Entry;
@@ -29,8 +28,8 @@ pub enum CloseFault {
     Memory,
 }
 
-/// Ends the sharing: the journal, where the record of each client is its part of it, and each process with entries has a client. It
-/// waits for nobody. A fault hands nothing back.
+/// Ends the sharing: the journal, where the record of each client is its part of it, and each process with entries has
+/// a client. It waits for nobody. A fault hands nothing back.
 pub fn close<L: Ledger, H: KeyHash + Copy + Drop>(
     shared: Shared<L, H>,
     clients: Vec<Client<L>>,
@@ -99,7 +98,7 @@ fn missing<L: Ledger>(journal: &[Entry], clients: &[Client<L>]) -> Option<u32>
 
 /// The least after one entry more.
 fn lesser<L: Ledger>(least: Option<u32>, entry: &Entry, clients: &[Client<L>]) -> Option<u32>
-    ensures { (journal : List entries.Entry) → Misses journal clients.now least → Misses (journal ++ entry.now ∷ []) clients.now result }
+    ensures { MissesNext entry.now clients.now least result }
 {
     let Some(pid) = entry.process() else {
         return least;

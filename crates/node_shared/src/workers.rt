@@ -13,8 +13,9 @@ use std::sync::ledger::Ledger;
 use std::thread;
 use std::thread::Threads;
 
-/// Lets each client do its jobs in order, in a thread of its own. The clients come back in their order. A client stops where memory is
-/// refused to it; the `Err` is want of memory for the threads or for the list, and steps may have been done. It may wait.
+/// Lets each client do its jobs in order, in a thread of its own. The clients come back in their order. A client stops
+/// where memory is refused to it; the `Err` is want of memory for the threads or for the list, and steps may have been
+/// done. It may wait.
 pub fn run_clients<
     L: Ledger + Send + Sync,
     H: KeyHash + Copy + Drop + Send + Sync,

@@ -21,11 +21,12 @@ use Rattle.node_text.specs.declared.status.TheConstants as is
 abbrev pub fresh : Limits → Stored
 fresh limits = record { node = empty limits; reply = NoProcess; refusal = None }
 
--- Why a step has the reply that is kept: nothing of an answer. Of a refusal the rule that the step breaks, where the machine would
--- refuse it so once more; a refused step changes nothing.
+-- Why a step has the reply that is kept: nothing of an answer. Of a refusal the rule that the step breaks, where the
+-- machine would refuse it so once more; a refused step changes nothing.
 pub record Explains (event : Step) (new : Stored) : Type 0 where
   pub exactly : is_some new.refusal ≡ not (is_value new.reply)
-  pub named : (after : State) → step new.node event new.reply after → new.refusal ≡ option_map Broken (why new.node event new.reply)
+  pub named : (after : State) → step new.node event new.reply after
+      → new.refusal ≡ option_map Broken (why new.node event new.reply)
 
 -- the machine's step is done, its reply is kept, and why it is one
 abbrev pub Does : Stored → Step → Stored → Type 0
@@ -37,23 +38,30 @@ Misreads text at old new = new ≡ refused (Odd (oddity_in_call text at)) old
 
 -- a step is done; or there is no memory for it, and nothing else changes
 abbrev pub StepsOf : Step → ℤ → Stored → Stored → Type 0
-StepsOf event status old new = (Does old event new × (status ≡ status_of new.reply)) ⊎ ((status ≡ is.NO_MEMORY) × (new ≡ refused NoMemory old))
+StepsOf event status old new =
+    (Does old event new × (status ≡ status_of new.reply))
+    ⊎ ((status ≡ is.NO_MEMORY) × (new ≡ refused NoMemory old))
 
--- A call is done, and its reply is told; or there is no memory for it, and nothing else changes. A text that is none changes nothing
--- else, and the offset of its first fault is told in place of a length.
+-- A call is done, and its reply is told; or there is no memory for it, and nothing else changes. A text that is none
+-- changes nothing else, and the offset of its first fault is told in place of a length.
 abbrev pub CallsOf : List ℕ → Asked → ℕ → Told → Stored → Stored → Type 0
 CallsOf text (Call name args) pid t old new =
-    (Does old (Ask pid (record { name = name; args = args })) new × Tells new.reply t) ⊎ ((new ≡ refused NoMemory old) × TellsNone is.NO_MEMORY t)
-CallsOf text (Faulty at) pid t old new = (Misreads text at old new × TellsNumber is.SYNTAX at t) ⊎ ((new ≡ refused NoMemory old) × TellsNone is.NO_MEMORY t)
+    (Does old (Ask pid (record { name = name; args = args })) new × Tells new.reply t)
+    ⊎ ((new ≡ refused NoMemory old) × TellsNone is.NO_MEMORY t)
+CallsOf text (Faulty at) pid t old new =
+    (Misreads text at old new × TellsNumber is.SYNTAX at t)
+    ⊎ ((new ≡ refused NoMemory old) × TellsNone is.NO_MEMORY t)
 
--- What is said of the store of a handle before and after, where it has one; a handle that is closed stays so, and is told.
+-- What is said of the store of a handle before and after, where it has one; a handle that is closed stays so, and is
+-- told.
 abbrev pub OnStore : Type 0 → (Stored → Stored → Type 0) → Option Stored → Option Stored → Type 0
 OnStore closed rule None new = (new ≡ None) × closed
 OnStore closed rule (Some old) new = (stored : Stored) × (new ≡ Some stored) × rule old stored
 
 -- a handle gets a new store, or keeps what it has where there is no memory
 abbrev pub Opens : Limits → Option Stored → ℤ → Option Stored → Type 0
-Opens limits old status new = ((status ≡ is.VALUE) × (new ≡ Some (fresh limits))) ⊎ ((status ≡ is.NO_MEMORY) × (new ≡ old))
+Opens limits old status new =
+    ((status ≡ is.VALUE) × (new ≡ Some (fresh limits))) ⊎ ((status ≡ is.NO_MEMORY) × (new ≡ old))
 
 -- a step on a handle
 abbrev pub Steps : Option Stored → Step → ℤ → Option Stored → Type 0

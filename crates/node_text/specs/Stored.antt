@@ -4,7 +4,8 @@ use Rattle.node_core.specs.State.{State}
 use Rattle.node_core.specs.declared.step.Reply.{Reply}
 use Rattle.node_text.specs.declared.refusal.Refusal.{Refusal}
 
--- what calls can see of the node, the reply to the last step that was done, and why the last call was refused, if it was
+-- what calls can see of the node, the reply to the last step that was done, and why the last call was refused, if it
+-- was
 pub record Stored : Type 0 where
   pub node : State
   pub reply : Reply

@@ -24,8 +24,8 @@ call_form _ = Faulty 0
 abbrev pub call_in : Term → Asked
 call_in term = call_form (out-Term term)
 
--- What the reader of terms gives of so many bytes: a term that takes them all is looked at as a call. At the end of a text the
--- reader has found a term or a fault.
+-- What the reader of terms gives of so many bytes: a term that takes them all is looked at as a call. At the end of a
+-- text the reader has found a term or a fault.
 abbrev pub asked_by : ℕ → Reading → Asked
 asked_by len (found t n) = if n == len then call_in t else Faulty n
 asked_by len (fails f) = Faulty (unwrap_or (offset f) 0)

@@ -30,7 +30,8 @@ impl Refusal {
     /// Why a step has this reply, which a node gave that stands so since. It takes no memory.
     pub(crate) fn of(node: &Node<Fnv>, event: &Step, reply: &Reply) -> Option<Refusal>
         ensures exactly { is_some result ≡ not (is_value reply.now) }
-        ensures named { (new : State) → step (seen node.now) event.now reply.now new → result ≡ option_map Broken (why (seen node.now) event.now reply.now) }
+        ensures named { (new : State) → step (seen node.now) event.now reply.now new
+            → result ≡ option_map Broken (why (seen node.now) event.now reply.now) }
     {
         match why(node, event, reply) {
             Some(reason) => Some(Refusal::Broken(reason)),

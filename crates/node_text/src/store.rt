@@ -19,8 +19,8 @@ use std::alloc::{AllocError, Global};
 use std::marker::Model;
 use term_text::print_term;
 
-/// A node, the reply to the last step that was done, and why the last call was refused, if it was. Contracts see what calls can
-/// see of the node.
+/// A node, the reply to the last step that was done, and why the last call was refused, if it was. Contracts see what
+/// calls can see of the node.
 #[derive(Drop)]
 pub struct Store {
     node: Node<Fnv>,
@@ -82,8 +82,8 @@ impl Store {
         }
     }
 
-    /// Does the call of a text, and puts what fits of its reply's text into `out`, and that text's whole length into `len`; after
-    /// `SYNTAX` that is the offset of the fault. Answers the status.
+    /// Does the call of a text, and puts what fits of its reply's text into `out`, and that text's whole length into
+    /// `len`; after `SYNTAX` that is the offset of the fault. Answers the status.
     pub fn call(
         &mut self,
         alloc: Global,
@@ -122,8 +122,8 @@ impl Store {
         VALUE
     }
 
-    /// Puts what fits of why the last call was refused into `out`, in words, and their whole length into `len`; nothing where it
-    /// was not refused.
+    /// Puts what fits of why the last call was refused into `out`, in words, and their whole length into `len`; nothing
+    /// where it was not refused.
     pub fn tell_why(&self, alloc: Global, out: &mut [u8], len: &mut usize) -> i32
         ensures { TellsWhy self.now.refusal (told result len.new out.old out.new) }
     {

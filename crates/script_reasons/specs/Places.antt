@@ -39,7 +39,8 @@ bare text = bare_from Outside text
 abbrev pub level : ℕ → ℕ → ℕ
 level n b = if among (codes "[{") b then n + 1 else if among (codes "]}") b then n - 1 else n
 
--- where a text has come to at its end: in quotes or not; how many brackets are open; and whether parentheses came, outside quotes all
+-- where a text has come to at its end: in quotes or not; how many brackets are open; and whether parentheses came,
+-- outside quotes all
 abbrev pub place_of : List ℕ → Place
 place_of text = record {
   quoting = quoting text;

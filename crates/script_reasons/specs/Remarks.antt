@@ -29,7 +29,8 @@ shown name = if is_utf8 name then name else codes "the name"
 abbrev pub remark_text : Remark → List ℕ
 remark_text (remark.Broken step reason) = step_subject step ++ (codes ": " ++ reason_text reason)
 remark_text (remark.SpawnedBefore name) = codes "spawn: " ++ (shown name.now ++ codes " was spawned before")
-remark_text (remark.AskedOfNone name call) = call_subject call ++ (codes ": " ++ (shown name.now ++ codes " was never spawned"))
+remark_text (remark.AskedOfNone name call) =
+    call_subject call ++ (codes ": " ++ (shown name.now ++ codes " was never spawned"))
 remark_text (remark.EndedNone name) = codes "exit: " ++ (shown name.now ++ codes " was never spawned")
 remark_text (remark.Faulty at oddity) = codes "byte " ++ (decimal at ++ (codes ": " ++ oddity_text oddity))
 remark_text remark.TooLong = codes "more than 65536 bytes"

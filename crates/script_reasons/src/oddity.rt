@@ -62,8 +62,8 @@ pub fn oddity_at(line: &[u8], at: usize) -> Oddity
     }
 }
 
-/// What stands at an offset of a text that is no call as a tuple, such as `{lookup,t,a}`, where it has its fault; at 0 that
-/// mostly is a term that is none.
+/// What stands at an offset of a text that is no call as a tuple, such as `{lookup,t,a}`, where it has its fault; at 0
+/// that mostly is a term that is none.
 pub fn oddity_in_call(text: &[u8], at: usize) -> Oddity
     ensures { result ≡ spec.oddity_in_call text.now at }
 {

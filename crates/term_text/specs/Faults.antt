@@ -13,17 +13,21 @@ use Rattle.term_text.specs.Text.{apostrophe, quotation_mark, is_digit, is_small,
 -- the text in a bracket up to where a term is wanted, behind these
 pub data Inside (k : ℕ) : List Term → List ℕ → Type 0 where
   fresh : (blanks : List ℕ) → AreBlanks blanks → Inside k [] blanks
-  further : (ts : List Term) (row before behind : List ℕ) → SpellsRow k row ts → AreBlanks before → AreBlanks behind → Inside k ts (row ++ (before ++ (codes "," ++ behind)))
+  further : (ts : List Term) (row before behind : List ℕ) → SpellsRow k row ts → AreBlanks before → AreBlanks behind
+      → Inside k ts (row ++ (before ++ (codes "," ++ behind)))
 
 -- the text up to where a term of at most k levels is wanted, in these open brackets
 abbrev pub Here : ℕ → List Open → List ℕ → Type 0
 Here k [] pre = AreBlanks pre × (k ≡ max_depth)
-Here k (o ∷ os) pre = (outer inner : List ℕ) × (pre ≡ outer ++ (opening_sign o.square ∷ inner)) × Here (suc k) os outer × Inside k o.terms inner
+Here k (o ∷ os) pre =
+    (outer inner : List ℕ) × (pre ≡ outer ++ (opening_sign o.square ∷ inner))
+    × Here (suc k) os outer × Inside k o.terms inner
 
 -- the bytes of a binary up to where a further one is wanted
 pub data Bytes : List ℕ → List ℕ → Type 0 where
   opened : (blanks : List ℕ) → AreBlanks blanks → Bytes [] blanks
-  comma : (bs row before behind : List ℕ) → SpellsBytes row bs → AreBlanks before → AreBlanks behind → Bytes bs (row ++ (before ++ (codes "," ++ behind)))
+  comma : (bs row before behind : List ℕ) → SpellsBytes row bs → AreBlanks before → AreBlanks behind
+      → Bytes bs (row ++ (before ++ (codes "," ++ behind)))
 
 -- what stands before the digits of a number
 abbrev pub Before : Number → List ℕ → Type 0
@@ -58,14 +62,18 @@ pub record PastRange (pre : List ℕ) (b start : ℕ) : Type 0 where
 -- an atom too long: b begins one character more than an atom has, of one that begins at `start`
 pub data PastAtom (pre : List ℕ) (b start : ℕ) : Type 0 where
   plain_form : (os : List Open) (k : ℕ) (lead s : List ℕ) → pre ≡ lead ++ s → Here (suc k) os lead → start ≡ length lead
-      → IsTrue (begins is_small s) → IsTrue (list_all is_name s) → length s ≡ max_characters → is_name b ≡ true → PastAtom pre b start
-  quoted_form : (os : List Open) (k : ℕ) (lead s cs : List ℕ) → pre ≡ lead ++ (codes "'" ++ s) → Here (suc k) os lead → start ≡ length lead
-      → SpellsQuoted apostrophe s cs → length cs ≡ max_characters → is_character b ≡ true → (b == apostrophe) ≡ false → PastAtom pre b start
+      → IsTrue (begins is_small s) → IsTrue (list_all is_name s) → length s ≡ max_characters → is_name b ≡ true
+      → PastAtom pre b start
+  quoted_form : (os : List Open) (k : ℕ) (lead s cs : List ℕ) → pre ≡ lead ++ (codes "'" ++ s)
+      → Here (suc k) os lead → start ≡ length lead
+      → SpellsQuoted apostrophe s cs → length cs ≡ max_characters → is_character b ≡ true → (b == apostrophe) ≡ false
+      → PastAtom pre b start
 
 -- too deep: b can begin a term one level past the last, or a character of a string that stands at the last
 pub data PastDepth (pre : List ℕ) (b : ℕ) : Type 0 where
   a_term : (os : List Open) → Here 0 os pre → begins_term b ≡ true → PastDepth pre b
-  a_character : (os : List Open) (lead : List ℕ) → pre ≡ lead ++ codes "\"" → Here 1 os lead → is_character b ≡ true → (b == quotation_mark) ≡ false → PastDepth pre b
+  a_character : (os : List Open) (lead : List ℕ) → pre ≡ lead ++ codes "\"" → Here 1 os lead
+      → is_character b ≡ true → (b == quotation_mark) ≡ false → PastDepth pre b
 
 -- what a fault at the byte b says of the text before it
 abbrev pub Says : List ℕ → ℕ → TextFault → Type 0
@@ -78,7 +86,9 @@ Says pre b Memory = ⊥
 
 -- a row for its own reason; any other byte with which no text can go on is unexpected
 abbrev pub IsTold : List ℕ → ℕ → TextFault → Type 0
-IsTold pre b (Unexpected at) = (at ≡ length pre) × ((start : ℕ) → PastRange pre b start → ⊥) × (PastDepth pre b → ⊥) × ((start : ℕ) → PastAtom pre b start → ⊥)
+IsTold pre b (Unexpected at) =
+    (at ≡ length pre) × ((start : ℕ) → PastRange pre b start → ⊥)
+    × (PastDepth pre b → ⊥) × ((start : ℕ) → PastAtom pre b start → ⊥)
 IsTold pre b f = Says pre b f
 
 -- some text that begins so has a term at its front

@@ -21,13 +21,18 @@ pub record SpellsNumber (kind : Number) (s : List ℕ) (n : ℕ) : Type 0 where
 -- characters between quotes of this sign: the sign and `\` have a `\` before them
 pub data SpellsQuoted (quote : ℕ) : List ℕ → List ℕ → Type 0 where
   none : SpellsQuoted quote [] []
-  plain : (s cs : List ℕ) (c : ℕ) → SpellsQuoted quote s cs → is_character c ≡ true → (c == quote) ≡ false → (c == 92) ≡ false → SpellsQuoted quote (s ++ c ∷ []) (cs ++ c ∷ [])
-  escaped : (s cs : List ℕ) (c : ℕ) → SpellsQuoted quote s cs → ((c == quote) || (c == 92)) ≡ true → SpellsQuoted quote (s ++ (codes "\\" ++ c ∷ [])) (cs ++ c ∷ [])
+  plain : (s cs : List ℕ) (c : ℕ) → SpellsQuoted quote s cs
+      → is_character c ≡ true → (c == quote) ≡ false → (c == 92) ≡ false
+      → SpellsQuoted quote (s ++ c ∷ []) (cs ++ c ∷ [])
+  escaped : (s cs : List ℕ) (c : ℕ) → SpellsQuoted quote s cs → ((c == quote) || (c == 92)) ≡ true
+      → SpellsQuoted quote (s ++ (codes "\\" ++ c ∷ [])) (cs ++ c ∷ [])
 
 -- the bytes of a binary, one or more, parted by commas
 pub data SpellsBytes : List ℕ → List ℕ → Type 0 where
-  first : (before s : List ℕ) (n : ℕ) → AreBlanks before → SpellsNumber (byte []) s n → SpellsBytes (before ++ s) (n ∷ [])
-  more : (row before behind s bs : List ℕ) (n : ℕ) → SpellsBytes row bs → AreBlanks before → AreBlanks behind → SpellsNumber (byte []) s n
+  first : (before s : List ℕ) (n : ℕ) → AreBlanks before → SpellsNumber (byte []) s n
+      → SpellsBytes (before ++ s) (n ∷ [])
+  more : (row before behind s bs : List ℕ) (n : ℕ) → SpellsBytes row bs
+      → AreBlanks before → AreBlanks behind → SpellsNumber (byte []) s n
       → SpellsBytes (row ++ (before ++ (codes "," ++ (behind ++ s)))) (bs ++ n ∷ [])
 
 -- the sign that opens a list, or a tuple, and the one that closes it
@@ -41,31 +46,48 @@ mutual
   -- the spellings of a term that has at most this many levels
   pub data Spells : ℕ → List ℕ → Term → Type 0 where
     positive : (k : ℕ) (s : List ℕ) (n : ℕ) → SpellsNumber (integer false) s n → Spells (suc k) s (Int (signed false n))
-    negative : (k : ℕ) (s : List ℕ) (n : ℕ) → SpellsNumber (integer true) s n → Spells (suc k) (codes "-" ++ s) (Int (signed true n))
-    plain_atom : (k : ℕ) (s : List ℕ) → IsTrue (begins is_small s) → IsTrue (list_all is_name s) → length s ≤ max_characters → Spells (suc k) s (Atom s)
-    quoted_atom : (k : ℕ) (s cs : List ℕ) → SpellsQuoted apostrophe s cs → length cs ≤ max_characters → Spells (suc k) (codes "'" ++ (s ++ codes "'")) (Atom cs)
-    pid_form : (k : ℕ) (s : List ℕ) (n : ℕ) → SpellsNumber pid s n → Spells (suc k) (codes "<0." ++ (s ++ codes ".0>")) (Pid n)
-    identifier_form : (k : ℕ) (s : List ℕ) (n : ℕ) → SpellsNumber identifier s n → Spells (suc k) (codes "#Tid<" ++ (s ++ codes ">")) (Tid n)
-    no_bytes : (k : ℕ) (blanks : List ℕ) → AreBlanks blanks → Spells (suc k) (codes "<<" ++ (blanks ++ codes ">>")) (Binary [])
-    bytes : (k : ℕ) (row behind bs : List ℕ) → SpellsBytes row bs → AreBlanks behind → Spells (suc k) (codes "<<" ++ (row ++ (behind ++ codes ">>"))) (Binary bs)
-    byte_string : (k : ℕ) (before s behind bs : List ℕ) → AreBlanks before → SpellsQuoted quotation_mark s bs → AreBlanks behind
-        → Spells (suc k) (codes "<<" ++ (before ++ (codes "\"" ++ (s ++ (codes "\"" ++ (behind ++ codes ">>")))))) (Binary bs)
+    negative : (k : ℕ) (s : List ℕ) (n : ℕ) → SpellsNumber (integer true) s n
+        → Spells (suc k) (codes "-" ++ s) (Int (signed true n))
+    plain_atom : (k : ℕ) (s : List ℕ) → IsTrue (begins is_small s) → IsTrue (list_all is_name s)
+        → length s ≤ max_characters → Spells (suc k) s (Atom s)
+    quoted_atom : (k : ℕ) (s cs : List ℕ) → SpellsQuoted apostrophe s cs → length cs ≤ max_characters
+        → Spells (suc k) (codes "'" ++ (s ++ codes "'")) (Atom cs)
+    pid_form : (k : ℕ) (s : List ℕ) (n : ℕ) → SpellsNumber pid s n
+        → Spells (suc k) (codes "<0." ++ (s ++ codes ".0>")) (Pid n)
+    identifier_form : (k : ℕ) (s : List ℕ) (n : ℕ) → SpellsNumber identifier s n
+        → Spells (suc k) (codes "#Tid<" ++ (s ++ codes ">")) (Tid n)
+    no_bytes : (k : ℕ) (blanks : List ℕ) → AreBlanks blanks
+        → Spells (suc k) (codes "<<" ++ (blanks ++ codes ">>")) (Binary [])
+    bytes : (k : ℕ) (row behind bs : List ℕ) → SpellsBytes row bs → AreBlanks behind
+        → Spells (suc k) (codes "<<" ++ (row ++ (behind ++ codes ">>"))) (Binary bs)
+    byte_string : (k : ℕ) (before s behind bs : List ℕ) → AreBlanks before → SpellsQuoted quotation_mark s bs
+        → AreBlanks behind
+        → Spells (suc k)
+        (codes "<<" ++ (before ++ (codes "\"" ++ (s ++ (codes "\"" ++ (behind ++ codes ">>")))))) (Binary bs)
     empty_string : (k : ℕ) → Spells (suc k) (codes "\"\"") (ListOf [])
-    string : (k : ℕ) (s cs : List ℕ) → SpellsQuoted quotation_mark s cs → 0 < length cs → Spells (suc (suc k)) (codes "\"" ++ (s ++ codes "\"")) (ListOf (map code cs))
+    string : (k : ℕ) (s cs : List ℕ) → SpellsQuoted quotation_mark s cs → 0 < length cs
+        → Spells (suc (suc k)) (codes "\"" ++ (s ++ codes "\"")) (ListOf (map code cs))
     empty_bracket : (k : ℕ) (square : Bool) (blanks : List ℕ) → AreBlanks blanks
-        → Spells (suc k) (opening_sign square ∷ (blanks ++ closing_sign square ∷ [])) (bracket (record { square = square; terms = [] }))
-    full_bracket : (k : ℕ) (square : Bool) (row behind : List ℕ) (ts : List Term) → SpellsRow k row ts → AreBlanks behind
-        → Spells (suc k) (opening_sign square ∷ (row ++ (behind ++ closing_sign square ∷ []))) (bracket (record { square = square; terms = ts }))
+        → Spells (suc k) (opening_sign square ∷ (blanks ++ closing_sign square ∷ []))
+        (bracket (record { square = square; terms = [] }))
+    full_bracket : (k : ℕ) (square : Bool) (row behind : List ℕ) (ts : List Term) → SpellsRow k row ts
+        → AreBlanks behind
+        → Spells (suc k) (opening_sign square ∷ (row ++ (behind ++ closing_sign square ∷ [])))
+        (bracket (record { square = square; terms = ts }))
 
   -- the terms in a bracket, one or more, parted by commas
   pub data SpellsRow : ℕ → List ℕ → List Term → Type 0 where
-    first_term : (k : ℕ) (before s : List ℕ) (t : Term) → AreBlanks before → Spells k s t → SpellsRow k (before ++ s) (t ∷ [])
-    more_terms : (k : ℕ) (row before behind s : List ℕ) (ts : List Term) (t : Term) → SpellsRow k row ts → AreBlanks before → AreBlanks behind → Spells k s t
+    first_term : (k : ℕ) (before s : List ℕ) (t : Term) → AreBlanks before → Spells k s t
+        → SpellsRow k (before ++ s) (t ∷ [])
+    more_terms : (k : ℕ) (row before behind s : List ℕ) (ts : List Term) (t : Term) → SpellsRow k row ts
+        → AreBlanks before → AreBlanks behind → Spells k s t
         → SpellsRow k (row ++ (before ++ (codes "," ++ (behind ++ s)))) (ts ++ t ∷ [])
 
 -- An integer and an atom without quotes take each further byte that can belong to them.
 abbrev pub Ends : List ℕ → List ℕ → Type 0
-Ends s rest = (begins (λ b. is_digit b || (b == 45)) s ≡ true → begins is_digit rest ≡ false) × (begins is_small s ≡ true → begins is_name rest ≡ false)
+Ends s rest =
+    (begins (λ b. is_digit b || (b == 45)) s ≡ true → begins is_digit rest ≡ false)
+    × (begins is_small s ≡ true → begins is_name rest ≡ false)
 
 -- the first n bytes of the text are blanks and a spelling of the term, of at most max_depth levels, that ends there
 pub record Front (text : List ℕ) (t : Term) (n : ℕ) : Type 0 where

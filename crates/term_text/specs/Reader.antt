@@ -115,7 +115,8 @@ next_digit at kind start os b = if is_digit b then goes (number kind start (b - 
 
 abbrev pub next_number : ℕ → Number → ℕ → ℕ → List Open → ℕ → Reading
 next_number at kind start n os b = if is_digit b
-    then (if nat_le (n * 10 + (b - 48)) (top kind) then goes (number kind start (n * 10 + (b - 48))) os else fails (OutOfRange start))
+    then (if nat_le (n * 10 + (b - 48)) (top kind) then goes (number kind start (n * 10 + (b - 48))) os
+    else fails (OutOfRange start))
     else next_behind_number at kind n os b
 
 -- the quote of a form
@@ -130,7 +131,8 @@ unquoted n (form.Atom start) cs os = put os (Atom cs) n
 unquoted n form.String cs os = put os (ListOf (map code cs)) n
 unquoted n form.Binary cs os = goes (behind_string cs) os
 
--- the first byte of a further character, behind n others: an atom has max_characters at most, and those of a string stand one level further in
+-- the first byte of a further character, behind n others: an atom has max_characters at most, and those of a string
+-- stand one level further in
 abbrev pub admits : ℕ → QuoteForm → ℕ → List Open → Reading → Reading
 admits at (form.Atom start) n os s = if n == max_characters then fails (AtomTooLong start) else s
 admits at form.String n os s = if nat_le (max_depth - 1) (length os) then fails (TooDeep at) else s
@@ -152,7 +154,9 @@ next at (name start cs) os b = if is_name b
     then (if length cs == max_characters then fails (AtomTooLong start) else goes (name start (cs ++ b ∷ [])) os)
     else next_behind at (put os (Atom cs) at) b
 next at (quoted q cs) os b = next_quoted at q cs os b
-next at (escaped q cs) os b = if (b == quote q) || (b == 92) then goes (quoted q (cs ++ b ∷ [])) os else fails (Unexpected at)
+next at (escaped q cs) os b = if (b == quote q) || (b == 92)
+    then goes (quoted q (cs ++ b ∷ [])) os
+    else fails (Unexpected at)
 next at (signs cs goal) os b = next_sign at cs goal os b
 next at angle os b = if b == 60 then goes opened_binary os
     else if b == 48 then goes (signs (codes ".") (digits pid)) os

@@ -7,7 +7,9 @@ use Rattle.term_text.specs.Grammar.{Ends}
 use Rattle.term_text.specs.Reader.{found, reading}
 use Rattle.term_text.specs.Printed.{printed}
 
--- The printed text of a term of at most max_depth levels is read as this term, to its last byte, unless what stands behind
--- it goes on with its integer or its atom without quotes.
+-- The printed text of a term of at most max_depth levels is read as this term, to its last byte, unless what stands
+-- behind it goes on with its integer or its atom without quotes.
 abbrev pub ReadsBack : Term → List ℕ → Type 0
-ReadsBack t rest = Fits t → depth t ≤ max_depth → Ends (printed t) rest → reading (printed t ++ rest) ≡ found t (length (printed t))
+ReadsBack t rest =
+    Fits t → depth t ≤ max_depth → Ends (printed t) rest
+    → reading (printed t ++ rest) ≡ found t (length (printed t))

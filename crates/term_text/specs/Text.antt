@@ -28,7 +28,9 @@ closes square b = if square then b == 93 else b == 125
 
 -- the bytes that a term can begin with: `{`, `[`, `-`, `'`, `"`, `<`, `#`, digits and small letters
 unfoldable pub begins_term : ℕ → Bool
-begins_term b = (b == 123) || (b == 91) || (b == 45) || (b == 39) || (b == 34) || (b == 60) || (b == 35) || is_digit b || is_small b
+begins_term b =
+    (b == 123) || (b == 91) || (b == 45) || (b == 39) || (b == 34) || (b == 60) || (b == 35)
+    || is_digit b || is_small b
 
 -- the number n with the digits at the front written behind it
 abbrev pub spelled : ℕ → List ℕ → ℕ

@@ -8,11 +8,11 @@
 //! *Weakness.* Want of memory is answered by any call that takes memory: no contract says that memory is there.
 //!
 //! *Mechanism.* The definition is a reader that takes one byte after the other: a fault is where it has no next state.
-//! The code is a recursive descent with the levels that are left, one pass and no look back, each function of which is a
-//! part of that reader's way; digits, names and blanks are taken in bulk. Laws over texts tie it to the grammar.
+//! The code is a recursive descent with the levels that are left, one pass and no look back, each function of which is
+//! a part of that reader's way; digits, names and blanks are taken in bulk. Laws over texts tie it to the grammar.
 //!
-//! *Limits.* A term is read at most 128 levels deep, so the descent needs little stack; a deeper one that a program made
-//! is printed too, by a walk as deep as the term. An atom has at most 255 characters, an integer 128 bits.
+//! *Limits.* A term is read at most 128 levels deep, so the descent needs little stack; a deeper one that a program
+//! made is printed too, by a walk as deep as the term. An atom has at most 255 characters, an integer 128 bits.
 #![tactic(auto)]
 
 mod binary;

@@ -1,7 +1,6 @@
 //! Numbers and fixed signs.
 ghost use Rattle.std.specs.Prelude.{◌≡◌, ◌+◌, ◌-◌, ◌*◌, ◌≤◌, ◌<◌, ℕ, List, true, false, get_or, length, drop, IfOk, OnErr, MatchOption};
-ghost use Rattle.std.specs.List.{prefix_len};
-ghost use Rattle.term_text.specs.inside.Parts.{ReadsNumber, ReadsSigns};
+ghost use Rattle.term_text.specs.inside.Parts.{digits_end, ReadsNumber, ReadsSigns};
 ghost use Rattle.term_text.specs.Text.{is_digit, spelled};
 
 use crate::bytes::is_digit_byte;
@@ -38,7 +37,7 @@ fn with_digit(n: Magnitude, digit: Magnitude, limit: Magnitude) -> Option<Magnit
 fn short_digits_at(text: &[u8], at: usize) -> (u64, usize)
     requires { at ≤ length text.now }
     ensures value { spelled result.0 (drop result.1 text.now) ≡ spelled 0 (drop at text.now) }
-    ensures end { result.1 + prefix_len is_digit (drop result.1 text.now) ≡ at + prefix_len is_digit (drop at text.now) }
+    ensures end { digits_end text.now result.1 ≡ digits_end text.now at }
     ensures within { result.1 ≤ length text.now }
 {
     let mut n: u64 = 0;
@@ -55,7 +54,9 @@ fn short_digits_at(text: &[u8], at: usize) -> (u64, usize)
 pub fn digits_at(text: &[u8], at: usize, limit: Magnitude) -> Option<(Magnitude, usize)>
     requires within { at ≤ length text.now }
     requires limit_in { 9 ≤ limit }
-    ensures { MatchOption result (limit < spelled 0 (drop at text.now)) (λ x. (x.0 ≡ spelled 0 (drop at text.now)) × (x.0 ≤ limit) × (x.1 ≡ at + prefix_len is_digit (drop at text.now)) × (x.1 ≤ length text.now)) }
+    ensures { MatchOption result (limit < spelled 0 (drop at text.now)) (λ x.
+        (x.0 ≡ spelled 0 (drop at text.now)) × (x.0 ≤ limit)
+        × (x.1 ≡ digits_end text.now at) × (x.1 ≤ length text.now)) }
 {
     let (short, end) = short_digits_at(text, at);
     let mut n = short as Magnitude;

@@ -36,7 +36,8 @@ fn append_items<S: Sink>(
     back: &str,
     out: &mut S,
 ) -> Result<(), S::Fault>
-    ensures { AppendsOrFront (S.contents out.old) (S.contents out.new) (front.now ++ (row_text false (map printed items.now) ++ back.now)) result }
+    ensures { AppendsOrFront (S.contents out.old) (S.contents out.new)
+        (front.now ++ (row_text false (map printed items.now) ++ back.now)) result }
 {
     out.put(front)?;
     let mut later = false;
@@ -50,7 +51,8 @@ fn append_items<S: Sink>(
 
 /// Bytes between two signs.
 fn append_bytes<S: Sink>(front: &str, bytes: &[u8], back: &str, out: &mut S) -> Result<(), S::Fault>
-    ensures { AppendsOrFront (S.contents out.old) (S.contents out.new) (front.now ++ (row_text false (map decimal bytes.now) ++ back.now)) result }
+    ensures { AppendsOrFront (S.contents out.old) (S.contents out.new)
+        (front.now ++ (row_text false (map decimal bytes.now) ++ back.now)) result }
 {
     out.put(front)?;
     let mut later = false;
@@ -120,7 +122,8 @@ fn all_names(bytes: &[u8]) -> bool
 /// Characters between single quotes.
 fn append_quoted<S: Sink>(text: &str, out: &mut S) -> Result<(), S::Fault>
     requires { list_all is_character text.now ≡ true }
-    ensures { AppendsOrFront (S.contents out.old) (S.contents out.new) (codes "'" ++ (flat_map escaped text.now ++ codes "'")) result }
+    ensures { AppendsOrFront (S.contents out.old) (S.contents out.new)
+        (codes "'" ++ (flat_map escaped text.now ++ codes "'")) result }
 {
     out.put("'")?;
     append_escaped(text, out)?;
@@ -151,7 +154,8 @@ fn is_escaped(b: u8) -> bool
 fn append_piece<S: Sink>(text: &str, start: usize, end: usize, out: &mut S) -> Result<(), S::Fault>
     requires ascii { list_all is_character text.now ≡ true }
     requires within { (start ≤ end) × (end ≤ length text.now) }
-    ensures { AppendsOrFront (S.contents out.old) (S.contents out.new) (take (end - start) (drop start text.now) ++ 92 ∷ []) result }
+    ensures { AppendsOrFront (S.contents out.old) (S.contents out.new)
+        (take (end - start) (drop start text.now) ++ 92 ∷ []) result }
 {
     append_slice(text, start, end, out)?;
     out.put("\\")
@@ -161,7 +165,8 @@ fn append_piece<S: Sink>(text: &str, start: usize, end: usize, out: &mut S) -> R
 fn append_slice<S: Sink>(text: &str, start: usize, end: usize, out: &mut S) -> Result<(), S::Fault>
     requires ascii { list_all is_character text.now ≡ true }
     requires within { (start ≤ end) × (end ≤ length text.now) }
-    ensures { AppendsOrFront (S.contents out.old) (S.contents out.new) (take (end - start) (drop start text.now)) result }
+    ensures { AppendsOrFront (S.contents out.old) (S.contents out.new)
+        (take (end - start) (drop start text.now)) result }
 {
     out.put(&text[start..end])
 }

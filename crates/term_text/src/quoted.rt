@@ -108,7 +108,8 @@ pub(crate) fn string_at(
 ) -> Result<(Term, usize), TextFault>
     requires { at ≤ length text.now }
     ensures within { IfOk result (λ x. (at ≤ x.1) × (x.1 ≤ length text.now)) }
-    ensures reads { (os : List Open) → IsDeep form.String deep os → Reads text.now at (goes (quoted form.String []) os) os result }
+    ensures reads { (os : List Open) → IsDeep form.String deep os
+        → Reads text.now at (goes (quoted form.String []) os) os result }
 {
     let (chars, end) = quoted_at(alloc, text, at, QuoteForm::String, deep)?;
     let codes = codes_of(alloc, chars.as_slice())?;

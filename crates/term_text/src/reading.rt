@@ -34,7 +34,8 @@ pub fn read_term_bytes(alloc: Global, text: &[u8]) -> Result<(Term, usize), Text
 fn term_at(alloc: Global, text: &[u8], at: usize, room: usize) -> Result<(Term, usize), TextFault>
     requires { at ≤ length text.now }
     ensures within { IfOk result (λ x. (at ≤ x.1) × (x.1 ≤ length text.now)) }
-    ensures reads { (os : List Open) → length os + room ≡ MAX_DEPTH → Reads text.now at (goes (wants false) os) os result }
+    ensures reads { (os : List Open) → length os + room ≡ MAX_DEPTH
+        → Reads text.now at (goes (wants false) os) os result }
 {
     let start = past_blanks(text, at);
     if start >= text.len() {
@@ -48,7 +49,8 @@ fn term_at(alloc: Global, text: &[u8], at: usize, room: usize) -> Result<(Term, 
 fn form_at(alloc: Global, text: &[u8], at: usize, room: usize) -> Result<(Term, usize), TextFault>
     requires { at < length text.now }
     ensures within { IfOk result (λ x. (at ≤ x.1) × (x.1 ≤ length text.now)) }
-    ensures reads { (os : List Open) → length os + room ≡ MAX_DEPTH → Reads text.now (at + 1) (begin at os (slice_index text.now at)) os result }
+    ensures reads { (os : List Open) → length os + room ≡ MAX_DEPTH
+        → Reads text.now (at + 1) (begin at os (slice_index text.now at)) os result }
 {
     let b = text[at];
     if !begins_byte(b) {
@@ -86,7 +88,8 @@ fn bracket_at(
 ) -> Result<(Term, usize), TextFault>
     requires { at ≤ length text.now }
     ensures within { IfOk result (λ x. (at ≤ x.1) × (x.1 ≤ length text.now)) }
-    ensures reads { (os : List Open) → length os + 1 + room ≡ MAX_DEPTH → Reads text.now at (goes (wants true) (opening square ∷ os)) os result }
+    ensures reads { (os : List Open) → length os + 1 + room ≡ MAX_DEPTH
+        → Reads text.now at (goes (wants true) (opening square ∷ os)) os result }
 {
     let mut items = Items::new(alloc);
     let mut place = past_blanks(text, at);

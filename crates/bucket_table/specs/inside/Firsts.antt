@@ -19,7 +19,8 @@ first_in wide f (c ∷ cs) = if is_in wide f c then Some c.at else first_in wide
 
 -- what is known of a first item is so
 abbrev pub AreHints : ℕ → List (Option (Option ℕ)) → List Cell → Type 0
-AreHints wide firsts cells = (f : ℕ) (first : Option ℕ) → get_or firsts f None ≡ Some first → first_in wide f cells ≡ first
+AreHints wide firsts cells =
+    (f : ℕ) (first : Option ℕ) → get_or firsts f None ≡ Some first → first_in wide f cells ≡ first
 
 -- what is known now, and since the last doubling of intervals twice as wide, is so
 pub record AreRight (hints : Hints) (cells : List Cell) : Type 0 where
@@ -28,13 +29,15 @@ pub record AreRight (hints : Hints) (cells : List Cell) : Type 0 where
   pub wider : AreHints (2 ^ (hints.shift + 1)) hints.older.items cells
 
 -- eight intervals make a bucket, and the hints are right
-pub record IsHinted (dummies : List (Option ℕ)) (shift : ℕ) (firsts : List (Option (Option ℕ))) (cells : List Cell) : Type 0 where
+pub record IsHinted (dummies : List (Option ℕ)) (shift : ℕ) (firsts : List (Option (Option ℕ)))
+    (cells : List Cell) : Type 0 where
   pub doublings : ℕ
   pub size : length dummies ≡ 2 ^ doublings
   pub narrow : shift + doublings ≡ 30
   pub hints : AreHints (2 ^ shift) firsts cells
 
-pub record IsRows (number : Term → ℕ) (dummies : List (Option ℕ)) (shift : ℕ) (firsts : List (Option (Option ℕ))) (cells : List Cell) : Type 0 where
+pub record IsRows (number : Term → ℕ) (dummies : List (Option ℕ)) (shift : ℕ)
+    (firsts : List (Option (Option ℕ))) (cells : List Cell) : Type 0 where
   pub split : IsSplit number dummies cells
   pub hinted : IsHinted dummies shift firsts cells
 
@@ -58,25 +61,33 @@ IsRightHint wide f cells hint = (first : Option ℕ) → hint ≡ Some first →
 
 -- this may be known of one interval now, and else no more is known than before
 abbrev pub IsHintFilled : ℕ → Option (Option ℕ) → List (Option (Option ℕ)) → List (Option (Option ℕ)) → Type 0
-IsHintFilled index hint old new = (f : ℕ) (first : Option ℕ) → get_or new f None ≡ Some first → (get_or old f None ≡ Some first) ⊎ ((f ≡ index) × (hint ≡ Some first))
+IsHintFilled index hint old new =
+    (f : ℕ) (first : Option ℕ) → get_or new f None ≡ Some first
+    → (get_or old f None ≡ Some first) ⊎ ((f ≡ index) × (hint ≡ Some first))
 
 -- this is known of one interval, and no other hint is changed
 abbrev pub IsHintSet : ℕ → Option (Option ℕ) → List (Option (Option ℕ)) → List (Option (Option ℕ)) → Type 0
-IsHintSet index hint old new = (f : ℕ) (first : Option ℕ) → get_or new f None ≡ Some first → ((f ≢ index) × (get_or old f None ≡ Some first)) ⊎ ((f ≡ index) × (hint ≡ Some first))
+IsHintSet index hint old new =
+    (f : ℕ) (first : Option ℕ) → get_or new f None ≡ Some first
+    → ((f ≢ index) × (get_or old f None ≡ Some first)) ⊎ ((f ≡ index) × (hint ≡ Some first))
 
 -- an item put in with this key is the first of its interval
 abbrev pub IsNewFirst : ℕ → ℕ → List Cell → ℕ → Type 0
-IsNewFirst wide f cells key = (at : ℕ) (item : Item) → first_in wide f (put_cell (new_cell at key (Some item)) cells) ≡ Some at
+IsNewFirst wide f cells key =
+    (at : ℕ) (item : Item) → first_in wide f (put_cell (new_cell at key (Some item)) cells) ≡ Some at
 
 -- what was known of the first item stays so where an item with this key is put in
 abbrev pub KeepsFirst : ℕ → ℕ → List Cell → ℕ → Option (Option ℕ) → Type 0
-KeepsFirst wide f cells key hint = (at : ℕ) (item : Item) (first : Option ℕ) → hint ≡ Some first → first_in wide f (put_cell (new_cell at key (Some item)) cells) ≡ first
+KeepsFirst wide f cells key hint =
+    (at : ℕ) (item : Item) (first : Option ℕ) → hint ≡ Some first
+    → first_in wide f (put_cell (new_cell at key (Some item)) cells) ≡ first
 
 -- where this holds the new first item is noted, and no other hint is changed
 abbrev pub IsNoted : Bool → ℕ → ℕ → List (Option (Option ℕ)) → List (Option (Option ℕ)) → Type 0
 IsNoted moves index at old new =
     (f : ℕ) (first : Option ℕ) → get_or new f None ≡ Some first
-    → ((f ≡ index → moves ≡ false) × (get_or old f None ≡ Some first)) ⊎ ((f ≡ index) × (moves ≡ true) × (first ≡ Some at))
+    → ((f ≡ index → moves ≡ false) × (get_or old f None ≡ Some first))
+    ⊎ ((f ≡ index) × (moves ≡ true) × (first ≡ Some at))
 
 -- an item of this interval stands at this place
 pub record IsItemIn (wide f at : ℕ) (cells : List Cell) : Type 0 where
@@ -95,4 +106,5 @@ IsNextHint wide f at cells hint = (first : Option ℕ) → hint ≡ Some first �
 abbrev pub IsSucceeded : ℕ → ℕ → Option (Option ℕ) → List (Option (Option ℕ)) → List (Option (Option ℕ)) → Type 0
 IsSucceeded index at hint old new =
     (f : ℕ) (first : Option ℕ) → get_or new f None ≡ Some first
-    → ((get_or old f None ≡ Some first) × (f ≡ index → first ≢ Some at)) ⊎ ((f ≡ index) × (get_or old index None ≡ Some (Some at)) × (hint ≡ Some first))
+    → ((get_or old f None ≡ Some first) × (f ≡ index → first ≢ Some at))
+    ⊎ ((f ≡ index) × (get_or old index None ≡ Some (Some at)) × (hint ≡ Some first))

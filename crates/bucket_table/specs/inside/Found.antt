@@ -27,7 +27,10 @@ pub record IsFound (term : Term) (at : ℕ) (cs : List Cell) : Type 0 where
   pub replaced : (w : List Term) → slots_of (cells_with at w cs) ≡ set_value (same term) (slots_of cs) w
 
 -- a search for a term from this place on finds its item, or that there is none, and looks at so many nodes
-pub record CanStart (number : Term → ℕ) (dummies : List (Option ℕ)) (term : Term) (start : ℕ) (cs : List Cell) : Type 0 where
+pub record CanStart (number : Term → ℕ) (dummies : List (Option ℕ)) (term : Term)
+    (start : ℕ) (cs : List Cell) : Type 0 where
   pub stands : Stands start cs
-  pub finds : (r : Option ℕ) → r ≡ place_of (key_of_item (number term)) term (from start cs) → MatchOption r (lookup (same term) (slots_of cs) ≡ None) (λ at. IsFound term at cs)
-  pub looks : (old new : ℕ) → new ≡ ticks (length (passed (key_of_item (number term)) term (from start cs))) old → HasLooked number (slots_of cs) (map is_some dummies) term old new
+  pub finds : (r : Option ℕ) → r ≡ place_of (key_of_item (number term)) term (from start cs)
+      → MatchOption r (lookup (same term) (slots_of cs) ≡ None) (λ at. IsFound term at cs)
+  pub looks : (old new : ℕ) → new ≡ ticks (length (passed (key_of_item (number term)) term (from start cs))) old
+      → HasLooked number (slots_of cs) (map is_some dummies) term old new

@@ -19,11 +19,13 @@ use Rattle.bucket_table.specs.inside.Notes.{AreNoted}
 
 -- rows whose hints are right, and what is still known of intervals twice as wide
 pub record AreRows {H : Type 0} (number : H → Term → ℕ) (layout : Layout H) : Type 0 where
-  pub rows : IsRows (number layout.hash) layout.dummies.items layout.hints.shift layout.hints.firsts.items layout.list.cells
+  pub rows : IsRows (number layout.hash) layout.dummies.items layout.hints.shift layout.hints.firsts.items
+      layout.list.cells
   pub wider : AreHints (2 ^ (layout.hints.shift + 1)) layout.hints.older.items layout.list.cells
 
 -- rows, how many slots there are, the least bucket that is not ready, and what is noted of held slots
-pub record IsTable {H : Type 0} (number : H → Term → ℕ) (layout : Layout H) (slots least : ℕ) (held : Held) : Type 0 where
+pub record IsTable {H : Type 0} (number : H → Term → ℕ) (layout : Layout H) (slots least : ℕ)
+    (held : Held) : Type 0 where
   pub rows : AreRows number layout
   pub counted : slots ≡ length (slots_of layout.list.cells)
   pub due : IsLeast layout.dummies.items least
@@ -52,8 +54,12 @@ pub record IsPutIn (key : ℕ) (term : Term) (chain : List Term) (old new : List
 
 -- a search has found the item of a term, or that there is none
 abbrev pub Finds : {H : Type 0} → Layout H → Term → Option ℕ → Type 0
-Finds layout term result = MatchOption result (lookup (same term) (slots_of layout.list.cells) ≡ None) (λ at. IsFound term at layout.list.cells)
+Finds layout term result =
+    MatchOption result (lookup (same term) (slots_of layout.list.cells) ≡ None)
+    (λ at. IsFound term at layout.list.cells)
 
 -- and has looked at so many nodes
 abbrev pub Looks : {H : Type 0} → (H → Term → ℕ) → Layout H → Term → ℕ → ℕ → Type 0
-Looks number layout term old new = HasLooked (number layout.hash) (slots_of layout.list.cells) (map is_some layout.dummies.items) term old new
+Looks number layout term old new =
+    HasLooked (number layout.hash) (slots_of layout.list.cells) (map is_some layout.dummies.items)
+    term old new

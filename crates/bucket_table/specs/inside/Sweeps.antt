@@ -47,6 +47,7 @@ pub record IsSweptOn (how : Sweep) (at : ℕ) (old : List Cell) (last : ℕ) (ne
 
 -- what becomes of the node at a place: a dummy stays
 abbrev pub IsFateOf : Sweep → ℕ → List Cell → Fate → Type 0
-IsFateOf how at cs Stays = (ss : List Slot) → swept how (with_slot (item_at at cs) ss) ≡ with_slot (item_at at cs) (swept how ss)
+IsFateOf how at cs Stays =
+    (ss : List Slot) → swept how (with_slot (item_at at cs) ss) ≡ with_slot (item_at at cs) (swept how ss)
 IsFateOf how at cs Goes = HasItem at cs × ((ss : List Slot) → swept how (with_slot (item_at at cs) ss) ≡ swept how ss)
 IsFateOf how at cs IsEmptied = HasItem at cs × (how ≡ Hold)

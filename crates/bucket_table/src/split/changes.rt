@@ -86,7 +86,8 @@ impl<H: KeyHash + Copy + Drop> SplitRows<H> {
     pub(super) fn replace_only(&mut self, place: Place, object: Term) -> Term
         requires { HasOne self.old.slots (key_of_place self.old.places place) }
         ensures was { objects_in self.old.slots (key_of_place self.old.places place) ≡ Some (result ∷ []) }
-        ensures now { self.new.slots ≡ with_objects_in self.old.slots (key_of_place self.old.places place) (object ∷ []) }
+        ensures now { self.new.slots
+            ≡ with_objects_in self.old.slots (key_of_place self.old.places place) (object ∷ []) }
         ensures places { self.new.places ≡ self.old.places }
         ensures room { self.new.room ≡ self.old.room }
         ensures hash { self.new.hash ≡ self.old.hash }
@@ -102,7 +103,9 @@ impl<H: KeyHash + Copy + Drop> SplitRows<H> {
         ensures key { key_of_place self.old.places place ≡ Some result.0 }
         ensures was { objects_of self.old.slots result.0 ≡ Some result.1 }
         ensures now { self.new.slots ≡ without self.old.slots result.0 }
-        ensures before { (other : ℕ) (key : Term) → key_of_place self.old.places other ≡ Some key → StandsBefore self.old.slots key result.0 → key_of_place self.new.places other ≡ Some key }
+        ensures before { (other : ℕ) (key : Term) → key_of_place self.old.places other ≡ Some key
+            → StandsBefore self.old.slots key result.0
+            → key_of_place self.new.places other ≡ Some key }
         ensures hash { self.new.hash ≡ self.old.hash }
         ensures buckets { self.new.ready ≡ self.old.ready }
     {

@@ -42,7 +42,8 @@ impl Hints {
 
     /// The nearest first item that is known of the intervals below one, down to a floor, or of older intervals there.
     pub fn first_below(&self, floor: usize, index: usize) -> Option<At>
-        ensures { IfSome result (λ at. IsFirstBelow floor index at self.now.firsts.items ⊎ IsFirstBelow (floor / 2) (index / 2) at self.now.older.items) }
+        ensures { IfSome result (λ at. IsFirstBelow floor index at self.now.firsts.items
+            ⊎ IsFirstBelow (floor / 2) (index / 2) at self.now.older.items) }
     {
         let mut lower = index;
         while floor < lower && index - lower < MOST_LOOKED_AT {

@@ -26,7 +26,9 @@ impl<H: KeyHash + Copy + Drop> SplitRows<H> {
     /// The place of the key's slot. The number is the key's hash.
     pub(super) fn place_of(&self, number: u32, key: &Term) -> Option<Place>
         requires { number ≡ H.number self.now.hash key.now }
-        ensures { MatchOption result (objects_of self.now.slots key.now ≡ None) (λ place. (key_of_place self.now.places place ≡ Some key.now) × IsSome (objects_of self.now.slots key.now)) }
+        ensures { MatchOption result (objects_of self.now.slots key.now ≡ None)
+            (λ place. (key_of_place self.now.places place ≡ Some key.now)
+            × IsSome (objects_of self.now.slots key.now)) }
     {
         self.layout.list.known();
         let mut steps = Steps::new();
@@ -67,7 +69,8 @@ impl<H: KeyHash + Copy + Drop> SplitRows<H> {
     /// The place of the slot behind the one at a place.
     pub(super) fn place_of_next(&self, place: Place) -> Option<Place>
         requires { IsSome (key_of_place self.now.places place) }
-        ensures { IsNextPlace (key_of_place self.now.places) self.now.slots (key_of_place self.now.places place) result }
+        ensures { IsNextPlace (key_of_place self.now.places) self.now.slots
+            (key_of_place self.now.places place) result }
     {
         self.layout.list.known();
         self.layout.list.item_from(place + 1)

@@ -1,5 +1,5 @@
-// Values from outside: each test is a table of rows, each a call and what it is to answer, over both kept forms of rows.
-// None stands for want of memory.
+// Values from outside: each test is a table of rows, each a call and what it is to answer, over both kept forms of
+// rows. None stands for want of memory.
 use super::filled;
 use bucket_table::{PlainRows, Rows, SplitRows};
 use ets_term::{AllSame, Fnv, Integer, Items, Term};

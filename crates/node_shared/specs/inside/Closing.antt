@@ -1,5 +1,5 @@
 -- What is found of the journal and the records so far.
-use Rattle.std.specs.Prelude.{ℕ, List, Option, Some, None}
+use Rattle.std.specs.Prelude.{ℕ, List, [], ◌∷◌, ◌++◌, Option, Some, None}
 use Rattle.node_shared.specs.declared.entry.Entry.{Entry}
 use Rattle.node_shared.specs.Records.{Recorded}
 use Rattle.node_shared.specs.Closing.{AreParts, IsFirstOther, NoneMissing, IsLeastMissing}
@@ -13,3 +13,8 @@ Strays journal clients (Some p) = IsFirstOther journal clients p
 abbrev pub Misses : List Entry → List Recorded → Option ℕ → Type 0
 Misses journal clients None = NoneMissing journal clients
 Misses journal clients (Some p) = IsLeastMissing journal clients p
+
+-- what misses its client in any journal, and then in that journal with this entry more
+abbrev pub MissesNext : Entry → List Recorded → Option ℕ → Option ℕ → Type 0
+MissesNext e clients found next =
+    (journal : List Entry) → Misses journal clients found → Misses (journal ++ e ∷ []) clients next

@@ -14,7 +14,11 @@ kept_code =
     (λ k. ((k.state, k.journal), k.total)) (λ p. record { state = p.0.0; journal = p.0.1; total = p.1 }) (λ _. refl)
 
 abbrev pub recorded_code : Coded Recorded
-recorded_code = code_by (ℕ × List Entry) (coded× coded_ℕ (coded_list entry.the_row.coded)) (λ c. (c.pid, c.entries)) (λ p. record { pid = p.0; entries = p.1 }) (λ _. refl)
+recorded_code =
+    code_by (ℕ × List Entry) (coded× coded_ℕ (coded_list entry.the_row.coded))
+    (λ c. (c.pid, c.entries)) (λ p. record { pid = p.0; entries = p.1 }) (λ _. refl)
 
 abbrev pub reached_code : Coded Reached
-reached_code = code_by (State × List Entry) (coded× state_code (coded_list entry.the_row.coded)) (λ r. (r.state, r.history)) (λ p. record { state = p.0; history = p.1 }) (λ _. refl)
+reached_code =
+    code_by (State × List Entry) (coded× state_code (coded_list entry.the_row.coded))
+    (λ r. (r.state, r.history)) (λ p. record { state = p.0; history = p.1 }) (λ _. refl)

@@ -1,9 +1,11 @@
-//! The one word of a history, which stays 0, and the steps on it: an entry is added, entries are taken in, entries are given out.
+//! The one word of a history, which stays 0, and the steps on it: an entry is added, entries are taken in, entries are
+//! given out.
 use crate::entry::Entry;
 use atomic_table::{Join, Play, Split, TableRule};
 use std::collections::LinkedList;
 
-/// What a seat knows: the keeper's the whole history, and each some entries that stand in it, in their order. No value of it is made.
+/// What a seat knows: the keeper's the whole history, and each some entries that stand in it, in their order. No value
+/// of it is made.
 pub struct Known {
     pub keeps: bool,
     pub all: LinkedList<Entry>,

@@ -1,5 +1,5 @@
-// What no script of examples/rules can say. Values from outside: a test is a table of rows, a step and the reply that the
-// rules want of it. A row that is answered otherwise is named by its place.
+// What no script of examples/rules can say. Values from outside: a test is a table of rows, a step and the reply that
+// the rules want of it. A row that is answered otherwise is named by its place.
 use crate::tests::kept;
 use crate::tests::text::{is_told, term, terms};
 use ets_term::{AllSame, Atom, Fnv, Items, KeyHash, Term};
@@ -156,8 +156,8 @@ fn wrong_by<H: KeyHash + Copy + Drop>(
     place
 }
 
-/// The place of the first row that a new node with these limits answers otherwise, by a hash that spreads keys or by the
-/// one that does not.
+/// The place of the first row that a new node with these limits answers otherwise, by a hash that spreads keys or by
+/// the one that does not.
 fn wrong_within(alloc: Global, limits: Limits, rows: &[Row]) -> Result<Option<usize>, AllocError> {
     match wrong_by(alloc, limits, Fnv, rows)? {
         Some(place) => Ok(Some(place)),

@@ -1,6 +1,6 @@
-// Terms as the tests write them: `{a,-1}`, `[x,[]]`, `#7` for an identifier, `<7` for a pid, `@7` for lists in lists, seven deep.
-// An atom is any other word, without quotes. A text that tells no term is a fault of its test, which then fails as for want of
-// memory.
+// Terms as the tests write them: `{a,-1}`, `[x,[]]`, `#7` for an identifier, `<7` for a pid, `@7` for lists in lists,
+// seven deep. An atom is any other word, without quotes. A text that tells no term is a fault of its test, which then
+// fails as for want of memory.
 use crate::tests::kept;
 use ets_term::{Atom, Integer, Items, Term};
 use std::alloc::{AllocError, Global};

@@ -13,4 +13,7 @@ abbrev pub told_code : Coded (Reply × Option Refusal)
 told_code = coded× reply.the_row.coded (coded_option refusal.the_row.coded)
 
 abbrev pub stored_code : Coded Stored
-stored_code = code_by (State × (Reply × Option Refusal)) (coded× state_code told_code) (λ s. (s.node, (s.reply, s.refusal))) (λ p. record { node = p.0; reply = p.1.0; refusal = p.1.1 }) (λ _. refl)
+stored_code =
+    code_by (State × (Reply × Option Refusal)) (coded× state_code told_code)
+    (λ s. (s.node, (s.reply, s.refusal)))
+    (λ p. record { node = p.0; reply = p.1.0; refusal = p.1.1 }) (λ _. refl)

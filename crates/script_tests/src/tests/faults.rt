@@ -36,7 +36,8 @@ fn slow_devices(rt: HostRuntime) {
     assert!(rt; is_answered_slowly(rt.alloc()));
 }
 
-/// Whether the lines that came whole before a failing read are answered, and nothing else, when reads give so many bytes.
+/// Whether the lines that came whole before a failing read are answered, and nothing else, when reads give so many
+/// bytes.
 fn answers_whole_lines(alloc: Global, most_read: usize) -> bool {
     for good_reads in 0..=10 {
         let lines = most_read.saturating_mul(good_reads as usize) / 8;
@@ -59,8 +60,8 @@ fn failing_reads(rt: HostRuntime) {
     assert!(rt; answers_whole_lines(rt.alloc(), 3));
 }
 
-/// Whether a front of the answers went out before a failing write, when writes take so many bytes, of lines that come one
-/// a read.
+/// Whether a front of the answers went out before a failing write, when writes take so many bytes, of lines that come
+/// one a read.
 fn answers_a_front(alloc: Global, most_written: usize) -> bool {
     for good_writes in 0..4 {
         let run = by(Devices {

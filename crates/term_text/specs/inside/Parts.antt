@@ -1,5 +1,6 @@
 -- What private contracts say that the parts of the program's reader answer, beside the reader of the definitions.
-use Rattle.std.specs.Prelude.{◌≡◌, ℕ, List, [], ◌∷◌, ◌++◌, ◌-◌, length, drop, ◌≤◌, Bool, true, nat_le, Option, None, Some, Result, Ok, Err, codes}
+use Rattle.std.specs.Prelude.{◌≡◌, ℕ, List, [], ◌∷◌, ◌++◌, ◌+◌, ◌-◌, length, drop, ◌≤◌, Bool, true, nat_le, Option, None, Some, Result, Ok, Err, codes}
+use Rattle.std.specs.List.{prefix_len}
 use Rattle.ets_term.specs.declared.term.Term.{Term}
 use Rattle.ets_term.specs.declared.term.Term.TheVariants.{Int, Pid, Tid, Binary}
 use Rattle.ets_term.specs.Depth.{max_depth}
@@ -9,7 +10,7 @@ use Rattle.term_text.specs.Reader.{Open, Number, integer, pid, identifier, byte,
 use Rattle.term_text.specs.declared.quote_form.QuoteForm.{QuoteForm}
 use Rattle.term_text.specs.declared.quote_form.QuoteForm.TheVariants as form
 use Rattle.term_text.specs.Given.{Fails}
-use Rattle.term_text.specs.Text.{is_blank}
+use Rattle.term_text.specs.Text.{is_blank, is_digit}
 
 -- from s before the byte at the reader comes to z before the byte n
 abbrev pub Comes : List ℕ → ℕ → Reading → ℕ → Reading → Type 0
@@ -27,15 +28,25 @@ counted n pid v os = arrive n (codes ".0>") (whole (Pid v)) os
 counted n identifier v os = arrive n (codes ">") (whole (Tid v)) os
 counted n (byte bs) v os = goes (behind_byte (bs ++ v ∷ [])) os
 
+-- where the digits from the byte at on end
+abbrev pub digits_end : List ℕ → ℕ → ℕ
+digits_end text at = at + prefix_len is_digit (drop at text)
+
 -- a number that must begin before the byte at, and whose greatest size is limit
 abbrev pub ReadsNumber : List ℕ → ℕ → ℕ → ℕ → Result (ℕ × ℕ) TextFault → Type 0
-ReadsNumber text at start limit (Ok x) = (kind : Number) (os : List Open) → limit ≡ top kind → Comes text at (goes (digit kind start) os) x.1 (counted x.1 kind x.0 os)
-ReadsNumber text at start limit (Err f) = (kind : Number) (os : List Open) → limit ≡ top kind → Fails f (read_from at (goes (digit kind start) os) (drop at text))
+ReadsNumber text at start limit (Ok x) =
+    (kind : Number) (os : List Open) → limit ≡ top kind
+    → Comes text at (goes (digit kind start) os) x.1 (counted x.1 kind x.0 os)
+ReadsNumber text at start limit (Err f) =
+    (kind : Number) (os : List Open) → limit ≡ top kind
+    → Fails f (read_from at (goes (digit kind start) os) (drop at text))
 
 -- signs that must stand before the byte at
 abbrev pub ReadsSigns : List ℕ → ℕ → List ℕ → Result ℕ TextFault → Type 0
-ReadsSigns text at signs (Ok n) = (goal : Goal) (os : List Open) → Comes text at (arrive at signs goal os) n (arrive n [] goal os)
-ReadsSigns text at signs (Err f) = (goal : Goal) (os : List Open) → Fails f (read_from at (arrive at signs goal os) (drop at text))
+ReadsSigns text at signs (Ok n) =
+    (goal : Goal) (os : List Open) → Comes text at (arrive at signs goal os) n (arrive n [] goal os)
+ReadsSigns text at signs (Err f) =
+    (goal : Goal) (os : List Open) → Fails f (read_from at (arrive at signs goal os) (drop at text))
 
 -- blanks leave the state as it is
 abbrev pub IgnoresBlanks : Reading → Type 0
@@ -58,20 +69,31 @@ Refuses at q n deep (Some f) = (os : List Open) (s : Reading) → IsDeep q deep 
 
 -- the character behind a `\` that stands before the byte at
 abbrev pub ReadsEscaped : List ℕ → ℕ → QuoteForm → Result (ℕ × ℕ) TextFault → Type 0
-ReadsEscaped text at q (Ok x) = (cs : List ℕ) (os : List Open) → Comes text at (goes (escaped q cs) os) x.1 (goes (quoted q (cs ++ x.0 ∷ [])) os)
-ReadsEscaped text at q (Err f) = (cs : List ℕ) (os : List Open) → Fails f (read_from at (goes (escaped q cs) os) (drop at text))
+ReadsEscaped text at q (Ok x) =
+    (cs : List ℕ) (os : List Open) → Comes text at (goes (escaped q cs) os) x.1 (goes (quoted q (cs ++ x.0 ∷ [])) os)
+ReadsEscaped text at q (Err f) =
+    (cs : List ℕ) (os : List Open) → Fails f (read_from at (goes (escaped q cs) os) (drop at text))
 
 -- a further character in quotes, behind n
 abbrev pub ReadsCharacter : List ℕ → ℕ → QuoteForm → Bool → ℕ → Result (ℕ × ℕ) TextFault → Type 0
-ReadsCharacter text at q deep n (Ok x) = (cs : List ℕ) (os : List Open) → length cs ≡ n → IsDeep q deep os → Comes text at (goes (quoted q cs) os) x.1 (goes (quoted q (cs ++ x.0 ∷ [])) os)
-ReadsCharacter text at q deep n (Err f) = (cs : List ℕ) (os : List Open) → length cs ≡ n → IsDeep q deep os → Fails f (read_from at (goes (quoted q cs) os) (drop at text))
+ReadsCharacter text at q deep n (Ok x) =
+    (cs : List ℕ) (os : List Open) → length cs ≡ n → IsDeep q deep os
+    → Comes text at (goes (quoted q cs) os) x.1 (goes (quoted q (cs ++ x.0 ∷ [])) os)
+ReadsCharacter text at q deep n (Err f) =
+    (cs : List ℕ) (os : List Open) → length cs ≡ n → IsDeep q deep os
+    → Fails f (read_from at (goes (quoted q cs) os) (drop at text))
 
 -- what stands in quotes, from before the byte at to behind the closing quote
 abbrev pub ReadsQuoted : List ℕ → ℕ → QuoteForm → Bool → Result (List ℕ × ℕ) TextFault → Type 0
-ReadsQuoted text at q deep (Ok x) = (os : List Open) → IsDeep q deep os → Comes text at (goes (quoted q []) os) x.1 (unquoted x.1 q x.0 os)
-ReadsQuoted text at q deep (Err f) = (os : List Open) → IsDeep q deep os → Fails f (read_from at (goes (quoted q []) os) (drop at text))
+ReadsQuoted text at q deep (Ok x) =
+    (os : List Open) → IsDeep q deep os → Comes text at (goes (quoted q []) os) x.1 (unquoted x.1 q x.0 os)
+ReadsQuoted text at q deep (Err f) =
+    (os : List Open) → IsDeep q deep os → Fails f (read_from at (goes (quoted q []) os) (drop at text))
 
 -- the bytes of a binary that has one before the byte at
 abbrev pub ReadsBytes : List ℕ → ℕ → Result (List ℕ × ℕ) TextFault → Type 0
-ReadsBytes text at (Ok x) = (os : List Open) → Comes text at (goes (digit (byte []) at) os) x.1 (arrive x.1 (codes ">>") (whole (Binary x.0)) os)
-ReadsBytes text at (Err f) = (os : List Open) → Fails f (read_from at (goes (digit (byte []) at) os) (drop at text))
+ReadsBytes text at (Ok x) =
+    (os : List Open)
+    → Comes text at (goes (digit (byte []) at) os) x.1 (arrive x.1 (codes ">>") (whole (Binary x.0)) os)
+ReadsBytes text at (Err f) =
+    (os : List Open) → Fails f (read_from at (goes (digit (byte []) at) os) (drop at text))

@@ -12,7 +12,8 @@ impl Hints {
     pub fn becomes_first(&self, list: &NodeList, key: u64) -> bool
         requires hints { AreRight self.now list.now.cells }
         ensures new { result ≡ true → IsNewFirst (2 ^ self.now.shift) (key / 2 ^ self.now.shift) list.now.cells key }
-        ensures old { result ≡ false → KeepsFirst (2 ^ self.now.shift) (key / 2 ^ self.now.shift) list.now.cells key (get_or self.now.firsts.items (key / 2 ^ self.now.shift) None) }
+        ensures old { result ≡ false → KeepsFirst (2 ^ self.now.shift) (key / 2 ^ self.now.shift) list.now.cells key
+            (get_or self.now.firsts.items (key / 2 ^ self.now.shift) None) }
     {
         match hint_at(&self.firsts, (key >> self.shift) as usize) {
             None => false,

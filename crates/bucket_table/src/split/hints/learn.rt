@@ -36,8 +36,8 @@ impl Hints {
         (at, Hint::empty())
     }
 
-    /// Makes the first item of a key's interval known, where nothing is known of it, by a walk from a place in front of the
-    /// interval, and answers a place in front of the key that is as near as this or nearer.
+    /// Makes the first item of a key's interval known, where nothing is known of it, by a walk from a place in front of
+    /// the interval, and answers a place in front of the key that is as near as this or nearer.
     pub fn learn(&mut self, list: &NodeList, key: u64, start: At) -> At
         requires parity { HaveParity list.now.cells }
         requires hints { AreRight self.old list.now.cells }

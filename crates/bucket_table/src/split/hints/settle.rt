@@ -8,8 +8,8 @@ use crate::split::hint::{Hint, hint_at};
 use node_list::NodeList;
 
 impl Hints {
-    /// What is known of the lower and of the upper half of an older interval, from what is known of it and the key of its
-    /// first item: where that stands in the upper half the lower one is empty.
+    /// What is known of the lower and of the upper half of an older interval, from what is known of it and the key of
+    /// its first item: where that stands in the upper half the lower one is empty.
     fn halves(&self, list: &NodeList, pair: usize) -> (Hint, Hint)
         requires hints { AreRight self.now list.now.cells }
         ensures lower { IsRightHint (2 ^ self.now.shift) (2 * pair) list.now.cells result.0 }

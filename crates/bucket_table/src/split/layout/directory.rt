@@ -30,7 +30,8 @@ impl<H: KeyHash + Copy + Drop> Layout<H> {
         }
     }
 
-    /// The nearest ready bucket of a hash, and the place of its dummy, where a search or an insertion by the hash can begin.
+    /// The nearest ready bucket of a hash, and the place of its dummy, where a search or an insertion by the hash can
+    /// begin.
     pub fn start_of(&self, number: u32) -> (u32, At)
         requires rows { AreRows H.number self.now }
         ensures { IsNearest self.now.dummies.items (number % length self.now.dummies.items) result.0 result.1 }

@@ -12,8 +12,8 @@ use node_list::At;
 use split_key::{dummy_key, item_key};
 
 impl<H: KeyHash + Copy + Drop> Layout<H> {
-    /// A place in front of all items of a hash, as near as the hints tell: the first item of their interval, or that of a
-    /// lower one down to the nearest ready bucket, or else the dummy of that bucket.
+    /// A place in front of all items of a hash, as near as the hints tell: the first item of their interval, or that of
+    /// a lower one down to the nearest ready bucket, or else the dummy of that bucket.
     pub fn start_below(&self, number: u32) -> At
         requires rows { AreRows H.number self.now }
         ensures { StandsBelow (key_of_item number) result self.now.list.cells }

@@ -68,7 +68,9 @@ impl<H: KeyHash + Copy + Drop> Layout<H> {
         ensures keeps { Keeps self.old self.new }
         ensures purged { purged (slots_of self.new.list.cells) ≡ purged (slots_of self.old.list.cells) }
         ensures each { Sweeps Purge self.old.list.cells self.new.list.cells }
-        ensures gone { (others : List ℕ) → AreAmong (H.number self.old.hash) (number ∷ others) (slots_of self.old.list.cells) → AreAmong (H.number self.old.hash) others (slots_of self.new.list.cells) }
+        ensures gone { (others : List ℕ)
+            → AreAmong (H.number self.old.hash) (number ∷ others) (slots_of self.old.list.cells)
+            → AreAmong (H.number self.old.hash) others (slots_of self.new.list.cells) }
     {
         self.list.known();
         let key = item_key(number);

@@ -1,5 +1,6 @@
-// Want of memory. Run with each allocation refused in turn, by `.ci/refusals`: a call that was refused memory has changed
-// nothing, neither keys nor their order nor fixes, and answers when it is called again as if it had been called once.
+// Want of memory. Run with each allocation refused in turn, by `.ci/refusals`: a call that was refused memory has
+// changed nothing, neither keys nor their order nor fixes, and answers when it is called again as if it had been called
+// once.
 use super::*;
 use bucket_table::{Growth, Readying};
 use fixed_walk::FixFault;
@@ -200,7 +201,8 @@ fn state<R: Rows>(table: &Walked<R>) -> (Integer, usize, u32, bool) {
     )
 }
 
-/// Whether a call has its answer, at once or, where it was refused memory and has changed nothing, when it is called again.
+/// Whether a call has its answer, at once or, where it was refused memory and has changed nothing, when it is called
+/// again.
 fn does_again<R: Rows>(alloc: Global, table: &mut Walked<R>, step: Step, wanted: Integer) -> bool {
     let before = state(table);
     let first = answer(alloc, table, step);

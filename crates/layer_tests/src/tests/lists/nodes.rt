@@ -37,7 +37,8 @@ fn add_dummy(list: &mut NodeList, key: u64) -> Result<At, AllocError> {
 }
 
 fn add_item(list: &mut NodeList, alloc: Global, key: u64, number: Integer) -> Result<At, AllocError>
-    ensures cells { IfOk result (λ at. list.new.cells ≡ put_cell (new_cell at key (Some (new_item (Int number) (Int number ∷ [])))) list.old.cells) }
+    ensures cells { IfOk result (λ at. list.new.cells
+        ≡ put_cell (new_cell at key (Some (new_item (Int number) (Int number ∷ [])))) list.old.cells) }
     ensures fresh { IfOk result (λ at. IsFresh at list.old.cells) }
 {
     list.reserve(1)?;

@@ -1,5 +1,5 @@
-// Want of memory. Run with each allocation refused in turn, by `.ci/refusals`: a text that is read again is read as it is at
-// once, and a term that is printed again is printed so; where printing was refused, nothing has come.
+// Want of memory. Run with each allocation refused in turn, by `.ci/refusals`: a text that is read again is read as it
+// is at once, and a term that is printed again is printed so; where printing was refused, nothing has come.
 use super::*;
 use term_text::TextFault;
 

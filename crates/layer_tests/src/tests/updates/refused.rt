@@ -1,5 +1,5 @@
-// Want of memory. Run with each allocation refused in turn, by `.ci/refusals`: a call that was refused memory has left the
-// object as it was, and answers when it is called again as if it had been called once.
+// Want of memory. Run with each allocation refused in turn, by `.ci/refusals`: a call that was refused memory has left
+// the object as it was, and answers when it is called again as if it had been called once.
 use super::*;
 use crate::tests::text::refused::term_again;
 

@@ -2,8 +2,8 @@ use super::Event::{Ask, Enrol};
 use super::{Row, wrong};
 use std::process::Abort;
 
-/// What is asked is at most 128 deep, and so is what is stored. No process is told before the depth, and the depth before
-/// all else.
+/// What is asked is at most 128 deep, and so is what is stored. No process is told before the depth, and the depth
+/// before all else.
 const DEEP: [Row; 27] = [
     (Enrol(0), "<0"),
     (Enrol(1), "<1"),

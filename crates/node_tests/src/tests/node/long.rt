@@ -1,5 +1,5 @@
-// Inputs so long that no body which gives up for want of memory at a small size passes. A text is told for each number: the
-// number stands where the text has an N.
+// Inputs so long that no body which gives up for want of memory at a small size passes. A text is told for each number:
+// the number stands where the text has an N.
 mod growth;
 mod objects;
 mod processes;

@@ -1,6 +1,6 @@
 // Want of memory. Run with each allocation refused in turn: `rt try --test --fail-alloc N`. A call that was refused
-// memory has changed nothing that can be seen from outside, and answers when it is called again as if it had been called
-// once. Where the refused allocation is one of the test's own, it is made again.
+// memory has changed nothing that can be seen from outside, and answers when it is called again as if it had been
+// called once. Where the refused allocation is one of the test's own, it is made again.
 use super::Event::{End, Enrol, Fix, Give, Info, New, Receive, Set};
 use super::{Event, Row, Tables, answer, refusal};
 use crate::tests::kept;
@@ -213,8 +213,8 @@ fn is_unchanged(alloc: Global, world: &Tables, before: &[Term]) -> Result<bool, 
     Ok(same)
 }
 
-/// Whether a call is answered so, at once or, where it was refused memory and has changed nothing of what was seen before,
-/// when it is called again.
+/// Whether a call is answered so, at once or, where it was refused memory and has changed nothing of what was seen
+/// before, when it is called again.
 fn does_after(
     alloc: Global,
     world: &mut Tables,
