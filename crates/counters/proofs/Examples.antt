@@ -1,7 +1,7 @@
 -- Worked sums, which hold of the definitions by computing.
 use Rattle.std.specs.Prelude.{◌≡◌, ℤ, pos, negsuc, Some, None, refl}
-use Rattle.ets_term.specs.Integers.{greatest, least}
-use Rattle.counters.specs.Sums.{new_value, in_range}
+use Rattle.ets_term.specs.Integers.{greatest, least, in_range}
+use Rattle.counters.specs.Sums.{new_value}
 use Rattle.counters.specs.declared.ops.Op.{Op}
 
 abbrev op : ℤ → ℤ → ℤ → Op

@@ -6,8 +6,9 @@ use Rattle.std.specs.Option.{option_and_then}
 use Rattle.ets_term.specs.declared.term.Term.{Term, out-Term}
 use Rattle.ets_term.specs.declared.term.Term.TheOpen.{Term-F}
 use Rattle.ets_term.specs.declared.term.Term.TheVariants as term
+use Rattle.ets_term.specs.Integers.{in_range}
 use Rattle.counters.specs.Positions.{integer_of}
-use Rattle.counters.specs.Sums.{new_value, in_range}
+use Rattle.counters.specs.Sums.{new_value}
 use Rattle.counters.specs.declared.fault.CounterFault.{CounterFault}
 use Rattle.counters.specs.declared.fault.CounterFault.TheVariants.{Badarg, SystemLimit}
 use Rattle.counters.specs.declared.ops.Op.{Op}
@@ -16,16 +17,26 @@ use Rattle.counters.specs.declared.ops.Ops.TheVariants.{One, Many}
 
 -- the integer at a position of a tuple with these elements, counted from 1
 abbrev pub integer_at : ℕ → List Term → Option ℤ
-integer_at position elements = if position == 0 then None else option_and_then integer_of (slice_get elements (position - 1))
+integer_at position elements =
+    if position == 0 then None else option_and_then integer_of (slice_get elements (position - 1))
+
+-- the elements with this integer at a position, and the integer, which is the answer
+abbrev pub with_integer : ℕ → List Term → ℤ → List Term × Term
+with_integer position elements n = (slice_set elements (position - 1) (term.Int n), term.Int n)
 
 -- one operation: the new elements and the new value; None where there is no integer, or none for the new value
 abbrev pub count_one : Op → List Term → Option (List Term × Term)
-count_one op elements = option_map (λ n. (slice_set elements (op.position - 1) (term.Int n), term.Int n)) (option_and_then (λ value. in_range (new_value op value)) (integer_at op.position elements))
+count_one op elements =
+    option_map (with_integer op.position elements)
+    (option_and_then (λ value. in_range (new_value op value)) (integer_at op.position elements))
 
 -- all operations from the left: the new elements and the list of new values
 abbrev pub count_all : List Op → List Term → Option (List Term × List Term)
 count_all [] elements = Some (elements, [])
-count_all (op ∷ ops) elements = option_and_then (λ first. option_map (λ rest. (rest.0, first.1 ∷ rest.1)) (count_all ops first.0)) (count_one op elements)
+count_all (op ∷ ops) elements =
+    option_and_then
+    (λ first. option_map (λ rest. (rest.0, first.1 ∷ rest.1)) (count_all ops first.0))
+    (count_one op elements)
 
 abbrev pub count : Ops → List Term → Option (List Term × Term)
 count (One op) elements = count_one op elements

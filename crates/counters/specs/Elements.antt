@@ -7,7 +7,7 @@ use Rattle.ets_term.specs.declared.term.Term.{Term, out-Term}
 use Rattle.ets_term.specs.declared.term.Term.TheOpen.{Term-F}
 use Rattle.ets_term.specs.declared.term.Term.TheVariants as term
 use Rattle.ets_term.specs.Depth.{depth, elements, max_depth}
-use Rattle.counters.specs.Positions.{position_of}
+use Rattle.counters.specs.Positions.{open_position}
 use Rattle.counters.specs.declared.fault.CounterFault.{CounterFault}
 use Rattle.counters.specs.declared.fault.CounterFault.TheVariants.{Badarg, SystemLimit}
 use Rattle.counters.specs.declared.elements.ElementSpec.{ElementSpec}
@@ -15,12 +15,16 @@ use Rattle.counters.specs.declared.elements.ElementSpecs.{ElementSpecs}
 use Rattle.counters.specs.declared.elements.ElementSpecs.TheVariants.{One, Many}
 
 abbrev pub spec_of_parts : ℕ → List Term → Option ElementSpec
-spec_of_parts keypos (position ∷ value ∷ []) = option_map (λ p. record { position = p; value = value }) (position_of keypos position)
+spec_of_parts keypos (position ∷ value ∷ []) =
+    option_map (λ p. record { position = p; value = value }) (open_position keypos position)
 spec_of_parts keypos _ = None
 
 abbrev pub all_specs : ℕ → List Term → Option (List ElementSpec)
 all_specs keypos [] = Some []
-all_specs keypos (term ∷ terms) = option_and_then (λ first. option_map (λ rest. first ∷ rest) (all_specs keypos terms)) (spec_of_parts keypos (elements term))
+all_specs keypos (term ∷ terms) =
+    option_and_then
+    (λ first. option_map (λ rest. first ∷ rest) (all_specs keypos terms))
+    (spec_of_parts keypos (elements term))
 
 abbrev pub specs_form : ℕ → Term-F Term → Option ElementSpecs
 specs_form keypos (Term-F.Tuple parts) = option_map One (spec_of_parts keypos parts)
@@ -42,7 +46,9 @@ has_all count specs = list_all (λ spec. nat_lt 0 spec.position && nat_le spec.p
 -- whether one of the values that stay, the last at its position, is as deep as a whole object may be
 abbrev pub is_over_deep : List ElementSpec → Bool
 is_over_deep [] = false
-is_over_deep (spec ∷ specs) = (nat_le max_depth (depth spec.value) && not (list_any (λ later. later.position == spec.position) specs)) || is_over_deep specs
+is_over_deep (spec ∷ specs) =
+    (nat_le max_depth (depth spec.value) && not (list_any (λ later. later.position == spec.position) specs))
+    || is_over_deep specs
 
 -- the values are written from the left, so of several at a position the last stays
 abbrev pub written : List ElementSpec → List Term → List Term
@@ -56,7 +62,8 @@ written_elements specs elements =
     else Ok (written specs elements)
 
 abbrev pub written_form : List ElementSpec → Term-F Term → Result Term CounterFault
-written_form specs (Term-F.Tuple elements) = result_map_both term.Tuple (λ fault. fault) (written_elements specs elements)
+written_form specs (Term-F.Tuple elements) =
+    result_map_both term.Tuple (λ fault. fault) (written_elements specs elements)
 written_form specs _ = Err Badarg
 
 -- the new object, or why there is none

@@ -2,6 +2,7 @@ pub mod Counters
 pub mod Defaults
 pub mod Elements
 pub mod Ops
+pub mod Outcomes
 pub mod Positions
 pub mod Sums
 pub mod inside

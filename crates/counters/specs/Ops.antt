@@ -5,21 +5,28 @@ use Rattle.std.specs.Option.{option_and_then}
 use Rattle.ets_term.specs.declared.term.Term.{Term, out-Term}
 use Rattle.ets_term.specs.declared.term.Term.TheOpen.{Term-F}
 use Rattle.ets_term.specs.Depth.{elements}
-use Rattle.counters.specs.Positions.{integer_of, position_of}
+use Rattle.counters.specs.Positions.{integer_of, open_position}
 use Rattle.counters.specs.declared.ops.Op.{Op}
 use Rattle.counters.specs.declared.ops.Bound.{Bound}
 use Rattle.counters.specs.declared.ops.Ops.{Ops}
 use Rattle.counters.specs.declared.ops.Ops.TheVariants.{One, Many}
 
 abbrev pub bound_of : Term → Term → Option Bound
-bound_of threshold set_value = option_and_then (λ t. option_map (λ v. record { threshold = t; set_value = v }) (integer_of set_value)) (integer_of threshold)
+bound_of threshold set_value =
+    option_and_then
+    (λ t. option_map (λ v. record { threshold = t; set_value = v }) (integer_of set_value))
+    (integer_of threshold)
 
 abbrev pub op_from : ℕ → Term → Term → Option Bound → Option Op
-op_from keypos position increment bound = option_and_then (λ p. option_map (λ i. record { position = p; increment = i; bound = bound }) (integer_of increment)) (position_of keypos position)
+op_from keypos position increment bound =
+    option_and_then
+    (λ p. option_map (λ i. record { position = p; increment = i; bound = bound }) (integer_of increment))
+    (open_position keypos position)
 
 abbrev pub op_of_parts : ℕ → List Term → Option Op
 op_of_parts keypos (position ∷ increment ∷ []) = op_from keypos position increment None
-op_of_parts keypos (position ∷ increment ∷ threshold ∷ set_value ∷ []) = option_and_then (λ b. op_from keypos position increment (Some b)) (bound_of threshold set_value)
+op_of_parts keypos (position ∷ increment ∷ threshold ∷ set_value ∷ []) =
+    option_and_then (λ b. op_from keypos position increment (Some b)) (bound_of threshold set_value)
 op_of_parts keypos _ = None
 
 -- the operation of a tuple; None where the term is none
@@ -28,7 +35,8 @@ op_of keypos term = op_of_parts keypos (elements term)
 
 abbrev pub all_ops : ℕ → List Term → Option (List Op)
 all_ops keypos [] = Some []
-all_ops keypos (term ∷ terms) = option_and_then (λ op. option_map (λ ops. op ∷ ops) (all_ops keypos terms)) (op_of keypos term)
+all_ops keypos (term ∷ terms) =
+    option_and_then (λ op. option_map (λ ops. op ∷ ops) (all_ops keypos terms)) (op_of keypos term)
 
 abbrev pub ops_form : ℕ → Term-F Term → Option Ops
 ops_form keypos (Term-F.Int n) = Some (One (record { position = keypos + 1; increment = n; bound = None }))

@@ -17,5 +17,6 @@ abbrev pub position_at : ℕ → ℤ → Option ℕ
 position_at keypos (pos n) = if n == 0 || n == keypos then None else Some n
 position_at keypos (negsuc n) = None
 
-abbrev pub position_of : ℕ → Term → Option ℕ
-position_of keypos term = option_and_then (position_at keypos) (integer_of term)
+-- the position that a term names for an update, if it names one
+abbrev pub open_position : ℕ → Term → Option ℕ
+open_position keypos term = option_and_then (position_at keypos) (integer_of term)

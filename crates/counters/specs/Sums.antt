@@ -1,6 +1,5 @@
 -- The new value of a counter (stdlib manual, module ets, update_counter/3). Sums are exact.
-use Rattle.std.specs.Prelude.{◌+ℤ◌, ◌&&◌, Bool, if◌then◌else◌, ℤ, pos, int_le, int_lt, Option, Some, None}
-use Rattle.ets_term.specs.Integers.{least, greatest}
+use Rattle.std.specs.Prelude.{◌+ℤ◌, Bool, if◌then◌else◌, ℤ, pos, int_le, int_lt, Option, Some, None}
 use Rattle.counters.specs.declared.ops.Op.{Op}
 use Rattle.counters.specs.declared.ops.Bound.{Bound}
 
@@ -15,7 +14,3 @@ bounded increment (Some bound) sum = if is_past increment bound.threshold sum th
 -- the sum, or SetValue where the sum is past the threshold
 abbrev pub new_value : Op → ℤ → ℤ
 new_value op value = bounded op.increment op.bound (value +ℤ op.increment)
-
--- None where a term's integer cannot hold it
-abbrev pub in_range : ℤ → Option ℤ
-in_range n = if int_le least n && int_le n greatest then Some n else None

@@ -1,6 +1,7 @@
 //! The object that a Default makes for a key that has none.
 ghost use Rattle.std.specs.Prelude.{◌≡◌, ◌↔◌, ◌&&◌, nat_lt, nat_le, is_some, Some, None, Ok, Err, IfOk, IsErrOf};
 ghost use Rattle.counters.specs.Defaults.{keyed, counted_from, written_from};
+ghost use Rattle.counters.specs.Outcomes.{FailsOnlyAs};
 
 use crate::counter::update_counter;
 use crate::elements::{ElementSpecs, update_elements};
@@ -47,9 +48,9 @@ pub fn keyed(alloc: Global, default: &Term, keypos: u32, key: &Term) -> Result<T
     Ok(object)
 }
 
-/// The object to be stored where a key has none, made of the Default with the key at keypos and the counters updated, and
-/// the answer (stdlib manual, module ets, update_counter/4). Badarg where that is no object, or as in `update_counter`;
-/// then SystemLimit, also for an object of more than `MAX_DEPTH` levels.
+/// The object to be stored where a key has none, made of the Default with the key at keypos and the counters updated,
+/// and the answer (stdlib manual, module ets, update_counter/4). Badarg where that is no object, or as in
+/// `update_counter`; then SystemLimit, also for an object of more than `MAX_DEPTH` levels.
 pub fn start_counter(
     alloc: Global,
     default: &Term,
@@ -58,8 +59,9 @@ pub fn start_counter(
     ops: &Ops,
 ) -> Result<(Term, Term), CounterFault>
     ensures done { IfOk result (λ r. counted_from ops.now (keyed keypos key.now default.now) ≡ Ok r) }
-    ensures badarg { IsErrOf result CounterFault.Badarg → counted_from ops.now (keyed keypos key.now default.now) ≡ Err CounterFault.Badarg }
-    ensures limit { IsErrOf result CounterFault.SystemLimit → counted_from ops.now (keyed keypos key.now default.now) ≡ Err CounterFault.SystemLimit }
+    ensures badarg { FailsOnlyAs result CounterFault.Badarg (counted_from ops.now (keyed keypos key.now default.now)) }
+    ensures limit { FailsOnlyAs result CounterFault.SystemLimit
+        (counted_from ops.now (keyed keypos key.now default.now)) }
 {
     let mut object = keyed(alloc, default, keypos, key)?;
     let answer = update_counter(alloc, &mut object, ops)?;
@@ -80,8 +82,9 @@ pub fn start_elements(
     specs: ElementSpecs,
 ) -> Result<Term, CounterFault>
     ensures done { IfOk result (λ object. written_from specs (keyed keypos key.now default.now) ≡ Ok object) }
-    ensures badarg { IsErrOf result CounterFault.Badarg → written_from specs (keyed keypos key.now default.now) ≡ Err CounterFault.Badarg }
-    ensures limit { IsErrOf result CounterFault.SystemLimit → written_from specs (keyed keypos key.now default.now) ≡ Err CounterFault.SystemLimit }
+    ensures badarg { FailsOnlyAs result CounterFault.Badarg (written_from specs (keyed keypos key.now default.now)) }
+    ensures limit { FailsOnlyAs result CounterFault.SystemLimit
+        (written_from specs (keyed keypos key.now default.now)) }
 {
     let mut object = keyed(alloc, default, keypos, key)?;
     update_elements(&mut object, specs)?;

@@ -3,10 +3,11 @@ ghost use Rattle.std.specs.Prelude.{◌≡◌, ◌-◌, ◌==◌, ◌↔◌, [],
 ghost use Rattle.std.specs.List.{list_any};
 ghost use Rattle.counters.specs.Elements.{spec_of_parts, all_specs, specs_of, has_all, is_over_deep, written, written_elements, updated_elements};
 ghost use Rattle.counters.specs.Ops.{is_list};
+ghost use Rattle.counters.specs.Outcomes.{FailsOnlyAs};
 ghost use Rattle.ets_term.specs.Depth.{elements};
 
 use crate::fault::CounterFault;
-use crate::position::position_of;
+use crate::position::open_position;
 use ets_term::{Items, MAX_DEPTH, Position, Term};
 use std::alloc::Global;
 
@@ -32,7 +33,7 @@ fn spec_of_parts(alloc: Global, keypos: u32, parts: &[Term]) -> Result<ElementSp
     let [position, value] = parts else {
         return Err(CounterFault::Badarg);
     };
-    let Some(position) = position_of(keypos, position) else {
+    let Some(position) = open_position(keypos, position) else {
         return Err(CounterFault::Badarg);
     };
     Ok(ElementSpec {
@@ -111,10 +112,10 @@ fn names(specs: &[ElementSpec], position: Position) -> bool
     specs.iter().any(|later| later.position == position)
 }
 
-/// Writes elements of an object in place (stdlib manual, module ets, update_element/3); of several values for a position
-/// the last stays. It takes no memory, and nothing but those elements is written. Every refusal leaves the object as it
-/// was: Badarg where it is no tuple or has not all the positions, SystemLimit where a value that stays would stand too
-/// deep, which is `MAX_DEPTH` levels in itself.
+/// Writes elements of an object in place (stdlib manual, module ets, update_element/3); of several values for a
+/// position the last stays. It takes no memory, and nothing but those elements is written. Every refusal leaves the
+/// object as it was: Badarg where it is no tuple or has not all the positions, SystemLimit where a value that stays
+/// would stand too deep, which is `MAX_DEPTH` levels in itself.
 pub fn update_elements(object: &mut Term, specs: ElementSpecs) -> Result<(), CounterFault>
     ensures done { OnOk result (updated_elements specs object.old ≡ Ok object.new) }
     ensures refused { IfErr result (λ fault. updated_elements specs object.old ≡ Err fault) }
@@ -186,8 +187,8 @@ pub fn apply_elements(
     specs: ElementSpecs,
 ) -> Result<Term, CounterFault>
     ensures done { IfOk result (λ object'. updated_elements specs object.now ≡ Ok object') }
-    ensures badarg { IsErrOf result CounterFault.Badarg → updated_elements specs object.now ≡ Err CounterFault.Badarg }
-    ensures limit { IsErrOf result CounterFault.SystemLimit → updated_elements specs object.now ≡ Err CounterFault.SystemLimit }
+    ensures badarg { FailsOnlyAs result CounterFault.Badarg (updated_elements specs object.now) }
+    ensures limit { FailsOnlyAs result CounterFault.SystemLimit (updated_elements specs object.now) }
 {
     let mut updated = object.try_clone(alloc)?;
     update_elements(&mut updated, specs)?;

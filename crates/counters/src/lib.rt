@@ -4,14 +4,15 @@
 //! `update_elements`) or on a copy (`apply_ops`, `apply_elements`). Each call is its definition: `specs/Counters.antt`,
 //! `specs/Elements.antt`, and `specs/Defaults.antt` for the object that a Default makes.
 //!
-//! Guarantee: sums are exact, and each new value is an integer of terms or the update is refused. All tests of positions and
-//! elements look at the object as it was, before the first operation, and go before any limit. A refusal changes nothing.
-//! Mechanism: one operation alone writes one element and takes no memory. A list notes each integer that it overwrites and
-//! writes them back where a later operation is refused. Values move into the object and are not copied again.
+//! Guarantee: sums are exact, and each new value is an integer of terms or the update is refused. All tests of
+//! positions and elements look at the object as it was, before the first operation, and go before any limit. A refusal
+//! changes nothing.
+//! Mechanism: one operation alone writes one element and takes no memory. A list notes each integer that it overwrites
+//! and writes them back where a later operation is refused. Values move into the object and are not copied again.
 //! Weakness: a value of `MAX_DEPTH` levels is compared with the positions after it, so thousands of such values, each
 //! overwritten by a later one, cost the square of their number.
-//! Limits: a value of `MAX_DEPTH` levels is refused, since the object round it would be deeper; the elements that stay are not
-//! looked at, having passed this when they were stored. Integers are those of `ets_term::Integer`.
+//! Limits: a value of `MAX_DEPTH` levels is refused, since the object round it would be deeper; the elements that stay
+//! are not looked at, having passed this when they were stored. Integers are those of `ets_term::Integer`.
 #![tactic(auto)]
 
 mod counter;

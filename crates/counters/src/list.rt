@@ -1,7 +1,8 @@
 //! A list of operations: done in place one after another, and undone where one of them cannot be done.
-ghost use Rattle.std.specs.Prelude.{◌≡◌, ◌↔◌, Some, None, Ok, Err, IfOk, OnOk, OnErr, IsErrOf, is_some};
+ghost use Rattle.std.specs.Prelude.{◌≡◌, Some, None, Ok, Err, IfOk, OnOk, OnErr, IsErrOf, is_some};
 ghost use Rattle.std.specs.List.{list_all};
 ghost use Rattle.counters.specs.Counters.{integer_at, count_one, count_all, counted_elements};
+ghost use Rattle.counters.specs.Outcomes.{AnswersAs, FailsOnlyAs, FailsJustAs};
 ghost use Rattle.counters.specs.declared.ops.Ops.TheVariants.{Many};
 ghost use Rattle.ets_term.specs.declared.term.Term.TheVariants.{Tuple};
 ghost use Rattle.counters.specs.inside.Lists.{restored, CountsNext};
@@ -26,9 +27,9 @@ pub fn count_many(
     elements: &mut Items<Term>,
     ops: &[Op],
 ) -> Result<Term, CounterFault>
-    ensures done { IfOk result (λ answer. counted_elements (Many ops.now) elements.old ≡ Ok (Tuple elements.new, answer)) }
-    ensures badarg { IsErrOf result CounterFault.Badarg ↔ (counted_elements (Many ops.now) elements.old ≡ Err CounterFault.Badarg) }
-    ensures limit { IsErrOf result CounterFault.SystemLimit → counted_elements (Many ops.now) elements.old ≡ Err CounterFault.SystemLimit }
+    ensures done { AnswersAs result (counted_elements (Many ops.now) elements.old) (Tuple elements.new) }
+    ensures badarg { FailsJustAs result CounterFault.Badarg (counted_elements (Many ops.now) elements.old) }
+    ensures limit { FailsOnlyAs result CounterFault.SystemLimit (counted_elements (Many ops.now) elements.old) }
     ensures kept { OnErr result (elements.new ≡ elements.old) }
 {
     if !are_counters(elements.as_slice(), ops) {

@@ -3,7 +3,7 @@ ghost use Rattle.std.specs.Prelude.{◌≡◌, false, Some, None, IfOk, IsErrOf}
 ghost use Rattle.counters.specs.Ops.{bound_of, op_from, op_of_parts, op_of, all_ops, ops_of, is_list};
 
 use crate::fault::CounterFault;
-use crate::position::{integer_of, position_of};
+use crate::position::{integer_of, open_position};
 use ets_term::{Integer, Items, Position, Term};
 use std::alloc::Global;
 
@@ -44,7 +44,7 @@ fn op_from(keypos: u32, position: &Term, increment: &Term, bound: Option<Bound>)
     ensures { result ≡ op_from keypos position.now increment.now bound }
 {
     Some(Op {
-        position: position_of(keypos, position)?,
+        position: open_position(keypos, position)?,
         increment: integer_of(increment)?,
         bound,
     })

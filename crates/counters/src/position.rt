@@ -1,7 +1,7 @@
 //! Integers and positions in what a caller asks.
 ghost use Rattle.std.specs.Prelude.{◌≡◌, IfSome};
 ghost use Rattle.ets_term.specs.declared.term.Term.TheVariants.{Int};
-ghost use Rattle.counters.specs.Positions.{integer_of, position_at, position_of};
+ghost use Rattle.counters.specs.Positions.{integer_of, position_at, open_position};
 
 use ets_term::{Integer, Position, Term};
 
@@ -17,8 +17,8 @@ pub fn integer_of(term: &Term) -> Option<Integer>
 }
 
 /// The position that a term names, of at least 1 and not the key's; None where it names none.
-pub fn position_of(keypos: u32, term: &Term) -> Option<Position>
-    ensures { result ≡ position_of keypos term.now }
+pub fn open_position(keypos: u32, term: &Term) -> Option<Position>
+    ensures { result ≡ open_position keypos term.now }
 {
     position_at(keypos, integer_of(term)?)
 }

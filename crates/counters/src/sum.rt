@@ -1,6 +1,7 @@
 //! The one addition that may leave the integers.
 ghost use Rattle.std.specs.Prelude.{◌≡◌};
-ghost use Rattle.counters.specs.Sums.{is_past, new_value, in_range};
+ghost use Rattle.ets_term.specs.Integers.{in_range};
+ghost use Rattle.counters.specs.Sums.{is_past, new_value};
 
 use crate::ops::Op;
 use ets_term::Integer;
@@ -15,7 +16,8 @@ fn is_past(increment: Integer, threshold: Integer, sum: Integer) -> bool
     }
 }
 
-/// The new value of an element; None where the integers do not have it. A sum past the integers is past every threshold.
+/// The new value of an element; None where the integers do not have it. A sum past the integers is past every
+/// threshold.
 pub fn new_value(op: Op, value: Integer) -> Option<Integer>
     ensures { result ≡ in_range (new_value op value) }
 {

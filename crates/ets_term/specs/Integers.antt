@@ -1,5 +1,5 @@
 -- The integers of terms: 128 bits, two's complement.
-use Rattle.std.specs.Prelude.{ℕ, ℤ, ◌^◌, ◌-◌, pos, negsuc, List}
+use Rattle.std.specs.Prelude.{ℕ, ℤ, ◌^◌, ◌-◌, ◌&&◌, if◌then◌else◌, int_le, pos, negsuc, List, Option, Some, None}
 use Rattle.std.specs.Int.{cast_unsigned, to_be_bytes, w128}
 
 abbrev pub least : ℤ
@@ -7,6 +7,10 @@ least = negsuc (2 ^ 127 - 1)
 
 abbrev pub greatest : ℤ
 greatest = pos (2 ^ 127 - 1)
+
+-- None where a term's integer cannot hold it
+abbrev pub in_range : ℤ → Option ℤ
+in_range n = if int_le least n && int_le n greatest then Some n else None
 
 -- its bytes in two's complement, the high byte first
 unfoldable pub integer_bytes : ℤ → List ℕ

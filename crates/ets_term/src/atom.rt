@@ -56,7 +56,8 @@ impl Atom {
         ensures made { IfOk result (λ a. a ≡ text.now) }
         ensures fits { IfOk result (λ _. IsAtomText text.now) }
         ensures long { IsErrOf result AtomFault.TooLong ↔ max_characters < length text.now }
-        ensures bad { IsErrOf result AtomFault.BadCharacter ↔ (length text.now ≤ max_characters) × ¬ IsAtomText text.now }
+        ensures bad { IsErrOf result AtomFault.BadCharacter
+            ↔ (length text.now ≤ max_characters) × ¬ IsAtomText text.now }
         ensures short { length text.now ≤ MAX_IN_PLACE → ¬ IsErrOf result AtomFault.Memory }
     {
         if text.len() > MAX_CHARACTERS {

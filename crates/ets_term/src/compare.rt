@@ -14,7 +14,8 @@ use std::cmp::Ordering;
 impl Term {
     /// How the term compares with another: integer < atom < table identifier < pid < tuple < list < binary (Erlang
     /// Reference Manual, Expressions, Term Comparisons); tuples by size first, then element by element; else part by
-    /// part, a proper prefix below the longer. Identifiers and pids go by their numbers, which is this project's choice.
+    /// part, a proper prefix below the longer. Identifiers and pids go by their numbers, which is this project's
+    /// choice.
     pub fn cmp_terms(&self, other: &Term) -> Ordering
         ensures order { result ≡ order self.now other.now }
         ensures alike { result ≡ Ordering.Equal ↔ self.now ≡ other.now }

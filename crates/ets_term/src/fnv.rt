@@ -14,8 +14,8 @@ const TWELVE_ZEROS: u32 = 3549196337;
 const EIGHT_ZEROS: u32 = 1566662433;
 
 /// The hash FNV-1a of 32 bits over the encoding of the term: a byte for the kind (integer 1, atom 2, pid 3, table
-/// identifier 4, tuple 5, list 6, binary 7); then 16 bytes of an integer, 8 of a count, 1 byte of an atom's length, or 4
-/// bytes of a pid's or an identifier's number, each with the high byte first; then the characters, elements or bytes.
+/// identifier 4, tuple 5, list 6, binary 7); then 16 bytes of an integer, 8 of a count, 1 byte of an atom's length, or
+/// 4 bytes of a pid's or an identifier's number, each with the high byte first; then the characters, elements or bytes.
 #[derive(Clone, Copy)]
 pub struct Fnv;
 

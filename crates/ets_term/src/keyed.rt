@@ -7,10 +7,10 @@ use crate::integer::Integer;
 use crate::key_hash::KeyHash;
 use crate::term::Term;
 
-/// The hash with this seed: words of 64 bits, each mixed in by an exclusive or and a product of 128 bits, whose halves are
-/// folded. The words of a term are one for its kind, as in `Fnv`; then the two of an integer, the high one first, or a number,
-/// or the count and then the characters, elements or bytes. What is multiplied by comes of the seed, so that keys of one
-/// bucket are hard to find for whoever does not know it.
+/// The hash with this seed: words of 64 bits, each mixed in by an exclusive or and a product of 128 bits, whose halves
+/// are folded. The words of a term are one for its kind, as in `Fnv`; then the two of an integer, the high one first,
+/// or a number, or the count and then the characters, elements or bytes. What is multiplied by comes of the seed, so
+/// that keys of one bucket are hard to find for whoever does not know it.
 #[derive(Clone, Copy)]
 pub struct Keyed(pub u64);
 

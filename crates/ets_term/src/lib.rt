@@ -1,8 +1,8 @@
 //! Terms: equal exactly when built alike, in one total order, with hashes that equal terms share.
 //!
-//! Contracts see a term as the enum `Term` itself, with lists in place of `Items` and of the characters of an `Atom`, so
-//! `≡` says that two terms are built alike. Every term fits: its numbers are in their ranges and its atoms are atoms.
-//! How deep a term may be is for the callers to say.
+//! Contracts see a term as the enum `Term` itself, with lists in place of `Items` and of the characters of an `Atom`,
+//! so `≡` says that two terms are built alike. Every term fits: its numbers are in their ranges and its atoms are
+//! atoms. How deep a term may be is for the callers to say.
 #![tactic(auto)]
 
 mod alike;

@@ -21,8 +21,9 @@ use Rattle.table_ops.specs.declared.refusal.Refusal.{Refusal}
 use Rattle.table_ops.specs.declared.refusal.Refusal.TheVariants.{Badarg, SystemLimit, Memory}
 use Rattle.table_ops.specs.Content.{Content, is_object, objects_under}
 use Rattle.table_ops.specs.Put.{add, Writes, PutsAll, Stores, Inserts, InsertsNew, is_taken}
-use Rattle.table_ops.specs.Refusals.{Comes, gives}
+use Rattle.table_ops.specs.Refusals.{Comes}
 use Rattle.table_ops.specs.Update.{is_set, ops_open, specs_open, is_good, with_object, Counts, Starts, CountsUnder, UpdatesCounter, WritesElements, with_true, WritesUnder, UpdatesElement}
+use Rattle.table_ops.specs.Outcomes.{gives}
 
 abbrev pub is_end : Term → Bool
 is_end key = is_atom (codes "$end_of_table") key

@@ -10,10 +10,11 @@ use Rattle.table_ops.specs.declared.refusal.Refusal.TheVariants.{Badarg}
 use Rattle.table_ops.specs.Content.{Content, key_of}
 use Rattle.table_ops.specs.Put.{Inserts, InsertsNew}
 use Rattle.table_ops.specs.Drop.{Which, left, dropped, without_those, equal_to, DeletesObject}
-use Rattle.table_ops.specs.Refusals.{Comes, gives}
+use Rattle.table_ops.specs.Refusals.{Comes}
 use Rattle.table_ops.specs.Update.{UpdatesCounter, UpdatesElement}
 use Rattle.counters.specs.declared.elements.ElementSpecs.{ElementSpecs}
 use Rattle.counters.specs.declared.ops.Ops.{Ops}
+use Rattle.table_ops.specs.Outcomes.{gives}
 use Rattle.fixed_walk.specs.Fixes.{is_fixed}
 use Rattle.fixed_walk.specs.Fixed.{Fixed, NoneHeld, HeldWhileFixed, released, all_released}
 use Rattle.fixed_walk.proofs.ChangeLaws.{Keeping, is_end, comes-keep, inserts-keep, news-keep, counter-keeps, element-keeps}

@@ -15,8 +15,9 @@ use Rattle.table_ops.specs.declared.refusal.Refusal.TheVariants.{Badarg, SystemL
 use Rattle.table_ops.specs.Content.{Content, key_of}
 use Rattle.table_ops.specs.Put.{Inserts, InsertsNew}
 use Rattle.table_ops.specs.Drop.{Which, left, dropped, without_those, equal_to, DeletesObject}
-use Rattle.table_ops.specs.Refusals.{Change, gives}
+use Rattle.table_ops.specs.Refusals.{Change}
 use Rattle.table_ops.specs.Update.{UpdatesCounter, UpdatesElement}
+use Rattle.table_ops.specs.Outcomes.{gives}
 use Rattle.fixed_walk.specs.declared.fault.FixFault.{FixFault}
 use Rattle.fixed_walk.specs.declared.fault.FixFault.TheVariants.{SystemLimit as FixLimit, Memory as FixMemory}
 use Rattle.fixed_walk.specs.Fixes.{FixCounts, is_fixed, with_count, fix_count}

@@ -3,6 +3,7 @@ use Rattle.std.specs.Prelude.{◌≡◌, ℕ, ◌+◌, ◌-◌, ◌<◌, Bool, f
 use Rattle.std.specs.List.{AllByRecursion}
 use Rattle.bucket_table.specs.Slots.{Slot, has_objects, purged}
 use Rattle.table_ops.specs.Content.{Content}
+use Rattle.table_ops.specs.Drop.{Which, without_those}
 use Rattle.table_ops.specs.Refusals.{Change}
 use Rattle.fixed_walk.specs.declared.fault.FixFault.{FixFault}
 use Rattle.fixed_walk.specs.declared.fault.FixFault.TheVariants.{SystemLimit, Memory}
@@ -18,6 +19,10 @@ pub record Fixed : Type 0 where
 abbrev pub on_content : {X : Type 0} → (Content → Change X Content) → Fixed → Change X Fixed
 on_content change old r new = change old.content r new.content × (new ≡ record old { content = new.content })
 
+-- these objects go; a slot that loses its last one is held while the table is fixed
+abbrev pub without : Which → Fixed → Fixed
+without which table = record table { content = without_those (is_fixed table.fixes) which table.content }
+
 -- no slot is held
 abbrev pub NoneHeld : List Slot → Type 0
 NoneHeld slots = AllByRecursion (λ slot. has_objects slot.1 ≡ true) slots
@@ -28,13 +33,17 @@ HeldWhileFixed table = is_fixed table.fixes ≡ false → NoneHeld table.content
 
 -- a process fixes the table once more, unless it has as many fixes as there can be
 abbrev pub FixesOnce : ℕ → Fixed → Result (Unit {0}) FixFault → Fixed → Type 0
-FixesOnce pid old (Ok done) new = (fix_count old.fixes pid < most_fixes) × (new ≡ record old { fixes = with_count old.fixes pid (fix_count old.fixes pid + 1) })
+FixesOnce pid old (Ok done) new =
+    (fix_count old.fixes pid < most_fixes)
+    × (new ≡ record old { fixes = with_count old.fixes pid (fix_count old.fixes pid + 1) })
 FixesOnce pid old (Err SystemLimit) new = (fix_count old.fixes pid ≡ most_fixes) × (new ≡ old)
 FixesOnce pid old (Err Memory) new = (fix_count old.fixes pid < most_fixes) × (new ≡ old)
 
 -- held slots go once the table is not fixed
 abbrev pub settled : Fixed → Fixed
-settled table = if is_fixed table.fixes then table else record table { content = record table.content { slots = purged table.content.slots } }
+settled table =
+    if is_fixed table.fixes then table
+    else record table { content = record table.content { slots = purged table.content.slots } }
 
 -- one fix less of a process, or none where it had none
 abbrev pub released : ℕ → Fixed → Fixed

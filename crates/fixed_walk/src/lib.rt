@@ -1,4 +1,5 @@
-//! One table with its fixes: while a process fixes it, a key that is deleted keeps its place, and a walk over it is whole.
+//! One table with its fixes: while a process fixes it, a key that is deleted keeps its place, and a walk over it is
+//! whole.
 //!
 //! *Guarantee.* A contract sees the table's content, the readiness of its buckets and the fixes of each process. Held
 //! slots, which have a key and no objects, stand only while some process fixes the table. Where it is fixed before and

@@ -35,7 +35,8 @@ impl<R: Rows> Model for Walked<R> {
 
     ghost view = { λ w. record { content = w.table.content; buckets = w.table.buckets; fixes = w.fixes } };
 
-    ghost invariant = { λ w. HeldWhileFixed (record { content = w.table.content; buckets = w.table.buckets; fixes = w.fixes }) };
+    ghost invariant = { λ w.
+        HeldWhileFixed (record { content = w.table.content; buckets = w.table.buckets; fixes = w.fixes }) };
 }
 
 impl<R: Rows> Walked<R> {

@@ -24,7 +24,8 @@ abbrev mutual
 
 -- the key's part of a pattern, where it has neither a variable nor `'_'`
 abbrev pub bound_key : ℕ → Data → Option Data
-bound_key keypos pattern = option_and_then (λ key. if is_ground key then Some key else None) (tuple_element keypos pattern)
+bound_key keypos pattern =
+    option_and_then (λ key. if is_ground key then Some key else None) (tuple_element keypos pattern)
 
 abbrev pub clause_key : ℕ → Data → Option Data
 clause_key keypos clause = option_and_then (λ parts. bound_key keypos parts.head) (clause_parts clause)
@@ -35,13 +36,16 @@ all_bind keypos key (term c cs) = option_map_or (alike key) (clause_key keypos c
 
 -- the key that the heads of all clauses bind
 abbrev pub spec_key : ℕ → Data → Option Data
-spec_key keypos (list (term c cs)) = option_and_then (λ key. if all_bind keypos key cs then Some key else None) (clause_key keypos c)
+spec_key keypos (list (term c cs)) =
+    option_and_then (λ key. if all_bind keypos key cs then Some key else None) (clause_key keypos c)
 spec_key keypos spec = None
 
 -- every object that matches the pattern has this key
 abbrev pub IsKeyOfMatches : ℕ → Data → Term → Type 0
-IsKeyOfMatches keypos pattern key = (object : Term) → is_some (bindings_of pattern (data_of object)) ≡ true → element_at keypos object ≡ Some key
+IsKeyOfMatches keypos pattern key =
+    (object : Term) → is_some (bindings_of pattern (data_of object)) ≡ true → element_at keypos object ≡ Some key
 
 -- every object for which the specification gives something has this key
 abbrev pub IsKeyOfResults : ℕ → Data → Term → Type 0
-IsKeyOfResults keypos spec key = (object : Term) → is_some (result_of spec (data_of object)) ≡ true → element_at keypos object ≡ Some key
+IsKeyOfResults keypos spec key =
+    (object : Term) → is_some (result_of spec (data_of object)) ≡ true → element_at keypos object ≡ Some key

@@ -10,7 +10,8 @@ use Rattle.match_spec.specs.Names.{function_of, decides, stops_at, is_function}
 use Rattle.match_spec.specs.Patterns.{Bindings, binding, values}
 use Rattle.match_spec.specs.Variables.{variable}
 
--- what an atom is for an expression: a variable its binding, `'$_'` the object, `'$$'` the list of bindings, else itself
+-- what an atom is for an expression: a variable its binding, `'$_'` the object, `'$$'` the list of bindings, else
+-- itself
 abbrev pub name_value : Bindings → Data → List ℕ → Option ℕ → Option Data
 name_value b object a (Some n) = binding b n
 name_value b object a None =
@@ -53,25 +54,33 @@ abbrev mutual
   value b object (tuple (term (tuple es) no_terms)) = option_map (λ ds. tuple (row_of ds)) (all_values b object es)
   value b object (tuple (term (atom f) es)) =
       constant_or f es (decided_or (stops_at f) (λ stop. decided b object stop es)
-      (joined_or (decides f) (λ decisive. joined b object decisive es) (applied f (row_len es) (all_values b object es))))
+      (joined_or (decides f) (λ decisive. joined b object decisive es)
+      (applied f (row_len es) (all_values b object es))))
   value b object (tuple es) = None
   value b object d = Some d
 
   -- the values of all, None where one fails
   pub all_values : Bindings → Data → Row → Option (List Data)
   all_values b object no_terms = Some []
-  all_values b object (term e es) = option_and_then (λ d. option_map (λ ds. d ∷ ds) (all_values b object es)) (value b object e)
+  all_values b object (term e es) =
+      option_and_then (λ d. option_map (λ ds. d ∷ ds) (all_values b object es)) (value b object e)
 
   -- `and` and `or`: whether one decides; all are evaluated, and each must be a boolean
   pub joined : Bindings → Data → Bool → Row → Option Bool
   joined b object decisive no_terms = Some (not decisive)
-  joined b object decisive (term e es) = option_and_then (λ d. option_and_then (λ x. option_map (join decisive x) (joined b object decisive es)) (boolean d)) (value b object e)
+  joined b object decisive (term e es) =
+      option_and_then
+      (λ d. option_and_then (λ x. option_map (join decisive x) (joined b object decisive es)) (boolean d))
+      (value b object e)
 
   -- `andalso` and `orelse`: from the left, up to the first boolean that decides; what is behind it is not evaluated
   pub decided : Bindings → Data → Bool → Row → Option Data
   decided b object stop no_terms = None
   decided b object stop (term e no_terms) = option_and_then (λ d. option_map (λ x. d) (boolean d)) (value b object e)
-  decided b object stop (term e es) = option_and_then (λ d. option_and_then (λ x. if is_stop stop x then Some d else decided b object stop es) (boolean d)) (value b object e)
+  decided b object stop (term e es) =
+      option_and_then
+      (λ d. option_and_then (λ x. if is_stop stop x then Some d else decided b object stop es) (boolean d))
+      (value b object e)
 
 abbrev pub is_constant : List ℕ → ℕ → Bool
 is_constant f n = (n == 1) && bytes_eq f (codes "const")
@@ -86,7 +95,8 @@ abbrev mutual
   is_expression ns (atom a) = is_bound ns (variable a)
   is_expression ns (list es) = are_expressions ns es
   is_expression ns (tuple (term (tuple es) no_terms)) = are_expressions ns es
-  is_expression ns (tuple (term (atom f) es)) = is_constant f (row_len es) || (is_function f (row_len es) && are_expressions ns es)
+  is_expression ns (tuple (term (atom f) es)) =
+      is_constant f (row_len es) || (is_function f (row_len es) && are_expressions ns es)
   is_expression ns (tuple es) = false
   is_expression ns d = true
 

@@ -1,11 +1,11 @@
 -- The functions of expressions (ERTS User's Guide, Match Specifications in Erlang). None: the application fails.
-use Rattle.std.specs.Prelude.{ℕ, zero, suc, ℤ, pos, length, ◌&&◌, not, int_le, int_div, int_rem, ◌+ℤ◌, ◌-ℤ◌, ◌*ℤ◌, unsigned_abs, Bool, true, false, if◌then◌else◌, List, [], ◌∷◌, Option, Some, None, option_map, codes}
+use Rattle.std.specs.Prelude.{ℕ, zero, suc, ℤ, pos, length, not, int_div, int_rem, ◌+ℤ◌, ◌-ℤ◌, ◌*ℤ◌, unsigned_abs, Bool, true, false, if◌then◌else◌, List, [], ◌∷◌, Option, Some, None, option_map, codes}
 use Rattle.std.specs.Option.{option_and_then}
 use Rattle.std.specs.declared.cmp.Ordering.{Ordering}
 use Rattle.std.specs.Ordering.{is_eq, is_ne, is_lt, is_le, is_gt, is_ge, int_cmp}
 use Rattle.std.specs.Str.{bytes_eq}
 use Rattle.ets_term.specs.Data.{Data, int, atom, pid, tid, tuple, list, binary, Row, no_terms, term}
-use Rattle.ets_term.specs.Integers.{least, greatest}
+use Rattle.ets_term.specs.Integers.{in_range}
 use Rattle.ets_term.specs.Order.{data_order, row_len}
 use Rattle.match_spec.specs.declared.expression.arithmetic.Operation.{Operation}
 use Rattle.match_spec.specs.declared.expression.arithmetic.Operation.TheVariants.{Add, Subtract, Multiply, Divide, Remainder}
@@ -22,7 +22,8 @@ truth false = atom (codes "false")
 
 -- only the atoms `true` and `false` are booleans
 abbrev pub boolean : Data → Option Bool
-boolean (atom a) = if bytes_eq a (codes "true") then Some true else if bytes_eq a (codes "false") then Some false else None
+boolean (atom a) =
+    if bytes_eq a (codes "true") then Some true else if bytes_eq a (codes "false") then Some false else None
 boolean d = None
 
 -- a table identifier is a reference
@@ -43,11 +44,8 @@ differ false b = b
 abbrev pub exclusive : Option Bool → Option Bool → Option Bool
 exclusive a b = option_and_then (λ x. option_map (differ x) b) a
 
--- outside the range of integers there is none
-abbrev pub in_range : ℤ → Option ℤ
-in_range n = if int_le least n && int_le n greatest then Some n else None
-
--- a quotient is cut toward zero, and a remainder has the sign of the left operand; by zero there is neither
+-- outside the range of integers there is none; a quotient is cut toward zero, and a remainder has the sign of the left
+-- operand; by zero there is neither
 abbrev pub calculate : Operation → ℤ → ℤ → Option ℤ
 calculate Add m n = in_range (m +ℤ n)
 calculate Subtract m n = in_range (m -ℤ n)

@@ -81,7 +81,8 @@ decides f = if bytes_eq f (codes "and") then Some false else if bytes_eq f (code
 
 -- where a connective stops that does not: `andalso` at `false`, `orelse` at `true`
 abbrev pub stops_at : List ℕ → Option Bool
-stops_at f = if bytes_eq f (codes "andalso") then Some false else if bytes_eq f (codes "orelse") then Some true else None
+stops_at f =
+    if bytes_eq f (codes "andalso") then Some false else if bytes_eq f (codes "orelse") then Some true else None
 
 -- whether there is such a function; the connectives take one argument or more
 abbrev pub is_function : List ℕ → ℕ → Bool

@@ -21,12 +21,15 @@ pub record RawClause : Type 0 where
 
 -- `{Head,Conditions,Body}`, where Conditions and Body are lists
 abbrev pub clause_parts : Data → Option RawClause
-clause_parts (tuple (term head (term (list conditions) (term (list body) no_terms)))) = Some (record { head = head; conditions = conditions; body = body })
+clause_parts (tuple (term head (term (list conditions) (term (list body) no_terms)))) =
+    Some (record { head = head; conditions = conditions; body = body })
 clause_parts d = None
 
 -- the head is a pattern, the conditions are expressions of these variables, and the body is one expression or more
 abbrev pub is_good_by : List ℕ → RawClause → Bool
-is_good_by ns c = (is_pattern c.head && nat_lt 0 (row_len c.body)) && (are_expressions ns c.conditions && are_expressions ns c.body)
+is_good_by ns c =
+    (is_pattern c.head && nat_lt 0 (row_len c.body))
+    && (are_expressions ns c.conditions && are_expressions ns c.body)
 
 -- the variables of the head are those that it binds
 abbrev pub is_good : RawClause → Bool
@@ -65,7 +68,8 @@ outcome b object body = unwrap_or (last_value b object body) (atom (codes "EXIT"
 
 abbrev pub counted_or : Option Bindings → Data → RawClause → Option Data → Option Data
 counted_or None object c otherwise = otherwise
-counted_or (Some b) object c otherwise = if hold b object c.conditions then Some (outcome b object c.body) else otherwise
+counted_or (Some b) object c otherwise =
+    if hold b object c.conditions then Some (outcome b object c.body) else otherwise
 
 abbrev pub result_or : Option RawClause → Data → Option Data → Option Data
 result_or None object otherwise = otherwise

@@ -20,7 +20,8 @@ pub(crate) fn bound_part(pattern: &Term, keypos: Position) -> Option<&Term>
 }
 
 fn ground_or_none(key: &Term) -> Option<&Term>
-    ensures { option_map data_of (option_copied result) ≡ (if is_ground (data_of key.now) then Some (data_of key.now) else None) }
+    ensures { option_map data_of (option_copied result)
+        ≡ (if is_ground (data_of key.now) then Some (data_of key.now) else None) }
 {
     if is_ground(key) { Some(key) } else { None }
 }
@@ -40,7 +41,9 @@ pub(crate) fn bound_by_all(clauses: &[Term], keypos: Position) -> Option<&Term>
 }
 
 fn key_if_all_bind<'a>(clauses: &[Term], keypos: Position, key: &'a Term) -> Option<&'a Term>
-    ensures { option_map data_of (option_copied result) ≡ (if all_bind keypos (data_of key.now) (row_of (map data_of (drop 1 clauses.now))) then Some (data_of key.now) else None) }
+    ensures { option_map data_of (option_copied result)
+        ≡ (if all_bind keypos (data_of key.now) (row_of (map data_of (drop 1 clauses.now)))
+        then Some (data_of key.now) else None) }
 {
     if all_bind(clauses, keypos, key) {
         Some(key)

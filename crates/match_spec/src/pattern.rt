@@ -61,8 +61,10 @@ impl Pattern {
 
     /// The values of its variables, in order of their numbers, by which the term matches it; None where it does not.
     pub fn bindings(&self, alloc: Global, term: &Term) -> Result<Option<Vec<Term>>, AllocError>
-        ensures places { IfOk result (λ found. option_map (λ v. map data_of v.items) found ≡ option_map values (bindings_of (data_of self.now) (data_of term.now))) }
-        ensures matches { IfOk result (λ found. IsBindings (data_of self.now) (data_of term.now) (option_map (λ v. map data_of v.items) found)) }
+        ensures places { IfOk result (λ found. option_map (λ v. map data_of v.items) found
+            ≡ option_map values (bindings_of (data_of self.now) (data_of term.now))) }
+        ensures matches { IfOk result (λ found. IsBindings (data_of self.now) (data_of term.now)
+            (option_map (λ v. map data_of v.items) found)) }
     {
         self.found(alloc, term)
     }
@@ -77,13 +79,15 @@ impl Pattern {
     /// The values of its variables, in order of their numbers, by which a term matches it that does.
     pub fn values_in(&self, alloc: Global, term: &Term) -> Result<Vec<Term>, AllocError>
         requires { is_some (bindings_of (data_of self.now) (data_of term.now)) ≡ true }
-        ensures { IfOk result (λ v. Some (map data_of v.items) ≡ option_map values (bindings_of (data_of self.now) (data_of term.now))) }
+        ensures { IfOk result (λ v. Some (map data_of v.items)
+            ≡ option_map values (bindings_of (data_of self.now) (data_of term.now))) }
     {
         copies_at(alloc, self.places.as_slice(), term)
     }
 
     fn found(&self, alloc: Global, term: &Term) -> Result<Option<Vec<Term>>, AllocError>
-        ensures { IfOk result (λ found. option_map (λ v. map data_of v.items) found ≡ option_map values (bindings_of (data_of self.now) (data_of term.now))) }
+        ensures { IfOk result (λ found. option_map (λ v. map data_of v.items) found
+            ≡ option_map values (bindings_of (data_of self.now) (data_of term.now))) }
     {
         if !self.fits(term) {
             return Ok(None);

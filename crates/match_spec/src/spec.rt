@@ -71,7 +71,8 @@ impl Spec {
 
     /// Whether it gives `true` for the object.
     pub fn is_true(&self, alloc: Global, object: &Term) -> Result<bool, AllocError>
-        ensures { IfOk result (λ b. b ≡ option_map_or is_true (result_of (data_of self.now) (data_of object.now)) false) }
+        ensures { IfOk result (λ b. b
+            ≡ option_map_or is_true (result_of (data_of self.now) (data_of object.now)) false) }
     {
         first_is_true(alloc, self.clauses.as_slice(), object)
     }

@@ -7,6 +7,7 @@ use Rattle.std.specs.Option.{option_map_or}
 use Rattle.ets_term.specs.declared.term.Term.{Term, out-Term}
 use Rattle.ets_term.specs.declared.term.Term.TheVariants.{Tid}
 use Rattle.ets_term.specs.Atoms.{text_of, is_atom}
+use Rattle.table_ops.specs.Outcomes.{Outcome, gives}
 use Rattle.fixed_walk.specs.Fixed.{Fixed}
 use Rattle.ownership.specs.declared.fault.WorldFault.{WorldFault}
 use Rattle.ownership.specs.declared.fault.WorldFault.TheVariants as fault
@@ -16,14 +17,13 @@ use Rattle.ownership.specs.declared.options.NewOptions.{NewOptions}
 use Rattle.ownership.specs.World.{Table, World, table_at, resolve, whereis}
 use Rattle.ownership.specs.Info.{item_of, info_of}
 use Rattle.ownership.specs.Options.{options_of, pid_form}
-use Rattle.ownership.specs.Outcomes as world
 use Rattle.ownership.specs.Tables as tables
 use Rattle.ownership.specs.Tables.{without_table}
 use Rattle.node_core.specs.declared.node.access.Access.{Access}
 use Rattle.node_core.specs.declared.node.access.Access.TheVariants.{Read, Write}
 use Rattle.node_core.specs.declared.step.Reply.{Reply}
 use Rattle.node_core.specs.declared.step.Reply.TheVariants.{Value, Badarg}
-use Rattle.node_core.specs.State.{State, Outcome, gives}
+use Rattle.node_core.specs.State.{State}
 use Rattle.node_core.specs.Seen.{seen_fixed, seen_table, seen_tables, seen}
 use Rattle.node_core.specs.Access.{usable, with_table, Rule, IsWorldReply, asks, reads, changes}
 use Rattle.node_core.specs.rules.Owning.{GiveAway, SetOptions, Receive, told_or_undefined, Whereis, names_form, told_of, Info}
@@ -46,14 +46,14 @@ pub record Stands (own : ℕ → Bool) (needs : Bool) (old : State) (reply : Rep
   pub quiet : needs ≡ false → (is_flat reply ≡ true) ⊎ (new ≡ old)
 
 -- what is shown of a call: it may come to the same where the buckets are left out, and stands
-pub record IsLawfulCall (own : ℕ → Bool) (needs : Bool) (old : State) (outcome unseen : Outcome) : Type 0 where
+pub record IsLawfulCall (own : ℕ → Bool) (needs : Bool) (old : State) (outcome unseen : Outcome Reply State) : Type 0 where
   pub seen : (reply : Reply) (new : State) → outcome reply new → unseen reply (seen new)
   pub stands : (reply : Reply) (new : State) → outcome reply new → Stands own needs old reply new
 
-abbrev pub Either : Bool → Outcome → Outcome → Outcome
+abbrev pub Either : Bool → Outcome Reply State → Outcome Reply State → Outcome Reply State
 Either test one other reply new = MatchBool test (one reply new) (other reply new)
 
-abbrev pub Where : {X : Type 0} → Option X → State → (X → Outcome) → Outcome
+abbrev pub Where : {X : Type 0} → Option X → State → (X → Outcome Reply State) → Outcome Reply State
 Where o old outcome reply new = MatchOption o (gives Badarg old reply new) (λ x. outcome x reply new)
 
 world-flat : {X : Type 0} (answer : X → Reply) → ((x : X) → is_flat (answer x) ≡ true)
@@ -102,7 +102,7 @@ informs-seen s term i =
 
 -- ---- forms of calls
 module _ (own : ℕ → Bool) (needs : Bool) (old : State) where
-  abbrev pub Lawful : Outcome → Outcome → Type 0
+  abbrev pub Lawful : Outcome Reply State → Outcome Reply State → Type 0
   Lawful outcome unseen = IsLawfulCall own needs old outcome unseen
 
   same-stands : (answer : Reply) → Stands own needs old answer old
@@ -124,24 +124,24 @@ module _ (own : ℕ → Bool) (needs : Bool) (old : State) where
   tells-as answer other same =
       subst (λ (r : Reply). Lawful (gives answer old) (gives r (seen old))) (sym same) (tells-lawful answer)
 
-  pub either-lawful : (test : Bool) {one other one' other' : Outcome} → (test ≡ true → Lawful one one')
+  pub either-lawful : (test : Bool) {one other one' other' : Outcome Reply State} → (test ≡ true → Lawful one one')
       → Lawful other other' → Lawful (Either test one other) (Either test one' other')
   either-lawful true a b = a refl
   either-lawful false a b = b
 
-  where-lawful : {X : Type 0} (o : Option X) {outcome unseen : X → Outcome} → ((x : X) → Lawful (outcome x) (unseen x))
+  where-lawful : {X : Type 0} (o : Option X) {outcome unseen : X → Outcome Reply State} → ((x : X) → Lawful (outcome x) (unseen x))
       → Lawful (Where o old outcome) (Where o (seen old) unseen)
   where-lawful None lawful = tells-lawful Badarg
   where-lawful (Some x) lawful = lawful x
 
   -- the table that was found, and that without its buckets
-  found-lawful : (o : Option (ℕ × Table)) (outcome unseen : ℕ × Table → Outcome)
+  found-lawful : (o : Option (ℕ × Table)) (outcome unseen : ℕ × Table → Outcome Reply State)
       → ((found : ℕ × Table) → o ≡ Some found → Lawful (outcome found) (unseen (seen_found found)))
       → Lawful (Where o old outcome) (Where (option_map seen_found o) (seen old) unseen)
   found-lawful None outcome unseen lawful = tells-lawful Badarg
   found-lawful (Some found) outcome unseen lawful = lawful found refl
 
-  usable-lawful : (access : Access) (p : ℕ) (term : Term) (outcome unseen : ℕ × Table → Outcome)
+  usable-lawful : (access : Access) (p : ℕ) (term : Term) (outcome unseen : ℕ × Table → Outcome Reply State)
       → ((found : ℕ × Table) → usable access old.world.tables p term ≡ Some found
       → Lawful (outcome found) (unseen (seen_found found)))
       → Lawful (Where (usable access old.world.tables p term) old outcome)
@@ -152,7 +152,7 @@ module _ (own : ℕ → Bool) (needs : Bool) (old : State) where
       (found-lawful (usable access old.world.tables p term) outcome unseen lawful)
 
   -- the identifier that a term names, told to what follows
-  resolved-lawful : (term : Term) {outcome unseen : ℕ → Outcome} → ((t : ℕ) → Lawful (outcome t) (unseen t))
+  resolved-lawful : (term : Term) {outcome unseen : ℕ → Outcome Reply State} → ((t : ℕ) → Lawful (outcome t) (unseen t))
       → Lawful (Where (resolve old.world.tables term) old outcome)
       (Where (resolve (seen_tables old.world.tables) term) (seen old) unseen)
   resolved-lawful term {outcome = outcome} {unseen = unseen} lawful =
@@ -167,7 +167,7 @@ module _ (own : ℕ → Bool) (needs : Bool) (old : State) where
       usable-lawful Read p term (λ found. gives (answer found.1.fixed) old) (λ found. gives (answer found.1.fixed) (seen old)) (λ found there.
       tells-as (answer found.1.fixed) (answer (seen_fixed found.1.fixed)) (same found.1.fixed))
 
-  abbrev Leaves : State → Rule → ℕ × Table → Outcome
+  abbrev Leaves : State → Rule → ℕ × Table → Outcome Reply State
   Leaves s rule found reply new = (fixed : Fixed) × rule found.1.fixed reply fixed × (new ≡ with_table s found.0 fixed)
 
   leaves-lawful : (rule : Rule) (found : ℕ × Table) → IsLawful own needs rule
@@ -202,7 +202,7 @@ module _ (own : ℕ → Bool) (needs : Bool) (old : State) where
       leaves-lawful rule found lawful (usable-there old.world.tables access p term found there).at)
 
   -- one on processes, heads and names
-  pub asks-lawful : {X : Type 0} (answer : X → Reply) {outcome unseen : world.Outcome X}
+  pub asks-lawful : {X : Type 0} (answer : X → Reply) {outcome unseen : Outcome (Result X WorldFault) World}
       → (needs ≡ false → (x : X) → is_flat (answer x) ≡ true) → IsLawfulOutcome (Moves own old.world) X outcome unseen
       → Lawful (asks old answer outcome) (asks (seen old) answer unseen)
   asks-lawful answer flat lawful = record {
@@ -219,11 +219,11 @@ module _ (own : ℕ → Bool) (needs : Bool) (old : State) where
   still = moves-same own old.world
 
   module _ (p : ℕ) where
-    abbrev makes : State → List ℕ → NewOptions → List Bool → Outcome
+    abbrev makes : State → List ℕ → NewOptions → List Bool → Outcome Reply State
     makes s text options buckets =
         asks s Value (tables.New s.world p text options (new_table_of s.limits.objects options buckets))
 
-    abbrev Makes : State → List ℕ → NewOptions → Outcome
+    abbrev Makes : State → List ℕ → NewOptions → Outcome Reply State
     Makes s text options reply new = (buckets : List Bool) × IsFresh buckets × makes s text options buckets reply new
 
     makes-lawful : needs ≡ true → (text : List ℕ) (options : NewOptions)

@@ -6,13 +6,14 @@ use Rattle.ets_term.specs.declared.term.Term.{Term}
 use Rattle.table_ops.specs.declared.refusal.Refusal.{Refusal}
 use Rattle.table_ops.specs.declared.refusal.Refusal.TheVariants.{Badarg, SystemLimit, Memory}
 use Rattle.table_ops.specs.Refusals.{Change, Comes}
+use Rattle.table_ops.specs.Outcomes.{Outcome, gives}
 use Rattle.fixed_walk.specs.Fixed.{Fixed}
 use Rattle.ownership.specs.World.{Table, Tables, table_at, resolve}
 use Rattle.ownership.proofs.Heads.{fixed-same}
 use Rattle.node_core.specs.declared.node.access.Access.{Access}
 use Rattle.node_core.specs.declared.step.Reply.{Reply}
 use Rattle.node_core.specs.declared.step.Reply.TheVariants as told
-use Rattle.node_core.specs.State.{State, Outcome, gives}
+use Rattle.node_core.specs.State.{State}
 use Rattle.node_core.specs.Access.{may, allowed, usable, with_table, changes, Rule, replies}
 use Rattle.node_core.specs.inside.Lending.{with_usable}
 use Rattle.node_core.specs.inside.Refusals as called
@@ -41,7 +42,7 @@ module _ (old : State) (p : ℕ) (access : Access) (term : Term) (was f : Fixed)
   after o = option_map_or (λ found. with_table old found.0 f) o old
 
   -- what `changes` says of the table that is found
-  abbrev Found : Rule → Option (ℕ × Table) → Outcome
+  abbrev Found : Rule → Option (ℕ × Table) → Outcome Reply State
   Found rule o reply new = MatchOption o (gives told.Badarg old reply new) (λ found. (fixed : Fixed) × rule found.1.fixed reply fixed × (new ≡ with_table old found.0 fixed))
 
   changed_at : (rule : Rule) (reply : Reply) (o : Option (ℕ × Table)) → Some was ≡ option_map (λ found. found.1.fixed) o → rule was reply f → Found rule o reply (after o)

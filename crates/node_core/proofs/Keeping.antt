@@ -2,13 +2,14 @@
 use Rattle.std.proofs.Common.{◌≡◌, ℕ, Bool, true, false, List, refl, length}
 use Rattle.std.specs.Prelude.{Result, Ok, Err, ◌&&◌, is_some, nat_le}
 use Rattle.ets_term.specs.declared.term.Term.{Term}
+use Rattle.table_ops.specs.Outcomes.{gives, refuse}
 use Rattle.fixed_walk.specs.Fixed.{Fixed}
 use Rattle.ownership.specs.declared.fault.WorldFault.{WorldFault}
 use Rattle.ownership.specs.declared.fault.WorldFault.TheVariants.{Badarg, SystemLimit, NoProcess, Memory}
 use Rattle.ownership.specs.declared.options.NewOptions.{NewOptions}
 use Rattle.ownership.specs.World.{World, whereis}
 use Rattle.ownership.specs.Messages.{told}
-use Rattle.ownership.specs.Outcomes.{gives, refuse, Comes}
+use Rattle.ownership.specs.Outcomes.{Comes}
 use Rattle.ownership.specs.Tables.{Enrol, New, GiveAway, SetOptions, new_head, with_table, passed_to, with_heir}
 use Rattle.ownership.specs.End.{End, ended}
 use Rattle.node_core.specs.inside.Identifiers.{Identifiers}
@@ -39,7 +40,7 @@ module _ (old new : World) (p : ℕ) (name : List ℕ) (options : NewOptions) (f
   abbrev answer : Term
   answer = told options.named name (length old.tables)
 
-  refused-same : (taken full : Bool) (fault : WorldFault) → refuse old taken Badarg (refuse old full SystemLimit (gives answer made)) (Err fault) new → new ≡ old
+  refused-same : (taken full : Bool) (fault : WorldFault) → refuse old taken (Err Badarg) (refuse old full (Err SystemLimit) (gives (Ok answer) made)) (Err fault) new → new ≡ old
   refused-same true full fault h = h.1
   refused-same false true fault h = h.1
   refused-same false false fault h = let e = h.0 in cc
@@ -55,7 +56,7 @@ module _ (old new : World) (p : ℕ) (name : List ℕ) (options : NewOptions) (f
   pub new-made : (x : Term) → Comes (New old p name options fixed) old (Ok x) new → new ≡ made
   new-made x h = by (options.named && is_some (whereis old.tables name)) (nat_le old.most_tables (length old.tables)) h
     where
-      by : (taken full : Bool) → refuse old taken Badarg (refuse old full SystemLimit (gives answer made)) (Ok x) new → new ≡ made
+      by : (taken full : Bool) → refuse old taken (Err Badarg) (refuse old full (Err SystemLimit) (gives (Ok answer) made)) (Ok x) new → new ≡ made
       by true full h = let e = h.0 in cc
       by false true h = let e = h.0 in cc
       by false false h = h.1

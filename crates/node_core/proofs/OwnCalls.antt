@@ -18,6 +18,7 @@ use Rattle.bucket_table.specs.Slots.{Slot, has_objects, slots_behind}
 use Rattle.table_ops.specs.declared.kind.Kind.{Kind}
 use Rattle.table_ops.specs.Content.{IsContent, IsSlot, AreSlots}
 use Rattle.table_ops.proofs.TupleLaws.{fit-of}
+use Rattle.table_ops.specs.Outcomes.{gives}
 use Rattle.fixed_walk.specs.Fixes.{most_fixes, fix_count, with_count}
 use Rattle.fixed_walk.specs.Fixed.{Fixed, FixesOnce, released}
 use Rattle.fixed_walk.specs.declared.fault.FixFault.TheVariants as fixing
@@ -31,7 +32,7 @@ use Rattle.node_core.specs.declared.step.Reply.{Reply}
 use Rattle.node_core.specs.declared.step.Reply.TheVariants.{Badarg, SystemLimit, NoProcess}
 use Rattle.node_core.specs.declared.step.Step.TheVariants.{Ask}
 use Rattle.node_core.specs.declared.walk.WalkFault.TheVariants as fault
-use Rattle.node_core.specs.State.{State, gives}
+use Rattle.node_core.specs.State.{State}
 use Rattle.node_core.specs.Seen.{seen_table, seen}
 use Rattle.node_core.specs.Access.{allowed, usable, with_table, Rule, changes}
 use Rattle.node_core.specs.Calls.{call}

@@ -10,23 +10,24 @@ use Rattle.counters.specs.Elements.{specs_of}
 use Rattle.table_ops.specs.declared.refusal.Refusal.{Refusal}
 use Rattle.table_ops.specs.declared.refusal.Refusal.TheVariants.{Badarg, SystemLimit, Memory}
 use Rattle.table_ops.specs.Content.{Content, key_of}
-use Rattle.table_ops.specs.Refusals.{Change, Comes, gives}
+use Rattle.table_ops.specs.Refusals.{Change, Comes}
 use Rattle.table_ops.specs.Drop.{Which, of_key, each, equal_to, without_those, DeletesObject}
 use Rattle.table_ops.specs.Put.{Inserts, InsertsNew}
 use Rattle.table_ops.specs.Queries.{chosen_count, matches, is_chosen}
 use Rattle.table_ops.specs.Read.{all_objects}
 use Rattle.table_ops.specs.Update.{UpdatesCounter, UpdatesElement}
+use Rattle.table_ops.specs.Outcomes.{gives}
 use Rattle.fixed_walk.specs.declared.fault.FixFault.{FixFault}
 use Rattle.fixed_walk.specs.declared.fault.FixFault.TheVariants as fault
 use Rattle.fixed_walk.specs.Fixes.{is_fixed}
-use Rattle.fixed_walk.specs.Fixed.{Fixed, on_content}
+use Rattle.fixed_walk.specs.Fixed.{Fixed, on_content, without}
 use Rattle.fixed_walk.specs.laws.Kept.{AlwaysKeeps}
 use Rattle.fixed_walk.proofs.KeptLaws.{insert-keeps, insert_new-keeps, update_counter-keeps, update_element-keeps, delete_object-keeps}
 use Rattle.node_core.specs.declared.step.Reply.{Reply}
 use Rattle.node_core.specs.Seen.{seen_fixed}
 use Rattle.node_core.specs.Access.{Rule, IsReply, replies}
 use Rattle.node_core.specs.rules.Insertion.{objects_in, Insert, InsertNew}
-use Rattle.node_core.specs.rules.Removal.{without, Take, Delete, DeleteObject, DeleteAllObjects}
+use Rattle.node_core.specs.rules.Removal.{Take, Delete, DeleteObject, DeleteAllObjects}
 use Rattle.node_core.specs.rules.Replies.{true_reply, truth_reply}
 use Rattle.node_core.specs.rules.Searching.{Deletes, DeletesMatching, DeletesChosen, MatchDelete, SelectDelete, count_reply}
 use Rattle.node_core.specs.rules.Updates.{Counts, WritesTold, UpdateCounter, UpdateElement}

@@ -3,12 +3,13 @@
 use Rattle.std.proofs.Common.{◌≡◌, ℕ, Bool, Option, None, Some, option_map, refl, sym, subst, ap, ◌∙◌}
 use Rattle.std.specs.Prelude.{MatchOption}
 use Rattle.std.specs.Option.{option_map_or}
+use Rattle.table_ops.specs.Outcomes.{gives}
 use Rattle.fixed_walk.specs.Fixed.{Fixed}
 use Rattle.ownership.specs.World.{Table, Tables, table_at}
 use Rattle.node_core.specs.declared.step.Step.TheVariants.{Grow, Ready}
 use Rattle.node_core.specs.declared.step.Reply.{Reply}
 use Rattle.node_core.specs.declared.step.Reply.TheVariants.{Badarg}
-use Rattle.node_core.specs.State.{State, gives}
+use Rattle.node_core.specs.State.{State}
 use Rattle.node_core.specs.Seen.{seen_fixed, seen_table, seen, KeepsBuckets}
 use Rattle.node_core.specs.Access.{Rule, with_table}
 use Rattle.node_core.specs.Machine.{step}

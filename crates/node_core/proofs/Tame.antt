@@ -9,11 +9,10 @@ use Rattle.table_ops.specs.Drop.{Which}
 use Rattle.fixed_walk.specs.declared.fault.FixFault.{FixFault}
 use Rattle.fixed_walk.specs.declared.fault.FixFault.TheVariants as fault
 use Rattle.fixed_walk.specs.Fixes.{FixCounts, fix_count, is_fixed, with_count}
-use Rattle.fixed_walk.specs.Fixed.{Fixed, FixesOnce, settled, released, all_released}
+use Rattle.fixed_walk.specs.Fixed.{Fixed, FixesOnce, settled, released, all_released, without}
 use Rattle.fixed_walk.specs.laws.Kept.{KeepsKeys}
 use Rattle.fixed_walk.proofs.KeptLaws.{delete-keeps, fix-keeps, release-keeps, release_all-keeps, rows-keep}
 use Rattle.node_core.specs.Seen.{seen_fixed}
-use Rattle.node_core.specs.rules.Removal.{without}
 use Rattle.node_core.proofs.EndKeys.{StaysFree, unchanged-free, dropped-free, purged-free}
 
 -- ---- how often each process fixes a table

@@ -15,6 +15,7 @@ use Rattle.ets_term.specs.laws.Same.{same-exact}
 use Rattle.bucket_table.specs.Slots.{Slot, has_objects, slots_behind}
 use Rattle.fixed_walk.specs.Fixed.{Fixed}
 use Rattle.table_ops.proofs.TupleLaws.{elements-Tuple}
+use Rattle.table_ops.specs.Outcomes.{gives}
 use Rattle.fixed_walk.specs.Walk.{first_key, next_key, first_slot, next_slot}
 use Rattle.fixed_walk.specs.laws.Walks.{key_told}
 use Rattle.fixed_walk.proofs.FromLaws.{key_in, first-key, next-key-is}
@@ -25,7 +26,7 @@ use Rattle.node_core.specs.declared.step.Reply.{Reply}
 use Rattle.node_core.specs.declared.step.Reply.TheVariants.{Value, Badarg, SystemLimit, NoProcess}
 use Rattle.node_core.specs.declared.step.Step.{Step}
 use Rattle.node_core.specs.declared.step.Step.TheVariants.{Enrol, End, Ask, Grow, Ready}
-use Rattle.node_core.specs.State.{State, gives}
+use Rattle.node_core.specs.State.{State}
 use Rattle.node_core.specs.Access.{may, allowed, usable, reads}
 use Rattle.node_core.specs.Calls.{call}
 use Rattle.node_core.specs.Machine.{step}

@@ -4,6 +4,7 @@ use Rattle.std.proofs.Common.{◌≡◌, ℕ, suc, Bool, true, false, ◌&&◌, 
 use Rattle.std.specs.Prelude.{MatchOption, is_some}
 use Rattle.std.specs.Option.{option_map_or}
 use Rattle.ets_term.specs.declared.term.Term.{Term}
+use Rattle.table_ops.specs.Outcomes.{Outcome, gives, refuse}
 use Rattle.fixed_walk.specs.Fixed.{Fixed}
 use Rattle.ownership.specs.declared.fault.WorldFault.{WorldFault}
 use Rattle.ownership.specs.declared.fault.WorldFault.TheVariants.{Badarg, SystemLimit, NoProcess, Memory}
@@ -18,13 +19,13 @@ use Rattle.ownership.specs.Tables as tables
 use Rattle.ownership.specs.Tables.{after_enrol, new_head, with_table, passed_to, with_heir, changed}
 use Rattle.ownership.specs.End as ends
 use Rattle.ownership.specs.End.{ended, living_heir, let_go, table_after, message_of, messages_from, handed_over}
-use Rattle.ownership.specs.Outcomes.{Outcome, gives, refused, refuse, Comes}
+use Rattle.ownership.specs.Outcomes.{Comes}
 use Rattle.node_core.specs.Seen.{seen_fixed, seen_table, seen_tables}
 use Rattle.node_core.proofs.SeenTables.{seen_world, at-seen, length-seen, whereis-seen, push-seen, changed-seen}
 use Rattle.node_core.proofs.Tame.{all_released-seen}
 
 -- an answer, or a refusal, is as good without the buckets, and leaves a world of which this holds
-pub record IsLawfulOutcome (P : World → Type 0) (X : Type 0) (outcome unseen : Outcome X) : Type 0 where
+pub record IsLawfulOutcome (P : World → Type 0) (X : Type 0) (outcome unseen : Outcome (Result X WorldFault) World) : Type 0 where
   pub seen : (r : Result X WorldFault) (new : World) → outcome r new → unseen r (seen_world new)
   pub keeps : (r : Result X WorldFault) (new : World) → outcome r new → P new
 
@@ -38,39 +39,39 @@ abbrev pub heir_set : World → ℕ → Option Heir → World
 heir_set w t heir = record w { tables = changed (with_heir heir) w.tables t }
 
 module _ (P : World → Type 0) (old : World) (same : P old) where
-  abbrev Lawful : (X : Type 0) → Outcome X → Outcome X → Type 0
+  abbrev Lawful : (X : Type 0) → Outcome (Result X WorldFault) World → Outcome (Result X WorldFault) World → Type 0
   Lawful X outcome unseen = IsLawfulOutcome P X outcome unseen
 
-  refused-lawful : {X : Type 0} (fault : WorldFault) → Lawful X (refused fault old) (refused fault (seen_world old))
+  refused-lawful : {X : Type 0} (fault : WorldFault) → Lawful X (gives (Err fault) old) (gives (Err fault) (seen_world old))
   refused-lawful fault =
       record { seen = λ r new h. (h.0, ap seen_world h.1); keeps = λ r new h. subst P (sym h.1) same }
 
   gives-lawful : {X : Type 0} (answer : X) (after unseen : World) → seen_world after ≡ unseen → P after
-      → Lawful X (gives answer after) (gives answer unseen)
+      → Lawful X (gives (Ok answer) after) (gives (Ok answer) unseen)
   gives-lawful answer after unseen e keeps =
       record { seen = λ r new h. (h.0, ap seen_world h.1 ∙ e); keeps = λ r new h. subst P (sym h.1) keeps }
 
-  refuse-lawful : {X : Type 0} (test : Bool) (fault : WorldFault) {otherwise unseen : Outcome X}
+  refuse-lawful : {X : Type 0} (test : Bool) (fault : WorldFault) {otherwise unseen : Outcome (Result X WorldFault) World}
       → (test ≡ false → Lawful X otherwise unseen)
-      → Lawful X (refuse old test fault otherwise) (refuse (seen_world old) test fault unseen)
+      → Lawful X (refuse old test (Err fault) otherwise) (refuse (seen_world old) test (Err fault) unseen)
   refuse-lawful true fault lawful = refused-lawful fault
   refuse-lawful false fault lawful = lawful refl
 
-  abbrev Where : {X Y : Type 0} → World → Option Y → (Y → Outcome X) → Outcome X
-  Where w o outcome r new = MatchOption o (refused Badarg w r new) (λ y. outcome y r new)
+  abbrev Where : {X Y : Type 0} → World → Option Y → (Y → Outcome (Result X WorldFault) World) → Outcome (Result X WorldFault) World
+  Where w o outcome r new = MatchOption o (gives (Err Badarg) w r new) (λ y. outcome y r new)
 
-  where-lawful : {X Y : Type 0} (o : Option Y) {outcome unseen : Y → Outcome X}
+  where-lawful : {X Y : Type 0} (o : Option Y) {outcome unseen : Y → Outcome (Result X WorldFault) World}
       → ((y : Y) → Lawful X (outcome y) (unseen y)) → Lawful X (Where old o outcome) (Where (seen_world old) o unseen)
   where-lawful None lawful = refused-lawful Badarg
   where-lawful (Some y) lawful = lawful y
 
-  table-lawful : {X : Type 0} (o : Option Table) (outcome unseen : Table → Outcome X)
+  table-lawful : {X : Type 0} (o : Option Table) (outcome unseen : Table → Outcome (Result X WorldFault) World)
       → ((table : Table) → Lawful X (outcome table) (unseen (seen_table table)))
       → Lawful X (Where old o outcome) (Where (seen_world old) (option_map seen_table o) unseen)
   table-lawful None outcome unseen lawful = refused-lawful Badarg
   table-lawful (Some table) outcome unseen lawful = lawful table
 
-  place-lawful : {X : Type 0} (t : ℕ) (outcome unseen : Table → Outcome X)
+  place-lawful : {X : Type 0} (t : ℕ) (outcome unseen : Table → Outcome (Result X WorldFault) World)
       → ((table : Table) → Lawful X (outcome table) (unseen (seen_table table)))
       → Lawful X (Where old (table_at old.tables t) outcome) (Where (seen_world old) (table_at (seen_tables old.tables) t) unseen)
   place-lawful {X = X} t outcome unseen lawful =
@@ -86,11 +87,11 @@ module _ (P : World → Type 0) (old : World) (same : P old) where
 
   -- ---- tables are made
   module _ (p : ℕ) (name : List ℕ) (options : NewOptions) where
-    abbrev Makes : World → Option ℕ → ℕ → Fixed → Outcome Term
+    abbrev Makes : World → Option ℕ → ℕ → Fixed → Outcome (Result Term WorldFault) World
     Makes w found count fixed =
-        refuse w (options.named && is_some found) Badarg (
-        refuse w (nat_le w.most_tables count) SystemLimit (
-        gives (told options.named name count) (with_table w (new_head p name options) fixed)))
+        refuse w (options.named && is_some found) (Err Badarg) (
+        refuse w (nat_le w.most_tables count) (Err SystemLimit) (
+        gives (Ok (told options.named name count)) (with_table w (new_head p name options) fixed)))
 
     made : (fixed : Fixed)
         → ((options.named && is_some (whereis old.tables name)) ≡ false → P (with_table old (new_head p name options) fixed))
@@ -111,12 +112,12 @@ module _ (P : World → Type 0) (old : World) (same : P old) where
   -- ---- tables change hands
   module _ (p t : ℕ) where
     module _ (q : ℕ) (gift : Term) where
-      abbrev Gives : World → Head → Outcome (Unit {0})
+      abbrev Gives : World → Head → Outcome (Result (Unit {0}) WorldFault) World
       Gives w head =
-          refuse w (not (owned_by head p)) Badarg (
-          refuse w (q == p) Badarg (
-          refuse w (not (lives w.processes q)) Badarg (
-          gives tt (given w p t q gift head))))
+          refuse w (not (owned_by head p)) (Err Badarg) (
+          refuse w (q == p) (Err Badarg) (
+          refuse w (not (lives w.processes q)) (Err Badarg) (
+          gives (Ok tt) (given w p t q gift head))))
 
       gives-to : (head : Head) → P (given old p t q gift head)
           → Lawful (Unit {0}) (Gives old head) (Gives (seen_world old) head)
@@ -133,10 +134,10 @@ module _ (P : World → Type 0) (old : World) (same : P old) where
           place-lawful t (λ table. Gives old table.head) (λ table. Gives (seen_world old) table.head) (λ table. gives-to table.head (after table.head))
 
     module _ (options : Term) (after : (heir : Option Heir) → P (heir_set old t heir)) where
-      abbrev Sets : World → Head → Outcome (Unit {0})
+      abbrev Sets : World → Head → Outcome (Result (Unit {0}) WorldFault) World
       Sets w head =
-          refuse w (not (owned_by head p)) Badarg (
-          Where w (heir_after head.heir options) (λ heir. gives tt (heir_set w t heir)))
+          refuse w (not (owned_by head p)) (Err Badarg) (
+          Where w (heir_after head.heir options) (λ heir. gives (Ok tt) (heir_set w t heir)))
 
       sets : (head : Head) → Lawful (Unit {0}) (Sets old head) (Sets (seen_world old) head)
       sets head =
@@ -150,7 +151,7 @@ module _ (P : World → Type 0) (old : World) (same : P old) where
           place-lawful t (λ table. Sets old table.head) (λ table. Sets (seen_world old) table.head) (λ table. sets table.head)
 
   -- want of memory changes nothing
-  pub comes-keep : {X : Type 0} {unseen : Outcome X} (outcome : Outcome X) → Lawful X outcome unseen
+  pub comes-keep : {X : Type 0} {unseen : Outcome (Result X WorldFault) World} (outcome : Outcome (Result X WorldFault) World) → Lawful X outcome unseen
       → (r : Result X WorldFault) (new : World) → Comes outcome old r new → P new
   comes-keep outcome lawful (Ok x) new h = lawful.keeps (Ok x) new h
   comes-keep outcome lawful (Err Badarg) new h = lawful.keeps (Err Badarg) new h

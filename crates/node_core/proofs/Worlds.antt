@@ -4,16 +4,17 @@ use Rattle.std.specs.Prelude.{List, Bool, Result, Ok, Err, IfOk, OnErr}
 use Rattle.std.specs.declared.alloc.AllocError.{AllocError}
 use Rattle.table_ops.specs.declared.refusal.Refusal.{Refusal}
 use Rattle.table_ops.specs.declared.refusal.Refusal.TheVariants as refusal
+use Rattle.table_ops.specs.Outcomes.{Outcome}
 use Rattle.ownership.specs.World.{World}
 use Rattle.ownership.specs.Outcomes as world
 use Rattle.ownership.specs.declared.fault.WorldFault.{WorldFault}
 use Rattle.ownership.specs.declared.fault.WorldFault.TheVariants.{Badarg, SystemLimit, NoProcess, Memory}
 use Rattle.node_core.specs.declared.step.Reply.{Reply}
-use Rattle.node_core.specs.State.{State, Outcome}
+use Rattle.node_core.specs.State.{State}
 use Rattle.node_core.specs.Access.{asks}
 use Rattle.node_core.specs.inside.Refusals as called
 
-module _ {X : Type 0} (old : State) (answer : X → Reply) (outcome : world.Outcome X) (w : World) where
+module _ {X : Type 0} (old : State) (answer : X → Reply) (outcome : Outcome (Result X WorldFault) World) (w : World) where
   pub asked-ok : (x : X) → world.Comes outcome old.world (Ok x) w → asks old answer outcome (answer x) (record old { world = w })
   asked-ok x h = (Ok x, h, refl, refl)
 
@@ -24,14 +25,14 @@ module _ {X : Type 0} (old : State) (answer : X → Reply) (outcome : world.Outc
   asked-err Memory h = ap (λ v. record old { world = v }) h
 
 -- what is told of a calling method that answers, or of its refusal
-pub told-ok : (outcome : Outcome) (old new : State) (r : Result Reply Refusal) (told : Result Reply AllocError) → called.Comes outcome old r new → called.Told r told → IfOk told (λ reply. outcome reply new)
+pub told-ok : (outcome : Outcome Reply State) (old new : State) (r : Result Reply Refusal) (told : Result Reply AllocError) → called.Comes outcome old r new → called.Told r told → IfOk told (λ reply. outcome reply new)
 told-ok outcome old new (Ok reply) (Ok answer) c e = subst (λ a. outcome a new) (sym e) c
 told-ok outcome old new (Err refusal.Badarg) (Ok answer) c e = subst (λ a. outcome a new) (sym e) c
 told-ok outcome old new (Err refusal.SystemLimit) (Ok answer) c e = subst (λ a. outcome a new) (sym e) c
 told-ok outcome old new (Err refusal.Memory) (Ok answer) c e = absurd e
 told-ok outcome old new r (Err error) c e = tt
 
-pub told-err : (outcome : Outcome) (old new : State) (r : Result Reply Refusal) (told : Result Reply AllocError) → called.Comes outcome old r new → called.Told r told → OnErr told (new ≡ old)
+pub told-err : (outcome : Outcome Reply State) (old new : State) (r : Result Reply Refusal) (told : Result Reply AllocError) → called.Comes outcome old r new → called.Told r told → OnErr told (new ≡ old)
 told-err outcome old new r (Ok answer) c e = tt
 told-err outcome old new (Err refusal.Memory) (Err error) c e = c
 told-err outcome old new (Ok reply) (Err error) c e = absurd e
@@ -39,7 +40,7 @@ told-err outcome old new (Err refusal.Badarg) (Err error) c e = absurd e
 told-err outcome old new (Err refusal.SystemLimit) (Err error) c e = absurd e
 
 -- an outcome for these buckets is one for some
-pub some-buckets : (outcome : List Bool → Outcome) (buckets : List Bool) (old new : State) (r : Result Reply Refusal) → called.Comes (outcome buckets) old r new → called.Comes (λ reply new. (some : List Bool) × outcome some reply new) old r new
+pub some-buckets : (outcome : List Bool → Outcome Reply State) (buckets : List Bool) (old new : State) (r : Result Reply Refusal) → called.Comes (outcome buckets) old r new → called.Comes (λ reply new. (some : List Bool) × outcome some reply new) old r new
 some-buckets outcome buckets old new (Ok reply) h = (buckets, h)
 some-buckets outcome buckets old new (Err refusal.Badarg) h = (buckets, h)
 some-buckets outcome buckets old new (Err refusal.SystemLimit) h = (buckets, h)

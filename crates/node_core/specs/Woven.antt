@@ -1,5 +1,5 @@
--- A walk among the steps of others (stdlib manual, module ets, safe_fixtable/2, first/1 and next/2): its steps in their order, and
--- where it leaves the machine.
+-- A walk among the steps of others (stdlib manual, module ets, safe_fixtable/2, first/1 and next/2): its steps in their
+-- order, and where it leaves the machine.
 use Rattle.std.specs.Prelude.{◌≡◌, ◌≤◌, ◌<◌, ◌⊎◌, ℕ, suc, ◌==◌, ◌&&◌, Bool, true, false, if◌then◌else◌, List, [], ◌∷◌, ◌++◌, map, filter, length, None, Result, Ok, Err, MatchOption, codes}
 use Rattle.std.specs.Bool.{MatchBool}
 use Rattle.std.specs.List.{AllByRecursion, Contains}
@@ -35,7 +35,8 @@ is_step_of p (Ready t bucket) = false
 
 -- the replies to the steps of this process, in their order
 abbrev pub replies_to : ℕ → List Step → List Reply → List Reply
-replies_to p (s ∷ steps) (r ∷ replies) = if is_step_of p s then r ∷ replies_to p steps replies else replies_to p steps replies
+replies_to p (s ∷ steps) (r ∷ replies) =
+    if is_step_of p s then r ∷ replies_to p steps replies else replies_to p steps replies
 replies_to p _ _ = []
 
 -- steps handed in, each with its turn, which is the place of a key
@@ -51,10 +52,13 @@ steps_at turn given = map (λ g. g.1) (filter (λ g. g.0 == turn) given)
 
 -- a key is told to the others: it goes last, and steps of its turn go last of those handed in
 abbrev pub Adds : List Term → Given → Term → List Term → Given → Type 0
-Adds keys given key new_keys new_given = (new_keys ≡ keys ++ key ∷ []) × ((steps : List Step) × (new_given ≡ given ++ map (λ s. (length keys, s)) steps))
+Adds keys given key new_keys new_given =
+    (new_keys ≡ keys ++ key ∷ [])
+    × ((steps : List Step) × (new_given ≡ given ++ map (λ s. (length keys, s)) steps))
 
--- What the others are told of a process's walk that stopped. The replies to its steps are true, to its fix, then these keys in their
--- order, and then at most one key that they are not told. Where not even the fix is done they are told nothing, and hand nothing in.
+-- What the others are told of a process's walk that stopped. The replies to its steps are true, to its fix, then these
+-- keys in their order, and then at most one key that they are not told. Where not even the fix is done they are told
+-- nothing, and hand nothing in.
 abbrev pub Tells : ℕ → (keys : List Term) (given : Given) (done : List Step) (replies : List Reply) → Type 0
 Tells p keys given [] replies = (keys ≡ []) × (given ≡ [])
 Tells p keys given (s ∷ done) replies =
@@ -96,8 +100,9 @@ module _ (p t : ℕ) where
   abbrev pub fixes_in : State → ℕ
   fixes_in s = option_map_or (λ table. fix_count table.fixed.fixes p) (table_at s.world.tables t) 0
 
-  -- A walk that came to its end: the steps woven, and then the release, are done. The walker's calls answer these keys and then the
-  -- end, the table stays fixed from the first of them to the last, and no step handed in is the walker's or without a turn.
+  -- A walk that came to its end: the steps woven, and then the release, are done. The walker's calls answer these keys
+  -- and then the end, the table stays fixed from the first of them to the last, and no step handed in is the walker's
+  -- or without a turn.
   pub record IsWalked (old : State) (limit : ℕ) (keys : List Term) (given : Given) (new : State) : Type 0 where
     pub fixed : State
     pub last : State
@@ -113,25 +118,34 @@ module _ (p t : ℕ) where
     pub fixes : fixes_in new ≡ fixes_in old
 
   -- why a walk stops, of the steps woven having done these, with these replies, and left those
-  abbrev pub Reason : WalkFault → (old : State) (limit : ℕ) (keys : List Term) (given : Given) (done left : List Step) (replies : List Reply) (last : State) → Type 0
+  abbrev pub Reason : WalkFault → (old : State) (limit : ℕ) (keys : List Term) (given : Given) (done left : List Step)
+      (replies : List Reply) (last : State) → Type 0
   Reason fault.Lost old limit keys given done left replies last = can_read last ≡ false
   Reason fault.OwnStep old limit keys given done left replies last =
-      (turn : ℕ) × (s : Step) × (further : List Step) × (left ≡ s ∷ further) × Contains given (turn, s) × (is_step_of p s ≡ true)
+      (turn : ℕ) × (s : Step) × (further : List Step) × (left ≡ s ∷ further) × Contains given (turn, s)
+      × (is_step_of p s ≡ true)
   Reason fault.LimitReached old limit keys given done left replies last =
-      (left ≡ []) × (length keys ≡ limit) × ((before : List Reply) × (key : Term) × (replies ≡ before ++ Value key ∷ []) × (is_atom (codes "$end_of_table") key ≡ false))
+      (left ≡ []) × (length keys ≡ limit)
+      × ((before : List Reply) × (key : Term) × (replies ≡ before ++ Value key ∷ [])
+      × (is_atom (codes "$end_of_table") key ≡ false))
   Reason fault.Memory old limit keys given [] left replies last = (can_read old ≡ true) × (fixes_in old < most_fixes)
   Reason fault.Memory old limit keys given (s ∷ done) left replies last = Unit {0}
-  Reason fault.SystemLimit old limit keys given done left replies last = (done ≡ []) × (can_read old ≡ true) × (fixes_in old ≡ most_fixes)
+  Reason fault.SystemLimit old limit keys given done left replies last =
+      (done ≡ []) × (can_read old ≡ true) × (fixes_in old ≡ most_fixes)
 
-  -- after the steps done comes the release, where they begin with the fix and the table may still be read; the walker then has as many
-  -- fixes as before
+  -- after the steps done comes the release, where they begin with the fix and the table may still be read; the walker
+  -- then has as many fixes as before
   abbrev pub Leaves : (old : State) (done : List Step) (last new : State) → Type 0
   Leaves old [] last new = new ≡ last
-  Leaves old (s ∷ done) last new = MatchBool (can_read last) (step last release true_reply new × (fixes_in new ≡ fixes_in old)) (new ≡ last)
+  Leaves old (s ∷ done) last new =
+      MatchBool (can_read last)
+      (step last release true_reply new × (fixes_in new ≡ fixes_in old))
+      (new ≡ last)
 
-  -- A walk that stopped: of the steps woven the first are done and these are left, and the walker's among those done are its calls
-  -- of the walk alone.
-  pub record Stops (old : State) (limit : ℕ) (keys : List Term) (given : Given) (why : WalkFault) (left : List Step) (new : State) : Type 0 where
+  -- A walk that stopped: of the steps woven the first are done and these are left, and the walker's among those done
+  -- are its calls of the walk alone.
+  pub record Stops (old : State) (limit : ℕ) (keys : List Term) (given : Given) (why : WalkFault) (left : List Step)
+      (new : State) : Type 0 where
     pub done : List Step
     pub own_left : List Step
     pub replies : List Reply
@@ -144,8 +158,8 @@ module _ (p t : ℕ) where
     pub reason : Reason why old limit keys given done left replies last
     pub after : Leaves old done last new
 
-  -- What a walk does to the buckets, which no call sees: of the steps woven all but those left are done, and then the release or
-  -- nothing, and no step besides.
+  -- What a walk does to the buckets, which no call sees: of the steps woven all but those left are done, and then the
+  -- release or nothing, and no step besides.
   pub record RunsWoven (old : State) (keys : List Term) (given : Given) (left : List Step) (new : State) : Type 0 where
     pub done : List Step
     pub after : List Step
@@ -157,7 +171,9 @@ module _ (p t : ℕ) where
 -- what a walk over the table that a term names comes to, where the others then have these keys and these steps
 abbrev pub WalksAmong : State → ℕ → Term → ℕ → List Term → Given → Result Walk WalkFault → State → Type 0
 WalksAmong old p term limit keys given (Ok walk) new =
-    (walk.keys ≡ keys) × MatchOption (resolve old.world.tables term) ⊥ (λ t. IsWalked p t (seen old) limit keys given (seen new) × RunsWoven p t old keys given [] new)
+    (walk.keys ≡ keys) × MatchOption (resolve old.world.tables term) ⊥ (λ t.
+    IsWalked p t (seen old) limit keys given (seen new) × RunsWoven p t old keys given [] new)
 WalksAmong old p term limit keys given (Err why) new =
     MatchOption (resolve old.world.tables term) ((why ≡ fault.Lost) × (new ≡ old) × (keys ≡ []) × (given ≡ [])) (λ t.
-    (left : List Step) × Stops p t (seen old) limit keys given why left (seen new) × RunsWoven p t old keys given left new)
+    (left : List Step) × Stops p t (seen old) limit keys given why left (seen new)
+    × RunsWoven p t old keys given left new)

@@ -17,8 +17,8 @@ pub fn steps_keep_keys()
     ensures { StepsKeepKeys }
 {}
 
-/// In each run, each walk by `first` and `next` over a table that stays fixed, whoever fixes it, gives no key twice, and
-/// each key that has objects in every state of it: whatever other processes and this one do between its calls, and
+/// In each run, each walk by `first` and `next` over a table that stays fixed, whoever fixes it, gives no key twice,
+/// and each key that has objects in every state of it: whatever other processes and this one do between its calls, and
 /// however the table grows.
 pub fn walks_are_whole()
     ensures { WalksAreWhole }

@@ -12,8 +12,8 @@ use crate::step::Step;
 use ets_term::{Items, KeyHash, Term};
 use std::alloc::AllocError;
 
-/// What others do while a walk goes on. It keeps the keys that it was told, and the steps that it handed in. A walk begins
-/// with none of either.
+/// What others do while a walk goes on. It keeps the keys that it was told, and the steps that it handed in. A walk
+/// begins with none of either.
 pub trait Others {
     /// The keys told so far.
     ghost keys: { Self → List term.Term };
@@ -29,8 +29,8 @@ pub trait Others {
     fn given(&self) -> &[(usize, Step)]
         ensures { result.now ≡ steps self.now };
 
-    /// The walk has come to this key. It goes last among the keys; then steps may be handed in, last among the steps and
-    /// with its place as their turn. They are done before the walk goes on. Want of memory changes nothing.
+    /// The walk has come to this key. It goes last among the keys; then steps may be handed in, last among the steps
+    /// and with its place as their turn. They are done before the walk goes on. Want of memory changes nothing.
     fn between(&mut self, last: &Term) -> Result<(), AllocError>
         ensures ok { OnOk result (Adds (keys self.old) (steps self.old) last.now (keys self.new) (steps self.new)) }
         ensures err_keys { OnErr result (keys self.new ≡ keys self.old) }
@@ -44,15 +44,15 @@ pub struct Walk {
     pub keys: Items<Term>,
 }
 
-/// Why a walk stopped. The steps done till then stay done, and no more are. Where the process may still read the table, its
-/// fix is released, so that it has as many fixes of the table as before.
+/// Why a walk stopped. The steps done till then stay done, and no more are. Where the process may still read the table,
+/// its fix is released, so that it has as many fixes of the table as before.
 #[derive(Debug, Drop, PartialEq, Eq)]
 pub enum WalkFault {
-    /// The process does not live, there is no such table, or the process may not read it: at the start, or since a step of
-    /// others. A table that is made anew under the name is another table.
+    /// The process does not live, there is no such table, or the process may not read it: at the start, or since a step
+    /// of others. A table that is made anew under the name is another table.
     Lost,
-    /// A step of the walking process itself was handed in: that it enrols, ends or asks a call. Those before it are done, it
-    /// and those behind it are not.
+    /// A step of the walking process itself was handed in: that it enrols, ends or asks a call. Those before it are
+    /// done, it and those behind it are not.
     OwnStep,
     /// The walk came to one key more than the limit. The others are not told it.
     LimitReached,
@@ -62,13 +62,14 @@ pub enum WalkFault {
     SystemLimit,
 }
 
-/// Walks over a table for a process, which fixes it meanwhile (stdlib manual, ets:safe_fixtable/2): `first`, and then after
-/// each key the steps that the others hand in, in their order, and `next` of the key. `table`, an identifier or a name, is
-/// looked up once, at the start. `limit` may be any number; within 0 an empty table is walked.
+/// Walks over a table for a process, which fixes it meanwhile (stdlib manual, ets:safe_fixtable/2): `first`, and then
+/// after each key the steps that the others hand in, in their order, and `next` of the key. `table`, an identifier or a
+/// name, is looked up once, at the start. `limit` may be any number; within 0 an empty table is walked.
 ///
-/// Ok says that the walk came to the end: no key comes twice, each that has objects all the while comes, each step handed
-/// in is done, and the fix is released, which takes no memory. `WalkFault` says when a walk is refused or stops. The others
-/// are told the keys that the walk came to, in order, and no other; and no bucket changes but by the steps handed in.
+/// Ok says that the walk came to the end: no key comes twice, each that has objects all the while comes, each step
+/// handed in is done, and the fix is released, which takes no memory. `WalkFault` says when a walk is refused or stops.
+/// The others are told the keys that the walk came to, in order, and no other; and no bucket changes but by the steps
+/// handed in.
 pub fn walk_among<H: KeyHash + Copy + Drop, O: Others>(
     node: &mut Node<H>,
     pid: u32,
@@ -126,10 +127,12 @@ fn turn<H: KeyHash + Copy + Drop, O: Others>(
     others: &mut O,
 ) -> Result<Option<Term>, WalkFault>
     requires keys { O.keys others.old ≡ keys.old.items }
-    requires stands { (old : State) × Stands pid id old (O.keys others.old) (O.steps others.old) (Some key) (seen node.old) }
+    requires stands { (old : State)
+        × Stands pid id old (O.keys others.old) (O.steps others.old) (Some key) (seen node.old) }
     ensures keys { OnOk result (keys.new.items ≡ O.keys others.new) }
     ensures count { OnOk result (vec_len keys.new ≡ vec_len keys.old + 1) }
-    ensures turn { TurnsTo pid id (O.keys others.old) (O.steps others.old) key node.old (O.keys others.new) (O.steps others.new) result node.new }
+    ensures turn { TurnsTo pid id (O.keys others.old) (O.steps others.old) key node.old (O.keys others.new)
+        (O.steps others.new) result node.new }
 {
     if keys.reserve(1).is_err() {
         return Err(WalkFault::Memory);

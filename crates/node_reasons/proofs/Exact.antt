@@ -1,6 +1,6 @@
 -- Reasons are exact: each reply of the machine to a step is what its reason says, and the reason that is left is that one.
 use Rattle.std.proofs.Common.{◌≡◌, ℕ, inl, inr, Bool, true, false, cond, not, List, [], ◌∷◌, Option, None, Some, refl, sym, subst, ap, ◌∙◌, codes}
-use Rattle.std.specs.Prelude.{◌+◌, ◌||◌, if◌then◌else◌, is_some, position, nat_le, length}
+use Rattle.std.specs.Prelude.{◌+◌, ◌||◌, if◌then◌else◌, is_some, position, nat_le, length, Ok, Err}
 use Rattle.std.specs.List.{list_any, position_from}
 use Rattle.std.specs.Option.{option_map_or}
 use Rattle.std.specs.Str.{bytes_eq}
@@ -8,10 +8,10 @@ use Rattle.std.proofs.lemmas.Iterator.Adapters.{position_from-zero}
 use Rattle.ets_term.specs.declared.term.Term.{Term}
 use Rattle.ets_term.specs.declared.term.Term.TheVariants.{Pid}
 use Rattle.ets_term.specs.Depth.{is_too_deep}
+use Rattle.table_ops.specs.Outcomes.{gives, refuse}
 use Rattle.ownership.specs.declared.fault.WorldFault.TheVariants as fault
 use Rattle.ownership.specs.World.{Table, World, lives, process_at, table_at}
 use Rattle.ownership.specs.End as ends
-use Rattle.ownership.specs.Outcomes as world
 use Rattle.ownership.specs.Tables as tables
 use Rattle.ownership.specs.Tables.{after_enrol}
 use Rattle.node_core.specs.declared.step.Call.{Call}
@@ -23,7 +23,7 @@ use Rattle.node_core.specs.Access.{IsWorldReply}
 use Rattle.node_core.specs.Calls.{call}
 use Rattle.node_core.specs.Machine.{step}
 use Rattle.node_core.specs.Seen.{seen}
-use Rattle.node_core.specs.State.{State, gives}
+use Rattle.node_core.specs.State.{State}
 use Rattle.node_core.specs.rules.Growth.{ok_reply}
 use Rattle.node_core.specs.rules.Replies.{true_reply, is_value}
 use Rattle.node_reasons.specs.declared.reason.Rule.{Rule}
@@ -113,10 +113,10 @@ module _ (old : State) where
   enrol-told p =
       asks-told old (if is_some (process_at old.world.processes p) then Some (whole rule.IsKnown) else None) (λ _. Value (Pid p)) (tables.Enrol old.world p)
       (where-told old None (Some (whole rule.IsKnown)) (λ _. Value (Pid p)) (is_some (process_at old.world.processes p))
-      (world.refuse old.world (nat_le old.world.most_processes (length old.world.processes)) fault.SystemLimit (world.gives (tt {0}) (after_enrol old.world p))) (λ reply e. (e, refl))
+      (refuse old.world (nat_le old.world.most_processes (length old.world.processes)) (Err fault.SystemLimit) (gives (Ok (tt {0})) (after_enrol old.world p))) (λ reply e. (e, refl))
       (within-told old (λ _. Value (Pid p)) (nat_le old.world.most_processes (length old.world.processes)) (tt {0}) (after_enrol old.world p) refl))
 
-  ended : (after : World) (result : _) (reply : Reply) (new : World) (b : Bool) → world.refuse old.world (not b) fault.NoProcess (world.gives (tt {0}) after) result new → IsWorldReply (λ _. true_reply) result reply
+  ended : (after : World) (result : _) (reply : Reply) (new : World) (b : Bool) → refuse old.world (not b) (Err fault.NoProcess) (gives (Ok (tt {0})) after) result new → IsWorldReply (λ _. true_reply) result reply
       → Right (if b then None else Some (whole rule.NoProcess)) (whole rule.NoProcess) (whole rule.NoProcess) reply
   ended after result reply new true h e =
       let r : reply ≡ true_reply = subst (λ r. IsWorldReply (λ _. true_reply) r reply) h.0 e in

@@ -7,7 +7,7 @@ use Rattle.ets_term.specs.declared.term.Term.{Term, out-Term}
 use Rattle.ets_term.specs.declared.term.Term.TheOpen.{Term-F}
 use Rattle.ets_term.specs.Atoms.{is_atom}
 use Rattle.ets_term.specs.Depth.{elements}
-use Rattle.counters.specs.Positions.{integer_of, position_of}
+use Rattle.counters.specs.Positions.{integer_of, open_position}
 use Rattle.counters.specs.declared.ops.Ops.TheVariants as updates
 use Rattle.counters.specs.declared.elements.ElementSpecs.TheVariants as values
 use Rattle.counters.specs.Ops.{bound_of, op_from, op_of_parts, op_of, all_ops}
@@ -110,8 +110,8 @@ module _ (keypos : ℕ) where
   both-some f None b = refl
   both-some f (Some x) b = map-some (f x) b
 
-  pub op-from-some : (position increment : Term) (bound : Option _) → is_some (op_from keypos position increment bound) ≡ (is_some (position_of keypos position) && is_some (integer_of increment))
-  op-from-some position increment bound = both-some _ (position_of keypos position) (integer_of increment)
+  pub op-from-some : (position increment : Term) (bound : Option _) → is_some (op_from keypos position increment bound) ≡ (is_some (open_position keypos position) && is_some (integer_of increment))
+  op-from-some position increment bound = both-some _ (open_position keypos position) (integer_of increment)
 
   bounded : {X Y : Type 0} (o : Option X) (f : X → Option Y) (b : Bool) → ((x : X) → is_some (f x) ≡ b) → is_some (option_and_then f o) ≡ (is_some o && b)
   bounded None f b e = refl
@@ -129,11 +129,11 @@ module _ (keypos : ℕ) where
   swapped false i false s = refl
 
   pub op-four-some : (position increment threshold value : Term)
-      → is_some (op_of_parts keypos (position ∷ increment ∷ threshold ∷ value ∷ [])) ≡ (is_some (position_of keypos position) && (is_some (integer_of increment) && (is_some (integer_of threshold) && is_some (integer_of value))))
+      → is_some (op_of_parts keypos (position ∷ increment ∷ threshold ∷ value ∷ [])) ≡ (is_some (open_position keypos position) && (is_some (integer_of increment) && (is_some (integer_of threshold) && is_some (integer_of value))))
   op-four-some position increment threshold value =
-      bounded (bound_of threshold value) (λ b. op_from keypos position increment (Some b)) (is_some (position_of keypos position) && is_some (integer_of increment)) (λ b. op-from-some position increment (Some b))
-      ∙ ap (λ c. c && (is_some (position_of keypos position) && is_some (integer_of increment))) (both-some _ (integer_of threshold) (integer_of value))
-      ∙ swapped (is_some (position_of keypos position)) (is_some (integer_of increment)) (is_some (integer_of threshold)) (is_some (integer_of value))
+      bounded (bound_of threshold value) (λ b. op_from keypos position increment (Some b)) (is_some (open_position keypos position) && is_some (integer_of increment)) (λ b. op-from-some position increment (Some b))
+      ∙ ap (λ c. c && (is_some (open_position keypos position) && is_some (integer_of increment))) (both-some _ (integer_of threshold) (integer_of value))
+      ∙ swapped (is_some (open_position keypos position)) (is_some (integer_of increment)) (is_some (integer_of threshold)) (is_some (integer_of value))
 
   pub one-op : (parts : List Term) → is_some (option_map updates.One (op_of_parts keypos parts)) ≡ is_some (op_of_parts keypos parts)
   one-op parts = map-some updates.One (op_of_parts keypos parts)
@@ -147,7 +147,7 @@ module _ (keypos : ℕ) where
   pub many-specs : (terms : List Term) → is_some (option_map values.Many (all_specs keypos terms)) ≡ list_all (λ term. is_some (spec_of_parts keypos (elements term))) terms
   many-specs terms = map-some values.Many (all_specs keypos terms) ∙ specs-some terms
 
-  pub op-two-some : (position increment : Term) → is_some (op_of_parts keypos (position ∷ increment ∷ [])) ≡ (is_some (position_of keypos position) && is_some (integer_of increment))
+  pub op-two-some : (position increment : Term) → is_some (op_of_parts keypos (position ∷ increment ∷ [])) ≡ (is_some (open_position keypos position) && is_some (integer_of increment))
   op-two-some position increment = op-from-some position increment None
 
 pub ruleset update_forms = (one-op, many-ops, one-spec, many-specs, op-two-some, op-four-some)

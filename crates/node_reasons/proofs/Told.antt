@@ -7,6 +7,7 @@ use Rattle.ets_term.specs.declared.term.Term.{Term}
 use Rattle.table_ops.specs.declared.refusal.Refusal.{Refusal}
 use Rattle.table_ops.specs.declared.refusal.Refusal.TheVariants as refusal
 use Rattle.table_ops.specs.Content.{Content}
+use Rattle.table_ops.specs.Outcomes.{Outcome, gives}
 use Rattle.fixed_walk.specs.Fixed.{Fixed}
 use Rattle.ownership.specs.declared.fault.WorldFault.{WorldFault}
 use Rattle.ownership.specs.declared.fault.WorldFault.TheVariants as fault
@@ -15,7 +16,7 @@ use Rattle.node_core.specs.declared.node.access.Access.{Access}
 use Rattle.node_core.specs.declared.node.access.Access.TheVariants.{Read, Write}
 use Rattle.node_core.specs.declared.step.Reply.{Reply}
 use Rattle.node_core.specs.declared.step.Reply.TheVariants.{Badarg, SystemLimit}
-use Rattle.node_core.specs.State.{State, Outcome, gives}
+use Rattle.node_core.specs.State.{State}
 use Rattle.node_core.specs.Access.{may, allowed, usable, with_table, Rule, IsReply, IsWorldReply, reads, changes}
 use Rattle.node_core.specs.Calls.{called}
 use Rattle.node_core.specs.rules.Replies.{truth_reply, is_value}
@@ -29,31 +30,31 @@ Foretells None reply = (is_value reply ≡ true) ⊎ (reply ≡ SystemLimit)
 Foretells (Some reason) reply = (reply ≡ Badarg) × (refusal_of reason.rule ≡ Badarg)
 
 -- that is so of each reply of the outcome
-abbrev pub Told : Option Reason → Outcome → Type 0
+abbrev pub Told : Option Reason → Outcome Reply State → Type 0
 Told v outcome = (reply : Reply) (new : State) → outcome reply new → Foretells v reply
 
-abbrev pub Either : Bool → Outcome → Outcome → Outcome
+abbrev pub Either : Bool → Outcome Reply State → Outcome Reply State → Outcome Reply State
 Either test own otherwise reply new = MatchBool test (own reply new) (otherwise reply new)
 
-pub either-told : (test : Bool) (v w : Option Reason) (own otherwise : Outcome) → Told v own → Told w otherwise → Told (if test then v else w) (Either test own otherwise)
+pub either-told : (test : Bool) (v w : Option Reason) (own otherwise : Outcome Reply State) → Told v own → Told w otherwise → Told (if test then v else w) (Either test own otherwise)
 either-told true v w own otherwise a b = a
 either-told false v w own otherwise a b = b
 
-pub row-told : (name own : List ℕ) (v w : Option Reason) (rule others : Outcome) → Told v rule → Told w others → Told (row name own v w) (called name own rule others)
+pub row-told : (name own : List ℕ) (v w : Option Reason) (rule others : Outcome Reply State) → Told v rule → Told w others → Told (row name own v w) (called name own rule others)
 row-told name own v w rule others a b = either-told (bytes_eq name own) v w rule others a b
 
 pub gives-told : (v : Option Reason) (answer : Reply) (after : State) → Foretells v answer → Told v (gives answer after)
 gives-told v answer after f reply new h = subst (Foretells v) (sym h.0) f
 
 -- ---- on the table that a term names
-abbrev pub Where : {X : Type 0} → Option X → State → (X → Outcome) → Outcome
+abbrev pub Where : {X : Type 0} → Option X → State → (X → Outcome Reply State) → Outcome Reply State
 Where o old outcome reply new = MatchOption o (gives Badarg old reply new) (λ x. outcome x reply new)
 
 lacks-told : (access : Access) (old : State) → Told (Some (argument 1 (lacks access))) (gives Badarg old)
 lacks-told Read old reply new h = (h.0, refl)
 lacks-told Write old reply new h = (h.0, refl)
 
-module _ (old : State) (p : ℕ) (access : Access) (rest : Content → Option Reason) (outcome : ℕ × Table → Outcome) (told : (found : ℕ × Table) → Told (rest found.1.fixed.content) (outcome found)) where
+module _ (old : State) (p : ℕ) (access : Access) (rest : Content → Option Reason) (outcome : ℕ × Table → Outcome Reply State) (told : (found : ℕ × Table) → Told (rest found.1.fixed.content) (outcome found)) where
   may-told : (t : ℕ) (table : Table) (b : Bool) → Told (if b then rest table.fixed.content else Some (argument 1 (lacks access))) (Where (if b then Some (t, table) else None) old outcome)
   may-told t table true = told (t, table)
   may-told t table false = lacks-told access old

@@ -1,11 +1,12 @@
 -- What the rules of calls say comes true, row by row as the table of calls.
-use Rattle.std.proofs.Common.{◌≡◌, ℕ, inl, inr, Bool, true, false, not, List, [], ◌∷◌, Option, None, Some, option_and_then, Result, refl, ap, ◌∙◌, codes}
+use Rattle.std.proofs.Common.{◌≡◌, ℕ, inl, inr, Bool, true, false, not, List, [], ◌∷◌, Option, None, Some, option_and_then, Result, Ok, Err, refl, ap, ◌∙◌, codes}
 use Rattle.std.specs.Prelude.{◌==◌, ◌&&◌, if◌then◌else◌, is_some, MatchOption, nat_le, length}
 use Rattle.std.specs.Option.{option_map_or}
 use Rattle.ets_term.specs.declared.term.Term.{Term, out-Term}
 use Rattle.ets_term.specs.declared.term.Term.TheVariants.{Tid}
 use Rattle.ets_term.specs.Atoms.{text_of, is_atom}
 use Rattle.table_ops.specs.Content.{is_present}
+use Rattle.table_ops.specs.Outcomes.{Outcome, gives, refuse}
 use Rattle.fixed_walk.specs.Walk.{first_key, first_slot}
 use Rattle.ownership.specs.declared.fault.WorldFault.{WorldFault}
 use Rattle.ownership.specs.declared.fault.WorldFault.TheVariants as fault
@@ -17,13 +18,12 @@ use Rattle.ownership.specs.Heads.{owned_by}
 use Rattle.ownership.specs.Options.{options_of, pid_form, heir_after}
 use Rattle.ownership.specs.Info.{item_of}
 use Rattle.ownership.specs.Messages.{told, post, transfer}
-use Rattle.ownership.specs.Outcomes as world
 use Rattle.ownership.specs.Tables as tables
 use Rattle.ownership.specs.Tables.{without_table, changed, passed_to, with_heir, with_table, new_head}
 use Rattle.node_core.specs.declared.node.access.Access.TheVariants.{Read, Write}
 use Rattle.node_core.specs.declared.step.Reply.{Reply}
 use Rattle.node_core.specs.declared.step.Reply.TheVariants.{Value, Badarg}
-use Rattle.node_core.specs.State.{State, Outcome, gives}
+use Rattle.node_core.specs.State.{State}
 use Rattle.node_core.specs.Access.{IsWorldReply, asks}
 use Rattle.node_core.specs.Calls.{calls_of_none, calls_of_one, table_calls_of_two, search_calls_of_two, object_calls_of_two, calls_of_three, calls_of_four, call}
 use Rattle.node_core.specs.rules.Insertion.{Insert, InsertNew}
@@ -90,16 +90,16 @@ module _ (old : State) where
         used-told old p Write sound (λ found. gives true_reply (record old { world = without_table old.world found.0 })) (λ found. gives-told None true_reply (record old { world = without_table old.world found.0 }) (inl refl)) term
 
   -- ---- what is asked of the world
-  abbrev WorldTold : {X : Type 0} → Option Reason → (X → Reply) → world.Outcome X → Type 0
+  abbrev WorldTold : {X : Type 0} → Option Reason → (X → Reply) → Outcome (Result X WorldFault) World → Type 0
   WorldTold {X = X} v answer outcome = (r : Result X WorldFault) (new : World) (reply : Reply) → outcome r new → IsWorldReply answer r reply → Foretells v reply
 
-  pub asks-told : {X : Type 0} (v : Option Reason) (answer : X → Reply) (outcome : world.Outcome X) → WorldTold v answer outcome → Told v (asks old answer outcome)
+  pub asks-told : {X : Type 0} (v : Option Reason) (answer : X → Reply) (outcome : Outcome (Result X WorldFault) World) → WorldTold v answer outcome → Told v (asks old answer outcome)
   asks-told v answer outcome told reply new h = told h.0 new.world reply h.1 h.2
 
-  pub done-told : {X : Type 0} (answer : X → Reply) (x : X) (after : World) → is_value (answer x) ≡ true → WorldTold None answer (world.gives x after)
+  pub done-told : {X : Type 0} (answer : X → Reply) (x : X) (after : World) → is_value (answer x) ≡ true → WorldTold None answer (gives (Ok x) after)
   done-told answer x after v r new reply h e = inl (world-value answer r x reply v h.0 e)
 
-  pub within-told : {X : Type 0} (answer : X → Reply) (b : Bool) (x : X) (after : World) → is_value (answer x) ≡ true → WorldTold None answer (world.refuse old.world b fault.SystemLimit (world.gives x after))
+  pub within-told : {X : Type 0} (answer : X → Reply) (b : Bool) (x : X) (after : World) → is_value (answer x) ≡ true → WorldTold None answer (refuse old.world b (Err fault.SystemLimit) (gives (Ok x) after))
   within-told answer true x after v = λ r new reply h e. inr (world-limit answer r reply h.0 e)
   within-told answer false x after v = done-told answer x after v
 
@@ -107,16 +107,16 @@ module _ (old : State) where
   IsBadarg v = (reply : Reply) → reply ≡ Badarg → Foretells v reply
 
   -- a refusal where a test fails, and one where it holds
-  unless-told : {X : Type 0} (v w : Option Reason) (answer : X → Reply) (b : Bool) (otherwise : world.Outcome X) → IsBadarg w → WorldTold v answer otherwise → WorldTold (if b then v else w) answer (world.refuse old.world (not b) fault.Badarg otherwise)
+  unless-told : {X : Type 0} (v w : Option Reason) (answer : X → Reply) (b : Bool) (otherwise : Outcome (Result X WorldFault) World) → IsBadarg w → WorldTold v answer otherwise → WorldTold (if b then v else w) answer (refuse old.world (not b) (Err fault.Badarg) otherwise)
   unless-told v w answer true otherwise bad told = told
   unless-told v w answer false otherwise bad told = λ r new reply h e. bad reply (world-badarg answer r reply h.0 e)
 
-  pub where-told : {X : Type 0} (v w : Option Reason) (answer : X → Reply) (b : Bool) (otherwise : world.Outcome X) → IsBadarg w → WorldTold v answer otherwise → WorldTold (if b then w else v) answer (world.refuse old.world b fault.Badarg otherwise)
+  pub where-told : {X : Type 0} (v w : Option Reason) (answer : X → Reply) (b : Bool) (otherwise : Outcome (Result X WorldFault) World) → IsBadarg w → WorldTold v answer otherwise → WorldTold (if b then w else v) answer (refuse old.world b (Err fault.Badarg) otherwise)
   where-told v w answer false otherwise bad told = told
   where-told v w answer true otherwise bad told = λ r new reply h e. bad reply (world-badarg answer r reply h.0 e)
 
   -- ---- a new table
-  abbrev Enters : ℕ → List ℕ → NewOptions → List Bool → world.Outcome Term
+  abbrev Enters : ℕ → List ℕ → NewOptions → List Bool → Outcome (Result Term WorldFault) World
   Enters p text options buckets = tables.New old.world p text options (new_table_of old.limits.objects options buckets)
 
   told-term : (named : Bool) (name : List ℕ) (t : ℕ) → is_value (Value (told named name t)) ≡ true
@@ -125,12 +125,12 @@ module _ (old : State) where
   enters-told : (p : ℕ) (text : List ℕ) (options : NewOptions) (buckets : List Bool) → WorldTold (making_with old.world.tables text (Some options)) Value (Enters p text options buckets)
   enters-told p text options buckets =
       where-told None (Some (argument 1 rule.NameIsTaken)) Value (options.named && is_some (whereis old.world.tables text))
-      (world.refuse old.world (nat_le old.world.most_tables (length old.world.tables)) fault.SystemLimit
-      (world.gives (told options.named text (length old.world.tables)) (with_table old.world (new_head p text options) (new_table_of old.limits.objects options buckets))))
+      (refuse old.world (nat_le old.world.most_tables (length old.world.tables)) (Err fault.SystemLimit)
+      (gives (Ok (told options.named text (length old.world.tables))) (with_table old.world (new_head p text options) (new_table_of old.limits.objects options buckets))))
       (λ reply e. (e, refl))
       (within-told Value (nat_le old.world.most_tables (length old.world.tables)) (told options.named text (length old.world.tables)) (with_table old.world (new_head p text options) (new_table_of old.limits.objects options buckets)) refl)
 
-  abbrev Makes : ℕ → List ℕ → NewOptions → Outcome
+  abbrev Makes : ℕ → List ℕ → NewOptions → Outcome Reply State
   Makes p text options reply new = (buckets : List Bool) × IsFresh buckets × asks old Value (Enters p text options buckets) reply new
 
   making-told : (p : ℕ) (name options : Term) → Told (making old.world.tables name options) (New old p name options)
@@ -146,21 +146,21 @@ module _ (old : State) where
       by (Some text) = given text (options_of options)
 
   -- ---- a table of one's own
-  abbrev Owns : {X : Type 0} → ℕ → (Table → world.Outcome X) → Option Table → world.Outcome X
-  Owns p otherwise o r new = MatchOption o (world.refused fault.Badarg old.world r new) (λ table. world.refuse old.world (not (owned_by table.head p)) fault.Badarg (otherwise table) r new)
+  abbrev Owns : {X : Type 0} → ℕ → (Table → Outcome (Result X WorldFault) World) → Option Table → Outcome (Result X WorldFault) World
+  Owns p otherwise o r new = MatchOption o (gives (Err fault.Badarg) old.world r new) (λ table. refuse old.world (not (owned_by table.head p)) (Err fault.Badarg) (otherwise table) r new)
 
-  owns-told : {X : Type 0} (p : ℕ) (v : Table → Option Reason) (answer : X → Reply) (otherwise : Table → world.Outcome X) (o : Option Table) → ((table : Table) → WorldTold (v table) answer (otherwise table)) → WorldTold (on_own p o v) answer (Owns p otherwise o)
+  owns-told : {X : Type 0} (p : ℕ) (v : Table → Option Reason) (answer : X → Reply) (otherwise : Table → Outcome (Result X WorldFault) World) (o : Option Table) → ((table : Table) → WorldTold (v table) answer (otherwise table)) → WorldTold (on_own p o v) answer (Owns p otherwise o)
   owns-told p v answer otherwise None told = λ r new reply h e. (world-badarg answer r reply h.0 e, refl)
   owns-told p v answer otherwise (Some table) told = unless-told (v table) (Some (argument 1 rule.NotOwner)) answer (owned_by table.head p) (otherwise table) (λ reply e. (e, refl)) (told table)
 
-  abbrev Heirs : ℕ → Term → Table → world.Outcome (Unit {0})
-  Heirs t options table r new = MatchOption (heir_after table.head.heir options) (world.refused fault.Badarg old.world r new) (λ heir.
-      world.gives (tt {0}) (record old.world { tables = changed (with_heir heir) old.world.tables t }) r new)
+  abbrev Heirs : ℕ → Term → Table → Outcome (Result (Unit {0}) WorldFault) World
+  Heirs t options table r new = MatchOption (heir_after table.head.heir options) (gives (Err fault.Badarg) old.world r new) (λ heir.
+      gives (Ok (tt {0})) (record old.world { tables = changed (with_heir heir) old.world.tables t }) r new)
 
   heirs-told : (t : ℕ) (options : Term) (table : Table) → WorldTold (heir_told options table) (λ _. true_reply) (Heirs t options table)
   heirs-told t options table r new reply h e = by (heir_after table.head.heir options) h
     where
-      by : (o : Option (Option Heir)) → MatchOption o (world.refused fault.Badarg old.world r new) (λ heir. world.gives (tt {0}) (record old.world { tables = changed (with_heir heir) old.world.tables t }) r new)
+      by : (o : Option (Option Heir)) → MatchOption o (gives (Err fault.Badarg) old.world r new) (λ heir. gives (Ok (tt {0})) (record old.world { tables = changed (with_heir heir) old.world.tables t }) r new)
           → Foretells (if is_some o then None else Some (argument 2 rule.NotOptions)) reply
       by None h = (world-badarg (λ _. true_reply) r reply h.0 e, refl)
       by (Some heir) h = inl (world-value (λ _. true_reply) r (tt {0}) reply refl h.0 e)
@@ -175,16 +175,16 @@ module _ (old : State) where
           (owns-told p (heir_told options) (λ _. true_reply) (Heirs t options) (table_at old.world.tables t) (heirs-told t options))
 
   receiving-told : (p q : ℕ) (after : World) → WorldTold (receiving old.world.processes p q) (λ _. true_reply)
-      (world.refuse old.world (q == p) fault.Badarg (world.refuse old.world (not (lives old.world.processes q)) fault.Badarg (world.gives (tt {0}) after)))
+      (refuse old.world (q == p) (Err fault.Badarg) (refuse old.world (not (lives old.world.processes q)) (Err fault.Badarg) (gives (Ok (tt {0})) after)))
   receiving-told p q after =
-      where-told (if lives old.world.processes q then None else Some (argument 2 rule.IsNotLiving)) (Some (argument 2 rule.IsTheCaller)) (λ _. true_reply) (q == p) (world.refuse old.world (not (lives old.world.processes q)) fault.Badarg (world.gives (tt {0}) after)) (λ reply e. (e, refl))
-      (unless-told None (Some (argument 2 rule.IsNotLiving)) (λ _. true_reply) (lives old.world.processes q) (world.gives (tt {0}) after) (λ reply e. (e, refl)) (done-told (λ _. true_reply) (tt {0}) after refl))
+      where-told (if lives old.world.processes q then None else Some (argument 2 rule.IsNotLiving)) (Some (argument 2 rule.IsTheCaller)) (λ _. true_reply) (q == p) (refuse old.world (not (lives old.world.processes q)) (Err fault.Badarg) (gives (Ok (tt {0})) after)) (λ reply e. (e, refl))
+      (unless-told None (Some (argument 2 rule.IsNotLiving)) (λ _. true_reply) (lives old.world.processes q) (gives (Ok (tt {0})) after) (λ reply e. (e, refl)) (done-told (λ _. true_reply) (tt {0}) after refl))
 
   abbrev after-gift : ℕ → Term → ℕ → ℕ → Table → World
   after-gift p gift t q table = record old.world { processes = post old.world.processes q (transfer table.head t p gift); tables = changed (passed_to q) old.world.tables t }
 
-  abbrev Gives : ℕ → Term → ℕ → ℕ → Table → world.Outcome (Unit {0})
-  Gives p gift t q table = world.refuse old.world (q == p) fault.Badarg (world.refuse old.world (not (lives old.world.processes q)) fault.Badarg (world.gives (tt {0}) (after-gift p gift t q table)))
+  abbrev Gives : ℕ → Term → ℕ → ℕ → Table → Outcome (Result (Unit {0}) WorldFault) World
+  Gives p gift t q table = refuse old.world (q == p) (Err fault.Badarg) (refuse old.world (not (lives old.world.processes q)) (Err fault.Badarg) (gives (Ok (tt {0})) (after-gift p gift t q table)))
 
   giving-told : (p : ℕ) (term pid gift : Term) → Told (giving old.world.processes p (table_named old.world.tables term) pid) (GiveAway old p term pid gift)
   giving-told p term pid gift = by (resolve old.world.tables term)

@@ -14,11 +14,11 @@ use Rattle.table_ops.specs.declared.refusal.Refusal.TheVariants as refusal
 use Rattle.table_ops.specs.declared.kind.Kind.{Kind}
 use Rattle.table_ops.specs.declared.kind.Kind.TheVariants.{Set, Bag, DuplicateBag}
 use Rattle.table_ops.specs.Content.{Content, key_of, is_object, objects_under}
-use Rattle.table_ops.specs.Refusals as table
 use Rattle.table_ops.specs.Put.{PutsAll, Stores, is_taken}
 use Rattle.table_ops.specs.Drop.{Which, without_those, equal_to}
 use Rattle.table_ops.specs.Queries.{answers, bound_in, matches, chosen_count, given_by, is_chosen}
 use Rattle.table_ops.specs.Read.{element_told, element_or, all_objects}
+use Rattle.table_ops.specs.Outcomes.{gives}
 use Rattle.fixed_walk.specs.declared.fault.FixFault.TheVariants as fix
 use Rattle.fixed_walk.specs.Fixes.{is_fixed}
 use Rattle.fixed_walk.specs.Fixed.{Fixed}
@@ -44,12 +44,12 @@ use Rattle.node_reasons.proofs.Told.{Foretells, value-of, badarg-of, limit-of}
 stored : {X : Type 0} (done : X) (objects : List Term) (old new : Content) (r : Result X Refusal) → Stores done objects old r new → (r ≡ Ok done) ⊎ (r ≡ Err refusal.SystemLimit)
 stored {X = X} done objects old new r = by (list_any is_too_deep objects)
   where
-    within : (slots : List Slot) (b : Bool) → MatchBool b (table.gives (Err refusal.SystemLimit) old r new) (table.gives (Ok done) (record old { slots = slots }) r new) → (r ≡ Ok done) ⊎ (r ≡ Err refusal.SystemLimit)
+    within : (slots : List Slot) (b : Bool) → MatchBool b (gives (Err refusal.SystemLimit) old r new) (gives (Ok done) (record old { slots = slots }) r new) → (r ≡ Ok done) ⊎ (r ≡ Err refusal.SystemLimit)
     within slots true h = inr h.0
     within slots false h = inl h.0
 
-    by : (b : Bool) → MatchBool b (table.gives (Err refusal.SystemLimit) old r new) ((slots : List Slot) × PutsAll old.kind old.keypos old.slots objects slots
-        × MatchBool (nat_lt old.limit (object_count slots)) (table.gives (Err refusal.SystemLimit) old r new) (table.gives (Ok done) (record old { slots = slots }) r new)) → (r ≡ Ok done) ⊎ (r ≡ Err refusal.SystemLimit)
+    by : (b : Bool) → MatchBool b (gives (Err refusal.SystemLimit) old r new) ((slots : List Slot) × PutsAll old.kind old.keypos old.slots objects slots
+        × MatchBool (nat_lt old.limit (object_count slots)) (gives (Err refusal.SystemLimit) old r new) (gives (Ok done) (record old { slots = slots }) r new)) → (r ≡ Ok done) ⊎ (r ≡ Err refusal.SystemLimit)
     by true h = inr h.0
     by false h = within h.0 (nat_lt old.limit (object_count h.0)) h.2
 
@@ -60,18 +60,18 @@ limited-of answer result done reply v (inr e) h = inr (limit-of answer result re
 pub insert-told : (given : Term) (f g : Fixed) (reply : Reply) → Insert given f reply g → Foretells (insertion given f.content) reply
 insert-told given f g reply h = by (list_all (is_object f.content.keypos) (objects_in given)) h.1.0
   where
-    by : (b : Bool) → MatchBool b (Stores tt (objects_in given) f.content h.0 g.content) (table.gives (Err refusal.Badarg) f.content h.0 g.content) → Foretells (if b then None else Some (argument 2 rule.NotAnObject)) reply
+    by : (b : Bool) → MatchBool b (Stores tt (objects_in given) f.content h.0 g.content) (gives (Err refusal.Badarg) f.content h.0 g.content) → Foretells (if b then None else Some (argument 2 rule.NotAnObject)) reply
     by true s = limited-of (λ _. true_reply) h.0 tt reply refl (stored tt (objects_in given) f.content g.content h.0 s) h.2
     by false s = (badarg-of (λ _. true_reply) h.0 reply s.0 h.2, refl)
 
 pub insert_new-told : (given : Term) (f g : Fixed) (reply : Reply) → InsertNew given f reply g → Foretells (insertion given f.content) reply
 insert_new-told given f g reply h = by (list_all (is_object f.content.keypos) (objects_in given)) h.1.0
   where
-    taken : (b : Bool) → MatchBool b (table.gives (Ok false) f.content h.0 g.content) (Stores true (objects_in given) f.content h.0 g.content) → Foretells None reply
+    taken : (b : Bool) → MatchBool b (gives (Ok false) f.content h.0 g.content) (Stores true (objects_in given) f.content h.0 g.content) → Foretells None reply
     taken true s = inl (value-of truth_reply h.0 false reply refl s.0 h.2)
     taken false s = limited-of truth_reply h.0 true reply refl (stored true (objects_in given) f.content g.content h.0 s) h.2
 
-    by : (b : Bool) → MatchBool b (MatchBool (list_any (is_taken f.content.keypos f.content.slots) (objects_in given)) (table.gives (Ok false) f.content h.0 g.content) (Stores true (objects_in given) f.content h.0 g.content)) (table.gives (Err refusal.Badarg) f.content h.0 g.content)
+    by : (b : Bool) → MatchBool b (MatchBool (list_any (is_taken f.content.keypos f.content.slots) (objects_in given)) (gives (Ok false) f.content h.0 g.content) (Stores true (objects_in given) f.content h.0 g.content)) (gives (Err refusal.Badarg) f.content h.0 g.content)
         → Foretells (if b then None else Some (argument 2 rule.NotAnObject)) reply
     by true s = taken (list_any (is_taken f.content.keypos f.content.slots) (objects_in given)) s
     by false s = (badarg-of truth_reply h.0 reply s.0 h.2, refl)
@@ -80,7 +80,7 @@ insert_new-told given f g reply h = by (list_all (is_object f.content.keypos) (o
 pub deletion-told : (object : Term) (f g : Fixed) (reply : Reply) → DeleteObject object f reply g → Foretells (deletion object f.content) reply
 deletion-told object f g reply h = by (without_those (is_fixed f.fixes) (equal_to object) f.content) (key_of f.content.keypos object) h.1.0
   where
-    by : (after : Content) (o : Option Term) → MatchOption o (table.gives (Err refusal.Badarg) f.content h.0 g.content) (λ _. table.gives (Ok tt) after h.0 g.content) → Foretells (if is_some o then None else Some (argument 2 rule.NotAnObject)) reply
+    by : (after : Content) (o : Option Term) → MatchOption o (gives (Err refusal.Badarg) f.content h.0 g.content) (λ _. gives (Ok tt) after h.0 g.content) → Foretells (if is_some o then None else Some (argument 2 rule.NotAnObject)) reply
     by after None s = (badarg-of (λ _. true_reply) h.0 reply s.0 h.2, refl)
     by after (Some key) s = inl (value-of (λ _. true_reply) h.0 tt reply refl s.0 h.2)
 

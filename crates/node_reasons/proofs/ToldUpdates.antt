@@ -22,12 +22,12 @@ use Rattle.counters.specs.Counters.{updated_counters}
 use Rattle.counters.specs.Defaults.{keyed, counted_from, written_from}
 use Rattle.counters.specs.Elements.{spec_of_parts, all_specs, specs_form, specs_of, updated_elements}
 use Rattle.counters.specs.Ops.{bound_of, op_from, op_of_parts, op_of, all_ops, ops_form, ops_of}
-use Rattle.counters.specs.Positions.{integer_of, position_at, position_of}
+use Rattle.counters.specs.Positions.{integer_of, position_at, open_position}
 use Rattle.table_ops.specs.declared.refusal.Refusal.{Refusal}
 use Rattle.table_ops.specs.declared.refusal.Refusal.TheVariants as refusal
 use Rattle.table_ops.specs.Content.{Content, objects_under}
-use Rattle.table_ops.specs.Refusals as table
 use Rattle.table_ops.specs.Update.{is_set, is_open, ops_open, specs_open, is_good, Counts, Starts, CountsUnder, WritesElements, with_true, WritesUnder, UpdatesCounter, UpdatesElement}
+use Rattle.table_ops.specs.Outcomes.{gives}
 use Rattle.fixed_walk.specs.Fixed.{Fixed, on_content}
 use Rattle.node_core.specs.declared.step.Reply.{Reply}
 use Rattle.node_core.specs.declared.step.Reply.TheVariants.{Value, Badarg}
@@ -59,7 +59,7 @@ module _ (keypos : ℕ) where
   open-position None p e = absurd (cc)
   open-position (Some z) p e = open-at z p e
 
-  open-from : (position : Term) (i : Option ℤ) (bound : Option Bound) (op : Op) (p : Option ℕ) → position_of keypos position ≡ p
+  open-from : (position : Term) (i : Option ℤ) (bound : Option Bound) (op : Op) (p : Option ℕ) → open_position keypos position ≡ p
       → option_and_then (λ p. option_map (λ i. record { position = p; increment = i; bound = bound }) i) p ≡ Some op → is_open keypos op.position ≡ true
   open-from position i bound op None at e = absurd (cc)
   open-from position None bound op (Some p) at e = absurd (cc)
@@ -70,13 +70,13 @@ module _ (keypos : ℕ) where
   open-op : (parts : List Term) (op : Op) → op_of_parts keypos parts ≡ Some op → is_open keypos op.position ≡ true
   open-op [] op e = absurd (cc)
   open-op (a ∷ []) op e = absurd (cc)
-  open-op (a ∷ b ∷ []) op e = open-from a (integer_of b) None op (position_of keypos a) refl e
+  open-op (a ∷ b ∷ []) op e = open-from a (integer_of b) None op (open_position keypos a) refl e
   open-op (a ∷ b ∷ c ∷ []) op e = absurd (cc)
   open-op (a ∷ b ∷ c ∷ d ∷ []) op e = by (bound_of c d) e
     where
       by : (o : Option Bound) → option_and_then (λ x. op_from keypos a b (Some x)) o ≡ Some op → is_open keypos op.position ≡ true
       by None e = absurd (cc)
-      by (Some x) e = open-from a (integer_of b) (Some x) op (position_of keypos a) refl e
+      by (Some x) e = open-from a (integer_of b) (Some x) op (open_position keypos a) refl e
   open-op (a ∷ b ∷ c ∷ d ∷ x ∷ more) op e = absurd (cc)
 
   open-all : (terms : List Term) (ops : List Op) → all_ops keypos terms ≡ Some ops → list_all (λ (op : Op). is_open keypos op.position) ops ≡ true
@@ -114,9 +114,9 @@ module _ (keypos : ℕ) where
   open-spec : (parts : List Term) (spec : ElementSpec) → spec_of_parts keypos parts ≡ Some spec → is_open keypos spec.position ≡ true
   open-spec [] spec e = absurd (cc)
   open-spec (a ∷ []) spec e = absurd (cc)
-  open-spec (a ∷ b ∷ []) spec e = by (position_of keypos a) refl e
+  open-spec (a ∷ b ∷ []) spec e = by (open_position keypos a) refl e
     where
-      by : (o : Option ℕ) → position_of keypos a ≡ o → option_map (λ p. record { position = p; value = b }) o ≡ Some spec → is_open keypos spec.position ≡ true
+      by : (o : Option ℕ) → open_position keypos a ≡ o → option_map (λ p. record { position = p; value = b }) o ≡ Some spec → is_open keypos spec.position ≡ true
       by None eo e = absurd (cc)
       by (Some p) eo e =
           let found : Some p ≡ Some spec.position = ap (option_map (λ (s : ElementSpec). s.position)) e in
@@ -156,7 +156,7 @@ module _ (keypos : ℕ) where
 -- ---- a set, with a Default that is an object
 module _ {X : Type 0} (answer : X → Reply) (r : Result X Refusal) (reply : Reply) (is : IsReply answer r reply) (old new : Content) where
   abbrev Bad : Type 0
-  Bad = table.gives (Err refusal.Badarg) old r new
+  Bad = gives (Err refusal.Badarg) old r new
 
   bad-told : (n : ℕ) (broken : Rule) → refusal_of broken ≡ Badarg → Bad → Foretells (Some (argument n broken)) reply
   bad-told n broken e h = (badarg-of answer r reply h.0 is, e)
@@ -173,7 +173,7 @@ module _ {X : Type 0} (answer : X → Reply) (r : Result X Refusal) (reply : Rep
       → Foretells (unless_badarg broken made) reply
   starts-told key broken e v (Ok made) h = by (nat_lt old.limit (object_count h.0)) h.2
     where
-      by : (b : Bool) → MatchBool b (table.gives (Err refusal.SystemLimit) old r new) (table.gives (Ok made.1) (record old { slots = h.0 }) r new) → Foretells None reply
+      by : (b : Bool) → MatchBool b (gives (Err refusal.SystemLimit) old r new) (gives (Ok made.1) (record old { slots = h.0 }) r new) → Foretells None reply
       by true s = inr (limit-of answer r reply s.0 is)
       by false s = inl (value-of answer r made.1 reply (v made.1) s.0 is)
   starts-told key broken e v (Err fault.Badarg) h = bad-told 3 broken e h
@@ -188,7 +188,7 @@ module _ (key given : Term) (default : Option Term) (f g : Fixed) (reply : Reply
   counted ops (Err fault.SystemLimit) h = inr (limit-of Value r reply h.0 is)
   counted ops (Err fault.Memory) h = absurd (memory-of Value r reply h.0 is)
 
-  started : (ops : Ops) (o : Option Term) → MatchOption o (table.gives (Err refusal.Badarg) f.content r g.content) (λ d. Starts key f.content (counted_from ops (keyed f.content.keypos key d)) r g.content)
+  started : (ops : Ops) (o : Option Term) → MatchOption o (gives (Err refusal.Badarg) f.content r g.content) (λ d. Starts key f.content (counted_from ops (keyed f.content.keypos key d)) r g.content)
       → Foretells (option_map_or (λ d. unless_badarg rule.NotACounter (counted_from ops (keyed f.content.keypos key d))) o (Some (argument 2 rule.NoKey))) reply
   started ops None h = (badarg-of Value r reply h.0 is, refl)
   started ops (Some d) h = starts-told Value r reply is f.content g.content key rule.NotACounter refl (λ x. refl) (counted_from ops (keyed f.content.keypos key d)) h
@@ -198,7 +198,7 @@ module _ (key given : Term) (default : Option Term) (f g : Fixed) (reply : Reply
   under ops (object ∷ objects) h = counted ops (updated_counters ops object) h
 
   counts-told : (o : Option Ops) → ops_of f.content.keypos given ≡ o
-      → MatchOption o (table.gives (Err refusal.Badarg) f r g) (λ ops. on_content (UpdatesCounter key ops default) f r g)
+      → MatchOption o (gives (Err refusal.Badarg) f r g) (λ ops. on_content (UpdatesCounter key ops default) f r g)
       → Foretells (option_map_or (λ ops. on_set key default f.content (counting_under key ops default f.content (objects_under f.content.slots key))) o (Some (argument 3 rule.NotAnUpdate))) reply
   counts-told None e h = (badarg-of Value r reply h.0 is, refl)
   counts-told (Some ops) e h =
@@ -222,7 +222,7 @@ module _ (key given : Term) (default : Option Term) (f g : Fixed) (reply : Reply
   same-badarg (Err fault.SystemLimit) = refl
   same-badarg (Err fault.Memory) = refl
 
-  began : (specs : ElementSpecs) (o : Option Term) → MatchOption o (table.gives (Ok false) f.content r g.content) (λ d. Starts key f.content (with_true (written_from specs (keyed f.content.keypos key d))) r g.content)
+  began : (specs : ElementSpecs) (o : Option Term) → MatchOption o (gives (Ok false) f.content r g.content) (λ d. Starts key f.content (with_true (written_from specs (keyed f.content.keypos key d))) r g.content)
       → Foretells (option_map_or (λ d. unless_badarg rule.NoElement (written_from specs (keyed f.content.keypos key d))) o None) reply
   began specs None h = inl (value-of truth_reply r false reply refl h.0 is)
   began specs (Some d) h = subst (λ (v : Option Reason). Foretells v reply) (same-badarg (written_from specs (keyed f.content.keypos key d)))
@@ -233,7 +233,7 @@ module _ (key given : Term) (default : Option Term) (f g : Fixed) (reply : Reply
   over specs (object ∷ objects) h = wrote (updated_elements specs object) h
 
   writes-told : (o : Option ElementSpecs) → specs_of f.content.keypos given ≡ o
-      → MatchOption o (table.gives (Err refusal.Badarg) f r g) (λ specs. on_content (UpdatesElement key specs default) f r g)
+      → MatchOption o (gives (Err refusal.Badarg) f r g) (λ specs. on_content (UpdatesElement key specs default) f r g)
       → Foretells (option_map_or (λ specs. on_set key default f.content (writing_under key specs default f.content (objects_under f.content.slots key))) o (Some (argument 3 rule.NotAnUpdate))) reply
   writes-told None e h = (badarg-of truth_reply r reply h.0 is, refl)
   writes-told (Some specs) e h =

@@ -8,27 +8,32 @@ use Rattle.node_reasons.specs.Reasons.{whole}
 module _ (name : List ℕ) where
   abbrev pub is_object_call : Bool
   is_object_call =
-      bytes_eq name (codes "insert") || bytes_eq name (codes "insert_new") || bytes_eq name (codes "lookup") || bytes_eq name (codes "member")
-      || bytes_eq name (codes "take") || bytes_eq name (codes "delete") || bytes_eq name (codes "delete_object")
+      bytes_eq name (codes "insert") || bytes_eq name (codes "insert_new") || bytes_eq name (codes "lookup")
+      || bytes_eq name (codes "member") || bytes_eq name (codes "take") || bytes_eq name (codes "delete")
+      || bytes_eq name (codes "delete_object")
 
   abbrev pub is_search_call : Bool
   is_search_call =
-      bytes_eq name (codes "match") || bytes_eq name (codes "match_object") || bytes_eq name (codes "match_delete") || bytes_eq name (codes "select")
+      bytes_eq name (codes "match") || bytes_eq name (codes "match_object")
+      || bytes_eq name (codes "match_delete") || bytes_eq name (codes "select")
       || bytes_eq name (codes "select_count") || bytes_eq name (codes "select_delete")
 
   abbrev pub is_table_call : Bool
   is_table_call =
-      bytes_eq name (codes "new") || bytes_eq name (codes "next") || bytes_eq name (codes "next_lookup") || bytes_eq name (codes "safe_fixtable")
-      || bytes_eq name (codes "setopts") || bytes_eq name (codes "info")
+      bytes_eq name (codes "new") || bytes_eq name (codes "next") || bytes_eq name (codes "next_lookup")
+      || bytes_eq name (codes "safe_fixtable") || bytes_eq name (codes "setopts")
+      || bytes_eq name (codes "info")
 
   abbrev pub is_element_call : Bool
   is_element_call =
-      bytes_eq name (codes "lookup_element") || bytes_eq name (codes "update_counter") || bytes_eq name (codes "update_element") || bytes_eq name (codes "give_away")
+      bytes_eq name (codes "lookup_element") || bytes_eq name (codes "update_counter")
+      || bytes_eq name (codes "update_element") || bytes_eq name (codes "give_away")
       || bytes_eq name (codes "receive")
 
   abbrev pub is_whole_call : Bool
   is_whole_call =
-      bytes_eq name (codes "tab2list") || bytes_eq name (codes "delete_all_objects") || bytes_eq name (codes "first") || bytes_eq name (codes "first_lookup")
+      bytes_eq name (codes "tab2list") || bytes_eq name (codes "delete_all_objects")
+      || bytes_eq name (codes "first") || bytes_eq name (codes "first_lookup")
       || bytes_eq name (codes "whereis")
 
   -- whether a call has this name

@@ -20,7 +20,8 @@ sound content = None
 
 -- insert, insert_new: each is an object
 abbrev pub insertion : Term → Content → Option Reason
-insertion objects content = if list_all (is_object content.keypos) (objects_in objects) then None else Some (argument 2 rule.NotAnObject)
+insertion objects content =
+    if list_all (is_object content.keypos) (objects_in objects) then None else Some (argument 2 rule.NotAnObject)
 
 -- delete_object: it is an object
 abbrev pub deletion : Term → Content → Option Reason
@@ -40,7 +41,8 @@ selecting spec content = if is_spec (data_of spec) then None else Some (argument
 
 -- the element of each object of a key is told, of a set of the one
 abbrev pub element : Kind → ℕ → List Term → Option Reason
-element kind position objects = if is_some (element_told kind position objects) then None else Some (argument 3 rule.NoElement)
+element kind position objects =
+    if is_some (element_told kind position objects) then None else Some (argument 3 rule.NoElement)
 
 abbrev pub element_under : Option Reason → Kind → ℕ → List Term → Option Reason
 element_under missing kind position [] = missing
@@ -49,12 +51,15 @@ element_under missing kind position (object ∷ objects) = element kind position
 -- a position is at least 1
 abbrev pub element_of : Option Reason → List Term → Kind → Option ℕ → Option Reason
 element_of missing objects kind None = Some (argument 3 rule.NotAPosition)
-element_of missing objects kind (Some position) = if position == 0 then Some (argument 3 rule.NotAPosition) else element_under missing kind position objects
+element_of missing objects kind (Some position) =
+    if position == 0 then Some (argument 3 rule.NotAPosition) else element_under missing kind position objects
 
 -- lookup_element: Pos is a position, then the key has an object, then each of these has the element
 abbrev pub element_told_of : Term → Term → Content → Option Reason
-element_told_of key position content = element_of (Some (argument 2 rule.NoKey)) (objects_under content.slots key) content.kind (position_of position)
+element_told_of key position content =
+    element_of (Some (argument 2 rule.NoKey)) (objects_under content.slots key) content.kind (position_of position)
 
 -- lookup_element with a Default: the key needs no object
 abbrev pub element_or_of : Term → Term → Content → Option Reason
-element_or_of key position content = element_of None (objects_under content.slots key) content.kind (position_of position)
+element_or_of key position content =
+    element_of None (objects_under content.slots key) content.kind (position_of position)

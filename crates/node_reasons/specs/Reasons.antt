@@ -40,8 +40,9 @@ abbrev pub lacks : Access → Rule
 lacks Read = rule.NotReadable
 lacks Write = rule.NotWritable
 
--- a call that uses so the table that its first argument names: the first rule that is broken, where the process may what a rule
--- on the content finds
+-- a call that uses so the table that its first argument names: the first rule that is broken, where the process may
+-- what a rule on the content finds
 abbrev pub on_table : Access → ℕ → Option Table → (Content → Option Reason) → Option Reason
 on_table access p None rest = Some (argument 1 rule.NoTable)
-on_table access p (Some table) rest = if may access table.head p then rest table.fixed.content else Some (argument 1 (lacks access))
+on_table access p (Some table) rest =
+    if may access table.head p then rest table.fixed.content else Some (argument 1 (lacks access))

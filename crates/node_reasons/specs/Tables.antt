@@ -1,4 +1,5 @@
--- The rules of calls on tables, their owners and their names, in the order of the machine: the first that is broken, if one is.
+-- The rules of calls on tables, their owners and their names, in the order of the machine: the first that is broken, if
+-- one is.
 use Rattle.std.specs.Prelude.{ℕ, ◌==◌, ◌&&◌, if◌then◌else◌, List, Option, Some, None, is_some, codes}
 use Rattle.std.specs.Option.{option_map_or}
 use Rattle.ets_term.specs.declared.term.Term.{Term, out-Term}
@@ -22,10 +23,13 @@ naming name = if is_some (text_of name) then None else Some (argument 1 rule.Not
 -- new: the name is an atom, then the options are such, then no named table has the name of a named one
 abbrev pub making_with : Tables → List ℕ → Option NewOptions → Option Reason
 making_with tables text None = Some (argument 2 rule.NotOptions)
-making_with tables text (Some options) = if options.named && is_some (whereis tables text) then Some (argument 1 rule.NameIsTaken) else None
+making_with tables text (Some options) =
+    if options.named && is_some (whereis tables text) then Some (argument 1 rule.NameIsTaken) else None
 
 abbrev pub making : Tables → Term → Term → Option Reason
-making tables name options = option_map_or (λ text. making_with tables text (options_of options)) (text_of name) (Some (argument 1 rule.NotAName))
+making tables name options =
+    option_map_or (λ text. making_with tables text (options_of options)) (text_of name)
+    (Some (argument 1 rule.NotAName))
 
 -- info: the item is one, then the term could name a table
 abbrev pub informing : Term → Term → Option Reason
@@ -48,7 +52,8 @@ on_own p (Some table) rest = if owned_by table.head p then rest table else Some 
 
 -- setopts: the table is the caller's, then each option says something of an heir
 abbrev pub heir_told : Term → Table → Option Reason
-heir_told options table = if is_some (heir_after table.head.heir options) then None else Some (argument 2 rule.NotOptions)
+heir_told options table =
+    if is_some (heir_after table.head.heir options) then None else Some (argument 2 rule.NotOptions)
 
 abbrev pub setting : ℕ → Option Table → Term → Option Reason
 setting p table options = on_own p table (heir_told options)

@@ -33,18 +33,31 @@ on_set key default content rest =
 
 -- the key has an object, or there is a Default; and that has an integer at each position
 abbrev pub counting_under : Term → Ops → Option Term → Content → List Term → Option Reason
-counting_under key ops default content [] = option_map_or (λ d. unless_badarg rule.NotACounter (counted_from ops (keyed content.keypos key d))) default (Some (argument 2 rule.NoKey))
-counting_under key ops default content (object ∷ objects) = unless_badarg rule.NotACounter (updated_counters ops object)
+counting_under key ops default content [] =
+    option_map_or (λ d. unless_badarg rule.NotACounter (counted_from ops (keyed content.keypos key d))) default
+    (Some (argument 2 rule.NoKey))
+counting_under key ops default content (object ∷ objects) =
+    unless_badarg rule.NotACounter (updated_counters ops object)
 
 -- update_counter: the updates have the form, and none names the key's position; then the table; then the object
 abbrev pub counting : Term → Term → Option Term → Content → Option Reason
-counting key updates default content = option_map_or (λ ops. on_set key default content (counting_under key ops default content (objects_under content.slots key))) (ops_of content.keypos updates) (Some (argument 3 rule.NotAnUpdate))
+counting key updates default content =
+    option_map_or
+    (λ ops. on_set key default content (counting_under key ops default content (objects_under content.slots key)))
+    (ops_of content.keypos updates)
+    (Some (argument 3 rule.NotAnUpdate))
 
 -- the object, or the Default, has each position
 abbrev pub writing_under : Term → ElementSpecs → Option Term → Content → List Term → Option Reason
-writing_under key specs default content [] = option_map_or (λ d. unless_badarg rule.NoElement (written_from specs (keyed content.keypos key d))) default None
-writing_under key specs default content (object ∷ objects) = unless_badarg rule.NoElement (updated_elements specs object)
+writing_under key specs default content [] =
+    option_map_or (λ d. unless_badarg rule.NoElement (written_from specs (keyed content.keypos key d))) default None
+writing_under key specs default content (object ∷ objects) =
+    unless_badarg rule.NoElement (updated_elements specs object)
 
 -- update_element: the values have the form, and none names the key's position; then the table; then the object
 abbrev pub writing : Term → Term → Option Term → Content → Option Reason
-writing key values default content = option_map_or (λ specs. on_set key default content (writing_under key specs default content (objects_under content.slots key))) (specs_of content.keypos values) (Some (argument 3 rule.NotAnUpdate))
+writing key values default content =
+    option_map_or
+    (λ specs. on_set key default content (writing_under key specs default content (objects_under content.slots key)))
+    (specs_of content.keypos values)
+    (Some (argument 3 rule.NotAnUpdate))

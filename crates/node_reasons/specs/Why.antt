@@ -36,14 +36,19 @@ asked_why w p asked reply =
     option_map_or (λ place. Some (argument (place + 1) rule.TooDeep)) (position is_too_deep asked.args)
     (or_limit (limit_of asked.name) (call_why w p asked.name asked.args) reply)
 
+-- a process that is known already
+abbrev pub enrol_why : World → ℕ → Option Reason
+enrol_why w p = if is_some (process_at w.processes p) then Some (whole rule.IsKnown) else None
+
 abbrev pub growth_why : World → ℕ → Option Reason
 growth_why w t = if is_some (table_at w.tables t) then None else Some (whole rule.NoTable)
 
--- why a step in this state has this reply; None where it is no refusal. Only whether it is one is asked of the reply, and only
--- where no rule but a limit is left.
+-- why a step in this state has this reply; None where it is no refusal. Only whether it is one is asked of the reply,
+-- and only where no rule but a limit is left.
 abbrev pub why : State → Step → Reply → Option Reason
-why s (Enrol p) reply = or_limit rule.TooManyProcesses (if is_some (process_at s.world.processes p) then Some (whole rule.IsKnown) else None) reply
+why s (Enrol p) reply = or_limit rule.TooManyProcesses (enrol_why s.world p) reply
 why s (End p) reply = if lives s.world.processes p then None else Some (whole rule.NoProcess)
-why s (Ask p asked) reply = if lives s.world.processes p then asked_why s.world p asked reply else Some (whole rule.NoProcess)
+why s (Ask p asked) reply =
+    if lives s.world.processes p then asked_why s.world p asked reply else Some (whole rule.NoProcess)
 why s (Grow t) reply = growth_why s.world t
 why s (Ready t bucket) reply = growth_why s.world t

@@ -16,12 +16,13 @@ use ets_term::{KeyHash, Term};
 use node_core::{Call, Node, Reply, Step};
 use ownership::World;
 
-/// Why a step has this reply, which the node gave it, or would give it now: the first rule that the step breaks, with the
-/// argument's number; None where the reply is an answer. A refused step changes nothing, so the node is as the step
+/// Why a step has this reply, which the node gave it, or would give it now: the first rule that the step breaks, with
+/// the argument's number; None where the reply is an answer. A refused step changes nothing, so the node is as the step
 /// found it. It takes no memory.
 pub fn why<H: KeyHash + Copy + Drop>(node: &Node<H>, event: &Step, reply: &Reply) -> Option<Reason>
     ensures exactly { is_some result ≡ not (is_value reply.now) }
-    ensures named { (new : State) → step (seen node.now) event.now reply.now new → result ≡ why (seen node.now) event.now reply.now }
+    ensures named { (new : State) → step (seen node.now) event.now reply.now new
+        → result ≡ why (seen node.now) event.now reply.now }
 {
     explained(node, event, reply)
 }

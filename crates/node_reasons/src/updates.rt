@@ -1,13 +1,12 @@
 // The rules of calls that look at the objects of a key.
 ghost use Rattle.std.specs.Prelude.{◌≡◌, None, Some, true, false, if◌then◌else◌};
-ghost use Rattle.ownership.specs.World.{head_of};
 ghost use Rattle.table_ops.specs.Update.{is_set};
 ghost use Rattle.node_core.specs.Positions.{position_of};
 ghost use Rattle.node_core.specs.declared.node.access.Access.TheVariants.{Read, Write};
 ghost use Rattle.node_reasons.specs.declared.reason.Rule.TheVariants.{NotASet};
 ghost use Rattle.node_reasons.specs.Reasons.{argument, table_named};
-ghost use Rattle.node_reasons.specs.inside.Left.{content_left, key_left, position_left, element_left, set_left, counting_left, writing_left};
-ghost use Rattle.node_reasons.specs.inside.LeftCalls.{fixed_of};
+ghost use Rattle.node_reasons.specs.inside.Left.{key_left, position_left, element_left, set_left, counting_left, writing_left};
+ghost use Rattle.node_reasons.specs.inside.LeftCalls.{table_left};
 
 use crate::access::{changing, reading, table_named};
 use crate::forms::{are_ops, are_specs};
@@ -27,7 +26,8 @@ pub fn element<R: Rows>(
     key: &Term,
     position: &Term,
 ) -> Reason
-    ensures { result ≡ content_left Read pid (head_of (table_named world.now.tables term.now)) (fixed_of (table_named world.now.tables term.now)) (element_left key.now position.now true) }
+    ensures { result ≡ table_left Read pid (table_named world.now.tables term.now)
+        (element_left key.now position.now true) }
 {
     let Some(table) = table_named(world, term) else {
         return Reason::argument(1, Rule::NoTable);
@@ -45,7 +45,8 @@ pub fn element_or<R: Rows>(
     key: &Term,
     position: &Term,
 ) -> Reason
-    ensures { result ≡ content_left Read pid (head_of (table_named world.now.tables term.now)) (fixed_of (table_named world.now.tables term.now)) (element_left key.now position.now false) }
+    ensures { result ≡ table_left Read pid (table_named world.now.tables term.now)
+        (element_left key.now position.now false) }
 {
     let Some(table) = table_named(world, term) else {
         return Reason::argument(1, Rule::NoTable);
@@ -63,7 +64,8 @@ pub fn counting<R: Rows>(
     key: &Term,
     updates: &Term,
 ) -> Reason
-    ensures { result ≡ content_left Write pid (head_of (table_named world.now.tables term.now)) (fixed_of (table_named world.now.tables term.now)) (counting_left key.now updates.now None true) }
+    ensures { result ≡ table_left Write pid (table_named world.now.tables term.now)
+        (counting_left key.now updates.now None true) }
 {
     let Some(table) = table_named(world, term) else {
         return Reason::argument(1, Rule::NoTable);
@@ -86,7 +88,8 @@ pub fn counting_or<R: Rows>(
     updates: &Term,
     default: &Term,
 ) -> Reason
-    ensures { result ≡ content_left Write pid (head_of (table_named world.now.tables term.now)) (fixed_of (table_named world.now.tables term.now)) (counting_left key.now updates.now (Some default.now) false) }
+    ensures { result ≡ table_left Write pid (table_named world.now.tables term.now)
+        (counting_left key.now updates.now (Some default.now) false) }
 {
     let Some(table) = table_named(world, term) else {
         return Reason::argument(1, Rule::NoTable);
@@ -113,7 +116,8 @@ pub fn writing<R: Rows>(
     key: &Term,
     values: &Term,
 ) -> Reason
-    ensures { result ≡ content_left Write pid (head_of (table_named world.now.tables term.now)) (fixed_of (table_named world.now.tables term.now)) (writing_left key.now values.now None) }
+    ensures { result ≡ table_left Write pid (table_named world.now.tables term.now)
+        (writing_left key.now values.now None) }
 {
     let Some(table) = table_named(world, term) else {
         return Reason::argument(1, Rule::NoTable);
@@ -135,7 +139,8 @@ pub fn writing_or<R: Rows>(
     values: &Term,
     default: &Term,
 ) -> Reason
-    ensures { result ≡ content_left Write pid (head_of (table_named world.now.tables term.now)) (fixed_of (table_named world.now.tables term.now)) (writing_left key.now values.now (Some default.now)) }
+    ensures { result ≡ table_left Write pid (table_named world.now.tables term.now)
+        (writing_left key.now values.now (Some default.now)) }
 {
     let Some(table) = table_named(world, term) else {
         return Reason::argument(1, Rule::NoTable);

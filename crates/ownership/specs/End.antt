@@ -1,9 +1,11 @@
 -- The end of a process (stdlib manual, module ets, the introduction and the option heir of new/2).
-use Rattle.std.specs.Prelude.{ℕ, ◌==◌, not, false, suc, if◌then◌else◌, List, [], ◌∷◌, Option, Some, None, map, option_map}
+use Rattle.std.specs.Prelude.{ℕ, ◌==◌, not, false, suc, if◌then◌else◌, List, [], ◌∷◌, Option, Some, None, map, option_map, Result, Ok, Err}
 use Rattle.std.specs.Option.{option_and_then, option_map_or}
 use Rattle.std.specs.Map.{set_value}
 use Rattle.ets_term.specs.declared.term.Term.{Term}
+use Rattle.table_ops.specs.Outcomes.{Outcome, gives, refuse}
 use Rattle.fixed_walk.specs.Fixed.{all_released}
+use Rattle.ownership.specs.declared.fault.WorldFault.{WorldFault}
 use Rattle.ownership.specs.declared.fault.WorldFault.TheVariants.{NoProcess}
 use Rattle.ownership.specs.declared.head.Head.{Head}
 use Rattle.ownership.specs.declared.head.Heir.{Heir}
@@ -11,7 +13,6 @@ use Rattle.ownership.specs.World.{Table, Tables, Processes, World, lives}
 use Rattle.ownership.specs.Heads.{owned_by}
 use Rattle.ownership.specs.Messages.{transfer, post_all}
 use Rattle.ownership.specs.Tables.{passed_to}
-use Rattle.ownership.specs.Outcomes.{Outcome, gives, refuse}
 
 -- the process lives no more, and its messages are gone
 abbrev pub ended : Processes → ℕ → Processes
@@ -29,7 +30,9 @@ let_go p table = record table { fixed = all_released p table.fixed }
 abbrev pub table_after : Processes → ℕ → Option Table → Option Table
 table_after processes p None = None
 table_after processes p (Some table) =
-    if owned_by table.head p then option_map (λ heir. passed_to heir.pid (let_go p table)) (living_heir processes table.head) else Some (let_go p table)
+    if owned_by table.head p
+    then option_map (λ heir. passed_to heir.pid (let_go p table)) (living_heir processes table.head)
+    else Some (let_go p table)
 
 -- the heir that gets a table of the process
 abbrev pub receiver_of : Processes → ℕ → Table → Option Heir
@@ -38,19 +41,27 @@ receiver_of processes p table = if owned_by table.head p then living_heir proces
 -- the message that a table brings to it
 abbrev pub message_of : Processes → ℕ → ℕ → Option Table → Option (ℕ × Term)
 message_of processes p t None = None
-message_of processes p t (Some table) = option_map (λ heir. (heir.pid, transfer table.head t p heir.gift)) (receiver_of processes p table)
+message_of processes p t (Some table) =
+    option_map (λ heir. (heir.pid, transfer table.head t p heir.gift)) (receiver_of processes p table)
 
 -- those of the tables from this identifier on, in order of creation
 abbrev pub messages_from : Processes → ℕ → ℕ → Tables → List (ℕ × Term)
 messages_from processes p t [] = []
-messages_from processes p t (table ∷ tables) = option_map_or (λ message. message ∷ messages_from processes p (suc t) tables) (message_of processes p t table) (messages_from processes p (suc t) tables)
+messages_from processes p t (table ∷ tables) =
+    option_map_or (λ message. message ∷ messages_from processes p (suc t) tables) (message_of processes p t table)
+    (messages_from processes p (suc t) tables)
 
 -- its tables have changed hands or are gone, where these processes are left
 abbrev pub handed_over : World → Processes → ℕ → World
-handed_over w processes p = record w { processes = post_all processes (messages_from processes p 0 w.tables); tables = map (table_after processes p) w.tables }
+handed_over w processes p =
+    record w {
+      processes = post_all processes (messages_from processes p 0 w.tables);
+      tables = map (table_after processes p) w.tables;
+    }
 
--- the process ends: it lives no more and so is no heir; its messages and fixes go, and so do its tables, each to its living heir with the message
-abbrev pub End : World → ℕ → Outcome (Unit {0})
+-- the process ends: it lives no more and so is no heir; its messages and fixes go, and so do its tables, each to its
+-- living heir with the message
+abbrev pub End : World → ℕ → Outcome (Result (Unit {0}) WorldFault) World
 End old p =
-    refuse old (not (lives old.processes p)) NoProcess (
-    gives tt (handed_over old (ended old.processes p) p))
+    refuse old (not (lives old.processes p)) (Err NoProcess) (
+    gives (Ok tt) (handed_over old (ended old.processes p) p))

@@ -1,4 +1,5 @@
--- Mailboxes, and the message that comes with a table (stdlib manual, module ets, give_away/3 and the option heir of new/2).
+-- Mailboxes, and the message that comes with a table (stdlib manual, module ets, give_away/3 and the option heir of
+-- new/2).
 use Rattle.std.specs.Prelude.{ℕ, ◌==◌, ◌++◌, Bool, if◌then◌else◌, List, [], ◌∷◌, codes}
 use Rattle.std.specs.Option.{option_map_or}
 use Rattle.std.specs.Map.{set_value}
@@ -22,7 +23,9 @@ with_message process message = record process { mailbox = process.mailbox ++ mes
 
 -- a message at the end of a mailbox, if there is a process of this number
 abbrev pub post : Processes → ℕ → Term → Processes
-post processes p message = option_map_or (λ process. set_value (λ q. p == q) processes (with_message process message)) (process_at processes p) processes
+post processes p message =
+    option_map_or (λ process. set_value (λ q. p == q) processes (with_message process message))
+    (process_at processes p) processes
 
 -- messages in order, each with the process that it goes to
 abbrev pub post_all : Processes → List (ℕ × Term) → Processes
@@ -35,4 +38,6 @@ mailbox_of processes p = option_map_or (λ process. process.mailbox) (process_at
 
 -- the process has received its messages
 abbrev pub received : Processes → ℕ → Processes
-received processes p = option_map_or (λ process. set_value (λ q. p == q) processes (record process { mailbox = [] })) (process_at processes p) processes
+received processes p =
+    option_map_or (λ process. set_value (λ q. p == q) processes (record process { mailbox = [] }))
+    (process_at processes p) processes

@@ -1,5 +1,5 @@
--- The options of `new`, and the heirs that `setopts` sets (stdlib manual, module ets, new/2 and setopts/2): read from the left, a later one
--- overriding an earlier.
+-- The options of `new`, and the heirs that `setopts` sets (stdlib manual, module ets, new/2 and setopts/2): read from
+-- the left, a later one overriding an earlier.
 use Rattle.std.specs.Prelude.{ℕ, pos, nat_le, ◌&&◌, ◌||◌, Bool, true, false, if◌then◌else◌, List, [], ◌∷◌, Option, Some, None, codes, option_map}
 use Rattle.std.specs.Option.{option_and_then}
 use Rattle.std.specs.Str.{bytes_eq}
@@ -54,7 +54,10 @@ word_option word options =
 -- what {heir,none} and {heir,Pid,Data} say; None where a tuple says nothing of an heir
 abbrev pub heir_said : List Term → Option (Option Heir)
 heir_said (name ∷ none ∷ []) = if is_atom (codes "heir") name && is_atom (codes "none") none then Some None else None
-heir_said (name ∷ pid ∷ gift ∷ []) = if is_atom (codes "heir") name then option_map (λ p. Some (record { pid = p; gift = gift })) (pid_form (out-Term pid)) else None
+heir_said (name ∷ pid ∷ gift ∷ []) =
+    if is_atom (codes "heir") name
+    then option_map (λ p. Some (record { pid = p; gift = gift })) (pid_form (out-Term pid))
+    else None
 heir_said _ = None
 
 -- the tuples that say how the table is to be used; they change nothing
@@ -92,7 +95,8 @@ option_form _ options = None
 
 abbrev pub options_from : NewOptions → List Term → Option NewOptions
 options_from options [] = Some options
-options_from options (option ∷ rest) = option_and_then (λ o. options_from o rest) (option_form (out-Term option) options)
+options_from options (option ∷ rest) =
+    option_and_then (λ o. options_from o rest) (option_form (out-Term option) options)
 
 abbrev pub options_form : Term-F Term → Option NewOptions
 options_form (Term-F.List terms) = options_from usual terms
@@ -115,6 +119,7 @@ abbrev pub heirs_form : Option Heir → Term-F Term → Option (Option Heir)
 heirs_form heir (Term-F.List terms) = heirs_from heir terms
 heirs_form heir form = heir_form form
 
--- the heir that stands after setopts, where this one stood before; None where the term is neither an entry nor a list of such
+-- the heir that stands after setopts, where this one stood before; None where the term is neither an entry nor a list
+-- of such
 abbrev pub heir_after : Option Heir → Term → Option (Option Heir)
 heir_after heir term = heirs_form heir (out-Term term)

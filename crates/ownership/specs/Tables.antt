@@ -1,7 +1,10 @@
--- Processes enter; tables are made, go, and change hands (stdlib manual, module ets, new/2, delete/1, give_away/3, setopts/2).
-use Rattle.std.specs.Prelude.{ℕ, ◌==◌, ◌&&◌, not, nat_le, true, List, [], ◌∷◌, ◌++◌, Option, Some, None, MatchOption, is_some, length, slice_set, option_map}
+-- Processes enter; tables are made, go, and change hands (stdlib manual, module ets, new/2, delete/1, give_away/3,
+-- setopts/2).
+use Rattle.std.specs.Prelude.{ℕ, ◌==◌, ◌&&◌, not, nat_le, true, List, [], ◌∷◌, ◌++◌, Option, Some, None, is_some, length, slice_set, option_map, Result, Ok, Err}
 use Rattle.ets_term.specs.declared.term.Term.{Term}
+use Rattle.table_ops.specs.Outcomes.{Outcome, gives, refuse, refuse_none}
 use Rattle.fixed_walk.specs.Fixed.{Fixed}
+use Rattle.ownership.specs.declared.fault.WorldFault.{WorldFault}
 use Rattle.ownership.specs.declared.fault.WorldFault.TheVariants.{Badarg, SystemLimit}
 use Rattle.ownership.specs.declared.head.Head.{Head}
 use Rattle.ownership.specs.declared.head.Heir.{Heir}
@@ -10,33 +13,33 @@ use Rattle.ownership.specs.World.{Table, Tables, World, process_at, lives, table
 use Rattle.ownership.specs.Heads.{owned_by}
 use Rattle.ownership.specs.Messages.{told, transfer, post}
 use Rattle.ownership.specs.Options.{heir_after}
-use Rattle.ownership.specs.Outcomes.{Outcome, gives, refused, refuse}
 
 -- a process enters the world
 abbrev pub after_enrol : World → ℕ → World
 after_enrol w p = record w { processes = w.processes ++ (p, record { lives = true; mailbox = [] }) ∷ [] }
 
 -- it must be new, and there must be room for it
-abbrev pub Enrol : World → ℕ → Outcome (Unit {0})
+abbrev pub Enrol : World → ℕ → Outcome (Result (Unit {0}) WorldFault) World
 Enrol old p =
-    refuse old (is_some (process_at old.processes p)) Badarg (
-    refuse old (nat_le old.most_processes (length old.processes)) SystemLimit (
-    gives tt (after_enrol old p)))
+    refuse old (is_some (process_at old.processes p)) (Err Badarg) (
+    refuse old (nat_le old.most_processes (length old.processes)) (Err SystemLimit) (
+    gives (Ok tt) (after_enrol old p)))
 
 -- what stands over a new table of this name with these options
 abbrev pub new_head : ℕ → List ℕ → NewOptions → Head
-new_head p name options = record { name = name; named = options.named; owner = p; heir = options.heir; protection = options.protection }
+new_head p name options =
+    record { name = name; named = options.named; owner = p; heir = options.heir; protection = options.protection }
 
 -- a table enters the world, with the next identifier
 abbrev pub with_table : World → Head → Fixed → World
 with_table w head fixed = record w { tables = w.tables ++ Some (record { head = head; fixed = fixed }) ∷ [] }
 
 -- a new table: its name if it is a named table, else its identifier; no two named tables have one name
-abbrev pub New : World → ℕ → List ℕ → NewOptions → Fixed → Outcome Term
+abbrev pub New : World → ℕ → List ℕ → NewOptions → Fixed → Outcome (Result Term WorldFault) World
 New old p name options fixed =
-    refuse old (options.named && is_some (whereis old.tables name)) Badarg (
-    refuse old (nat_le old.most_tables (length old.tables)) SystemLimit (
-    gives (told options.named name (length old.tables)) (with_table old (new_head p name options) fixed)))
+    refuse old (options.named && is_some (whereis old.tables name)) (Err Badarg) (
+    refuse old (nat_le old.most_tables (length old.tables)) (Err SystemLimit) (
+    gives (Ok (told options.named name (length old.tables))) (with_table old (new_head p name options) fixed)))
 
 -- a table goes, with its name and its fixes
 abbrev pub without_table : World → ℕ → World
@@ -54,17 +57,24 @@ with_heir heir table = record table { head = record table.head { heir = heir } }
 abbrev pub changed : (Table → Table) → Tables → ℕ → Tables
 changed change tables t = slice_set tables t (option_map change (table_at tables t))
 
+-- a table passes to another owner, which gets a message
+abbrev pub passed : World → ℕ → ℕ → Term → World
+passed w t q message =
+    record w { processes = post w.processes q message; tables = changed (passed_to q) w.tables t }
+
 -- the owner gives the table to a living process that is not itself, which gets the message
-abbrev pub GiveAway : World → ℕ → ℕ → ℕ → Term → Outcome (Unit {0})
-GiveAway old p t q gift r new = MatchOption (table_at old.tables t) (refused Badarg old r new) (λ table.
-    refuse old (not (owned_by table.head p)) Badarg (
-    refuse old (q == p) Badarg (
-    refuse old (not (lives old.processes q)) Badarg (
-    gives tt (record old { processes = post old.processes q (transfer table.head t p gift); tables = changed (passed_to q) old.tables t })))) r new)
+abbrev pub GiveAway : World → ℕ → ℕ → ℕ → Term → Outcome (Result (Unit {0}) WorldFault) World
+GiveAway old p t q gift =
+    refuse_none old (table_at old.tables t) (Err Badarg) (λ table.
+    refuse old (not (owned_by table.head p)) (Err Badarg) (
+    refuse old (q == p) (Err Badarg) (
+    refuse old (not (lives old.processes q)) (Err Badarg) (
+    gives (Ok tt) (passed old t q (transfer table.head t p gift))))))
 
 -- the owner sets the heir
-abbrev pub SetOptions : World → ℕ → ℕ → Term → Outcome (Unit {0})
-SetOptions old p t options r new = MatchOption (table_at old.tables t) (refused Badarg old r new) (λ table.
-    refuse old (not (owned_by table.head p)) Badarg (λ r new.
-    MatchOption (heir_after table.head.heir options) (refused Badarg old r new) (λ heir.
-    gives tt (record old { tables = changed (with_heir heir) old.tables t }) r new)) r new)
+abbrev pub SetOptions : World → ℕ → ℕ → Term → Outcome (Result (Unit {0}) WorldFault) World
+SetOptions old p t options =
+    refuse_none old (table_at old.tables t) (Err Badarg) (λ table.
+    refuse old (not (owned_by table.head p)) (Err Badarg) (
+    refuse_none old (heir_after table.head.heir options) (Err Badarg) (λ heir.
+    gives (Ok tt) (record old { tables = changed (with_heir heir) old.tables t }))))

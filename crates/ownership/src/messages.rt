@@ -72,7 +72,8 @@ pub fn post(
 
 /// Takes the message back that was posted last to a process. It takes no memory.
 pub fn take_back(processes: &mut IndexMap<u32, Process>, pid: u32)
-    ensures { (before : List (ℕ × model.Process)) (message : term.Term) → processes.old.entries ≡ post before pid message → processes.new.entries ≡ before }
+    ensures { (before : List (ℕ × model.Process)) (message : term.Term)
+        → processes.old.entries ≡ post before pid message → processes.new.entries ≡ before }
 {
     if let Some(process) = processes.get_mut(&pid) {
         let _ = process.mailbox.pop();

@@ -24,8 +24,8 @@ pub struct NewOptions {
 }
 
 impl NewOptions {
-    /// The options in a term (stdlib manual, ets:new/2), read from the left, a later one overriding an earlier. `Badarg`
-    /// where it is no list of options.
+    /// The options in a term (stdlib manual, ets:new/2), read from the left, a later one overriding an earlier.
+    /// `Badarg` where it is no list of options.
     pub fn read(alloc: Global, term: &Term) -> Result<NewOptions, WorldFault>
         ensures value { Reads (options_of term.now) result }
         ensures keypos { IfOk result (λ options. 1 ≤ options.keypos) }

@@ -38,7 +38,12 @@ impl<R: Rows> Model for World<R> {
 
     ghost coded = { world_code };
 
-    ghost view = { λ w. record { most_processes = w.most_processes; most_tables = w.most_tables; processes = w.processes.entries; tables = w.places.items } };
+    ghost view = { λ w. record {
+      most_processes = w.most_processes;
+      most_tables = w.most_tables;
+      processes = w.processes.entries;
+      tables = w.places.items;
+    } };
 
     ghost invariant = { λ w. IsKept w.indices w.places.items };
 }

@@ -1,11 +1,12 @@
 -- What deletion does to slots (stdlib manual, module ets, delete/2, delete_object/2, delete_all_objects/1).
-use Rattle.std.specs.Prelude.{Bool, true, not, ◌||◌, if◌then◌else◌, List, [], ◌∷◌, filter, MatchOption, Ok, Err}
+use Rattle.std.specs.Prelude.{Bool, true, not, ◌||◌, if◌then◌else◌, List, [], ◌∷◌, filter, Ok, Err}
 use Rattle.ets_term.specs.declared.term.Term.{Term}
 use Rattle.ets_term.specs.Order.{same}
 use Rattle.bucket_table.specs.Slots.{Slot, has_objects}
 use Rattle.table_ops.specs.declared.refusal.Refusal.TheVariants.{Badarg}
 use Rattle.table_ops.specs.Content.{Content, key_of}
-use Rattle.table_ops.specs.Refusals.{Change, gives}
+use Rattle.table_ops.specs.Refusals.{Change}
+use Rattle.table_ops.specs.Outcomes.{gives, refuse_none}
 
 -- which objects go, by their key and themselves
 abbrev pub Which : Type 0
@@ -41,4 +42,6 @@ without_those hold which old = record old { slots = dropped hold which old.slots
 
 -- delete_object(Table, Object): badarg where the term is no object
 abbrev pub DeletesObject : Bool → Term → Content → Change (Unit {0}) Content
-DeletesObject hold object old r new = MatchOption (key_of old.keypos object) (gives (Err Badarg) old r new) (λ _. gives (Ok tt) (without_those hold (equal_to object) old) r new)
+DeletesObject hold object old =
+    refuse_none old (key_of old.keypos object) (Err Badarg) (λ _.
+    gives (Ok tt) (without_those hold (equal_to object) old))

@@ -1,5 +1,6 @@
 pub mod Content
 pub mod Drop
+pub mod Outcomes
 pub mod Put
 pub mod Queries
 pub mod Read

@@ -1,13 +1,16 @@
--- What patterns and specifications give for the objects of a table, and how many objects are tried (stdlib manual, module ets, match/2, match_object/2, match_delete/2, select/2, select_count/2 and select_delete/2).
+-- What patterns and specifications give for the objects of a table, and how many objects are tried (stdlib manual,
+-- module ets, match/2, match_object/2, match_delete/2, select/2, select_count/2 and select_delete/2).
 use Rattle.std.specs.Prelude.{ℕ, Bool, false, List, [], ◌∷◌, Option, Some, None, is_some, length, filter}
 use Rattle.std.specs.Option.{option_map, option_map_or}
 use Rattle.ets_term.specs.declared.term.Term.{Term}
 use Rattle.ets_term.specs.Data.{Data, list, row_of, data_of}
 use Rattle.ets_term.specs.laws.Exact.{term_of}
 use Rattle.bucket_table.specs.Slots.{Slot, object_count}
+use Rattle.match_spec.specs.BoundKeys.{bound_key, spec_key}
 use Rattle.match_spec.specs.Patterns.{values, bindings_of}
 use Rattle.match_spec.specs.Specifications.{is_true, result_of}
-use Rattle.table_ops.specs.Content.{objects_under}
+use Rattle.table_ops.specs.Content.{Content, objects_under}
+use Rattle.table_ops.specs.Read.{all_objects}
 
 -- match: the list of what is bound, in order of the variables' numbers, for an object that matches
 abbrev pub bound_in : Term → Term → Option Data
@@ -38,7 +41,27 @@ answers give (object ∷ objects) = also (give object) (answers give objects)
 abbrev pub chosen_count : (Term → Bool) → List Term → ℕ
 chosen_count choose objects = length (filter choose objects)
 
+-- the answers for the objects of a table, in the order of its slots
+abbrev pub answers_in : (Term → Option Data) → Content → List Data
+answers_in give table = answers give (all_objects table.slots)
+
+-- how many objects of a table are chosen
+abbrev pub chosen_in : (Term → Bool) → Content → ℕ
+chosen_in choose table = chosen_count choose (all_objects table.slots)
+
 -- how many objects are tried: those of the bound key, else all
 abbrev pub tried : Option Data → List Slot → ℕ
 tried (Some key) slots = length (objects_under slots (term_of key))
 tried None slots = object_count slots
+
+-- the same of a key that is a term
+abbrev pub tried_under : Option Term → List Slot → ℕ
+tried_under key slots = tried (option_map data_of key) slots
+
+-- how many objects of a table a pattern is tried on
+abbrev pub tried_pattern : Term → Content → ℕ
+tried_pattern pattern table = tried (bound_key table.keypos (data_of pattern)) table.slots
+
+-- how many a specification is tried on
+abbrev pub tried_spec : Term → Content → ℕ
+tried_spec spec table = tried (spec_key table.keypos (data_of spec)) table.slots

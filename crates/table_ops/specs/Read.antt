@@ -16,9 +16,12 @@ all_objects (slot ∷ slots) = slot.1 ++ all_objects slots
 -- the elements at a position of tuples; None where one of them has none there
 abbrev pub elements_at : ℕ → List Term → Option (List Term)
 elements_at position [] = Some []
-elements_at position (object ∷ objects) = option_and_then (λ element. option_map (λ others. element ∷ others) (elements_at position objects)) (element_at position object)
+elements_at position (object ∷ objects) =
+    option_and_then (λ element. option_map (λ others. element ∷ others) (elements_at position objects))
+    (element_at position object)
 
--- lookup_element(Table, Key, Position), by the objects of the key: of a set the element, of a bag the list of them; None is badarg
+-- lookup_element(Table, Key, Position), by the objects of the key: of a set the element, of a bag the list of them;
+-- None is badarg
 abbrev pub element_told : Kind → ℕ → List Term → Option Term
 element_told kind position [] = None
 element_told Set position (object ∷ objects) = element_at position object

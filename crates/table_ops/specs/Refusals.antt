@@ -2,14 +2,11 @@
 use Rattle.std.specs.Prelude.{◌≡◌, Result, Ok, Err, Option, Some, None}
 use Rattle.table_ops.specs.declared.refusal.Refusal.{Refusal}
 use Rattle.table_ops.specs.declared.refusal.Refusal.TheVariants.{Badarg, SystemLimit, Memory}
+use Rattle.table_ops.specs.Outcomes.{Outcome}
 
 -- what a change may answer, and what it then leaves
 abbrev pub Change : Type 0 → Type 0 → Type 1
-Change X A = Result X Refusal → A → Type 0
-
--- this answer, and this after it
-abbrev pub gives : {X A : Type 0} → Result X Refusal → A → Change X A
-gives answer after r new = (r ≡ answer) × (new ≡ after)
+Change X A = Outcome (Result X Refusal) A
 
 -- an answer of the change; or no memory, and nothing has changed
 abbrev pub Comes : {X A : Type 0} → Change X A → A → Result X Refusal → A → Type 0

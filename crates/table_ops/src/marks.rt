@@ -38,8 +38,8 @@ impl Marks {
         }
     }
 
-    /// Notes a slot if objects of it are chosen; answers how many. Nothing is copied of a slot that keeps its objects, nor
-    /// of one that loses them all.
+    /// Notes a slot if objects of it are chosen; answers how many. Nothing is copied of a slot that keeps its objects,
+    /// nor of one that loses them all.
     pub fn note<C: Choose>(
         &mut self,
         chooser: &C,
@@ -50,7 +50,10 @@ impl Marks {
         ensures count { IfOk result (λ count. count ≡ chosen_count (C.chooses chooser.now) objects.now) }
         ensures looks { OnOk result (looks.new ≡ ticks (length objects.now) looks.old) }
         ensures at_most { looks.new ≤ ticks (length objects.now) looks.old }
-        ensures marks { OnOk result ((key_at : ℕ → Option Term) (key : Term) → key_at place ≡ Some key → noted key_at self.new.list.items ≡ noted key_at self.old.list.items ++ note (C.chooses chooser.now) (key, objects.now)) }
+        ensures marks { OnOk result
+            ((key_at : ℕ → Option Term) (key : Term) → key_at place ≡ Some key
+            → noted key_at self.new.list.items
+            ≡ noted key_at self.old.list.items ++ note (C.chooses chooser.now) (key, objects.now)) }
     {
         let mut sift = Sift::new(self.alloc);
         sift.all(chooser, objects, looks)?;
@@ -113,7 +116,8 @@ impl Sift {
         requires few { length objects.now < 2 ^ 64 }
         requires within { i < length objects.now }
         requires sifted { AreSifted (C.chooses chooser.now) (take i objects.now) self.old.gone self.old.left }
-        ensures sifted { OnOk result (AreSifted (C.chooses chooser.now) (take (i + 1) objects.now) self.new.gone self.new.left) }
+        ensures sifted { OnOk result
+            (AreSifted (C.chooses chooser.now) (take (i + 1) objects.now) self.new.gone self.new.left) }
         ensures looks { looks.new ≡ tick looks.old }
     {
         let object = &objects[i];

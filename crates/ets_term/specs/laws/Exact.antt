@@ -47,12 +47,18 @@ one_back (Term-F.Int n) = ap term_of (fold-roll-Term Data data_form (Term-F.Int 
 one_back (Term-F.Atom s) = ap term_of (fold-roll-Term Data data_form (Term-F.Atom s)) ∙ sym (rolls-Atom s)
 one_back (Term-F.Pid n) = ap term_of (fold-roll-Term Data data_form (Term-F.Pid n)) ∙ sym (rolls-Pid n)
 one_back (Term-F.Tid n) = ap term_of (fold-roll-Term Data data_form (Term-F.Tid n)) ∙ sym (rolls-Tid n)
-one_back (Term-F.Tuple ks) = ap term_of (fold-roll-Term Data data_form (Term-F.Tuple (map plain ks))) ∙ ap Tuple (all_back ks) ∙ sym (rolls-Tuple (map plain ks))
-one_back (Term-F.List ks) = ap term_of (fold-roll-Term Data data_form (Term-F.List (map plain ks))) ∙ ap Lst (all_back ks) ∙ sym (rolls-List (map plain ks))
+one_back (Term-F.Tuple ks) =
+    ap term_of (fold-roll-Term Data data_form (Term-F.Tuple (map plain ks)))
+    ∙ ap Tuple (all_back ks) ∙ sym (rolls-Tuple (map plain ks))
+one_back (Term-F.List ks) =
+    ap term_of (fold-roll-Term Data data_form (Term-F.List (map plain ks)))
+    ∙ ap Lst (all_back ks) ∙ sym (rolls-List (map plain ks))
 one_back (Term-F.Binary s) = ap term_of (fold-roll-Term Data data_form (Term-F.Binary s)) ∙ sym (rolls-Binary s)
 
 pub back : (t : Term) → term_of (data_of t) ≡ t
-back = ind-Term (λ t. term_of (data_of t) ≡ t) (λ x y e. subst (λ (z : Term-F Term). term_of (data_of (roll-Term z)) ≡ roll-Term z) e (one_back y))
+back =
+    ind-Term (λ t. term_of (data_of t) ≡ t)
+    (λ x y e. subst (λ (z : Term-F Term). term_of (data_of (roll-Term z)) ≡ roll-Term z) e (one_back y))
 
 pub data_of-exact : (t u : Term) → data_of t ≡ data_of u → t ≡ u
 data_of-exact t u e = sym (back t) ∙ ap term_of e ∙ back u

@@ -50,11 +50,14 @@ nat_exact m n h = grind (arith, nat_tests)
 int_exact : (m n : ℤ) → int_cmp m n ≡ Equal → m ≡ n
 int_exact m n h = (Decides-int_eq m n).0 (ap is_eq h)
 
-text_first : (s t : List ℕ) (x y : List ℤ) → cmp (text_code s ++ x) (text_code t ++ y) ≡ ordering_then (slice_cmp nat_cmp s t) (cmp x y)
+text_first : (s t : List ℕ) (x y : List ℤ)
+    → cmp (text_code s ++ x) (text_code t ++ y) ≡ ordering_then (slice_cmp nat_cmp s t) (cmp x y)
 text_first [] [] x y = refl
 text_first [] (b ∷ bs) x y = refl
 text_first (a ∷ as_) [] x y = refl
-text_first (a ∷ as_) (b ∷ bs) x y = rw (pos_cmp a b, text_first as_ bs x y) (sym (then_assoc (nat_cmp a b) (slice_cmp nat_cmp as_ bs) (cmp x y)))
+text_first (a ∷ as_) (b ∷ bs) x y =
+    rw (pos_cmp a b, text_first as_ bs x y)
+    (sym (then_assoc (nat_cmp a b) (slice_cmp nat_cmp as_ bs) (cmp x y)))
 
 mutual
   code_first : (d e : Data) (x y : List ℤ) → cmp (code d ++ x) (code e ++ y) ≡ ordering_then (data_order d e) (cmp x y)
@@ -62,17 +65,25 @@ mutual
   code_first (atom s) (atom t) x y = text_first s t x y
   code_first (tid m) (tid n) x y = rw (pos_cmp m n)
   code_first (pid m) (pid n) x y = rw (pos_cmp m n)
-  code_first (tuple ds) (tuple es) x y = rw (pos_cmp (row_len ds) (row_len es), row_first ds es x y) (sym (then_assoc (nat_cmp (row_len ds) (row_len es)) (row_order ds es) (cmp x y)))
+  code_first (tuple ds) (tuple es) x y =
+      rw (pos_cmp (row_len ds) (row_len es), row_first ds es x y)
+      (sym (then_assoc (nat_cmp (row_len ds) (row_len es)) (row_order ds es) (cmp x y)))
   code_first (list ds) (list es) x y = row_first ds es x y
   code_first (binary s) (binary t) x y = text_first s t x y
   code_first d e x y = refl
 
-  row_first : (ds es : Row) (x y : List ℤ) → cmp (row_code ds ++ x) (row_code es ++ y) ≡ ordering_then (row_order ds es) (cmp x y)
+  row_first : (ds es : Row) (x y : List ℤ)
+      → cmp (row_code ds ++ x) (row_code es ++ y) ≡ ordering_then (row_order ds es) (cmp x y)
   row_first no_terms no_terms x y = refl
   row_first no_terms (term e es) x y = refl
   row_first (term d ds) no_terms x y = refl
   row_first (term d ds) (term e es) x y =
-      rw (append_assoc (code d) (row_code ds) x, append_assoc (code e) (row_code es) y, code_first d e (row_code ds ++ x) (row_code es ++ y), row_first ds es x y)
+      rw (
+        append_assoc (code d) (row_code ds) x,
+        append_assoc (code e) (row_code es) y,
+        code_first d e (row_code ds ++ x) (row_code es ++ y),
+        row_first ds es x y,
+      )
       (sym (then_assoc (data_order d e) (row_order ds es) (cmp x y)))
 
 then_equal : (o : Ordering) → ordering_then o Equal ≡ o
@@ -90,8 +101,11 @@ codes_total = lists_total int_cmp_total
 pub order_total : IsTotalOrder data_order
 order_total = record {
   antisymm = λ x y. rw (by_code x y, by_code y x) (codes_total.antisymm (code x) (code y));
-  trans = λ x y z p q. by_code x z ∙ codes_total.trans (code x) (code y) (code z) (sym (by_code x y) ∙ p) (sym (by_code y z) ∙ q);
-  congr = λ x y z p. rw (by_code x z, by_code y z) (codes_total.congr (code x) (code y) (code z) (sym (by_code x y) ∙ p));
+  trans = λ x y z p q.
+      by_code x z ∙ codes_total.trans (code x) (code y) (code z)
+      (sym (by_code x y) ∙ p) (sym (by_code y z) ∙ q);
+  congr = λ x y z p.
+      rw (by_code x z, by_code y z) (codes_total.congr (code x) (code y) (code z) (sym (by_code x y) ∙ p));
 }
 
 texts_exact : (s t : List ℕ) → slice_cmp nat_cmp s t ≡ Equal → s ≡ t

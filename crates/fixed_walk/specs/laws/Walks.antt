@@ -1,4 +1,5 @@
--- Whole walks: the calls first, next(k1), .., next(km) at one moment after another, each with the slots that the table then has.
+-- Whole walks: the calls first, next(k1), .., next(km) at one moment after another, each with the slots that the table
+-- then has.
 use Rattle.std.specs.Prelude.{◌≡◌, true, List, [], ◌∷◌, Option, Some, None}
 use Rattle.std.specs.List.{AllByRecursion, IsDistinct, Contains}
 use Rattle.std.specs.Map.{keys_of}
@@ -9,11 +10,13 @@ use Rattle.table_ops.specs.Content.{is_present}
 use Rattle.fixed_walk.specs.Walk.{first_key, next_key}
 use Rattle.fixed_walk.specs.laws.Kept.{IsSubsequence}
 
--- the slots at the moments of a walk: no key has two, and the keys of each moment are among those of the next, in the same order
+-- the slots at the moments of a walk: no key has two, and the keys of each moment are among those of the next, in the
+-- same order
 abbrev pub KeepKeys : List (List Slot) → Type 0
 KeepKeys [] = Unit {0}
 KeepKeys (slots ∷ []) = HasDistinctKeys slots
-KeepKeys (slots ∷ next ∷ later) = HasDistinctKeys slots × IsSubsequence (keys_of slots) (keys_of next) × KeepKeys (next ∷ later)
+KeepKeys (slots ∷ next ∷ later) =
+    HasDistinctKeys slots × IsSubsequence (keys_of slots) (keys_of next) × KeepKeys (next ∷ later)
 
 -- what the walk's call answers: first, or next of the key before
 abbrev pub key_told : Option Term → List Slot → Option (Option Term)
@@ -32,4 +35,6 @@ pub record IsWhole (moments : List (List Slot)) (keys : List Term) : Type 0 wher
   pub all : (key : Term) → AllByRecursion (λ slots. is_present slots key ≡ true) moments → Contains keys key
 
 abbrev pub WalksAreWhole : Type 0
-WalksAreWhole = (moments : List (List Slot)) (keys : List Term) → KeepKeys moments → IsWalk None moments keys → IsWhole moments keys
+WalksAreWhole =
+    (moments : List (List Slot)) (keys : List Term) → KeepKeys moments → IsWalk None moments keys
+    → IsWhole moments keys

@@ -1,12 +1,12 @@
 ghost use Rattle.std.specs.Prelude.{◌≡◌, option_copied, IfOk, OnOk, OnErr};
 ghost use Rattle.table_ops.specs.Content.{objects_under, is_present};
-ghost use Rattle.table_ops.specs.Drop.{without_those, of_key, each, DeletesObject};
+ghost use Rattle.table_ops.specs.Drop.{of_key, each, DeletesObject};
 ghost use Rattle.table_ops.specs.Put.{Inserts, InsertsNew};
 ghost use Rattle.table_ops.specs.Read.{all_objects, element_told, element_or};
 ghost use Rattle.table_ops.specs.Refusals.{Comes, Tells};
 ghost use Rattle.table_ops.specs.Update.{UpdatesCounter, UpdatesElement};
 ghost use Rattle.fixed_walk.specs.Fixes.{is_fixed};
-ghost use Rattle.fixed_walk.specs.Fixed.{on_content};
+ghost use Rattle.fixed_walk.specs.Fixed.{on_content, without};
 
 use super::Walked;
 use bucket_table::Rows;
@@ -15,7 +15,8 @@ use ets_term::{Items, Position, Term};
 use std::alloc::AllocError;
 use table_ops::Refusal;
 
-/// The calls on objects, each as `Table` has it; a slot that loses its last object stays, held, while the table is fixed.
+/// The calls on objects, each as `Table` has it; a slot that loses its last object stays, held, while the table is
+/// fixed.
 impl<R: Rows> Walked<R> {
     /// The objects of a key, oldest first (stdlib manual, ets:lookup/2).
     pub fn lookup(&self, key: &Term) -> &[Term]
@@ -34,7 +35,8 @@ impl<R: Rows> Walked<R> {
     /// The element at a position of a key's object, or in a bag the list of these of all its objects, copied. `Badarg`
     /// where the key has no object, or one of them no such element (stdlib manual, ets:lookup_element/3).
     pub fn lookup_element(&self, key: &Term, position: Position) -> Result<Term, Refusal>
-        ensures { Tells (element_told self.now.content.kind position (objects_under self.now.content.slots key.now)) result }
+        ensures { Tells (element_told self.now.content.kind position (objects_under self.now.content.slots key.now))
+            result }
     {
         self.table.lookup_element(key, position)
     }
@@ -47,7 +49,9 @@ impl<R: Rows> Walked<R> {
         position: Position,
         default: &Term,
     ) -> Result<Term, Refusal>
-        ensures { Tells (element_or self.now.content.kind position default.now (objects_under self.now.content.slots key.now)) result }
+        ensures { Tells
+            (element_or self.now.content.kind position default.now (objects_under self.now.content.slots key.now))
+            result }
     {
         self.table.lookup_element_or(key, position, default)
     }
@@ -92,7 +96,8 @@ impl<R: Rows> Walked<R> {
         ops: &Ops,
         default: Option<&Term>,
     ) -> Result<Term, Refusal>
-        ensures { Comes (on_content (UpdatesCounter key.now ops.now (option_copied default.entry)) self.old) self.old result self.new }
+        ensures { Comes (on_content (UpdatesCounter key.now ops.now (option_copied default.entry)) self.old)
+            self.old result self.new }
     {
         self.table.update_counter(key, ops, default)
     }
@@ -100,9 +105,9 @@ impl<R: Rows> Walked<R> {
     /// Writes elements of a key's object in its place and answers `true` (stdlib manual, ets:update_element/3 and /4).
     /// Where the key has no object, they are written into the Default with the key in it, which is stored, also for no
     /// values; a key that was deleted while the table is fixed comes back at its place. Without a Default it answers
-    /// `false`. `Badarg` for a bag; where a value is for the key's element; where the Default is no object, also if it is
-    /// not needed; and where the object that is written has not all the positions. Then `SystemLimit` where it would be
-    /// too deep, or one more than the table may have.
+    /// `false`. `Badarg` for a bag; where a value is for the key's element; where the Default is no object, also if it
+    /// is not needed; and where the object that is written has not all the positions. Then `SystemLimit` where it would
+    /// be too deep, or one more than the table may have.
     #[tactic(auto, using(crate::proofs::HeldLaws::held))]
     pub fn update_element(
         &mut self,
@@ -110,7 +115,8 @@ impl<R: Rows> Walked<R> {
         specs: ElementSpecs,
         default: Option<&Term>,
     ) -> Result<bool, Refusal>
-        ensures { Comes (on_content (UpdatesElement key.now specs (option_copied default.entry)) self.old) self.old result self.new }
+        ensures { Comes (on_content (UpdatesElement key.now specs (option_copied default.entry)) self.old)
+            self.old result self.new }
     {
         self.table.update_element(key, specs, default)
     }
@@ -118,7 +124,7 @@ impl<R: Rows> Walked<R> {
     /// Deletes the objects of a key (stdlib manual, ets:delete/2).
     #[tactic(auto, using(crate::proofs::HeldLaws::held))]
     pub fn delete_key(&mut self, key: &Term)
-        ensures { self.new ≡ record self.old { content = without_those (is_fixed self.old.fixes) (of_key key.now) self.old.content } }
+        ensures { self.new ≡ without (of_key key.now) self.old }
     {
         let hold = self.fixes.any();
         self.table.delete_key(key, hold);
@@ -128,7 +134,7 @@ impl<R: Rows> Walked<R> {
     #[tactic(auto, using(crate::proofs::HeldLaws::held))]
     pub fn take(&mut self, key: &Term) -> Result<Items<Term>, AllocError>
         ensures taken { IfOk result (λ objects. objects ≡ objects_under self.old.content.slots key.now) }
-        ensures ok { OnOk result (self.new ≡ record self.old { content = without_those (is_fixed self.old.fixes) (of_key key.now) self.old.content }) }
+        ensures ok { OnOk result (self.new ≡ without (of_key key.now) self.old) }
         ensures err { OnErr result (self.new ≡ self.old) }
     {
         let hold = self.fixes.any();
@@ -147,7 +153,7 @@ impl<R: Rows> Walked<R> {
     /// Deletes all objects (stdlib manual, ets:delete_all_objects/1).
     #[tactic(auto, using(crate::proofs::HeldLaws::held))]
     pub fn delete_all(&mut self)
-        ensures { self.new ≡ record self.old { content = without_those (is_fixed self.old.fixes) each self.old.content } }
+        ensures { self.new ≡ without each self.old }
     {
         let hold = self.fixes.any();
         self.table.delete_all(hold);

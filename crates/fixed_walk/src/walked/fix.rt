@@ -14,8 +14,8 @@ impl<R: Rows> Walked<R> {
         self.fixes.any()
     }
 
-    /// One fix more of a process (stdlib manual, ets:safe_fixtable/2). `SystemLimit` where it has 4,294,967,295. It costs
-    /// the same however many fixes there are.
+    /// One fix more of a process (stdlib manual, ets:safe_fixtable/2). `SystemLimit` where it has 4,294,967,295. It
+    /// costs the same however many fixes there are.
     #[tactic(auto, using(crate::proofs::HeldLaws::held))]
     pub fn fix(&mut self, pid: u32) -> Result<(), FixFault>
         ensures { FixesOnce pid self.old result self.new }

@@ -1,9 +1,8 @@
 ghost use Rattle.std.specs.Prelude.{◌≡◌, ◌<◌, ◌^◌, map, filter, IfOk, OnOk, OnErr};
 ghost use Rattle.ets_term.specs.Data.{data_of};
-ghost use Rattle.table_ops.specs.Drop.{without_those};
-ghost use Rattle.table_ops.specs.Queries.{bound_in, matches, given_by, is_chosen, answers, chosen_count};
+ghost use Rattle.table_ops.specs.Queries.{bound_in, matches, given_by, is_chosen, answers_in, chosen_in};
 ghost use Rattle.table_ops.specs.Read.{all_objects};
-ghost use Rattle.fixed_walk.specs.Fixes.{is_fixed};
+ghost use Rattle.fixed_walk.specs.Fixed.{without};
 
 use super::Walked;
 use bucket_table::Rows;
@@ -16,7 +15,7 @@ impl<R: Rows> Walked<R> {
     /// For each object that matches, in the order of the slots, the list of what is bound, in order of the variables'
     /// numbers (stdlib manual, ets:match/2).
     pub fn matches(&self, pattern: &Pattern) -> Result<Items<Term>, AllocError>
-        ensures { IfOk result (λ found. map data_of found ≡ answers (bound_in pattern.now) (all_objects self.now.content.slots)) }
+        ensures { IfOk result (λ found. map data_of found ≡ answers_in (bound_in pattern.now) self.now.content) }
     {
         self.table.matches(pattern)
     }
@@ -31,7 +30,7 @@ impl<R: Rows> Walked<R> {
     /// What the specification gives, for each object for which it gives something, in the order of the slots (stdlib
     /// manual, ets:select/2).
     pub fn select(&self, spec: &Spec) -> Result<Items<Term>, AllocError>
-        ensures { IfOk result (λ found. map data_of found ≡ answers (given_by spec.now) (all_objects self.now.content.slots)) }
+        ensures { IfOk result (λ found. map data_of found ≡ answers_in (given_by spec.now) self.now.content) }
     {
         self.table.select(spec)
     }
@@ -39,7 +38,7 @@ impl<R: Rows> Walked<R> {
     /// How many objects there are for which the specification gives `true`, fewer than 4,294,967,296 (stdlib manual,
     /// ets:select_count/2).
     pub fn select_count(&self, spec: &Spec) -> Result<usize, AllocError>
-        ensures count { IfOk result (λ count. count ≡ chosen_count (is_chosen spec.now) (all_objects self.now.content.slots)) }
+        ensures count { IfOk result (λ count. count ≡ chosen_in (is_chosen spec.now) self.now.content) }
         ensures few { IfOk result (λ count. count < 2 ^ 32) }
     {
         self.table.select_count(spec)
@@ -48,7 +47,7 @@ impl<R: Rows> Walked<R> {
     /// Deletes the objects that match (stdlib manual, ets:match_delete/2). Want of memory changes nothing.
     #[tactic(auto, using(crate::proofs::HeldLaws::held))]
     pub fn match_delete(&mut self, pattern: &Pattern) -> Result<(), AllocError>
-        ensures ok { OnOk result (self.new ≡ record self.old { content = without_those (is_fixed self.old.fixes) (λ own. matches pattern.now) self.old.content }) }
+        ensures ok { OnOk result (self.new ≡ without (λ own. matches pattern.now) self.old) }
         ensures err { OnErr result (self.new ≡ self.old) }
     {
         let hold = self.fixes.any();
@@ -59,9 +58,9 @@ impl<R: Rows> Walked<R> {
     /// ets:select_delete/2). Want of memory changes nothing.
     #[tactic(auto, using(crate::proofs::HeldLaws::held))]
     pub fn select_delete(&mut self, spec: &Spec) -> Result<usize, AllocError>
-        ensures count { IfOk result (λ count. count ≡ chosen_count (is_chosen spec.now) (all_objects self.old.content.slots)) }
+        ensures count { IfOk result (λ count. count ≡ chosen_in (is_chosen spec.now) self.old.content) }
         ensures few { IfOk result (λ count. count < 2 ^ 32) }
-        ensures ok { OnOk result (self.new ≡ record self.old { content = without_those (is_fixed self.old.fixes) (λ own. is_chosen spec.now) self.old.content }) }
+        ensures ok { OnOk result (self.new ≡ without (λ own. is_chosen spec.now) self.old) }
         ensures err { OnErr result (self.new ≡ self.old) }
     {
         let hold = self.fixes.any();

@@ -27,8 +27,8 @@ impl<R: Rows> Walked<R> {
         Ok(key_of(found))
     }
 
-    /// The first key that has objects, with these, oldest first; None at the end (stdlib manual, ets:first_lookup/1). It
-    /// costs the held slots passed.
+    /// The first key that has objects, with these, oldest first; None at the end (stdlib manual, ets:first_lookup/1).
+    /// It costs the held slots passed.
     pub fn first_lookup(&self) -> Option<(&Term, &[Term])>
         ensures { option_map deref_pair result ≡ first_slot self.now.content.slots }
     {
@@ -39,7 +39,8 @@ impl<R: Rows> Walked<R> {
     /// The first key that has objects behind the slot of this one, with these, oldest first; None at the end (stdlib
     /// manual, ets:next_lookup/2). `Badarg` where the key has no slot. It costs what `next` costs.
     pub fn next_lookup(&self, key: &Term) -> Result<Option<(&Term, &[Term])>, Badarg>
-        ensures ok { IfOk result (λ found. next_slot self.now.content.slots key.now ≡ Some (option_map deref_pair found)) }
+        ensures ok { IfOk result (λ found.
+            next_slot self.now.content.slots key.now ≡ Some (option_map deref_pair found)) }
         ensures err { OnErr result (next_slot self.now.content.slots key.now ≡ None) }
     {
         let rows = self.table.rows();

@@ -34,11 +34,20 @@ first_counted (c ∷ cs) object = if counts c object then Some (outcome_by c obj
 
 -- the three parts of a clause, as the program has them
 abbrev pub parts_seen : ClauseParts → RawClause
-parts_seen c = record { head = data_of c.head.now; conditions = row_of (map data_of c.conditions.now); body = row_of (map data_of c.body.now) }
+parts_seen c = record {
+  head = data_of c.head.now;
+  conditions = row_of (map data_of c.conditions.now);
+  body = row_of (map data_of c.body.now);
+}
 
 -- a clause, compiled, where the head's first places are these
 abbrev pub clause_by : FirstPlaces → RawClause → Clause
-clause_by first c = record { head = part_of first [] c.head; places = places_of first; conditions = expressions_of first c.conditions; body = expressions_of first c.body }
+clause_by first c = record {
+  head = part_of first [] c.head;
+  places = places_of first;
+  conditions = expressions_of first c.conditions;
+  body = expressions_of first c.body;
+}
 
 abbrev pub clause_of : RawClause → Clause
 clause_of c = clause_by (first_of c.head) c

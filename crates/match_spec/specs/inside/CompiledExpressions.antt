@@ -34,18 +34,25 @@ all_of (f ∷ fs) object = option_and_then (λ d. option_map (λ ds. d ∷ ds) (
 
 abbrev pub apply_of : Function → List (Data → Option Data) → Data → Option Data
 apply_of g (x ∷ []) object = option_and_then (λ d. apply g (d ∷ [])) (x object)
-apply_of g (x ∷ y ∷ []) object = option_and_then (λ d. option_and_then (λ e. apply g (d ∷ e ∷ [])) (y object)) (x object)
+apply_of g (x ∷ y ∷ []) object =
+    option_and_then (λ d. option_and_then (λ e. apply g (d ∷ e ∷ [])) (y object)) (x object)
 apply_of g fs object = None
 
 abbrev pub joined_of : Bool → List (Data → Option Data) → Data → Option Bool
 joined_of decisive [] object = Some (not decisive)
-joined_of decisive (f ∷ fs) object = option_and_then (λ d. option_and_then (λ x. option_map (join decisive x) (joined_of decisive fs object)) (boolean d)) (f object)
+joined_of decisive (f ∷ fs) object =
+    option_and_then
+    (λ d. option_and_then (λ x. option_map (join decisive x) (joined_of decisive fs object)) (boolean d))
+    (f object)
 
 -- from the left, up to the first boolean that decides
 abbrev pub decide : Bool → List (Data → Option Data) → Data → Option Data
 decide stop [] object = None
 decide stop (f ∷ []) object = option_and_then (λ d. option_map (λ x. d) (boolean d)) (f object)
-decide stop (f ∷ g ∷ fs) object = option_and_then (λ d. option_and_then (λ x. if is_stop stop x then Some d else decide stop (g ∷ fs) object) (boolean d)) (f object)
+decide stop (f ∷ g ∷ fs) object =
+    option_and_then
+    (λ d. option_and_then (λ x. if is_stop stop x then Some d else decide stop (g ∷ fs) object) (boolean d))
+    (f object)
 
 abbrev pub expression_step : List Place → Expression-F (Data → Option Data) → Data → Option Data
 expression_step places (Expression-F.Constant t) object = Some (data_of t)

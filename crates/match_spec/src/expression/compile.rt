@@ -107,7 +107,9 @@ fn application(
     arguments: &[Term],
     compiled: Items<Expression>,
 ) -> Result<Expression, AllocError>
-    ensures { IfOk result (λ e. e ≡ constant_else name.now (row_of (map data_of arguments.now)) (called name.now (length arguments.now) compiled)) }
+    ensures { IfOk result (λ e. e
+        ≡ constant_else name.now (row_of (map data_of arguments.now))
+        (called name.now (length arguments.now) compiled)) }
 {
     if arguments.len() == 1 && name == "const" {
         return Ok(Expression::Constant(arguments[0].try_clone(alloc)?));

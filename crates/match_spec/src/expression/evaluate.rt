@@ -47,7 +47,8 @@ fn lent<'a>(
     places: &[Items<usize>],
     object: &'a Term,
 ) -> Option<&'a Term>
-    ensures { IfSome result (λ term. expression_value places.now expression.now (data_of object.now) ≡ Some (data_of term.now)) }
+    ensures { IfSome result (λ term.
+        expression_value places.now expression.now (data_of object.now) ≡ Some (data_of term.now)) }
 {
     match expression {
         Expression::Constant(term) => Some(term),
@@ -130,7 +131,8 @@ fn evaluate_all(
     places: &[Items<usize>],
     object: &Term,
 ) -> Result<Option<Items<Term>>, AllocError>
-    ensures { IfOk result (λ terms. option_map (map data_of) terms ≡ all_of (map (expression_value places.now) expressions.now) (data_of object.now)) }
+    ensures { IfOk result (λ terms. option_map (map data_of) terms
+        ≡ all_of (map (expression_value places.now) expressions.now) (data_of object.now)) }
 {
     let mut terms = Vec::with_capacity(alloc, expressions.len())?;
     for expression in expressions {
@@ -150,7 +152,8 @@ fn applied<'a>(
     places: &[Items<usize>],
     object: &'a Term,
 ) -> Result<Option<Value<'a>>, AllocError>
-    ensures { IfOk result (λ v. option_map seen v ≡ apply_of function (map (expression_value places.now) arguments.now) (data_of object.now)) }
+    ensures { IfOk result (λ v. option_map seen v
+        ≡ apply_of function (map (expression_value places.now) arguments.now) (data_of object.now)) }
 {
     match arguments {
         [only] => {
@@ -181,7 +184,8 @@ fn joined(
     places: &[Items<usize>],
     object: &Term,
 ) -> Result<Option<bool>, AllocError>
-    ensures { IfOk result (λ b. b ≡ joined_of decisive (map (expression_value places.now) arguments.now) (data_of object.now)) }
+    ensures { IfOk result (λ b. b
+        ≡ joined_of decisive (map (expression_value places.now) arguments.now) (data_of object.now)) }
 {
     let mut all = !decisive;
     for argument in arguments {
@@ -220,7 +224,8 @@ fn decided<'a>(
     places: &[Items<usize>],
     object: &'a Term,
 ) -> Result<Option<Value<'a>>, AllocError>
-    ensures { IfOk result (λ v. option_map seen v ≡ decide stop (map (expression_value places.now) arguments.now) (data_of object.now)) }
+    ensures { IfOk result (λ v. option_map seen v
+        ≡ decide stop (map (expression_value places.now) arguments.now) (data_of object.now)) }
 {
     for i in 0..arguments.len() {
         let Some(x) = evaluate(alloc, &arguments[i], places, object)? else {

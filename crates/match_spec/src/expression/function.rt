@@ -12,7 +12,8 @@ use crate::expression::lists::{list_length, size, tail};
 use ets_term::Term;
 use std::alloc::{AllocError, Global};
 
-/// A function that is applied to the values of all its arguments. The connectives but `not` and `xor` are none of these.
+/// A function that is applied to the values of all its arguments. The connectives but `not` and `xor` are none of
+/// these.
 #[derive(Clone, Copy)]
 pub(crate) enum Function {
     Is(Kind),

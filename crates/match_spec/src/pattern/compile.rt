@@ -40,7 +40,8 @@ fn parts_of(
     first: &FirstPlaces,
     here: &mut Vec<usize>,
 ) -> Result<Items<Part>, AllocError>
-    ensures made { IfOk result (λ ps. ps ≡ parts_from first.now.entries here.old.items 0 (row_of (map data_of parts.now))) }
+    ensures made { IfOk result (λ ps. ps
+        ≡ parts_from first.now.entries here.old.items 0 (row_of (map data_of parts.now))) }
     ensures here { OnOk result (here.new.items ≡ here.old.items) }
 {
     let mut compiled = Vec::with_capacity(alloc, parts.len())?;

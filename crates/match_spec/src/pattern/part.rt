@@ -6,7 +6,8 @@ ghost use Rattle.match_spec.specs.inside.CompiledPatterns.{part_fits, all_fit};
 use crate::pattern::place::at;
 use ets_term::{Items, Term};
 
-/// A part of a pattern. A variable is `Anything` at its first place; at the others it is compared with what stands there.
+/// A part of a pattern. A variable is `Anything` at its first place; at the others it is compared with what stands
+/// there.
 #[derive(Drop)]
 pub(crate) enum Part {
     Anything,

@@ -93,7 +93,8 @@ fn collect_all(
     here: &mut Vec<usize>,
     first: &mut FirstPlaces,
 ) -> Result<(), AllocError>
-    ensures places { OnOk result (first.new.entries ≡ first_from here.old.items 0 first.old.entries (row_of (map data_of parts.now))) }
+    ensures places { OnOk result (first.new.entries
+        ≡ first_from here.old.items 0 first.old.entries (row_of (map data_of parts.now))) }
     ensures here { OnOk result (here.new.items ≡ here.old.items) }
 {
     for i in 0..parts.len() {

@@ -58,7 +58,8 @@ fn counted<'a>(
     clauses: &'a [Clause],
     object: &Term,
 ) -> Result<Option<&'a Clause>, AllocError>
-    ensures { IfOk result (λ c. option_map (λ clause. outcome_by clause (data_of object.now)) (option_copied c) ≡ first_counted clauses.now (data_of object.now)) }
+    ensures { IfOk result (λ c. option_map (λ clause. outcome_by clause (data_of object.now)) (option_copied c)
+        ≡ first_counted clauses.now (data_of object.now)) }
 {
     for clause in clauses {
         if counts(alloc, clause, object)? {
@@ -133,7 +134,8 @@ fn holds(
     places: &[Items<usize>],
     object: &Term,
 ) -> Result<bool, AllocError>
-    ensures { IfOk result (λ b. b ≡ option_map_or is_true (expression_value places.now condition.now (data_of object.now)) false) }
+    ensures { IfOk result (λ b. b
+        ≡ option_map_or is_true (expression_value places.now condition.now (data_of object.now)) false) }
 {
     if let Expression::Apply(function, arguments) = condition {
         if let [first, second] = arguments.as_slice() {
@@ -151,7 +153,10 @@ fn two_hold(
     places: &[Items<usize>],
     object: &Term,
 ) -> Result<bool, AllocError>
-    ensures { IfOk result (λ b. b ≡ option_map_or is_true (apply_of function (expression_value places.now first.now ∷ expression_value places.now second.now ∷ []) (data_of object.now)) false) }
+    ensures { IfOk result (λ b. b
+        ≡ option_map_or is_true (apply_of function
+        (expression_value places.now first.now ∷ expression_value places.now second.now ∷ [])
+        (data_of object.now)) false) }
 {
     let Some(x) = value_of(alloc, first, places, object)? else {
         return Ok(false);
@@ -197,7 +202,8 @@ fn last_value<'a>(
     places: &[Items<usize>],
     object: &'a Term,
 ) -> Result<Option<Value<'a>>, AllocError>
-    ensures { IfOk result (λ v. option_map seen v ≡ last_of (map (expression_value places.now) body.now) (data_of object.now)) }
+    ensures { IfOk result (λ v. option_map seen v
+        ≡ last_of (map (expression_value places.now) body.now) (data_of object.now)) }
 {
     for i in 0..body.len() {
         let Some(x) = value_of(alloc, &body[i], places, object)? else {

@@ -60,11 +60,14 @@ module _ (p t : ℕ) where
 
   -- one fix less, where the table may be read
   abbrev pub LetsGo : State → Bool → State → Type 0
-  LetsGo old true new = (can_read p t old ≡ true) × step old (release p t) true_reply new × ((n : ℕ) → fixes_in p t old ≡ suc n → fixes_in p t new ≡ n)
+  LetsGo old true new =
+      (can_read p t old ≡ true) × step old (release p t) true_reply new
+      × ((n : ℕ) → fixes_in p t old ≡ suc n → fixes_in p t new ≡ n)
   LetsGo old false new = (can_read p t old ≡ false) × (new ≡ old)
 
   -- a run from a state on that is a walk from this call on, in a table that stays fixed
-  pub record Walking (call : Option Term) (keys : List Term) (old : State) (steps : List Step) (replies : List Reply) (new : State) : Type 0 where
+  pub record Walking (call : Option Term) (keys : List Term) (old : State) (steps : List Step) (replies : List Reply)
+      (new : State) : Type 0 where
     pub done : run old steps replies new
     pub answers : Walks p t call keys old steps replies new done
     pub held : AllByRecursion (λ s. is_fixed_in t s ≡ true) (states old steps replies new done)
@@ -73,7 +76,8 @@ module _ (p t : ℕ) where
   abbrev pub Leads : Option Term → List Term → State → List Step → List Reply → State → Type 0
   Leads None keys fixed steps replies now = Walking None keys fixed steps replies now
   Leads (Some key) keys fixed steps replies now =
-      (further : List Term) (more : List Step) (others : List Reply) (end : State) → Walking (Some key) further now more others end
+      (further : List Term) (more : List Step) (others : List Reply) (end : State)
+      → Walking (Some key) further now more others end
       → Walking None (keys ++ key ∷ further) fixed (steps ++ more) (replies ++ others) end
 
   -- the walk so far, where the last of its calls has found this
@@ -83,7 +87,8 @@ module _ (p t : ℕ) where
     pub fix_done : step old (fix p t) true_reply fixed
     pub walk_done : run fixed (walk p t keys given) (before ++ key_reply found ∷ []) now
     pub leads : Leads found keys fixed (walk p t keys given) (before ++ key_reply found ∷ []) now
-    pub replied : replies_to p (walk p t keys given) (before ++ key_reply found ∷ []) ≡ map (λ key. Value key) keys ++ key_reply found ∷ []
+    pub replied : replies_to p (walk p t keys given) (before ++ key_reply found ∷ [])
+        ≡ map (λ key. Value key) keys ++ key_reply found ∷ []
     pub others : AllByRecursion (λ g. is_step_of p g.1 ≡ false) given
     pub turns : AreTurns keys given
     pub fixes : is_there t now ≡ true → fixes_in p t now ≡ suc (fixes_in p t old)
@@ -92,7 +97,8 @@ module _ (p t : ℕ) where
     pub goes_on : CanGoOn t now found
 
   -- a walk that stopped and left these steps, before the release
-  pub record Halts (old : State) (limit : ℕ) (keys : List Term) (given : Given) (why : WalkFault) (left : List Step) (now : State) : Type 0 where
+  pub record Halts (old : State) (limit : ℕ) (keys : List Term) (given : Given) (why : WalkFault) (left : List Step)
+      (now : State) : Type 0 where
     pub done : List Step
     pub own_left : List Step
     pub replies : List Reply
@@ -125,25 +131,31 @@ module _ (p t : ℕ) where
     pub ran : run_on_buckets old (fix p t ∷ done) replies now
 
   -- what the turn of a key comes to, from wherever the walk began
-  abbrev pub TurnsTo : (keys : List Term) (given : Given) (key : Term) (was : State) (keys' : List Term) (given' : Given) → Result (Option Term) WalkFault → State → Type 0
+  abbrev pub TurnsTo : (keys : List Term) (given : Given) (key : Term) (was : State) (keys' : List Term)
+      (given' : Given) → Result (Option Term) WalkFault → State → Type 0
   TurnsTo keys given key was keys' given' (Ok found) now =
       ((old : State) → Stands old keys given (Some key) (seen was) → Stands old keys' given' found (seen now))
       × ((old : State) → Weaves old keys given [] was → Weaves old keys' given' [] now)
   TurnsTo keys given key was keys' given' (Err why) now =
-      (left : List Step) × ((old : State) → Stands old keys given (Some key) (seen was) → (limit : ℕ) → Halts old limit keys' given' why left (seen now))
+      (left : List Step)
+      × ((old : State) → Stands old keys given (Some key) (seen was) → (limit : ℕ)
+      → Halts old limit keys' given' why left (seen now))
       × ((old : State) → Weaves old keys given [] was → Weaves old keys' given' left now)
 
   -- what the whole walk comes to, before the release
-  abbrev pub EndsIn : (limit : ℕ) (was : State) (keys : List Term) (given : Given) → Result Walk WalkFault → State → Type 0
+  abbrev pub EndsIn : (limit : ℕ) (was : State) (keys : List Term) (given : Given) → Result Walk WalkFault → State
+      → Type 0
   EndsIn limit was keys given (Ok walk) now =
-      ((old : State) → Holds old (Ok tt) (seen was) → (walk.keys ≡ keys) × (length keys ≤ limit) × Stands old keys given None (seen now))
+      ((old : State) → Holds old (Ok tt) (seen was)
+      → (walk.keys ≡ keys) × (length keys ≤ limit) × Stands old keys given None (seen now))
       × ((old : State) → IsHeld old was → Weaves old keys given [] now)
   EndsIn limit was keys given (Err why) now =
-      (left : List Step) × ((old : State) → Holds old (Ok tt) (seen was) → Halts old limit keys given why left (seen now))
+      (left : List Step)
+      × ((old : State) → Holds old (Ok tt) (seen was) → Halts old limit keys given why left (seen now))
       × ((old : State) → IsHeld old was → Weaves old keys given left now)
 
--- the steps handed in are done in order, none of them of this process: all, or those before one that is its own or that memory was
--- refused for
+-- the steps handed in are done in order, none of them of this process: all, or those before one that is its own or that
+-- memory was refused for
 abbrev pub steps_of : Given → List Step
 steps_of given = map (λ g. g.1) given
 

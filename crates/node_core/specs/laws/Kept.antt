@@ -22,5 +22,6 @@ is_fixed_in t s = option_map_or (λ table. is_fixed table.fixed.fixes) (table_at
 -- where a table is fixed before and after a step, the keys of its slots before are among those after, in the same order
 abbrev pub StepsKeepKeys : Type 0
 StepsKeepKeys =
-    (old new : State) (s : Step) (r : Reply) (t : ℕ) → step old s r new → is_fixed_in t old ≡ true → is_fixed_in t new ≡ true
+    (old new : State) (s : Step) (r : Reply) (t : ℕ) → step old s r new → is_fixed_in t old ≡ true
+    → is_fixed_in t new ≡ true
     → IsSubsequence (keys_of (slots_in t old)) (keys_of (slots_in t new))

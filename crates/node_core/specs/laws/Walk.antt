@@ -1,4 +1,5 @@
--- Whole walks (stdlib manual, module ets, safe_fixtable/2, first/1, next/2, first_lookup/1 and next_lookup/2), in a run: its steps, replies and states.
+-- Whole walks (stdlib manual, module ets, safe_fixtable/2, first/1, next/2, first_lookup/1 and next_lookup/2), in a
+-- run: its steps, replies and states.
 use Rattle.std.specs.Prelude.{◌≡◌, ℕ, ◌==◌, Bool, true, false, if◌then◌else◌, List, [], ◌∷◌, Option, Some, None, option_map, MatchOption, codes}
 use Rattle.std.specs.List.{AllByRecursion, IsDistinct, Contains}
 use Rattle.std.specs.Option.{option_map_or}
@@ -18,7 +19,8 @@ use Rattle.node_core.specs.laws.Kept.{slots_in, is_fixed_in}
 use Rattle.node_core.specs.laws.Reached.{IsSound}
 
 -- the states of a run, from the one before its first step to the one after its last
-abbrev pub states : (old : State) (steps : List Step) (replies : List Reply) (new : State) → run old steps replies new → List State
+abbrev pub states : (old : State) (steps : List Step) (replies : List Reply) (new : State)
+    → run old steps replies new → List State
 states old [] [] new done = old ∷ []
 states old (s ∷ steps) (r ∷ replies) new done = old ∷ states done.0 steps replies new done.2
 states old [] (r ∷ replies) new done = absurd done
@@ -32,11 +34,17 @@ is_table s t term = option_map_or (λ u. u == t) (resolve s.world.tables term) f
 abbrev pub walk_name : List ℕ → List ℕ → List ℕ → Option Bool
 walk_name name own lookup = if bytes_eq name own then Some false else if bytes_eq name lookup then Some true else None
 
--- what a call asks of the table for a walk: None is first, Some is next of this key; with it, whether it asks for the objects too; the
--- outer None is any other call
+-- what a call asks of the table for a walk: None is first, Some is next of this key; with it, whether it asks for the
+-- objects too; the outer None is any other call
 abbrev pub walk_call : State → ℕ → List ℕ → List Term → Option (Option Term × Bool)
-walk_call s t name (term ∷ []) = if is_table s t term then option_map (λ objects. (None, objects)) (walk_name name (codes "first") (codes "first_lookup")) else None
-walk_call s t name (term ∷ key ∷ []) = if is_table s t term then option_map (λ objects. (Some key, objects)) (walk_name name (codes "next") (codes "next_lookup")) else None
+walk_call s t name (term ∷ []) =
+    if is_table s t term
+    then option_map (λ objects. (None, objects)) (walk_name name (codes "first") (codes "first_lookup"))
+    else None
+walk_call s t name (term ∷ key ∷ []) =
+    if is_table s t term
+    then option_map (λ objects. (Some key, objects)) (walk_name name (codes "next") (codes "next_lookup"))
+    else None
 walk_call s t name _ = None
 
 -- the same of a step, where this process asks
@@ -55,14 +63,16 @@ Answers objects r steps [] Further = (r ≡ key_reply None) × (steps ≡ [])
 Answers objects r steps (key ∷ keys) Further = IsKey objects key r × Further key keys
 
 module _ (p t : ℕ) where
-  -- the calls of first and next, each with the objects or without, that the process makes on the table are, in order, this one and next of
-  -- each key that is answered
-  abbrev pub Walks : Option Term → List Term → (old : State) (steps : List Step) (replies : List Reply) (new : State) → run old steps replies new → Type 0
+  -- the calls of first and next, each with the objects or without, that the process makes on the table are, in order,
+  -- this one and next of each key that is answered
+  abbrev pub Walks : Option Term → List Term → (old : State) (steps : List Step) (replies : List Reply) (new : State)
+      → run old steps replies new → Type 0
   Walks call keys old [] [] new done = ⊥
   Walks call keys old (s ∷ steps) (r ∷ replies) new done =
       MatchOption (walk_step old p t s)
       (Walks call keys done.0 steps replies new done.2)
-      (λ asked. (asked.0 ≡ call) × Answers asked.1 r steps keys (λ key keys. Walks (Some key) keys done.0 steps replies new done.2))
+      (λ asked. (asked.0 ≡ call)
+      × Answers asked.1 r steps keys (λ key keys. Walks (Some key) keys done.0 steps replies new done.2))
   Walks call keys old [] (r ∷ replies) new done = ⊥
   Walks call keys old (s ∷ steps) [] new done = ⊥
 
@@ -74,6 +84,8 @@ pub record IsWhole (t : ℕ) (stretch : List State) (keys : List Term) : Type 0 
 -- in every run, each walk over a table that stays fixed, whoever fixes it, is whole, whatever others do meanwhile
 abbrev pub WalksAreWhole : Type 0
 WalksAreWhole =
-    (old : State) (steps : List Step) (replies : List Reply) (new : State) (done : run old steps replies new) (p t : ℕ) (keys : List Term)
-    → IsSound old → AllByRecursion (λ s. is_fixed_in t s ≡ true) (states old steps replies new done) → Walks p t None keys old steps replies new done
+    (old : State) (steps : List Step) (replies : List Reply) (new : State) (done : run old steps replies new)
+    (p t : ℕ) (keys : List Term)
+    → IsSound old → AllByRecursion (λ s. is_fixed_in t s ≡ true) (states old steps replies new done)
+    → Walks p t None keys old steps replies new done
     → IsWhole t (states old steps replies new done) keys

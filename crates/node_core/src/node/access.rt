@@ -25,7 +25,8 @@ impl<H: KeyHash + Copy + Drop> Node<H> {
 
     /// The table that a term names, where the process may read it.
     pub(crate) fn readable(&self, pid: u32, term: &Term) -> Option<&Walked<SplitRows<H>>>
-        ensures { option_copied result ≡ option_map (λ found. found.1.fixed) (usable Read self.now.world.tables pid term.now) }
+        ensures { option_copied result
+            ≡ option_map (λ found. found.1.fixed) (usable Read self.now.world.tables pid term.now) }
     {
         let id = self.world.resolve(term)?;
         let head = self.world.head(id)?;
@@ -42,8 +43,10 @@ impl<H: KeyHash + Copy + Drop> Node<H> {
         pid: u32,
         term: &Term,
     ) -> Option<&mut Walked<SplitRows<H>>>
-        ensures* lends { sem 𝓛 (LendsUsable H.row H.KeyHash H.Clone ⟦<SplitRows<H> as Rows>⟧ self.entry access pid term.now result) }
-        ensures value { option_copied_mut result ≡ option_map (λ found. found.1.fixed) (usable access self.old.world.tables pid term.now) }
+        ensures* lends { sem 𝓛
+            (LendsUsable H.row H.KeyHash H.Clone ⟦<SplitRows<H> as Rows>⟧ self.entry access pid term.now result) }
+        ensures value { option_copied_mut result
+            ≡ option_map (λ found. found.1.fixed) (usable access self.old.world.tables pid term.now) }
     {
         let id = self.world.resolve(term)?;
         let head = self.world.head(id)?;
@@ -56,7 +59,8 @@ impl<H: KeyHash + Copy + Drop> Node<H> {
     /// The table with an identifier, for a change of it alone. What may then be due of it is looked for.
     pub(crate) fn table_mut(&mut self, id: u32) -> Option<&mut Walked<SplitRows<H>>>
         ensures* lends { sem 𝓛 (LendsTable H.row H.KeyHash H.Clone ⟦<SplitRows<H> as Rows>⟧ self.entry id result) }
-        ensures value { option_copied_mut result ≡ option_map (λ table. table.fixed) (table_at self.old.world.tables id) }
+        ensures value { option_copied_mut result
+            ≡ option_map (λ table. table.fixed) (table_at self.old.world.tables id) }
     {
         lend(&self.world, &mut self.due, id);
         self.world.table_mut(id)

@@ -1,5 +1,5 @@
 // The table of calls: a name and its method, at most eight names a function, by number of arguments.
-ghost use Rattle.node_core.specs.Calls.{call, calls_of_none, calls_of_one, object_calls_of_two, search_calls_of_two, table_calls_of_two, calls_of_three, calls_of_four};
+ghost use Rattle.node_core.specs.Calls.{call, calls_of_none, calls_of_one, calls_of_two, other_calls_of_two, table_calls_of_two, calls_of_three, calls_of_four};
 ghost use Rattle.node_core.specs.inside.Refusals.{Comes};
 
 use super::Node;
@@ -58,7 +58,7 @@ impl<H: KeyHash + Copy + Drop> Node<H> {
         x: &Term,
         y: &Term,
     ) -> Result<Reply, Refusal>
-        ensures { Comes (object_calls_of_two self.old pid name.now x.now y.now (search_calls_of_two self.old pid name.now x.now y.now (table_calls_of_two self.old pid name.now x.now y.now))) self.old result self.new }
+        ensures { Comes (calls_of_two self.old pid name.now x.now y.now) self.old result self.new }
     {
         if name == "insert" {
             self.insert(pid, x, y)
@@ -86,7 +86,7 @@ impl<H: KeyHash + Copy + Drop> Node<H> {
         x: &Term,
         y: &Term,
     ) -> Result<Reply, Refusal>
-        ensures { Comes (search_calls_of_two self.old pid name.now x.now y.now (table_calls_of_two self.old pid name.now x.now y.now)) self.old result self.new }
+        ensures { Comes (other_calls_of_two self.old pid name.now x.now y.now) self.old result self.new }
     {
         if name == "match" {
             self.match_bindings(pid, x, y)

@@ -1,10 +1,8 @@
 // Calls that make tables and let them go.
 ghost use Rattle.std.specs.Prelude.{◌≡◌, ◌≤◌, true, false, [], ◌∷◌, IfOk};
-ghost use Rattle.node_core.specs.Access.{asks};
 ghost use Rattle.ownership.specs.Outcomes as outcomes;
 ghost use Rattle.ownership.specs.Tables as tables;
-ghost use Rattle.node_core.specs.declared.step.Reply.TheVariants.{Value};
-ghost use Rattle.node_core.specs.rules.Tables.{New, DeleteTable, new_table_of};
+ghost use Rattle.node_core.specs.rules.Tables.{New, DeleteTable, makes, new_table_of};
 ghost use Rattle.node_core.specs.inside.Due.{IsIndex};
 ghost use Rattle.node_core.specs.inside.Refusals.{Comes};
 
@@ -41,7 +39,7 @@ impl<H: KeyHash + Copy + Drop> Node<H> {
 
     fn new_table(&mut self, pid: u32, name: &Atom, options: NewOptions) -> Result<Reply, Refusal>
         requires { 1 ≤ options.keypos }
-        ensures { Comes (asks self.old Value (tables.New self.old.world pid name.now options (new_table_of self.old.limits.objects options (true ∷ false ∷ [])))) self.old result self.new }
+        ensures { Comes (makes self.old pid name.now options (true ∷ false ∷ [])) self.old result self.new }
     {
         let table = match self.empty_table(&options) {
             Ok(table) => table,
@@ -83,7 +81,8 @@ impl<H: KeyHash + Copy + Drop> Node<H> {
     }
 }
 
-/// The table enters the world. The index of what is due has room for it first, so that no later step wants memory for it.
+/// The table enters the world. The index of what is due has room for it first, so that no later step wants memory for
+/// it.
 fn enter<H: KeyHash + Copy + Drop>(
     world: &mut World<SplitRows<H>>,
     due: &mut Identifiers,

@@ -25,7 +25,9 @@ impl<H: KeyHash + Copy + Drop> Node<H> {
         updates: &Term,
         default: Option<&Term>,
     ) -> Result<Reply, Refusal>
-        ensures { Comes (writes self.old pid table.now (UpdateCounter key.now updates.now (option_copied default.entry))) self.old result self.new }
+        ensures { Comes
+            (writes self.old pid table.now (UpdateCounter key.now updates.now (option_copied default.entry)))
+            self.old result self.new }
     {
         let alloc = self.alloc;
         let Some(table) = self.usable_mut(Access::Write, pid, table) else {
@@ -43,7 +45,9 @@ impl<H: KeyHash + Copy + Drop> Node<H> {
         updates: &Term,
         default: Option<&Term>,
     ) -> Result<Reply, Refusal>
-        ensures { Comes (writes self.old pid table.now (UpdateElement key.now updates.now (option_copied default.entry))) self.old result self.new }
+        ensures { Comes
+            (writes self.old pid table.now (UpdateElement key.now updates.now (option_copied default.entry)))
+            self.old result self.new }
     {
         let alloc = self.alloc;
         let Some(table) = self.usable_mut(Access::Write, pid, table) else {
@@ -62,7 +66,8 @@ fn count<R: Rows>(
     updates: &Term,
     default: Option<&Term>,
 ) -> Result<Term, Refusal>
-    ensures { table_refusals.Comes (Counts key.now updates.now (option_copied default.entry) table.old) table.old result table.new }
+    ensures { table_refusals.Comes (Counts key.now updates.now (option_copied default.entry) table.old)
+        table.old result table.new }
 {
     let ops = read_ops(alloc, updates, table.keypos())?;
     let answer = table.update_counter(key, &ops, default);
@@ -78,7 +83,8 @@ fn write<R: Rows>(
     updates: &Term,
     default: Option<&Term>,
 ) -> Result<bool, Refusal>
-    ensures { table_refusals.Comes (WritesTold key.now updates.now (option_copied default.entry) table.old) table.old result table.new }
+    ensures { table_refusals.Comes (WritesTold key.now updates.now (option_copied default.entry) table.old)
+        table.old result table.new }
 {
     let specs = read_element_specs(alloc, updates, table.keypos())?;
     table.update_element(key, specs, default)

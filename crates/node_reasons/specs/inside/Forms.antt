@@ -9,11 +9,13 @@ use Rattle.ownership.specs.Options.{heir_said, is_tuning}
 
 abbrev pub is_access_word : List ℕ → Bool
 is_access_word word =
-    bytes_eq word (codes "public") || bytes_eq word (codes "protected") || bytes_eq word (codes "private") || bytes_eq word (codes "named_table")
-    || bytes_eq word (codes "compressed")
+    bytes_eq word (codes "public") || bytes_eq word (codes "protected") || bytes_eq word (codes "private")
+    || bytes_eq word (codes "named_table") || bytes_eq word (codes "compressed")
 
 abbrev pub is_word : List ℕ → Bool
-is_word word = bytes_eq word (codes "set") || bytes_eq word (codes "bag") || bytes_eq word (codes "duplicate_bag") || is_access_word word
+is_word word =
+    bytes_eq word (codes "set") || bytes_eq word (codes "bag") || bytes_eq word (codes "duplicate_bag")
+    || is_access_word word
 
 abbrev pub is_keypos_form : Term-F Term → Bool
 is_keypos_form (Term-F.Int (pos n)) = nat_le 1 n && nat_le n 4294967295

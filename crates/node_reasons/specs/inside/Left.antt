@@ -36,7 +36,8 @@ abbrev pub use_left : Access → ℕ → Option Head → Reason
 use_left access p head = head_left access p head (argument 1 (lacks access))
 
 abbrev pub content_left : Access → ℕ → Option Head → Option Fixed → (Content → Reason) → Reason
-content_left access p head fixed rest = option_map_or (λ f. head_left access p head (rest f.content)) fixed (argument 1 rule.NoTable)
+content_left access p head fixed rest =
+    option_map_or (λ f. head_left access p head (rest f.content)) fixed (argument 1 rule.NoTable)
 
 -- the table is the process's own: then this
 abbrev pub own_left : ℕ → Option Head → Reason → Reason
@@ -45,7 +46,8 @@ own_left p (Some head) rest = if owned_by head p then rest else argument 1 rule.
 
 abbrev pub giving_to_left : ℕ → Head → Option ℕ → Reason
 giving_to_left p head None = argument 2 rule.NotAPid
-giving_to_left p head (Some q) = own_left p (Some head) (if q == p then argument 2 rule.IsTheCaller else argument 2 rule.IsNotLiving)
+giving_to_left p head (Some q) =
+    own_left p (Some head) (if q == p then argument 2 rule.IsTheCaller else argument 2 rule.IsNotLiving)
 
 abbrev pub giving_left : ℕ → Option Head → Term → Reason
 giving_left p None pid = argument 1 rule.NoTable
@@ -76,7 +78,9 @@ position_left None rest = argument 3 rule.NotAPosition
 position_left (Some position) rest = if position == 0 then argument 3 rule.NotAPosition else rest
 
 abbrev pub element_left : Term → Term → Bool → Content → Reason
-element_left key position needed content = position_left (position_of position) (key_left needed (argument 3 rule.NoElement) (objects_under content.slots key))
+element_left key position needed content =
+    position_left (position_of position)
+    (key_left needed (argument 3 rule.NoElement) (objects_under content.slots key))
 
 -- the table is a set, and the Default an object: then this
 abbrev pub set_left : Term → Option Term → Content → Reason → Reason

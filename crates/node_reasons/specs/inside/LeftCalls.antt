@@ -4,8 +4,10 @@ use Rattle.std.specs.Option.{option_map_or}
 use Rattle.std.specs.Str.{bytes_eq}
 use Rattle.ets_term.specs.declared.term.Term.{Term}
 use Rattle.ets_term.specs.Depth.{is_too_deep}
+use Rattle.table_ops.specs.Content.{Content}
 use Rattle.fixed_walk.specs.Fixed.{Fixed}
 use Rattle.ownership.specs.World.{Table, World, head_of, lives}
+use Rattle.node_core.specs.declared.node.access.Access.{Access}
 use Rattle.node_core.specs.declared.node.access.Access.TheVariants.{Read, Write}
 use Rattle.node_core.specs.declared.step.Call.{Call}
 use Rattle.node_core.specs.declared.step.Reply.{Reply}
@@ -21,6 +23,10 @@ use Rattle.node_reasons.specs.inside.Left.{head_left, use_left, content_left, ow
 
 abbrev pub fixed_of : Option Table → Option Fixed
 fixed_of table = option_map (λ t. t.fixed) table
+
+-- of a table as a call names it: the process may use it so, then this of its content
+abbrev pub table_left : Access → ℕ → Option Table → (Content → Reason) → Reason
+table_left access p table rest = content_left access p (head_of table) (fixed_of table) rest
 
 abbrev pub row_left : List ℕ → List ℕ → Reason → Reason → Reason
 row_left name own reason otherwise = if bytes_eq name own then reason else otherwise
@@ -71,17 +77,17 @@ module _ (p : ℕ) (name : List ℕ) (table : Option Table) where
   module _ (y z : Term) where
     abbrev pub three_left : Reason
     three_left =
-        row_left name (codes "lookup_element") (content_left Read p (head_of table) (fixed_of table) (element_left y z true)) (
-        row_left name (codes "update_counter") (content_left Write p (head_of table) (fixed_of table) (counting_left y z None true)) (
-        row_left name (codes "update_element") (content_left Write p (head_of table) (fixed_of table) (writing_left y z None)) (
+        row_left name (codes "lookup_element") (table_left Read p table (element_left y z true)) (
+        row_left name (codes "update_counter") (table_left Write p table (counting_left y z None true)) (
+        row_left name (codes "update_element") (table_left Write p table (writing_left y z None)) (
         row_left name (codes "give_away") (giving_left p (head_of table) y) (
         no_call name))))
 
     abbrev pub four_left : Term → Reason
     four_left default =
-        row_left name (codes "lookup_element") (content_left Read p (head_of table) (fixed_of table) (element_left y z false)) (
-        row_left name (codes "update_counter") (content_left Write p (head_of table) (fixed_of table) (counting_left y z (Some default) false)) (
-        row_left name (codes "update_element") (content_left Write p (head_of table) (fixed_of table) (writing_left y z (Some default))) (
+        row_left name (codes "lookup_element") (table_left Read p table (element_left y z false)) (
+        row_left name (codes "update_counter") (table_left Write p table (counting_left y z (Some default) false)) (
+        row_left name (codes "update_element") (table_left Write p table (writing_left y z (Some default))) (
         no_call name)))
 
 module _ (w : World) (p : ℕ) (name : List ℕ) where
@@ -100,7 +106,8 @@ refused_left w p asked limited = if limited then whole (limit_of asked.name) els
 abbrev pub asked_left : World → ℕ → Call → Bool → Reason
 asked_left w p asked limited =
     if lives w.processes p
-    then option_map_or (λ place. argument (place + 1) rule.TooDeep) (position is_too_deep asked.args) (refused_left w p asked limited)
+    then option_map_or (λ place. argument (place + 1) rule.TooDeep) (position is_too_deep asked.args)
+    (refused_left w p asked limited)
     else whole rule.NoProcess
 
 abbrev pub enrol_left : Bool → Reason

@@ -9,13 +9,16 @@ use Rattle.ownership.specs.contracts.process.Process as process
 use Rattle.ownership.specs.World.{Table, Tables, Processes, World}
 
 abbrev pub table_code : Coded Table
-table_code = code_by (Head × Fixed) (coded× head.the_row.coded fixed_code) (λ t. (t.head, t.fixed)) (λ p. record { head = p.0; fixed = p.1 }) (λ _. refl)
+table_code =
+    code_by (Head × Fixed) (coded× head.the_row.coded fixed_code) (λ t. (t.head, t.fixed))
+    (λ p. record { head = p.0; fixed = p.1 }) (λ _. refl)
 
 abbrev pub world_code : Coded World
 world_code =
     code_by
     ((ℕ × ℕ) × (Processes × Tables))
-    (coded× (coded× coded_ℕ coded_ℕ) (coded× (coded_list (coded× coded_ℕ process.the_row.coded)) (coded_list (coded_option table_code))))
+    (coded× (coded× coded_ℕ coded_ℕ)
+    (coded× (coded_list (coded× coded_ℕ process.the_row.coded)) (coded_list (coded_option table_code))))
     (λ w. ((w.most_processes, w.most_tables), (w.processes, w.tables)))
     (λ p. record { most_processes = p.0.0; most_tables = p.0.1; processes = p.1.0; tables = p.1.1 })
     (λ _. refl)

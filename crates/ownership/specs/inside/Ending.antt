@@ -15,7 +15,9 @@ posted_of processes (Some message) = post processes message.0 message.1
 -- the messages of these tables
 abbrev pub messages_at : Processes → ℕ → (ℕ → Option Table) → List ℕ → List (ℕ × Term)
 messages_at processes p at [] = []
-messages_at processes p at (t ∷ ids) = option_map_or (λ message. message ∷ messages_at processes p at ids) (message_of processes p t (at t)) (messages_at processes p at ids)
+messages_at processes p at (t ∷ ids) =
+    option_map_or (λ message. message ∷ messages_at processes p at ids) (message_of processes p t (at t))
+    (messages_at processes p at ids)
 
 abbrev pub posted : Processes → ℕ → Tables → List ℕ → Processes
 posted processes p tables ids = post_all processes (messages_at processes p (table_at tables) ids)

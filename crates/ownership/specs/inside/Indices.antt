@@ -1,4 +1,5 @@
--- The identifiers beside the tables: under names, under each process those that it ever came to own until it ends, and those that may be fixed.
+-- The identifiers beside the tables: under names, under each process those that it ever came to own until it ends, and
+-- those that may be fixed.
 use Rattle.std.specs.Prelude.{◌≡◌, ◌≤◌, ◌<◌, ◌⊎◌, ℕ, suc, ◌==◌, Bool, true, false, if◌then◌else◌, List, [], ◌∷◌, Option, Some, length, vec_capacity}
 use Rattle.std.specs.Option.{option_map_or}
 use Rattle.std.specs.Map.{lookup}
@@ -41,7 +42,8 @@ ByOwner owned hs = (t : ℕ) (head : Head) → head_at hs t ≡ Some head → Am
 
 -- all tables of an owner are among these
 abbrev pub AreOwned : List ℕ → ℕ → Tables → Type 0
-AreOwned ids p tables = (t : ℕ) (table : Table) → table_at tables t ≡ Some table → (table.head.owner == p) ≡ true → Among t ids
+AreOwned ids p tables =
+    (t : ℕ) (table : Table) → table_at tables t ≡ Some table → (table.head.owner == p) ≡ true → Among t ids
 
 -- more may stand under owners, and nothing else changes
 pub record Notes (old new : Indices) : Type 0 where
@@ -56,12 +58,15 @@ pub record Forgets (owner : ℕ) (old new : Indices) : Type 0 where
 
 -- each of these tables stands under its heir, where that lives
 abbrev pub AreInherited : Indices → Processes → Tables → List ℕ → Type 0
-AreInherited indices processes tables ids = (t : ℕ) (table : Table) (heir : Heir) → Among t ids → table_at tables t ≡ Some table → living_heir processes table.head ≡ Some heir → Among t (ids_under indices heir.pid)
+AreInherited indices processes tables ids =
+    (t : ℕ) (table : Table) (heir : Heir) → Among t ids → table_at tables t ≡ Some table
+    → living_heir processes table.head ≡ Some heir → Among t (ids_under indices heir.pid)
 
 -- each table of an owner does
 abbrev pub AreBequeathed : Indices → Processes → ℕ → Tables → Type 0
 AreBequeathed indices processes p tables =
-    (t : ℕ) (table : Table) (heir : Heir) → table_at tables t ≡ Some table → (table.head.owner == p) ≡ true → living_heir processes table.head ≡ Some heir → Among t (ids_under indices heir.pid)
+    (t : ℕ) (table : Table) (heir : Heir) → table_at tables t ≡ Some table → (table.head.owner == p) ≡ true
+    → living_heir processes table.head ≡ Some heir → Among t (ids_under indices heir.pid)
 
 -- nobody fixes the table, and no slot of it is held
 abbrev pub IsIdle : Fixed → Type 0
@@ -74,7 +79,8 @@ is_fixed_at tables t = option_map_or (λ table. is_fixed table.fixed.fixes) (tab
 -- the identifiers ascend, and a table that is not among them is idle, but for the one that was lent last
 pub record AreNoted (ids : List ℕ) (lent : Option ℕ) (tables : Tables) : Type 0 where
   pub order : Between 0 (length tables) ids
-  pub each : (t : ℕ) (table : Table) → table_at tables t ≡ Some table → (lent ≡ Some t) ⊎ Among t ids ⊎ IsIdle table.fixed
+  pub each : (t : ℕ) (table : Table) → table_at tables t ≡ Some table
+      → (lent ≡ Some t) ⊎ Among t ids ⊎ IsIdle table.fixed
 
 -- what stands beside the tables goes with them
 pub record IsKept (indices : Indices) (tables : Tables) : Type 0 where

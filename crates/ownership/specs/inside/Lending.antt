@@ -15,4 +15,6 @@ module _ (R : RattleType) (rows : Ghosts R.Denot) where
 
   -- all else in the world stays
   abbrev pub LendsTable : MutBor World → ℕ → Option (MutBor Fixed) → Fml
-  LendsTable s t lent = LendsIf (world.the_row R rows) (walked.the_row R rows) s lent (λ f. record s.now { tables = with_fixed s.now.tables t f }) s.now
+  LendsTable s t lent =
+      LendsIf (world.the_row R rows) (walked.the_row R rows)
+      s lent (λ f. record s.now { tables = with_fixed s.now.tables t f }) s.now

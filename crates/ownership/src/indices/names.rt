@@ -27,8 +27,13 @@ impl Indices {
         id: u32,
     ) -> Result<(), AllocError>
         ensures rest { self.new ≡ record self.old { names = self.new.names } }
-        ensures ok { OnOk result ((hs : List (Option model.Head)) → length hs ≡ id → ByName (get_by_text self.old.names) hs → (head.now.named ≡ true → find_named hs head.now.name ≡ None) → ByName (get_by_text self.new.names) (hs ++ Some head.now ∷ [])) }
-        ensures err { OnErr result ((hs : List (Option model.Head)) → ByName (get_by_text self.old.names) hs → ByName (get_by_text self.new.names) hs) }
+        ensures ok { OnOk result
+            ((hs : List (Option model.Head)) → length hs ≡ id → ByName (get_by_text self.old.names) hs
+            → (head.now.named ≡ true → find_named hs head.now.name ≡ None)
+            → ByName (get_by_text self.new.names) (hs ++ Some head.now ∷ [])) }
+        ensures err { OnErr result
+            ((hs : List (Option model.Head)) → ByName (get_by_text self.old.names) hs
+            → ByName (get_by_text self.new.names) hs) }
     {
         if head.named {
             self.names
@@ -40,7 +45,8 @@ impl Indices {
     /// The name of a table that goes is free again. It takes no memory.
     pub fn forget(&mut self, head: &Head)
         ensures rest { self.new ≡ record self.old { names = self.new.names } }
-        ensures kept { (tables : Tables) (t : ℕ) → head_of (table_at tables t) ≡ Some head.now → IsKept self.old tables → IsKept self.new (slice_set tables t None) }
+        ensures kept { (tables : Tables) (t : ℕ) → head_of (table_at tables t) ≡ Some head.now
+            → IsKept self.old tables → IsKept self.new (slice_set tables t None) }
     {
         if head.named {
             let _ = self.names.swap_remove(head.name.text());

@@ -74,7 +74,9 @@ impl Indices {
         id: u32,
     ) -> Result<(), AllocError>
         ensures stays { Notes self.old self.new }
-        ensures ok { OnOk result ((table : model.Table) (heir : heir.Heir) → table_at places.now id ≡ Some table → living_heir processes.now.entries table.head ≡ Some heir → Among id (ids_under self.new heir.pid)) }
+        ensures ok { OnOk result
+            ((table : model.Table) (heir : heir.Heir) → table_at places.now id ≡ Some table
+            → living_heir processes.now.entries table.head ≡ Some heir → Among id (ids_under self.new heir.pid)) }
     {
         let Some(Some(table)) = places.get(id as usize) else {
             return Ok(());

@@ -13,8 +13,9 @@ use indexmap::IndexMap;
 use std::mem;
 
 impl Indices {
-    /// The process lives no more: its fixes go, and each of its tables, which are these, is its heir's, where that lives
-    /// and has it written down, or is gone. Only its own and those that are fixed need be looked at. It takes no memory.
+    /// The process lives no more: its fixes go, and each of its tables, which are these, is its heir's, where that
+    /// lives and has it written down, or is gone. Only its own and those that are fixed need be looked at. It takes no
+    /// memory.
     pub fn settle<R: Rows>(
         &mut self,
         places: &mut Vec<Option<Table<R>>>,
@@ -54,7 +55,8 @@ impl Indices {
         requires heirs { AreBequeathed self.old processes.now.entries pid places.old.items }
         ensures rest { self.new ≡ record self.old { names = self.new.names } }
         ensures kept { IsKept self.new places.new.items }
-        ensures after { places.new.items ≡ slice_set places.old.items id (table_after processes.now.entries pid (table_at places.old.items id)) }
+        ensures after { places.new.items
+            ≡ slice_set places.old.items id (table_after processes.now.entries pid (table_at places.old.items id)) }
     {
         let place = id as usize;
         if place >= places.len() {
@@ -64,7 +66,8 @@ impl Indices {
         places[place] = self.after(processes, pid, table);
     }
 
-    /// What it makes of one table: nobody's fixes of the process are left, and one of its own goes to its heir or is gone.
+    /// What it makes of one table: nobody's fixes of the process are left, and one of its own goes to its heir or is
+    /// gone.
     fn after<R: Rows>(
         &mut self,
         processes: &IndexMap<u32, Process>,
@@ -73,7 +76,9 @@ impl Indices {
     ) -> Option<Table<R>>
         ensures rest { self.new ≡ record self.old { names = self.new.names } }
         ensures after { result ≡ table_after processes.now.entries pid table }
-        ensures kept { (tables : Tables) (t : ℕ) → table_at tables t ≡ table → AreBequeathed self.old processes.now.entries pid tables → IsKept self.old tables → IsKept self.new (slice_set tables t result) }
+        ensures kept { (tables : Tables) (t : ℕ) → table_at tables t ≡ table
+            → AreBequeathed self.old processes.now.entries pid tables → IsKept self.old tables
+            → IsKept self.new (slice_set tables t result) }
     {
         let mut table = table?;
         table.let_go(pid);

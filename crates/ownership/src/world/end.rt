@@ -19,8 +19,9 @@ use std::alloc::{AllocError, Global};
 use std::mem;
 
 impl<R: Rows> World<R> {
-    /// The process ends: its messages and fixes go, and each of its tables, in order of creation, goes to its heir where
-    /// that lives, with the transfer message, or is gone (stdlib manual, module ets). `NoProcess` where it does not live.
+    /// The process ends: its messages and fixes go, and each of its tables, in order of creation, goes to its heir
+    /// where that lives, with the transfer message, or is gone (stdlib manual, module ets). `NoProcess` where it does
+    /// not live.
     pub fn end(&mut self, pid: u32) -> Result<(), WorldFault>
         ensures { Comes (End self.old pid) self.old result self.new }
     {
@@ -124,7 +125,9 @@ fn post_of<R: Rows>(
     pid: u32,
     id: u32,
 ) -> Result<(), AllocError>
-    ensures ok { OnOk result (processes.new.entries ≡ posted_of processes.old.entries (message_of processes.old.entries pid id (table_at places.now id))) }
+    ensures ok { OnOk result
+        (processes.new.entries
+        ≡ posted_of processes.old.entries (message_of processes.old.entries pid id (table_at places.now id))) }
     ensures err { OnErr result (processes.new.entries ≡ processes.old.entries) }
 {
     let Some(Some(table)) = places.get(id as usize) else {
@@ -144,7 +147,8 @@ fn take_all_back<R: Rows>(
     ids: &[u32],
     pid: u32,
 )
-    ensures { (before : model.Processes) → processes.old.entries ≡ posted before pid places.now ids.now → processes.new.entries ≡ before }
+    ensures { (before : model.Processes) → processes.old.entries ≡ posted before pid places.now ids.now
+        → processes.new.entries ≡ before }
 {
     let len = ids.len();
     for i in 0..len {
@@ -159,7 +163,9 @@ fn take_back_of<R: Rows>(
     pid: u32,
     id: u32,
 )
-    ensures { (before : model.Processes) → processes.old.entries ≡ posted_of before (message_of before pid id (table_at places.now id)) → processes.new.entries ≡ before }
+    ensures { (before : model.Processes)
+        → processes.old.entries ≡ posted_of before (message_of before pid id (table_at places.now id))
+        → processes.new.entries ≡ before }
 {
     let Some(Some(table)) = places.get(id as usize) else {
         return;

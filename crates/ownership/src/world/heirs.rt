@@ -1,6 +1,5 @@
 ghost use Rattle.std.specs.Prelude.{◌≡◌, OnOk, OnErr};
-ghost use Rattle.ownership.specs.Messages.{post};
-ghost use Rattle.ownership.specs.Tables.{GiveAway, SetOptions, changed, passed_to, with_heir};
+ghost use Rattle.ownership.specs.Tables.{GiveAway, SetOptions, changed, passed, passed_to, with_heir};
 ghost use Rattle.ownership.specs.Outcomes.{Comes};
 
 use super::World;
@@ -32,9 +31,9 @@ impl<R: Rows> World<R> {
         Ok(())
     }
 
-    /// The owner sets the heir of its table (stdlib manual, ets:setopts/2): `{heir,none}`, `{heir,Pid,Data}`, or a list of
-    /// these, of which the last counts. `Badarg` where there is no such table, it is not the process's own, or an entry
-    /// is none of these.
+    /// The owner sets the heir of its table (stdlib manual, ets:setopts/2): `{heir,none}`, `{heir,Pid,Data}`, or a list
+    /// of these, of which the last counts. `Badarg` where there is no such table, it is not the process's own, or an
+    /// entry is none of these.
     pub fn set_options(&mut self, pid: u32, id: u32, options: &Term) -> Result<(), WorldFault>
         ensures { Comes (SetOptions self.old pid id options.now) self.old result self.new }
     {
@@ -54,7 +53,7 @@ impl<R: Rows> World<R> {
 
     /// The table has another owner, which gets the message with it.
     fn pass(&mut self, id: u32, owner: u32, message: Term) -> Result<(), AllocError>
-        ensures ok { OnOk result (self.new ≡ record self.old { processes = post self.old.processes owner message; tables = changed (passed_to owner) self.old.tables id }) }
+        ensures ok { OnOk result (self.new ≡ passed self.old id owner message) }
         ensures err { OnErr result (self.new ≡ self.old) }
     {
         if let Err(error) = self.indices.note_owner(self.alloc, owner, id) {

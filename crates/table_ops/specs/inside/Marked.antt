@@ -56,7 +56,8 @@ noted key_at marks = map (λ mark. (key_at mark.place, mark.left)) marks
 -- the slot of a key has the objects that stay, or goes
 abbrev pub thin_key : Bool → Option Term → List Term → List Slot → List Slot
 thin_key hold None left slots = slots
-thin_key hold (Some key) left slots = if hold || has_objects left then with_objects slots key left else without slots key
+thin_key hold (Some key) left slots =
+    if hold || has_objects left then with_objects slots key left else without slots key
 
 -- so do all that are noted, the last first
 abbrev pub thin_all : Bool → List Noted → List Slot → List Slot
@@ -71,4 +72,5 @@ Before slots (Some first) (Some second) = StandsBefore slots first second
 -- the slots that are noted stand in this order
 abbrev pub AreInOrder : List Slot → List Noted → Type 0
 AreInOrder slots [] = Unit {0}
-AreInOrder slots (n ∷ notes) = (is_some n.0 ≡ true) × AllByRecursion (λ m. Before slots n.0 m.0) notes × AreInOrder slots notes
+AreInOrder slots (n ∷ notes) =
+    (is_some n.0 ≡ true) × AllByRecursion (λ m. Before slots n.0 m.0) notes × AreInOrder slots notes

@@ -12,7 +12,8 @@ pub record Keeps {R : Type 0} (readiness : R → List Bool) (old new : Store R) 
 
 -- what a contract sees of a store
 abbrev pub content_of : {R : Type 0} → (R → List Slot) → Store R → Content
-content_of content store = record { kind = store.kind; keypos = store.keypos; limit = store.limit; slots = content store.rows }
+content_of content store =
+    record { kind = store.kind; keypos = store.keypos; limit = store.limit; slots = content store.rows }
 
 -- the slots are those of such a table, with so many objects, which are no more than its limit
 abbrev pub Holds : {R : Type 0} → (R → List Slot) → Store R → ℕ → Type 0

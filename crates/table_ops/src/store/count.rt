@@ -1,10 +1,8 @@
 // How many objects are chosen: of one slot, or of all.
 ghost use Rattle.std.specs.Prelude.{◌≡◌, ◌≤◌, ◌<◌, ◌^◌, [], ◌∷◌, length, option_copied, IfOk, OnOk};
-ghost use Rattle.std.specs.Option.{option_map};
-ghost use Rattle.ets_term.specs.Data.{data_of};
 ghost use Rattle.bucket_table.specs.Slots.{object_count};
 ghost use Rattle.node_list.specs.Ticks.{tick, ticks};
-ghost use Rattle.table_ops.specs.Queries.{chosen_count, tried};
+ghost use Rattle.table_ops.specs.Queries.{chosen_count, tried_under};
 ghost use Rattle.table_ops.specs.Read.{all_objects};
 ghost use Rattle.table_ops.specs.inside.Marked.{Quiet};
 
@@ -26,9 +24,12 @@ impl<R: Rows> Store<R> {
     ) -> Result<usize, AllocError>
         requires few { object_count (R.content self.now.rows) < 2 ^ 32 }
         requires quiet { Quiet (C.chooses chooser.now) (option_copied key) (R.content self.now.rows) }
-        ensures count { IfOk result (λ count. count ≡ chosen_count (C.chooses chooser.now) (all_objects (R.content self.now.rows))) }
-        ensures looks { OnOk result (looks.new ≡ ticks (tried (option_map data_of (option_copied key.entry)) (R.content self.now.rows)) looks.old) }
-        ensures at_most { looks.new ≤ ticks (tried (option_map data_of (option_copied key.entry)) (R.content self.now.rows)) looks.old }
+        ensures count { IfOk result (λ count.
+            count ≡ chosen_count (C.chooses chooser.now) (all_objects (R.content self.now.rows))) }
+        ensures looks { OnOk result
+            (looks.new ≡ ticks (tried_under (option_copied key.entry) (R.content self.now.rows)) looks.old) }
+        ensures at_most { looks.new
+            ≤ ticks (tried_under (option_copied key.entry) (R.content self.now.rows)) looks.old }
     {
         match key {
             Some(key) => self.count(chooser, self.under(key), looks),
@@ -40,7 +41,8 @@ impl<R: Rows> Store<R> {
     #[tactic(auto, using(crate::proofs::QueryLaws::appended))]
     fn count_all<C: Choose>(&self, chooser: &C, looks: &mut Looks) -> Result<usize, AllocError>
         requires few { object_count (R.content self.now.rows) < 2 ^ 32 }
-        ensures count { IfOk result (λ count. count ≡ chosen_count (C.chooses chooser.now) (all_objects (R.content self.now.rows))) }
+        ensures count { IfOk result (λ count.
+            count ≡ chosen_count (C.chooses chooser.now) (all_objects (R.content self.now.rows))) }
         ensures looks { OnOk result (looks.new ≡ ticks (object_count (R.content self.now.rows)) looks.old) }
         ensures at_most { looks.new ≤ ticks (object_count (R.content self.now.rows)) looks.old }
     {

@@ -1,10 +1,9 @@
 // Answers for objects: of one slot, of all, or of the bound key.
 ghost use Rattle.std.specs.Prelude.{◌≡◌, ◌≤◌, ◌++◌, [], length, map, is_some, IfOk, OnOk, option_copied};
-ghost use Rattle.std.specs.Option.{option_map};
 ghost use Rattle.ets_term.specs.Data.{data_of};
 ghost use Rattle.bucket_table.specs.Slots.{HasDistinctKeys, object_count};
 ghost use Rattle.node_list.specs.Ticks.{tick, ticks};
-ghost use Rattle.table_ops.specs.Queries.{answers, also, tried};
+ghost use Rattle.table_ops.specs.Queries.{answers, also, tried_under};
 ghost use Rattle.table_ops.specs.Content.{objects_under};
 ghost use Rattle.table_ops.specs.Read.{all_objects};
 ghost use Rattle.table_ops.specs.inside.Marked.{Quiet};
@@ -27,9 +26,13 @@ impl<R: Rows> Store<R> {
         looks: &mut Looks,
     ) -> Result<(), AllocError>
         requires { Quiet (λ object. is_some (G.gives asked.now object)) (option_copied key) (R.content self.now.rows) }
-        ensures answers { OnOk result (map data_of found.new.items ≡ map data_of found.old.items ++ answers (G.gives asked.now) (all_objects (R.content self.now.rows))) }
-        ensures looks { OnOk result (looks.new ≡ ticks (tried (option_map data_of (option_copied key.entry)) (R.content self.now.rows)) looks.old) }
-        ensures at_most { looks.new ≤ ticks (tried (option_map data_of (option_copied key.entry)) (R.content self.now.rows)) looks.old }
+        ensures answers { OnOk result
+            (map data_of found.new.items
+            ≡ map data_of found.old.items ++ answers (G.gives asked.now) (all_objects (R.content self.now.rows))) }
+        ensures looks { OnOk result
+            (looks.new ≡ ticks (tried_under (option_copied key.entry) (R.content self.now.rows)) looks.old) }
+        ensures at_most { looks.new
+            ≤ ticks (tried_under (option_copied key.entry) (R.content self.now.rows)) looks.old }
     {
         match key {
             Some(key) => self.gather(asked, self.under(key), found, looks),
@@ -57,7 +60,9 @@ impl<R: Rows> Store<R> {
         found: &mut Vec<Term>,
         looks: &mut Looks,
     ) -> Result<(), AllocError>
-        ensures answers { OnOk result (map data_of found.new.items ≡ map data_of found.old.items ++ answers (G.gives asked.now) (all_objects (R.content self.now.rows))) }
+        ensures answers { OnOk result
+            (map data_of found.new.items
+            ≡ map data_of found.old.items ++ answers (G.gives asked.now) (all_objects (R.content self.now.rows))) }
         ensures looks { OnOk result (looks.new ≡ ticks (object_count (R.content self.now.rows)) looks.old) }
         ensures at_most { looks.new ≤ ticks (object_count (R.content self.now.rows)) looks.old }
     {
@@ -77,7 +82,8 @@ impl<R: Rows> Store<R> {
         found: &mut Vec<Term>,
         looks: &mut Looks,
     ) -> Result<(), AllocError>
-        ensures answers { OnOk result (map data_of found.new.items ≡ map data_of found.old.items ++ answers (G.gives asked.now) objects.now) }
+        ensures answers { OnOk result
+            (map data_of found.new.items ≡ map data_of found.old.items ++ answers (G.gives asked.now) objects.now) }
         ensures looks { OnOk result (looks.new ≡ ticks (length objects.now) looks.old) }
         ensures at_most { looks.new ≤ ticks (length objects.now) looks.old }
     {
@@ -96,7 +102,8 @@ impl<R: Rows> Store<R> {
         found: &mut Vec<Term>,
         looks: &mut Looks,
     ) -> Result<(), AllocError>
-        ensures answers { OnOk result (map data_of found.new.items ≡ map data_of found.old.items ++ also (G.gives asked.now object.now) []) }
+        ensures answers { OnOk result
+            (map data_of found.new.items ≡ map data_of found.old.items ++ also (G.gives asked.now object.now) []) }
         ensures looks { looks.new ≡ tick looks.old }
     {
         if let Some(answer) = asked.give(self.alloc, object, looks)? {

@@ -24,9 +24,11 @@ impl<R: Rows> Store<R> {
         key: &Term,
         object: &Term,
     ) -> Result<Undo, Refusal>
-        requires entry { IsEntry (R.content self.old.rows) (R.number self.old.rows) (R.key_at self.old.rows) key.now entry }
+        requires entry { IsEntry (R.content self.old.rows) (R.number self.old.rows) (R.key_at self.old.rows)
+            key.now entry }
         requires kept { IsKept self.old.kind (objects_under (R.content self.old.rows) key.now) }
-        ensures slots { PutsOne room self.old.kind key.now object.now (R.content self.old.rows) result (R.content self.new.rows) }
+        ensures slots { PutsOne room self.old.kind key.now object.now (R.content self.old.rows) result
+            (R.content self.new.rows) }
         ensures keeps { Keeps R.readiness self.old self.new }
     {
         match entry {
@@ -43,7 +45,8 @@ impl<R: Rows> Store<R> {
     fn put_new(&mut self, room: bool, hash: u32, key: &Term, object: &Term) -> Result<Undo, Refusal>
         requires new { objects_of (R.content self.old.rows) key.now ≡ None }
         requires hash { hash ≡ R.number self.old.rows key.now }
-        ensures slots { PutsOne room self.old.kind key.now object.now (R.content self.old.rows) result (R.content self.new.rows) }
+        ensures slots { PutsOne room self.old.kind key.now object.now (R.content self.old.rows) result
+            (R.content self.new.rows) }
         ensures keeps { Keeps R.readiness self.old self.new }
     {
         if !room {
@@ -58,8 +61,10 @@ impl<R: Rows> Store<R> {
 
     /// The object of a key in a set: it takes the place of another.
     fn put_in_set(&mut self, room: bool, place: Place, object: &Term) -> Result<Undo, Refusal>
-        requires { AtKey (R.key_at self.old.rows place) (λ key. IsKept Set (objects_under (R.content self.old.rows) key)) }
-        ensures slots { AtKey (R.key_at self.old.rows place) (λ key. PutsOne room Set key object.now (R.content self.old.rows) result (R.content self.new.rows)) }
+        requires { AtKey (R.key_at self.old.rows place) (λ key.
+            IsKept Set (objects_under (R.content self.old.rows) key)) }
+        ensures slots { AtKey (R.key_at self.old.rows place) (λ key.
+            PutsOne room Set key object.now (R.content self.old.rows) result (R.content self.new.rows)) }
         ensures keeps { Keeps R.readiness self.old self.new }
     {
         if !fits(room, self.rows.objects_at(place)) {
@@ -73,7 +78,8 @@ impl<R: Rows> Store<R> {
     /// An object of a bag: one that is there keeps its place.
     fn put_in_bag(&mut self, room: bool, place: Place, object: &Term) -> Result<Undo, Refusal>
         requires { IsSome (R.key_at self.old.rows place) }
-        ensures slots { AtKey (R.key_at self.old.rows place) (λ key. PutsOne room Bag key object.now (R.content self.old.rows) result (R.content self.new.rows)) }
+        ensures slots { AtKey (R.key_at self.old.rows place) (λ key.
+            PutsOne room Bag key object.now (R.content self.old.rows) result (R.content self.new.rows)) }
         ensures keeps { Keeps R.readiness self.old self.new }
     {
         if has(self.rows.objects_at(place), object) {
@@ -85,7 +91,8 @@ impl<R: Rows> Store<R> {
     /// One object more, behind those of the slot.
     fn put_last(&mut self, room: bool, place: Place, object: &Term) -> Result<Undo, Refusal>
         requires { IsSome (R.key_at self.old.rows place) }
-        ensures slots { AtKey (R.key_at self.old.rows place) (λ key. PutsOne room DuplicateBag key object.now (R.content self.old.rows) result (R.content self.new.rows)) }
+        ensures slots { AtKey (R.key_at self.old.rows place) (λ key.
+            PutsOne room DuplicateBag key object.now (R.content self.old.rows) result (R.content self.new.rows)) }
         ensures keeps { Keeps R.readiness self.old self.new }
     {
         if !room {

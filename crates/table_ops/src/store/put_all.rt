@@ -19,7 +19,8 @@ impl<R: Rows> Store<R> {
         requires objects { list_all (is_object self.old.keypos) objects.now ≡ true }
         requires holds { Holds R.content self.old before }
         requires shallow { list_any is_too_deep objects.now ≡ false }
-        ensures slots { PutsEach self.old.limit self.old.kind self.old.keypos objects.now (R.content self.old.rows) result (R.content self.new.rows) }
+        ensures slots { PutsEach self.old.limit self.old.kind self.old.keypos objects.now (R.content self.old.rows)
+            result (R.content self.new.rows) }
         ensures keeps { Keeps R.readiness self.old self.new }
     {
         match objects {
@@ -32,7 +33,8 @@ impl<R: Rows> Store<R> {
     fn put_one(&mut self, before: usize, object: &Term) -> Result<usize, Refusal>
         requires object { is_object self.old.keypos object.now ≡ true }
         requires holds { Holds R.content self.old before }
-        ensures slots { PutsEach self.old.limit self.old.kind self.old.keypos (object.now ∷ []) (R.content self.old.rows) result (R.content self.new.rows) }
+        ensures slots { PutsEach self.old.limit self.old.kind self.old.keypos (object.now ∷ [])
+            (R.content self.old.rows) result (R.content self.new.rows) }
         ensures keeps { Keeps R.readiness self.old self.new }
     {
         let undo = self.put_object(before < self.limit as usize, object)?;
@@ -44,7 +46,8 @@ impl<R: Rows> Store<R> {
         requires objects { list_all (is_object self.old.keypos) objects.now ≡ true }
         requires holds { Holds R.content self.old before }
         requires shallow { list_any is_too_deep objects.now ≡ false }
-        ensures slots { PutsEach self.old.limit self.old.kind self.old.keypos objects.now (R.content self.old.rows) result (R.content self.new.rows) }
+        ensures slots { PutsEach self.old.limit self.old.kind self.old.keypos objects.now (R.content self.old.rows)
+            result (R.content self.new.rows) }
         ensures keeps { Keeps R.readiness self.old self.new }
     {
         let mut count = before;
@@ -68,7 +71,8 @@ impl<R: Rows> Store<R> {
     fn put_object(&mut self, room: bool, object: &Term) -> Result<Undo, Refusal>
         requires object { is_object self.old.keypos object.now ≡ true }
         requires slots { AreSlots self.old.kind self.old.keypos (R.content self.old.rows) }
-        ensures slots { PutsObject room self.old.kind self.old.keypos object.now (R.content self.old.rows) result (R.content self.new.rows) }
+        ensures slots { PutsObject room self.old.kind self.old.keypos object.now (R.content self.old.rows) result
+            (R.content self.new.rows) }
         ensures keeps { Keeps R.readiness self.old self.new }
     {
         let Some(key) = key_of(self.keypos, object) else {
@@ -82,7 +86,8 @@ impl<R: Rows> Store<R> {
     fn take_all_back(&mut self, objects: &[Term], mut log: Vec<Undo>)
         requires objects { list_all (is_object self.old.keypos) objects.now ≡ true }
         requires long { length log.items ≤ length objects.now }
-        ensures slots { R.content self.new.rows ≡ undone_all self.old.keypos log.items objects.now (R.content self.old.rows) }
+        ensures slots { R.content self.new.rows
+            ≡ undone_all self.old.keypos log.items objects.now (R.content self.old.rows) }
         ensures keeps { Keeps R.readiness self.old self.new }
     {
         while let Some(undo) = log.pop() {

@@ -13,7 +13,8 @@ use node_list::Chain;
 impl<R: Rows> Store<R> {
     /// The place of a key's slot. No key has two.
     pub(crate) fn find(&self, key: &Term) -> Option<Place>
-        ensures place { MatchOption result (objects_of (R.content self.now.rows) key.now ≡ None) (λ place. (R.key_at self.now.rows place ≡ Some key.now) × IsSome (objects_of (R.content self.now.rows) key.now)) }
+        ensures place { MatchOption result (objects_of (R.content self.now.rows) key.now ≡ None) (λ place.
+            (R.key_at self.now.rows place ≡ Some key.now) × IsSome (objects_of (R.content self.now.rows) key.now)) }
         ensures distinct { HasDistinctKeys (R.content self.now.rows) }
     {
         self.rows.known();
@@ -24,7 +25,8 @@ impl<R: Rows> Store<R> {
     pub(crate) fn take_at(&mut self, hold: bool, place: Place) -> Chain
         requires { IsSome (R.key_at self.old.rows place) }
         ensures objects { objects_in (R.content self.old.rows) (R.key_at self.old.rows place) ≡ Some result }
-        ensures slots { AtKey (R.key_at self.old.rows place) (λ key. R.content self.new.rows ≡ thinned hold (R.content self.old.rows) key result []) }
+        ensures slots { AtKey (R.key_at self.old.rows place) (λ key.
+            R.content self.new.rows ≡ thinned hold (R.content self.old.rows) key result []) }
         ensures keeps { Keeps R.readiness self.old self.new }
     {
         if hold || self.rows.objects_at(place).is_empty() {
@@ -38,7 +40,8 @@ impl<R: Rows> Store<R> {
     /// slots are held.
     pub(crate) fn take_object(&mut self, hold: bool, place: Place, object: &Term) -> usize
         requires { IsSome (R.key_at self.old.rows place) }
-        ensures slots { AtKey (R.key_at self.old.rows place) (λ key. Thins hold (R.content self.old.rows) key object.now result (R.content self.new.rows)) }
+        ensures slots { AtKey (R.key_at self.old.rows place) (λ key.
+            Thins hold (R.content self.old.rows) key object.now result (R.content self.new.rows)) }
         ensures keeps { Keeps R.readiness self.old self.new }
     {
         let mut objects = self.rows.replace_at(place, Chain::new(self.alloc));

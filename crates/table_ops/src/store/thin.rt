@@ -1,10 +1,8 @@
 // Slots that lose objects: noted in one pass, and changed when all are noted.
 ghost use Rattle.std.specs.Prelude.{◌≡◌, ◌≤◌, ◌<◌, ◌^◌, ◌++◌, [], ℕ, Some, true, is_some, length, option_copied, OnOk, IfOk};
-ghost use Rattle.std.specs.Option.{option_map};
-ghost use Rattle.ets_term.specs.Data.{data_of};
 ghost use Rattle.bucket_table.specs.Slots.{object_count};
 ghost use Rattle.node_list.specs.Ticks.{ticks};
-ghost use Rattle.table_ops.specs.Queries.{chosen_count, tried};
+ghost use Rattle.table_ops.specs.Queries.{chosen_count, tried_under};
 ghost use Rattle.table_ops.specs.Content.{objects_under};
 ghost use Rattle.table_ops.specs.Read.{all_objects};
 ghost use Rattle.table_ops.specs.inside.Marked.{Quiet, notes_of, noted, thin_key, thin_all, Before, AreInOrder};
@@ -19,8 +17,8 @@ use ets_term::Term;
 use std::alloc::AllocError;
 
 impl<R: Rows> Store<R> {
-    /// Notes all slots of which objects are chosen, where only those of the bound key can be, if one is; answers how many
-    /// objects are.
+    /// Notes all slots of which objects are chosen, where only those of the bound key can be, if one is; answers how
+    /// many objects are.
     pub(crate) fn note_asked<C: Choose>(
         &self,
         chooser: &C,
@@ -31,10 +29,15 @@ impl<R: Rows> Store<R> {
         requires empty { marks.old.list.items ≡ [] }
         requires few { object_count (R.content self.now.rows) < 2 ^ 32 }
         requires quiet { Quiet (C.chooses chooser.now) (option_copied key) (R.content self.now.rows) }
-        ensures count { IfOk result (λ count. count ≡ chosen_count (C.chooses chooser.now) (all_objects (R.content self.now.rows))) }
-        ensures looks { OnOk result (looks.new ≡ ticks (tried (option_map data_of (option_copied key.entry)) (R.content self.now.rows)) looks.old) }
-        ensures at_most { looks.new ≤ ticks (tried (option_map data_of (option_copied key.entry)) (R.content self.now.rows)) looks.old }
-        ensures marks { OnOk result (noted (R.key_at self.now.rows) marks.new.list.items ≡ notes_of (C.chooses chooser.now) (R.content self.now.rows)) }
+        ensures count { IfOk result (λ count.
+            count ≡ chosen_count (C.chooses chooser.now) (all_objects (R.content self.now.rows))) }
+        ensures looks { OnOk result
+            (looks.new ≡ ticks (tried_under (option_copied key.entry) (R.content self.now.rows)) looks.old) }
+        ensures at_most { looks.new
+            ≤ ticks (tried_under (option_copied key.entry) (R.content self.now.rows)) looks.old }
+        ensures marks { OnOk result
+            (noted (R.key_at self.now.rows) marks.new.list.items
+            ≡ notes_of (C.chooses chooser.now) (R.content self.now.rows)) }
     {
         match key {
             Some(key) => self.note_under(chooser, key, marks, looks),
@@ -52,10 +55,14 @@ impl<R: Rows> Store<R> {
     ) -> Result<usize, AllocError>
         requires empty { marks.old.list.items ≡ [] }
         requires quiet { Quiet (C.chooses chooser.now) (Some key.now) (R.content self.now.rows) }
-        ensures count { IfOk result (λ count. count ≡ chosen_count (C.chooses chooser.now) (all_objects (R.content self.now.rows))) }
-        ensures looks { OnOk result (looks.new ≡ ticks (length (objects_under (R.content self.now.rows) key.now)) looks.old) }
+        ensures count { IfOk result (λ count.
+            count ≡ chosen_count (C.chooses chooser.now) (all_objects (R.content self.now.rows))) }
+        ensures looks { OnOk result
+            (looks.new ≡ ticks (length (objects_under (R.content self.now.rows) key.now)) looks.old) }
         ensures at_most { looks.new ≤ ticks (length (objects_under (R.content self.now.rows) key.now)) looks.old }
-        ensures marks { OnOk result (noted (R.key_at self.now.rows) marks.new.list.items ≡ notes_of (C.chooses chooser.now) (R.content self.now.rows)) }
+        ensures marks { OnOk result
+            (noted (R.key_at self.now.rows) marks.new.list.items
+            ≡ notes_of (C.chooses chooser.now) (R.content self.now.rows)) }
     {
         let _before = looks.count();
         let Some(place) = self.find(key) else {
@@ -72,10 +79,14 @@ impl<R: Rows> Store<R> {
         looks: &mut Looks,
     ) -> Result<usize, AllocError>
         requires few { object_count (R.content self.now.rows) < 2 ^ 32 }
-        ensures count { IfOk result (λ count. count ≡ chosen_count (C.chooses chooser.now) (all_objects (R.content self.now.rows))) }
+        ensures count { IfOk result (λ count.
+            count ≡ chosen_count (C.chooses chooser.now) (all_objects (R.content self.now.rows))) }
         ensures looks { OnOk result (looks.new ≡ ticks (object_count (R.content self.now.rows)) looks.old) }
         ensures at_most { looks.new ≤ ticks (object_count (R.content self.now.rows)) looks.old }
-        ensures marks { OnOk result (noted (R.key_at self.now.rows) marks.new.list.items ≡ noted (R.key_at self.now.rows) marks.old.list.items ++ notes_of (C.chooses chooser.now) (R.content self.now.rows)) }
+        ensures marks { OnOk result
+            (noted (R.key_at self.now.rows) marks.new.list.items
+            ≡ noted (R.key_at self.now.rows) marks.old.list.items
+            ++ notes_of (C.chooses chooser.now) (R.content self.now.rows)) }
     {
         let _before = looks.count();
         self.rows.known();
@@ -93,7 +104,8 @@ impl<R: Rows> Store<R> {
     /// Takes out of all slots that are noted what goes, from the last slot to the first, so that the places stay.
     pub(crate) fn thin_out_all(&mut self, hold: bool, mut marks: Marks)
         requires { AreInOrder (R.content self.old.rows) (noted (R.key_at self.old.rows) marks.list.items) }
-        ensures slots { R.content self.new.rows ≡ thin_all hold (noted (R.key_at self.old.rows) marks.list.items) (R.content self.old.rows) }
+        ensures slots { R.content self.new.rows
+            ≡ thin_all hold (noted (R.key_at self.old.rows) marks.list.items) (R.content self.old.rows) }
         ensures keeps { Keeps R.readiness self.old self.new }
     {
         while let Some(mark) = marks.list.pop() {
@@ -105,8 +117,11 @@ impl<R: Rows> Store<R> {
     /// The slot at a place has the objects that stay of it, or goes with the last.
     fn thin_out(&mut self, hold: bool, mark: Mark)
         requires { is_some (R.key_at self.old.rows mark.place) ≡ true }
-        ensures slots { R.content self.new.rows ≡ thin_key hold (R.key_at self.old.rows mark.place) mark.left (R.content self.old.rows) }
-        ensures places { (other : ℕ) → Before (R.content self.old.rows) (R.key_at self.old.rows other) (R.key_at self.old.rows mark.place) → R.key_at self.new.rows other ≡ R.key_at self.old.rows other }
+        ensures slots { R.content self.new.rows
+            ≡ thin_key hold (R.key_at self.old.rows mark.place) mark.left (R.content self.old.rows) }
+        ensures places { (other : ℕ)
+            → Before (R.content self.old.rows) (R.key_at self.old.rows other) (R.key_at self.old.rows mark.place)
+            → R.key_at self.new.rows other ≡ R.key_at self.old.rows other }
         ensures keeps { Keeps R.readiness self.old self.new }
     {
         let Mark { place, left } = mark;

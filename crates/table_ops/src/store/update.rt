@@ -66,7 +66,9 @@ impl<R: Rows> Store<R> {
     /// The place of a key's slot, if it has objects.
     pub(crate) fn filled(&self, key: &Term, entry: Entry) -> Option<Place>
         requires { IsEntry (R.content self.now.rows) (R.number self.now.rows) (R.key_at self.now.rows) key.now entry }
-        ensures { MatchOption result (objects_under (R.content self.now.rows) key.now ≡ []) (λ place. (R.key_at self.now.rows place ≡ Some key.now) × has_objects (objects_under (R.content self.now.rows) key.now) ≡ true) }
+        ensures { MatchOption result (objects_under (R.content self.now.rows) key.now ≡ []) (λ place.
+            (R.key_at self.now.rows place ≡ Some key.now)
+            × has_objects (objects_under (R.content self.now.rows) key.now) ≡ true) }
     {
         let Entry::Occupied(place) = entry else {
             return None;
@@ -80,7 +82,8 @@ impl<R: Rows> Store<R> {
     /// Updates the counters of the one object at a place.
     pub(crate) fn count_at(&mut self, place: Place, ops: &Ops) -> Result<Term, CounterFault>
         requires { HasOne (R.content self.old.rows) (R.key_at self.old.rows place) }
-        ensures slots { CountsAt ops.now (R.key_at self.old.rows place) (R.content self.old.rows) result (R.content self.new.rows) }
+        ensures slots { CountsAt ops.now (R.key_at self.old.rows place) (R.content self.old.rows) result
+            (R.content self.new.rows) }
         ensures keeps { Keeps R.readiness self.old self.new }
     {
         let mut object = self.rows.replace_one_at(place, Term::Int(0));
@@ -92,7 +95,8 @@ impl<R: Rows> Store<R> {
     /// Writes elements of the one object at a place.
     pub(crate) fn write_at(&mut self, place: Place, specs: ElementSpecs) -> Result<(), CounterFault>
         requires { HasOne (R.content self.old.rows) (R.key_at self.old.rows place) }
-        ensures slots { WritesAt specs (R.key_at self.old.rows place) (R.content self.old.rows) result (R.content self.new.rows) }
+        ensures slots { WritesAt specs (R.key_at self.old.rows place) (R.content self.old.rows) result
+            (R.content self.new.rows) }
         ensures keeps { Keeps R.readiness self.old self.new }
     {
         let mut object = self.rows.replace_one_at(place, Term::Int(0));
@@ -110,7 +114,8 @@ impl<R: Rows> Store<R> {
         object: Term,
     ) -> Result<(), Refusal>
         requires { IsEntry (R.content self.old.rows) (R.number self.old.rows) (R.key_at self.old.rows) key.now entry }
-        ensures slots { StartsAt room key.now (Ok (object, tt)) (R.content self.old.rows) result (R.content self.new.rows) }
+        ensures slots { StartsAt room key.now (Ok (object, tt)) (R.content self.old.rows) result
+            (R.content self.new.rows) }
         ensures keeps { Keeps R.readiness self.old self.new }
     {
         if !room {

@@ -38,7 +38,8 @@ impl<R: Rows> Table<R> {
 
     /// `insert_new` of one object: a search finds its key's slot, or where to put it.
     fn insert_one_new(&mut self, object: &Term) -> Result<bool, Refusal>
-        ensures content { Comes (InsertsNew (object.now ∷ []) self.old.content) self.old.content result self.new.content }
+        ensures content { Comes (InsertsNew (object.now ∷ []) self.old.content)
+            self.old.content result self.new.content }
         ensures buckets { self.new.buckets ≡ self.old.buckets }
     {
         let Some(key) = key_of(self.store.keypos, object) else {

@@ -30,7 +30,8 @@ impl<R: Rows> Table<R> {
     /// The element at a position of a key's object, or in a bag the list of these of all its objects, copied. `Badarg`
     /// where the key has no object, or one of them no such element (stdlib manual, ets:lookup_element/3).
     pub fn lookup_element(&self, key: &Term, position: Position) -> Result<Term, Refusal>
-        ensures { Tells (element_told self.now.content.kind position (objects_under self.now.content.slots key.now)) result }
+        ensures { Tells (element_told self.now.content.kind position (objects_under self.now.content.slots key.now))
+            result }
     {
         told(
             self.store.alloc,
@@ -48,7 +49,9 @@ impl<R: Rows> Table<R> {
         position: Position,
         default: &Term,
     ) -> Result<Term, Refusal>
-        ensures { Tells (element_or self.now.content.kind position default.now (objects_under self.now.content.slots key.now)) result }
+        ensures { Tells
+            (element_or self.now.content.kind position default.now (objects_under self.now.content.slots key.now))
+            result }
     {
         let objects = self.lookup(key);
         if !objects.is_empty() {

@@ -1,7 +1,7 @@
 use Rattle.std.proofs.Common.{◌≡◌, Ok, ap, subst}
 use Rattle.table_ops.specs.Queries.{chosen_count, is_chosen}
 use Rattle.table_ops.specs.Read.{all_objects}
-use Rattle.node_core.specs.rules.Removal.{without}
+use Rattle.fixed_walk.specs.Fixed.{without}
 use Rattle.node_core.proofs.node.searching.delete_chosen.Goals as goal
 
 pub returns-clause-content : goal.returns-clause-content

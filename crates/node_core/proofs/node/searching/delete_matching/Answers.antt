@@ -1,6 +1,6 @@
 use Rattle.std.proofs.Common.{◌≡◌, refl, subst}
 use Rattle.table_ops.specs.Queries.{matches}
-use Rattle.node_core.specs.rules.Removal.{without}
+use Rattle.fixed_walk.specs.Fixed.{without}
 use Rattle.node_core.proofs.node.searching.delete_matching.Goals as goal
 
 pub returns : goal.returns
