@@ -1,7 +1,7 @@
 -- What keeps a list a list.
 use Rattle.std.proofs.Common.{◌≡◌, ℕ, ◌+◌, inl, inr, List, [], ◌∷◌, length, Some, None, sym, ◌∙◌, ap, subst, arith}
 use Rattle.std.proofs.lemmas.Bool.{cases_eq}
-use Rattle.slab.specs.Slab.{Slab, slab_len}
+use Rattle.slab.specs.Slab.{Slab, slab_len, SameValues}
 use Rattle.node_list.specs.declared.node.Item.{Item}
 use Rattle.node_list.specs.declared.node.Node.{Node}
 use Rattle.node_list.specs.Cells.{Cell, Sorted, StartsWithDummy}
@@ -9,6 +9,7 @@ use Rattle.node_list.specs.Places.{from}
 use Rattle.node_list.specs.Changes.{put_cell, without}
 use Rattle.node_list.specs.inside.Walks.{rest, Linked, IsList}
 use Rattle.node_list.proofs.CellLaws.{put-on, from-here, without-on, sorted-put, length-put, sorted-without, length-without}
+use Rattle.node_list.proofs.WalkLaws.{same-rest}
 use Rattle.node_list.proofs.PlaceLaws.{from-has}
 
 starts-put : (x : Cell) (cs : List Cell) → StartsWithDummy cs → StartsWithDummy (put_cell x cs)
@@ -56,4 +57,16 @@ without-list s t at d ds item l e h linked is len =
       sorted = subst P (sym is) (sorted-without at (rest s (Some 0)) l.sorted);
       first = subst D (sym is) (starts-without at (rest s (Some 0)) d ds item l.first e h);
       counted = n ∙ ap length (sym is);
+    }
+
+pub same-list : (s t : Slab Node) → SameValues s t → slab_len t ≡ slab_len s → IsList s → IsList t
+same-list s t same len l =
+    let r = same-rest s t same len l.linked in
+    let P : List Cell → Type 0 = λ zs. Sorted zs in
+    let D : List Cell → Type 0 = λ zs. StartsWithDummy zs in
+    record {
+      linked = r.0;
+      sorted = subst P (sym r.1) l.sorted;
+      first = subst D (sym r.1) l.first;
+      counted = len ∙ (l.counted ∙ ap length (sym r.1));
     }

@@ -1,12 +1,11 @@
 -- Laws of a slab of fronts with what stands beside them.
 use Rattle.std.proofs.Common.{◌≡◌, ◌≢◌, inl, inr, ℕ, zero, suc, ◌<◌, ◌≤◌, List, [], ◌∷◌, length, get_or, set, slice_get, Option, Some, None, IsSome, is_some, option_map, count_by, Bool, true, false, cond, refl, sym, ◌∙◌, ap, subst, arith}
-use Rattle.std.specs.List.{AllZip}
 use Rattle.std.proofs.lemmas.Bool.{cases_eq, cases_lt}
 use Rattle.std.proofs.lemmas.List.{get_or-set_same, get_or-set_other, length-set}
 use Rattle.std.proofs.lemmas.List.Sums.{sum_by-cons}
 use Rattle.std.proofs.lemmas.Option.{slice_get_within, slice_get-get_or, get_or_from_slice_get}
 use Rattle.ets_term.specs.declared.term.Term.{Term}
-use Rattle.slab.specs.Slab.{Slab, get, Updates, IsSlotClone, IsSlabClone}
+use Rattle.slab.specs.Slab.{Slab, get, Updates}
 use Rattle.node_list.specs.declared.node.Item.{Item}
 use Rattle.node_list.specs.declared.node.Node.{Node}
 use Rattle.node_list.specs.declared.front.Front.{Front}
@@ -114,12 +113,12 @@ below-after old new k f low lower u less item was j h =
     ]
 
 -- a removal passes places with no item
-pub below-raised : (old new : Slab Packed) (k low higher : ℕ) → Updates old new k None → HaveNoItem low higher new → ((j : ℕ) → j < low → marks_item (get old j) ≡ false)
+pub below-raised : (old new : Slab Packed) (k : ℕ) (o : Option Packed) (low higher : ℕ) → Updates old new k o → marks_item o ≡ false → HaveNoItem low higher new → ((j : ℕ) → j < low → marks_item (get old j) ≡ false)
     → (j : ℕ) → j < higher → marks_item (get new j) ≡ false
-below-raised old new k low higher u passed was j h =
+below-raised old new k o low higher u none passed was j h =
     elim (cases_lt j low) [
       | inl below ↦ elim (cases_eq j k) [
-        | inl same ↦ ap (λ n. marks_item (get new n)) same ∙ ap marks_item u.changed
+        | inl same ↦ ap (λ n. marks_item (get new n)) same ∙ (ap marks_item u.changed ∙ none)
         | inr other ↦ ap marks_item (u.others j other) ∙ was j below
       ]
       | inr above ↦ passed j above h
@@ -156,15 +155,3 @@ pub has-chain : (f : Packed) (s : Item) (m : Node) → whole f s ≡ m → IsSom
 has-chain f s m same has =
     let P : Node → Type 0 = λ n. IsSome n.item in
     chain-if (is_item f) s (subst P (sym same) has)
-
--- ---- a slab that grows
-slots-same : (xs ys : List (Option Packed)) → AllZip (IsSlotClone (λ x y. y ≡ x)) xs ys → ys ≡ xs
-slots-same [] [] h = refl
-slots-same [] (y ∷ ys) h = absurd h
-slots-same (x ∷ xs) [] h = absurd h
-slots-same (None ∷ xs) (y ∷ ys) h = rw (h.0, slots-same xs ys h.1) refl
-slots-same (Some f ∷ xs) (None ∷ ys) h = absurd h.0
-slots-same (Some f ∷ xs) (Some g ∷ ys) h = rw (h.0, slots-same xs ys h.1) refl
-
-pub cloned : (n copy : Slab Packed) → IsSlabClone (λ x y. y ≡ x) n copy → copy.slots ≡ n.slots
-cloned n copy c = slots-same n.slots copy.slots c.slots

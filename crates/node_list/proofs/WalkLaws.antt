@@ -1,6 +1,6 @@
 -- Laws of `walk` and `Links`.
 use Rattle.std.proofs.Common.{◌≡◌, ℕ, zero, suc, ◌≤◌, List, [], ◌∷◌, length, Option, Some, None, refl, sym, ◌∙◌, ap, subst, arith}
-use Rattle.slab.specs.Slab.{Slab, get, slab_len}
+use Rattle.slab.specs.Slab.{Slab, get, slab_len, SameValues}
 use Rattle.node_list.specs.declared.node.Node.{Node}
 use Rattle.node_list.specs.Cells.{Cell}
 use Rattle.node_list.specs.inside.Walks.{walk, Links, Linked, rest, cell_of, node_of}
@@ -69,3 +69,15 @@ pub only-linked : (s : Slab Node) (node : Node) → get s 0 ≡ Some node → no
 only-linked s node e none is =
     let P : List Cell → Type 0 = λ zs. Links (get s) (Some 0) zs in
     record { links = subst P (sym is) (refl, (None, e ∙ ap (λ (z : Option ℕ). Some (record node { next = z })) none, refl)) }
+
+-- a slab with the same nodes has the same list
+links-same : (g h : ℕ → Option Node) → ((k : ℕ) → h k ≡ g k) → (link : Option ℕ) (cs : List Cell) → Links g link cs → Links h link cs
+links-same g h same link [] l = l
+links-same g h same link (c ∷ cs) l = (l.0, (l.1.0, same c.at ∙ l.1.1, links-same g h same l.1.0 cs l.1.2))
+
+pub same-rest : (s t : Slab Node) → SameValues s t → slab_len t ≡ slab_len s → Linked s (Some 0) → (Linked t (Some 0)) × (rest t (Some 0) ≡ rest s (Some 0))
+same-rest s t same len l =
+    let links : Links (get t) (Some 0) (rest s (Some 0)) = links-same (get s) (get t) same (Some 0) (rest s (Some 0)) l.links in
+    let short : length (rest s (Some 0)) ≤ slab_len t = omega (arith, len, walk-length (slab_len s) (get s) (Some 0)) in
+    let is : rest t (Some 0) ≡ rest s (Some 0) = walk-is (slab_len t) (get t) (Some 0) (rest s (Some 0)) links short in
+    (record { links = rw is links }, is)

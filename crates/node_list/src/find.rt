@@ -19,7 +19,8 @@ pub fn find_from(
     requires linked { Linked nodes.nodes.now (Some start) }
     requires sorted { Sorted (rest nodes.nodes.now (Some start)) }
     ensures found { result ≡ place_of key term.now (rest nodes.entry.nodes.now (Some start)) }
-    ensures ticks { steps.new ≡ ticks (length (passed key term.now (rest nodes.entry.nodes.now (Some start)))) steps.old }
+    ensures ticks { steps.new
+        ≡ ticks (length (passed key term.now (rest nodes.entry.nodes.now (Some start)))) steps.old }
 {
     let mut at = Some(start);
     while let Some(place) = at {

@@ -56,7 +56,7 @@ impl NodeList {
         ensures { IfOk result (λ l. l.cells ≡ new_cell 0 0 None ∷ []) }
     {
         let mut nodes = Nodes::new(alloc);
-        nodes.reserve(1)?;
+        nodes.draw(1)?;
         nodes.insert_reserved(Node {
             key: 0,
             next: Link::none(),
@@ -188,7 +188,8 @@ impl NodeList {
     #[inline]
     pub fn item(&self, at: At) -> Option<(&Term, &Chain)>
         requires { Stands at self.now.cells }
-        ensures { MatchOption result (item_at at self.now.cells ≡ None) (λ found. item_at at self.now.cells ≡ Some (new_item found.0.now found.1.now)) }
+        ensures { MatchOption result (item_at at self.now.cells ≡ None)
+            (λ found. item_at at self.now.cells ≡ Some (new_item found.0.now found.1.now)) }
     {
         match self.nodes.item(at) {
             Some(item) => Some((&item.term, &item.chain)),

@@ -1,11 +1,12 @@
-ghost use Rattle.std.specs.Prelude.{◌≡◌, ℕ, ◌+◌, ◌<◌, ◌≤◌, ◌-◌, ◌^◌, [], Some, None, IsOk, OnOk, option_copied, vec_capacity};
+ghost use Rattle.std.specs.Prelude.{◌≡◌, ℕ, ◌+◌, ◌<◌, ◌≤◌, ◌-◌, ◌^◌, [], Some, None, IsOk, OnOk, OnErr, option_copied};
 ghost use Rattle.std.specs.Borrow.{sem};
-ghost use Rattle.slab.specs.Slab.{get, slab_len, ContainsKey, HasRoomFor, Updates};
-ghost use Rattle.node_list.specs.inside.Slots.{ShowsFront, ShowsChain, ShowsItem, Relinks, HasItemIn, IsItemFromIn, PutsSlot};
+ghost use Rattle.slab.specs.Slab.{get, slab_len, ContainsKey, HasRoomFor, SameValues, Updates};
+ghost use Rattle.node_list.specs.inside.Slots.{ShowsFront, ShowsChain, ShowsItem, Relinks, HasItemIn, IsItemFromIn};
 ghost use Rattle.node_list.specs.inside.Packed.{Fits};
 ghost use Rattle.node_list.specs.inside.Seen.{seen_node};
 ghost use Rattle.node_list.specs.inside.NodeLending.{LendsChainIn};
 
+use crate::arrays::{exchange, make_room, put_slot};
 use crate::chain::Chain;
 use crate::front::Front;
 use crate::link::Link;
@@ -18,47 +19,24 @@ use std::alloc::{AllocError, Global};
 use std::marker::Model;
 use std::mem;
 
-/// How many nodes room is made for at first.
-const FIRST_ROOM: usize = 4;
-
-/// For how many nodes more room is made: as many as there are, so that growth costs each node a constant.
-fn growth(len: usize, additional: usize) -> usize
-    ensures { additional ≤ result }
-{
-    additional.max(len).max(FIRST_ROOM)
-}
-
-/// Puts a slot at a place. The slab gives its places out in turn, but does not promise it, so there may be a gap.
-#[inline(always)]
-fn put_slot(items: &mut Vec<Item>, at: usize, slot: Item)
-    requires { at < vec_capacity items.old }
-    ensures puts { PutsSlot items.old.items items.new.items at slot }
-    ensures capacity { vec_capacity items.old ≤ vec_capacity items.new }
-{
-    if at < items.len() {
-        items[at] = slot;
-        return;
-    }
-    let alloc = *items.allocator();
-    if items.len() < at && items.resize_with(at, || Item::stand_in(alloc)).is_err() {
-        unreachable!();
-    }
-    items.push_reserved(slot);
-}
-
-/// Nodes by place, in a slab of fronts with the items beside it: a search that passes a node touches its front alone. A
-/// contract sees them as a slab of whole nodes.
+/// Nodes by place, in a slab of fronts with the items beside it: a search that passes a node touches its front alone.
+/// A contract sees them as a slab of whole nodes. A place is drawn from the slab ahead, once there is room for its
+/// item, and never given back: with no node it is spare, and its front leads to the next spare one.
 #[derive(Drop)]
 pub struct Nodes {
     nodes: Slab<Packed>,
-    /// With room for as many as the slab can hold. A place with no item has a stand-in, or lies past their end.
+    /// With room for one at each drawn place. A place with no item has a stand-in, or lies past their end.
     items: Vec<Item>,
     /// Below this place there is no item.
     low: usize,
+    /// The first spare place: each leads to the next.
+    vacant: Link,
+    /// How many nodes there are.
+    len: usize,
 }
 
 impl Model for Nodes {
-    ghost use Rattle.slab.specs.Slab.{Slab as Slots, slab_code};
+    ghost use Rattle.slab.specs.Slab.{Slab as Slots, slab_code, slab_len};
     ghost use Rattle.node_list.specs.declared.node.Node.{Node};
     ghost use Rattle.node_list.specs.contracts.node.Node as node;
 
@@ -67,25 +45,29 @@ impl Model for Nodes {
     ghost coded = { slab_code node.the_row.coded };
 
     ghost use Rattle.node_list.specs.inside.Slots.{nodes_of, AreNodes};
+    ghost use Rattle.node_list.specs.inside.Spares.{fronts, first_vacant};
 
     ghost view = { λ s. record {
-      slots = nodes_of s.nodes.slots s.items.items;
-      vacant_key = s.nodes.vacant_key;
-      capacity = s.nodes.capacity;
+      slots = nodes_of (fronts s.nodes).slots s.items.items;
+      vacant_key = first_vacant s.vacant s.nodes.vacant_key;
+      capacity = slab_len s.nodes;
     } };
 
-    ghost invariant = { λ s. AreNodes s.nodes s.items s.low };
+    ghost invariant = { λ s. AreNodes s.nodes s.items s.low s.vacant s.len };
 }
 
 impl Nodes {
     pub fn new(alloc: Global) -> Nodes
         ensures empty { result.slots ≡ [] }
         ensures first { result.vacant_key ≡ 0 }
+        ensures capacity { result.capacity ≡ 0 }
     {
         Nodes {
             nodes: Slab::new(alloc),
             items: Vec::new(alloc),
             low: 0,
+            vacant: Link::none(),
+            len: 0,
         }
     }
 
@@ -94,22 +76,39 @@ impl Nodes {
         ensures room { OnOk result (HasRoomFor self.new additional) }
         ensures succeeds { HasRoomFor self.old additional → IsOk result }
         ensures capacity { self.old.capacity ≤ self.new.capacity }
-        ensures rest_kept { self.new ≡ record self.old { capacity = self.new.capacity } }
+        ensures values { SameValues self.old self.new }
+        ensures len { slab_len self.new ≡ slab_len self.old }
     {
-        let len = self.nodes.len();
-        if self.nodes.capacity() - len >= additional {
-            return Ok(());
+        while self.spares() < additional {
+            self.draw(additional - self.spares())?;
         }
-        // A place needs room in both arrays, and either can be refused: so it is a copy of the first that grows.
-        let mut nodes = self.nodes.clone()?;
-        nodes.reserve_exact(growth(len, additional))?;
-        let more = nodes.capacity().saturating_sub(self.items.len());
-        self.items.reserve_exact(more)?;
-        self.nodes = nodes;
         Ok(())
     }
 
-    /// Puts a node at a vacant place.
+    /// How many places are spare.
+    #[inline]
+    fn spares(&self) -> usize
+        ensures { slab_len self.now + result ≡ self.now.capacity }
+    {
+        self.nodes.len() - self.len
+    }
+
+    /// Draws one more place, which is spare then. Where the arrays are full they grow, by so many places at least.
+    pub fn draw(&mut self, more: usize) -> Result<(), AllocError>
+        requires { 0 < more }
+        ensures room { OnOk result (self.new.capacity ≡ self.old.capacity + 1) }
+        ensures err { OnErr result (self.new.capacity ≡ self.old.capacity) }
+        ensures key { OnOk result (slab_len self.old ≡ self.old.capacity → self.new.vacant_key ≡ self.old.vacant_key) }
+        ensures values { SameValues self.old self.new }
+        ensures len { slab_len self.new ≡ slab_len self.old }
+    {
+        make_room(&mut self.nodes, &mut self.items, more)?;
+        let at = self.nodes.insert_reserved(Packed::spare(self.vacant));
+        self.vacant = Link::to(at);
+        Ok(())
+    }
+
+    /// Puts a node at the first spare place.
     #[inline(always)]
     pub fn insert_reserved(&mut self, node: Node) -> usize
         requires room { HasRoomFor self.old 1 }
@@ -118,21 +117,25 @@ impl Nodes {
         ensures was_vacant { get self.old result ≡ None }
         ensures updates { Updates self.old self.new result (Some node) }
         ensures len { slab_len self.new ≡ slab_len self.old + 1 }
-        ensures in_range { result < 2 ^ 63 - 1 }
+        ensures in_range { result < 2 ^ 62 - 1 }
         ensures capacity { self.new.capacity ≡ self.old.capacity }
     {
         let Node { key, next, item } = node;
         let is_item = item.is_some();
         let slot = Item::or_stand_in(item, *self.items.allocator());
-        let at = self
-            .nodes
-            .insert_reserved(Packed::new(Front { key, next }, is_item));
+        let Some(at) = self.vacant.get() else {
+            unreachable!()
+        };
+        let front = Packed::new(Front { key, next }, is_item);
+        let spare = exchange(&mut self.nodes, at, front);
+        self.vacant = spare.next();
+        self.len += 1;
         self.low = lowered(self.low, at, is_item);
         put_slot(&mut self.items, at, slot);
         at
     }
 
-    /// Takes the node at a place out, and gives the place back.
+    /// Takes the node at a place out, and the place is spare again.
     pub fn remove(&mut self, at: usize) -> Node
         requires { ContainsKey self.old at }
         ensures value { get self.old at ≡ Some result }
@@ -141,7 +144,9 @@ impl Nodes {
         ensures len { slab_len self.new + 1 ≡ slab_len self.old }
         ensures capacity { self.new.capacity ≡ self.old.capacity }
     {
-        let packed = self.nodes.remove(at);
+        let packed = exchange(&mut self.nodes, at, Packed::spare(self.vacant));
+        self.vacant = Link::to(at);
+        self.len -= 1;
         let stand_in = Item::stand_in(*self.items.allocator());
         let slot = mem::replace(&mut self.items[at], stand_in);
         self.low = raised(&self.nodes, self.low, self.items.len());
@@ -205,9 +210,7 @@ impl Nodes {
         ensures value { result ≡ slab_len self.now }
         ensures few { result < 2 ^ 64 - 1 }
     {
-        let _capacity = self.nodes.capacity();
-        let _places = self.items.capacity();
-        self.nodes.len()
+        self.len
     }
 
     /// What holds of all nodes, for a caller's proof: it does nothing.

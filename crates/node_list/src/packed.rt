@@ -1,5 +1,5 @@
-ghost use Rattle.std.specs.Prelude.{◌≡◌};
-ghost use Rattle.node_list.specs.inside.Packed.{next_in, is_item, Fits};
+ghost use Rattle.std.specs.Prelude.{◌≡◌, ◌<◌, ◌%◌, true, false};
+ghost use Rattle.node_list.specs.inside.Packed.{next_in, is_item, is_spare, Fits};
 ghost use Rattle.node_list.specs.inside.Slots.{item_if};
 
 use crate::front::Front;
@@ -7,9 +7,10 @@ use crate::link::Link;
 use crate::node::Item;
 
 /// The number that stands for no place.
-const NO_PLACE: usize = usize::MAX / 2;
+pub const NO_PLACE: usize = usize::MAX / 4;
 
-/// A front as it is kept: one word has the place of the next node, doubled, and one more where the node is an item.
+/// A front as it is kept: one word has the place of the next node, times four, and one more where the node is an
+/// item, or two more where the place is spare.
 #[derive(Clone, Copy)]
 pub struct Packed {
     key: u64,
@@ -24,14 +25,37 @@ impl Packed {
         ensures key { result.key ≡ front.key }
         ensures next { next_in result ≡ front.next }
         ensures item { is_item result ≡ has_item }
+        ensures live { is_spare result ≡ false }
     {
-        let place = match front.next.get() {
+        Packed::tagged(front.key, front.next, usize::from(has_item))
+    }
+
+    /// What stands at a spare place: the link to the next one.
+    #[inline(always)]
+    pub fn spare(next: Link) -> Packed
+        requires { Fits next }
+        ensures next { next_in result ≡ next }
+        ensures spare { is_spare result ≡ true }
+        ensures item { is_item result ≡ false }
+    {
+        Packed::tagged(0, next, 2)
+    }
+
+    #[inline(always)]
+    fn tagged(key: u64, next: Link, tag: usize) -> Packed
+        requires fits { Fits next }
+        requires small { tag < 4 }
+        ensures key { result.key ≡ key }
+        ensures next { next_in result ≡ next }
+        ensures tag { result.word % 4 ≡ tag }
+    {
+        let place = match next.get() {
             Some(place) => place,
             None => NO_PLACE,
         };
         Packed {
-            key: front.key,
-            word: place * 2 + usize::from(has_item),
+            key,
+            word: place * 4 + tag,
         }
     }
 
@@ -48,12 +72,13 @@ impl Packed {
         }
     }
 
+    /// The link alone.
     #[inline(always)]
-    fn next(self) -> Link
+    pub fn next(self) -> Link
         ensures next { result ≡ next_in self }
         ensures fits { Fits result }
     {
-        let place = self.word / 2;
+        let place = self.word / 4;
         if place == NO_PLACE {
             Link::none()
         } else {
@@ -66,7 +91,7 @@ impl Packed {
     pub fn is_item(self) -> bool
         ensures { result ≡ is_item self }
     {
-        self.word % 2 == 1
+        self.word % 4 == 1
     }
 
     /// The same with another link.
@@ -75,6 +100,7 @@ impl Packed {
         ensures key { result.key ≡ self.key }
         ensures next { next_in result ≡ next }
         ensures item { is_item result ≡ is_item self }
+        ensures live { is_spare result ≡ false }
     {
         Packed::new(
             Front {

@@ -1,18 +1,21 @@
--- What a packed front tells: its word is twice the place of the next node, and one more where the node is an item. The
--- greatest place stands for none.
+-- What a packed front tells: its word is four times the place of the next node, and one more where the node is an
+-- item, or two more where the place is spare. The greatest place stands for none.
 use Rattle.std.specs.Prelude.{ℕ, ◌<◌, ◌^◌, ◌-◌, ◌/◌, ◌%◌, nat_eq, if◌then◌else◌, Bool, Option, Some, None}
 use Rattle.node_list.specs.declared.packed.Packed.{Packed}
 
 abbrev pub place_in : ℕ → Option ℕ
-place_in place = if nat_eq place (2 ^ 63 - 1) then None else Some place
+place_in place = if nat_eq place (2 ^ 62 - 1) then None else Some place
 
 abbrev pub next_in : Packed → Option ℕ
-next_in p = place_in (p.word / 2)
+next_in p = place_in (p.word / 4)
 
 abbrev pub is_item : Packed → Bool
-is_item p = nat_eq (p.word % 2) 1
+is_item p = nat_eq (p.word % 4) 1
+
+abbrev pub is_spare : Packed → Bool
+is_spare p = nat_eq (p.word % 4) 2
 
 -- a word has room for this link
 abbrev pub Fits : Option ℕ → Type 0
 Fits None = Unit {0}
-Fits (Some place) = place < 2 ^ 63 - 1
+Fits (Some place) = place < 2 ^ 62 - 1

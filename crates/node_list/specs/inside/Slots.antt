@@ -1,6 +1,7 @@
--- How nodes lie in two arrays: their fronts in a slab, and beside it a slot for each, which is its item, or at a dummy anything.
-use Rattle.std.specs.Prelude.{◌≡◌, ◌≤◌, ◌<◌, ◌≢◌, ℕ, pos, Bool, true, false, List, [], ◌∷◌, length, slice_get, slice_index_or, Option, Some, None, IsSome, option_map, Vec, vec_capacity, vec_items}
-use Rattle.slab.specs.Slab.{Slab, get, with_value}
+-- How nodes lie in two arrays: their fronts in a slab, and beside it a slot for each, which is its item, or at a
+-- dummy anything.
+use Rattle.std.specs.Prelude.{◌≡◌, ◌^◌, ◌-◌, ◌≤◌, ◌<◌, ◌≢◌, ℕ, pos, Bool, true, false, List, [], ◌∷◌, length, slice_get, slice_index_or, Option, Some, None, IsSome, option_map, Vec, vec_capacity, vec_items}
+use Rattle.slab.specs.Slab.{Slab, get, slab_len, with_value}
 use Rattle.ets_term.specs.declared.term.Term.{Term}
 use Rattle.ets_term.specs.declared.term.Term.TheVariants.{Int}
 use Rattle.node_list.specs.declared.node.Item.{Item}
@@ -8,6 +9,7 @@ use Rattle.node_list.specs.declared.node.Node.{Node}
 use Rattle.node_list.specs.declared.front.Front.{Front}
 use Rattle.node_list.specs.declared.packed.Packed.{Packed}
 use Rattle.node_list.specs.inside.Packed.{next_in, is_item, Fits}
+use Rattle.node_list.specs.inside.Spares.{fronts, AreSpares}
 
 -- what stands past the end
 abbrev pub stand_in : Item
@@ -46,11 +48,16 @@ marks_item (Some p) = is_item p
 abbrev pub HaveNoItem : ℕ → ℕ → Slab Packed → Type 0
 HaveNoItem from to nodes = (k : ℕ) → from ≤ k → k < to → marks_item (get nodes k) ≡ false
 
--- whatever place the slab gives out has room for a slot, and every place with a node has a slot; below `low` there is no item
-pub record AreNodes {A : Type 0} (nodes : Slab Packed) (items : Vec Item A) (low : ℕ) : Type 0 where
-  pub room : nodes.capacity ≤ vec_capacity items
-  pub within : (k : ℕ) → IsSome (get nodes k) → k < length (vec_items items)
+-- every drawn place has room for a slot and fits a link, and every place with a node has a slot; below `low` there is
+-- no item
+pub record AreNodes {A : Type 0} (nodes : Slab Packed) (items : Vec Item A) (low : ℕ) (vacant : Option ℕ) (len : ℕ)
+    : Type 0 where
+  pub room : (k : ℕ) → IsSome (get nodes k) → k < vec_capacity items
+  pub few : (k : ℕ) → IsSome (get nodes k) → k < 2 ^ 62 - 1
+  pub within : (k : ℕ) → IsSome (get (fronts nodes) k) → k < length (vec_items items)
   pub below : (k : ℕ) → k < low → marks_item (get nodes k) ≡ false
+  pub counted : slab_len (fronts nodes) ≡ len
+  pub spares : AreSpares nodes vacant len
 
 -- a place has this slot now, and every other that had one has it yet
 pub record PutsSlot (old new : List Item) (at : ℕ) (slot : Item) : Type 0 where

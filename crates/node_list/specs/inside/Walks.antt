@@ -14,7 +14,8 @@ node_of c next = record { key = c.key; next = next; item = c.item }
 unfoldable pub walk : ℕ → (ℕ → Option Node) → Option ℕ → List Cell
 walk zero at_place link = []
 walk (suc n) at_place None = []
-walk (suc n) at_place (Some at) = elim (at_place at) [ None ↦ [] | Some node ↦ cell_of at node ∷ walk n at_place node.next ]
+walk (suc n) at_place (Some at) =
+    elim (at_place at) [ None ↦ [] | Some node ↦ cell_of at node ∷ walk n at_place node.next ]
 
 -- these cells are the nodes from a link on, to the end
 abbrev pub Links : (ℕ → Option Node) → Option ℕ → List Cell → Type 0

@@ -10,4 +10,6 @@ same-word p true e = sym (eqb-true p (2 ^ 64 - 1) e)
 same-word p false e = refl
 
 pub link_back : (a : Inside) → a.place < 2 ^ 64 → let r : Inside = record { place = word_of (link_in a.place) } in r ≡ a
-link_back a h = ap (λ (z : ℕ). let r : Inside = record { place = z } in r) (same-word a.place (nat_eq a.place (2 ^ 64 - 1)) refl)
+link_back a h =
+    ap (λ (z : ℕ). let r : Inside = record { place = z } in r)
+    (same-word a.place (nat_eq a.place (2 ^ 64 - 1)) refl)

@@ -1,17 +1,19 @@
 use Rattle.std.proofs.Common.{◌≤◌, length, sym, ◌∙◌, ap, arith}
 use Rattle.node_list.specs.declared.node.Node.{Node}
 use Rattle.slab.specs.Slab.{Slab}
+use Rattle.node_list.specs.inside.Spares.{fronts}
+use Rattle.node_list.proofs.SpareLaws.{marks-fronts}
 use Rattle.node_list.proofs.ItemLaws.{Beside, least-item, no-item_left}
 use Rattle.node_list.proofs.nodes.Nodes.item_from.Goals as goal
 
 pub returns-then-has_item : goal.returns-then-has_item
 returns-then-has_item c =
-    let b : Beside c.self.inside.nodes c.self.inside.items.items c.args.self.now = record { are = ap (λ (v : Slab Node). v.slots) c.self.view_is; within = c.self.invariant.within } in
-    least-item c.self.inside.nodes c.self.inside.items.items c.args.self.now c.args.start c.loop-at.at b c.loop-at.invariant (omega (arith, c.loop-at.auto.at, c.max-at.ensures))
-    (sym c.has_item.ensures ∙ c.if-has_item.true)
+    let b : Beside (fronts c.self.inside.nodes) c.self.inside.items.items c.args.self.now = record { are = ap (λ (v : Slab Node). v.slots) c.self.view_is; within = c.self.invariant.within } in
+    least-item (fronts c.self.inside.nodes) c.self.inside.items.items c.args.self.now c.args.start c.loop-at.at b (λ k from before. marks-fronts c.self.inside.nodes k ∙ c.loop-at.invariant k from before) (omega (arith, c.loop-at.auto.at, c.max-at.ensures))
+    (marks-fronts c.self.inside.nodes c.loop-at.at ∙ (sym c.has_item.ensures ∙ c.if-has_item.true))
 
 pub returns : goal.returns
 returns c =
-    let b : Beside c.self.inside.nodes c.self.inside.items.items c.args.self.now = record { are = ap (λ (v : Slab Node). v.slots) c.self.view_is; within = c.self.invariant.within } in
+    let b : Beside (fronts c.self.inside.nodes) c.self.inside.items.items c.args.self.now = record { are = ap (λ (v : Slab Node). v.slots) c.self.view_is; within = c.self.invariant.within } in
     let end : length c.self.inside.items.items ≤ c.loop-at.at = omega (arith, c.loop-at-test.false, c.len-at-end.ensures, c.self.inside.items.ok.0) in
-    no-item_left c.self.inside.nodes c.self.inside.items.items c.args.self.now c.args.start c.loop-at.at b c.loop-at.invariant end
+    no-item_left (fronts c.self.inside.nodes) c.self.inside.items.items c.args.self.now c.args.start c.loop-at.at b (λ k from before. marks-fronts c.self.inside.nodes k ∙ c.loop-at.invariant k from before) end

@@ -1,10 +1,11 @@
 use Rattle.std.proofs.Common.{IsSome, sym, subst, arith}
 use Rattle.node_list.specs.declared.node.Node.{Node}
 use Rattle.slab.specs.Slab.{Slab, get}
+use Rattle.node_list.specs.inside.Spares.{fronts}
 use Rattle.node_list.proofs.SlotLaws.{has-front}
 use Rattle.node_list.proofs.nodes.Nodes.known.Goals as goal
 
 pub returns : goal.returns
 returns c = λ at some.
     let P : Slab Node → Type 0 = λ v. IsSome (get v at) in
-    omega (arith, c.self.invariant.within at (has-front c.self.inside.nodes c.self.inside.items.items at (subst P (sym c.self.view_is) some)), c.len-places.ensures, c.self.inside.items.ok.0)
+    omega (arith, c.self.invariant.within at (has-front (fronts c.self.inside.nodes) c.self.inside.items.items at (subst P (sym c.self.view_is) some)), c.self.inside.items.ok.0, c.len-places.ensures)

@@ -1,18 +1,25 @@
-use Rattle.std.proofs.Common.{◌<◌, length, IsSome, sym, ◌∙◌, ap, subst}
+use Rattle.std.proofs.Common.{◌<◌, length, IsSome, sym, ◌∙◌, ap, subst, arith}
 use Rattle.node_list.specs.declared.node.Node.{Node}
 use Rattle.slab.specs.Slab.{Slab, get}
-use Rattle.node_list.proofs.SlotLaws.{has-front, node-is, read, seen-whole}
+use Rattle.node_list.specs.inside.Spares.{fronts}
+use Rattle.node_list.proofs.SlotLaws.{has-front, read, seen-whole}
+use Rattle.node_list.proofs.SpareLaws.{has-live, live-node}
 use Rattle.node_list.proofs.nodes.Nodes.see.Goals as goal
 
 pub index-packed-requires : goal.index-packed-requires
 index-packed-requires c =
     let P : Slab Node → Type 0 = λ v. IsSome (get v c.args.at) in
-    has-front c.self.inside.nodes c.self.inside.items.items c.args.at (subst P (sym c.self.view_is) c.requires)
+    has-live c.self.inside.nodes c.self.inside.items.items c.args.at (subst P (sym c.self.view_is) c.requires)
+
+pub index-requires : goal.index-requires
+index-requires c =
+    let P : Slab Node → Type 0 = λ v. IsSome (get v c.args.at) in
+    omega (arith, c.self.invariant.within c.args.at (has-front (fronts c.self.inside.nodes) c.self.inside.items.items c.args.at (subst P (sym c.self.view_is) c.requires)), c.self.inside.items.ok.0)
 
 pub returns : goal.returns
 returns c =
     let P : Slab Node → Type 0 = λ v. IsSome (get v c.args.at) in
-    let inside : c.args.at < length c.self.inside.items.items = c.self.invariant.within c.args.at (has-front c.self.inside.nodes c.self.inside.items.items c.args.at (subst P (sym c.self.view_is) c.requires)) in
+    let inside : c.args.at < length c.self.inside.items.items = c.self.invariant.within c.args.at (has-front (fronts c.self.inside.nodes) c.self.inside.items.items c.args.at (subst P (sym c.self.view_is) c.requires)) in
     sym (ap (λ (v : Slab Node). get v c.args.at) c.self.view_is)
-    ∙ (node-is c.self.inside.nodes c.self.inside.items.items c.args.at c.index-packed.result.now c.index.result.now c.index-packed.ensures (read c.self.inside.items.items c.args.at c.index.result.now inside c.index.ensures)
+    ∙ (live-node c.self.inside.nodes c.self.inside.items.items c.args.at c.index-packed.result.now c.index.result.now (subst P (sym c.self.view_is) c.requires) c.index-packed.ensures (read c.self.inside.items.items c.args.at c.index.result.now inside c.index.ensures)
     ∙ seen-whole c.index-packed.result.now c.index.result.now c.front.result c.is_item.result c.front.ensures.key c.front.ensures.next c.is_item.ensures)

@@ -1,8 +1,8 @@
 use Rattle.std.proofs.Common.{◌≤◌, ◌++◌, ◌∷◌, [], Vec, Global, length, refl, sym, ◌∙◌, ap, arith}
 use Rattle.node_list.specs.declared.node.Item.{Item}
 use Rattle.node_list.proofs.GapLaws.{SameSlots, filled, pushed, went-well}
-use Rattle.node_list.proofs.nodes.put_slot.Goals as goal
-use Rattle.node_list.proofs.nodes.put_slot.Goals.{else-len-at-via-then-len-at+else-is_err, else-len-at-via-else-len-at}
+use Rattle.node_list.proofs.arrays.put_slot.Goals as goal
+use Rattle.node_list.proofs.arrays.put_slot.Goals.{else-len-at-via-then-len-at+else-is_err, else-len-at-via-else-len-at}
 
 pub returns-clause-puts : goal.returns-clause-puts
 returns-clause-puts c =

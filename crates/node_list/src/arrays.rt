@@ -1,0 +1,77 @@
+ghost use Rattle.std.specs.Prelude.{◌≡◌, ◌<◌, ◌≤◌, ◌-◌, ◌^◌, Some, OnOk, vec_capacity};
+ghost use Rattle.slab.specs.Slab.{get, with_value, ContainsKey, HasRoomFor};
+ghost use Rattle.node_list.specs.inside.Slots.{PutsSlot};
+
+use crate::node::Item;
+use crate::packed::{NO_PLACE, Packed};
+use slab::Slab;
+use std::alloc::AllocError;
+use std::mem;
+
+/// How many nodes room is made for at first.
+const FIRST_ROOM: usize = 4;
+
+/// For how many nodes more room is made: as many as there are, so that growth costs each node a constant.
+fn growth(len: usize, additional: usize) -> usize
+    ensures { additional ≤ result }
+{
+    additional.max(len).max(FIRST_ROOM)
+}
+
+/// Makes room for one more place in both arrays. A full one grows where it stands, the slab by room for so many at
+/// least. Where the second is refused memory, the first has room to spare: so far no place is drawn.
+pub fn make_room(
+    nodes: &mut Slab<Packed>,
+    items: &mut Vec<Item>,
+    more: usize,
+) -> Result<(), AllocError>
+    requires some { 0 < more }
+    ensures room { OnOk result (HasRoomFor nodes.new 1) }
+    ensures place { OnOk result (nodes.new.vacant_key < vec_capacity items.new) }
+    ensures fits { OnOk result (nodes.new.vacant_key < 2 ^ 62 - 1) }
+    ensures nodes { nodes.new ≡ record nodes.old { capacity = nodes.new.capacity } }
+    ensures items { items.new.items ≡ items.old.items }
+    ensures wider { vec_capacity items.old ≤ vec_capacity items.new }
+{
+    let len = nodes.len();
+    if nodes.capacity() - len < more {
+        nodes.reserve_exact(growth(len, more))?;
+    }
+    let at = nodes.vacant_key();
+    if at >= NO_PLACE {
+        return Err(AllocError);
+    }
+    if at >= items.capacity() {
+        let end = nodes.capacity().max(at + 1);
+        items.reserve_exact(end - items.len())?;
+    }
+    Ok(())
+}
+
+/// Puts a front in the place of another, and hands that one back.
+#[inline(always)]
+pub fn exchange(nodes: &mut Slab<Packed>, at: usize, front: Packed) -> Packed
+    requires { ContainsKey nodes.old at }
+    ensures value { get nodes.old at ≡ Some result }
+    ensures now { nodes.new ≡ with_value nodes.old at front }
+{
+    mem::replace(&mut nodes[at], front)
+}
+
+/// Puts a slot at a place. The slab gives its places out in turn, but does not promise it, so there may be a gap.
+#[inline(always)]
+pub fn put_slot(items: &mut Vec<Item>, at: usize, slot: Item)
+    requires { at < vec_capacity items.old }
+    ensures puts { PutsSlot items.old.items items.new.items at slot }
+    ensures capacity { vec_capacity items.old ≤ vec_capacity items.new }
+{
+    if at < items.len() {
+        items[at] = slot;
+        return;
+    }
+    let alloc = *items.allocator();
+    if items.len() < at && items.resize_with(at, || Item::stand_in(alloc)).is_err() {
+        unreachable!();
+    }
+    items.push_reserved(slot);
+}
