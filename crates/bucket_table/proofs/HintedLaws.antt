@@ -9,7 +9,7 @@ use Rattle.node_list.specs.Places.{from, behind, all_but_first, AreApart}
 use Rattle.node_list.specs.Changes.{put_cell, without}
 use Rattle.node_list.specs.Changes.{cells_with}
 use Rattle.node_list.proofs.CellLaws.{from-here, from-on, without-here, without-on}
-use Rattle.bucket_table.specs.inside.Firsts.{is_in, first_in, AreHints, IsNewFirst, KeepsFirst, IsNoted, IsItemIn, IsNextHint, IsSucceeded}
+use Rattle.bucket_table.specs.inside.Firsts.{is_in, first_in, AreHints, AreUnknown, IsNewFirst, KeepsFirst, IsNoted, IsItemIn, IsNextHint, IsSucceeded}
 use Rattle.bucket_table.proofs.ContentLaws.{fresh-apart}
 use Rattle.bucket_table.proofs.FirstLaws.{first-here, first-on, first-node, first-put-other, first-without-other, first-without-behind, first-with}
 use Rattle.bucket_table.proofs.HintLaws.{is_in-yes}
@@ -108,10 +108,5 @@ pub hints-with : (wide : ℕ) (firsts : List (Option (Option ℕ))) (at : ℕ) (
 hints-with wide firsts at w cs h f first e = first-with wide f at w cs ∙ h f first e
 
 -- ---- nothing known
-pub hints-none : (wide n : ℕ) (firsts : List (Option (Option ℕ))) (cs : List Cell) → firsts ≡ replicate n None → AreHints wide firsts cs
-hints-none wide n firsts cs is f first e = absurd (go n f first (ap (λ (zs : List (Option (Option ℕ))). get_or zs f None) (sym is) ∙ e))
-  where
-    go : (n f : ℕ) (first : Option ℕ) → get_or (replicate n None) f None ≡ Some first → ⊥
-    go zero f first e = absurd (cc)
-    go (suc n) zero first e = absurd (cc)
-    go (suc n) (suc f) first e = go n f first e
+pub hints-none : (wide : ℕ) (firsts : List (Option (Option ℕ))) (cs : List Cell) → AreUnknown firsts → AreHints wide firsts cs
+hints-none wide firsts cs none f first e = let no : None ≡ Some first = sym (none f) ∙ e in absurd (cc)

@@ -25,7 +25,7 @@ mod rows;
 mod split;
 
 pub use entry::{Entry, Place};
-pub use growth::{Growth, Readying};
+pub use growth::{Growth, MAX_BUCKETS, Readying};
 pub use plain::PlainRows;
 pub use rows::Rows;
 pub use split::SplitRows;

@@ -22,6 +22,14 @@ abbrev pub AreHints : ℕ → List (Option (Option ℕ)) → List Cell → Type 
 AreHints wide firsts cells =
     (f : ℕ) (first : Option ℕ) → get_or firsts f None ≡ Some first → first_in wide f cells ≡ first
 
+-- nothing is known of any interval
+abbrev pub AreUnknown : List (Option (Option ℕ)) → Type 0
+AreUnknown firsts = (f : ℕ) → get_or firsts f None ≡ None
+
+-- of each interval as much is known as before
+abbrev pub TellTheSame : List (Option (Option ℕ)) → List (Option (Option ℕ)) → Type 0
+TellTheSame old new = (f : ℕ) → get_or new f None ≡ get_or old f None
+
 -- what is known now, and since the last doubling of intervals twice as wide, is so
 pub record AreRight (hints : Hints) (cells : List Cell) : Type 0 where
   pub narrow : hints.shift < 63

@@ -1,17 +1,14 @@
-ghost use Rattle.std.specs.Prelude.{◌≡◌, ◌^◌, false, IfOk, OnErr, length, get_or, position, not};
+ghost use Rattle.std.specs.Prelude.{◌≡◌, false, IfOk, OnErr, length, get_or, position, not};
+ghost use Rattle.bucket_table.specs.declared.growth.TheConstants.{MAX_BUCKETS};
 ghost use Rattle.bucket_table.specs.Buckets.{IsGrown, IsReadied};
 
 use super::SplitRows;
-use super::hint::Hint;
-use crate::growth::{Growth, Readying};
+use crate::growth::{Growth, MAX_BUCKETS, Readying};
 use ets_term::KeyHash;
 use node_list::Link;
 use split_key::dummy_key;
 use std::alloc::AllocError;
 use std::mem;
-
-/// The greatest number of buckets.
-const MAX_BUCKETS: usize = 1048576;
 
 impl<H: KeyHash + Copy + Drop> SplitRows<H> {
     /// Makes a bucket ready.
@@ -41,18 +38,14 @@ impl<H: KeyHash + Copy + Drop> SplitRows<H> {
     pub(super) fn double(&mut self) -> Result<Growth, AllocError>
         ensures slots { self.new.slots ≡ self.old.slots }
         ensures hash { self.new.hash ≡ self.old.hash }
-        ensures ok { IfOk result (λ growth. IsGrown (2 ^ 20) self.old.ready growth self.new.ready) }
+        ensures ok { IfOk result (λ growth. IsGrown MAX_BUCKETS self.old.ready growth self.new.ready) }
         ensures err { OnErr result (self.new.ready ≡ self.old.ready) }
     {
         let buckets = self.layout.dummies.len();
         if buckets >= MAX_BUCKETS {
             return Ok(Growth::AtMost);
         }
-        self.layout.hints.older.clear();
-        self.layout
-            .hints
-            .older
-            .resize(16 * buckets, Hint::unknown())?;
+        self.layout.hints.clear_older(16 * buckets)?;
         self.layout.dummies.resize(2 * buckets, Link::none())?;
         mem::swap(&mut self.layout.hints.firsts, &mut self.layout.hints.older);
         self.layout.hints.shift -= 1;

@@ -3,6 +3,7 @@ ghost use Rattle.bucket_table.specs.inside.Firsts.{IsFirstBelow};
 
 mod firsts;
 mod learn;
+mod room;
 mod settle;
 
 pub use self::firsts::{note, succeed};
@@ -14,7 +15,8 @@ use std::alloc::{AllocError, Global};
 const MOST_LOOKED_AT: usize = 64;
 
 /// What is known of the first items of intervals of keys, and what was known before the last doubling of those twice as
-/// wide, where it was not told yet. A key belongs to the interval that its upper bits say, all but so many.
+/// wide, where it was not told yet. A key belongs to the interval that its upper bits say, all but so many. Past the
+/// end of either list nothing is known.
 #[derive(Drop)]
 pub struct Hints {
     pub firsts: Vec<Hint>,

@@ -1,4 +1,4 @@
-ghost use Rattle.std.specs.Prelude.{◌^◌};
+ghost use Rattle.bucket_table.specs.declared.growth.TheConstants.{MAX_BUCKETS};
 ghost use Rattle.bucket_table.specs.Split.{key_of_place};
 
 use super::SplitRows;
@@ -21,7 +21,7 @@ impl<H: KeyHash + Copy + Drop> Rows for SplitRows<H> {
 
     ghost readiness = { λ s. s.ready };
 
-    ghost most_buckets = { 2 ^ 20 };
+    ghost most_buckets = { MAX_BUCKETS };
 
     fn get(&self, key: &Term) -> Option<&[Term]> {
         let mut steps = Steps::new();

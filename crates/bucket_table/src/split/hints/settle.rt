@@ -54,12 +54,13 @@ impl Hints {
         self.settle_pair(list, (key >> self.shift) as usize / 2);
     }
 
-    /// Settles the two older intervals whose turn it is.
+    /// Settles the two older intervals whose turn it is, and notes some more of the new ones.
     pub fn settle_two(&mut self, list: &NodeList)
         requires hints { AreRight self.old list.now.cells }
         ensures hints { AreRight self.new list.now.cells }
         ensures shift { self.new.shift ≡ self.old.shift }
     {
+        self.note_more();
         let turn = self.turn;
         if turn < self.older.len() {
             self.settle_pair(list, turn);

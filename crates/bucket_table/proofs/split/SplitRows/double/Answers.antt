@@ -1,7 +1,8 @@
-use Rattle.bucket_table.proofs.RowsLaws.{rows-grown, rows-like, cleared-grown}
+use Rattle.bucket_table.proofs.LayoutLaws.{emptied}
+use Rattle.bucket_table.proofs.RowsLaws.{rows-grown, rows-like}
 use Rattle.split_key.proofs.Halves.{exponent-lt}
 use Rattle.bucket_table.proofs.HintedLaws.{hints-none}
-use Rattle.bucket_table.proofs.HalveLaws.{hints-nil, older-like}
+use Rattle.bucket_table.proofs.HalveLaws.{older-like}
 use Rattle.bucket_table.specs.inside.Directory.{IsLeast}
 use Rattle.bucket_table.specs.inside.Firsts.{IsRows}
 use Rattle.bucket_table.proofs.LeastLaws.{least-grown}
@@ -26,25 +27,21 @@ returns-then-buckets-ge-MAX_BUCKETS-clause-ok g c =
 
 pub invariant_of-self : goal.invariant_of-self
 invariant_of-self g c = record {
-  rows = record {
-    rows = c.self.invariant.rows.rows;
-    wider = hints-nil (2 ^ (c.self.inside.layout.hints.shift + 1)) c.resize.new.self.items c.self.inside.layout.list.cells (c.in_err-resize.ensures.items ∙ c.clear.ensures.items);
-  };
+  rows = emptied g.H.KeyHash.number c.self.inside.layout c.self.invariant.rows c.clear_older.new.self c.clear_older.ensures.rest c.clear_older.ensures.unknown;
   counted = c.self.invariant.counted;
   due = c.self.invariant.due;
   noted = c.self.invariant.noted;
 }
 
-pub invariant_of-self-in_err-resize-2 : goal.invariant_of-self-in_err-resize-2
-invariant_of-self-in_err-resize-2 g c =
-    let number = g.H.KeyHash.number c.self.inside.layout.hash in
-    let fresh = cleared-grown c.clear.new.self.items c.resize.new.self.items c.unknown.result _ (16 * c.len-buckets.result) _ c.clear.ensures.items c.unknown.ensures c.clear.ensures.len c.in_ok-resize.ensures.items in
-    let wider = hints-none (2 ^ (c.self.inside.layout.hints.shift + 1)) (16 * c.len-buckets.result) c.resize.new.self.items c.self.inside.layout.list.cells fresh in
-    let P : List (Option ℕ) → Type 0 = λ ds. IsRows number ds c.self.inside.layout.hints.shift c.self.inside.layout.hints.firsts.items c.self.inside.layout.list.cells in
+pub invariant_of-self-in_err-resize : goal.invariant_of-self-in_err-resize
+invariant_of-self-in_err-resize g c =
+    let hints = c.clear_older.new.self in
+    let rows = emptied g.H.KeyHash.number c.self.inside.layout c.self.invariant.rows hints c.clear_older.ensures.rest c.clear_older.ensures.unknown in
+    let P : List (Option ℕ) → Type 0 = λ ds. IsRows (g.H.KeyHash.number c.self.inside.layout.hash) ds hints.shift hints.firsts.items c.self.inside.layout.list.cells in
     let D : List (Option ℕ) → Type 0 = λ ds. IsLeast ds c.self.inside.least in
-    let same = sym c.in_err-resize-2.ensures.items in
+    let same = sym c.in_err-resize.ensures.items in
     record {
-      rows = record { rows = subst P same c.self.invariant.rows.rows; wider = wider };
+      rows = record { rows = subst P same rows.rows; wider = rows.wider };
       counted = c.self.invariant.counted;
       due = subst D same c.self.invariant.due;
       noted = c.self.invariant.noted;
@@ -52,28 +49,31 @@ invariant_of-self-in_err-resize-2 g c =
 
 pub invariant_of-self-2 : goal.invariant_of-self-2
 invariant_of-self-2 g c =
+    let number = g.H.KeyHash.number c.self.inside.layout.hash in
     let items = c.self.inside.layout.dummies.items in
+    let cells = c.self.inside.layout.list.cells in
+    let old = c.clear_older.new.self in
     let fewer : length items < 2 ^ 20 = omega arith in
-    let fresh = cleared-grown c.clear.new.self.items c.resize.new.self.items c.unknown.result _ (16 * c.len-buckets.result) _ c.clear.ensures.items c.unknown.ensures c.clear.ensures.len c.in_ok-resize.ensures.items in
-    let hints = hints-none (2 ^ (c.self.inside.layout.hints.shift - 1)) (16 * c.len-buckets.result) c.resize.new.self.items c.self.inside.layout.list.cells fresh in
-    let after = (grown-items items c.resize-2.new.self.items c.len-buckets.result (vec_len c.self.inside.layout.dummies) (c.len-buckets.ensures ∙ c.self.inside.layout.dummies.ok.0) c.self.inside.layout.dummies.ok.0 (c.in_ok-resize-2.ensures.items ∙ ap (λ (z : Option ℕ). take (2 * c.len-buckets.result) items ++ replicate (2 * c.len-buckets.result - vec_len c.self.inside.layout.dummies) z) c.none.ensures)) in
-    let rows = rows-grown (g.H.KeyHash.number c.self.inside.layout.hash) items c.self.inside.layout.hints.shift c.self.inside.layout.hints.firsts.items c.self.inside.layout.list.cells c.self.invariant.rows.rows fewer c.resize-2.new.self.items c.resize.new.self.items
-    after hints in
-    let xs : c.swap.new.x.items ≡ c.resize.new.self.items = λ j. (c.swap.ensures.x_after j).items in
-    let ys : c.swap.new.y.items ≡ c.self.inside.layout.hints.firsts.items = λ j. (c.swap.ensures.y_after j).items in
+    let cleared = emptied g.H.KeyHash.number c.self.inside.layout c.self.invariant.rows old c.clear_older.ensures.rest c.clear_older.ensures.unknown in
+    let unknown = hints-none (2 ^ (old.shift - 1)) old.older.items cells c.clear_older.ensures.unknown in
+    let after = grown-items items c.resize.new.self.items c.len-buckets.result (vec_len c.self.inside.layout.dummies) (c.len-buckets.ensures ∙ c.self.inside.layout.dummies.ok.0) c.self.inside.layout.dummies.ok.0 (c.in_ok-resize.ensures.items ∙ ap (λ (z : Option ℕ). take (2 * c.len-buckets.result) items ++ replicate (2 * c.len-buckets.result - vec_len c.self.inside.layout.dummies) z) c.none.ensures) in
+    let rows = rows-grown number items old.shift old.firsts.items cells cleared.rows fewer c.resize.new.self.items old.older.items after unknown in
+    let xs : c.swap.new.x.items ≡ old.older.items = λ j. (c.swap.ensures.x_after j).items in
+    let ys : c.swap.new.y.items ≡ old.firsts.items = λ j. (c.swap.ensures.y_after j).items in
+    let some = some-shift items old.shift cleared.rows.hinted.doublings cleared.rows.hinted.size cleared.rows.hinted.narrow fewer in
     record {
       rows = record {
-        rows = rows-like (g.H.KeyHash.number c.self.inside.layout.hash) c.resize-2.new.self.items (c.self.inside.layout.hints.shift - 1) c.resize.new.self.items c.swap.new.x.items c.self.inside.layout.list.cells c.self.inside.layout.list.cells rows xs refl;
-        wider = older-like c.self.inside.layout.hints.shift 0 c.self.inside.layout.hints.firsts.items c.swap.new.y.items c.self.inside.layout.list.cells (some-shift items c.self.inside.layout.hints.shift c.self.invariant.rows.rows.hinted.doublings c.self.invariant.rows.rows.hinted.size c.self.invariant.rows.rows.hinted.narrow fewer) ys c.self.invariant.rows.rows.hinted.hints;
+        rows = rows-like number c.resize.new.self.items (old.shift - 1) old.older.items c.swap.new.x.items cells cells rows xs refl;
+        wider = older-like old.shift 0 old.firsts.items c.swap.new.y.items cells some ys cleared.rows.hinted.hints;
       };
       counted = c.self.invariant.counted;
-      due = least-grown items c.resize-2.new.self.items (length items) c.self.inside.least after c.self.invariant.due;
+      due = least-grown items c.resize.new.self.items (length items) c.self.inside.least after c.self.invariant.due;
       noted = c.self.invariant.noted;
     }
 
 pub returns-clause-ok : goal.returns-clause-ok
 returns-clause-ok g c =
     let items = c.self.inside.layout.dummies.items in
-    let P : Split g.row.H.Denot → Type 0 = λ v. map is_some c.resize-2.new.self.items ≡ v.ready ++ replicate (length v.ready) false in
-    subst P c.self.view_is (ready-grown items c.resize-2.new.self.items
-    (grown-items items c.resize-2.new.self.items c.len-buckets.result (vec_len c.self.inside.layout.dummies) (c.len-buckets.ensures ∙ c.self.inside.layout.dummies.ok.0) c.self.inside.layout.dummies.ok.0 (c.in_ok-resize-2.ensures.items ∙ ap (λ (z : Option ℕ). take (2 * c.len-buckets.result) items ++ replicate (2 * c.len-buckets.result - vec_len c.self.inside.layout.dummies) z) c.none.ensures)))
+    let P : Split g.row.H.Denot → Type 0 = λ v. map is_some c.resize.new.self.items ≡ v.ready ++ replicate (length v.ready) false in
+    subst P c.self.view_is (ready-grown items c.resize.new.self.items
+    (grown-items items c.resize.new.self.items c.len-buckets.result (vec_len c.self.inside.layout.dummies) (c.len-buckets.ensures ∙ c.self.inside.layout.dummies.ok.0) c.self.inside.layout.dummies.ok.0 (c.in_ok-resize.ensures.items ∙ ap (λ (z : Option ℕ). take (2 * c.len-buckets.result) items ++ replicate (2 * c.len-buckets.result - vec_len c.self.inside.layout.dummies) z) c.none.ensures)))
