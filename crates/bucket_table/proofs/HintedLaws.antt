@@ -1,5 +1,5 @@
 -- Hints stay right.
-use Rattle.std.proofs.Common.{◌≡◌, ◌≢◌, ℕ, suc, zero, ◌/◌, inl, inr, List, [], ◌∷◌, replicate, get_or, Option, Some, None, is_some, Bool, true, false, nat_eq, ◌&&◌, refl, sym, ◌∙◌, ap, subst, arith}
+use Rattle.std.proofs.Common.{◌≡◌, ◌≢◌, ℕ, ◌/◌, inl, inr, List, [], ◌∷◌, get_or, Option, Some, None, is_some, Bool, true, false, nat_eq, ◌&&◌, refl, sym, ◌∙◌, ap, subst, arith}
 use Rattle.std.proofs.lemmas.Bool.{cases_eq, cases_Bool}
 use Rattle.std.proofs.lemmas.Bool.Decides.{nat_tests}
 use Rattle.ets_term.specs.declared.term.Term.{Term}

@@ -18,9 +18,9 @@ module _ {H : Type 0} (number : H → Term → ℕ) (layout : Layout H) (r : Are
   -- so are others, of intervals as wide
   pub anew : (hints : Hints) → hints.shift ≡ layout.hints.shift → AreRight hints layout.list.cells → AreRows number (record layout { hints = hints })
   anew hints e h =
-      let P : ℕ → Type 0 = λ shift. AreHints (2 ^ shift) hints.firsts.items layout.list.cells → IsRows (number layout.hash) layout.dummies.items shift hints.firsts.items layout.list.cells in
+      let P : ℕ → Type 0 = λ shift. AreHints (2 ^ shift) hints.firsts.items layout.list.cells → IsRows (number layout.hash) layout.dummies shift hints.firsts.items layout.list.cells in
       record {
-        rows = subst P (sym e) (rows-hinted (number layout.hash) layout.dummies.items layout.hints.shift layout.hints.firsts.items hints.firsts.items layout.list.cells r.rows) h.firsts;
+        rows = subst P (sym e) (rows-hinted (number layout.hash) layout.dummies layout.hints.shift layout.hints.firsts.items hints.firsts.items layout.list.cells r.rows) h.firsts;
         wider = h.wider;
       }
 

@@ -6,6 +6,7 @@ pub mod NewLaws
 pub mod SlotLaws
 pub mod PlacedLaws
 pub mod SplitLaws
+pub mod DummyLaws
 pub mod FirstLaws
 pub mod HintLaws
 pub mod HintedLaws

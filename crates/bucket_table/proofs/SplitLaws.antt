@@ -1,8 +1,8 @@
 -- What keeps rows rows.
-use Rattle.std.proofs.Common.{◌≡◌, ◌≢◌, ℕ, suc, zero, ◌-◌, ◌*◌, ◌^◌, ◌<◌, ◌≤◌, inl, inr, List, ◌∷◌, ◌++◌, length, map, replicate, set, take, get_or, Option, Some, None, is_some, IsSome, Bool, true, false, refl, sym, ◌∙◌, ap, subst, arith}
+use Rattle.std.proofs.Common.{◌≡◌, ◌≢◌, ℕ, suc, zero, ◌-◌, ◌*◌, ◌^◌, ◌<◌, ◌≤◌, inl, inr, List, ◌∷◌, ◌++◌, length, map, replicate, set, get_or, Option, Some, None, is_some, IsSome, Bool, true, false, refl, sym, ◌∙◌, ap, subst, arith}
 use Rattle.std.specs.Map.{lookup}
 use Rattle.std.proofs.lemmas.Bool.{cases_lt, cases_eq}
-use Rattle.std.proofs.lemmas.List.{length-set, get_or-set_same, get_or-set_other, get_or_append_left, get_or-append_right, length-append, length-map, take_all, get_or_default, map-set, map-append}
+use Rattle.std.proofs.lemmas.List.{length-set, get_or-set_same, get_or-set_other, get_or_append_left, get_or-append_right, length-append, length-map, get_or_default, map-set, map-append}
 use Rattle.std.proofs.Math.ListN.{get_or-map}
 use Rattle.std.proofs.Math.Pow.{pow_pos, pow-lt}
 use Rattle.ets_term.specs.declared.term.Term.{Term}
@@ -197,13 +197,9 @@ module _ (number : Term → ℕ) (dummies : List (Option ℕ)) (cs : List Cell) 
         | inr most ↦ let e = at-most most in omega (arith, e)
       ]
 
-none-is : (o : Option ℕ) → is_some o ≡ false → o ≡ None
+pub none-is : (o : Option ℕ) → is_some o ≡ false → o ≡ None
 none-is None e = refl
 none-is (Some x) e = absurd (cc)
-
--- an entry that was read and is none
-pub read-none : (dummies : List (Option ℕ)) (bucket : ℕ) (o : Option ℕ) → bucket < length dummies → o ≡ get_or dummies bucket o → is_some o ≡ false → get_or dummies bucket None ≡ None
-read-none dummies bucket o below e h = get_or_default dummies bucket None o below ∙ (sym e ∙ none-is o h)
 
 pub ready-none : (dummies : List (Option ℕ)) (bucket : ℕ) → bucket < length dummies → get_or dummies bucket None ≡ None → get_or (map is_some dummies) bucket true ≡ false
 ready-none dummies bucket below e =
@@ -223,12 +219,3 @@ ready-grown dummies after e =
     ∙ (map-append is_some dummies (nones (length dummies))
     ∙ (ap (λ (bs : List Bool). map is_some dummies ++ bs) (map-nones (length dummies))
     ∙ ap (λ (n : ℕ). map is_some dummies ++ replicate n false) (sym (length-map dummies is_some))))
-
-twice-all : (items : List (Option ℕ)) (m : ℕ) → m ≡ length items → take (2 * m) items ≡ items
-twice-all items m e = take_all (2 * m) items (omega (arith, e))
-
--- what a directory of twice the length is
-pub grown-items : (items after : List (Option ℕ)) (m n : ℕ) → m ≡ length items → n ≡ length items → after ≡ take (2 * m) items ++ replicate (2 * m - n) None → after ≡ items ++ replicate (length items) None
-grown-items items after m n e f h =
-    let r : 2 * m - n ≡ length items = omega (arith, e, f) in
-    h ∙ (ap (λ (zs : List (Option ℕ)). zs ++ replicate (2 * m - n) None) (twice-all items m e) ∙ ap (λ (k : ℕ). items ++ replicate k None) r)

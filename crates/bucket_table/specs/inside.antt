@@ -1,5 +1,6 @@
 pub mod Nodes
 pub mod Directory
+pub mod Dummies
 pub mod Layout
 pub mod Found
 pub mod Hints

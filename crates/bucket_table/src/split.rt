@@ -2,6 +2,7 @@ ghost use Rattle.std.specs.Prelude.{◌≡◌, ◌∷◌, [], true, false, IfOk,
 
 mod buckets;
 mod changes;
+mod dummies;
 mod held;
 mod hint;
 mod hints;

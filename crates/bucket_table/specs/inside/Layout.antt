@@ -19,7 +19,7 @@ use Rattle.bucket_table.specs.inside.Notes.{AreNoted}
 
 -- rows whose hints are right, and what is still known of intervals twice as wide
 pub record AreRows {H : Type 0} (number : H → Term → ℕ) (layout : Layout H) : Type 0 where
-  pub rows : IsRows (number layout.hash) layout.dummies.items layout.hints.shift layout.hints.firsts.items
+  pub rows : IsRows (number layout.hash) layout.dummies layout.hints.shift layout.hints.firsts.items
       layout.list.cells
   pub wider : AreHints (2 ^ (layout.hints.shift + 1)) layout.hints.older.items layout.list.cells
 
@@ -28,7 +28,7 @@ pub record IsTable {H : Type 0} (number : H → Term → ℕ) (layout : Layout H
     (held : Held) : Type 0 where
   pub rows : AreRows number layout
   pub counted : slots ≡ length (slots_of layout.list.cells)
-  pub due : IsLeast layout.dummies.items least
+  pub due : IsLeast layout.dummies least
   pub noted : AreNoted (number layout.hash) held.is_lost held.hashes.items (slots_of layout.list.cells)
 
 -- what a contract sees of rows
@@ -38,13 +38,13 @@ split_of layout = record {
   slots = content_of layout.list.cells;
   places = places_of layout.list.cells;
   room = layout.list.capacity - length layout.list.cells;
-  ready = map is_some layout.dummies.items;
+  ready = map is_some layout.dummies;
 }
 
 -- a call changes the nodes and what is known of them alone
 pub record Keeps {H : Type 0} (old new : Layout H) : Type 0 where
   pub hash : new.hash ≡ old.hash
-  pub dummies : new.dummies.items ≡ old.dummies.items
+  pub dummies : new.dummies ≡ old.dummies
 
 -- an item with this key stands among these nodes now
 pub record IsPutIn (key : ℕ) (term : Term) (chain : List Term) (old new : List Cell) : Type 0 where
@@ -61,5 +61,5 @@ Finds layout term result =
 -- and has looked at so many nodes
 abbrev pub Looks : {H : Type 0} → (H → Term → ℕ) → Layout H → Term → ℕ → ℕ → Type 0
 Looks number layout term old new =
-    HasLooked (number layout.hash) (slots_of layout.list.cells) (map is_some layout.dummies.items)
+    HasLooked (number layout.hash) (slots_of layout.list.cells) (map is_some layout.dummies)
     term old new

@@ -5,7 +5,6 @@ ghost use Rattle.bucket_table.specs.Buckets.{IsGrown, IsReadied};
 use super::SplitRows;
 use crate::growth::{Growth, MAX_BUCKETS, Readying};
 use ets_term::KeyHash;
-use node_list::Link;
 use split_key::dummy_key;
 use std::alloc::AllocError;
 use std::mem;
@@ -22,13 +21,13 @@ impl<H: KeyHash + Copy + Drop> SplitRows<H> {
         if index >= self.layout.dummies.len() {
             return Ok(Readying::NotABucket);
         }
-        if self.layout.dummies[index].get().is_some() {
+        if self.layout.dummies.get(index).is_some() {
             return Ok(Readying::AlreadyReady);
         }
         let start = self.layout.start_of_dummy(bucket);
         self.layout.list.reserve(1)?;
         let at = self.layout.list.insert_dummy(start, dummy_key(bucket));
-        self.layout.dummies[index] = Link::to(at);
+        self.layout.dummies.set(index, at);
         self.layout.survey_both(bucket);
         self.least = self.layout.next_unready(self.least);
         Ok(Readying::Ready)
@@ -46,7 +45,7 @@ impl<H: KeyHash + Copy + Drop> SplitRows<H> {
             return Ok(Growth::AtMost);
         }
         self.layout.hints.clear_older(16 * buckets)?;
-        self.layout.dummies.resize(2 * buckets, Link::none())?;
+        self.layout.dummies.double()?;
         mem::swap(&mut self.layout.hints.firsts, &mut self.layout.hints.older);
         self.layout.hints.shift -= 1;
         self.layout.hints.turn = 0;
@@ -75,7 +74,6 @@ impl<H: KeyHash + Copy + Drop> SplitRows<H> {
     pub(super) fn has_ready(&self, bucket: u32) -> bool
         ensures { result ≡ get_or self.now.ready bucket false }
     {
-        let index = bucket as usize;
-        index < self.layout.dummies.len() && self.layout.dummies[index].get().is_some()
+        self.layout.dummies.get(bucket as usize).is_some()
     }
 }

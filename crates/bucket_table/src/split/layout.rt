@@ -12,9 +12,10 @@ mod survey;
 mod sweep;
 
 pub use self::directory::hash_of;
+use super::dummies::Dummies;
 use super::hints::Hints;
 use ets_term::KeyHash;
-use node_list::{Link, NodeList};
+use node_list::NodeList;
 use std::alloc::{AllocError, Global};
 
 /// The list of the nodes, the directory of its dummies and what is known of its items, together. Each method keeps the
@@ -23,7 +24,7 @@ use std::alloc::{AllocError, Global};
 pub struct Layout<H: KeyHash + Copy + Drop> {
     pub hash: H,
     pub list: NodeList,
-    pub dummies: Vec<Link>,
+    pub dummies: Dummies,
     pub hints: Hints,
 }
 
@@ -32,15 +33,13 @@ impl<H: KeyHash + Copy + Drop> Layout<H> {
     pub fn new(alloc: Global, hash: H) -> Result<Layout<H>, AllocError>
         ensures rows { IfOk result (λ layout. AreRows H.number layout) }
         ensures cells { IfOk result (λ layout. layout.list.cells ≡ new_cell 0 0 None ∷ []) }
-        ensures buckets { IfOk result (λ layout. map is_some layout.dummies.items ≡ true ∷ false ∷ []) }
-        ensures least { IfOk result (λ layout. IsLeast layout.dummies.items 1) }
+        ensures buckets { IfOk result (λ layout. map is_some layout.dummies ≡ true ∷ false ∷ []) }
+        ensures least { IfOk result (λ layout. IsLeast layout.dummies 1) }
         ensures hash { IfOk result (λ layout. layout.hash ≡ hash) }
     {
         let list = NodeList::new(alloc)?;
         let head = list.head();
-        let mut dummies = Vec::with_capacity(alloc, 2)?;
-        dummies.push_reserved(Link::to(head));
-        dummies.push_reserved(Link::none());
+        let dummies = Dummies::new(alloc, head)?;
         let hints = Hints::new(alloc)?;
         Ok(Layout {
             hash,

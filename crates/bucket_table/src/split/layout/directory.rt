@@ -13,12 +13,12 @@ impl<H: KeyHash + Copy + Drop> Layout<H> {
     /// The nearest ready bucket among this one, its parent, that one's parent and so on, and the place of its dummy.
     pub fn nearest_ready(&self, bucket: u32) -> (u32, At)
         requires rows { AreRows H.number self.now }
-        requires below { bucket < length self.now.dummies.items }
-        ensures { IsNearest self.now.dummies.items bucket result.0 result.1 }
+        requires below { bucket < length self.now.dummies }
+        ensures { IsNearest self.now.dummies bucket result.0 result.1 }
     {
         let mut at = bucket;
         loop {
-            if let Some(place) = self.dummies[at as usize].get() {
+            if let Some(place) = self.dummies.get(at as usize) {
                 return (at, place);
             }
             if at == 0 {
@@ -34,7 +34,7 @@ impl<H: KeyHash + Copy + Drop> Layout<H> {
     /// begin.
     pub fn start_of(&self, number: u32) -> (u32, At)
         requires rows { AreRows H.number self.now }
-        ensures { IsNearest self.now.dummies.items (number % length self.now.dummies.items) result.0 result.1 }
+        ensures { IsNearest self.now.dummies (number % length self.now.dummies) result.0 result.1 }
     {
         let bucket = bucket_of(number, self.dummies.len() as u32);
         self.nearest_ready(bucket)
@@ -42,13 +42,13 @@ impl<H: KeyHash + Copy + Drop> Layout<H> {
 
     /// The least bucket from one on that is not ready, or else how many buckets there are.
     pub fn next_unready(&self, from: usize) -> usize
-        requires before { AreReady self.now.dummies.items from }
-        requires most { from ≤ length self.now.dummies.items }
-        ensures { IsLeast self.now.dummies.items result }
+        requires before { AreReady self.now.dummies from }
+        requires most { from ≤ length self.now.dummies }
+        ensures { IsLeast self.now.dummies result }
     {
         let mut least = from;
         while least < self.dummies.len() {
-            if self.dummies[least].get().is_none() {
+            if self.dummies.get(least).is_none() {
                 return least;
             }
             least += 1;

@@ -66,7 +66,7 @@ impl<H: KeyHash + Copy + Drop> Layout<H> {
     /// The same, from a place where such a search can start.
     fn find_from(&self, start: At, number: u32, key: &Term, steps: &mut Steps) -> Option<At>
         requires number { number ≡ H.number self.now.hash key.now }
-        requires start { CanStart (H.number self.now.hash) self.now.dummies.items key.now start self.now.list.cells }
+        requires start { CanStart (H.number self.now.hash) self.now.dummies key.now start self.now.list.cells }
         ensures found { Finds self.now key.now result }
         ensures looked { Looks H.number self.now key.now steps.old steps.new }
     {

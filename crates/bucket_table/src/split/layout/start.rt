@@ -37,7 +37,7 @@ impl<H: KeyHash + Copy + Drop> Layout<H> {
     /// A place in front of where a bucket's dummy is to stand, as near as the hints tell.
     pub fn start_of_dummy(&self, bucket: u32) -> At
         requires rows { AreRows H.number self.now }
-        requires below { bucket < length self.now.dummies.items }
+        requires below { bucket < length self.now.dummies }
         ensures { StandsUpTo (key_of_dummy bucket) result self.now.list.cells }
     {
         self.list.known();

@@ -13,7 +13,7 @@ impl<H: KeyHash + Copy + Drop> Layout<H> {
     /// Makes the hints of a bucket that became ready known, and those of its parent, if that is ready.
     pub fn survey_both(&mut self, bucket: u32)
         requires rows { AreRows H.number self.old }
-        requires below { bucket < length self.old.dummies.items }
+        requires below { bucket < length self.old.dummies }
         ensures rows { AreRows H.number self.new }
         ensures keeps { Keeps self.old self.new }
         ensures cells { self.new.list.cells ≡ self.old.list.cells }
@@ -26,12 +26,12 @@ impl<H: KeyHash + Copy + Drop> Layout<H> {
 
     fn survey_bucket(&mut self, bucket: u32)
         requires rows { AreRows H.number self.old }
-        requires below { bucket < length self.old.dummies.items }
+        requires below { bucket < length self.old.dummies }
         ensures rows { AreRows H.number self.new }
         ensures keeps { Keeps self.old self.new }
         ensures cells { self.new.list.cells ≡ self.old.list.cells }
     {
-        if let Some(start) = self.dummies[bucket as usize].get() {
+        if let Some(start) = self.dummies.get(bucket as usize) {
             self.survey(bucket, start);
         }
     }
@@ -39,7 +39,7 @@ impl<H: KeyHash + Copy + Drop> Layout<H> {
     /// Makes the hints of a ready bucket known: all are empty at first, and then its items are noted as they come.
     fn survey(&mut self, bucket: u32, start: At)
         requires rows { AreRows H.number self.old }
-        requires entry { get_or self.old.dummies.items bucket None ≡ Some start }
+        requires entry { get_or self.old.dummies bucket None ≡ Some start }
         ensures rows { AreRows H.number self.new }
         ensures keeps { Keeps self.old self.new }
         ensures cells { self.new.list.cells ≡ self.old.list.cells }

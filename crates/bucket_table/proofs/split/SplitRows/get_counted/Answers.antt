@@ -15,7 +15,7 @@ returns-in_err-at-clause-value g c =
 pub returns-in_err-at-clause-looked : goal.returns-in_err-at-clause-looked
 returns-in_err-at-clause-looked g c =
     let number = g.H.KeyHash.number c.self.inside.layout.hash in
-    let there = looked-there c.self.inside.layout.list.cells c.known.ensures.apart c.self.invariant.rows.rows.split.distinct number (map is_some c.self.inside.layout.dummies.items) c.args.key.now c.args.steps.now c.find.new.steps c.find.ensures.looked in
+    let there = looked-there c.self.inside.layout.list.cells c.known.ensures.apart c.self.invariant.rows.rows.split.distinct number (map is_some c.self.inside.layout.dummies) c.args.key.now c.args.steps.now c.find.new.steps c.find.ensures.looked in
     let P : Split g.row.H.Denot → Type 0 = λ v. HasLooked (g.H.KeyHash.number v.hash) v.slots v.ready c.args.key.now c.args.steps.now c.find.new.steps in
     subst P c.self.view_is there
 
@@ -29,6 +29,6 @@ returns-clause-value g c =
 pub returns-clause-looked : goal.returns-clause-looked
 returns-clause-looked g c =
     let number = g.H.KeyHash.number c.self.inside.layout.hash in
-    let there = looked-there c.self.inside.layout.list.cells c.known.ensures.apart c.self.invariant.rows.rows.split.distinct number (map is_some c.self.inside.layout.dummies.items) c.args.key.now c.args.steps.now c.find.new.steps c.find.ensures.looked in
+    let there = looked-there c.self.inside.layout.list.cells c.known.ensures.apart c.self.invariant.rows.rows.split.distinct number (map is_some c.self.inside.layout.dummies) c.args.key.now c.args.steps.now c.find.new.steps c.find.ensures.looked in
     let P : Split g.row.H.Denot → Type 0 = λ v. HasLooked (g.H.KeyHash.number v.hash) v.slots v.ready c.args.key.now c.args.steps.now c.find.new.steps in
     subst P c.self.view_is there

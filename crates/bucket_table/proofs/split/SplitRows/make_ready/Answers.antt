@@ -18,7 +18,7 @@ use Rattle.bucket_table.proofs.LeastLaws.{ready-still}
 use Rattle.bucket_table.proofs.PlaceLaws.{content-dummy}
 use Rattle.bucket_table.proofs.RowsLaws.{rows-ready}
 use Rattle.bucket_table.proofs.SlotLaws.{slots-put-dummy}
-use Rattle.bucket_table.proofs.SplitLaws.{read-none, ready-none, ready-set}
+use Rattle.bucket_table.proofs.SplitLaws.{none-is, ready-none, ready-set}
 use Rattle.bucket_table.proofs.split.SplitRows.make_ready.Goals as goal
 
 pub insert_dummy-at-requires-clause-stands : goal.insert_dummy-at-requires-clause-stands
@@ -30,18 +30,17 @@ insert_dummy-at-requires-clause-stands g c =
 pub survey_both-requires-clause-rows : goal.survey_both-requires-clause-rows
 survey_both-requires-clause-rows g c =
     let number = g.H.KeyHash.number c.self.inside.layout.hash in
-    let items = c.self.inside.layout.dummies.items in
+    let items = c.self.inside.layout.dummies in
     let cells = c.self.inside.layout.list.cells in
     let below : c.args.bucket < length items = omega arith in
-    let none = read-none items c.args.bucket c.index.result.now below c.index.ensures (ap is_some (sym c.get.ensures) ∙ (sym c.is_some.ensures ∙ c.if-is_some.false)) in
+    let none = sym c.get.ensures ∙ none-is c.get.result (sym c.is_some.ensures ∙ c.if-is_some.false) in
     let F : List Cell → Type 0 = λ zs. IsFresh c.insert_dummy-at.result zs in
     let is = c.insert_dummy-at.ensures.cells ∙ (ap (put_cell (new_cell c.insert_dummy-at.result c.dummy_key.result None)) c.in_ok-reserve.ensures.cells ∙ ap (λ (k : ℕ). put_cell (new_cell c.insert_dummy-at.result k None) cells) c.dummy_key.ensures) in
     let base = rows-ready number items c.self.inside.layout.hints.shift c.self.inside.layout.hints.firsts.items cells c.self.invariant.rows.rows c.args.bucket c.insert_dummy-at.result below none (subst F c.in_ok-reserve.ensures.cells c.insert_dummy-at.ensures.fresh) c.insert_dummy-at.new.self.cells is in
-    let now : set items c.args.bucket c.to.result ≡ set items c.args.bucket (Some c.insert_dummy-at.result) = ap (set items c.args.bucket) c.to.ensures in
     let hints = c.self.inside.layout.hints in
     let D : List (Option ℕ) → Type 0 = λ ds. IsRows number ds hints.shift hints.firsts.items c.insert_dummy-at.new.self.cells in
     record {
-      rows = subst D (sym now) base;
+      rows = subst D (sym c.set.ensures) base;
       wider = hints-dummy (2 ^ (hints.shift + 1)) hints.older.items c.insert_dummy-at.result (key_of_dummy c.args.bucket) cells c.insert_dummy-at.new.self.cells c.self.invariant.rows.wider is;
     }
 
@@ -56,28 +55,28 @@ returns-clause-hash g c = c.survey_both.ensures.keeps.hash ∙ ap (λ (v : Split
 
 pub returns-clause-ok : goal.returns-clause-ok
 returns-clause-ok g c =
-    let items = c.self.inside.layout.dummies.items in
+    let items = c.self.inside.layout.dummies in
     let below : c.args.bucket < length items = omega arith in
-    let none = read-none items c.args.bucket c.index.result.now below c.index.ensures (ap is_some (sym c.get.ensures) ∙ (sym c.is_some.ensures ∙ c.if-is_some.false)) in
-    let after = c.survey_both.new.self.dummies.items in
+    let none = sym c.get.ensures ∙ none-is c.get.result (sym c.is_some.ensures ∙ c.if-is_some.false) in
+    let after = c.survey_both.new.self.dummies in
     let P : Split g.row.H.Denot → Type 0 = λ v. IsReadied c.args.bucket v.ready Ready (map is_some after) in
     let l : length (map is_some items) ≡ length items = length-map items is_some in
     let within : c.args.bucket < length (map is_some items) = omega (arith, l) in
-    subst P c.self.view_is (within, ready-none items c.args.bucket below none, ready-set items after c.args.bucket c.insert_dummy-at.result (c.survey_both.ensures.keeps.dummies ∙ ap (set items c.args.bucket) c.to.ensures))
+    subst P c.self.view_is (within, ready-none items c.args.bucket below none, ready-set items after c.args.bucket c.insert_dummy-at.result (c.survey_both.ensures.keeps.dummies ∙ c.set.ensures))
 
 pub next_unready-self-inside-requires-clause-before : goal.next_unready-self-inside-requires-clause-before
 next_unready-self-inside-requires-clause-before g c =
-    let items = c.self.inside.layout.dummies.items in
+    let items = c.self.inside.layout.dummies in
     let below : c.args.bucket < length items = omega arith in
     let D : List (Option ℕ) → Type 0 = λ ds. AreReady ds c.self.inside.least in
-    subst D (sym (c.survey_both.ensures.keeps.dummies ∙ ap (set items c.args.bucket) c.to.ensures)) (ready-still items c.self.inside.least c.args.bucket c.insert_dummy-at.result below c.self.invariant.due.before)
+    subst D (sym (c.survey_both.ensures.keeps.dummies ∙ c.set.ensures)) (ready-still items c.self.inside.least c.args.bucket c.insert_dummy-at.result below c.self.invariant.due.before)
 
 pub next_unready-self-inside-requires-clause-most : goal.next_unready-self-inside-requires-clause-most
 next_unready-self-inside-requires-clause-most g c =
-    let items = c.self.inside.layout.dummies.items in
-    let l : length (set items c.args.bucket c.to.result) ≡ length items = length-set items c.args.bucket c.to.result in
+    let items = c.self.inside.layout.dummies in
+    let l : length (set items c.args.bucket (Some c.insert_dummy-at.result)) ≡ length items = length-set items c.args.bucket (Some c.insert_dummy-at.result) in
     let D : List (Option ℕ) → Type 0 = λ ds. c.self.inside.least ≤ length ds in
-    subst D (sym c.survey_both.ensures.keeps.dummies) (omega (arith, l, c.self.invariant.due.most))
+    subst D (sym (c.survey_both.ensures.keeps.dummies ∙ c.set.ensures)) (omega (arith, l, c.self.invariant.due.most))
 
 pub invariant_of-self-2 : goal.invariant_of-self-2
 invariant_of-self-2 g c =

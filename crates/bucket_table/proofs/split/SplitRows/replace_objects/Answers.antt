@@ -34,7 +34,7 @@ pub hash_of-number-requires : goal.hash_of-number-requires
 hash_of-number-requires g c =
     let P : Split g.row.H.Denot → Type 0 = λ v. IsSome (key_of_place v.places c.args.place) in
     let p = at-place c.args.place c.self.inside.layout.list.cells c.known.ensures.apart c.self.invariant.rows.rows.split.distinct (subst P (sym c.self.view_is) c.requires) in
-    let key = hash-key (g.H.KeyHash.number c.self.inside.layout.hash) c.self.inside.layout.dummies.items p.key c.args.place c.self.inside.layout.list.cells c.self.invariant.rows.rows.split.placed p.found c.key.result c.key.ensures in
+    let key = hash-key (g.H.KeyHash.number c.self.inside.layout.hash) c.self.inside.layout.dummies p.key c.args.place c.self.inside.layout.list.cells c.self.invariant.rows.rows.split.placed p.found c.key.result c.key.ensures in
     let small = item-small ((g.H.KeyHash.number c.self.inside.layout.hash) p.key) in
     omega (arith, key, small)
 
@@ -43,13 +43,13 @@ invariant_of-self g c =
     let P : Split g.row.H.Denot → Type 0 = λ v. IsSome (key_of_place v.places c.args.place) in
     let p = at-place c.args.place c.self.inside.layout.list.cells c.known.ensures.apart c.self.invariant.rows.rows.split.distinct (subst P (sym c.self.view_is) c.requires) in
     let h = p.found in
-    let rows = rows-with (g.H.KeyHash.number c.self.inside.layout.hash) c.self.inside.layout.dummies.items c.self.inside.layout.hints.shift c.self.inside.layout.hints.firsts.items c.self.inside.layout.list.cells c.self.invariant.rows.rows p.key c.args.place c.replace.new.dest h in
+    let rows = rows-with (g.H.KeyHash.number c.self.inside.layout.hash) c.self.inside.layout.dummies c.self.inside.layout.hints.shift c.self.inside.layout.hints.firsts.items c.self.inside.layout.list.cells c.self.invariant.rows.rows p.key c.args.place c.replace.new.dest h in
     let number = g.H.KeyHash.number c.self.inside.layout.hash in
     let ss = slots_of c.self.inside.layout.list.cells in
     let hs = c.mark.new.self.hashes.items in
     let H : ℕ → Type 0 = λ n. IsAmong n hs in
     let N : List Slot → Type 0 = λ zs. AreAmong number hs zs in
-    let key = hash-key number c.self.inside.layout.dummies.items p.key c.args.place c.self.inside.layout.list.cells c.self.invariant.rows.rows.split.placed p.found c.key.result c.key.ensures in
+    let key = hash-key number c.self.inside.layout.dummies p.key c.args.place c.self.inside.layout.list.cells c.self.invariant.rows.rows.split.placed p.found c.key.result c.key.ensures in
     let hash : c.hash_of-number.result ≡ number p.key = c.hash_of-number.ensures (number p.key) key ∙ mod-eq_of_lt (g.met.H.KeyHash.below c.self.inside.layout.hash p.key) in
     record {
       rows = record { rows = rows; wider = hints-with (2 ^ (c.self.inside.layout.hints.shift + 1)) c.self.inside.layout.hints.older.items c.args.place c.replace.new.dest c.self.inside.layout.list.cells c.self.invariant.rows.wider };

@@ -43,7 +43,7 @@ invariant_of-self g c =
     let N : List Slot → Type 0 = λ zs. AreAmong number hs zs in
     let was = swapped _ _ c.chain_mut.result.now c.replace.new.self c.replace.result c.args.object one (objects-there c.self.inside.layout.list.cells c.known.ensures.apart c.self.invariant.rows.rows.split.distinct c.args.place p c.chain_mut.result.now c.chain_mut.ensures.value) c.replace.ensures.old c.replace.ensures.new in
     record {
-      rows = record { rows = rows-with number c.self.inside.layout.dummies.items c.self.inside.layout.hints.shift c.self.inside.layout.hints.firsts.items c.self.inside.layout.list.cells c.self.invariant.rows.rows p.key c.args.place c.replace.new.self h; wider = hints-with (2 ^ (c.self.inside.layout.hints.shift + 1)) c.self.inside.layout.hints.older.items c.args.place c.replace.new.self c.self.inside.layout.list.cells c.self.invariant.rows.wider };
+      rows = record { rows = rows-with number c.self.inside.layout.dummies c.self.inside.layout.hints.shift c.self.inside.layout.hints.firsts.items c.self.inside.layout.list.cells c.self.invariant.rows.rows p.key c.args.place c.replace.new.self h; wider = hints-with (2 ^ (c.self.inside.layout.hints.shift + 1)) c.self.inside.layout.hints.older.items c.args.place c.replace.new.self c.self.inside.layout.list.cells c.self.invariant.rows.wider };
       counted = c.self.invariant.counted ∙ sym (ap length (h.replaced c.replace.new.self) ∙ length-set_value (same p.key) ss c.replace.new.self);
       due = c.self.invariant.due;
       noted = λ kept. subst N (sym (h.replaced c.replace.new.self)) (among-with number hs p.key c.replace.new.self ss (λ e. absurd (no-held c.replace.new.self c.args.object was.written e)) (c.self.invariant.noted kept));

@@ -17,7 +17,7 @@ pub start_below-before-requires : goal.start_below-before-requires
 start_below-before-requires g c = record { rows = anew g.H.KeyHash.number c.args.self.now c.requires.rows c.settle.new.self (c.settle.ensures.shift ∙ c.settle_two.ensures.shift) c.settle.ensures.hints }
 
 pub learn-start-requires-clause-parity : goal.learn-start-requires-clause-parity
-learn-start-requires-clause-parity g c = placed-parity (g.H.KeyHash.number c.args.self.now.hash) c.args.self.now.dummies.items c.args.self.now.list.cells c.requires.rows.rows.split.placed
+learn-start-requires-clause-parity g c = placed-parity (g.H.KeyHash.number c.args.self.now.hash) c.args.self.now.dummies c.args.self.now.list.cells c.requires.rows.rows.split.placed
 
 pub insert_item-at-requires-clause-stands : goal.insert_item-at-requires-clause-stands
 insert_item-at-requires-clause-stands g c = lesser-up-to c.item_key-split.result c.learn-start.result c.args.self.now.list.cells c.learn-start.ensures.below
@@ -35,7 +35,7 @@ returns-clause-rows g c =
     let G : Hints → Type 0 = λ h. get_or h.older.items (split / 2 ^ h.shift / 2) None ≡ None in
     let gone = subst G (sym c.learn-start.ensures.rest) c.settle.ensures.gone in
     record {
-      rows = rows-put number layout.dummies.items hints.shift hints.firsts.items cells learned.rows c.note.new.firsts.items c.becomes_first-moves.result put.result split c.args.key c.args.objects put.new.self.cells
+      rows = rows-put number layout.dummies hints.shift hints.firsts.items cells learned.rows c.note.new.firsts.items c.becomes_first-moves.result put.result split c.args.key c.args.objects put.new.self.cells
           put.ensures.fresh (c.item_key-split.ensures ∙ ap key_of_item c.requires.number) c.requires.new put.ensures.cells
           c.note.ensures c.becomes_first-moves.ensures.new c.becomes_first-moves.ensures.old;
       wider = older-put hints.shift put.result split (new_item c.args.key c.args.objects) hints.older.items cells put.new.self.cells c.learn-start.ensures.hints.wider gone put.ensures.cells;

@@ -4,9 +4,9 @@ use Rattle.bucket_table.proofs.split.layout.Layout.nearest_ready.Given as goal
 
 abbrev pub invariant-loop-place : goal.invariant-loop-place
 invariant-loop-place g l = record {
-  below : l.at < length l.self.dummies.items;
+  below : l.at < length l.self.dummies;
   before : key_of_dummy l.at ≤ key_of_dummy l.bucket;
-  own : IsSome (get_or l.self.dummies.items l.bucket None) → l.at ≡ l.bucket;
+  own : IsSome (get_or l.self.dummies l.bucket None) → l.at ≡ l.bucket;
 }
 
 abbrev pub decreases-loop-place : goal.decreases-loop-place

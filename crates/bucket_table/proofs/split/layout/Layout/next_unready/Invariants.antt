@@ -4,9 +4,9 @@ use Rattle.bucket_table.proofs.split.layout.Layout.next_unready.Given as goal
 
 abbrev pub invariant-loop-least : goal.invariant-loop-least
 invariant-loop-least g l = record {
-  before : AreReady l.self.dummies.items l.least;
-  most : l.least ≤ length l.self.dummies.items;
+  before : AreReady l.self.dummies l.least;
+  most : l.least ≤ length l.self.dummies;
 }
 
 abbrev pub decreases-loop-least : goal.decreases-loop-least
-decreases-loop-least g l = length l.self.dummies.items - l.least
+decreases-loop-least g l = length l.self.dummies - l.least

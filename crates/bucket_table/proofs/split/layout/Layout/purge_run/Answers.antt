@@ -25,7 +25,7 @@ pub returns-then-key-clause-purged : goal.returns-then-key-clause-purged
 returns-then-key-clause-purged g c =
     let s = c.requires.rows.rows.split in
     let b = c.start_below-at.ensures in
-    run-purged (g.H.KeyHash.number c.args.self.now.hash) c.args.self.now.dummies.items c.item_key-key.result c.args.number c.item_key-key.ensures c.start_below-at.result c.loop-next.at c.args.self.now.list.cells c.loop-next.self.list.cells
+    run-purged (g.H.KeyHash.number c.args.self.now.hash) c.args.self.now.dummies c.item_key-key.result c.args.number c.item_key-key.ensures c.start_below-at.result c.loop-next.at c.args.self.now.list.cells c.loop-next.self.list.cells
     b.cell b.later b.is (omega (arith, b.below, c.item_key-key.ensures)) c.known.ensures.sorted s.placed c.loop-next.invariant.stands c.loop-next.invariant.slots
 
 pub returns-then-key-clause-gone : goal.returns-then-key-clause-gone
@@ -33,11 +33,11 @@ returns-then-key-clause-gone g c =
     let s = c.requires.rows.rows.split in
     let b = c.start_below-at.ensures in
     let i = c.loop-next.invariant in
-    let N : g.row.H.Denot → Type 0 = λ h. ArePlaced (g.H.KeyHash.number h) c.loop-next.self.dummies.items c.loop-next.self.list.cells in
+    let N : g.row.H.Denot → Type 0 = λ h. ArePlaced (g.H.KeyHash.number h) c.loop-next.self.dummies c.loop-next.self.list.cells in
     let D : List (Option ℕ) → Type 0 = λ ds. ArePlaced (g.H.KeyHash.number c.args.self.now.hash) ds c.loop-next.self.list.cells in
     let placed = subst D i.keeps.dummies (subst N i.keeps.hash i.rows.rows.split.placed) in
-    let none = beyond-next (g.H.KeyHash.number c.args.self.now.hash) c.args.self.now.dummies.items c.item_key-key.result c.args.number c.item_key-key.ensures c.loop-next.at c.in-Some.next c.key.result c.loop-next.self.list.cells c.known-in-Some.ensures.apart c.known-in-Some.ensures.sorted placed c.loop-next.invariant.stands (sym c.in-Some.ensures) c.key.ensures c.if-key.true in
-    run-gone (g.H.KeyHash.number c.args.self.now.hash) c.args.self.now.dummies.items c.item_key-key.result c.args.number c.item_key-key.ensures c.start_below-at.result c.loop-next.at c.args.self.now.list.cells c.loop-next.self.list.cells
+    let none = beyond-next (g.H.KeyHash.number c.args.self.now.hash) c.args.self.now.dummies c.item_key-key.result c.args.number c.item_key-key.ensures c.loop-next.at c.in-Some.next c.key.result c.loop-next.self.list.cells c.known-in-Some.ensures.apart c.known-in-Some.ensures.sorted placed c.loop-next.invariant.stands (sym c.in-Some.ensures) c.key.ensures c.if-key.true in
+    run-gone (g.H.KeyHash.number c.args.self.now.hash) c.args.self.now.dummies c.item_key-key.result c.args.number c.item_key-key.ensures c.start_below-at.result c.loop-next.at c.args.self.now.list.cells c.loop-next.self.list.cells
     b.cell b.later b.is (omega (arith, b.below, c.item_key-key.ensures)) c.known.ensures.sorted s.placed c.loop-next.invariant.stands c.loop-next.invariant.slots none c.loop-next.invariant.rest
 
 pub loop-next-preserved : goal.loop-next-preserved
@@ -58,7 +58,7 @@ pub returns-clause-purged : goal.returns-clause-purged
 returns-clause-purged g c =
     let s = c.requires.rows.rows.split in
     let b = c.start_below-at.ensures in
-    run-purged (g.H.KeyHash.number c.args.self.now.hash) c.args.self.now.dummies.items c.item_key-key.result c.args.number c.item_key-key.ensures c.start_below-at.result c.loop-next.at c.args.self.now.list.cells c.loop-next.self.list.cells
+    run-purged (g.H.KeyHash.number c.args.self.now.hash) c.args.self.now.dummies c.item_key-key.result c.args.number c.item_key-key.ensures c.start_below-at.result c.loop-next.at c.args.self.now.list.cells c.loop-next.self.list.cells
     b.cell b.later b.is (omega (arith, b.below, c.item_key-key.ensures)) c.known.ensures.sorted s.placed c.loop-next.invariant.stands c.loop-next.invariant.slots
 
 pub returns-clause-gone : goal.returns-clause-gone
@@ -66,5 +66,5 @@ returns-clause-gone g c =
     let s = c.requires.rows.rows.split in
     let b = c.start_below-at.ensures in
     let none = nothing-behind (g.H.KeyHash.number c.args.self.now.hash) c.args.number c.loop-next.at c.loop-next.self.list.cells (sym c.after.ensures ∙ c.in_default.is) in
-    run-gone (g.H.KeyHash.number c.args.self.now.hash) c.args.self.now.dummies.items c.item_key-key.result c.args.number c.item_key-key.ensures c.start_below-at.result c.loop-next.at c.args.self.now.list.cells c.loop-next.self.list.cells
+    run-gone (g.H.KeyHash.number c.args.self.now.hash) c.args.self.now.dummies c.item_key-key.result c.args.number c.item_key-key.ensures c.start_below-at.result c.loop-next.at c.args.self.now.list.cells c.loop-next.self.list.cells
     b.cell b.later b.is (omega (arith, b.below, c.item_key-key.ensures)) c.known.ensures.sorted s.placed c.loop-next.invariant.stands c.loop-next.invariant.slots none c.loop-next.invariant.rest

@@ -22,7 +22,7 @@ hash_of-requires g c =
     let term = c.requires.item.item.term in
     let split = c.requires.rows.rows.split in
     let found = seat-found term c.args.at layout.list.cells c.known.ensures.apart split.distinct (item-seat c.args.at layout.list.cells c.requires.item) in
-    let key = hash-key number layout.dummies.items term c.args.at layout.list.cells split.placed found c.key-key.result c.key-key.ensures in
+    let key = hash-key number layout.dummies term c.args.at layout.list.cells split.placed found c.key-key.result c.key-key.ensures in
     let small = item-small (number term) in
     omega (arith, key, small)
 
@@ -39,6 +39,6 @@ take_out-requires-clause-stands g c =
     let term = c.requires.item.item.term in
     let split = c.requires.rows.rows.split in
     let found = seat-found term c.args.at layout.list.cells c.known.ensures.apart split.distinct (item-seat c.args.at layout.list.cells c.requires.item) in
-    let key = hash-key number layout.dummies.items term c.args.at layout.list.cells split.placed found c.key-key.result c.key-key.ensures in
+    let key = hash-key number layout.dummies term c.args.at layout.list.cells split.placed found c.key-key.result c.key-key.ensures in
     let hash : c.hash_of.result ≡ number term = c.hash_of.ensures (number term) key ∙ mod-eq_of_lt (g.met.H.KeyHash.below layout.hash term) in
-    found-behind number layout.dummies.items term c.hash_of.result c.args.at c.start_below-start.result layout.list.cells split.placed c.known.ensures.sorted found (ap key_of_item hash) c.start_below-start.ensures
+    found-behind number layout.dummies term c.hash_of.result c.args.at c.start_below-start.result layout.list.cells split.placed c.known.ensures.sorted found (ap key_of_item hash) c.start_below-start.ensures

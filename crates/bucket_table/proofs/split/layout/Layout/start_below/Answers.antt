@@ -25,4 +25,4 @@ returns-in-Some g c =
     subst B c.item_key-key.ensures (either-lesser c.args.self.now.hints.shift c.item_key-key.result c.in-Some.first (c.dummy_key.result / 2 ^ c.args.self.now.hints.shift) c.args.self.now.list.cells c.args.self.now.hints.firsts.items c.args.self.now.hints.older.items c.known.ensures.sorted c.known.ensures.apart c.requires.rows.rows.hinted.hints c.requires.rows.wider c.in-Some.ensures)
 
 pub returns-in-None : goal.returns-in-None
-returns-in-None g c = start-lesser (g.H.KeyHash.number c.args.self.now.hash) c.args.self.now.dummies.items c.args.number c.start_of-bucket.result.1 c.args.self.now.list.cells c.requires.rows.rows.split (nearest-start _ _ _ _ c.start_of-bucket.ensures)
+returns-in-None g c = start-lesser (g.H.KeyHash.number c.args.self.now.hash) c.args.self.now.dummies c.args.number c.start_of-bucket.result.1 c.args.self.now.list.cells c.requires.rows.rows.split (nearest-start _ _ _ _ c.start_of-bucket.ensures)

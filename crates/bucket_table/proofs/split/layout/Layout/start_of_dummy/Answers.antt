@@ -14,4 +14,4 @@ returns-in-Some g c =
 pub returns-in-None : goal.returns-in-None
 returns-in-None g c =
     let low : key_of_dummy c.args.bucket ≤ key_of_dummy c.args.bucket = omega arith in
-    start-stands c.args.self.now.dummies.items c.args.bucket c.nearest_ready-near.result.1 (key_of_dummy c.args.bucket) c.args.self.now.list.cells c.requires.rows.rows.split.stand (nearest-start _ _ _ _ c.nearest_ready-near.ensures) low
+    start-stands c.args.self.now.dummies c.args.bucket c.nearest_ready-near.result.1 (key_of_dummy c.args.bucket) c.args.self.now.list.cells c.requires.rows.rows.split.stand (nearest-start _ _ _ _ c.nearest_ready-near.ensures) low

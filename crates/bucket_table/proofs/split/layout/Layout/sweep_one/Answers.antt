@@ -30,7 +30,7 @@ returns-in-Goes-clause-swept g c = goes c.args.how c.args.at c.args.next c.args.
 pub returns-in-Goes-clause-each : goal.returns-in-Goes-clause-each
 returns-in-Goes-clause-each g c =
     let new = c.take_out-slot.new.self.list.cells in
-    let l = length-out (g.H.KeyHash.number c.args.self.now.hash) c.args.self.now.dummies.items c.args.next c.args.self.now.list.cells new c.requires.rows.rows.split c.known.ensures.apart c.in-Goes.ensures.0 c.take_out-slot.ensures.cells in
+    let l = length-out (g.H.KeyHash.number c.args.self.now.hash) c.args.self.now.dummies c.args.next c.args.self.now.list.cells new c.requires.rows.rows.split c.known.ensures.apart c.in-Goes.ensures.0 c.take_out-slot.ensures.cells in
     record {
       alike = alike-gone c.args.how c.args.next c.args.self.now.list.cells new c.known.ensures.apart c.take_out-slot.ensures.cells c.in-Goes.ensures.1;
       len = omega (arith, l, c.take_out-slot.ensures.len);
@@ -43,7 +43,7 @@ returns-in-IsEmptied-clause-rows g c =
     let f = seat-found i.item.term c.args.next c.args.self.now.list.cells c.known.ensures.apart c.requires.rows.rows.split.distinct (item-seat c.args.next c.args.self.now.list.cells i) in
     let layout = c.args.self.now in
     record {
-      rows = rows-with (g.H.KeyHash.number layout.hash) layout.dummies.items layout.hints.shift layout.hints.firsts.items layout.list.cells c.requires.rows.rows i.item.term c.args.next c.truncate.new.self f;
+      rows = rows-with (g.H.KeyHash.number layout.hash) layout.dummies layout.hints.shift layout.hints.firsts.items layout.list.cells c.requires.rows.rows i.item.term c.args.next c.truncate.new.self f;
       wider = hints-with (2 ^ (layout.hints.shift + 1)) layout.hints.older.items c.args.next c.truncate.new.self layout.list.cells c.requires.rows.wider;
     }
 

@@ -15,7 +15,7 @@ pub settle-requires : goal.settle-requires
 settle-requires g c = record { hints = right g.H.KeyHash.number c.args.self.now c.requires.rows }
 
 pub first_behind-hint-requires-clause-parity : goal.first_behind-hint-requires-clause-parity
-first_behind-hint-requires-clause-parity g c = placed-parity (g.H.KeyHash.number c.args.self.now.hash) c.args.self.now.dummies.items c.args.self.now.list.cells c.requires.rows.rows.split.placed
+first_behind-hint-requires-clause-parity g c = placed-parity (g.H.KeyHash.number c.args.self.now.hash) c.args.self.now.dummies c.args.self.now.list.cells c.requires.rows.rows.split.placed
 
 pub first_behind-hint-requires-clause-item : goal.first_behind-hint-requires-clause-item
 first_behind-hint-requires-clause-item g c = item-in (2 ^ c.settle.new.self.shift) c.args.at c.key-key.result c.args.self.now.list.cells (behind-item c.args.start c.args.at c.args.self.now.list.cells c.known.ensures.apart c.requires.stands) c.key-key.ensures
@@ -31,6 +31,6 @@ returns-clause-rows g c =
     let inside = item-in (2 ^ hints.shift) c.args.at c.key-key.result cells there c.key-key.ensures in
     let after = hints-without (2 ^ hints.shift) hints.firsts.items c.succeed.new.firsts.items c.first_behind-hint.result c.args.at (c.key-key.result / 2 ^ hints.shift) cells new inside c.settle.ensures.hints.firsts c.known.ensures.apart c.unlink-slot.ensures.cells c.first_behind-hint.ensures c.succeed.ensures in
     record {
-      rows = rows-out (g.H.KeyHash.number layout.hash) layout.dummies.items hints.shift hints.firsts.items c.succeed.new.firsts.items c.args.at cells new settled.rows c.known.ensures.apart there c.unlink-slot.ensures.cells after;
+      rows = rows-out (g.H.KeyHash.number layout.hash) layout.dummies hints.shift hints.firsts.items c.succeed.new.firsts.items c.args.at cells new settled.rows c.known.ensures.apart there c.unlink-slot.ensures.cells after;
       wider = older-out hints.shift c.args.at c.key-key.result hints.older.items cells new there c.key-key.ensures c.settle.ensures.hints.wider c.settle.ensures.gone c.unlink-slot.ensures.cells;
     }
