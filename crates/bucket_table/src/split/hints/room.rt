@@ -1,5 +1,5 @@
 // Room for what will be known of the intervals, which are noted as unknown little by little.
-ghost use Rattle.std.specs.Prelude.{◌≡◌, ◌<◌};
+ghost use Rattle.std.specs.Prelude.{◌≡◌, ◌<◌, OnOk, OnErr};
 ghost use Rattle.bucket_table.specs.inside.Firsts.{AreUnknown, TellTheSame};
 
 use super::Hints;
@@ -13,15 +13,18 @@ const NOTED_AT_A_DOUBLING: usize = 16384;
 const NOTED_AT_A_TIME: usize = 256;
 
 impl Hints {
-    /// Lets go what was known of older intervals, with room for so many, of which nothing is known.
+    /// Lets go what was known of older intervals, with room for so many, of which nothing is known. The room is new: where
+    /// a block grows, what it had is copied.
     pub fn clear_older(&mut self, intervals: usize) -> Result<(), AllocError>
-        ensures unknown { AreUnknown self.new.older.items }
+        ensures ok { OnOk result (AreUnknown self.new.older.items) }
         ensures rest { self.new ≡ record self.old { older = self.new.older } }
+        ensures err { OnErr result (self.new ≡ self.old) }
     {
-        self.older.clear();
-        self.older.reserve(intervals)?;
+        let mut unknown = Vec::with_capacity(*self.older.allocator(), intervals)?;
         let noted = intervals.min(NOTED_AT_A_DOUBLING);
-        self.older.resize(noted, Hint::unknown())
+        unknown.resize(noted, Hint::unknown())?;
+        self.older = unknown;
+        Ok(())
     }
 
     /// Notes some more intervals as unknown, where the last doubling made room for them. Of what is not noted nothing

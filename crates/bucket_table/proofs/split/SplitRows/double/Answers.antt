@@ -4,7 +4,9 @@ use Rattle.split_key.proofs.Halves.{exponent-lt}
 use Rattle.bucket_table.proofs.HintedLaws.{hints-none}
 use Rattle.bucket_table.proofs.HalveLaws.{older-like}
 use Rattle.bucket_table.specs.inside.Directory.{IsLeast}
+use Rattle.bucket_table.specs.declared.split.hints.Hints.{Hints}
 use Rattle.bucket_table.specs.inside.Firsts.{IsRows}
+use Rattle.bucket_table.specs.inside.Layout.{AreRows}
 use Rattle.bucket_table.proofs.LeastLaws.{least-grown}
 use Rattle.std.proofs.Common.{◌+◌, List, sym, Option, ℕ, ◌-◌, ◌≡◌, ◌<◌, ◌≤◌, ◌^◌, ◌++◌, false, length, replicate, is_some, map, refl, ◌∙◌, subst, arith}
 use Rattle.std.proofs.lemmas.List.{length-map}
@@ -27,7 +29,7 @@ returns-then-buckets-ge-MAX_BUCKETS-clause-ok g c =
 
 pub invariant_of-self : goal.invariant_of-self
 invariant_of-self g c = record {
-  rows = emptied g.H.KeyHash.number c.self.inside.layout c.self.invariant.rows c.clear_older.new.self c.clear_older.ensures.rest c.clear_older.ensures.unknown;
+  rows = subst (λ (hints : Hints). AreRows g.H.KeyHash.number (record c.self.inside.layout { hints = hints })) (sym c.in_err-clear_older.ensures.err) c.self.invariant.rows;
   counted = c.self.invariant.counted;
   due = c.self.invariant.due;
   noted = c.self.invariant.noted;
@@ -36,7 +38,7 @@ invariant_of-self g c = record {
 pub invariant_of-self-in_err-double : goal.invariant_of-self-in_err-double
 invariant_of-self-in_err-double g c =
     let hints = c.clear_older.new.self in
-    let rows = emptied g.H.KeyHash.number c.self.inside.layout c.self.invariant.rows hints c.clear_older.ensures.rest c.clear_older.ensures.unknown in
+    let rows = emptied g.H.KeyHash.number c.self.inside.layout c.self.invariant.rows hints c.in_ok-clear_older.ensures.rest c.in_ok-clear_older.ensures.ok in
     let P : List (Option ℕ) → Type 0 = λ ds. IsRows (g.H.KeyHash.number c.self.inside.layout.hash) ds hints.shift hints.firsts.items c.self.inside.layout.list.cells in
     let D : List (Option ℕ) → Type 0 = λ ds. IsLeast ds c.self.inside.least in
     let same = sym c.in_err-double.ensures.err in
@@ -54,8 +56,8 @@ invariant_of-self-2 g c =
     let cells = c.self.inside.layout.list.cells in
     let old = c.clear_older.new.self in
     let fewer : length items < 2 ^ 20 = omega arith in
-    let cleared = emptied g.H.KeyHash.number c.self.inside.layout c.self.invariant.rows old c.clear_older.ensures.rest c.clear_older.ensures.unknown in
-    let unknown = hints-none (2 ^ (old.shift - 1)) old.older.items cells c.clear_older.ensures.unknown in
+    let cleared = emptied g.H.KeyHash.number c.self.inside.layout c.self.invariant.rows old c.in_ok-clear_older.ensures.rest c.in_ok-clear_older.ensures.ok in
+    let unknown = hints-none (2 ^ (old.shift - 1)) old.older.items cells c.in_ok-clear_older.ensures.ok in
     let after = c.in_ok-double.ensures.ok in
     let rows = rows-grown number items old.shift old.firsts.items cells cleared.rows fewer c.double.new.self old.older.items after unknown in
     let xs : c.swap.new.x.items ≡ old.older.items = λ j. (c.swap.ensures.x_after j).items in
