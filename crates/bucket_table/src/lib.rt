@@ -12,8 +12,9 @@
 //! dummy. For each eighth of a bucket the place of its first item is known, or that it has none, or nothing: a search
 //! begins there, or else at the first item of the nearest lower eighth that is known, or at the dummy of the nearest
 //! ready bucket. An insertion makes what is not known of its eighth known. Where the buckets double, what is known
-//! of the former eighths stays beside, and each insertion tells the halves of two of them. The slots come in the order
-//! of their places, and a walk reads these forward.
+//! of the former eighths stays beside, and each insertion tells the halves of two of them. A doubling writes next to
+//! nothing: the directory of dummies is written as its buckets become ready, and what is not known of the new eighths
+//! as items are put in. The slots come in the order of their places, and a walk reads these forward.
 //!
 //! *Limits.* Buckets are 2 to 1,048,576. A place that was given back is given out again.
 #![tactic(auto)]
