@@ -5,11 +5,10 @@ ghost use Rattle.node_list.specs.Ticks.{tick, ticks};
 ghost use Rattle.table_ops.specs.Queries.{chosen_count};
 ghost use Rattle.table_ops.specs.inside.Marked.{AreSifted, note, noted};
 
-use crate::looks::Looks;
 use crate::trial::Choose;
 use bucket_table::Place;
 use ets_term::Term;
-use node_list::Chain;
+use node_list::{Chain, Steps};
 use std::alloc::{AllocError, Global};
 
 /// A slot of which objects go.
@@ -45,7 +44,7 @@ impl Marks {
         chooser: &C,
         place: Place,
         objects: &[Term],
-        looks: &mut Looks,
+        looks: &mut Steps,
     ) -> Result<usize, AllocError>
         ensures count { IfOk result (λ count. count ≡ chosen_count (C.chooses chooser.now) objects.now) }
         ensures looks { OnOk result (looks.new ≡ ticks (length objects.now) looks.old) }
@@ -91,7 +90,7 @@ impl Sift {
         &mut self,
         chooser: &C,
         objects: &[Term],
-        looks: &mut Looks,
+        looks: &mut Steps,
     ) -> Result<(), AllocError>
         requires { AreSifted (C.chooses chooser.now) [] self.old.gone self.old.left }
         ensures sifted { OnOk result (AreSifted (C.chooses chooser.now) objects.now self.new.gone self.new.left) }
@@ -111,7 +110,7 @@ impl Sift {
         chooser: &C,
         objects: &[Term],
         i: usize,
-        looks: &mut Looks,
+        looks: &mut Steps,
     ) -> Result<(), AllocError>
         requires few { length objects.now < 2 ^ 64 }
         requires within { i < length objects.now }

@@ -7,11 +7,11 @@ ghost use Rattle.table_ops.specs.Read.{all_objects};
 ghost use Rattle.table_ops.specs.inside.Marked.{Quiet};
 
 use super::Store;
-use crate::looks::Looks;
 use crate::slots::all_of;
 use crate::trial::Choose;
 use bucket_table::Rows;
 use ets_term::Term;
+use node_list::Steps;
 use std::alloc::AllocError;
 
 impl<R: Rows> Store<R> {
@@ -20,7 +20,7 @@ impl<R: Rows> Store<R> {
         &self,
         chooser: &C,
         key: Option<&Term>,
-        looks: &mut Looks,
+        looks: &mut Steps,
     ) -> Result<usize, AllocError>
         requires few { object_count (R.content self.now.rows) < 2 ^ 32 }
         requires quiet { Quiet (C.chooses chooser.now) (option_copied key) (R.content self.now.rows) }
@@ -39,7 +39,7 @@ impl<R: Rows> Store<R> {
 
     /// How many of all objects are chosen.
     #[tactic(auto, using(crate::proofs::QueryLaws::appended))]
-    fn count_all<C: Choose>(&self, chooser: &C, looks: &mut Looks) -> Result<usize, AllocError>
+    fn count_all<C: Choose>(&self, chooser: &C, looks: &mut Steps) -> Result<usize, AllocError>
         requires few { object_count (R.content self.now.rows) < 2 ^ 32 }
         ensures count { IfOk result (λ count.
             count ≡ chosen_count (C.chooses chooser.now) (all_objects (R.content self.now.rows))) }
@@ -60,7 +60,7 @@ impl<R: Rows> Store<R> {
         &self,
         chooser: &C,
         objects: &[Term],
-        looks: &mut Looks,
+        looks: &mut Steps,
     ) -> Result<usize, AllocError>
         ensures count { IfOk result (λ count. count ≡ chosen_count (C.chooses chooser.now) objects.now) }
         ensures looks { OnOk result (looks.new ≡ ticks (length objects.now) looks.old) }
@@ -79,7 +79,7 @@ impl<R: Rows> Store<R> {
         &self,
         chooser: &C,
         object: &Term,
-        looks: &mut Looks,
+        looks: &mut Steps,
     ) -> Result<usize, AllocError>
         ensures count { IfOk result (λ count. count ≡ chosen_count (C.chooses chooser.now) (object.now ∷ [])) }
         ensures one { IfOk result (λ count. count ≤ 1) }

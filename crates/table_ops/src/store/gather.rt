@@ -9,11 +9,11 @@ ghost use Rattle.table_ops.specs.Read.{all_objects};
 ghost use Rattle.table_ops.specs.inside.Marked.{Quiet};
 
 use super::Store;
-use crate::looks::Looks;
 use crate::slots::all_of;
 use crate::trial::Give;
 use bucket_table::Rows;
 use ets_term::Term;
+use node_list::Steps;
 use std::alloc::AllocError;
 
 impl<R: Rows> Store<R> {
@@ -23,7 +23,7 @@ impl<R: Rows> Store<R> {
         asked: &G,
         key: Option<&Term>,
         found: &mut Vec<Term>,
-        looks: &mut Looks,
+        looks: &mut Steps,
     ) -> Result<(), AllocError>
         requires { Quiet (λ object. is_some (G.gives asked.now object)) (option_copied key) (R.content self.now.rows) }
         ensures answers { OnOk result
@@ -58,7 +58,7 @@ impl<R: Rows> Store<R> {
         &self,
         asked: &G,
         found: &mut Vec<Term>,
-        looks: &mut Looks,
+        looks: &mut Steps,
     ) -> Result<(), AllocError>
         ensures answers { OnOk result
             (map data_of found.new.items
@@ -80,7 +80,7 @@ impl<R: Rows> Store<R> {
         asked: &G,
         objects: &[Term],
         found: &mut Vec<Term>,
-        looks: &mut Looks,
+        looks: &mut Steps,
     ) -> Result<(), AllocError>
         ensures answers { OnOk result
             (map data_of found.new.items ≡ map data_of found.old.items ++ answers (G.gives asked.now) objects.now) }
@@ -100,7 +100,7 @@ impl<R: Rows> Store<R> {
         asked: &G,
         object: &Term,
         found: &mut Vec<Term>,
-        looks: &mut Looks,
+        looks: &mut Steps,
     ) -> Result<(), AllocError>
         ensures answers { OnOk result
             (map data_of found.new.items ≡ map data_of found.old.items ++ also (G.gives asked.now object.now) []) }

@@ -9,11 +9,11 @@ ghost use Rattle.table_ops.specs.inside.Marked.{Quiet, notes_of, noted, thin_key
 ghost use Rattle.table_ops.specs.inside.Store.{Keeps};
 
 use super::Store;
-use crate::looks::Looks;
 use crate::marks::{Mark, Marks};
 use crate::trial::Choose;
 use bucket_table::Rows;
 use ets_term::Term;
+use node_list::Steps;
 use std::alloc::AllocError;
 
 impl<R: Rows> Store<R> {
@@ -24,7 +24,7 @@ impl<R: Rows> Store<R> {
         chooser: &C,
         key: Option<&Term>,
         marks: &mut Marks,
-        looks: &mut Looks,
+        looks: &mut Steps,
     ) -> Result<usize, AllocError>
         requires empty { marks.old.list.items ≡ [] }
         requires few { object_count (R.content self.now.rows) < 2 ^ 32 }
@@ -51,7 +51,7 @@ impl<R: Rows> Store<R> {
         chooser: &C,
         key: &Term,
         marks: &mut Marks,
-        looks: &mut Looks,
+        looks: &mut Steps,
     ) -> Result<usize, AllocError>
         requires empty { marks.old.list.items ≡ [] }
         requires quiet { Quiet (C.chooses chooser.now) (Some key.now) (R.content self.now.rows) }
@@ -76,7 +76,7 @@ impl<R: Rows> Store<R> {
         &self,
         chooser: &C,
         marks: &mut Marks,
-        looks: &mut Looks,
+        looks: &mut Steps,
     ) -> Result<usize, AllocError>
         requires few { object_count (R.content self.now.rows) < 2 ^ 32 }
         ensures count { IfOk result (λ count.

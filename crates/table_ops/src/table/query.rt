@@ -7,12 +7,12 @@ ghost use Rattle.table_ops.specs.Read.{all_objects};
 ghost use Rattle.table_ops.specs.inside.Marked.{OnlyUnder};
 
 use super::Table;
-use crate::looks::Looks;
 use crate::marks::Marks;
 use crate::trial::{Choose, Give, Matching};
 use bucket_table::Rows;
 use ets_term::{Items, Position, Term};
 use match_spec::{Pattern, Spec};
+use node_list::Steps;
 use std::alloc::AllocError;
 
 impl<R: Rows> Table<R> {
@@ -21,7 +21,7 @@ impl<R: Rows> Table<R> {
     pub fn matches(&self, pattern: &Pattern) -> Result<Items<Term>, AllocError>
         ensures { IfOk result (λ found. map data_of found ≡ answers_in (bound_in pattern.now) self.now.content) }
     {
-        let mut looks = Looks::new();
+        let mut looks = Steps::new();
         self.matches_counted(pattern, &mut looks)
     }
 
@@ -29,7 +29,7 @@ impl<R: Rows> Table<R> {
     pub fn matches_counted(
         &self,
         pattern: &Pattern,
-        looks: &mut Looks,
+        looks: &mut Steps,
     ) -> Result<Items<Term>, AllocError>
         ensures answers { IfOk result (λ found.
             map data_of found ≡ answers_in (bound_in pattern.now) self.now.content) }
@@ -44,7 +44,7 @@ impl<R: Rows> Table<R> {
     pub fn match_objects(&self, pattern: &Pattern) -> Result<Items<Term>, AllocError>
         ensures { IfOk result (λ found. found ≡ filter (matches pattern.now) (all_objects self.now.content.slots)) }
     {
-        let mut looks = Looks::new();
+        let mut looks = Steps::new();
         self.match_objects_counted(pattern, &mut looks)
     }
 
@@ -52,7 +52,7 @@ impl<R: Rows> Table<R> {
     pub fn match_objects_counted(
         &self,
         pattern: &Pattern,
-        looks: &mut Looks,
+        looks: &mut Steps,
     ) -> Result<Items<Term>, AllocError>
         ensures objects { IfOk result (λ found.
             found ≡ filter (matches pattern.now) (all_objects self.now.content.slots)) }
@@ -69,12 +69,12 @@ impl<R: Rows> Table<R> {
     pub fn select(&self, spec: &Spec) -> Result<Items<Term>, AllocError>
         ensures { IfOk result (λ found. map data_of found ≡ answers_in (given_by spec.now) self.now.content) }
     {
-        let mut looks = Looks::new();
+        let mut looks = Steps::new();
         self.select_counted(spec, &mut looks)
     }
 
     /// `select`, counting the objects that are tried: those of the key, where all clauses bind the same one, else all.
-    pub fn select_counted(&self, spec: &Spec, looks: &mut Looks) -> Result<Items<Term>, AllocError>
+    pub fn select_counted(&self, spec: &Spec, looks: &mut Steps) -> Result<Items<Term>, AllocError>
         ensures answers { IfOk result (λ found. map data_of found ≡ answers_in (given_by spec.now) self.now.content) }
         ensures looks { OnOk result (looks.new ≡ ticks (tried_spec spec.now self.now.content) looks.old) }
         ensures at_most { looks.new ≤ ticks (tried_spec spec.now self.now.content) looks.old }
@@ -88,12 +88,12 @@ impl<R: Rows> Table<R> {
         ensures count { IfOk result (λ count. count ≡ chosen_in (is_chosen spec.now) self.now.content) }
         ensures few { IfOk result (λ count. count < 2 ^ 32) }
     {
-        let mut looks = Looks::new();
+        let mut looks = Steps::new();
         self.select_count_counted(spec, &mut looks)
     }
 
     /// `select_count`, counting the objects that are tried, as `select_counted` does.
-    pub fn select_count_counted(&self, spec: &Spec, looks: &mut Looks) -> Result<usize, AllocError>
+    pub fn select_count_counted(&self, spec: &Spec, looks: &mut Steps) -> Result<usize, AllocError>
         ensures count { IfOk result (λ count. count ≡ chosen_in (is_chosen spec.now) self.now.content) }
         ensures few { IfOk result (λ count. count < 2 ^ 32) }
         ensures looks { OnOk result (looks.new ≡ ticks (tried_spec spec.now self.now.content) looks.old) }
@@ -109,7 +109,7 @@ impl<R: Rows> Table<R> {
         ensures err { OnErr result (self.new.content ≡ self.old.content) }
         ensures buckets { self.new.buckets ≡ self.old.buckets }
     {
-        let mut looks = Looks::new();
+        let mut looks = Steps::new();
         self.match_delete_counted(pattern, hold, &mut looks)
     }
 
@@ -118,7 +118,7 @@ impl<R: Rows> Table<R> {
         &mut self,
         pattern: &Pattern,
         hold: bool,
-        looks: &mut Looks,
+        looks: &mut Steps,
     ) -> Result<(), AllocError>
         ensures content { OnOk result
             (self.new.content ≡ without_those hold (λ own. matches pattern.now) self.old.content) }
@@ -142,7 +142,7 @@ impl<R: Rows> Table<R> {
         ensures err { OnErr result (self.new.content ≡ self.old.content) }
         ensures buckets { self.new.buckets ≡ self.old.buckets }
     {
-        let mut looks = Looks::new();
+        let mut looks = Steps::new();
         self.select_delete_counted(spec, hold, &mut looks)
     }
 
@@ -151,7 +151,7 @@ impl<R: Rows> Table<R> {
         &mut self,
         spec: &Spec,
         hold: bool,
-        looks: &mut Looks,
+        looks: &mut Steps,
     ) -> Result<usize, AllocError>
         ensures count { IfOk result (λ count. count ≡ chosen_in (is_chosen spec.now) self.old.content) }
         ensures few { IfOk result (λ count. count < 2 ^ 32) }
@@ -171,7 +171,7 @@ impl<R: Rows> Table<R> {
         &self,
         asked: &G,
         key: Option<&Term>,
-        looks: &mut Looks,
+        looks: &mut Steps,
     ) -> Result<Items<Term>, AllocError>
         requires { OnlyUnder self.now.content.keypos (option_copied key) (λ object.
             is_some (G.gives asked.now object)) }
@@ -190,7 +190,7 @@ impl<R: Rows> Table<R> {
         &self,
         chooser: &C,
         key: Option<&Term>,
-        looks: &mut Looks,
+        looks: &mut Steps,
     ) -> Result<usize, AllocError>
         requires { OnlyUnder self.now.content.keypos (option_copied key) (C.chooses chooser.now) }
         ensures count { IfOk result (λ count. count ≡ chosen_in (C.chooses chooser.now) self.now.content) }
@@ -209,7 +209,7 @@ impl<R: Rows> Table<R> {
         chooser: &C,
         key: Option<&Term>,
         hold: bool,
-        looks: &mut Looks,
+        looks: &mut Steps,
     ) -> Result<usize, AllocError>
         requires { OnlyUnder self.old.content.keypos (option_copied key) (C.chooses chooser.now) }
         ensures count { IfOk result (λ count. count ≡ chosen_in (C.chooses chooser.now) self.old.content) }
