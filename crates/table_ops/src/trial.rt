@@ -1,10 +1,10 @@
 // The two calls by which an object is tried, and what asks them. `looks` says how many objects were tried.
-ghost use Rattle.std.specs.Prelude.{◌≡◌, Option, Bool, IfOk};
-ghost use Rattle.std.specs.Option.{option_map};
+ghost use Rattle.std.specs.Prelude.{◌≡◌, Option, Bool};
 ghost use Rattle.ets_term.specs.declared.term.Term.{Term};
-ghost use Rattle.ets_term.specs.Data.{Data, data_of};
+ghost use Rattle.ets_term.specs.Data.{Data};
 ghost use Rattle.node_list.specs.Ticks.{tick};
-ghost use Rattle.table_ops.specs.Queries.{matches, given_by, is_chosen};
+ghost use Rattle.table_ops.specs.Outcomes.{AnswersWith};
+ghost use Rattle.table_ops.specs.Queries.{matches, given_by, is_chosen, GivesTree};
 
 use ets_term::{Items, Term};
 use match_spec::{Pattern, Spec};
@@ -27,7 +27,7 @@ fn given(
     object: &Term,
     looks: &mut Steps,
 ) -> Result<Option<Term>, AllocError>
-    ensures given { IfOk result (λ answer. option_map data_of answer ≡ given_by spec.now object.now) }
+    ensures given { GivesTree result (given_by spec.now object.now) }
     ensures ticks { looks.new ≡ tick looks.old }
 {
     looks.tick();
@@ -45,7 +45,7 @@ pub trait Give {
         object: &Term,
         looks: &mut Steps,
     ) -> Result<Option<Term>, AllocError>
-        ensures given { IfOk result (λ answer. option_map data_of answer ≡ gives self.now object.now) }
+        ensures given { GivesTree result (gives self.now object.now) }
         ensures ticks { looks.new ≡ tick looks.old };
 }
 
@@ -55,7 +55,7 @@ pub trait Choose {
     ghost chooses: { Self → Term → Bool };
 
     fn choose(&self, alloc: Global, object: &Term, looks: &mut Steps) -> Result<bool, AllocError>
-        ensures chosen { IfOk result (λ chosen. chosen ≡ chooses self.now object.now) }
+        ensures chosen { AnswersWith result (chooses self.now object.now) }
         ensures ticks { looks.new ≡ tick looks.old };
 }
 
@@ -119,9 +119,9 @@ pub struct Matching<'a> {
 }
 
 impl<'a> Give for Matching<'a> {
-    ghost use Rattle.std.specs.Prelude.{Some, None, if◌then◌else◌};
+    ghost use Rattle.table_ops.specs.Queries.{matched_object};
 
-    ghost gives = { λ m object. if matches m.pattern.now object then Some (data_of object) else None };
+    ghost gives = { λ m. matched_object m.pattern.now };
 
     fn give(
         &self,

@@ -1,9 +1,8 @@
 // Answers for objects: of one slot, of all, or of the bound key.
-ghost use Rattle.std.specs.Prelude.{◌≡◌, ◌≤◌, ◌++◌, [], length, map, is_some, IfOk, OnOk, option_copied};
-ghost use Rattle.ets_term.specs.Data.{data_of};
+ghost use Rattle.std.specs.Prelude.{◌≡◌, ◌≤◌, [], length, is_some, option_copied};
 ghost use Rattle.bucket_table.specs.Slots.{HasDistinctKeys, object_count};
 ghost use Rattle.node_list.specs.Ticks.{tick, ticks};
-ghost use Rattle.table_ops.specs.Queries.{answers, also, tried_under};
+ghost use Rattle.table_ops.specs.Queries.{answers, also, tried_under, Gathers, Tries};
 ghost use Rattle.table_ops.specs.Content.{objects_under};
 ghost use Rattle.table_ops.specs.Read.{all_objects};
 ghost use Rattle.table_ops.specs.inside.Marked.{Quiet};
@@ -25,12 +24,12 @@ impl<R: Rows> Store<R> {
         found: &mut Vec<Term>,
         looks: &mut Steps,
     ) -> Result<(), AllocError>
-        requires { Quiet (λ object. is_some (G.gives asked.now object)) (option_copied key) (R.content self.now.rows) }
-        ensures answers { OnOk result
-            (map data_of found.new.items
-            ≡ map data_of found.old.items ++ answers (G.gives asked.now) (all_objects (R.content self.now.rows))) }
-        ensures looks { OnOk result
-            (looks.new ≡ ticks (tried_under (option_copied key.entry) (R.content self.now.rows)) looks.old) }
+        requires { Quiet (λ object. is_some (G.gives asked.now object)) (option_copied key)
+            (R.content self.now.rows) }
+        ensures answers { Gathers result found.old.items found.new.items
+            (answers (G.gives asked.now) (all_objects (R.content self.now.rows))) }
+        ensures looks { Tries result
+            (tried_under (option_copied key.entry) (R.content self.now.rows)) looks.old looks.new }
         ensures at_most { looks.new
             ≤ ticks (tried_under (option_copied key.entry) (R.content self.now.rows)) looks.old }
     {
@@ -60,10 +59,9 @@ impl<R: Rows> Store<R> {
         found: &mut Vec<Term>,
         looks: &mut Steps,
     ) -> Result<(), AllocError>
-        ensures answers { OnOk result
-            (map data_of found.new.items
-            ≡ map data_of found.old.items ++ answers (G.gives asked.now) (all_objects (R.content self.now.rows))) }
-        ensures looks { OnOk result (looks.new ≡ ticks (object_count (R.content self.now.rows)) looks.old) }
+        ensures answers { Gathers result found.old.items found.new.items
+            (answers (G.gives asked.now) (all_objects (R.content self.now.rows))) }
+        ensures looks { Tries result (object_count (R.content self.now.rows)) looks.old looks.new }
         ensures at_most { looks.new ≤ ticks (object_count (R.content self.now.rows)) looks.old }
     {
         let _before = looks.count();
@@ -82,9 +80,9 @@ impl<R: Rows> Store<R> {
         found: &mut Vec<Term>,
         looks: &mut Steps,
     ) -> Result<(), AllocError>
-        ensures answers { OnOk result
-            (map data_of found.new.items ≡ map data_of found.old.items ++ answers (G.gives asked.now) objects.now) }
-        ensures looks { OnOk result (looks.new ≡ ticks (length objects.now) looks.old) }
+        ensures answers { Gathers result found.old.items found.new.items
+            (answers (G.gives asked.now) objects.now) }
+        ensures looks { Tries result (length objects.now) looks.old looks.new }
         ensures at_most { looks.new ≤ ticks (length objects.now) looks.old }
     {
         let _before = looks.count();
@@ -102,8 +100,8 @@ impl<R: Rows> Store<R> {
         found: &mut Vec<Term>,
         looks: &mut Steps,
     ) -> Result<(), AllocError>
-        ensures answers { OnOk result
-            (map data_of found.new.items ≡ map data_of found.old.items ++ also (G.gives asked.now object.now) []) }
+        ensures answers { Gathers result found.old.items found.new.items
+            (also (G.gives asked.now object.now) []) }
         ensures looks { looks.new ≡ tick looks.old }
     {
         if let Some(answer) = asked.give(self.alloc, object, looks)? {
