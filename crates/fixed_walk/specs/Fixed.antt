@@ -1,9 +1,9 @@
 -- A table with its fixes, and what fixing and releasing it do (stdlib manual, module ets, safe_fixtable/2).
 use Rattle.std.specs.Prelude.{◌≡◌, ℕ, ◌+◌, ◌-◌, ◌<◌, Bool, false, true, if◌then◌else◌, List, Result, Ok, Err}
 use Rattle.std.specs.List.{AllByRecursion}
-use Rattle.bucket_table.specs.Slots.{Slot, has_objects, purged}
-use Rattle.table_ops.specs.Content.{Content}
-use Rattle.table_ops.specs.Drop.{Which, without_those}
+use Rattle.bucket_table.specs.Slots.{Slot, has_objects}
+use Rattle.table_ops.specs.Content.{Content, Tabled}
+use Rattle.table_ops.specs.Drop.{Which, without_those, without_held}
 use Rattle.table_ops.specs.Refusals.{Change}
 use Rattle.fixed_walk.specs.declared.fault.FixFault.{FixFault}
 use Rattle.fixed_walk.specs.declared.fault.FixFault.TheVariants.{SystemLimit, Memory}
@@ -15,13 +15,20 @@ pub record Fixed : Type 0 where
   pub buckets : List Bool
   pub fixes : FixCounts
 
+-- a table with these fixes
+abbrev pub with_fixes : Tabled → FixCounts → Fixed
+with_fixes table fixes =
+    record { content = table.content; buckets = table.buckets; fixes = fixes }
+
 -- a change of the content, and of nothing else
 abbrev pub on_content : {X : Type 0} → (Content → Change X Content) → Fixed → Change X Fixed
-on_content change old r new = change old.content r new.content × (new ≡ record old { content = new.content })
+on_content change old r new =
+    change old.content r new.content × (new ≡ record old { content = new.content })
 
 -- these objects go; a slot that loses its last one is held while the table is fixed
 abbrev pub without : Which → Fixed → Fixed
-without which table = record table { content = without_those (is_fixed table.fixes) which table.content }
+without which table =
+    record table { content = without_those (is_fixed table.fixes) which table.content }
 
 -- no slot is held
 abbrev pub NoneHeld : List Slot → Type 0
@@ -43,11 +50,12 @@ FixesOnce pid old (Err Memory) new = (fix_count old.fixes pid < most_fixes) × (
 abbrev pub settled : Fixed → Fixed
 settled table =
     if is_fixed table.fixes then table
-    else record table { content = record table.content { slots = purged table.content.slots } }
+    else record table { content = without_held table.content }
 
 -- one fix less of a process, or none where it had none
 abbrev pub released : ℕ → Fixed → Fixed
-released pid table = settled (record table { fixes = with_count table.fixes pid (fix_count table.fixes pid - 1) })
+released pid table =
+    settled (record table { fixes = with_count table.fixes pid (fix_count table.fixes pid - 1) })
 
 -- no fix of a process is left, as when it ends
 abbrev pub all_released : ℕ → Fixed → Fixed

@@ -26,8 +26,8 @@ pub fn calls_keep_keys()
     ensures delete { (which : Which) (old : Fixed) → KeepsKeys old (without which old) }
     ensures delete_object { (object : Term) (old new : Fixed) (r : Result (Unit {0}) Refusal)
         → on_content (DeletesObject (is_fixed old.fixes) object) old r new → KeepsKeys old new }
-    ensures fix { (pid : ℕ) (old new : Fixed) (r : Result (Unit {0}) FixFault) → FixesOnce pid old r new
-        → KeepsKeys old new }
+    ensures fix { (pid : ℕ) (old new : Fixed) (r : Result (Unit {0}) FixFault)
+        → FixesOnce pid old r new → KeepsKeys old new }
     ensures release { (pid : ℕ) (old : Fixed) → KeepsKeys old (released pid old) }
     ensures release_all { (pid : ℕ) (old : Fixed) → KeepsKeys old (all_released pid old) }
     ensures rows { (old new : Fixed) → new.content ≡ old.content → KeepsKeys old new }

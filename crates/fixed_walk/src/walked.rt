@@ -4,7 +4,7 @@ ghost use Rattle.bucket_table.specs.Buckets.{IsGrown, IsReadied};
 ghost use Rattle.bucket_table.specs.Slots.{object_count};
 ghost use Rattle.table_ops.specs.Content.{IsContent};
 ghost use Rattle.fixed_walk.specs.Fixes.{IsFixedBySome};
-ghost use Rattle.fixed_walk.specs.Fixed.{NoneHeld, HeldWhileFixed};
+ghost use Rattle.fixed_walk.specs.Fixed.{NoneHeld, HeldWhileFixed, with_fixes};
 
 use crate::fixes::Fixes;
 use bucket_table::{Growth, Readying, Rows};
@@ -26,24 +26,23 @@ pub struct Walked<R: Rows> {
 }
 
 impl<R: Rows> Model for Walked<R> {
-    ghost use Rattle.fixed_walk.specs.Fixed.{Fixed, HeldWhileFixed};
+    ghost use Rattle.fixed_walk.specs.Fixed.{Fixed, HeldWhileFixed, with_fixes};
     ghost use Rattle.fixed_walk.specs.inside.Codes.{fixed_code};
 
     ghost Value = { Fixed };
 
     ghost coded = { fixed_code };
 
-    ghost view = { λ w. record { content = w.table.content; buckets = w.table.buckets; fixes = w.fixes } };
+    ghost view = { λ w. with_fixes w.table w.fixes };
 
-    ghost invariant = { λ w.
-        HeldWhileFixed (record { content = w.table.content; buckets = w.table.buckets; fixes = w.fixes }) };
+    ghost invariant = { λ w. HeldWhileFixed (with_fixes w.table w.fixes) };
 }
 
 impl<R: Rows> Walked<R> {
     /// A table without held slots, which nobody fixes.
     pub fn new(alloc: Global, table: Table<R>) -> Self
         requires { NoneHeld table.content.slots }
-        ensures { result ≡ record { content = table.content; buckets = table.buckets; fixes = map.empty } }
+        ensures { result ≡ with_fixes table map.empty }
     {
         Walked::over(table, Fixes::new(alloc))
     }
@@ -51,7 +50,7 @@ impl<R: Rows> Walked<R> {
     /// A table without held slots, with these fixes.
     pub(crate) fn over(table: Table<R>, fixes: Fixes) -> Self
         requires { NoneHeld table.content.slots }
-        ensures { result ≡ record { content = table.content; buckets = table.buckets; fixes = fixes } }
+        ensures { result ≡ with_fixes table fixes }
     {
         Walked { table, fixes }
     }
@@ -110,7 +109,8 @@ impl<R: Rows> Walked<R> {
     /// Doubles the buckets of the rows. A walk goes on as before.
     pub fn grow(&mut self) -> Result<Growth, AllocError>
         ensures content { self.new ≡ record self.old { buckets = self.new.buckets } }
-        ensures ok { IfOk result (λ growth. IsGrown R.most_buckets self.old.buckets growth self.new.buckets) }
+        ensures ok { IfOk result (λ growth.
+            IsGrown R.most_buckets self.old.buckets growth self.new.buckets) }
         ensures err { OnErr result (self.new ≡ self.old) }
     {
         self.table.grow()
@@ -119,7 +119,8 @@ impl<R: Rows> Walked<R> {
     /// Makes a bucket of the rows ready. A walk goes on as before.
     pub fn ready(&mut self, bucket: u32) -> Result<Readying, AllocError>
         ensures content { self.new ≡ record self.old { buckets = self.new.buckets } }
-        ensures ok { IfOk result (λ readying. IsReadied bucket self.old.buckets readying self.new.buckets) }
+        ensures ok { IfOk result (λ readying.
+            IsReadied bucket self.old.buckets readying self.new.buckets) }
         ensures err { OnErr result (self.new ≡ self.old) }
     {
         self.table.ready(bucket)

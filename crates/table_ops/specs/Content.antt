@@ -25,7 +25,8 @@ pub record Tabled : Type 0 where
 -- the key of an object: a tuple whose element at keypos is not '$end_of_table'; any other term is no object
 abbrev pub key_of : ℕ → Term → Option Term
 key_of keypos object =
-    option_and_then (λ key. if is_atom (codes "$end_of_table") key then None else Some key) (element_at keypos object)
+    option_and_then (λ key. if is_atom (codes "$end_of_table") key then None else Some key)
+    (element_at keypos object)
 
 abbrev pub is_object : ℕ → Term → Bool
 is_object keypos term = is_some (key_of keypos term)

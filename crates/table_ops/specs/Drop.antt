@@ -2,7 +2,7 @@
 use Rattle.std.specs.Prelude.{Bool, true, not, ◌||◌, if◌then◌else◌, List, [], ◌∷◌, filter, Ok, Err}
 use Rattle.ets_term.specs.declared.term.Term.{Term}
 use Rattle.ets_term.specs.Order.{same}
-use Rattle.bucket_table.specs.Slots.{Slot, has_objects}
+use Rattle.bucket_table.specs.Slots.{Slot, has_objects, purged}
 use Rattle.table_ops.specs.declared.refusal.Refusal.TheVariants.{Badarg}
 use Rattle.table_ops.specs.Content.{Content, key_of}
 use Rattle.table_ops.specs.Refusals.{Change}
@@ -39,6 +39,14 @@ each own object = true
 -- these objects go
 abbrev pub without_those : Bool → Which → Content → Content
 without_those hold which old = record old { slots = dropped hold which old.slots }
+
+-- the objects go that are chosen, whatever their key
+abbrev pub without_chosen : Bool → (Term → Bool) → Content → Content
+without_chosen hold choose old = without_those hold (λ own. choose) old
+
+-- the held slots go
+abbrev pub without_held : Content → Content
+without_held old = record old { slots = purged old.slots }
 
 -- delete_object(Table, Object): badarg where the term is no object
 abbrev pub DeletesObject : Bool → Term → Content → Change (Unit {0}) Content

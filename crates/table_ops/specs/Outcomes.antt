@@ -1,5 +1,5 @@
 -- How a call that may be refused comes out.
-use Rattle.std.specs.Prelude.{◌≡◌, Bool, Option, MatchOption}
+use Rattle.std.specs.Prelude.{◌≡◌, Bool, Option, MatchOption, Result, IfOk}
 use Rattle.std.specs.Bool.{MatchBool}
 
 -- the answers that a call may give, each with what it then leaves
@@ -19,3 +19,7 @@ refuse old test refusal otherwise given new =
 abbrev pub refuse_none : {X R A : Type 0} → A → Option X → R → (X → Outcome R A) → Outcome R A
 refuse_none old found refusal otherwise given new =
     MatchOption found (gives refusal old given new) (λ x. otherwise x given new)
+
+-- the answer of a call that only want of memory refuses
+abbrev pub AnswersWith : {X E : Type 0} → Result X E → X → Type 0
+AnswersWith result wanted = IfOk result (λ answer. answer ≡ wanted)

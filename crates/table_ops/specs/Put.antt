@@ -23,7 +23,8 @@ add DuplicateBag objects object = objects ++ object ∷ []
 -- a key gets these objects: in its slot, held or not, or in a new one at some place
 abbrev pub Writes : List Slot → Term → List Term → List Slot → Type 0
 Writes old key objects new =
-    MatchOption (objects_of old key) (Enters old key objects new) (λ _. new ≡ with_objects old key objects)
+    MatchOption (objects_of old key) (Enters old key objects new) (λ _.
+    new ≡ with_objects old key objects)
 
 -- an object is inserted under its key
 abbrev pub Puts : Kind → List Slot → Term → Term → List Slot → Type 0

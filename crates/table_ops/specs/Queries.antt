@@ -1,10 +1,11 @@
 -- What patterns and specifications give for the objects of a table, and how many objects are tried (stdlib manual,
 -- module ets, match/2, match_object/2, match_delete/2, select/2, select_count/2 and select_delete/2).
-use Rattle.std.specs.Prelude.{ℕ, Bool, false, List, [], ◌∷◌, Option, Some, None, is_some, length, filter}
+use Rattle.std.specs.Prelude.{◌≡◌, ℕ, Bool, false, if◌then◌else◌, List, [], ◌∷◌, ◌++◌, Option, Some, None, is_some, Result, IfOk, OnOk, length, map, filter}
 use Rattle.std.specs.Option.{option_map, option_map_or}
 use Rattle.ets_term.specs.declared.term.Term.{Term}
 use Rattle.ets_term.specs.Data.{Data, list, row_of, data_of}
 use Rattle.ets_term.specs.laws.Exact.{term_of}
+use Rattle.node_list.specs.Ticks.{ticks}
 use Rattle.bucket_table.specs.Slots.{Slot, object_count}
 use Rattle.match_spec.specs.BoundKeys.{bound_key, spec_key}
 use Rattle.match_spec.specs.Patterns.{values, bindings_of}
@@ -14,11 +15,16 @@ use Rattle.table_ops.specs.Read.{all_objects}
 
 -- match: the list of what is bound, in order of the variables' numbers, for an object that matches
 abbrev pub bound_in : Term → Term → Option Data
-bound_in pattern object = option_map (λ b. list (row_of (values b))) (bindings_of (data_of pattern) (data_of object))
+bound_in pattern object =
+    option_map (λ b. list (row_of (values b))) (bindings_of (data_of pattern) (data_of object))
 
 -- match_object, match_delete: whether an object matches
 abbrev pub matches : Term → Term → Bool
 matches pattern object = is_some (bindings_of (data_of pattern) (data_of object))
+
+-- match_object: an object that matches, itself
+abbrev pub matched_object : Term → Term → Option Data
+matched_object pattern object = if matches pattern object then Some (data_of object) else None
 
 -- select: what the specification gives for an object
 abbrev pub given_by : Term → Term → Option Data
@@ -37,6 +43,18 @@ abbrev pub answers : (Term → Option Data) → List Term → List Data
 answers give [] = []
 answers give (object ∷ objects) = also (give object) (answers give objects)
 
+-- the tree of what is given for an object
+abbrev pub GivesTree : {E : Type 0} → Result (Option Term) E → Option Data → Type 0
+GivesTree result wanted = IfOk result (λ answer. option_map data_of answer ≡ wanted)
+
+-- the trees of the terms that are answered
+abbrev pub AnswersTrees : {E : Type 0} → Result (List Term) E → List Data → Type 0
+AnswersTrees result wanted = IfOk result (λ found. map data_of found ≡ wanted)
+
+-- terms with these trees are put behind others
+abbrev pub Gathers : {X E : Type 0} → Result X E → List Term → List Term → List Data → Type 0
+Gathers result old new wanted = OnOk result (map data_of new ≡ map data_of old ++ wanted)
+
 -- how many objects are chosen
 abbrev pub chosen_count : (Term → Bool) → List Term → ℕ
 chosen_count choose objects = length (filter choose objects)
@@ -44,6 +62,10 @@ chosen_count choose objects = length (filter choose objects)
 -- the answers for the objects of a table, in the order of its slots
 abbrev pub answers_in : (Term → Option Data) → Content → List Data
 answers_in give table = answers give (all_objects table.slots)
+
+-- the objects of a table that match, in the order of its slots
+abbrev pub matching_in : Term → Content → List Term
+matching_in pattern table = filter (matches pattern) (all_objects table.slots)
 
 -- how many objects of a table are chosen
 abbrev pub chosen_in : (Term → Bool) → Content → ℕ
@@ -65,3 +87,7 @@ tried_pattern pattern table = tried (bound_key table.keypos (data_of pattern)) t
 -- how many a specification is tried on
 abbrev pub tried_spec : Term → Content → ℕ
 tried_spec spec table = tried (spec_key table.keypos (data_of spec)) table.slots
+
+-- a search that is not refused memory tries so many objects, and counts each
+abbrev pub Tries : {X E : Type 0} → Result X E → ℕ → ℕ → ℕ → Type 0
+Tries result count old new = OnOk result (new ≡ ticks count old)

@@ -17,16 +17,21 @@ all_objects (slot ∷ slots) = slot.1 ++ all_objects slots
 abbrev pub elements_at : ℕ → List Term → Option (List Term)
 elements_at position [] = Some []
 elements_at position (object ∷ objects) =
-    option_and_then (λ element. option_map (λ others. element ∷ others) (elements_at position objects))
+    option_and_then (λ element.
+    option_map (λ others. element ∷ others) (elements_at position objects))
     (element_at position object)
+
+-- the list of these elements
+abbrev pub list_at : ℕ → List Term → Option Term
+list_at position objects = option_map list_term (elements_at position objects)
 
 -- lookup_element(Table, Key, Position), by the objects of the key: of a set the element, of a bag the list of them;
 -- None is badarg
 abbrev pub element_told : Kind → ℕ → List Term → Option Term
 element_told kind position [] = None
 element_told Set position (object ∷ objects) = element_at position object
-element_told Bag position (object ∷ objects) = option_map list_term (elements_at position (object ∷ objects))
-element_told DuplicateBag position (object ∷ objects) = option_map list_term (elements_at position (object ∷ objects))
+element_told Bag position (object ∷ objects) = list_at position (object ∷ objects)
+element_told DuplicateBag position (object ∷ objects) = list_at position (object ∷ objects)
 
 -- lookup_element(Table, Key, Position, Default): the Default where the key has no object, but no position is 0
 abbrev pub element_or : Kind → ℕ → Term → List Term → Option Term

@@ -55,7 +55,8 @@ Counts key old (Err fault) r new = gives (Err (refusal_of fault)) old r new
 
 -- an object that is made of a Default is stored under its key, and its answer given; system limit where the table would
 -- have more objects than it may
-abbrev pub Starts : {X : Type 0} → Term → Content → Result (Term × X) CounterFault → Change X Content
+abbrev pub Starts : {X : Type 0} → Term → Content → Result (Term × X) CounterFault
+    → Change X Content
 Starts key old (Ok made) r new =
     (slots : List Slot) × Writes old.slots key (made.0 ∷ []) slots
     × refuse old (nat_lt old.limit (object_count slots)) (Err SystemLimit) (
@@ -65,7 +66,8 @@ Starts key old (Err fault) r new = gives (Err (refusal_of fault)) old r new
 -- the update, by the objects of the key: where it has none, of the Default with the key, and badarg without one
 abbrev pub CountsUnder : Term → Ops → Option Term → Content → List Term → Change Term Content
 CountsUnder key ops default old [] =
-    refuse_none old default (Err Badarg) (λ d. Starts key old (counted_from ops (keyed old.keypos key d)))
+    refuse_none old default (Err Badarg) (λ d.
+    Starts key old (counted_from ops (keyed old.keypos key d)))
 CountsUnder key ops default old (object ∷ objects) = Counts key old (updated_counters ops object)
 
 -- whether the Default, if there is one, is an object once it has the key
@@ -96,7 +98,8 @@ with_true (Ok object) = Ok (object, true)
 with_true (Err fault) = Err fault
 
 -- by the objects of the key: where it has none, of the Default with the key, and false without one
-abbrev pub WritesUnder : Term → ElementSpecs → Option Term → Content → List Term → Change Bool Content
+abbrev pub WritesUnder : Term → ElementSpecs → Option Term → Content → List Term
+    → Change Bool Content
 WritesUnder key specs default old [] r new =
     MatchOption default
     (gives (Ok false) old r new)

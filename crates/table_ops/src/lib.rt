@@ -23,7 +23,6 @@
 #![tactic(auto)]
 
 mod kind;
-mod looks;
 mod marks;
 mod object;
 mod refusal;
@@ -34,7 +33,7 @@ mod trial;
 mod undo;
 
 pub use kind::Kind;
-pub use looks::Looks;
+pub use node_list::Steps;
 pub use object::key_of;
 pub use refusal::Refusal;
 #[doc(hidden)]

@@ -1,15 +1,15 @@
 // Slots that lose objects: what is noted of them.
-ghost use Rattle.std.specs.Prelude.{◌≡◌, ◌≤◌, ◌<◌, ◌^◌, ◌++◌, ◌+◌, [], take, ℕ, Option, Some, length, OnOk, IfOk};
+ghost use Rattle.std.specs.Prelude.{◌≡◌, ◌≤◌, ◌<◌, ◌^◌, ◌++◌, ◌+◌, [], take, ℕ, Option, Some, length, OnOk};
 ghost use Rattle.ets_term.specs.declared.term.Term.{Term};
 ghost use Rattle.node_list.specs.Ticks.{tick, ticks};
-ghost use Rattle.table_ops.specs.Queries.{chosen_count};
-ghost use Rattle.table_ops.specs.inside.Marked.{AreSifted, note, noted};
+ghost use Rattle.table_ops.specs.Outcomes.{AnswersWith};
+ghost use Rattle.table_ops.specs.Queries.{chosen_count, Tries};
+ghost use Rattle.table_ops.specs.inside.Marked.{IsSift, note, noted};
 
-use crate::looks::Looks;
 use crate::trial::Choose;
 use bucket_table::Place;
 use ets_term::Term;
-use node_list::Chain;
+use node_list::{Chain, Steps};
 use std::alloc::{AllocError, Global};
 
 /// A slot of which objects go.
@@ -45,10 +45,10 @@ impl Marks {
         chooser: &C,
         place: Place,
         objects: &[Term],
-        looks: &mut Looks,
+        looks: &mut Steps,
     ) -> Result<usize, AllocError>
-        ensures count { IfOk result (λ count. count ≡ chosen_count (C.chooses chooser.now) objects.now) }
-        ensures looks { OnOk result (looks.new ≡ ticks (length objects.now) looks.old) }
+        ensures count { AnswersWith result (chosen_count (C.chooses chooser.now) objects.now) }
+        ensures looks { Tries result (length objects.now) looks.old looks.new }
         ensures at_most { looks.new ≤ ticks (length objects.now) looks.old }
         ensures marks { OnOk result
             ((key_at : ℕ → Option Term) (key : Term) → key_at place ≡ Some key
@@ -91,11 +91,11 @@ impl Sift {
         &mut self,
         chooser: &C,
         objects: &[Term],
-        looks: &mut Looks,
+        looks: &mut Steps,
     ) -> Result<(), AllocError>
-        requires { AreSifted (C.chooses chooser.now) [] self.old.gone self.old.left }
-        ensures sifted { OnOk result (AreSifted (C.chooses chooser.now) objects.now self.new.gone self.new.left) }
-        ensures looks { OnOk result (looks.new ≡ ticks (length objects.now) looks.old) }
+        requires { IsSift (C.chooses chooser.now) [] self.old }
+        ensures sifted { OnOk result (IsSift (C.chooses chooser.now) objects.now self.new) }
+        ensures looks { Tries result (length objects.now) looks.old looks.new }
         ensures at_most { looks.new ≤ ticks (length objects.now) looks.old }
     {
         let _before = looks.count();
@@ -111,13 +111,13 @@ impl Sift {
         chooser: &C,
         objects: &[Term],
         i: usize,
-        looks: &mut Looks,
+        looks: &mut Steps,
     ) -> Result<(), AllocError>
         requires few { length objects.now < 2 ^ 64 }
         requires within { i < length objects.now }
-        requires sifted { AreSifted (C.chooses chooser.now) (take i objects.now) self.old.gone self.old.left }
+        requires sifted { IsSift (C.chooses chooser.now) (take i objects.now) self.old }
         ensures sifted { OnOk result
-            (AreSifted (C.chooses chooser.now) (take (i + 1) objects.now) self.new.gone self.new.left) }
+            (IsSift (C.chooses chooser.now) (take (i + 1) objects.now) self.new) }
         ensures looks { looks.new ≡ tick looks.old }
     {
         let object = &objects[i];

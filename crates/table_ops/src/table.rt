@@ -32,7 +32,10 @@ impl<R: Rows> Model for Table<R> {
 
     ghost coded = { tabled_code };
 
-    ghost view = { λ t. record { content = content_of R.content t.store; buckets = R.readiness t.store.rows } };
+    ghost view = { λ t. record {
+      content = content_of R.content t.store;
+      buckets = R.readiness t.store.rows;
+    } };
 
     ghost invariant = { λ t. Holds R.content t.store t.count };
 }
@@ -43,7 +46,8 @@ impl<R: Rows> Table<R> {
     pub fn new(alloc: Global, rows: R, kind: Kind, keypos: u32, objects: u32) -> Self
         requires empty { R.content rows ≡ [] }
         requires keypos { 1 ≤ keypos }
-        ensures content { result.content ≡ record { kind = kind; keypos = keypos; limit = objects; slots = [] } }
+        ensures content { result.content
+            ≡ record { kind = kind; keypos = keypos; limit = objects; slots = [] } }
         ensures buckets { result.buckets ≡ R.readiness rows }
     {
         let store = Store {
@@ -109,7 +113,8 @@ impl<R: Rows> Table<R> {
     /// Doubles the buckets of the rows.
     pub fn grow(&mut self) -> Result<Growth, AllocError>
         ensures content { self.new.content ≡ self.old.content }
-        ensures ok { IfOk result (λ growth. IsGrown R.most_buckets self.old.buckets growth self.new.buckets) }
+        ensures ok { IfOk result (λ growth.
+            IsGrown R.most_buckets self.old.buckets growth self.new.buckets) }
         ensures err { OnErr result (self.new ≡ self.old) }
     {
         self.store.rows.grow()
@@ -118,7 +123,8 @@ impl<R: Rows> Table<R> {
     /// Makes a bucket of the rows ready.
     pub fn ready(&mut self, bucket: u32) -> Result<Readying, AllocError>
         ensures content { self.new.content ≡ self.old.content }
-        ensures ok { IfOk result (λ readying. IsReadied bucket self.old.buckets readying self.new.buckets) }
+        ensures ok { IfOk result (λ readying.
+            IsReadied bucket self.old.buckets readying self.new.buckets) }
         ensures err { OnErr result (self.new ≡ self.old) }
     {
         self.store.rows.ready(bucket)

@@ -1,18 +1,18 @@
-// The two calls by which an object is tried, and what asks them.
-ghost use Rattle.std.specs.Prelude.{◌≡◌, Option, Bool, IfOk};
-ghost use Rattle.std.specs.Option.{option_map};
+// The two calls by which an object is tried, and what asks them. `looks` says how many objects were tried.
+ghost use Rattle.std.specs.Prelude.{◌≡◌, Option, Bool};
 ghost use Rattle.ets_term.specs.declared.term.Term.{Term};
-ghost use Rattle.ets_term.specs.Data.{Data, data_of};
+ghost use Rattle.ets_term.specs.Data.{Data};
 ghost use Rattle.node_list.specs.Ticks.{tick};
-ghost use Rattle.table_ops.specs.Queries.{matches, given_by, is_chosen};
+ghost use Rattle.table_ops.specs.Outcomes.{AnswersWith};
+ghost use Rattle.table_ops.specs.Queries.{matches, given_by, is_chosen, GivesTree};
 
-use crate::looks::Looks;
 use ets_term::{Items, Term};
 use match_spec::{Pattern, Spec};
+use node_list::Steps;
 use std::alloc::{AllocError, Global};
 
 /// Tries an object with a pattern.
-fn fits(pattern: &Pattern, object: &Term, looks: &mut Looks) -> bool
+fn fits(pattern: &Pattern, object: &Term, looks: &mut Steps) -> bool
     ensures fits { result ≡ matches pattern.now object.now }
     ensures ticks { looks.new ≡ tick looks.old }
 {
@@ -25,9 +25,9 @@ fn given(
     alloc: Global,
     spec: &Spec,
     object: &Term,
-    looks: &mut Looks,
+    looks: &mut Steps,
 ) -> Result<Option<Term>, AllocError>
-    ensures given { IfOk result (λ answer. option_map data_of answer ≡ given_by spec.now object.now) }
+    ensures given { GivesTree result (given_by spec.now object.now) }
     ensures ticks { looks.new ≡ tick looks.old }
 {
     looks.tick();
@@ -43,9 +43,9 @@ pub trait Give {
         &self,
         alloc: Global,
         object: &Term,
-        looks: &mut Looks,
+        looks: &mut Steps,
     ) -> Result<Option<Term>, AllocError>
-        ensures given { IfOk result (λ answer. option_map data_of answer ≡ gives self.now object.now) }
+        ensures given { GivesTree result (gives self.now object.now) }
         ensures ticks { looks.new ≡ tick looks.old };
 }
 
@@ -54,8 +54,8 @@ pub trait Choose {
     /// Whether an object is chosen.
     ghost chooses: { Self → Term → Bool };
 
-    fn choose(&self, alloc: Global, object: &Term, looks: &mut Looks) -> Result<bool, AllocError>
-        ensures chosen { IfOk result (λ chosen. chosen ≡ chooses self.now object.now) }
+    fn choose(&self, alloc: Global, object: &Term, looks: &mut Steps) -> Result<bool, AllocError>
+        ensures chosen { AnswersWith result (chooses self.now object.now) }
         ensures ticks { looks.new ≡ tick looks.old };
 }
 
@@ -69,7 +69,7 @@ impl Give for Pattern {
         &self,
         alloc: Global,
         object: &Term,
-        looks: &mut Looks,
+        looks: &mut Steps,
     ) -> Result<Option<Term>, AllocError> {
         if !fits(self, object, looks) {
             return Ok(None);
@@ -87,7 +87,7 @@ impl Give for Spec {
         &self,
         alloc: Global,
         object: &Term,
-        looks: &mut Looks,
+        looks: &mut Steps,
     ) -> Result<Option<Term>, AllocError> {
         given(alloc, self, object, looks)
     }
@@ -97,7 +97,7 @@ impl Give for Spec {
 impl Choose for Pattern {
     ghost chooses = { matches };
 
-    fn choose(&self, _alloc: Global, object: &Term, looks: &mut Looks) -> Result<bool, AllocError> {
+    fn choose(&self, _alloc: Global, object: &Term, looks: &mut Steps) -> Result<bool, AllocError> {
         Ok(fits(self, object, looks))
     }
 }
@@ -106,7 +106,7 @@ impl Choose for Pattern {
 impl Choose for Spec {
     ghost chooses = { is_chosen };
 
-    fn choose(&self, alloc: Global, object: &Term, looks: &mut Looks) -> Result<bool, AllocError> {
+    fn choose(&self, alloc: Global, object: &Term, looks: &mut Steps) -> Result<bool, AllocError> {
         looks.tick();
         self.is_true(alloc, object)
     }
@@ -119,15 +119,15 @@ pub struct Matching<'a> {
 }
 
 impl<'a> Give for Matching<'a> {
-    ghost use Rattle.std.specs.Prelude.{Some, None, if◌then◌else◌};
+    ghost use Rattle.table_ops.specs.Queries.{matched_object};
 
-    ghost gives = { λ m object. if matches m.pattern.now object then Some (data_of object) else None };
+    ghost gives = { λ m. matched_object m.pattern.now };
 
     fn give(
         &self,
         alloc: Global,
         object: &Term,
-        looks: &mut Looks,
+        looks: &mut Steps,
     ) -> Result<Option<Term>, AllocError> {
         if !fits(self.pattern, object, looks) {
             return Ok(None);

@@ -26,5 +26,5 @@ pub record KeepsKeys (old new : Fixed) : Type 0 where
 -- so does each outcome of a change of the content, which is told whether slots are held
 abbrev pub AlwaysKeeps : {X : Type 0} → (Bool → Content → Change X Content) → Type 0
 AlwaysKeeps {X} change =
-    (old new : Fixed) (r : Result X Refusal) → Comes (on_content (change (is_fixed old.fixes)) old) old r new
-    → KeepsKeys old new
+    (old new : Fixed) (r : Result X Refusal)
+    → Comes (on_content (change (is_fixed old.fixes)) old) old r new → KeepsKeys old new

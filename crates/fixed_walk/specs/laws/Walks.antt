@@ -27,12 +27,14 @@ key_told (Some key) slots = next_key slots key
 abbrev pub IsWalk : Option Term → List (List Slot) → List Term → Type 0
 IsWalk before [] keys = ⊥
 IsWalk before (slots ∷ later) [] = (key_told before slots ≡ Some None) × (later ≡ [])
-IsWalk before (slots ∷ later) (key ∷ keys) = (key_told before slots ≡ Some (Some key)) × IsWalk (Some key) later keys
+IsWalk before (slots ∷ later) (key ∷ keys) =
+    (key_told before slots ≡ Some (Some key)) × IsWalk (Some key) later keys
 
 -- no key comes twice, and each key that has objects at every moment comes
 pub record IsWhole (moments : List (List Slot)) (keys : List Term) : Type 0 where
   pub once : IsDistinct same keys
-  pub all : (key : Term) → AllByRecursion (λ slots. is_present slots key ≡ true) moments → Contains keys key
+  pub all : (key : Term) → AllByRecursion (λ slots. is_present slots key ≡ true) moments
+      → Contains keys key
 
 abbrev pub WalksAreWhole : Type 0
 WalksAreWhole =

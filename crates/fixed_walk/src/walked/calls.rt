@@ -1,6 +1,7 @@
-ghost use Rattle.std.specs.Prelude.{◌≡◌, option_copied, IfOk, OnOk, OnErr};
+ghost use Rattle.std.specs.Prelude.{◌≡◌, option_copied, OnOk, OnErr};
 ghost use Rattle.table_ops.specs.Content.{objects_under, is_present};
 ghost use Rattle.table_ops.specs.Drop.{of_key, each, DeletesObject};
+ghost use Rattle.table_ops.specs.Outcomes.{AnswersWith};
 ghost use Rattle.table_ops.specs.Put.{Inserts, InsertsNew};
 ghost use Rattle.table_ops.specs.Read.{all_objects, element_told, element_or};
 ghost use Rattle.table_ops.specs.Refusals.{Comes, Tells};
@@ -35,8 +36,8 @@ impl<R: Rows> Walked<R> {
     /// The element at a position of a key's object, or in a bag the list of these of all its objects, copied. `Badarg`
     /// where the key has no object, or one of them no such element (stdlib manual, ets:lookup_element/3).
     pub fn lookup_element(&self, key: &Term, position: Position) -> Result<Term, Refusal>
-        ensures { Tells (element_told self.now.content.kind position (objects_under self.now.content.slots key.now))
-            result }
+        ensures { Tells (element_told self.now.content.kind position
+            (objects_under self.now.content.slots key.now)) result }
     {
         self.table.lookup_element(key, position)
     }
@@ -49,16 +50,15 @@ impl<R: Rows> Walked<R> {
         position: Position,
         default: &Term,
     ) -> Result<Term, Refusal>
-        ensures { Tells
-            (element_or self.now.content.kind position default.now (objects_under self.now.content.slots key.now))
-            result }
+        ensures { Tells (element_or self.now.content.kind position default.now
+            (objects_under self.now.content.slots key.now)) result }
     {
         self.table.lookup_element_or(key, position, default)
     }
 
     /// All objects, copied, in the order of the slots (stdlib manual, ets:tab2list/1).
     pub fn objects(&self) -> Result<Items<Term>, AllocError>
-        ensures { IfOk result (λ objects. objects ≡ all_objects self.now.content.slots) }
+        ensures { AnswersWith result (all_objects self.now.content.slots) }
     {
         self.table.objects()
     }
@@ -96,7 +96,8 @@ impl<R: Rows> Walked<R> {
         ops: &Ops,
         default: Option<&Term>,
     ) -> Result<Term, Refusal>
-        ensures { Comes (on_content (UpdatesCounter key.now ops.now (option_copied default.entry)) self.old)
+        ensures { Comes
+            (on_content (UpdatesCounter key.now ops.now (option_copied default.entry)) self.old)
             self.old result self.new }
     {
         self.table.update_counter(key, ops, default)
@@ -115,7 +116,8 @@ impl<R: Rows> Walked<R> {
         specs: ElementSpecs,
         default: Option<&Term>,
     ) -> Result<bool, Refusal>
-        ensures { Comes (on_content (UpdatesElement key.now specs (option_copied default.entry)) self.old)
+        ensures { Comes
+            (on_content (UpdatesElement key.now specs (option_copied default.entry)) self.old)
             self.old result self.new }
     {
         self.table.update_element(key, specs, default)
@@ -133,7 +135,7 @@ impl<R: Rows> Walked<R> {
     /// Takes the objects of a key out, oldest first (stdlib manual, ets:take/2).
     #[tactic(auto, using(crate::proofs::HeldLaws::held))]
     pub fn take(&mut self, key: &Term) -> Result<Items<Term>, AllocError>
-        ensures taken { IfOk result (λ objects. objects ≡ objects_under self.old.content.slots key.now) }
+        ensures taken { AnswersWith result (objects_under self.old.content.slots key.now) }
         ensures ok { OnOk result (self.new ≡ without (of_key key.now) self.old) }
         ensures err { OnErr result (self.new ≡ self.old) }
     {
@@ -144,7 +146,8 @@ impl<R: Rows> Walked<R> {
     /// Deletes every instance of an object (stdlib manual, ets:delete_object/2). `Badarg` where the term is no object.
     #[tactic(auto, using(crate::proofs::HeldLaws::held))]
     pub fn delete_object(&mut self, object: &Term) -> Result<(), Refusal>
-        ensures { on_content (DeletesObject (is_fixed self.old.fixes) object.now) self.old result self.new }
+        ensures { on_content (DeletesObject (is_fixed self.old.fixes) object.now)
+            self.old result self.new }
     {
         let hold = self.fixes.any();
         self.table.delete_object(object, hold)

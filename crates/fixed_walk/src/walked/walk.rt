@@ -20,7 +20,8 @@ impl<R: Rows> Walked<R> {
     /// `Badarg` where the key has no slot: in a fixed table a key that was deleted has one still. It costs a search for
     /// the key and the held slots passed.
     pub fn next(&self, key: &Term) -> Result<Option<&Term>, Badarg>
-        ensures ok { IfOk result (λ found. next_key self.now.content.slots key.now ≡ Some (option_copied found)) }
+        ensures ok { IfOk result (λ found.
+            next_key self.now.content.slots key.now ≡ Some (option_copied found)) }
         ensures err { OnErr result (next_key self.now.content.slots key.now ≡ None) }
     {
         let found = self.next_lookup(key)?;
@@ -54,7 +55,8 @@ impl<R: Rows> Walked<R> {
 
 /// The key of a slot, if there is one.
 fn key_of<'a>(slot: Option<(&'a Term, &'a [Term])>) -> Option<&'a Term>
-    ensures { option_copied result ≡ option_map (λ slot. slot.0) (option_map deref_pair slot.entry) }
+    ensures { option_copied result
+        ≡ option_map (λ slot. slot.0) (option_map deref_pair slot.entry) }
 {
     match slot {
         Some((key, _)) => Some(key),
@@ -65,7 +67,8 @@ fn key_of<'a>(slot: Option<(&'a Term, &'a [Term])>) -> Option<&'a Term>
 /// The first slot that has objects, of that at a place and those behind it.
 fn first_present<R: Rows>(rows: &R, start: Option<Place>) -> Option<(&Term, &[Term])>
     requires { StandsAt (R.key_at rows.now) start }
-    ensures { option_map deref_pair result ≡ first_slot (slots_from (R.key_at rows.now) (R.content rows.now) start) }
+    ensures { option_map deref_pair result
+        ≡ first_slot (slots_from (R.key_at rows.now) (R.content rows.now) start) }
 {
     rows.known();
     let mut at = start;

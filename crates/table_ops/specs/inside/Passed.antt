@@ -1,11 +1,12 @@
 -- Where a walk over slots stands.
-use Rattle.std.specs.Prelude.{◌≡◌, ◌≤◌, ◌<◌, ◌^◌, ℕ, List, Option, drop, length}
+use Rattle.std.specs.Prelude.{◌<◌, ◌^◌, ℕ, List, Option, drop, length}
 use Rattle.ets_term.specs.declared.term.Term.{Term}
 use Rattle.bucket_table.specs.Slots.{Slot, HasDistinctKeys}
 use Rattle.bucket_table.specs.Walks.{IsFirstPlace}
 
 -- so many slots are passed, and the next stands at this place, if there is one
-pub record IsAt (key_at : ℕ → Option Term) (slots : List Slot) (passed : ℕ) (at : Option ℕ) : Type 0 where
+pub record IsAt (key_at : ℕ → Option Term) (slots : List Slot)
+    (passed : ℕ) (at : Option ℕ) : Type 0 where
   pub distinct : HasDistinctKeys slots
   pub here : IsFirstPlace key_at (drop passed slots) at
   pub fits : length slots < 2 ^ 64

@@ -45,20 +45,27 @@ undone_all keypos (undo ∷ undos) (object ∷ objects) slots =
     undone undo (unwrap_or (key_of keypos object) object) (undone_all keypos undos objects slots)
 
 -- one object is put, where `room` says that one more fits
-abbrev pub PutsOne : Bool → Kind → Term → Term → List Slot → Result Undo Refusal → List Slot → Type 0
+abbrev pub PutsOne : Bool → Kind → Term → Term → List Slot → Result Undo Refusal
+    → List Slot → Type 0
 PutsOne room kind key object old (Ok undo) new =
-    Puts kind old key object new × (undone undo key new ≡ old) × (object_count new ≡ object_count old + gain undo)
-    × (room ≡ false → gain undo ≡ 0)
+    Puts kind old key object new × (undone undo key new ≡ old)
+    × (object_count new ≡ object_count old + gain undo) × (room ≡ false → gain undo ≡ 0)
 PutsOne room kind key object old (Err Badarg) new = ⊥
 PutsOne room kind key object old (Err SystemLimit) new =
     (new ≡ old) × (room ≡ false)
     × (length (add kind (objects_under old key) object) ≡ length (objects_under old key) + 1)
 PutsOne room kind key object old (Err Memory) new = new ≡ old
 
+-- the same, in the slot at a place, whose key is this one
+abbrev pub PutsAt : Bool → Kind → Option Term → Term → List Slot → Result Undo Refusal
+    → List Slot → Type 0
+PutsAt room kind at object old r new = AtKey at (λ key. PutsOne room kind key object old r new)
+
 -- the same, under its own key
-abbrev pub PutsObject : Bool → Kind → ℕ → Term → List Slot → Result Undo Refusal → List Slot → Type 0
+abbrev pub PutsObject : Bool → Kind → ℕ → Term → List Slot → Result Undo Refusal
+    → List Slot → Type 0
 PutsObject room kind keypos object old r new =
-    AtKey (key_of keypos object) (λ key. PutsOne room kind key object old r new)
+    PutsAt room kind (key_of keypos object) object old r new
 
 -- all objects are put, and it tells how many there are then
 abbrev pub PutsEach : ℕ → Kind → ℕ → List Term → List Slot → Result ℕ Refusal → List Slot → Type 0
@@ -66,5 +73,6 @@ PutsEach limit kind keypos objects old (Ok count) new =
     PutsAll kind keypos old objects new × (count ≡ object_count new) × (count ≤ limit)
 PutsEach limit kind keypos objects old (Err Badarg) new = ⊥
 PutsEach limit kind keypos objects old (Err SystemLimit) new =
-    (new ≡ old) × ((slots : List Slot) × PutsAll kind keypos old objects slots × (limit < object_count slots))
+    (new ≡ old)
+    × ((slots : List Slot) × PutsAll kind keypos old objects slots × (limit < object_count slots))
 PutsEach limit kind keypos objects old (Err Memory) new = new ≡ old

@@ -21,7 +21,8 @@ WasOne slots at P = (object : Term) × (objects_in slots at ≡ Some (object ∷
 abbrev pub CountsAt : Ops → Option Term → List Slot → Result Term CounterFault → List Slot → Type 0
 CountsAt ops at old (Ok answer) new =
     WasOne old at (λ was.
-    (object : Term) × (updated_counters ops was ≡ Ok (object, answer)) × (new ≡ with_objects_in old at (object ∷ [])))
+    (object : Term) × (updated_counters ops was ≡ Ok (object, answer))
+    × (new ≡ with_objects_in old at (object ∷ [])))
 CountsAt ops at old (Err fault.Badarg) new =
     WasOne old at (λ was. (updated_counters ops was ≡ Err fault.Badarg) × (new ≡ old))
 CountsAt ops at old (Err fault.SystemLimit) new =
@@ -29,17 +30,21 @@ CountsAt ops at old (Err fault.SystemLimit) new =
 CountsAt ops at old (Err fault.Memory) new = new ≡ old
 
 -- elements of the one object at a place are written, or nothing changes
-abbrev pub WritesAt : ElementSpecs → Option Term → List Slot → Result (Unit {0}) CounterFault → List Slot → Type 0
+abbrev pub WritesAt : ElementSpecs → Option Term → List Slot → Result (Unit {0}) CounterFault
+    → List Slot → Type 0
 WritesAt specs at old (Ok done) new =
     WasOne old at (λ was.
-    (object : Term) × (updated_elements specs was ≡ Ok object) × (new ≡ with_objects_in old at (object ∷ [])))
-WritesAt specs at old (Err fault) new = WasOne old at (λ was. (updated_elements specs was ≡ Err fault) × (new ≡ old))
+    (object : Term) × (updated_elements specs was ≡ Ok object)
+    × (new ≡ with_objects_in old at (object ∷ [])))
+WritesAt specs at old (Err fault) new =
+    WasOne old at (λ was. (updated_elements specs was ≡ Err fault) × (new ≡ old))
 
 -- an object that was made is stored under a key that has none, where there is room for it
-abbrev pub StartsAt : {X : Type 0} → Bool → Term → Result (Term × X) CounterFault → List Slot → Result X Refusal
-    → List Slot → Type 0
+abbrev pub StartsAt : {X : Type 0} → Bool → Term → Result (Term × X) CounterFault → List Slot
+    → Result X Refusal → List Slot → Type 0
 StartsAt room key made old (Ok answer) new =
-    (object : Term) × (made ≡ Ok (object, answer)) × (room ≡ true) × Writes old key (object ∷ []) new
+    (object : Term) × (made ≡ Ok (object, answer)) × (room ≡ true)
+    × Writes old key (object ∷ []) new
 StartsAt room key made old (Err Badarg) new = (made ≡ Err fault.Badarg) × (new ≡ old)
 StartsAt room key made old (Err SystemLimit) new =
     (new ≡ old) × ((made ≡ Err fault.SystemLimit) ⊎ ((is_ok made ≡ true) × (room ≡ false)))

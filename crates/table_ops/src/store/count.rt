@@ -1,17 +1,18 @@
 // How many objects are chosen: of one slot, or of all.
-ghost use Rattle.std.specs.Prelude.{◌≡◌, ◌≤◌, ◌<◌, ◌^◌, [], ◌∷◌, length, option_copied, IfOk, OnOk};
+ghost use Rattle.std.specs.Prelude.{◌≡◌, ◌≤◌, ◌<◌, ◌^◌, [], ◌∷◌, length, option_copied, IfOk};
 ghost use Rattle.bucket_table.specs.Slots.{object_count};
 ghost use Rattle.node_list.specs.Ticks.{tick, ticks};
-ghost use Rattle.table_ops.specs.Queries.{chosen_count, tried_under};
+ghost use Rattle.table_ops.specs.Outcomes.{AnswersWith};
+ghost use Rattle.table_ops.specs.Queries.{chosen_count, tried_under, Tries};
 ghost use Rattle.table_ops.specs.Read.{all_objects};
 ghost use Rattle.table_ops.specs.inside.Marked.{Quiet};
 
 use super::Store;
-use crate::looks::Looks;
 use crate::slots::all_of;
 use crate::trial::Choose;
 use bucket_table::Rows;
 use ets_term::Term;
+use node_list::Steps;
 use std::alloc::AllocError;
 
 impl<R: Rows> Store<R> {
@@ -20,14 +21,15 @@ impl<R: Rows> Store<R> {
         &self,
         chooser: &C,
         key: Option<&Term>,
-        looks: &mut Looks,
+        looks: &mut Steps,
     ) -> Result<usize, AllocError>
         requires few { object_count (R.content self.now.rows) < 2 ^ 32 }
-        requires quiet { Quiet (C.chooses chooser.now) (option_copied key) (R.content self.now.rows) }
-        ensures count { IfOk result (λ count.
-            count ≡ chosen_count (C.chooses chooser.now) (all_objects (R.content self.now.rows))) }
-        ensures looks { OnOk result
-            (looks.new ≡ ticks (tried_under (option_copied key.entry) (R.content self.now.rows)) looks.old) }
+        requires quiet { Quiet (C.chooses chooser.now) (option_copied key)
+            (R.content self.now.rows) }
+        ensures count { AnswersWith result
+            (chosen_count (C.chooses chooser.now) (all_objects (R.content self.now.rows))) }
+        ensures looks { Tries result
+            (tried_under (option_copied key.entry) (R.content self.now.rows)) looks.old looks.new }
         ensures at_most { looks.new
             ≤ ticks (tried_under (option_copied key.entry) (R.content self.now.rows)) looks.old }
     {
@@ -39,11 +41,11 @@ impl<R: Rows> Store<R> {
 
     /// How many of all objects are chosen.
     #[tactic(auto, using(crate::proofs::QueryLaws::appended))]
-    fn count_all<C: Choose>(&self, chooser: &C, looks: &mut Looks) -> Result<usize, AllocError>
+    fn count_all<C: Choose>(&self, chooser: &C, looks: &mut Steps) -> Result<usize, AllocError>
         requires few { object_count (R.content self.now.rows) < 2 ^ 32 }
-        ensures count { IfOk result (λ count.
-            count ≡ chosen_count (C.chooses chooser.now) (all_objects (R.content self.now.rows))) }
-        ensures looks { OnOk result (looks.new ≡ ticks (object_count (R.content self.now.rows)) looks.old) }
+        ensures count { AnswersWith result
+            (chosen_count (C.chooses chooser.now) (all_objects (R.content self.now.rows))) }
+        ensures looks { Tries result (object_count (R.content self.now.rows)) looks.old looks.new }
         ensures at_most { looks.new ≤ ticks (object_count (R.content self.now.rows)) looks.old }
     {
         let _before = looks.count();
@@ -60,10 +62,10 @@ impl<R: Rows> Store<R> {
         &self,
         chooser: &C,
         objects: &[Term],
-        looks: &mut Looks,
+        looks: &mut Steps,
     ) -> Result<usize, AllocError>
-        ensures count { IfOk result (λ count. count ≡ chosen_count (C.chooses chooser.now) objects.now) }
-        ensures looks { OnOk result (looks.new ≡ ticks (length objects.now) looks.old) }
+        ensures count { AnswersWith result (chosen_count (C.chooses chooser.now) objects.now) }
+        ensures looks { Tries result (length objects.now) looks.old looks.new }
         ensures at_most { looks.new ≤ ticks (length objects.now) looks.old }
     {
         let _before = looks.count();
@@ -79,9 +81,10 @@ impl<R: Rows> Store<R> {
         &self,
         chooser: &C,
         object: &Term,
-        looks: &mut Looks,
+        looks: &mut Steps,
     ) -> Result<usize, AllocError>
-        ensures count { IfOk result (λ count. count ≡ chosen_count (C.chooses chooser.now) (object.now ∷ [])) }
+        ensures count { AnswersWith result
+            (chosen_count (C.chooses chooser.now) (object.now ∷ [])) }
         ensures one { IfOk result (λ count. count ≤ 1) }
         ensures looks { looks.new ≡ tick looks.old }
     {

@@ -1,19 +1,18 @@
 // Answers for objects: of one slot, of all, or of the bound key.
-ghost use Rattle.std.specs.Prelude.{◌≡◌, ◌≤◌, ◌++◌, [], length, map, is_some, IfOk, OnOk, option_copied};
-ghost use Rattle.ets_term.specs.Data.{data_of};
+ghost use Rattle.std.specs.Prelude.{◌≡◌, ◌≤◌, [], length, is_some, option_copied};
 ghost use Rattle.bucket_table.specs.Slots.{HasDistinctKeys, object_count};
 ghost use Rattle.node_list.specs.Ticks.{tick, ticks};
-ghost use Rattle.table_ops.specs.Queries.{answers, also, tried_under};
+ghost use Rattle.table_ops.specs.Queries.{answers, also, tried_under, Gathers, Tries};
 ghost use Rattle.table_ops.specs.Content.{objects_under};
 ghost use Rattle.table_ops.specs.Read.{all_objects};
 ghost use Rattle.table_ops.specs.inside.Marked.{Quiet};
 
 use super::Store;
-use crate::looks::Looks;
 use crate::slots::all_of;
 use crate::trial::Give;
 use bucket_table::Rows;
 use ets_term::Term;
+use node_list::Steps;
 use std::alloc::AllocError;
 
 impl<R: Rows> Store<R> {
@@ -23,14 +22,14 @@ impl<R: Rows> Store<R> {
         asked: &G,
         key: Option<&Term>,
         found: &mut Vec<Term>,
-        looks: &mut Looks,
+        looks: &mut Steps,
     ) -> Result<(), AllocError>
-        requires { Quiet (λ object. is_some (G.gives asked.now object)) (option_copied key) (R.content self.now.rows) }
-        ensures answers { OnOk result
-            (map data_of found.new.items
-            ≡ map data_of found.old.items ++ answers (G.gives asked.now) (all_objects (R.content self.now.rows))) }
-        ensures looks { OnOk result
-            (looks.new ≡ ticks (tried_under (option_copied key.entry) (R.content self.now.rows)) looks.old) }
+        requires { Quiet (λ object. is_some (G.gives asked.now object)) (option_copied key)
+            (R.content self.now.rows) }
+        ensures answers { Gathers result found.old.items found.new.items
+            (answers (G.gives asked.now) (all_objects (R.content self.now.rows))) }
+        ensures looks { Tries result
+            (tried_under (option_copied key.entry) (R.content self.now.rows)) looks.old looks.new }
         ensures at_most { looks.new
             ≤ ticks (tried_under (option_copied key.entry) (R.content self.now.rows)) looks.old }
     {
@@ -58,12 +57,11 @@ impl<R: Rows> Store<R> {
         &self,
         asked: &G,
         found: &mut Vec<Term>,
-        looks: &mut Looks,
+        looks: &mut Steps,
     ) -> Result<(), AllocError>
-        ensures answers { OnOk result
-            (map data_of found.new.items
-            ≡ map data_of found.old.items ++ answers (G.gives asked.now) (all_objects (R.content self.now.rows))) }
-        ensures looks { OnOk result (looks.new ≡ ticks (object_count (R.content self.now.rows)) looks.old) }
+        ensures answers { Gathers result found.old.items found.new.items
+            (answers (G.gives asked.now) (all_objects (R.content self.now.rows))) }
+        ensures looks { Tries result (object_count (R.content self.now.rows)) looks.old looks.new }
         ensures at_most { looks.new ≤ ticks (object_count (R.content self.now.rows)) looks.old }
     {
         let _before = looks.count();
@@ -80,11 +78,11 @@ impl<R: Rows> Store<R> {
         asked: &G,
         objects: &[Term],
         found: &mut Vec<Term>,
-        looks: &mut Looks,
+        looks: &mut Steps,
     ) -> Result<(), AllocError>
-        ensures answers { OnOk result
-            (map data_of found.new.items ≡ map data_of found.old.items ++ answers (G.gives asked.now) objects.now) }
-        ensures looks { OnOk result (looks.new ≡ ticks (length objects.now) looks.old) }
+        ensures answers { Gathers result found.old.items found.new.items
+            (answers (G.gives asked.now) objects.now) }
+        ensures looks { Tries result (length objects.now) looks.old looks.new }
         ensures at_most { looks.new ≤ ticks (length objects.now) looks.old }
     {
         let _before = looks.count();
@@ -100,10 +98,10 @@ impl<R: Rows> Store<R> {
         asked: &G,
         object: &Term,
         found: &mut Vec<Term>,
-        looks: &mut Looks,
+        looks: &mut Steps,
     ) -> Result<(), AllocError>
-        ensures answers { OnOk result
-            (map data_of found.new.items ≡ map data_of found.old.items ++ also (G.gives asked.now object.now) []) }
+        ensures answers { Gathers result found.old.items found.new.items
+            (also (G.gives asked.now object.now) []) }
         ensures looks { looks.new ≡ tick looks.old }
     {
         if let Some(answer) = asked.give(self.alloc, object, looks)? {

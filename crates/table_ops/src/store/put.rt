@@ -4,7 +4,7 @@ ghost use Rattle.bucket_table.specs.Entries.{IsEntry};
 ghost use Rattle.table_ops.specs.declared.kind.Kind.TheVariants.{Set, Bag, DuplicateBag};
 ghost use Rattle.table_ops.specs.Content.{IsKept, objects_under};
 ghost use Rattle.table_ops.specs.inside.Store.{Keeps};
-ghost use Rattle.table_ops.specs.inside.Undo.{AtKey, PutsOne};
+ghost use Rattle.table_ops.specs.inside.Undo.{AtKey, PutsOne, PutsAt};
 
 use super::Store;
 use crate::kind::Kind;
@@ -24,11 +24,11 @@ impl<R: Rows> Store<R> {
         key: &Term,
         object: &Term,
     ) -> Result<Undo, Refusal>
-        requires entry { IsEntry (R.content self.old.rows) (R.number self.old.rows) (R.key_at self.old.rows)
-            key.now entry }
+        requires entry { IsEntry (R.content self.old.rows) (R.number self.old.rows)
+            (R.key_at self.old.rows) key.now entry }
         requires kept { IsKept self.old.kind (objects_under (R.content self.old.rows) key.now) }
-        ensures slots { PutsOne room self.old.kind key.now object.now (R.content self.old.rows) result
-            (R.content self.new.rows) }
+        ensures slots { PutsOne room self.old.kind key.now object.now
+            (R.content self.old.rows) result (R.content self.new.rows) }
         ensures keeps { Keeps R.readiness self.old self.new }
     {
         match entry {
@@ -45,8 +45,8 @@ impl<R: Rows> Store<R> {
     fn put_new(&mut self, room: bool, hash: u32, key: &Term, object: &Term) -> Result<Undo, Refusal>
         requires new { objects_of (R.content self.old.rows) key.now ≡ None }
         requires hash { hash ≡ R.number self.old.rows key.now }
-        ensures slots { PutsOne room self.old.kind key.now object.now (R.content self.old.rows) result
-            (R.content self.new.rows) }
+        ensures slots { PutsOne room self.old.kind key.now object.now
+            (R.content self.old.rows) result (R.content self.new.rows) }
         ensures keeps { Keeps R.readiness self.old self.new }
     {
         if !room {
@@ -63,8 +63,8 @@ impl<R: Rows> Store<R> {
     fn put_in_set(&mut self, room: bool, place: Place, object: &Term) -> Result<Undo, Refusal>
         requires { AtKey (R.key_at self.old.rows place) (λ key.
             IsKept Set (objects_under (R.content self.old.rows) key)) }
-        ensures slots { AtKey (R.key_at self.old.rows place) (λ key.
-            PutsOne room Set key object.now (R.content self.old.rows) result (R.content self.new.rows)) }
+        ensures slots { PutsAt room Set (R.key_at self.old.rows place) object.now
+            (R.content self.old.rows) result (R.content self.new.rows) }
         ensures keeps { Keeps R.readiness self.old self.new }
     {
         if !fits(room, self.rows.objects_at(place)) {
@@ -78,8 +78,8 @@ impl<R: Rows> Store<R> {
     /// An object of a bag: one that is there keeps its place.
     fn put_in_bag(&mut self, room: bool, place: Place, object: &Term) -> Result<Undo, Refusal>
         requires { IsSome (R.key_at self.old.rows place) }
-        ensures slots { AtKey (R.key_at self.old.rows place) (λ key.
-            PutsOne room Bag key object.now (R.content self.old.rows) result (R.content self.new.rows)) }
+        ensures slots { PutsAt room Bag (R.key_at self.old.rows place) object.now
+            (R.content self.old.rows) result (R.content self.new.rows) }
         ensures keeps { Keeps R.readiness self.old self.new }
     {
         if has(self.rows.objects_at(place), object) {
@@ -91,8 +91,8 @@ impl<R: Rows> Store<R> {
     /// One object more, behind those of the slot.
     fn put_last(&mut self, room: bool, place: Place, object: &Term) -> Result<Undo, Refusal>
         requires { IsSome (R.key_at self.old.rows place) }
-        ensures slots { AtKey (R.key_at self.old.rows place) (λ key.
-            PutsOne room DuplicateBag key object.now (R.content self.old.rows) result (R.content self.new.rows)) }
+        ensures slots { PutsAt room DuplicateBag (R.key_at self.old.rows place) object.now
+            (R.content self.old.rows) result (R.content self.new.rows) }
         ensures keeps { Keeps R.readiness self.old self.new }
     {
         if !room {

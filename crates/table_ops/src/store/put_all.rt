@@ -19,8 +19,8 @@ impl<R: Rows> Store<R> {
         requires objects { list_all (is_object self.old.keypos) objects.now ≡ true }
         requires holds { Holds R.content self.old before }
         requires shallow { list_any is_too_deep objects.now ≡ false }
-        ensures slots { PutsEach self.old.limit self.old.kind self.old.keypos objects.now (R.content self.old.rows)
-            result (R.content self.new.rows) }
+        ensures slots { PutsEach self.old.limit self.old.kind self.old.keypos objects.now
+            (R.content self.old.rows) result (R.content self.new.rows) }
         ensures keeps { Keeps R.readiness self.old self.new }
     {
         match objects {
@@ -46,8 +46,8 @@ impl<R: Rows> Store<R> {
         requires objects { list_all (is_object self.old.keypos) objects.now ≡ true }
         requires holds { Holds R.content self.old before }
         requires shallow { list_any is_too_deep objects.now ≡ false }
-        ensures slots { PutsEach self.old.limit self.old.kind self.old.keypos objects.now (R.content self.old.rows)
-            result (R.content self.new.rows) }
+        ensures slots { PutsEach self.old.limit self.old.kind self.old.keypos objects.now
+            (R.content self.old.rows) result (R.content self.new.rows) }
         ensures keeps { Keeps R.readiness self.old self.new }
     {
         let mut count = before;
@@ -71,8 +71,8 @@ impl<R: Rows> Store<R> {
     fn put_object(&mut self, room: bool, object: &Term) -> Result<Undo, Refusal>
         requires object { is_object self.old.keypos object.now ≡ true }
         requires slots { AreSlots self.old.kind self.old.keypos (R.content self.old.rows) }
-        ensures slots { PutsObject room self.old.kind self.old.keypos object.now (R.content self.old.rows) result
-            (R.content self.new.rows) }
+        ensures slots { PutsObject room self.old.kind self.old.keypos object.now
+            (R.content self.old.rows) result (R.content self.new.rows) }
         ensures keeps { Keeps R.readiness self.old self.new }
     {
         let Some(key) = key_of(self.keypos, object) else {

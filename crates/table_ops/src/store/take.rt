@@ -1,7 +1,7 @@
-ghost use Rattle.std.specs.Prelude.{◌≡◌, ◌||◌, [], Some, None, IsSome, MatchOption};
-ghost use Rattle.bucket_table.specs.Slots.{HasDistinctKeys, has_objects, objects_of};
+ghost use Rattle.std.specs.Prelude.{◌≡◌, ◌||◌, [], Some, IsSome};
+ghost use Rattle.bucket_table.specs.Slots.{HasDistinctKeys, has_objects};
 ghost use Rattle.bucket_table.specs.Entries.{objects_in};
-ghost use Rattle.table_ops.specs.inside.Store.{Keeps};
+ghost use Rattle.table_ops.specs.inside.Store.{Keeps, IsPlace};
 ghost use Rattle.table_ops.specs.inside.Thinned.{thinned, Thins};
 ghost use Rattle.table_ops.specs.inside.Undo.{AtKey};
 
@@ -13,8 +13,7 @@ use node_list::Chain;
 impl<R: Rows> Store<R> {
     /// The place of a key's slot. No key has two.
     pub(crate) fn find(&self, key: &Term) -> Option<Place>
-        ensures place { MatchOption result (objects_of (R.content self.now.rows) key.now ≡ None) (λ place.
-            (R.key_at self.now.rows place ≡ Some key.now) × IsSome (objects_of (R.content self.now.rows) key.now)) }
+        ensures place { IsPlace (R.content self.now.rows) (R.key_at self.now.rows) key.now result }
         ensures distinct { HasDistinctKeys (R.content self.now.rows) }
     {
         self.rows.known();
@@ -24,7 +23,8 @@ impl<R: Rows> Store<R> {
     /// Takes the objects of a slot. Where slots are held the slot stays, and so does one that had no objects.
     pub(crate) fn take_at(&mut self, hold: bool, place: Place) -> Chain
         requires { IsSome (R.key_at self.old.rows place) }
-        ensures objects { objects_in (R.content self.old.rows) (R.key_at self.old.rows place) ≡ Some result }
+        ensures objects { objects_in (R.content self.old.rows) (R.key_at self.old.rows place)
+            ≡ Some result }
         ensures slots { AtKey (R.key_at self.old.rows place) (λ key.
             R.content self.new.rows ≡ thinned hold (R.content self.old.rows) key result []) }
         ensures keeps { Keeps R.readiness self.old self.new }

@@ -1,11 +1,9 @@
-ghost use Rattle.std.specs.Prelude.{◌≡◌, ◌&&◌, not, nat_lt, ◌==◌, [], ◌∷◌, true, Some, Ok, OnOk, OnErr, MatchOption, IsSome, option_copied};
+ghost use Rattle.std.specs.Prelude.{◌≡◌, ◌&&◌, [], ◌∷◌, true, Some, Ok, OnOk, OnErr, option_copied};
 ghost use Rattle.std.specs.List.{list_all};
-ghost use Rattle.bucket_table.specs.Slots.{objects_of, has_objects};
-ghost use Rattle.bucket_table.specs.Entries.{IsEntry, HasOne, objects_in};
-ghost use Rattle.table_ops.specs.Content.{objects_under};
+ghost use Rattle.bucket_table.specs.Entries.{IsEntry, HasOne};
 ghost use Rattle.table_ops.specs.Put.{Writes};
 ghost use Rattle.table_ops.specs.Update.{is_open, ops_open, specs_open, is_good};
-ghost use Rattle.table_ops.specs.inside.Store.{Keeps};
+ghost use Rattle.table_ops.specs.inside.Store.{Keeps, IsFilledPlace};
 ghost use Rattle.table_ops.specs.inside.Updated.{CountsAt, WritesAt, StartsAt};
 
 use super::Store;
@@ -65,10 +63,9 @@ impl<R: Rows> Store<R> {
 
     /// The place of a key's slot, if it has objects.
     pub(crate) fn filled(&self, key: &Term, entry: Entry) -> Option<Place>
-        requires { IsEntry (R.content self.now.rows) (R.number self.now.rows) (R.key_at self.now.rows) key.now entry }
-        ensures { MatchOption result (objects_under (R.content self.now.rows) key.now ≡ []) (λ place.
-            (R.key_at self.now.rows place ≡ Some key.now)
-            × has_objects (objects_under (R.content self.now.rows) key.now) ≡ true) }
+        requires { IsEntry (R.content self.now.rows) (R.number self.now.rows)
+            (R.key_at self.now.rows) key.now entry }
+        ensures { IsFilledPlace (R.content self.now.rows) (R.key_at self.now.rows) key.now result }
     {
         let Entry::Occupied(place) = entry else {
             return None;
@@ -82,8 +79,8 @@ impl<R: Rows> Store<R> {
     /// Updates the counters of the one object at a place.
     pub(crate) fn count_at(&mut self, place: Place, ops: &Ops) -> Result<Term, CounterFault>
         requires { HasOne (R.content self.old.rows) (R.key_at self.old.rows place) }
-        ensures slots { CountsAt ops.now (R.key_at self.old.rows place) (R.content self.old.rows) result
-            (R.content self.new.rows) }
+        ensures slots { CountsAt ops.now (R.key_at self.old.rows place)
+            (R.content self.old.rows) result (R.content self.new.rows) }
         ensures keeps { Keeps R.readiness self.old self.new }
     {
         let mut object = self.rows.replace_one_at(place, Term::Int(0));
@@ -95,8 +92,8 @@ impl<R: Rows> Store<R> {
     /// Writes elements of the one object at a place.
     pub(crate) fn write_at(&mut self, place: Place, specs: ElementSpecs) -> Result<(), CounterFault>
         requires { HasOne (R.content self.old.rows) (R.key_at self.old.rows place) }
-        ensures slots { WritesAt specs (R.key_at self.old.rows place) (R.content self.old.rows) result
-            (R.content self.new.rows) }
+        ensures slots { WritesAt specs (R.key_at self.old.rows place)
+            (R.content self.old.rows) result (R.content self.new.rows) }
         ensures keeps { Keeps R.readiness self.old self.new }
     {
         let mut object = self.rows.replace_one_at(place, Term::Int(0));
@@ -113,9 +110,10 @@ impl<R: Rows> Store<R> {
         key: &Term,
         object: Term,
     ) -> Result<(), Refusal>
-        requires { IsEntry (R.content self.old.rows) (R.number self.old.rows) (R.key_at self.old.rows) key.now entry }
-        ensures slots { StartsAt room key.now (Ok (object, tt)) (R.content self.old.rows) result
-            (R.content self.new.rows) }
+        requires { IsEntry (R.content self.old.rows) (R.number self.old.rows)
+            (R.key_at self.old.rows) key.now entry }
+        ensures slots { StartsAt room key.now (Ok (object, tt))
+            (R.content self.old.rows) result (R.content self.new.rows) }
         ensures keeps { Keeps R.readiness self.old self.new }
     {
         if !room {
@@ -127,8 +125,10 @@ impl<R: Rows> Store<R> {
 
     /// Stores the first object of a key, in its slot or in a new one.
     fn store_first(&mut self, entry: Entry, key: &Term, object: Term) -> Result<(), AllocError>
-        requires { IsEntry (R.content self.old.rows) (R.number self.old.rows) (R.key_at self.old.rows) key.now entry }
-        ensures ok { OnOk result (Writes (R.content self.old.rows) key.now (object ∷ []) (R.content self.new.rows)) }
+        requires { IsEntry (R.content self.old.rows) (R.number self.old.rows)
+            (R.key_at self.old.rows) key.now entry }
+        ensures ok { OnOk result
+            (Writes (R.content self.old.rows) key.now (object ∷ []) (R.content self.new.rows)) }
         ensures err { OnErr result (R.content self.new.rows ≡ R.content self.old.rows) }
         ensures keeps { Keeps R.readiness self.old self.new }
     {

@@ -15,7 +15,8 @@ impl<R: Rows> Table<R> {
     /// where one is no object; `SystemLimit` where one is too deep, or where the table would have more objects than
     /// it may.
     pub fn insert(&mut self, objects: &[Term]) -> Result<(), Refusal>
-        ensures content { Comes (Inserts objects.now self.old.content) self.old.content result self.new.content }
+        ensures content { Comes (Inserts objects.now self.old.content)
+            self.old.content result self.new.content }
         ensures buckets { self.new.buckets ≡ self.old.buckets }
     {
         if !are_objects(self.store.keypos, objects) {
@@ -27,7 +28,8 @@ impl<R: Rows> Table<R> {
     /// Inserts objects if none of their keys has an object; answers whether it did (stdlib manual, ets:insert_new/2).
     /// It refuses what `insert` does, a limit only where it would insert.
     pub fn insert_new(&mut self, objects: &[Term]) -> Result<bool, Refusal>
-        ensures content { Comes (InsertsNew objects.now self.old.content) self.old.content result self.new.content }
+        ensures content { Comes (InsertsNew objects.now self.old.content)
+            self.old.content result self.new.content }
         ensures buckets { self.new.buckets ≡ self.old.buckets }
     {
         match objects {
@@ -60,7 +62,8 @@ impl<R: Rows> Table<R> {
 
     /// `insert_new` of a list.
     fn insert_all_new(&mut self, list: &[Term]) -> Result<bool, Refusal>
-        ensures content { Comes (InsertsNew list.now self.old.content) self.old.content result self.new.content }
+        ensures content { Comes (InsertsNew list.now self.old.content)
+            self.old.content result self.new.content }
         ensures buckets { self.new.buckets ≡ self.old.buckets }
     {
         if !are_objects(self.store.keypos, list) {
@@ -84,7 +87,8 @@ impl<R: Rows> Table<R> {
 
     /// Whether the key of one of these objects has objects.
     fn any_taken(&self, objects: &[Term]) -> bool
-        ensures { result ≡ list_any (is_taken self.now.content.keypos self.now.content.slots) objects.now }
+        ensures { result
+            ≡ list_any (is_taken self.now.content.keypos self.now.content.slots) objects.now }
     {
         objects.iter().any(|object| self.is_taken(object))
     }
@@ -92,7 +96,8 @@ impl<R: Rows> Table<R> {
     /// Stores objects one after another, or none of them; answers `done` once they are stored.
     fn store<X: Copy>(&mut self, objects: &[Term], done: X) -> Result<X, Refusal>
         requires { list_all (is_object self.old.content.keypos) objects.now ≡ true }
-        ensures content { Comes (Stores done objects.now self.old.content) self.old.content result self.new.content }
+        ensures content { Comes (Stores done objects.now self.old.content)
+            self.old.content result self.new.content }
         ensures buckets { self.new.buckets ≡ self.old.buckets }
     {
         if any_too_deep(objects) {

@@ -1,6 +1,7 @@
-ghost use Rattle.std.specs.Prelude.{◌≡◌, ◌≤◌, ◌+◌, ◌++◌, length, vec_len, vec_capacity, IfOk, OnOk};
+ghost use Rattle.std.specs.Prelude.{◌≡◌, ◌≤◌, ◌+◌, ◌++◌, length, vec_len, vec_capacity, OnOk};
 ghost use Rattle.table_ops.specs.declared.kind.Kind.TheVariants.{Set, Bag};
 ghost use Rattle.table_ops.specs.Content.{objects_under, is_present};
+ghost use Rattle.table_ops.specs.Outcomes.{AnswersWith};
 ghost use Rattle.table_ops.specs.Read.{all_objects, element_told, element_or};
 ghost use Rattle.table_ops.specs.Refusals.{Tells};
 
@@ -30,8 +31,8 @@ impl<R: Rows> Table<R> {
     /// The element at a position of a key's object, or in a bag the list of these of all its objects, copied. `Badarg`
     /// where the key has no object, or one of them no such element (stdlib manual, ets:lookup_element/3).
     pub fn lookup_element(&self, key: &Term, position: Position) -> Result<Term, Refusal>
-        ensures { Tells (element_told self.now.content.kind position (objects_under self.now.content.slots key.now))
-            result }
+        ensures { Tells (element_told self.now.content.kind position
+            (objects_under self.now.content.slots key.now)) result }
     {
         told(
             self.store.alloc,
@@ -49,9 +50,8 @@ impl<R: Rows> Table<R> {
         position: Position,
         default: &Term,
     ) -> Result<Term, Refusal>
-        ensures { Tells
-            (element_or self.now.content.kind position default.now (objects_under self.now.content.slots key.now))
-            result }
+        ensures { Tells (element_or self.now.content.kind position default.now
+            (objects_under self.now.content.slots key.now)) result }
     {
         let objects = self.lookup(key);
         if !objects.is_empty() {
@@ -65,7 +65,7 @@ impl<R: Rows> Table<R> {
 
     /// All objects, copied, in the order of the slots (stdlib manual, ets:tab2list/1).
     pub fn objects(&self) -> Result<Items<Term>, AllocError>
-        ensures { IfOk result (λ objects. objects ≡ all_objects self.now.content.slots) }
+        ensures { AnswersWith result (all_objects self.now.content.slots) }
     {
         let mut copies = Vec::with_capacity(self.store.alloc, self.count)?;
         for (_, objects) in all_of(&self.store.rows) {

@@ -1,27 +1,26 @@
-ghost use Rattle.std.specs.Prelude.{◌≡◌, ◌≤◌, ◌<◌, ◌^◌, map, filter, is_some, IfOk, OnOk, OnErr, option_copied};
-ghost use Rattle.ets_term.specs.Data.{data_of};
+ghost use Rattle.std.specs.Prelude.{◌≡◌, ◌≤◌, ◌<◌, ◌^◌, is_some, IfOk, OnOk, OnErr, option_copied};
 ghost use Rattle.node_list.specs.Ticks.{ticks};
-ghost use Rattle.table_ops.specs.Drop.{without_those};
-ghost use Rattle.table_ops.specs.Queries.{bound_in, matches, given_by, is_chosen, answers_in, chosen_in, tried_under, tried_pattern, tried_spec};
-ghost use Rattle.table_ops.specs.Read.{all_objects};
+ghost use Rattle.table_ops.specs.Drop.{without_chosen};
+ghost use Rattle.table_ops.specs.Outcomes.{AnswersWith};
+ghost use Rattle.table_ops.specs.Queries.{bound_in, matches, given_by, is_chosen, answers_in, matching_in, chosen_in, tried_under, tried_pattern, tried_spec, AnswersTrees, Tries};
 ghost use Rattle.table_ops.specs.inside.Marked.{OnlyUnder};
 
 use super::Table;
-use crate::looks::Looks;
 use crate::marks::Marks;
 use crate::trial::{Choose, Give, Matching};
 use bucket_table::Rows;
 use ets_term::{Items, Position, Term};
 use match_spec::{Pattern, Spec};
+use node_list::Steps;
 use std::alloc::AllocError;
 
 impl<R: Rows> Table<R> {
     /// For each object that matches, in the order of the slots, the list of what is bound, in order of the variables'
     /// numbers (stdlib manual, ets:match/2).
     pub fn matches(&self, pattern: &Pattern) -> Result<Items<Term>, AllocError>
-        ensures { IfOk result (λ found. map data_of found ≡ answers_in (bound_in pattern.now) self.now.content) }
+        ensures { AnswersTrees result (answers_in (bound_in pattern.now) self.now.content) }
     {
-        let mut looks = Looks::new();
+        let mut looks = Steps::new();
         self.matches_counted(pattern, &mut looks)
     }
 
@@ -29,11 +28,12 @@ impl<R: Rows> Table<R> {
     pub fn matches_counted(
         &self,
         pattern: &Pattern,
-        looks: &mut Looks,
+        looks: &mut Steps,
     ) -> Result<Items<Term>, AllocError>
-        ensures answers { IfOk result (λ found.
-            map data_of found ≡ answers_in (bound_in pattern.now) self.now.content) }
-        ensures looks { OnOk result (looks.new ≡ ticks (tried_pattern pattern.now self.now.content) looks.old) }
+        ensures answers { AnswersTrees result
+            (answers_in (bound_in pattern.now) self.now.content) }
+        ensures looks { Tries result
+            (tried_pattern pattern.now self.now.content) looks.old looks.new }
         ensures at_most { looks.new ≤ ticks (tried_pattern pattern.now self.now.content) looks.old }
     {
         let key = pattern.bound_key(self.store.keypos as Position);
@@ -42,9 +42,9 @@ impl<R: Rows> Table<R> {
 
     /// The objects that match, copied, in the order of the slots (stdlib manual, ets:match_object/2).
     pub fn match_objects(&self, pattern: &Pattern) -> Result<Items<Term>, AllocError>
-        ensures { IfOk result (λ found. found ≡ filter (matches pattern.now) (all_objects self.now.content.slots)) }
+        ensures { AnswersWith result (matching_in pattern.now self.now.content) }
     {
-        let mut looks = Looks::new();
+        let mut looks = Steps::new();
         self.match_objects_counted(pattern, &mut looks)
     }
 
@@ -52,11 +52,11 @@ impl<R: Rows> Table<R> {
     pub fn match_objects_counted(
         &self,
         pattern: &Pattern,
-        looks: &mut Looks,
+        looks: &mut Steps,
     ) -> Result<Items<Term>, AllocError>
-        ensures objects { IfOk result (λ found.
-            found ≡ filter (matches pattern.now) (all_objects self.now.content.slots)) }
-        ensures looks { OnOk result (looks.new ≡ ticks (tried_pattern pattern.now self.now.content) looks.old) }
+        ensures objects { AnswersWith result (matching_in pattern.now self.now.content) }
+        ensures looks { Tries result
+            (tried_pattern pattern.now self.now.content) looks.old looks.new }
         ensures at_most { looks.new ≤ ticks (tried_pattern pattern.now self.now.content) looks.old }
     {
         let matching = Matching { pattern };
@@ -67,16 +67,16 @@ impl<R: Rows> Table<R> {
     /// What the specification gives, for each object for which it gives something, in the order of the slots (stdlib
     /// manual, ets:select/2).
     pub fn select(&self, spec: &Spec) -> Result<Items<Term>, AllocError>
-        ensures { IfOk result (λ found. map data_of found ≡ answers_in (given_by spec.now) self.now.content) }
+        ensures { AnswersTrees result (answers_in (given_by spec.now) self.now.content) }
     {
-        let mut looks = Looks::new();
+        let mut looks = Steps::new();
         self.select_counted(spec, &mut looks)
     }
 
     /// `select`, counting the objects that are tried: those of the key, where all clauses bind the same one, else all.
-    pub fn select_counted(&self, spec: &Spec, looks: &mut Looks) -> Result<Items<Term>, AllocError>
-        ensures answers { IfOk result (λ found. map data_of found ≡ answers_in (given_by spec.now) self.now.content) }
-        ensures looks { OnOk result (looks.new ≡ ticks (tried_spec spec.now self.now.content) looks.old) }
+    pub fn select_counted(&self, spec: &Spec, looks: &mut Steps) -> Result<Items<Term>, AllocError>
+        ensures answers { AnswersTrees result (answers_in (given_by spec.now) self.now.content) }
+        ensures looks { Tries result (tried_spec spec.now self.now.content) looks.old looks.new }
         ensures at_most { looks.new ≤ ticks (tried_spec spec.now self.now.content) looks.old }
     {
         self.found(spec, spec.bound_key(self.store.keypos as Position), looks)
@@ -85,18 +85,18 @@ impl<R: Rows> Table<R> {
     /// How many objects there are for which the specification gives `true`, fewer than 4,294,967,296 (stdlib manual,
     /// ets:select_count/2).
     pub fn select_count(&self, spec: &Spec) -> Result<usize, AllocError>
-        ensures count { IfOk result (λ count. count ≡ chosen_in (is_chosen spec.now) self.now.content) }
+        ensures count { AnswersWith result (chosen_in (is_chosen spec.now) self.now.content) }
         ensures few { IfOk result (λ count. count < 2 ^ 32) }
     {
-        let mut looks = Looks::new();
+        let mut looks = Steps::new();
         self.select_count_counted(spec, &mut looks)
     }
 
     /// `select_count`, counting the objects that are tried, as `select_counted` does.
-    pub fn select_count_counted(&self, spec: &Spec, looks: &mut Looks) -> Result<usize, AllocError>
-        ensures count { IfOk result (λ count. count ≡ chosen_in (is_chosen spec.now) self.now.content) }
+    pub fn select_count_counted(&self, spec: &Spec, looks: &mut Steps) -> Result<usize, AllocError>
+        ensures count { AnswersWith result (chosen_in (is_chosen spec.now) self.now.content) }
         ensures few { IfOk result (λ count. count < 2 ^ 32) }
-        ensures looks { OnOk result (looks.new ≡ ticks (tried_spec spec.now self.now.content) looks.old) }
+        ensures looks { Tries result (tried_spec spec.now self.now.content) looks.old looks.new }
         ensures at_most { looks.new ≤ ticks (tried_spec spec.now self.now.content) looks.old }
     {
         self.chosen(spec, spec.bound_key(self.store.keypos as Position), looks)
@@ -105,11 +105,11 @@ impl<R: Rows> Table<R> {
     /// Deletes the objects that match (stdlib manual, ets:match_delete/2). Want of memory changes nothing.
     pub fn match_delete(&mut self, pattern: &Pattern, hold: bool) -> Result<(), AllocError>
         ensures content { OnOk result
-            (self.new.content ≡ without_those hold (λ own. matches pattern.now) self.old.content) }
+            (self.new.content ≡ without_chosen hold (matches pattern.now) self.old.content) }
         ensures err { OnErr result (self.new.content ≡ self.old.content) }
         ensures buckets { self.new.buckets ≡ self.old.buckets }
     {
-        let mut looks = Looks::new();
+        let mut looks = Steps::new();
         self.match_delete_counted(pattern, hold, &mut looks)
     }
 
@@ -118,12 +118,13 @@ impl<R: Rows> Table<R> {
         &mut self,
         pattern: &Pattern,
         hold: bool,
-        looks: &mut Looks,
+        looks: &mut Steps,
     ) -> Result<(), AllocError>
         ensures content { OnOk result
-            (self.new.content ≡ without_those hold (λ own. matches pattern.now) self.old.content) }
+            (self.new.content ≡ without_chosen hold (matches pattern.now) self.old.content) }
         ensures err { OnErr result (self.new.content ≡ self.old.content) }
-        ensures looks { OnOk result (looks.new ≡ ticks (tried_pattern pattern.now self.old.content) looks.old) }
+        ensures looks { Tries result
+            (tried_pattern pattern.now self.old.content) looks.old looks.new }
         ensures at_most { looks.new ≤ ticks (tried_pattern pattern.now self.old.content) looks.old }
         ensures buckets { self.new.buckets ≡ self.old.buckets }
     {
@@ -135,14 +136,14 @@ impl<R: Rows> Table<R> {
     /// Deletes the objects for which the specification gives `true`; answers how many (stdlib manual,
     /// ets:select_delete/2). Want of memory changes nothing.
     pub fn select_delete(&mut self, spec: &Spec, hold: bool) -> Result<usize, AllocError>
-        ensures count { IfOk result (λ count. count ≡ chosen_in (is_chosen spec.now) self.old.content) }
+        ensures count { AnswersWith result (chosen_in (is_chosen spec.now) self.old.content) }
         ensures few { IfOk result (λ count. count < 2 ^ 32) }
         ensures content { OnOk result
-            (self.new.content ≡ without_those hold (λ own. is_chosen spec.now) self.old.content) }
+            (self.new.content ≡ without_chosen hold (is_chosen spec.now) self.old.content) }
         ensures err { OnErr result (self.new.content ≡ self.old.content) }
         ensures buckets { self.new.buckets ≡ self.old.buckets }
     {
-        let mut looks = Looks::new();
+        let mut looks = Steps::new();
         self.select_delete_counted(spec, hold, &mut looks)
     }
 
@@ -151,14 +152,14 @@ impl<R: Rows> Table<R> {
         &mut self,
         spec: &Spec,
         hold: bool,
-        looks: &mut Looks,
+        looks: &mut Steps,
     ) -> Result<usize, AllocError>
-        ensures count { IfOk result (λ count. count ≡ chosen_in (is_chosen spec.now) self.old.content) }
+        ensures count { AnswersWith result (chosen_in (is_chosen spec.now) self.old.content) }
         ensures few { IfOk result (λ count. count < 2 ^ 32) }
         ensures content { OnOk result
-            (self.new.content ≡ without_those hold (λ own. is_chosen spec.now) self.old.content) }
+            (self.new.content ≡ without_chosen hold (is_chosen spec.now) self.old.content) }
         ensures err { OnErr result (self.new.content ≡ self.old.content) }
-        ensures looks { OnOk result (looks.new ≡ ticks (tried_spec spec.now self.old.content) looks.old) }
+        ensures looks { Tries result (tried_spec spec.now self.old.content) looks.old looks.new }
         ensures at_most { looks.new ≤ ticks (tried_spec spec.now self.old.content) looks.old }
         ensures buckets { self.new.buckets ≡ self.old.buckets }
     {
@@ -171,14 +172,15 @@ impl<R: Rows> Table<R> {
         &self,
         asked: &G,
         key: Option<&Term>,
-        looks: &mut Looks,
+        looks: &mut Steps,
     ) -> Result<Items<Term>, AllocError>
         requires { OnlyUnder self.now.content.keypos (option_copied key) (λ object.
             is_some (G.gives asked.now object)) }
-        ensures answers { IfOk result (λ found. map data_of found ≡ answers_in (G.gives asked.now) self.now.content) }
-        ensures looks { OnOk result
-            (looks.new ≡ ticks (tried_under (option_copied key.entry) self.now.content.slots) looks.old) }
-        ensures at_most { looks.new ≤ ticks (tried_under (option_copied key.entry) self.now.content.slots) looks.old }
+        ensures answers { AnswersTrees result (answers_in (G.gives asked.now) self.now.content) }
+        ensures looks { Tries result
+            (tried_under (option_copied key.entry) self.now.content.slots) looks.old looks.new }
+        ensures at_most { looks.new
+            ≤ ticks (tried_under (option_copied key.entry) self.now.content.slots) looks.old }
     {
         let mut found = Vec::new(self.store.alloc);
         self.store.gather_asked(asked, key, &mut found, looks)?;
@@ -190,14 +192,15 @@ impl<R: Rows> Table<R> {
         &self,
         chooser: &C,
         key: Option<&Term>,
-        looks: &mut Looks,
+        looks: &mut Steps,
     ) -> Result<usize, AllocError>
         requires { OnlyUnder self.now.content.keypos (option_copied key) (C.chooses chooser.now) }
-        ensures count { IfOk result (λ count. count ≡ chosen_in (C.chooses chooser.now) self.now.content) }
+        ensures count { AnswersWith result (chosen_in (C.chooses chooser.now) self.now.content) }
         ensures few { IfOk result (λ count. count < 2 ^ 32) }
-        ensures looks { OnOk result
-            (looks.new ≡ ticks (tried_under (option_copied key.entry) self.now.content.slots) looks.old) }
-        ensures at_most { looks.new ≤ ticks (tried_under (option_copied key.entry) self.now.content.slots) looks.old }
+        ensures looks { Tries result
+            (tried_under (option_copied key.entry) self.now.content.slots) looks.old looks.new }
+        ensures at_most { looks.new
+            ≤ ticks (tried_under (option_copied key.entry) self.now.content.slots) looks.old }
     {
         self.store.count_asked(chooser, key, looks)
     }
@@ -209,17 +212,18 @@ impl<R: Rows> Table<R> {
         chooser: &C,
         key: Option<&Term>,
         hold: bool,
-        looks: &mut Looks,
+        looks: &mut Steps,
     ) -> Result<usize, AllocError>
         requires { OnlyUnder self.old.content.keypos (option_copied key) (C.chooses chooser.now) }
-        ensures count { IfOk result (λ count. count ≡ chosen_in (C.chooses chooser.now) self.old.content) }
+        ensures count { AnswersWith result (chosen_in (C.chooses chooser.now) self.old.content) }
         ensures few { IfOk result (λ count. count < 2 ^ 32) }
         ensures content { OnOk result
-            (self.new.content ≡ without_those hold (λ own. C.chooses chooser.now) self.old.content) }
+            (self.new.content ≡ without_chosen hold (C.chooses chooser.now) self.old.content) }
         ensures err { OnErr result (self.new.content ≡ self.old.content) }
-        ensures looks { OnOk result
-            (looks.new ≡ ticks (tried_under (option_copied key.entry) self.old.content.slots) looks.old) }
-        ensures at_most { looks.new ≤ ticks (tried_under (option_copied key.entry) self.old.content.slots) looks.old }
+        ensures looks { Tries result
+            (tried_under (option_copied key.entry) self.old.content.slots) looks.old looks.new }
+        ensures at_most { looks.new
+            ≤ ticks (tried_under (option_copied key.entry) self.old.content.slots) looks.old }
         ensures buckets { self.new.buckets ≡ self.old.buckets }
     {
         self.store.rows.known();

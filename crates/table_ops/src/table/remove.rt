@@ -1,7 +1,7 @@
-ghost use Rattle.std.specs.Prelude.{◌≡◌, IfOk, OnOk, OnErr};
-ghost use Rattle.bucket_table.specs.Slots.{purged};
+ghost use Rattle.std.specs.Prelude.{◌≡◌, OnOk, OnErr};
 ghost use Rattle.table_ops.specs.Content.{objects_under};
-ghost use Rattle.table_ops.specs.Drop.{without_those, of_key, each, DeletesObject};
+ghost use Rattle.table_ops.specs.Drop.{without_those, without_held, of_key, each, DeletesObject};
+ghost use Rattle.table_ops.specs.Outcomes.{AnswersWith};
 
 use super::Table;
 use crate::object::key_of;
@@ -25,8 +25,9 @@ impl<R: Rows> Table<R> {
 
     /// Takes the objects of a key out, oldest first (stdlib manual, ets:take/2).
     pub fn take(&mut self, key: &Term, hold: bool) -> Result<Items<Term>, AllocError>
-        ensures taken { IfOk result (λ objects. objects ≡ objects_under self.old.content.slots key.now) }
-        ensures content { OnOk result (self.new.content ≡ without_those hold (of_key key.now) self.old.content) }
+        ensures taken { AnswersWith result (objects_under self.old.content.slots key.now) }
+        ensures content { OnOk result
+            (self.new.content ≡ without_those hold (of_key key.now) self.old.content) }
         ensures err { OnErr result (self.new.content ≡ self.old.content) }
         ensures buckets { self.new.buckets ≡ self.old.buckets }
     {
@@ -68,7 +69,7 @@ impl<R: Rows> Table<R> {
 
     /// Drops the held slots.
     pub fn purge(&mut self)
-        ensures content { self.new.content ≡ record self.old.content { slots = purged self.old.content.slots } }
+        ensures content { self.new.content ≡ without_held self.old.content }
         ensures buckets { self.new.buckets ≡ self.old.buckets }
     {
         self.store.rows.purge();

@@ -22,7 +22,8 @@ impl<R: Rows> Table<R> {
         ops: &Ops,
         default: Option<&Term>,
     ) -> Result<Term, Refusal>
-        ensures content { Comes (UpdatesCounter key.now ops.now (option_copied default.entry) self.old.content)
+        ensures content { Comes
+            (UpdatesCounter key.now ops.now (option_copied default.entry) self.old.content)
             self.old.content result self.new.content }
         ensures buckets { self.new.buckets ≡ self.old.buckets }
     {
@@ -61,7 +62,8 @@ impl<R: Rows> Table<R> {
         specs: ElementSpecs,
         default: Option<&Term>,
     ) -> Result<bool, Refusal>
-        ensures content { Comes (UpdatesElement key.now specs (option_copied default.entry) self.old.content)
+        ensures content { Comes
+            (UpdatesElement key.now specs (option_copied default.entry) self.old.content)
             self.old.content result self.new.content }
         ensures buckets { self.new.buckets ≡ self.old.buckets }
     {
@@ -84,7 +86,8 @@ impl<R: Rows> Table<R> {
     }
 
     fn may_count(&self, key: &Term, ops: &Ops, default: Option<&Term>) -> bool
-        ensures { result ≡ may_count self.now.content key.now ops.now (option_copied default.entry) }
+        ensures { result
+            ≡ may_count self.now.content key.now ops.now (option_copied default.entry) }
     {
         self.is_set() && self.are_open(key, ops, default)
     }
@@ -98,7 +101,8 @@ impl<R: Rows> Table<R> {
     }
 
     fn may_write(&self, key: &Term, specs: &ElementSpecs, default: Option<&Term>) -> bool
-        ensures { result ≡ may_write self.now.content key.now specs.now (option_copied default.entry) }
+        ensures { result
+            ≡ may_write self.now.content key.now specs.now (option_copied default.entry) }
     {
         self.is_set() && self.are_writable(key, specs, default)
     }
