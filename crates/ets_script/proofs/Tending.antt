@@ -1,13 +1,13 @@
 -- What calls can see of a node. What is due grows a table, or readies a bucket of one; so it changes nothing that a call can see.
 use Rattle.std.proofs.Common.{suc, ◌≡◌, ◌∙◌, ap, subst, refl, ℕ, Bool, true, false, List, [], ◌∷◌, Option, Some, None, Result, Ok, Err, cond}
-use Rattle.std.specs.Prelude.{⊤, IfOk, OnErr, option_map, position, not, length, nat_lt, unwrap_or, ◌&&◌, ◌*◌}
+use Rattle.std.specs.Prelude.{⊤, IfOk, OnErr, option_map, position, not, unwrap_or}
 use Rattle.std.specs.Option.{option_map_or}
 use Rattle.ets_term.specs.declared.term.Term.{Term}
 use Rattle.ownership.specs.World.{Table, Tables, resolve}
 use Rattle.node_core.specs.State.{State, next_identifier}
 use Rattle.node_core.specs.Seen.{seen}
 use Rattle.node_core.specs.Machine.{step}
-use Rattle.node_core.specs.rules.Growth.{due, due_from, due_of, most_buckets}
+use Rattle.node_core.specs.rules.Growth.{due, due_from, due_of, is_crowded}
 use Rattle.node_core.proofs.SeenTables.{length-seen, resolve-seen}
 use Rattle.node_core.specs.declared.step.Reply.{Reply}
 use Rattle.node_core.specs.declared.step.Step.{Step}
@@ -31,7 +31,7 @@ grows_or_readies false t (Some n) e h = subst IsGrowth (same (Ready t n) e h) tt
 
 due_of_one : (t : ℕ) (own : Table) (e : Step) → due_of t own.fixed ≡ Some e → IsGrowth e
 due_of_one t own e h =
-    grows_or_readies (nat_lt (4 * length own.fixed.buckets) (length own.fixed.content.slots) && nat_lt (length own.fixed.buckets) most_buckets) t (position not own.fixed.buckets) e h
+    grows_or_readies (is_crowded own.fixed) t (position not own.fixed.buckets) e h
 
 first_due : (o : Option Step) (rest : Option Step) (e : Step) → ((d : Step) → o ≡ Some d → IsGrowth d) → (rest ≡ Some e → IsGrowth e)
     → option_map_or (λ d. Some d) o rest ≡ Some e → IsGrowth e

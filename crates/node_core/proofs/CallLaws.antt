@@ -1,13 +1,12 @@
 -- The laws of calls: no call sees the buckets of a table, each moves the world as a step may, and a reply that takes memory to copy is one
 -- of a call that changed nothing, or that is named. What holds of a call is proved here once for each form that a call may have.
 use Rattle.std.proofs.Common.{◌≡◌, ℕ, ◌==◌, ◌⊎◌, inl, inr, Bool, true, false, List, [], Option, None, Some, option_map, option_and_then, Result, Ok, Err, refl, sym, subst, subst₂, ap, ◌∙◌, codes}
-use Rattle.std.specs.Prelude.{MatchOption}
 use Rattle.std.specs.Bool.{MatchBool}
 use Rattle.std.specs.Option.{option_map_or}
 use Rattle.ets_term.specs.declared.term.Term.{Term, out-Term}
 use Rattle.ets_term.specs.declared.term.Term.TheVariants.{Tid}
 use Rattle.ets_term.specs.Atoms.{text_of, is_atom}
-use Rattle.table_ops.specs.Outcomes.{Outcome, gives}
+use Rattle.table_ops.specs.Outcomes.{Outcome, gives, refuse_none}
 use Rattle.fixed_walk.specs.Fixed.{Fixed}
 use Rattle.ownership.specs.declared.fault.WorldFault.{WorldFault}
 use Rattle.ownership.specs.declared.fault.WorldFault.TheVariants as fault
@@ -52,9 +51,6 @@ pub record IsLawfulCall (own : ℕ → Bool) (needs : Bool) (old : State) (outco
 
 abbrev pub Either : Bool → Outcome Reply State → Outcome Reply State → Outcome Reply State
 Either test one other reply new = MatchBool test (one reply new) (other reply new)
-
-abbrev pub Where : {X : Type 0} → Option X → State → (X → Outcome Reply State) → Outcome Reply State
-Where o old outcome reply new = MatchOption o (gives Badarg old reply new) (λ x. outcome x reply new)
 
 world-flat : {X : Type 0} (answer : X → Reply) → ((x : X) → is_flat (answer x) ≡ true)
     → (r : Result X WorldFault) (reply : Reply) → IsWorldReply answer r reply → is_flat reply ≡ true
@@ -130,33 +126,33 @@ module _ (own : ℕ → Bool) (needs : Bool) (old : State) where
   either-lawful false a b = b
 
   where-lawful : {X : Type 0} (o : Option X) {outcome unseen : X → Outcome Reply State} → ((x : X) → Lawful (outcome x) (unseen x))
-      → Lawful (Where o old outcome) (Where o (seen old) unseen)
+      → Lawful (refuse_none old o Badarg outcome) (refuse_none (seen old) o Badarg unseen)
   where-lawful None lawful = tells-lawful Badarg
   where-lawful (Some x) lawful = lawful x
 
   -- the table that was found, and that without its buckets
   found-lawful : (o : Option (ℕ × Table)) (outcome unseen : ℕ × Table → Outcome Reply State)
       → ((found : ℕ × Table) → o ≡ Some found → Lawful (outcome found) (unseen (seen_found found)))
-      → Lawful (Where o old outcome) (Where (option_map seen_found o) (seen old) unseen)
+      → Lawful (refuse_none old o Badarg outcome) (refuse_none (seen old) (option_map seen_found o) Badarg unseen)
   found-lawful None outcome unseen lawful = tells-lawful Badarg
   found-lawful (Some found) outcome unseen lawful = lawful found refl
 
   usable-lawful : (access : Access) (p : ℕ) (term : Term) (outcome unseen : ℕ × Table → Outcome Reply State)
       → ((found : ℕ × Table) → usable access old.world.tables p term ≡ Some found
       → Lawful (outcome found) (unseen (seen_found found)))
-      → Lawful (Where (usable access old.world.tables p term) old outcome)
-      (Where (usable access (seen_tables old.world.tables) p term) (seen old) unseen)
+      → Lawful (refuse_none old (usable access old.world.tables p term) Badarg outcome)
+      (refuse_none (seen old) (usable access (seen_tables old.world.tables) p term) Badarg unseen)
   usable-lawful access p term outcome unseen lawful =
-      subst (λ o. Lawful (Where (usable access old.world.tables p term) old outcome) (Where o (seen old) unseen))
+      subst (λ o. Lawful (refuse_none old (usable access old.world.tables p term) Badarg outcome) (refuse_none (seen old) o Badarg unseen))
       (sym (usable-seen access old.world.tables p term))
       (found-lawful (usable access old.world.tables p term) outcome unseen lawful)
 
   -- the identifier that a term names, told to what follows
   resolved-lawful : (term : Term) {outcome unseen : ℕ → Outcome Reply State} → ((t : ℕ) → Lawful (outcome t) (unseen t))
-      → Lawful (Where (resolve old.world.tables term) old outcome)
-      (Where (resolve (seen_tables old.world.tables) term) (seen old) unseen)
+      → Lawful (refuse_none old (resolve old.world.tables term) Badarg outcome)
+      (refuse_none (seen old) (resolve (seen_tables old.world.tables) term) Badarg unseen)
   resolved-lawful term {outcome = outcome} {unseen = unseen} lawful =
-      subst (λ o. Lawful (Where (resolve old.world.tables term) old outcome) (Where o (seen old) unseen))
+      subst (λ o. Lawful (refuse_none old (resolve old.world.tables term) Badarg outcome) (refuse_none (seen old) o Badarg unseen))
       (sym (resolve-seen old.world.tables term))
       (where-lawful (resolve old.world.tables term) lawful)
 

@@ -1,13 +1,13 @@
 -- What is due is that a table grows, or that one of its buckets is readied.
-use Rattle.std.proofs.Common.{◌≡◌, ℕ, suc, Bool, true, false, not, Option, None, Some, [], ◌∷◌, length, option_map, subst}
-use Rattle.std.specs.Prelude.{◌*◌, nat_lt, ◌&&◌, if◌then◌else◌, position}
+use Rattle.std.proofs.Common.{◌≡◌, ℕ, suc, Bool, true, false, not, Option, None, Some, [], ◌∷◌, option_map, subst}
+use Rattle.std.specs.Prelude.{if◌then◌else◌, position}
 use Rattle.std.specs.Option.{option_map_or}
 use Rattle.fixed_walk.specs.Fixed.{Fixed}
 use Rattle.ownership.specs.World.{Tables}
 use Rattle.node_core.specs.declared.step.Step.{Step}
 use Rattle.node_core.specs.declared.step.Step.TheVariants.{Grow, Ready}
 use Rattle.node_core.specs.State.{State}
-use Rattle.node_core.specs.rules.Growth.{most_buckets, due_of, due_from, due}
+use Rattle.node_core.specs.rules.Growth.{is_crowded, due_of, due_from, due}
 
 module _ (Q : Step → Type 0) (grows : (t : ℕ) → Q (Grow t)) (readies : (t bucket : ℕ) → Q (Ready t bucket)) where
   abbrev Where : Option Step → Type 0
@@ -15,7 +15,7 @@ module _ (Q : Step → Type 0) (grows : (t : ℕ) → Q (Grow t)) (readies : (t 
   Where (Some s) = Q s
 
   of-table : (t : ℕ) (f : Fixed) → Where (due_of t f)
-  of-table t f = by (nat_lt (4 * length f.buckets) (length f.content.slots) && nat_lt (length f.buckets) most_buckets) (position not f.buckets)
+  of-table t f = by (is_crowded f) (position not f.buckets)
     where
       by : (crowded : Bool) (bucket : Option ℕ) → Where (if crowded then Some (Grow t) else option_map (λ place. Ready t place) bucket)
       by true bucket = grows t

@@ -1,10 +1,10 @@
 -- What becomes of processes and tables: no outcome depends on buckets, and what holds of the world before it and of all that it may
 -- leave holds after it. Each outcome of the world is gone through here once.
 use Rattle.std.proofs.Common.{◌≡◌, ℕ, suc, Bool, true, false, ◌&&◌, not, ◌==◌, nat_le, cond, List, [], ◌∷◌, Option, None, Some, option_map, Result, Ok, Err, refl, sym, subst, subst₂, ap, ap₂, ◌∙◌, length, map}
-use Rattle.std.specs.Prelude.{MatchOption, is_some}
+use Rattle.std.specs.Prelude.{is_some}
 use Rattle.std.specs.Option.{option_map_or}
 use Rattle.ets_term.specs.declared.term.Term.{Term}
-use Rattle.table_ops.specs.Outcomes.{Outcome, gives, refuse}
+use Rattle.table_ops.specs.Outcomes.{Outcome, gives, refuse, refuse_none}
 use Rattle.fixed_walk.specs.Fixed.{Fixed}
 use Rattle.ownership.specs.declared.fault.WorldFault.{WorldFault}
 use Rattle.ownership.specs.declared.fault.WorldFault.TheVariants.{Badarg, SystemLimit, NoProcess, Memory}
@@ -16,7 +16,7 @@ use Rattle.ownership.specs.Heads.{owned_by}
 use Rattle.ownership.specs.Messages.{told, transfer, post, post_all}
 use Rattle.ownership.specs.Options.{heir_after}
 use Rattle.ownership.specs.Tables as tables
-use Rattle.ownership.specs.Tables.{after_enrol, new_head, with_table, passed_to, with_heir, changed}
+use Rattle.ownership.specs.Tables.{after_enrol, new_head, with_table, passed_to, with_heir, changed, heir_set}
 use Rattle.ownership.specs.End as ends
 use Rattle.ownership.specs.End.{ended, living_heir, let_go, table_after, message_of, messages_from, handed_over}
 use Rattle.ownership.specs.Outcomes.{Comes}
@@ -33,10 +33,6 @@ pub record IsLawfulOutcome (P : World → Type 0) (X : Type 0) (outcome unseen :
 abbrev pub given : World → ℕ → ℕ → ℕ → Term → Head → World
 given w p t q gift head =
     record w { processes = post w.processes q (transfer head t p gift); tables = changed (passed_to q) w.tables t }
-
--- one whose heir was set
-abbrev pub heir_set : World → ℕ → Option Heir → World
-heir_set w t heir = record w { tables = changed (with_heir heir) w.tables t }
 
 module _ (P : World → Type 0) (old : World) (same : P old) where
   abbrev Lawful : (X : Type 0) → Outcome (Result X WorldFault) World → Outcome (Result X WorldFault) World → Type 0
@@ -57,25 +53,25 @@ module _ (P : World → Type 0) (old : World) (same : P old) where
   refuse-lawful true fault lawful = refused-lawful fault
   refuse-lawful false fault lawful = lawful refl
 
-  abbrev Where : {X Y : Type 0} → World → Option Y → (Y → Outcome (Result X WorldFault) World) → Outcome (Result X WorldFault) World
-  Where w o outcome r new = MatchOption o (gives (Err Badarg) w r new) (λ y. outcome y r new)
-
   where-lawful : {X Y : Type 0} (o : Option Y) {outcome unseen : Y → Outcome (Result X WorldFault) World}
-      → ((y : Y) → Lawful X (outcome y) (unseen y)) → Lawful X (Where old o outcome) (Where (seen_world old) o unseen)
+      → ((y : Y) → Lawful X (outcome y) (unseen y))
+      → Lawful X (refuse_none old o (Err Badarg) outcome) (refuse_none (seen_world old) o (Err Badarg) unseen)
   where-lawful None lawful = refused-lawful Badarg
   where-lawful (Some y) lawful = lawful y
 
   table-lawful : {X : Type 0} (o : Option Table) (outcome unseen : Table → Outcome (Result X WorldFault) World)
       → ((table : Table) → Lawful X (outcome table) (unseen (seen_table table)))
-      → Lawful X (Where old o outcome) (Where (seen_world old) (option_map seen_table o) unseen)
+      → Lawful X (refuse_none old o (Err Badarg) outcome) (refuse_none (seen_world old) (option_map seen_table o) (Err Badarg) unseen)
   table-lawful None outcome unseen lawful = refused-lawful Badarg
   table-lawful (Some table) outcome unseen lawful = lawful table
 
   place-lawful : {X : Type 0} (t : ℕ) (outcome unseen : Table → Outcome (Result X WorldFault) World)
       → ((table : Table) → Lawful X (outcome table) (unseen (seen_table table)))
-      → Lawful X (Where old (table_at old.tables t) outcome) (Where (seen_world old) (table_at (seen_tables old.tables) t) unseen)
+      → Lawful X (refuse_none old (table_at old.tables t) (Err Badarg) outcome)
+      (refuse_none (seen_world old) (table_at (seen_tables old.tables) t) (Err Badarg) unseen)
   place-lawful {X = X} t outcome unseen lawful =
-      subst (λ (o : Option Table). Lawful X (Where old (table_at old.tables t) outcome) (Where (seen_world old) o unseen)) (sym (at-seen old.tables t)) (table-lawful (table_at old.tables t) outcome unseen lawful)
+      subst (λ (o : Option Table). Lawful X (refuse_none old (table_at old.tables t) (Err Badarg) outcome) (refuse_none (seen_world old) o (Err Badarg) unseen))
+      (sym (at-seen old.tables t)) (table-lawful (table_at old.tables t) outcome unseen lawful)
 
   -- ---- processes enter
   pub enrol-lawful : (p : ℕ) → P (after_enrol old p)
@@ -137,7 +133,7 @@ module _ (P : World → Type 0) (old : World) (same : P old) where
       abbrev Sets : World → Head → Outcome (Result (Unit {0}) WorldFault) World
       Sets w head =
           refuse w (not (owned_by head p)) (Err Badarg) (
-          Where w (heir_after head.heir options) (λ heir. gives (Ok tt) (heir_set w t heir)))
+          refuse_none w (heir_after head.heir options) (Err Badarg) (λ heir. gives (Ok tt) (heir_set w t heir)))
 
       sets : (head : Head) → Lawful (Unit {0}) (Sets old head) (Sets (seen_world old) head)
       sets head =

@@ -12,12 +12,12 @@ use Rattle.ownership.specs.declared.options.NewOptions.{NewOptions}
 use Rattle.ownership.specs.World.{Table, Processes, World, process_at, whereis}
 use Rattle.ownership.specs.Heads.{owned_by}
 use Rattle.ownership.specs.Messages.{transfer, post, post_all, received}
-use Rattle.ownership.specs.Tables.{after_enrol, new_head, with_table, without_table, passed_to, with_heir}
+use Rattle.ownership.specs.Tables.{after_enrol, new_head, with_table, without_table, passed_to, with_heir, heir_set}
 use Rattle.ownership.specs.End.{ended, living_heir, let_go, table_after, messages_from, handed_over}
 use Rattle.node_core.specs.rules.Tables.{IsFresh}
 use Rattle.node_core.proofs.Moves.{Stays, Moves, stays-same, follows-same, follows-gone, follows-changed, follows-push, follows-map}
 use Rattle.node_core.proofs.Tame.{all_released-tame}
-use Rattle.node_core.proofs.WorldLaws.{given, heir_set}
+use Rattle.node_core.proofs.WorldLaws.{given}
 
 -- ---- messages are posted and received
 length-post : (processes : Processes) (q : ℕ) (message : Term) → length (post processes q message) ≡ length processes

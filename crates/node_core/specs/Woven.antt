@@ -22,7 +22,7 @@ use Rattle.node_core.specs.Seen.{seen}
 use Rattle.node_core.specs.Machine.{step, run}
 use Rattle.node_core.specs.Buckets.{run_on_buckets}
 use Rattle.node_core.specs.rules.Replies.{true_reply}
-use Rattle.node_core.specs.laws.Kept.{is_fixed_in}
+use Rattle.node_core.specs.laws.Kept.{StaysFixed}
 use Rattle.node_core.specs.laws.Walk.{states, Walks}
 
 -- whether the step is one of this process
@@ -59,19 +59,23 @@ Adds keys given key new_keys new_given =
 -- What the others are told of a process's walk that stopped. The replies to its steps are true, to its fix, then these
 -- keys in their order, and then at most one key that they are not told. Where not even the fix is done they are told
 -- nothing, and hand nothing in.
-abbrev pub Tells : ℕ → (keys : List Term) (given : Given) (done : List Step) (replies : List Reply) → Type 0
+abbrev pub Tells : ℕ → (keys : List Term) (given : Given) (done : List Step) (replies : List Reply)
+    → Type 0
 Tells p keys given [] replies = (keys ≡ []) × (given ≡ [])
 Tells p keys given (s ∷ done) replies =
-    (more : List Term) × (length more ≤ 1) × AllByRecursion (λ key. is_atom (codes "$end_of_table") key ≡ false) more
+    (more : List Term) × (length more ≤ 1)
+    × AllByRecursion (λ key. is_atom (codes "$end_of_table") key ≡ false) more
     × (replies_to p (s ∷ done) replies ≡ true_reply ∷ map (λ key. Value key) (keys ++ more))
 
 module _ (p t : ℕ) where
   -- the calls of the walker on the table
   abbrev pub fix : Step
-  fix = Ask p (record { name = codes "safe_fixtable"; args = Tid t ∷ Atom (codes "true") ∷ [] })
+  fix =
+      Ask p (record { name = codes "safe_fixtable"; args = Tid t ∷ Atom (codes "true") ∷ [] })
 
   abbrev pub release : Step
-  release = Ask p (record { name = codes "safe_fixtable"; args = Tid t ∷ Atom (codes "false") ∷ [] })
+  release =
+      Ask p (record { name = codes "safe_fixtable"; args = Tid t ∷ Atom (codes "false") ∷ [] })
 
   abbrev pub first : Step
   first = Ask p (record { name = codes "first"; args = Tid t ∷ [] })
@@ -103,7 +107,8 @@ module _ (p t : ℕ) where
   -- A walk that came to its end: the steps woven, and then the release, are done. The walker's calls answer these keys
   -- and then the end, the table stays fixed from the first of them to the last, and no step handed in is the walker's
   -- or without a turn.
-  pub record IsWalked (old : State) (limit : ℕ) (keys : List Term) (given : Given) (new : State) : Type 0 where
+  pub record IsWalked (old : State) (limit : ℕ) (keys : List Term) (given : Given)
+      (new : State) : Type 0 where
     pub fixed : State
     pub last : State
     pub replies : List Reply
@@ -111,24 +116,25 @@ module _ (p t : ℕ) where
     pub walk_done : run fixed (walk keys given) replies last
     pub release_done : step last release true_reply new
     pub answers : Walks p t None keys fixed (walk keys given) replies last walk_done
-    pub held : AllByRecursion (λ s. is_fixed_in t s ≡ true) (states fixed (walk keys given) replies last walk_done)
+    pub held : StaysFixed t (states fixed (walk keys given) replies last walk_done)
     pub others : AllByRecursion (λ g. is_step_of p g.1 ≡ false) given
     pub turns : AreTurns keys given
     pub few : length keys ≤ limit
     pub fixes : fixes_in new ≡ fixes_in old
 
   -- why a walk stops, of the steps woven having done these, with these replies, and left those
-  abbrev pub Reason : WalkFault → (old : State) (limit : ℕ) (keys : List Term) (given : Given) (done left : List Step)
-      (replies : List Reply) (last : State) → Type 0
+  abbrev pub Reason : WalkFault → (old : State) (limit : ℕ) (keys : List Term) (given : Given)
+      (done left : List Step) (replies : List Reply) (last : State) → Type 0
   Reason fault.Lost old limit keys given done left replies last = can_read last ≡ false
   Reason fault.OwnStep old limit keys given done left replies last =
-      (turn : ℕ) × (s : Step) × (further : List Step) × (left ≡ s ∷ further) × Contains given (turn, s)
-      × (is_step_of p s ≡ true)
+      (turn : ℕ) × (s : Step) × (further : List Step) × (left ≡ s ∷ further)
+      × Contains given (turn, s) × (is_step_of p s ≡ true)
   Reason fault.LimitReached old limit keys given done left replies last =
       (left ≡ []) × (length keys ≡ limit)
       × ((before : List Reply) × (key : Term) × (replies ≡ before ++ Value key ∷ [])
       × (is_atom (codes "$end_of_table") key ≡ false))
-  Reason fault.Memory old limit keys given [] left replies last = (can_read old ≡ true) × (fixes_in old < most_fixes)
+  Reason fault.Memory old limit keys given [] left replies last =
+      (can_read old ≡ true) × (fixes_in old < most_fixes)
   Reason fault.Memory old limit keys given (s ∷ done) left replies last = Unit {0}
   Reason fault.SystemLimit old limit keys given done left replies last =
       (done ≡ []) × (can_read old ≡ true) × (fixes_in old ≡ most_fixes)
@@ -144,8 +150,8 @@ module _ (p t : ℕ) where
 
   -- A walk that stopped: of the steps woven the first are done and these are left, and the walker's among those done
   -- are its calls of the walk alone.
-  pub record Stops (old : State) (limit : ℕ) (keys : List Term) (given : Given) (why : WalkFault) (left : List Step)
-      (new : State) : Type 0 where
+  pub record Stops (old : State) (limit : ℕ) (keys : List Term) (given : Given) (why : WalkFault)
+      (left : List Step) (new : State) : Type 0 where
     pub done : List Step
     pub own_left : List Step
     pub replies : List Reply
@@ -160,7 +166,8 @@ module _ (p t : ℕ) where
 
   -- What a walk does to the buckets, which no call sees: of the steps woven all but those left are done, and then the
   -- release or nothing, and no step besides.
-  pub record RunsWoven (old : State) (keys : List Term) (given : Given) (left : List Step) (new : State) : Type 0 where
+  pub record RunsWoven (old : State) (keys : List Term) (given : Given) (left : List Step)
+      (new : State) : Type 0 where
     pub done : List Step
     pub after : List Step
     pub replies : List Reply
@@ -169,11 +176,13 @@ module _ (p t : ℕ) where
     pub ran : run_on_buckets old (done ++ after) replies new
 
 -- what a walk over the table that a term names comes to, where the others then have these keys and these steps
-abbrev pub WalksAmong : State → ℕ → Term → ℕ → List Term → Given → Result Walk WalkFault → State → Type 0
+abbrev pub WalksAmong : State → ℕ → Term → ℕ → List Term → Given → Result Walk WalkFault → State
+    → Type 0
 WalksAmong old p term limit keys given (Ok walk) new =
     (walk.keys ≡ keys) × MatchOption (resolve old.world.tables term) ⊥ (λ t.
     IsWalked p t (seen old) limit keys given (seen new) × RunsWoven p t old keys given [] new)
 WalksAmong old p term limit keys given (Err why) new =
-    MatchOption (resolve old.world.tables term) ((why ≡ fault.Lost) × (new ≡ old) × (keys ≡ []) × (given ≡ [])) (λ t.
+    MatchOption (resolve old.world.tables term)
+    ((why ≡ fault.Lost) × (new ≡ old) × (keys ≡ []) × (given ≡ [])) (λ t.
     (left : List Step) × Stops p t (seen old) limit keys given why left (seen new)
     × RunsWoven p t old keys given left new)

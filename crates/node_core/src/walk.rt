@@ -32,7 +32,8 @@ pub trait Others {
     /// The walk has come to this key. It goes last among the keys; then steps may be handed in, last among the steps
     /// and with its place as their turn. They are done before the walk goes on. Want of memory changes nothing.
     fn between(&mut self, last: &Term) -> Result<(), AllocError>
-        ensures ok { OnOk result (Adds (keys self.old) (steps self.old) last.now (keys self.new) (steps self.new)) }
+        ensures ok { OnOk result
+            (Adds (keys self.old) (steps self.old) last.now (keys self.new) (steps self.new)) }
         ensures err_keys { OnErr result (keys self.new ≡ keys self.old) }
         ensures err_steps { OnErr result (steps self.new ≡ steps self.old) };
 }
@@ -79,7 +80,8 @@ pub fn walk_among<H: KeyHash + Copy + Drop, O: Others>(
 ) -> Result<Walk, WalkFault>
     requires keys { O.keys others.old ≡ [] }
     requires steps { O.steps others.old ≡ [] }
-    ensures { WalksAmong node.old pid table.now limit (O.keys others.new) (O.steps others.new) result node.new }
+    ensures { WalksAmong node.old pid table.now limit (O.keys others.new) (O.steps others.new)
+        result node.new }
 {
     let Some(id) = node.resolve(table) else {
         return Err(WalkFault::Lost);
@@ -101,7 +103,8 @@ fn walk_held<H: KeyHash + Copy + Drop, O: Others>(
     requires keys { O.keys others.old ≡ [] }
     requires steps { O.steps others.old ≡ [] }
     requires held { (old : State) × Holds pid id old (Ok tt) (seen node.old) }
-    ensures { EndsIn pid id limit node.old (O.keys others.new) (O.steps others.new) result node.new }
+    ensures { EndsIn pid id limit node.old (O.keys others.new) (O.steps others.new)
+        result node.new }
 {
     let mut keys = Vec::new(node.allocator());
     let mut found = node.key_behind(pid, id, None)?;
@@ -131,8 +134,8 @@ fn turn<H: KeyHash + Copy + Drop, O: Others>(
         × Stands pid id old (O.keys others.old) (O.steps others.old) (Some key) (seen node.old) }
     ensures keys { OnOk result (keys.new.items ≡ O.keys others.new) }
     ensures count { OnOk result (vec_len keys.new ≡ vec_len keys.old + 1) }
-    ensures turn { TurnsTo pid id (O.keys others.old) (O.steps others.old) key node.old (O.keys others.new)
-        (O.steps others.new) result node.new }
+    ensures turn { TurnsTo pid id (O.keys others.old) (O.steps others.old) key node.old
+        (O.keys others.new) (O.steps others.new) result node.new }
 {
     if keys.reserve(1).is_err() {
         return Err(WalkFault::Memory);

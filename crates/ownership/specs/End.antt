@@ -20,7 +20,8 @@ ended processes p = set_value (λ q. p == q) processes (record { lives = false; 
 
 -- the heir of a table, where it lives
 abbrev pub living_heir : Processes → Head → Option Heir
-living_heir processes head = option_and_then (λ heir. if lives processes heir.pid then Some heir else None) head.heir
+living_heir processes head =
+    option_and_then (λ heir. if lives processes heir.pid then Some heir else None) head.heir
 
 -- a table without the fixes of a process; held slots go once nobody fixes it
 abbrev pub let_go : ℕ → Table → Table
@@ -36,20 +37,22 @@ table_after processes p (Some table) =
 
 -- the heir that gets a table of the process
 abbrev pub receiver_of : Processes → ℕ → Table → Option Heir
-receiver_of processes p table = if owned_by table.head p then living_heir processes table.head else None
+receiver_of processes p table =
+    if owned_by table.head p then living_heir processes table.head else None
 
 -- the message that a table brings to it
 abbrev pub message_of : Processes → ℕ → ℕ → Option Table → Option (ℕ × Term)
 message_of processes p t None = None
 message_of processes p t (Some table) =
-    option_map (λ heir. (heir.pid, transfer table.head t p heir.gift)) (receiver_of processes p table)
+    option_map (λ heir. (heir.pid, transfer table.head t p heir.gift))
+    (receiver_of processes p table)
 
 -- those of the tables from this identifier on, in order of creation
 abbrev pub messages_from : Processes → ℕ → ℕ → Tables → List (ℕ × Term)
 messages_from processes p t [] = []
 messages_from processes p t (table ∷ tables) =
-    option_map_or (λ message. message ∷ messages_from processes p (suc t) tables) (message_of processes p t table)
-    (messages_from processes p (suc t) tables)
+    option_map_or (λ message. message ∷ messages_from processes p (suc t) tables)
+    (message_of processes p t table) (messages_from processes p (suc t) tables)
 
 -- its tables have changed hands or are gone, where these processes are left
 abbrev pub handed_over : World → Processes → ℕ → World

@@ -15,7 +15,8 @@ told named name t = if named then Atom name else Tid t
 
 -- the message that the table with this head and identifier comes with, from the owner before
 abbrev pub transfer : Head → ℕ → ℕ → Term → Term
-transfer head t from gift = Tuple (Atom (codes "ETS-TRANSFER") ∷ told head.named head.name t ∷ Pid from ∷ gift ∷ [])
+transfer head t from gift =
+    Tuple (Atom (codes "ETS-TRANSFER") ∷ told head.named head.name t ∷ Pid from ∷ gift ∷ [])
 
 -- the process with one more message, the newest
 abbrev pub with_message : Process → Term → Process

@@ -28,7 +28,8 @@ is_boolean term = is_atom (codes "true") term || is_atom (codes "false") term
 
 -- the option {keypos,N}; None where N is no position that keys can have
 abbrev pub keypos_option : ℕ → NewOptions → Option NewOptions
-keypos_option n options = if nat_le 1 n && nat_le n 4294967295 then Some (record options { keypos = n }) else None
+keypos_option n options =
+    if nat_le 1 n && nat_le n 4294967295 then Some (record options { keypos = n }) else None
 
 -- the words that say how the table is to be used; they change nothing
 abbrev pub tuning_word : List ℕ → NewOptions → Option NewOptions
@@ -53,7 +54,8 @@ word_option word options =
 
 -- what {heir,none} and {heir,Pid,Data} say; None where a tuple says nothing of an heir
 abbrev pub heir_said : List Term → Option (Option Heir)
-heir_said (name ∷ none ∷ []) = if is_atom (codes "heir") name && is_atom (codes "none") none then Some None else None
+heir_said (name ∷ none ∷ []) =
+    if is_atom (codes "heir") name && is_atom (codes "none") none then Some None else None
 heir_said (name ∷ pid ∷ gift ∷ []) =
     if is_atom (codes "heir") name
     then option_map (λ p. Some (record { pid = p; gift = gift })) (pid_form (out-Term pid))
@@ -65,12 +67,14 @@ abbrev pub is_tuning : Term → Term → Bool
 is_tuning name value =
     if is_atom (codes "read_concurrency") name then is_boolean value
     else if is_atom (codes "decentralized_counters") name then is_boolean value
-    else if is_atom (codes "write_concurrency") name then is_boolean value || is_atom (codes "auto") value
+    else if is_atom (codes "write_concurrency") name
+    then is_boolean value || is_atom (codes "auto") value
     else false
 
 abbrev pub pair_option : Term → Term → NewOptions → Option NewOptions
 pair_option name value options =
-    if is_atom (codes "keypos") name then option_and_then (λ n. keypos_option n options) (natural_form (out-Term value))
+    if is_atom (codes "keypos") name
+    then option_and_then (λ n. keypos_option n options) (natural_form (out-Term value))
     else if is_tuning name value then Some options
     else None
 
@@ -113,7 +117,8 @@ heir_form _ = None
 
 abbrev pub heirs_from : Option Heir → List Term → Option (Option Heir)
 heirs_from heir [] = Some heir
-heirs_from heir (option ∷ rest) = option_and_then (λ h. heirs_from h rest) (heir_form (out-Term option))
+heirs_from heir (option ∷ rest) =
+    option_and_then (λ h. heirs_from h rest) (heir_form (out-Term option))
 
 abbrev pub heirs_form : Option Heir → Term-F Term → Option (Option Heir)
 heirs_form heir (Term-F.List terms) = heirs_from heir terms

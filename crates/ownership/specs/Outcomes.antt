@@ -6,7 +6,8 @@ use Rattle.ownership.specs.declared.fault.WorldFault.TheVariants.{Badarg, System
 use Rattle.ownership.specs.World.{World}
 
 -- an answer or a refusal of the outcome; or no memory, and nothing has changed
-abbrev pub Comes : {X : Type 0} → Outcome (Result X WorldFault) World → World → Outcome (Result X WorldFault) World
+abbrev pub Comes : {X : Type 0} → Outcome (Result X WorldFault) World → World
+    → Outcome (Result X WorldFault) World
 Comes outcome old (Ok x) new = outcome (Ok x) new
 Comes outcome old (Err Badarg) new = outcome (Err Badarg) new
 Comes outcome old (Err SystemLimit) new = outcome (Err SystemLimit) new

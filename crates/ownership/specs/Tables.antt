@@ -16,7 +16,8 @@ use Rattle.ownership.specs.Options.{heir_after}
 
 -- a process enters the world
 abbrev pub after_enrol : World → ℕ → World
-after_enrol w p = record w { processes = w.processes ++ (p, record { lives = true; mailbox = [] }) ∷ [] }
+after_enrol w p =
+    record w { processes = w.processes ++ (p, record { lives = true; mailbox = [] }) ∷ [] }
 
 -- it must be new, and there must be room for it
 abbrev pub Enrol : World → ℕ → Outcome (Result (Unit {0}) WorldFault) World
@@ -28,18 +29,26 @@ Enrol old p =
 -- what stands over a new table of this name with these options
 abbrev pub new_head : ℕ → List ℕ → NewOptions → Head
 new_head p name options =
-    record { name = name; named = options.named; owner = p; heir = options.heir; protection = options.protection }
+    record {
+      name = name;
+      named = options.named;
+      owner = p;
+      heir = options.heir;
+      protection = options.protection;
+    }
 
 -- a table enters the world, with the next identifier
 abbrev pub with_table : World → Head → Fixed → World
-with_table w head fixed = record w { tables = w.tables ++ Some (record { head = head; fixed = fixed }) ∷ [] }
+with_table w head fixed =
+    record w { tables = w.tables ++ Some (record { head = head; fixed = fixed }) ∷ [] }
 
 -- a new table: its name if it is a named table, else its identifier; no two named tables have one name
 abbrev pub New : World → ℕ → List ℕ → NewOptions → Fixed → Outcome (Result Term WorldFault) World
 New old p name options fixed =
     refuse old (options.named && is_some (whereis old.tables name)) (Err Badarg) (
     refuse old (nat_le old.most_tables (length old.tables)) (Err SystemLimit) (
-    gives (Ok (told options.named name (length old.tables))) (with_table old (new_head p name options) fixed)))
+    gives (Ok (told options.named name (length old.tables)))
+    (with_table old (new_head p name options) fixed)))
 
 -- a table goes, with its name and its fixes
 abbrev pub without_table : World → ℕ → World
@@ -71,10 +80,14 @@ GiveAway old p t q gift =
     refuse old (not (lives old.processes q)) (Err Badarg) (
     gives (Ok tt) (passed old t q (transfer table.head t p gift))))))
 
+-- a table has this heir, or none
+abbrev pub heir_set : World → ℕ → Option Heir → World
+heir_set w t heir = record w { tables = changed (with_heir heir) w.tables t }
+
 -- the owner sets the heir
 abbrev pub SetOptions : World → ℕ → ℕ → Term → Outcome (Result (Unit {0}) WorldFault) World
 SetOptions old p t options =
     refuse_none old (table_at old.tables t) (Err Badarg) (λ table.
     refuse old (not (owned_by table.head p)) (Err Badarg) (
     refuse_none old (heir_after table.head.heir options) (Err Badarg) (λ heir.
-    gives (Ok tt) (record old { tables = changed (with_heir heir) old.tables t }))))
+    gives (Ok tt) (heir_set old t heir))))

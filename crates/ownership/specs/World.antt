@@ -31,7 +31,8 @@ pub record World : Type 0 where
 
 -- no process and no table
 abbrev pub empty : ℕ → ℕ → World
-empty processes tables = record { most_processes = processes; most_tables = tables; processes = []; tables = [] }
+empty processes tables =
+    record { most_processes = processes; most_tables = tables; processes = []; tables = [] }
 
 abbrev pub process_at : Processes → ℕ → Option Process
 process_at processes p = lookup (λ q. p == q) processes
@@ -41,6 +42,10 @@ lives processes p = option_map_or (λ process. process.lives) (process_at proces
 
 abbrev pub table_at : Tables → ℕ → Option Table
 table_at tables t = slice_index_or tables t None
+
+-- the objects and fixes of the table with this identifier
+abbrev pub fixed_at : Tables → ℕ → Option Fixed
+fixed_at tables t = option_map (λ table. table.fixed) (table_at tables t)
 
 -- what stands over each table
 abbrev pub head_of : Option Table → Option Head

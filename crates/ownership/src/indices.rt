@@ -1,6 +1,6 @@
 //! What stands beside the tables: which of them a name means, which a process owns, and which may be fixed.
-ghost use Rattle.std.specs.Prelude.{◌≡◌, ◌+◌, ◌<◌, ◌^◌, ◌++◌, ◌∷◌, [], None, Some, OnOk, OnErr, IsTrue, length};
-ghost use Rattle.ownership.specs.World.{whereis};
+ghost use Rattle.std.specs.Prelude.{◌+◌, ◌<◌, ◌^◌, ◌++◌, ◌∷◌, [], Some, OnOk, OnErr, length};
+ghost use Rattle.ownership.specs.inside.Names.{IsNameFree};
 ghost use Rattle.ownership.specs.inside.Indices.{IsKept};
 
 mod fixed;
@@ -47,7 +47,7 @@ impl Indices {
     ) -> Result<(), AllocError>
         requires kept { IsKept self.old places.now }
         requires few { length places.now + 1 < 2 ^ 32 }
-        requires free { IsTrue table.now.head.named → whereis places.now table.now.head.name ≡ None }
+        requires free { IsNameFree places.now table.now.head }
         ensures ok { OnOk result (IsKept self.new (places.now ++ Some table.now ∷ [])) }
         ensures err { OnErr result (IsKept self.new places.now) }
     {

@@ -21,7 +21,7 @@ use Rattle.node_core.specs.Buckets.{run_on_buckets}
 use Rattle.node_core.specs.rules.Growth.{step_on_buckets}
 use Rattle.node_core.specs.rules.Replies.{true_reply}
 use Rattle.node_core.specs.rules.Walking.{key_reply}
-use Rattle.node_core.specs.laws.Kept.{slots_in, is_fixed_in}
+use Rattle.node_core.specs.laws.Kept.{slots_in, StaysFixed}
 use Rattle.node_core.specs.laws.Walk.{states, Walks}
 use Rattle.node_core.specs.Woven.{is_step_of, replies_to, Given, AreTurns, fix, release, first, next, walk, can_read, fixes_in, Reason, Tells}
 
@@ -45,17 +45,21 @@ module _ (p t : ℕ) where
 
   -- what the call answers: a key or the end
   abbrev pub Finds : Option Term → State → Result (Option Term) WalkFault → Type 0
-  Finds call s (Ok found) = (can_read p t s ≡ true) × step s (call_of call) (key_reply found) s × CanGoOn t s found
+  Finds call s (Ok found) =
+      (can_read p t s ≡ true) × step s (call_of call) (key_reply found) s × CanGoOn t s found
   Finds call s (Err fault.Lost) = can_read p t s ≡ false
   Finds call s (Err fault.Memory) = Unit {0}
   Finds call s (Err _) = ⊥
 
   -- one fix more of the walker
   abbrev pub Holds : State → Result (Unit {0}) WalkFault → State → Type 0
-  Holds old (Ok done) new = step old (fix p t) true_reply new × (fixes_in p t new ≡ suc (fixes_in p t old))
+  Holds old (Ok done) new =
+      step old (fix p t) true_reply new × (fixes_in p t new ≡ suc (fixes_in p t old))
   Holds old (Err fault.Lost) new = (can_read p t old ≡ false) × (new ≡ old)
-  Holds old (Err fault.SystemLimit) new = (can_read p t old ≡ true) × (fixes_in p t old ≡ most_fixes) × (new ≡ old)
-  Holds old (Err fault.Memory) new = (can_read p t old ≡ true) × (fixes_in p t old < most_fixes) × (new ≡ old)
+  Holds old (Err fault.SystemLimit) new =
+      (can_read p t old ≡ true) × (fixes_in p t old ≡ most_fixes) × (new ≡ old)
+  Holds old (Err fault.Memory) new =
+      (can_read p t old ≡ true) × (fixes_in p t old < most_fixes) × (new ≡ old)
   Holds old (Err _) new = ⊥
 
   -- one fix less, where the table may be read
@@ -66,11 +70,11 @@ module _ (p t : ℕ) where
   LetsGo old false new = (can_read p t old ≡ false) × (new ≡ old)
 
   -- a run from a state on that is a walk from this call on, in a table that stays fixed
-  pub record Walking (call : Option Term) (keys : List Term) (old : State) (steps : List Step) (replies : List Reply)
-      (new : State) : Type 0 where
+  pub record Walking (call : Option Term) (keys : List Term) (old : State) (steps : List Step)
+      (replies : List Reply) (new : State) : Type 0 where
     pub done : run old steps replies new
     pub answers : Walks p t call keys old steps replies new done
-    pub held : AllByRecursion (λ s. is_fixed_in t s ≡ true) (states old steps replies new done)
+    pub held : StaysFixed t (states old steps replies new done)
 
   -- such a walk was found whole, or it is whole with what comes from now on
   abbrev pub Leads : Option Term → List Term → State → List Step → List Reply → State → Type 0
@@ -81,7 +85,8 @@ module _ (p t : ℕ) where
       → Walking None (keys ++ key ∷ further) fixed (steps ++ more) (replies ++ others) end
 
   -- the walk so far, where the last of its calls has found this
-  pub record Stands (old : State) (keys : List Term) (given : Given) (found : Option Term) (now : State) : Type 0 where
+  pub record Stands (old : State) (keys : List Term) (given : Given) (found : Option Term)
+      (now : State) : Type 0 where
     pub fixed : State
     pub before : List Reply
     pub fix_done : step old (fix p t) true_reply fixed
@@ -97,8 +102,8 @@ module _ (p t : ℕ) where
     pub goes_on : CanGoOn t now found
 
   -- a walk that stopped and left these steps, before the release
-  pub record Halts (old : State) (limit : ℕ) (keys : List Term) (given : Given) (why : WalkFault) (left : List Step)
-      (now : State) : Type 0 where
+  pub record Halts (old : State) (limit : ℕ) (keys : List Term) (given : Given) (why : WalkFault)
+      (left : List Step) (now : State) : Type 0 where
     pub done : List Step
     pub own_left : List Step
     pub replies : List Reply
@@ -107,13 +112,15 @@ module _ (p t : ℕ) where
     pub ran : run old (fix p t ∷ done) (true_reply ∷ replies) now
     pub tells : Tells p keys given (fix p t ∷ done) (true_reply ∷ replies)
     pub turns : AreTurns keys given
-    pub reason : Reason p t why old limit keys given (fix p t ∷ done) left (true_reply ∷ replies) now
+    pub reason :
+        Reason p t why old limit keys given (fix p t ∷ done) left (true_reply ∷ replies) now
     pub fixes : is_there t now ≡ true → fixes_in p t now ≡ suc (fixes_in p t old)
 
   -- ---- the same of the buckets
   -- the fix is done
   abbrev pub IsHeld : State → State → Type 0
-  IsHeld old new = step (seen old) (fix p t) true_reply (seen new) × step_on_buckets old (fix p t) true_reply new
+  IsHeld old new =
+      step (seen old) (fix p t) true_reply (seen new) × step_on_buckets old (fix p t) true_reply new
 
   abbrev pub HoldsOn : State → Result (Unit {0}) WalkFault → State → Type 0
   HoldsOn old (Ok done) new = step_on_buckets old (fix p t) true_reply new
@@ -124,17 +131,19 @@ module _ (p t : ℕ) where
   LetsGoOn old false new = new ≡ old
 
   -- the fix is done, and of the steps of the walk all but those left
-  pub record Weaves (old : State) (keys : List Term) (given : Given) (left : List Step) (now : State) : Type 0 where
+  pub record Weaves (old : State) (keys : List Term) (given : Given) (left : List Step)
+      (now : State) : Type 0 where
     pub done : List Step
     pub replies : List Reply
     pub order : walk p t keys given ≡ done ++ left
     pub ran : run_on_buckets old (fix p t ∷ done) replies now
 
   -- what the turn of a key comes to, from wherever the walk began
-  abbrev pub TurnsTo : (keys : List Term) (given : Given) (key : Term) (was : State) (keys' : List Term)
-      (given' : Given) → Result (Option Term) WalkFault → State → Type 0
+  abbrev pub TurnsTo : (keys : List Term) (given : Given) (key : Term) (was : State)
+      (keys' : List Term) (given' : Given) → Result (Option Term) WalkFault → State → Type 0
   TurnsTo keys given key was keys' given' (Ok found) now =
-      ((old : State) → Stands old keys given (Some key) (seen was) → Stands old keys' given' found (seen now))
+      ((old : State) → Stands old keys given (Some key) (seen was)
+      → Stands old keys' given' found (seen now))
       × ((old : State) → Weaves old keys given [] was → Weaves old keys' given' [] now)
   TurnsTo keys given key was keys' given' (Err why) now =
       (left : List Step)
@@ -143,15 +152,16 @@ module _ (p t : ℕ) where
       × ((old : State) → Weaves old keys given [] was → Weaves old keys' given' left now)
 
   -- what the whole walk comes to, before the release
-  abbrev pub EndsIn : (limit : ℕ) (was : State) (keys : List Term) (given : Given) → Result Walk WalkFault → State
-      → Type 0
+  abbrev pub EndsIn : (limit : ℕ) (was : State) (keys : List Term) (given : Given)
+      → Result Walk WalkFault → State → Type 0
   EndsIn limit was keys given (Ok walk) now =
       ((old : State) → Holds old (Ok tt) (seen was)
       → (walk.keys ≡ keys) × (length keys ≤ limit) × Stands old keys given None (seen now))
       × ((old : State) → IsHeld old was → Weaves old keys given [] now)
   EndsIn limit was keys given (Err why) now =
       (left : List Step)
-      × ((old : State) → Holds old (Ok tt) (seen was) → Halts old limit keys given why left (seen now))
+      × ((old : State) → Holds old (Ok tt) (seen was)
+      → Halts old limit keys given why left (seen now))
       × ((old : State) → IsHeld old was → Weaves old keys given left now)
 
 -- the steps handed in are done in order, none of them of this process: all, or those before one that is its own or that
@@ -165,10 +175,12 @@ pub record OthersDid (p : ℕ) (old : State) (given : Given) (new : State) : Typ
   pub others : AllByRecursion (λ s. is_step_of p s ≡ false) (steps_of given)
 
 abbrev pub StoppedAt : ℕ → WalkFault → Given → Type 0
-StoppedAt p fault.OwnStep left = (g : ℕ × Step) × (slice_get left 0 ≡ Some g) × (is_step_of p g.1 ≡ true)
+StoppedAt p fault.OwnStep left =
+    (g : ℕ × Step) × (slice_get left 0 ≡ Some g) × (is_step_of p g.1 ≡ true)
 StoppedAt p fault.Memory left = Unit {0}
 StoppedAt p _ left = ⊥
 
 abbrev pub OthersRun : ℕ → State → Given → Result (Unit {0}) WalkFault → State → Type 0
 OthersRun p old given (Ok done) new = OthersDid p old given new
-OthersRun p old given (Err why) new = (n : ℕ) × OthersDid p old (take n given) new × StoppedAt p why (drop n given)
+OthersRun p old given (Err why) new =
+    (n : ℕ) × OthersDid p old (take n given) new × StoppedAt p why (drop n given)

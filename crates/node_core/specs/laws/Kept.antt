@@ -1,5 +1,6 @@
 -- What a step keeps of the keys of a table.
 use Rattle.std.specs.Prelude.{◌≡◌, ℕ, Bool, true, false, List, []}
+use Rattle.std.specs.List.{AllByRecursion}
 use Rattle.std.specs.Map.{keys_of}
 use Rattle.std.specs.Option.{option_map_or}
 use Rattle.bucket_table.specs.Slots.{Slot}
@@ -17,7 +18,12 @@ slots_in t s = option_map_or (λ table. table.fixed.content.slots) (table_at s.w
 
 -- whether it is there and some process fixes it
 abbrev pub is_fixed_in : ℕ → State → Bool
-is_fixed_in t s = option_map_or (λ table. is_fixed table.fixed.fixes) (table_at s.world.tables t) false
+is_fixed_in t s =
+    option_map_or (λ table. is_fixed table.fixed.fixes) (table_at s.world.tables t) false
+
+-- some process fixes it in each of these states
+abbrev pub StaysFixed : ℕ → List State → Type 0
+StaysFixed t stretch = AllByRecursion (λ s. is_fixed_in t s ≡ true) stretch
 
 -- where a table is fixed before and after a step, the keys of its slots before are among those after, in the same order
 abbrev pub StepsKeepKeys : Type 0

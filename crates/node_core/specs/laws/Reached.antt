@@ -19,19 +19,21 @@ HasNoEnd slots = AllByRecursion (λ key. is_atom (codes "$end_of_table") key ≡
 pub record IsSound (s : State) : Type 0 where
   pub keys : (t : ℕ) (table : Table) → table_at s.world.tables t ≡ Some table
       → HasDistinctKeys table.fixed.content.slots
-  pub ends : (t : ℕ) (table : Table) → table_at s.world.tables t ≡ Some table → HasNoEnd table.fixed.content.slots
+  pub ends : (t : ℕ) (table : Table) → table_at s.world.tables t ≡ Some table
+      → HasNoEnd table.fixed.content.slots
   pub names :
-      (t u : ℕ) (one other : Table) → table_at s.world.tables t ≡ Some one → table_at s.world.tables u ≡ Some other
+      (t u : ℕ) (one other : Table) → table_at s.world.tables t ≡ Some one
+      → table_at s.world.tables u ≡ Some other
       → one.head.named ≡ true → other.head.named ≡ true → one.head.name ≡ other.head.name → t ≡ u
 
 -- so is the state after a run where the one before it is
 abbrev pub RunsStaySound : Type 0
 RunsStaySound =
-    (old : State) (steps : List Step) (replies : List Reply) (new : State) → run old steps replies new → IsSound old
-    → IsSound new
+    (old : State) (steps : List Step) (replies : List Reply) (new : State)
+    → run old steps replies new → IsSound old → IsSound new
 
 -- and so is each that a run reaches from the empty one
 abbrev pub ReachedAreSound : Type 0
 ReachedAreSound =
-    (limits : Limits) (steps : List Step) (replies : List Reply) (s : State) → run (empty limits) steps replies s
-    → IsSound s
+    (limits : Limits) (steps : List Step) (replies : List Reply) (s : State)
+    → run (empty limits) steps replies s → IsSound s

@@ -15,7 +15,7 @@ use Rattle.node_core.specs.declared.step.Step.TheVariants.{Ask}
 use Rattle.node_core.specs.State.{State}
 use Rattle.node_core.specs.Machine.{run}
 use Rattle.node_core.specs.rules.Walking.{key_reply, key_and_objects}
-use Rattle.node_core.specs.laws.Kept.{slots_in, is_fixed_in}
+use Rattle.node_core.specs.laws.Kept.{slots_in, StaysFixed}
 use Rattle.node_core.specs.laws.Reached.{IsSound}
 
 -- the states of a run, from the one before its first step to the one after its last
@@ -32,18 +32,23 @@ is_table s t term = option_map_or (λ u. u == t) (resolve s.world.tables term) f
 
 -- a call of a walk by its name, of the two that ask the same: whether it asks for the objects too
 abbrev pub walk_name : List ℕ → List ℕ → List ℕ → Option Bool
-walk_name name own lookup = if bytes_eq name own then Some false else if bytes_eq name lookup then Some true else None
+walk_name name own lookup =
+    if bytes_eq name own then Some false
+    else if bytes_eq name lookup then Some true
+    else None
 
 -- what a call asks of the table for a walk: None is first, Some is next of this key; with it, whether it asks for the
 -- objects too; the outer None is any other call
 abbrev pub walk_call : State → ℕ → List ℕ → List Term → Option (Option Term × Bool)
 walk_call s t name (term ∷ []) =
     if is_table s t term
-    then option_map (λ objects. (None, objects)) (walk_name name (codes "first") (codes "first_lookup"))
+    then option_map (λ objects. (None, objects))
+    (walk_name name (codes "first") (codes "first_lookup"))
     else None
 walk_call s t name (term ∷ key ∷ []) =
     if is_table s t term
-    then option_map (λ objects. (Some key, objects)) (walk_name name (codes "next") (codes "next_lookup"))
+    then option_map (λ objects. (Some key, objects))
+    (walk_name name (codes "next") (codes "next_lookup"))
     else None
 walk_call s t name _ = None
 
@@ -65,27 +70,28 @@ Answers objects r steps (key ∷ keys) Further = IsKey objects key r × Further 
 module _ (p t : ℕ) where
   -- the calls of first and next, each with the objects or without, that the process makes on the table are, in order,
   -- this one and next of each key that is answered
-  abbrev pub Walks : Option Term → List Term → (old : State) (steps : List Step) (replies : List Reply) (new : State)
-      → run old steps replies new → Type 0
+  abbrev pub Walks : Option Term → List Term → (old : State) (steps : List Step)
+      (replies : List Reply) (new : State) → run old steps replies new → Type 0
   Walks call keys old [] [] new done = ⊥
   Walks call keys old (s ∷ steps) (r ∷ replies) new done =
       MatchOption (walk_step old p t s)
       (Walks call keys done.0 steps replies new done.2)
-      (λ asked. (asked.0 ≡ call)
-      × Answers asked.1 r steps keys (λ key keys. Walks (Some key) keys done.0 steps replies new done.2))
+      (λ asked. (asked.0 ≡ call) × Answers asked.1 r steps keys (λ key keys.
+      Walks (Some key) keys done.0 steps replies new done.2))
   Walks call keys old [] (r ∷ replies) new done = ⊥
   Walks call keys old (s ∷ steps) [] new done = ⊥
 
 -- no key comes twice, and each key that has objects in every state comes
 pub record IsWhole (t : ℕ) (stretch : List State) (keys : List Term) : Type 0 where
   pub once : IsDistinct same keys
-  pub all : (key : Term) → AllByRecursion (λ s. is_present (slots_in t s) key ≡ true) stretch → Contains keys key
+  pub all : (key : Term) → AllByRecursion (λ s. is_present (slots_in t s) key ≡ true) stretch
+      → Contains keys key
 
 -- in every run, each walk over a table that stays fixed, whoever fixes it, is whole, whatever others do meanwhile
 abbrev pub WalksAreWhole : Type 0
 WalksAreWhole =
-    (old : State) (steps : List Step) (replies : List Reply) (new : State) (done : run old steps replies new)
-    (p t : ℕ) (keys : List Term)
-    → IsSound old → AllByRecursion (λ s. is_fixed_in t s ≡ true) (states old steps replies new done)
+    (old : State) (steps : List Step) (replies : List Reply) (new : State)
+    (done : run old steps replies new) (p t : ℕ) (keys : List Term)
+    → IsSound old → StaysFixed t (states old steps replies new done)
     → Walks p t None keys old steps replies new done
     → IsWhole t (states old steps replies new done) keys

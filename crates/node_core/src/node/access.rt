@@ -3,8 +3,8 @@ ghost use Rattle.std.specs.Prelude.{◌≡◌, option_copied, option_map};
 ghost use Rattle.std.specs.Option.{option_copied_mut};
 ghost use Rattle.std.specs.Borrow.{sem};
 ghost use Rattle.node_core.specs.declared.node.access.Access.TheVariants.{Read};
-ghost use Rattle.ownership.specs.World.{table_at};
-ghost use Rattle.node_core.specs.Access.{may, usable};
+ghost use Rattle.ownership.specs.World.{fixed_at};
+ghost use Rattle.node_core.specs.Access.{may, usable, usable_fixed};
 
 use super::Node;
 use super::due::lend;
@@ -25,8 +25,7 @@ impl<H: KeyHash + Copy + Drop> Node<H> {
 
     /// The table that a term names, where the process may read it.
     pub(crate) fn readable(&self, pid: u32, term: &Term) -> Option<&Walked<SplitRows<H>>>
-        ensures { option_copied result
-            ≡ option_map (λ found. found.1.fixed) (usable Read self.now.world.tables pid term.now) }
+        ensures { option_copied result ≡ usable_fixed Read self.now.world.tables pid term.now }
     {
         let id = self.world.resolve(term)?;
         let head = self.world.head(id)?;
@@ -44,9 +43,10 @@ impl<H: KeyHash + Copy + Drop> Node<H> {
         term: &Term,
     ) -> Option<&mut Walked<SplitRows<H>>>
         ensures* lends { sem 𝓛
-            (LendsUsable H.row H.KeyHash H.Clone ⟦<SplitRows<H> as Rows>⟧ self.entry access pid term.now result) }
+            (LendsUsable H.row H.KeyHash H.Clone ⟦<SplitRows<H> as Rows>⟧
+            self.entry access pid term.now result) }
         ensures value { option_copied_mut result
-            ≡ option_map (λ found. found.1.fixed) (usable access self.old.world.tables pid term.now) }
+            ≡ usable_fixed access self.old.world.tables pid term.now }
     {
         let id = self.world.resolve(term)?;
         let head = self.world.head(id)?;
@@ -58,9 +58,9 @@ impl<H: KeyHash + Copy + Drop> Node<H> {
 
     /// The table with an identifier, for a change of it alone. What may then be due of it is looked for.
     pub(crate) fn table_mut(&mut self, id: u32) -> Option<&mut Walked<SplitRows<H>>>
-        ensures* lends { sem 𝓛 (LendsTable H.row H.KeyHash H.Clone ⟦<SplitRows<H> as Rows>⟧ self.entry id result) }
-        ensures value { option_copied_mut result
-            ≡ option_map (λ table. table.fixed) (table_at self.old.world.tables id) }
+        ensures* lends { sem 𝓛
+            (LendsTable H.row H.KeyHash H.Clone ⟦<SplitRows<H> as Rows>⟧ self.entry id result) }
+        ensures value { option_copied_mut result ≡ fixed_at self.old.world.tables id }
     {
         lend(&self.world, &mut self.due, id);
         self.world.table_mut(id)
@@ -68,7 +68,8 @@ impl<H: KeyHash + Copy + Drop> Node<H> {
 
     /// The identifier of the table that a term names, where the process may use it so.
     pub(crate) fn usable_id(&self, access: Access, pid: u32, term: &Term) -> Option<u32>
-        ensures { result ≡ option_map (λ found. found.0) (usable access self.now.world.tables pid term.now) }
+        ensures { result
+            ≡ option_map (λ found. found.0) (usable access self.now.world.tables pid term.now) }
     {
         let id = self.world.resolve(term)?;
         let head = self.world.head(id)?;

@@ -19,7 +19,8 @@ impl<H: KeyHash + Copy + Drop> Node<H> {
         table: &Term,
         objects: &Term,
     ) -> Result<Reply, Refusal>
-        ensures { Comes (writes self.old pid table.now (Insert objects.now)) self.old result self.new }
+        ensures { Comes (writes self.old pid table.now (Insert objects.now))
+            self.old result self.new }
     {
         let alloc = self.alloc;
         let Some(table) = self.usable_mut(Access::Write, pid, table) else {
@@ -35,7 +36,8 @@ impl<H: KeyHash + Copy + Drop> Node<H> {
         table: &Term,
         objects: &Term,
     ) -> Result<Reply, Refusal>
-        ensures { Comes (writes self.old pid table.now (InsertNew objects.now)) self.old result self.new }
+        ensures { Comes (writes self.old pid table.now (InsertNew objects.now))
+            self.old result self.new }
     {
         let alloc = self.alloc;
         let Some(table) = self.usable_mut(Access::Write, pid, table) else {

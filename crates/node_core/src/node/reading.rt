@@ -32,7 +32,8 @@ impl<H: KeyHash + Copy + Drop> Node<H> {
         key: &Term,
         position: &Term,
     ) -> Result<Reply, Refusal>
-        ensures { Comes (reads self.now pid table.now (LookupElement key.now position.now)) self.now result self.now }
+        ensures { Comes (reads self.now pid table.now (LookupElement key.now position.now))
+            self.now result self.now }
     {
         let table = self.readable(pid, table).ok_or(Refusal::Badarg)?;
         let position = position_of(position).ok_or(Refusal::Badarg)?;
@@ -48,7 +49,8 @@ impl<H: KeyHash + Copy + Drop> Node<H> {
         position: &Term,
         default: &Term,
     ) -> Result<Reply, Refusal>
-        ensures { Comes (reads self.now pid table.now (LookupElementOr key.now position.now default.now))
+        ensures { Comes
+            (reads self.now pid table.now (LookupElementOr key.now position.now default.now))
             self.now result self.now }
     {
         let table = self.readable(pid, table).ok_or(Refusal::Badarg)?;

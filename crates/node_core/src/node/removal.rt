@@ -38,7 +38,8 @@ impl<H: KeyHash + Copy + Drop> Node<H> {
         table: &Term,
         object: &Term,
     ) -> Result<Reply, Refusal>
-        ensures { Comes (writes self.old pid table.now (DeleteObject object.now)) self.old result self.new }
+        ensures { Comes (writes self.old pid table.now (DeleteObject object.now))
+            self.old result self.new }
     {
         let alloc = self.alloc;
         let Some(table) = self.usable_mut(Access::Write, pid, table) else {

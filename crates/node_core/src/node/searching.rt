@@ -25,7 +25,8 @@ impl<H: KeyHash + Copy + Drop> Node<H> {
         table: &Term,
         pattern: &Term,
     ) -> Result<Reply, Refusal>
-        ensures { Comes (reads self.now pid table.now (Match pattern.now)) self.now result self.now }
+        ensures { Comes (reads self.now pid table.now (Match pattern.now))
+            self.now result self.now }
     {
         let table = self.readable(pid, table).ok_or(Refusal::Badarg)?;
         let pattern = pattern_of(self.alloc, pattern)?;
@@ -40,7 +41,8 @@ impl<H: KeyHash + Copy + Drop> Node<H> {
         table: &Term,
         pattern: &Term,
     ) -> Result<Reply, Refusal>
-        ensures { Comes (reads self.now pid table.now (MatchObject pattern.now)) self.now result self.now }
+        ensures { Comes (reads self.now pid table.now (MatchObject pattern.now))
+            self.now result self.now }
     {
         let table = self.readable(pid, table).ok_or(Refusal::Badarg)?;
         let pattern = pattern_of(self.alloc, pattern)?;
@@ -55,7 +57,8 @@ impl<H: KeyHash + Copy + Drop> Node<H> {
         table: &Term,
         pattern: &Term,
     ) -> Result<Reply, Refusal>
-        ensures { Comes (writes self.old pid table.now (MatchDelete pattern.now)) self.old result self.new }
+        ensures { Comes (writes self.old pid table.now (MatchDelete pattern.now))
+            self.old result self.new }
     {
         let alloc = self.alloc;
         let Some(table) = self.usable_mut(Access::Write, pid, table) else {
@@ -76,7 +79,8 @@ impl<H: KeyHash + Copy + Drop> Node<H> {
     }
 
     pub(crate) fn select_count(&self, pid: u32, table: &Term, spec: &Term) -> Result<Reply, Refusal>
-        ensures { Comes (reads self.now pid table.now (SelectCount spec.now)) self.now result self.now }
+        ensures { Comes (reads self.now pid table.now (SelectCount spec.now))
+            self.now result self.now }
     {
         let table = self.readable(pid, table).ok_or(Refusal::Badarg)?;
         let spec = spec_of(self.alloc, spec)?;
@@ -91,7 +95,8 @@ impl<H: KeyHash + Copy + Drop> Node<H> {
         table: &Term,
         spec: &Term,
     ) -> Result<Reply, Refusal>
-        ensures { Comes (writes self.old pid table.now (SelectDelete spec.now)) self.old result self.new }
+        ensures { Comes (writes self.old pid table.now (SelectDelete spec.now))
+            self.old result self.new }
     {
         let alloc = self.alloc;
         let Some(table) = self.usable_mut(Access::Write, pid, table) else {
@@ -136,7 +141,8 @@ fn delete_matching<R: Rows>(
     table: &mut Walked<R>,
     pattern: &Term,
 ) -> Result<(), Refusal>
-    ensures { table_refusals.Comes (DeletesMatching pattern.now table.old) table.old result table.new }
+    ensures { table_refusals.Comes (DeletesMatching pattern.now table.old)
+        table.old result table.new }
 {
     let pattern = pattern_of(alloc, pattern)?;
     let done = table.match_delete(&pattern);
@@ -150,7 +156,8 @@ fn delete_chosen<R: Rows>(
     table: &mut Walked<R>,
     spec: &Term,
 ) -> Result<usize, Refusal>
-    ensures content { table_refusals.Comes (DeletesChosen spec.now table.old) table.old result table.new }
+    ensures content { table_refusals.Comes (DeletesChosen spec.now table.old)
+        table.old result table.new }
     ensures few { IfOk result (λ count. count < 2 ^ 32) }
 {
     let spec = spec_of(alloc, spec)?;

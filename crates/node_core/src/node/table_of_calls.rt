@@ -86,7 +86,8 @@ impl<H: KeyHash + Copy + Drop> Node<H> {
         x: &Term,
         y: &Term,
     ) -> Result<Reply, Refusal>
-        ensures { Comes (other_calls_of_two self.old pid name.now x.now y.now) self.old result self.new }
+        ensures { Comes (other_calls_of_two self.old pid name.now x.now y.now)
+            self.old result self.new }
     {
         if name == "match" {
             self.match_bindings(pid, x, y)
@@ -112,7 +113,8 @@ impl<H: KeyHash + Copy + Drop> Node<H> {
         x: &Term,
         y: &Term,
     ) -> Result<Reply, Refusal>
-        ensures { Comes (table_calls_of_two self.old pid name.now x.now y.now) self.old result self.new }
+        ensures { Comes (table_calls_of_two self.old pid name.now x.now y.now)
+            self.old result self.new }
     {
         if name == "new" {
             self.new_call(pid, x, y)
@@ -139,7 +141,8 @@ impl<H: KeyHash + Copy + Drop> Node<H> {
         y: &Term,
         z: &Term,
     ) -> Result<Reply, Refusal>
-        ensures { Comes (calls_of_three self.old pid name.now x.now y.now z.now) self.old result self.new }
+        ensures { Comes (calls_of_three self.old pid name.now x.now y.now z.now)
+            self.old result self.new }
     {
         if name == "lookup_element" {
             self.lookup_element(pid, x, y, z)
@@ -163,7 +166,8 @@ impl<H: KeyHash + Copy + Drop> Node<H> {
         z: &Term,
         default: &Term,
     ) -> Result<Reply, Refusal>
-        ensures { Comes (calls_of_four self.old pid name.now x.now y.now z.now default.now) self.old result self.new }
+        ensures { Comes (calls_of_four self.old pid name.now x.now y.now z.now default.now)
+            self.old result self.new }
     {
         if name == "lookup_element" {
             self.lookup_element_or(pid, x, y, z, default)

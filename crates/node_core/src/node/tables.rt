@@ -1,8 +1,8 @@
 // Calls that make tables and let them go.
-ghost use Rattle.std.specs.Prelude.{◌≡◌, ◌≤◌, true, false, [], ◌∷◌, IfOk};
+ghost use Rattle.std.specs.Prelude.{◌≡◌, ◌≤◌, IfOk};
 ghost use Rattle.ownership.specs.Outcomes as outcomes;
 ghost use Rattle.ownership.specs.Tables as tables;
-ghost use Rattle.node_core.specs.rules.Tables.{New, DeleteTable, makes, new_table_of};
+ghost use Rattle.node_core.specs.rules.Tables.{New, DeleteTable, first_buckets, makes, new_table_of};
 ghost use Rattle.node_core.specs.inside.Due.{IsIndex};
 ghost use Rattle.node_core.specs.inside.Refusals.{Comes};
 
@@ -39,7 +39,8 @@ impl<H: KeyHash + Copy + Drop> Node<H> {
 
     fn new_table(&mut self, pid: u32, name: &Atom, options: NewOptions) -> Result<Reply, Refusal>
         requires { 1 ≤ options.keypos }
-        ensures { Comes (makes self.old pid name.now options (true ∷ false ∷ [])) self.old result self.new }
+        ensures { Comes (makes self.old pid name.now options first_buckets)
+            self.old result self.new }
     {
         let table = match self.empty_table(&options) {
             Ok(table) => table,
@@ -57,7 +58,8 @@ impl<H: KeyHash + Copy + Drop> Node<H> {
     /// A table of these options, without objects.
     fn empty_table(&self, options: &NewOptions) -> Result<Walked<SplitRows<H>>, AllocError>
         requires { 1 ≤ options.now.keypos }
-        ensures { IfOk result (λ table. table ≡ new_table_of self.now.limits.objects options.now (true ∷ false ∷ [])) }
+        ensures { IfOk result (λ table.
+            table ≡ new_table_of self.now.limits.objects options.now first_buckets) }
     {
         let rows = SplitRows::new(self.alloc, self.hash)?;
         let table = Table::new(
@@ -92,7 +94,8 @@ fn enter<H: KeyHash + Copy + Drop>(
     table: Walked<SplitRows<H>>,
 ) -> Result<Term, WorldFault>
     requires { IsIndex world.old.tables due.old }
-    ensures made { outcomes.Comes (tables.New world.old pid name.now options table) world.old result world.new }
+    ensures made { outcomes.Comes (tables.New world.old pid name.now options table)
+        world.old result world.new }
     ensures index { IsIndex world.new.tables due.new }
 {
     let id = world.made();

@@ -26,7 +26,8 @@ impl<H: KeyHash + Copy + Drop> Node<H> {
         default: Option<&Term>,
     ) -> Result<Reply, Refusal>
         ensures { Comes
-            (writes self.old pid table.now (UpdateCounter key.now updates.now (option_copied default.entry)))
+            (writes self.old pid table.now
+            (UpdateCounter key.now updates.now (option_copied default.entry)))
             self.old result self.new }
     {
         let alloc = self.alloc;
@@ -46,7 +47,8 @@ impl<H: KeyHash + Copy + Drop> Node<H> {
         default: Option<&Term>,
     ) -> Result<Reply, Refusal>
         ensures { Comes
-            (writes self.old pid table.now (UpdateElement key.now updates.now (option_copied default.entry)))
+            (writes self.old pid table.now
+            (UpdateElement key.now updates.now (option_copied default.entry)))
             self.old result self.new }
     {
         let alloc = self.alloc;
@@ -66,7 +68,8 @@ fn count<R: Rows>(
     updates: &Term,
     default: Option<&Term>,
 ) -> Result<Term, Refusal>
-    ensures { table_refusals.Comes (Counts key.now updates.now (option_copied default.entry) table.old)
+    ensures { table_refusals.Comes
+        (Counts key.now updates.now (option_copied default.entry) table.old)
         table.old result table.new }
 {
     let ops = read_ops(alloc, updates, table.keypos())?;
@@ -83,7 +86,8 @@ fn write<R: Rows>(
     updates: &Term,
     default: Option<&Term>,
 ) -> Result<bool, Refusal>
-    ensures { table_refusals.Comes (WritesTold key.now updates.now (option_copied default.entry) table.old)
+    ensures { table_refusals.Comes
+        (WritesTold key.now updates.now (option_copied default.entry) table.old)
         table.old result table.new }
 {
     let specs = read_element_specs(alloc, updates, table.keypos())?;

@@ -49,7 +49,8 @@ impl<H: KeyHash + Copy + Drop> Node<H> {
     }
 
     fn release(&mut self, pid: u32, table: &Term) -> Result<Reply, Refusal>
-        ensures { Comes (changes self.old pid Read table.now (Releases pid)) self.old result self.new }
+        ensures { Comes (changes self.old pid Read table.now (Releases pid))
+            self.old result self.new }
     {
         let alloc = self.alloc;
         let Some(table) = self.usable_mut(Access::Read, pid, table) else {
@@ -84,7 +85,8 @@ impl<H: KeyHash + Copy + Drop> Node<H> {
     }
 
     pub(crate) fn next_lookup(&self, pid: u32, table: &Term, key: &Term) -> Result<Reply, Refusal>
-        ensures { Comes (reads self.now pid table.now (NextLookup key.now)) self.now result self.now }
+        ensures { Comes (reads self.now pid table.now (NextLookup key.now))
+            self.now result self.now }
     {
         let table = self.readable(pid, table).ok_or(Refusal::Badarg)?;
         match table.next_lookup(key) {

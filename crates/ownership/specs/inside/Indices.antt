@@ -30,7 +30,8 @@ pub record IsPutIn (old : List ℕ) (id : ℕ) (new : List ℕ) : Type 0 where
 
 -- the identifiers that stand under an owner
 abbrev pub ids_under : Indices → ℕ → List ℕ
-ids_under indices p = option_map_or (λ ids. ids.items) (lookup (λ q. p == q) indices.owned.entries) []
+ids_under indices p =
+    option_map_or (λ ids. ids.items) (lookup (λ q. p == q) indices.owned.entries) []
 
 -- under each they ascend
 abbrev pub Ascend : (ℕ → List ℕ) → Type 0
@@ -43,7 +44,8 @@ ByOwner owned hs = (t : ℕ) (head : Head) → head_at hs t ≡ Some head → Am
 -- all tables of an owner are among these
 abbrev pub AreOwned : List ℕ → ℕ → Tables → Type 0
 AreOwned ids p tables =
-    (t : ℕ) (table : Table) → table_at tables t ≡ Some table → (table.head.owner == p) ≡ true → Among t ids
+    (t : ℕ) (table : Table) → table_at tables t ≡ Some table
+    → (table.head.owner == p) ≡ true → Among t ids
 
 -- more may stand under owners, and nothing else changes
 pub record Notes (old new : Indices) : Type 0 where
@@ -56,7 +58,13 @@ pub record Forgets (owner : ℕ) (old new : Indices) : Type 0 where
   pub rest : new ≡ record old { owned = new.owned }
   pub gone : (p : ℕ) → ids_under new p ≡ if owner == p then [] else ids_under old p
 
--- each of these tables stands under its heir, where that lives
+-- the table stands under its heir, where that lives
+abbrev pub IsInherited : Indices → Processes → Tables → ℕ → Type 0
+IsInherited indices processes tables t =
+    (table : Table) (heir : Heir) → table_at tables t ≡ Some table
+    → living_heir processes table.head ≡ Some heir → Among t (ids_under indices heir.pid)
+
+-- each of these tables does
 abbrev pub AreInherited : Indices → Processes → Tables → List ℕ → Type 0
 AreInherited indices processes tables ids =
     (t : ℕ) (table : Table) (heir : Heir) → Among t ids → table_at tables t ≡ Some table
@@ -65,7 +73,8 @@ AreInherited indices processes tables ids =
 -- each table of an owner does
 abbrev pub AreBequeathed : Indices → Processes → ℕ → Tables → Type 0
 AreBequeathed indices processes p tables =
-    (t : ℕ) (table : Table) (heir : Heir) → table_at tables t ≡ Some table → (table.head.owner == p) ≡ true
+    (t : ℕ) (table : Table) (heir : Heir) → table_at tables t ≡ Some table
+    → (table.head.owner == p) ≡ true
     → living_heir processes table.head ≡ Some heir → Among t (ids_under indices heir.pid)
 
 -- nobody fixes the table, and no slot of it is held

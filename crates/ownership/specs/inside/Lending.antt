@@ -11,7 +11,8 @@ use Rattle.ownership.specs.World.{Table, World, with_fixed}
 module _ (R : RattleType) (rows : Ghosts R.Denot) where
   -- the table keeps its head
   abbrev pub LendsFixed : MutBor Table → MutBor Fixed → Fml
-  LendsFixed s lent = Lends (table.the_row R rows) (walked.the_row R rows) s lent (λ f. record s.now { fixed = f })
+  LendsFixed s lent =
+      Lends (table.the_row R rows) (walked.the_row R rows) s lent (λ f. record s.now { fixed = f })
 
   -- all else in the world stays
   abbrev pub LendsTable : MutBor World → ℕ → Option (MutBor Fixed) → Fml

@@ -1,14 +1,19 @@
 -- The index by name beside the tables. It looks at heads alone.
-use Rattle.std.specs.Prelude.{◌≡◌, ◌↔◌, ℕ, true, List, Option, Some, None, position, slice_index_or}
+use Rattle.std.specs.Prelude.{◌≡◌, ◌↔◌, ℕ, true, List, Option, Some, None, IsTrue, position, slice_index_or}
 use Rattle.ownership.specs.declared.head.Head.{Head}
-use Rattle.ownership.specs.World.{is_named}
+use Rattle.ownership.specs.World.{Tables, is_named, whereis}
 
 abbrev pub head_at : List (Option Head) → ℕ → Option Head
 head_at hs t = slice_index_or hs t None
 
+-- the name of a table that is to be a named one is free
+abbrev pub IsNameFree : Tables → Head → Type 0
+IsNameFree tables head = IsTrue head.named → whereis tables head.name ≡ None
+
 -- a name leads to a table exactly where the table is named so
 abbrev pub ByName : (List ℕ → Option ℕ) → List (Option Head) → Type 0
-ByName names hs = (name : List ℕ) (t : ℕ) → (names name ≡ Some t) ↔ (is_named name (head_at hs t) ≡ true)
+ByName names hs =
+    (name : List ℕ) (t : ℕ) → (names name ≡ Some t) ↔ (is_named name (head_at hs t) ≡ true)
 
 -- the first place whose table is named so
 abbrev pub find_named : List (Option Head) → List ℕ → Option ℕ

@@ -19,7 +19,8 @@ Sets wanted true new = wanted ≡ Some new
 Sets wanted false new = wanted ≡ None
 
 -- what is said of an heir, over the one that stands
-abbrev pub Says : Option (Option Heir) → Option Heir → Result (Option (Option Heir)) WorldFault → Type 0
+abbrev pub Says : Option (Option Heir) → Option Heir
+    → Result (Option (Option Heir)) WorldFault → Type 0
 Says wanted heir (Ok said) = wanted ≡ Some (unwrap_or said heir)
 Says wanted heir (Err Badarg) = wanted ≡ None
 Says wanted heir (Err SystemLimit) = ⊥

@@ -58,7 +58,8 @@ impl Indices {
     /// Those that nobody fixes any more are no longer noted.
     pub(super) fn keep_fixed<R: Rows>(&mut self, places: &[Option<Table<R>>])
         ensures rest { self.new ≡ record self.old { fixed = self.new.fixed } }
-        ensures items { self.new.fixed.items ≡ filter (is_fixed_at places.now) self.old.fixed.items }
+        ensures items { self.new.fixed.items
+            ≡ filter (is_fixed_at places.now) self.old.fixed.items }
         ensures capacity { vec_capacity self.new.fixed ≡ vec_capacity self.old.fixed }
     {
         self.fixed.retain(|id| is_fixed_at(places, *id));

@@ -8,7 +8,8 @@ use std::alloc::AllocError;
 pub fn put_in(ids: &mut Vec<u32>, id: u32) -> Result<(), AllocError>
     ensures ok { OnOk result (IsPutIn ids.old.items id ids.new.items) }
     ensures err { OnErr result (ids.new.items ≡ ids.old.items) }
-    ensures room { (hi : ℕ) → Between 0 hi ids.old.items → id < hi → hi ≤ vec_capacity ids.old → IsOk result }
+    ensures room { (hi : ℕ) → Between 0 hi ids.old.items → id < hi
+        → hi ≤ vec_capacity ids.old → IsOk result }
     ensures capacity { vec_capacity ids.old ≤ vec_capacity ids.new }
 {
     match ids.binary_search(&id) {

@@ -28,7 +28,8 @@ impl Indices {
     ) -> Result<(), AllocError>
         ensures rest { self.new ≡ record self.old { names = self.new.names } }
         ensures ok { OnOk result
-            ((hs : List (Option model.Head)) → length hs ≡ id → ByName (get_by_text self.old.names) hs
+            ((hs : List (Option model.Head)) → length hs ≡ id
+            → ByName (get_by_text self.old.names) hs
             → (head.now.named ≡ true → find_named hs head.now.name ≡ None)
             → ByName (get_by_text self.new.names) (hs ++ Some head.now ∷ [])) }
         ensures err { OnErr result

@@ -1,10 +1,6 @@
 // The index by owner: under each process the tables that it ever came to own, until it ends.
-ghost use Rattle.std.specs.Prelude.{◌≡◌, Some, OnOk, IfOk};
-ghost use Rattle.ownership.specs.declared.head.Heir as heir;
-ghost use Rattle.ownership.specs.World as model;
-ghost use Rattle.ownership.specs.World.{table_at};
-ghost use Rattle.ownership.specs.End.{living_heir};
-ghost use Rattle.ownership.specs.inside.Indices.{Among, Notes, Forgets, AreInherited, ids_under};
+ghost use Rattle.std.specs.Prelude.{◌≡◌, OnOk, IfOk};
+ghost use Rattle.ownership.specs.inside.Indices.{Among, Notes, Forgets, AreInherited, IsInherited, ids_under};
 
 use super::Indices;
 use super::identifiers::put_in;
@@ -74,9 +70,7 @@ impl Indices {
         id: u32,
     ) -> Result<(), AllocError>
         ensures stays { Notes self.old self.new }
-        ensures ok { OnOk result
-            ((table : model.Table) (heir : heir.Heir) → table_at places.now id ≡ Some table
-            → living_heir processes.now.entries table.head ≡ Some heir → Among id (ids_under self.new heir.pid)) }
+        ensures ok { OnOk result (IsInherited self.new processes.now.entries places.now id) }
     {
         let Some(Some(table)) = places.get(id as usize) else {
             return Ok(());

@@ -28,7 +28,8 @@ impl Indices {
         requires own { AreOwned own.now pid places.old.items }
         requires heirs { AreBequeathed self.old processes.now.entries pid places.old.items }
         ensures kept { IsKept self.new places.new.items }
-        ensures after { places.new.items ≡ map (table_after processes.now.entries pid) places.old.items }
+        ensures after { places.new.items
+            ≡ map (table_after processes.now.entries pid) places.old.items }
     {
         self.take_back_lent(places.as_slice());
         for id in own {
@@ -56,7 +57,8 @@ impl Indices {
         ensures rest { self.new ≡ record self.old { names = self.new.names } }
         ensures kept { IsKept self.new places.new.items }
         ensures after { places.new.items
-            ≡ slice_set places.old.items id (table_after processes.now.entries pid (table_at places.old.items id)) }
+            ≡ slice_set places.old.items id
+            (table_after processes.now.entries pid (table_at places.old.items id)) }
     {
         let place = id as usize;
         if place >= places.len() {

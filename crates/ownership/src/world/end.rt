@@ -1,10 +1,10 @@
 ghost use Rattle.std.specs.Prelude.{◌≡◌, ◌==◌, Some, is_some, true, OnOk, OnErr, option_copied};
 ghost use Rattle.std.specs.Map.{set_value};
 ghost use Rattle.ownership.specs.World as model;
-ghost use Rattle.ownership.specs.World.{process_at, lives, table_at};
-ghost use Rattle.ownership.specs.End.{End, ended, handed_over, living_heir, receiver_of, message_of};
+ghost use Rattle.ownership.specs.World.{process_at, lives};
+ghost use Rattle.ownership.specs.End.{End, ended, handed_over, living_heir, receiver_of};
 ghost use Rattle.ownership.specs.Outcomes.{Comes};
-ghost use Rattle.ownership.specs.inside.Ending.{posted, posted_of};
+ghost use Rattle.ownership.specs.inside.Ending.{posted, posted_at};
 
 use super::World;
 use crate::fault::WorldFault;
@@ -37,7 +37,8 @@ impl<R: Rows> World<R> {
     /// The same of a process that lives.
     fn bury(&mut self, pid: u32) -> Result<(), AllocError>
         requires { lives self.old.processes pid ≡ true }
-        ensures ok { OnOk result (self.new ≡ handed_over self.old (ended self.old.processes pid) pid) }
+        ensures ok { OnOk result
+            (self.new ≡ handed_over self.old (ended self.old.processes pid) pid) }
         ensures err { OnErr result (self.new ≡ self.old) }
     {
         let own = self.indices.owned_by(self.alloc, pid)?;
@@ -69,7 +70,8 @@ fn hand_over<R: Rows>(
     pid: u32,
 ) -> Result<(), AllocError>
     requires { is_some (process_at processes.old.entries pid) ≡ true }
-    ensures ok { OnOk result (processes.new.entries ≡ posted (ended processes.old.entries pid) pid places.now ids.now) }
+    ensures ok { OnOk result
+        (processes.new.entries ≡ posted (ended processes.old.entries pid) pid places.now ids.now) }
     ensures err { OnErr result (processes.new.entries ≡ processes.old.entries) }
 {
     let none = Process {
@@ -105,7 +107,8 @@ fn post_all<R: Rows>(
     ids: &[u32],
     pid: u32,
 ) -> Result<(), AllocError>
-    ensures ok { OnOk result (processes.new.entries ≡ posted processes.old.entries pid places.now ids.now) }
+    ensures ok { OnOk result
+        (processes.new.entries ≡ posted processes.old.entries pid places.now ids.now) }
     ensures err { OnErr result (processes.new.entries ≡ processes.old.entries) }
 {
     for i in 0..ids.len() {
@@ -126,8 +129,7 @@ fn post_of<R: Rows>(
     id: u32,
 ) -> Result<(), AllocError>
     ensures ok { OnOk result
-        (processes.new.entries
-        ≡ posted_of processes.old.entries (message_of processes.old.entries pid id (table_at places.now id))) }
+        (processes.new.entries ≡ posted_at processes.old.entries pid places.now id) }
     ensures err { OnErr result (processes.new.entries ≡ processes.old.entries) }
 {
     let Some(Some(table)) = places.get(id as usize) else {
@@ -147,7 +149,8 @@ fn take_all_back<R: Rows>(
     ids: &[u32],
     pid: u32,
 )
-    ensures { (before : model.Processes) → processes.old.entries ≡ posted before pid places.now ids.now
+    ensures { (before : model.Processes)
+        → processes.old.entries ≡ posted before pid places.now ids.now
         → processes.new.entries ≡ before }
 {
     let len = ids.len();
@@ -164,7 +167,7 @@ fn take_back_of<R: Rows>(
     id: u32,
 )
     ensures { (before : model.Processes)
-        → processes.old.entries ≡ posted_of before (message_of before pid id (table_at places.now id))
+        → processes.old.entries ≡ posted_at before pid places.now id
         → processes.new.entries ≡ before }
 {
     let Some(Some(table)) = places.get(id as usize) else {

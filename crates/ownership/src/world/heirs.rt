@@ -1,5 +1,5 @@
 ghost use Rattle.std.specs.Prelude.{◌≡◌, OnOk, OnErr};
-ghost use Rattle.ownership.specs.Tables.{GiveAway, SetOptions, changed, passed, passed_to, with_heir};
+ghost use Rattle.ownership.specs.Tables.{GiveAway, SetOptions, changed, heir_set, passed, passed_to};
 ghost use Rattle.ownership.specs.Outcomes.{Comes};
 
 use super::World;
@@ -67,7 +67,7 @@ impl<R: Rows> World<R> {
 
     /// The table has another heir, or none.
     fn set_heir(&mut self, id: u32, heir: Option<Heir>)
-        ensures { self.new ≡ record self.old { tables = changed (with_heir heir) self.old.tables id } }
+        ensures { self.new ≡ heir_set self.old id heir }
     {
         let place = id as usize;
         if place >= self.places.len() {

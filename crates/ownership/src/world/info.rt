@@ -13,7 +13,8 @@ impl<R: Rows> World<R> {
     /// What there is to say of the table with this identifier (stdlib manual, ets:info/2); None where there is no such
     /// table.
     pub fn info(&self, id: u32, item: InfoItem) -> Result<Option<Term>, AllocError>
-        ensures { IfOk result (λ told. told ≡ option_map (info_of item id) (table_at self.now.tables id)) }
+        ensures { IfOk result (λ told.
+            told ≡ option_map (info_of item id) (table_at self.now.tables id)) }
     {
         match self.places.get(id as usize) {
             Some(Some(table)) => Ok(Some(told(self.alloc, table, id, item)?)),

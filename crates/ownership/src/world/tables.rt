@@ -1,10 +1,11 @@
-ghost use Rattle.std.specs.Prelude.{◌≡◌, ◌+◌, ◌<◌, ◌^◌, ◌&&◌, false, None, OnOk, OnErr, IsTrue, nat_le, length, is_some, option_copied, option_map, IfOk};
+ghost use Rattle.std.specs.Prelude.{◌≡◌, ◌+◌, ◌<◌, ◌^◌, ◌&&◌, false, OnOk, OnErr, nat_le, length, is_some, option_copied, IfOk};
 ghost use Rattle.std.specs.Option.{option_copied_mut};
 ghost use Rattle.std.specs.Borrow.{sem};
-ghost use Rattle.ownership.specs.World.{table_at, head_of, whereis, resolve};
+ghost use Rattle.ownership.specs.World.{table_at, fixed_at, head_of, whereis, resolve};
 ghost use Rattle.ownership.specs.Messages.{told};
 ghost use Rattle.ownership.specs.Tables.{New, new_head, with_table, without_table};
 ghost use Rattle.ownership.specs.Outcomes.{Comes};
+ghost use Rattle.ownership.specs.inside.Names.{IsNameFree};
 
 use super::World;
 use crate::fault::WorldFault;
@@ -61,7 +62,7 @@ impl<R: Rows> World<R> {
 
     /// The table with this identifier.
     pub fn table(&self, id: u32) -> Option<&Walked<R>>
-        ensures { option_copied result ≡ option_map (λ table. table.fixed) (table_at self.now.tables id) }
+        ensures { option_copied result ≡ fixed_at self.now.tables id }
     {
         match self.places.get(id as usize) {
             Some(Some(table)) => Some(table.walked()),
@@ -72,7 +73,7 @@ impl<R: Rows> World<R> {
     /// The table with this identifier, for a change of it alone.
     pub fn table_mut(&mut self, id: u32) -> Option<&mut Walked<R>>
         ensures* lends { sem 𝓛 (LendsTable R.row R.Rows self.entry id result) }
-        ensures value { option_copied_mut result ≡ option_map (λ table. table.fixed) (table_at self.old.tables id) }
+        ensures value { option_copied_mut result ≡ fixed_at self.old.tables id }
     {
         self.indices.lend(self.places.as_slice(), id);
         let place = self.places.get_mut(id as usize)?;
@@ -132,8 +133,10 @@ impl<R: Rows> World<R> {
     ) -> Result<Term, AllocError>
         requires free { (options.named && is_some (whereis self.old.tables name.now)) ≡ false }
         requires few { length self.old.tables + 1 < 2 ^ 32 }
-        ensures answer { IfOk result (λ answer. answer ≡ told options.named name.now (length self.old.tables)) }
-        ensures ok { OnOk result (self.new ≡ with_table self.old (new_head pid name.now options) table) }
+        ensures answer { IfOk result (λ answer.
+            answer ≡ told options.named name.now (length self.old.tables)) }
+        ensures ok { OnOk result
+            (self.new ≡ with_table self.old (new_head pid name.now options) table) }
         ensures err { OnErr result (self.new ≡ self.old) }
     {
         let (answer, head) = match headed(self.alloc, pid, name, options, self.made()) {
@@ -152,7 +155,7 @@ impl<R: Rows> World<R> {
 
     /// One more table, with the next identifier. Its name, if it is a named table, must be free.
     fn add(&mut self, table: Table<R>) -> Result<(), AllocError>
-        requires free { IsTrue table.head.named → whereis self.old.tables table.head.name ≡ None }
+        requires free { IsNameFree self.old.tables table.head }
         requires few { length self.old.tables + 1 < 2 ^ 32 }
         ensures ok { OnOk result (self.new ≡ with_table self.old table.head table.fixed) }
         ensures err { OnErr result (self.new ≡ self.old) }

@@ -1,8 +1,7 @@
 use Rattle.std.proofs.Common.{sym, ap, ◌∙◌, get_or, take}
 use Rattle.std.proofs.lemmas.List.{take_more}
-use Rattle.ownership.specs.End.{message_of}
-use Rattle.ownership.specs.World.{Processes, table_at}
-use Rattle.ownership.specs.inside.Ending.{posted, posted_of}
+use Rattle.ownership.specs.World.{Processes}
+use Rattle.ownership.specs.inside.Ending.{posted, posted_at}
 use Rattle.ownership.proofs.Ending.{posted-more}
 use Rattle.ownership.proofs.world.end.post_all.Goals as goal
 
@@ -14,5 +13,5 @@ loop-i-preserved g c =
     let p = c.args.pid in
     let start = c.args.processes.now.entries in
     let t = get_or ids i 0 in
-    c.in_default.ensures.ok ∙ ap (λ (ps : Processes). posted_of ps (message_of ps p t (table_at places t))) c.loop-i.invariant
+    c.in_default.ensures.ok ∙ ap (λ (ps : Processes). posted_at ps p places t) c.loop-i.invariant
     ∙ sym (posted-more start p places (take i ids) t) ∙ ap (posted start p places) (sym (take_more ids i 0 c.loop-i-test.true))
