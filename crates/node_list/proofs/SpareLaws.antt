@@ -46,15 +46,12 @@ spare-by (Some f) m h = (f, (refl, spare-shows f (is_spare f) m refl h))
 pub live-no_spare : (o : Option Packed) → IsSome (live o) → spare_in o ≡ None
 live-no_spare o h = let f = live-by o h in ap spare_in f.1.0 ∙ spare-none f.0 f.1.1
 
--- a spare place's word is even, an item's is odd
-one-tag : (word : ℕ) → nat_eq (word % 4) 2 ≡ true → nat_eq (word % 2) 1 ≡ false
-one-tag word e =
-    let tag : word % 4 ≡ 2 = eqb-true (word % 4) 2 e in
-    let even : word % 2 ≡ 0 = omega (arith, tag) in
-    ap (λ k. nat_eq k 1) even
+-- a tag is one number
+one-tag : (tag : ℕ) → nat_eq tag 2 ≡ true → nat_eq tag 1 ≡ false
+one-tag tag e = ap (λ k. nat_eq k 1) (eqb-true tag 2 e)
 
 item-no_spare : (f : Packed) (b : Bool) → is_spare f ≡ b → marks_item (cond b None (Some f)) ≡ is_item f
-item-no_spare f true e = sym (one-tag f.word e)
+item-no_spare f true e = sym (one-tag (f.word % 4) e)
 item-no_spare f false e = refl
 
 pub marks-live : (o : Option Packed) → marks_item (live o) ≡ marks_item o

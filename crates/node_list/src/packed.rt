@@ -48,7 +48,6 @@ impl Packed {
         ensures key { result.key ≡ key }
         ensures next { next_in result ≡ next }
         ensures tag { result.word % 4 ≡ tag }
-        ensures low { result.word % 2 ≡ tag % 2 }
     {
         let place = match next.get() {
             Some(place) => place,
@@ -92,7 +91,7 @@ impl Packed {
     pub fn is_item(self) -> bool
         ensures { result ≡ is_item self }
     {
-        self.word % 2 == 1
+        self.word % 4 == 1
     }
 
     /// The same with another link.

@@ -10,7 +10,7 @@ abbrev pub next_in : Packed → Option ℕ
 next_in p = place_in (p.word / 4)
 
 abbrev pub is_item : Packed → Bool
-is_item p = nat_eq (p.word % 2) 1
+is_item p = nat_eq (p.word % 4) 1
 
 abbrev pub is_spare : Packed → Bool
 is_spare p = nat_eq (p.word % 4) 2
