@@ -31,7 +31,19 @@ impl<H: KeyHash + Copy + Drop> Node<H> {
 fn any_too_deep(terms: &[Term]) -> bool
     ensures { result ≡ list_any is_too_deep terms.now }
 {
-    terms.iter().any(|term| term.is_too_deep())
+    terms.iter().any(|term| is_too_deep(term))
+}
+
+/// Whether a term is too deep. Most arguments are leaves, which are told at once.
+#[inline(always)]
+fn is_too_deep(term: &Term) -> bool
+    ensures { result ≡ is_too_deep term.now }
+{
+    match term {
+        Term::Tuple(_) => term.is_too_deep(),
+        Term::List(_) => term.is_too_deep(),
+        _ => false,
+    }
 }
 
 /// The reply of a call, or of its refusal.

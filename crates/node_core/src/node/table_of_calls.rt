@@ -3,6 +3,7 @@ ghost use Rattle.node_core.specs.Calls.{call, calls_of_none, calls_of_one, calls
 ghost use Rattle.node_core.specs.inside.Refusals.{Comes};
 
 use super::Node;
+use super::name::is_named;
 use crate::step::Reply;
 use ets_term::{KeyHash, Term};
 use table_ops::Refusal;
@@ -24,7 +25,7 @@ impl<H: KeyHash + Copy + Drop> Node<H> {
     fn calls_of_none(&mut self, pid: u32, name: &str) -> Result<Reply, Refusal>
         ensures { Comes (calls_of_none self.old pid name.now) self.old result self.new }
     {
-        if name == "receive" {
+        if is_named(name, "receive") {
             self.receive(pid)
         } else {
             Err(Refusal::Badarg)
@@ -34,17 +35,17 @@ impl<H: KeyHash + Copy + Drop> Node<H> {
     fn calls_of_one(&mut self, pid: u32, name: &str, x: &Term) -> Result<Reply, Refusal>
         ensures { Comes (calls_of_one self.old pid name.now x.now) self.old result self.new }
     {
-        if name == "tab2list" {
+        if is_named(name, "tab2list") {
             self.tab2list(pid, x)
-        } else if name == "delete_all_objects" {
+        } else if is_named(name, "delete_all_objects") {
             self.delete_all_objects(pid, x)
-        } else if name == "delete" {
+        } else if is_named(name, "delete") {
             self.delete_table(pid, x)
-        } else if name == "first" {
+        } else if is_named(name, "first") {
             self.first(pid, x)
-        } else if name == "first_lookup" {
+        } else if is_named(name, "first_lookup") {
             self.first_lookup(pid, x)
-        } else if name == "whereis" {
+        } else if is_named(name, "whereis") {
             self.whereis(x)
         } else {
             Err(Refusal::Badarg)
@@ -60,19 +61,19 @@ impl<H: KeyHash + Copy + Drop> Node<H> {
     ) -> Result<Reply, Refusal>
         ensures { Comes (calls_of_two self.old pid name.now x.now y.now) self.old result self.new }
     {
-        if name == "insert" {
+        if is_named(name, "insert") {
             self.insert(pid, x, y)
-        } else if name == "insert_new" {
+        } else if is_named(name, "insert_new") {
             self.insert_new(pid, x, y)
-        } else if name == "lookup" {
+        } else if is_named(name, "lookup") {
             self.lookup(pid, x, y)
-        } else if name == "member" {
+        } else if is_named(name, "member") {
             self.member(pid, x, y)
-        } else if name == "take" {
+        } else if is_named(name, "take") {
             self.take(pid, x, y)
-        } else if name == "delete" {
+        } else if is_named(name, "delete") {
             self.delete(pid, x, y)
-        } else if name == "delete_object" {
+        } else if is_named(name, "delete_object") {
             self.delete_object(pid, x, y)
         } else {
             self.search_calls_of_two(pid, name, x, y)
@@ -89,17 +90,17 @@ impl<H: KeyHash + Copy + Drop> Node<H> {
         ensures { Comes (other_calls_of_two self.old pid name.now x.now y.now)
             self.old result self.new }
     {
-        if name == "match" {
+        if is_named(name, "match") {
             self.match_bindings(pid, x, y)
-        } else if name == "match_object" {
+        } else if is_named(name, "match_object") {
             self.match_object(pid, x, y)
-        } else if name == "match_delete" {
+        } else if is_named(name, "match_delete") {
             self.match_delete(pid, x, y)
-        } else if name == "select" {
+        } else if is_named(name, "select") {
             self.select(pid, x, y)
-        } else if name == "select_count" {
+        } else if is_named(name, "select_count") {
             self.select_count(pid, x, y)
-        } else if name == "select_delete" {
+        } else if is_named(name, "select_delete") {
             self.select_delete(pid, x, y)
         } else {
             self.table_calls_of_two(pid, name, x, y)
@@ -116,17 +117,17 @@ impl<H: KeyHash + Copy + Drop> Node<H> {
         ensures { Comes (table_calls_of_two self.old pid name.now x.now y.now)
             self.old result self.new }
     {
-        if name == "new" {
+        if is_named(name, "new") {
             self.new_call(pid, x, y)
-        } else if name == "next" {
+        } else if is_named(name, "next") {
             self.next(pid, x, y)
-        } else if name == "next_lookup" {
+        } else if is_named(name, "next_lookup") {
             self.next_lookup(pid, x, y)
-        } else if name == "safe_fixtable" {
+        } else if is_named(name, "safe_fixtable") {
             self.safe_fixtable(pid, x, y)
-        } else if name == "setopts" {
+        } else if is_named(name, "setopts") {
             self.set_options(pid, x, y)
-        } else if name == "info" {
+        } else if is_named(name, "info") {
             self.info(x, y)
         } else {
             Err(Refusal::Badarg)
@@ -144,13 +145,13 @@ impl<H: KeyHash + Copy + Drop> Node<H> {
         ensures { Comes (calls_of_three self.old pid name.now x.now y.now z.now)
             self.old result self.new }
     {
-        if name == "lookup_element" {
+        if is_named(name, "lookup_element") {
             self.lookup_element(pid, x, y, z)
-        } else if name == "update_counter" {
+        } else if is_named(name, "update_counter") {
             self.update_counter(pid, x, y, z, None)
-        } else if name == "update_element" {
+        } else if is_named(name, "update_element") {
             self.update_element(pid, x, y, z, None)
-        } else if name == "give_away" {
+        } else if is_named(name, "give_away") {
             self.give_away(pid, x, y, z)
         } else {
             Err(Refusal::Badarg)
@@ -169,11 +170,11 @@ impl<H: KeyHash + Copy + Drop> Node<H> {
         ensures { Comes (calls_of_four self.old pid name.now x.now y.now z.now default.now)
             self.old result self.new }
     {
-        if name == "lookup_element" {
+        if is_named(name, "lookup_element") {
             self.lookup_element_or(pid, x, y, z, default)
-        } else if name == "update_counter" {
+        } else if is_named(name, "update_counter") {
             self.update_counter(pid, x, y, z, Some(default))
-        } else if name == "update_element" {
+        } else if is_named(name, "update_element") {
             self.update_element(pid, x, y, z, Some(default))
         } else {
             Err(Refusal::Badarg)
