@@ -3,7 +3,6 @@ ghost use Rattle.node_core.specs.Calls.{call, calls_of_none, calls_of_one, calls
 ghost use Rattle.node_core.specs.inside.Refusals.{Comes};
 
 use super::Node;
-use super::name::is_named;
 use crate::step::Reply;
 use ets_term::{KeyHash, Term};
 use table_ops::Refusal;
@@ -25,7 +24,7 @@ impl<H: KeyHash + Copy + Drop> Node<H> {
     fn calls_of_none(&mut self, pid: u32, name: &str) -> Result<Reply, Refusal>
         ensures { Comes (calls_of_none self.old pid name.now) self.old result self.new }
     {
-        if is_named(name, "receive") {
+        if name == "receive" {
             self.receive(pid)
         } else {
             Err(Refusal::Badarg)
@@ -35,17 +34,17 @@ impl<H: KeyHash + Copy + Drop> Node<H> {
     fn calls_of_one(&mut self, pid: u32, name: &str, x: &Term) -> Result<Reply, Refusal>
         ensures { Comes (calls_of_one self.old pid name.now x.now) self.old result self.new }
     {
-        if is_named(name, "tab2list") {
+        if name == "tab2list" {
             self.tab2list(pid, x)
-        } else if is_named(name, "delete_all_objects") {
+        } else if name == "delete_all_objects" {
             self.delete_all_objects(pid, x)
-        } else if is_named(name, "delete") {
+        } else if name == "delete" {
             self.delete_table(pid, x)
-        } else if is_named(name, "first") {
+        } else if name == "first" {
             self.first(pid, x)
-        } else if is_named(name, "first_lookup") {
+        } else if name == "first_lookup" {
             self.first_lookup(pid, x)
-        } else if is_named(name, "whereis") {
+        } else if name == "whereis" {
             self.whereis(x)
         } else {
             Err(Refusal::Badarg)
@@ -61,19 +60,19 @@ impl<H: KeyHash + Copy + Drop> Node<H> {
     ) -> Result<Reply, Refusal>
         ensures { Comes (calls_of_two self.old pid name.now x.now y.now) self.old result self.new }
     {
-        if is_named(name, "insert") {
+        if name == "insert" {
             self.insert(pid, x, y)
-        } else if is_named(name, "insert_new") {
+        } else if name == "insert_new" {
             self.insert_new(pid, x, y)
-        } else if is_named(name, "lookup") {
+        } else if name == "lookup" {
             self.lookup(pid, x, y)
-        } else if is_named(name, "member") {
+        } else if name == "member" {
             self.member(pid, x, y)
-        } else if is_named(name, "take") {
+        } else if name == "take" {
             self.take(pid, x, y)
-        } else if is_named(name, "delete") {
+        } else if name == "delete" {
             self.delete(pid, x, y)
-        } else if is_named(name, "delete_object") {
+        } else if name == "delete_object" {
             self.delete_object(pid, x, y)
         } else {
             self.search_calls_of_two(pid, name, x, y)
@@ -90,17 +89,17 @@ impl<H: KeyHash + Copy + Drop> Node<H> {
         ensures { Comes (other_calls_of_two self.old pid name.now x.now y.now)
             self.old result self.new }
     {
-        if is_named(name, "match") {
+        if name == "match" {
             self.match_bindings(pid, x, y)
-        } else if is_named(name, "match_object") {
+        } else if name == "match_object" {
             self.match_object(pid, x, y)
-        } else if is_named(name, "match_delete") {
+        } else if name == "match_delete" {
             self.match_delete(pid, x, y)
-        } else if is_named(name, "select") {
+        } else if name == "select" {
             self.select(pid, x, y)
-        } else if is_named(name, "select_count") {
+        } else if name == "select_count" {
             self.select_count(pid, x, y)
-        } else if is_named(name, "select_delete") {
+        } else if name == "select_delete" {
             self.select_delete(pid, x, y)
         } else {
             self.table_calls_of_two(pid, name, x, y)
@@ -117,17 +116,17 @@ impl<H: KeyHash + Copy + Drop> Node<H> {
         ensures { Comes (table_calls_of_two self.old pid name.now x.now y.now)
             self.old result self.new }
     {
-        if is_named(name, "new") {
+        if name == "new" {
             self.new_call(pid, x, y)
-        } else if is_named(name, "next") {
+        } else if name == "next" {
             self.next(pid, x, y)
-        } else if is_named(name, "next_lookup") {
+        } else if name == "next_lookup" {
             self.next_lookup(pid, x, y)
-        } else if is_named(name, "safe_fixtable") {
+        } else if name == "safe_fixtable" {
             self.safe_fixtable(pid, x, y)
-        } else if is_named(name, "setopts") {
+        } else if name == "setopts" {
             self.set_options(pid, x, y)
-        } else if is_named(name, "info") {
+        } else if name == "info" {
             self.info(x, y)
         } else {
             Err(Refusal::Badarg)
@@ -145,13 +144,13 @@ impl<H: KeyHash + Copy + Drop> Node<H> {
         ensures { Comes (calls_of_three self.old pid name.now x.now y.now z.now)
             self.old result self.new }
     {
-        if is_named(name, "lookup_element") {
+        if name == "lookup_element" {
             self.lookup_element(pid, x, y, z)
-        } else if is_named(name, "update_counter") {
+        } else if name == "update_counter" {
             self.update_counter(pid, x, y, z, None)
-        } else if is_named(name, "update_element") {
+        } else if name == "update_element" {
             self.update_element(pid, x, y, z, None)
-        } else if is_named(name, "give_away") {
+        } else if name == "give_away" {
             self.give_away(pid, x, y, z)
         } else {
             Err(Refusal::Badarg)
@@ -170,11 +169,11 @@ impl<H: KeyHash + Copy + Drop> Node<H> {
         ensures { Comes (calls_of_four self.old pid name.now x.now y.now z.now default.now)
             self.old result self.new }
     {
-        if is_named(name, "lookup_element") {
+        if name == "lookup_element" {
             self.lookup_element_or(pid, x, y, z, default)
-        } else if is_named(name, "update_counter") {
+        } else if name == "update_counter" {
             self.update_counter(pid, x, y, z, Some(default))
-        } else if is_named(name, "update_element") {
+        } else if name == "update_element" {
             self.update_element(pid, x, y, z, Some(default))
         } else {
             Err(Refusal::Badarg)
