@@ -6,9 +6,9 @@ ghost use Rattle.ets_script.specs.Threads.{RunsJobs};
 ghost use Rattle.ets_script.specs.inside.Processes.{AreSeatsOf, AreEnrolled, HaveRun, IsNew, Stops};
 
 use crate::fault::ScriptFault;
+use crate::node_settings::NodeSettings;
 use crate::plan::Work;
 use ets_term::{Items, KeyHash};
-use node_core::Limits;
 use node_shared::{
     Client, CloseFault, Drawn, Entry, Gate, Job, Pids, Seat, Shared, Worked, close, keep,
     run_clients,
@@ -36,20 +36,20 @@ impl Gate for Quiet {
     fn after(&self, _client: usize, _call: usize) {}
 }
 
-/// Does the work of a script on a node with these limits: each process in a thread of its own, and one more that keeps
+/// Does the work of a script on a node by these settings: each process in a thread of its own, and one more that keeps
 /// the node.
 pub fn run_work<T: Threads + Wait + Sync, H: KeyHash + Copy + Drop + Send + Sync>(
     rt: &T,
     alloc: Global,
-    limits: Limits,
-    hash: H,
+    settings: NodeSettings<H>,
     work: Work,
 ) -> Result<Ran, ScriptFault>
-    ensures ok { IfOk result (λ ran. RunsJobs limits work.jobs ran.entries.items ran.left.items) }
-    ensures err { IfErr result (Stops limits) }
+    ensures ok { IfOk result (λ ran. RunsJobs settings.limits work.jobs
+        ran.entries.items ran.left.items) }
+    ensures err { IfErr result (Stops settings.limits) }
 {
-    let blank = Blank::new(limits.processes as u64 + 1);
-    run_counted::<Brand, T, H>(rt, alloc, blank, limits, hash, work)
+    let blank = Blank::new(settings.limits.processes as u64 + 1);
+    run_counted::<Brand, T, H>(rt, alloc, blank, settings, work)
 }
 
 /// The same, with the blank of the ledger that counts the entries.
@@ -61,17 +61,17 @@ fn run_counted<
     rt: &T,
     alloc: Global,
     blank: Blank,
-    limits: Limits,
-    hash: H,
+    settings: NodeSettings<H>,
     work: Work,
 ) -> Result<Ran, ScriptFault>
     requires name { blank.name ≡ L.name }
     requires parts { blank.parts ≡ L.parts }
-    requires enough { blank.parts ≡ limits.processes + 1 }
-    ensures ok { IfOk result (λ ran. RunsJobs limits work.jobs ran.entries.items ran.left.items) }
-    ensures err { IfErr result (Stops limits) }
+    requires enough { blank.parts ≡ settings.limits.processes + 1 }
+    ensures ok { IfOk result (λ ran. RunsJobs settings.limits work.jobs
+        ran.entries.items ran.left.items) }
+    ensures err { IfErr result (Stops settings.limits) }
 {
-    let shared = Shared::<L, H>::new(alloc, blank, limits, hash);
+    let shared = Shared::<L, H>::new(alloc, blank, settings.limits, settings.hash);
     let Ok((clients, left)) = run_shared(rt, alloc, &shared, work) else {
         return Err(ScriptFault::Memory);
     };

@@ -7,8 +7,10 @@ ghost use Rattle.ets_script.specs.Stops.{Completes, EndsWithin, ProgramEnds, Sto
 ghost use Rattle.ets_script.specs.Threads.{ThreadsEnd, ThreadsStop, ThreadsStatus, ProgramThreads};
 
 use crate::fault::ScriptFault;
+use crate::node_settings::NodeSettings;
 use crate::options::{Request, Settings};
 use crate::run::{run_script, run_script_aloud};
+use crate::streams::Streams;
 use crate::threads::run_threads;
 use ets_term::{AllSame, Fnv, KeyHash};
 use node_core::{Limits, Node};
@@ -23,17 +25,18 @@ pub fn answer_input<T: Threads + Wait + Sync, R: Read, W: Write, E: Write>(
     rt: &T,
     alloc: Global,
     settings: &Settings,
-    input: &mut R,
-    output: &mut W,
+    streams: &mut Streams<R, W>,
     errors: &mut E,
 ) -> io::Result<u8>
     ensures alone { settings.now.threads ≡ false → IfOk result (ProgramEnds settings.now.objects
-        (flow R.remaining input.old input.new) (flow W.contents output.old output.new)) }
+        (flow R.remaining streams.old.input streams.new.input)
+        (flow W.contents streams.old.output streams.new.output)) }
     ensures threads { settings.now.threads ≡ true → IfOk result (ProgramThreads settings.now.objects
-        (flow R.remaining input.old input.new) (flow W.contents output.old output.new)) }
+        (flow R.remaining streams.old.input streams.new.input)
+        (flow W.contents streams.old.output streams.new.output)) }
 {
     let request = usual_request(settings);
-    answer_request(rt, alloc, &request, input, output, errors)
+    answer_request(rt, alloc, &request, streams, errors)
 }
 
 /// Answers a script line by line, each when it was read, by the usual limits but for that of the settings, and says the
@@ -41,15 +44,15 @@ pub fn answer_input<T: Threads + Wait + Sync, R: Read, W: Write, E: Write>(
 pub fn answer_alone<R: Read, W: Write, E: Write>(
     alloc: Global,
     settings: &Settings,
-    input: &mut R,
-    output: &mut W,
+    streams: &mut Streams<R, W>,
     errors: &mut E,
 ) -> io::Result<u8>
     ensures { IfOk result (ProgramEnds settings.now.objects
-        (flow R.remaining input.old input.new) (flow W.contents output.old output.new)) }
+        (flow R.remaining streams.old.input streams.new.input)
+        (flow W.contents streams.old.output streams.new.output)) }
 {
     let request = usual_request(settings);
-    answer_lines(alloc, &request, input, output, errors)
+    answer_lines(alloc, &request, streams, errors)
 }
 
 /// What the settings ask, with the usual limits beside theirs.
@@ -71,21 +74,22 @@ pub fn answer_request<T: Threads + Wait + Sync, R: Read, W: Write, E: Write>(
     rt: &T,
     alloc: Global,
     request: &Request,
-    input: &mut R,
-    output: &mut W,
+    streams: &mut Streams<R, W>,
     errors: &mut E,
 ) -> io::Result<u8>
     ensures alone { request.now.settings.threads ≡ false →
         IfOk result (EndsWithin (limits_of request.now)
-        (flow R.remaining input.old input.new) (flow W.contents output.old output.new)) }
+        (flow R.remaining streams.old.input streams.new.input)
+        (flow W.contents streams.old.output streams.new.output)) }
     ensures threads { request.now.settings.threads ≡ true →
         IfOk result (ThreadsStatus (limits_of request.now)
-        (flow R.remaining input.old input.new) (flow W.contents output.old output.new)) }
+        (flow R.remaining streams.old.input streams.new.input)
+        (flow W.contents streams.old.output streams.new.output)) }
 {
     if request.settings.threads {
-        answer_in_threads(rt, alloc, request, input, output, errors)
+        answer_in_threads(rt, alloc, request, streams, errors)
     } else {
-        answer_lines(alloc, request, input, output, errors)
+        answer_lines(alloc, request, streams, errors)
     }
 }
 
@@ -93,17 +97,17 @@ pub fn answer_request<T: Threads + Wait + Sync, R: Read, W: Write, E: Write>(
 fn answer_lines<R: Read, W: Write, E: Write>(
     alloc: Global,
     request: &Request,
-    input: &mut R,
-    output: &mut W,
+    streams: &mut Streams<R, W>,
     errors: &mut E,
 ) -> io::Result<u8>
     ensures { IfOk result (EndsWithin (limits_of request.now)
-        (flow R.remaining input.old input.new) (flow W.contents output.old output.new)) }
+        (flow R.remaining streams.old.input streams.new.input)
+        (flow W.contents streams.old.output streams.new.output)) }
 {
     if request.settings.same {
-        answer_by(alloc, request, AllSame, input, output, errors)
+        answer_by(alloc, request, AllSame, streams, errors)
     } else {
-        answer_by(alloc, request, Fnv, input, output, errors)
+        answer_by(alloc, request, Fnv, streams, errors)
     }
 }
 
@@ -112,14 +116,14 @@ fn answer_by<H: KeyHash + Copy + Drop, R: Read, W: Write, E: Write>(
     alloc: Global,
     request: &Request,
     hash: H,
-    input: &mut R,
-    output: &mut W,
+    streams: &mut Streams<R, W>,
     errors: &mut E,
 ) -> io::Result<u8>
     ensures { IfOk result (EndsWithin (limits_of request.now)
-        (flow R.remaining input.old input.new) (flow W.contents output.old output.new)) }
+        (flow R.remaining streams.old.input streams.new.input)
+        (flow W.contents streams.old.output streams.new.output)) }
 {
-    match run_lines(alloc, request, hash, input, output, errors) {
+    match run_lines(alloc, request, hash, streams, errors) {
         Ok(_) => Ok(0),
         Err(fault) => tell(&fault, errors),
     }
@@ -130,20 +134,24 @@ fn run_lines<H: KeyHash + Copy + Drop, R: Read, W: Write, E: Write>(
     alloc: Global,
     request: &Request,
     hash: H,
-    input: &mut R,
-    output: &mut W,
+    streams: &mut Streams<R, W>,
     errors: &mut E,
 ) -> Result<Node<H>, ScriptFault>
     ensures ok { OnOk result ((end : Scripted) × Completes (at_start (limits_of request.now)) end
-        (flow R.remaining input.old input.new) (flow W.contents output.old output.new)) }
+        (flow R.remaining streams.old.input streams.new.input)
+        (flow W.contents streams.old.output streams.new.output)) }
     ensures err { IfErr result (Stops (at_start (limits_of request.now))
-        (flow R.remaining input.old input.new) (flow W.contents output.old output.new)) }
+        (flow R.remaining streams.old.input streams.new.input)
+        (flow W.contents streams.old.output streams.new.output)) }
 {
-    let limits = limits_of(request);
+    let settings = NodeSettings {
+        limits: limits_of(request),
+        hash,
+    };
     if request.why {
-        run_script_aloud(alloc, input, output, errors, limits, hash)
+        run_script_aloud(alloc, streams, errors, settings)
     } else {
-        run_script(alloc, input, output, limits, hash)
+        run_script(alloc, streams, settings)
     }
 }
 
@@ -160,14 +168,14 @@ fn answer_in_threads<T: Threads + Wait + Sync, R: Read, W: Write, E: Write>(
     rt: &T,
     alloc: Global,
     request: &Request,
-    input: &mut R,
-    output: &mut W,
+    streams: &mut Streams<R, W>,
     errors: &mut E,
 ) -> io::Result<u8>
     ensures { IfOk result (ThreadsStatus (limits_of request.now)
-        (flow R.remaining input.old input.new) (flow W.contents output.old output.new)) }
+        (flow R.remaining streams.old.input streams.new.input)
+        (flow W.contents streams.old.output streams.new.output)) }
 {
-    match run_by(rt, alloc, request, input, output) {
+    match run_by(rt, alloc, request, streams) {
         Ok(()) => Ok(0),
         Err(fault) => tell(&fault, errors),
     }
@@ -178,19 +186,22 @@ fn run_by<T: Threads + Wait + Sync, R: Read, W: Write>(
     rt: &T,
     alloc: Global,
     request: &Request,
-    input: &mut R,
-    output: &mut W,
+    streams: &mut Streams<R, W>,
 ) -> Result<(), ScriptFault>
     ensures ok { OnOk result (ThreadsEnd (limits_of request.now)
-        (flow R.remaining input.old input.new) (flow W.contents output.old output.new)) }
+        (flow R.remaining streams.old.input streams.new.input)
+        (flow W.contents streams.old.output streams.new.output)) }
     ensures err { IfErr result (ThreadsStop (limits_of request.now)
-        (flow R.remaining input.old input.new) (flow W.contents output.old output.new)) }
+        (flow R.remaining streams.old.input streams.new.input)
+        (flow W.contents streams.old.output streams.new.output)) }
 {
     let limits = limits_of(request);
     if request.settings.same {
-        run_threads(rt, alloc, input, output, limits, AllSame)
+        let hash = AllSame;
+        run_threads(rt, alloc, streams, NodeSettings { limits, hash })
     } else {
-        run_threads(rt, alloc, input, output, limits, Fnv)
+        let hash = Fnv;
+        run_threads(rt, alloc, streams, NodeSettings { limits, hash })
     }
 }
 

@@ -14,86 +14,89 @@ use crate::fault::ScriptFault;
 use crate::feed::{Feed, MAX_READS};
 use crate::lines::NextLine;
 use crate::listener::{Listener, Quiet};
+use crate::node_settings::NodeSettings;
 use crate::output::{Pending, WriteFault};
 use crate::reasons::Reasons;
 use crate::script::Script;
+use crate::streams::Streams;
 use ets_term::KeyHash;
-use node_core::{Limits, Node};
+use node_core::Node;
 use std::alloc::Global;
 use std::io::{Read, Write};
 
-/// Answers each line of a script, from the first state of a node with these limits to that of the node answered. What
+/// Answers each line of a script, from the first state of a node by these settings to that of the node answered. What
 /// was answered has gone out before each read, and at the end.
 pub fn run_script<R: Read, W: Write, H: KeyHash + Copy + Drop>(
     alloc: Global,
-    reader: &mut R,
-    writer: &mut W,
-    limits: Limits,
-    hash: H,
+    streams: &mut Streams<R, W>,
+    settings: NodeSettings<H>,
 ) -> Result<Node<H>, ScriptFault>
-    ensures ok { IfOk result (λ node. LeavesNode (at_start limits) (seen node)
-        (flow R.remaining reader.old reader.new) (flow W.contents writer.old writer.new)) }
-    ensures err { IfErr result (Stops (at_start limits)
-        (flow R.remaining reader.old reader.new) (flow W.contents writer.old writer.new)) }
+    ensures ok { IfOk result (λ node. LeavesNode (at_start settings.limits) (seen node)
+        (flow R.remaining streams.old.input streams.new.input)
+        (flow W.contents streams.old.output streams.new.output)) }
+    ensures err { IfErr result (Stops (at_start settings.limits)
+        (flow R.remaining streams.old.input streams.new.input)
+        (flow W.contents streams.old.output streams.new.output)) }
     ensures numbers { AreTheNumbers }
 {
-    run_within(alloc, reader, writer, limits, hash, MAX_READS)
+    run_within(alloc, streams, settings, MAX_READS)
 }
 
 /// As `run_script`, with at most this many reads.
 pub fn run_within<R: Read, W: Write, H: KeyHash + Copy + Drop>(
     alloc: Global,
-    reader: &mut R,
-    writer: &mut W,
-    limits: Limits,
-    hash: H,
+    streams: &mut Streams<R, W>,
+    settings: NodeSettings<H>,
     reads: u32,
 ) -> Result<Node<H>, ScriptFault>
-    ensures ok { IfOk result (λ node. LeavesNode (at_start limits) (seen node)
-        (flow R.remaining reader.old reader.new) (flow W.contents writer.old writer.new)) }
-    ensures err { IfErr result (Stops (at_start limits)
-        (flow R.remaining reader.old reader.new) (flow W.contents writer.old writer.new)) }
+    ensures ok { IfOk result (λ node. LeavesNode (at_start settings.limits) (seen node)
+        (flow R.remaining streams.old.input streams.new.input)
+        (flow W.contents streams.old.output streams.new.output)) }
+    ensures err { IfErr result (Stops (at_start settings.limits)
+        (flow R.remaining streams.old.input streams.new.input)
+        (flow W.contents streams.old.output streams.new.output)) }
 {
-    let script = Script::new(alloc, limits, hash);
-    run_heard(reader, writer, script, reads, &mut Quiet)
+    let script = Script::new(alloc, settings.limits, settings.hash);
+    run_heard(streams, script, reads, &mut Quiet)
 }
 
 /// As `run_script`, and tells why lines were refused: a line for each, behind the answers of the lines that were read
 /// with it. Where that fails, nothing more is told, and the answers go on.
 pub fn run_script_aloud<R: Read, W: Write, E: Write, H: KeyHash + Copy + Drop>(
     alloc: Global,
-    reader: &mut R,
-    writer: &mut W,
+    streams: &mut Streams<R, W>,
     errors: &mut E,
-    limits: Limits,
-    hash: H,
+    settings: NodeSettings<H>,
 ) -> Result<Node<H>, ScriptFault>
-    ensures ok { IfOk result (λ node. LeavesNode (at_start limits) (seen node)
-        (flow R.remaining reader.old reader.new) (flow W.contents writer.old writer.new)) }
-    ensures err { IfErr result (Stops (at_start limits)
-        (flow R.remaining reader.old reader.new) (flow W.contents writer.old writer.new)) }
+    ensures ok { IfOk result (λ node. LeavesNode (at_start settings.limits) (seen node)
+        (flow R.remaining streams.old.input streams.new.input)
+        (flow W.contents streams.old.output streams.new.output)) }
+    ensures err { IfErr result (Stops (at_start settings.limits)
+        (flow R.remaining streams.old.input streams.new.input)
+        (flow W.contents streams.old.output streams.new.output)) }
 {
     let Ok(mut reasons) = Reasons::new(alloc, errors) else {
         return Err(ScriptFault::Memory);
     };
-    let script = Script::new(alloc, limits, hash);
-    let ran = run_heard(reader, writer, script, MAX_READS, &mut reasons);
+    let script = Script::new(alloc, settings.limits, settings.hash);
+    let ran = run_heard(streams, script, MAX_READS, &mut reasons);
     reasons.tell();
     ran
 }
 
 /// Runs a script from where it stands, with at most this many reads, before a listener.
 fn run_heard<R: Read, W: Write, H: KeyHash + Copy + Drop, L: Listener>(
-    reader: &mut R,
-    writer: &mut W,
+    streams: &mut Streams<R, W>,
     mut script: Script<H>,
     reads: u32,
     listener: &mut L,
 ) -> Result<Node<H>, ScriptFault>
     ensures ok { IfOk result (λ node. LeavesNode script (seen node)
-        (flow R.remaining reader.old reader.new) (flow W.contents writer.old writer.new)) }
+        (flow R.remaining streams.old.input streams.new.input)
+        (flow W.contents streams.old.output streams.new.output)) }
     ensures err { IfErr result (Stops script
-        (flow R.remaining reader.old reader.new) (flow W.contents writer.old writer.new)) }
+        (flow R.remaining streams.old.input streams.new.input)
+        (flow W.contents streams.old.output streams.new.output)) }
 {
     let alloc = script.allocator();
     let Ok(mut feed) = Feed::new(alloc, reads) else {
@@ -102,45 +105,39 @@ fn run_heard<R: Read, W: Write, H: KeyHash + Copy + Drop, L: Listener>(
     let Ok(mut pending) = Pending::new(alloc) else {
         return Err(ScriptFault::Memory);
     };
-    answer_all(
-        reader,
-        &mut feed,
-        &mut pending,
-        writer,
-        &mut script,
-        listener,
-    )?;
+    answer_all(streams, &mut feed, &mut pending, &mut script, listener)?;
     Ok(script.into_node())
 }
 
 /// Answers all lines, and sends all answers.
 fn answer_all<R: Read, W: Write, H: KeyHash + Copy + Drop, L: Listener>(
-    reader: &mut R,
+    streams: &mut Streams<R, W>,
     feed: &mut Feed,
     pending: &mut Pending,
-    writer: &mut W,
     script: &mut Script<H>,
     listener: &mut L,
 ) -> Result<(), ScriptFault>
     requires waiting { pending.old ≡ [] }
     requires held { (feed.old.bytes ≡ []) × (feed.old.is_skipping ≡ false) }
     ensures ok { OnOk result (Completes script.old script.new
-        (flow R.remaining reader.old reader.new) (flow W.contents writer.old writer.new)) }
+        (flow R.remaining streams.old.input streams.new.input)
+        (flow W.contents streams.old.output streams.new.output)) }
     ensures err { IfErr result (Stops script.old
-        (flow R.remaining reader.old reader.new) (flow W.contents writer.old writer.new)) }
+        (flow R.remaining streams.old.input streams.new.input)
+        (flow W.contents streams.old.output streams.new.output)) }
 {
     loop {
         let Some(next) = answer_next(feed, script, listener) else {
-            pending.flush(writer)?;
+            pending.flush(&mut streams.output)?;
             listener.tell();
             feed.skip_long();
-            if feed.refill(reader)? == 0 {
-                answer_last(feed, pending, writer, script, listener)?;
+            if feed.refill(&mut streams.input)? == 0 {
+                answer_last(feed, pending, &mut streams.output, script, listener)?;
                 return Ok(());
             }
             continue;
         };
-        feed.consume(print_line(next, pending, writer)?);
+        feed.consume(print_line(next, pending, &mut streams.output)?);
     }
 }
 

@@ -8,10 +8,12 @@ ghost use Rattle.ets_script.specs.inside.Processes.{RunsInput, Stops};
 
 use crate::fault::ScriptFault;
 use crate::journal::print_out;
+use crate::node_settings::NodeSettings;
 use crate::output::Pending;
 use crate::plan::Known;
 use crate::planning::plan_input;
 use crate::processes::{Ran, run_work};
+use crate::streams::Streams;
 use ets_term::KeyHash;
 use node_core::Limits;
 use node_shared::MAX_PIDS;
@@ -20,9 +22,9 @@ use std::io::{Read, Write};
 use std::sync::Wait;
 use std::thread::Threads;
 
-/// Reads a script to its end, lets each of its processes do its lines in a thread of its own, on a node with these
-/// limits, and prints what came of it: the answers that were known before, the replies in the order of the journal, and
-/// the names of those that want of memory stopped. It may wait.
+/// Reads a script to its end, lets each of its processes do its lines in a thread of its own, on a node by these
+/// settings, and prints what came of it: the answers that were known before, the replies in the order of the journal,
+/// and the names of those that want of memory stopped. It may wait.
 pub fn run_threads<
     T: Threads + Wait + Sync,
     R: Read,
@@ -31,22 +33,22 @@ pub fn run_threads<
 >(
     rt: &T,
     alloc: Global,
-    reader: &mut R,
-    writer: &mut W,
-    limits: Limits,
-    hash: H,
+    streams: &mut Streams<R, W>,
+    settings: NodeSettings<H>,
 ) -> Result<(), ScriptFault>
-    ensures ok { OnOk result (ThreadsEnd limits
-        (flow R.remaining reader.old reader.new) (flow W.contents writer.old writer.new)) }
-    ensures err { IfErr result (ThreadsStop limits
-        (flow R.remaining reader.old reader.new) (flow W.contents writer.old writer.new)) }
+    ensures ok { OnOk result (ThreadsEnd settings.limits
+        (flow R.remaining streams.old.input streams.new.input)
+        (flow W.contents streams.old.output streams.new.output)) }
+    ensures err { IfErr result (ThreadsStop settings.limits
+        (flow R.remaining streams.old.input streams.new.input)
+        (flow W.contents streams.old.output streams.new.output)) }
     ensures numbers { AreTheNumbers }
 {
     let Ok(mut pending) = Pending::new(alloc) else {
         return Err(ScriptFault::Memory);
     };
-    let (known, ran) = run_input(rt, alloc, reader, limits, hash)?;
-    print_out(&known, &ran, &mut pending, writer)?;
+    let (known, ran) = run_input(rt, alloc, &mut streams.input, settings)?;
+    print_out(&known, &ran, &mut pending, &mut streams.output)?;
     Ok(())
 }
 
@@ -55,16 +57,15 @@ fn run_input<T: Threads + Wait + Sync, R: Read, H: KeyHash + Copy + Drop + Send 
     rt: &T,
     alloc: Global,
     reader: &mut R,
-    limits: Limits,
-    hash: H,
+    settings: NodeSettings<H>,
 ) -> Result<(Known, Ran), ScriptFault>
-    ensures ok { IfOk result (λ r. RunsInput limits
+    ensures ok { IfOk result (λ r. RunsInput settings.limits
         (flow R.remaining reader.old reader.new) r.0 r.1) }
-    ensures err { IfErr result (Stops limits) }
+    ensures err { IfErr result (Stops settings.limits) }
 {
-    let plan = plan_input(alloc, reader, most_names(limits))?;
+    let plan = plan_input(alloc, reader, most_names(settings.limits))?;
     let (known, work) = plan.into_parts();
-    let ran = run_work(rt, alloc, limits, hash, work)?;
+    let ran = run_work(rt, alloc, settings, work)?;
     Ok((known, ran))
 }
 

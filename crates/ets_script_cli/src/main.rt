@@ -1,7 +1,7 @@
 //! The program: it answers the script on its standard input.
 #![tactic(auto)]
 
-use ets_script::{answer_request, refuse, request};
+use ets_script::{Streams, answer_request, refuse, request};
 use std::process::ExitCode;
 use std::{env, io};
 
@@ -13,8 +13,10 @@ fn main(rt: HostRuntime) -> io::Result<ExitCode> {
             &rt,
             alloc,
             &request,
-            &mut rt.reader(),
-            &mut io::writer(&rt),
+            &mut Streams {
+                input: rt.reader(),
+                output: io::writer(&rt),
+            },
             &mut rt.stderr(),
         )?,
         Err(error) => refuse(&rt, &error)?,

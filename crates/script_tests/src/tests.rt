@@ -11,7 +11,7 @@ mod syntax;
 mod threads;
 
 use devices::{Devices, Seen, Source, Target};
-use ets_script::{ScriptFault, run_within};
+use ets_script::{NodeSettings, ScriptFault, Streams, run_within};
 use ets_term::{AllSame, Fnv, KeyHash};
 use node_core::{Limits, Node};
 use std::alloc::Global;
@@ -77,21 +77,27 @@ fn is_run_by<H: KeyHash + Copy + Drop>(
     end: End,
 ) -> bool {
     let seen = Seen::new();
-    let mut source = Source {
-        left: script,
-        most: run.devices.most_read,
-        good: run.devices.good_reads,
-        seen: &seen,
+    let mut streams = Streams {
+        input: Source {
+            left: script,
+            most: run.devices.most_read,
+            good: run.devices.good_reads,
+            seen: &seen,
+        },
+        output: Target {
+            taken: Vec::new(alloc),
+            most: run.devices.most_written,
+            good: run.devices.good_writes,
+            fails_to_flush: run.devices.fails_to_flush,
+            seen: &seen,
+        },
     };
-    let mut target = Target {
-        taken: Vec::new(alloc),
-        most: run.devices.most_written,
-        good: run.devices.good_writes,
-        fails_to_flush: run.devices.fails_to_flush,
-        seen: &seen,
+    let settings = NodeSettings {
+        limits: run.limits,
+        hash,
     };
-    let done = run_within(alloc, &mut source, &mut target, run.limits, hash, run.reads);
-    target.taken.as_slice() == answers
+    let done = run_within(alloc, &mut streams, settings, run.reads);
+    streams.output.taken.as_slice() == answers
         && end_of(done) == end
         && (end == End::Write || seen.is_all_flushed(answers.len()))
 }

@@ -1,6 +1,6 @@
 //! What is due of tables is done behind calls, two steps at most, and behind nothing else.
 use super::devices::{GOOD, Seen, Source, Target};
-use ets_script::run_script;
+use ets_script::{NodeSettings, Streams, run_script};
 use ets_term::Fnv;
 use node_core::{Limits, Step};
 use std::alloc::{AllocError, Global};
@@ -28,20 +28,26 @@ fn kind(step: Option<Step>) -> Due {
 
 fn due_after(alloc: Global, script: &[u8]) -> Due {
     let seen = Seen::new();
-    let mut source = Source {
-        left: script,
-        most: GOOD.most_read,
-        good: GOOD.good_reads,
-        seen: &seen,
+    let mut streams = Streams {
+        input: Source {
+            left: script,
+            most: GOOD.most_read,
+            good: GOOD.good_reads,
+            seen: &seen,
+        },
+        output: Target {
+            taken: Vec::new(alloc),
+            most: GOOD.most_written,
+            good: GOOD.good_writes,
+            fails_to_flush: GOOD.fails_to_flush,
+            seen: &seen,
+        },
     };
-    let mut target = Target {
-        taken: Vec::new(alloc),
-        most: GOOD.most_written,
-        good: GOOD.good_writes,
-        fails_to_flush: GOOD.fails_to_flush,
-        seen: &seen,
+    let settings = NodeSettings {
+        limits: Limits::usual(),
+        hash: Fnv,
     };
-    match run_script(alloc, &mut source, &mut target, Limits::usual(), Fnv) {
+    match run_script(alloc, &mut streams, settings) {
         Ok(node) => kind(node.due()),
         Err(_) => Due::Fault,
     }

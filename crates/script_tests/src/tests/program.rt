@@ -1,7 +1,7 @@
 //! The program's status, and its line of errors.
 use super::devices::{Devices, GOOD, Seen, Source, Target};
 use ets_script::options::Settings;
-use ets_script::{ScriptFault, answer_alone};
+use ets_script::{ScriptFault, Streams, answer_alone};
 use std::alloc::{AllocError, Global};
 use std::io;
 use std::test::Fail;
@@ -16,21 +16,23 @@ const USUAL: Settings = Settings {
 /// The status with which the program answers one line by these devices, and whether this is its line of errors.
 fn status(alloc: Global, devices: &Devices, words: &[u8]) -> io::Result<(u8, bool)> {
     let seen = Seen::new();
-    let mut source = Source {
-        left: b"spawn p\n",
-        most: devices.most_read,
-        good: devices.good_reads,
-        seen: &seen,
-    };
-    let mut target = Target {
-        taken: Vec::new(alloc),
-        most: devices.most_written,
-        good: devices.good_writes,
-        fails_to_flush: devices.fails_to_flush,
-        seen: &seen,
+    let mut streams = Streams {
+        input: Source {
+            left: b"spawn p\n",
+            most: devices.most_read,
+            good: devices.good_reads,
+            seen: &seen,
+        },
+        output: Target {
+            taken: Vec::new(alloc),
+            most: devices.most_written,
+            good: devices.good_writes,
+            fails_to_flush: devices.fails_to_flush,
+            seen: &seen,
+        },
     };
     let mut errors = Vec::new(alloc);
-    let status = answer_alone(alloc, &USUAL, &mut source, &mut target, &mut errors)?;
+    let status = answer_alone(alloc, &USUAL, &mut streams, &mut errors)?;
     Ok((status, errors.as_slice() == words))
 }
 

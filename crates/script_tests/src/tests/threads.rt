@@ -1,7 +1,7 @@
 //! Scripts whose processes run in threads of their own.
 use super::devices::{Devices, GOOD, Seen, Source, Target};
 use super::{End, end_at};
-use ets_script::run_threads;
+use ets_script::{NodeSettings, Streams, run_threads};
 use ets_term::Fnv;
 use node_core::Limits;
 use std::alloc::Global;
@@ -31,28 +31,31 @@ fn whole<'a>(processes: u32, script: &'a [u8], output: &'a [u8]) -> Row<'a> {
 
 fn is_run<T: Threads + Wait + Sync>(rt: &T, alloc: Global, row: &Row<'_>) -> bool {
     let seen = Seen::new();
-    let mut source = Source {
-        left: row.script,
-        most: row.devices.most_read,
-        good: row.devices.good_reads,
-        seen: &seen,
-    };
-    let mut target = Target {
-        taken: Vec::new(alloc),
-        most: row.devices.most_written,
-        good: row.devices.good_writes,
-        fails_to_flush: row.devices.fails_to_flush,
-        seen: &seen,
+    let mut streams = Streams {
+        input: Source {
+            left: row.script,
+            most: row.devices.most_read,
+            good: row.devices.good_reads,
+            seen: &seen,
+        },
+        output: Target {
+            taken: Vec::new(alloc),
+            most: row.devices.most_written,
+            good: row.devices.good_writes,
+            fails_to_flush: row.devices.fails_to_flush,
+            seen: &seen,
+        },
     };
     let limits = Limits {
         processes: row.processes,
         ..Limits::usual()
     };
-    let end = match run_threads(rt, alloc, &mut source, &mut target, limits, Fnv) {
+    let settings = NodeSettings { limits, hash: Fnv };
+    let end = match run_threads(rt, alloc, &mut streams, settings) {
         Ok(()) => End::Whole,
         Err(fault) => end_at(&fault),
     };
-    target.taken.as_slice() == row.output && end == row.end
+    streams.output.taken.as_slice() == row.output && end == row.end
 }
 
 #[test]

@@ -7,5 +7,5 @@ use Rattle.ets_script.proofs.processes.run_counted.Goals as goal
 
 pub returns-in-Ok-close-clause-ok : goal.returns-in-Ok-close-clause-ok
 returns-in-Ok-close-clause-ok g c =
-    closed c.args.limits c.args.work.jobs c.in-Ok.clients.items c.in-Ok.left.items c.in-Ok-close.transcript c.in-Ok.ensures
+    closed c.args.settings.limits c.args.work.jobs c.in-Ok.clients.items c.in-Ok.left.items c.in-Ok-close.transcript c.in-Ok.ensures
     (subst (λ (l : Limits). Closes l c.in-Ok.clients.items (Ok c.in-Ok-close.transcript)) c.new-shared.ensures c.in-Ok-close.ensures)

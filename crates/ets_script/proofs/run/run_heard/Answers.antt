@@ -2,12 +2,12 @@ use Rattle.ets_script.proofs.ScriptEnds.{not_begun, stop_told}
 use Rattle.ets_script.proofs.run.run_heard.Goals as goal
 
 pub returns-in_default-clause-err : goal.returns-in_default-clause-err
-returns-in_default-clause-err g c = not_begun c.args.script (g.R.Read.remaining c.args.reader.now) (g.W.Write.contents c.args.writer.now)
+returns-in_default-clause-err g c = not_begun c.args.script (g.R.Read.remaining c.args.streams.now.input) (g.W.Write.contents c.args.streams.now.output)
 
 pub returns-in_default-new-clause-err : goal.returns-in_default-new-clause-err
-returns-in_default-new-clause-err g c = not_begun c.args.script (g.R.Read.remaining c.args.reader.now) (g.W.Write.contents c.args.writer.now)
+returns-in_default-new-clause-err g c = not_begun c.args.script (g.R.Read.remaining c.args.streams.now.input) (g.W.Write.contents c.args.streams.now.output)
 
 pub returns-in_err-answer_all-clause-err : goal.returns-in_err-answer_all-clause-err
 returns-in_err-answer_all-clause-err g c =
-    stop_told c.args.script (g.R.Read.remaining c.args.reader.now) (g.R.Read.remaining c.answer_all.new.reader) (g.W.Write.contents c.args.writer.now) (g.W.Write.contents c.answer_all.new.writer)
+    stop_told c.args.script (g.R.Read.remaining c.args.streams.now.input) (g.R.Read.remaining c.answer_all.new.streams.input) (g.W.Write.contents c.args.streams.now.output) (g.W.Write.contents c.answer_all.new.streams.output)
     c.from_residual.result c.in_err-answer_all.field-0.0 c.from_residual.ensures.1 c.in_err-answer_all.ensures.err

@@ -8,10 +8,10 @@ use Rattle.ets_script.proofs.run.run_within.Goals as goal
 
 pub returns-clause-ok : goal.returns-clause-ok
 returns-clause-ok g c =
-    let ends : Scripted → Type 0 = λ s. IfOk c.run_heard.result (λ node. LeavesNode s (seen node) (flow g.R.Read.remaining c.args.reader.now c.run_heard.new.reader) (flow g.W.Write.contents c.args.writer.now c.run_heard.new.writer)) in
+    let ends : Scripted → Type 0 = λ s. IfOk c.run_heard.result (λ node. LeavesNode s (seen node) (flow g.R.Read.remaining c.args.streams.now.input c.run_heard.new.streams.input) (flow g.W.Write.contents c.args.streams.now.output c.run_heard.new.streams.output)) in
     subst ends c.new-script.ensures c.run_heard.ensures.ok
 
 pub returns-clause-err : goal.returns-clause-err
 returns-clause-err g c =
-    let stops : Scripted → Type 0 = λ s. IfErr c.run_heard.result (Stops s (flow g.R.Read.remaining c.args.reader.now c.run_heard.new.reader) (flow g.W.Write.contents c.args.writer.now c.run_heard.new.writer)) in
+    let stops : Scripted → Type 0 = λ s. IfErr c.run_heard.result (Stops s (flow g.R.Read.remaining c.args.streams.now.input c.run_heard.new.streams.input) (flow g.W.Write.contents c.args.streams.now.output c.run_heard.new.streams.output)) in
     subst stops c.new-script.ensures c.run_heard.ensures.err

@@ -8,10 +8,10 @@ use Rattle.ets_script.proofs.Clients.{as_many, fault_told, unplanned}
 use Rattle.ets_script.proofs.threads.run_input.Goals as goal
 
 pub returns-in_err-plan-clause-err : goal.returns-in_err-plan-clause-err
-returns-in_err-plan-clause-err g c = fault_told (Stops c.args.limits) c.from_residual.result _ c.from_residual.ensures.1 (unplanned c.args.limits _ c.in_err-plan.ensures.err)
+returns-in_err-plan-clause-err g c = fault_told (Stops c.args.settings.limits) c.from_residual.result _ c.from_residual.ensures.1 (unplanned c.args.settings.limits _ c.in_err-plan.ensures.err)
 
 pub returns-in_err-ran-clause-err : goal.returns-in_err-ran-clause-err
-returns-in_err-ran-clause-err g c = fault_told (Stops c.args.limits) c.from_residual-in_err-ran.result _ c.from_residual-in_err-ran.ensures.1 c.in_err-ran.ensures.err
+returns-in_err-ran-clause-err g c = fault_told (Stops c.args.settings.limits) c.from_residual-in_err-ran.result _ c.from_residual-in_err-ran.ensures.1 c.in_err-ran.ensures.err
 
 pub returns-clause-ok : goal.returns-clause-ok
 returns-clause-ok g c =
@@ -29,7 +29,7 @@ returns-clause-ok g c =
       planned = ap (λ (l : Limited). l.plan) p.5 ∙ ap (λ n. lines_plan n p.1 nothing) c.most_names.ensures;
       answers = parts.0;
       names = parts.1;
-      runs = subst (λ j. RunsJobs c.args.limits j c.in_ok-ran.ran.entries.items c.in_ok-ran.ran.left.items) jobs runs;
+      runs = subst (λ j. RunsJobs c.args.settings.limits j c.in_ok-ran.ran.entries.items c.in_ok-ran.ran.left.items) jobs runs;
       named =
           let same = as_many runs in
           omega (arith, same, c.into_parts-known.ensures.named);

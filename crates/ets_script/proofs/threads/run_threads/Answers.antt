@@ -6,20 +6,20 @@ use Rattle.ets_script.proofs.ThreadsEnds.{ended, broken, stopped}
 use Rattle.ets_script.proofs.threads.run_threads.Goals as goal
 
 pub returns-in_default-clause-err : goal.returns-in_default-clause-err
-returns-in_default-clause-err g c = appends_same (g.W.Write.contents c.args.writer.now)
+returns-in_default-clause-err g c = appends_same (g.W.Write.contents c.args.streams.now.output)
 
 pub returns-in_err-known-clause-err : goal.returns-in_err-known-clause-err
 returns-in_err-known-clause-err g c =
-    let before = g.R.Read.remaining c.args.reader.now in
+    let before = g.R.Read.remaining c.args.streams.now.input in
     let after = g.R.Read.remaining c.run_input.new.reader in
-    let old = g.W.Write.contents c.args.writer.now in
-    fault_told (ThreadsStop c.args.limits (between before after) (between old old)) c.from_residual.result _ c.from_residual.ensures.1 (stopped c.args.limits before after old _ c.in_err-known.ensures.err)
+    let old = g.W.Write.contents c.args.streams.now.output in
+    fault_told (ThreadsStop c.args.settings.limits (between before after) (between old old)) c.from_residual.result _ c.from_residual.ensures.1 (stopped c.args.settings.limits before after old _ c.in_err-known.ensures.err)
 
 pub returns-in_err-print_out-clause-err : goal.returns-in_err-print_out-clause-err
 returns-in_err-print_out-clause-err g c =
     let p = err_from_is_err_and c.from_residual-in_err-print_out.result c.from_residual-in_err-print_out.ensures.1 in
-    rw (p.1, p.2) (broken c.args.limits (g.R.Read.remaining c.args.reader.now) (g.R.Read.remaining c.run_input.new.reader) (g.W.Write.contents c.args.writer.now) (g.W.Write.contents c.print_out.new.writer) c.in_ok-known.known c.in_ok-known.ran c.in_ok-known.ensures.ok c.in_err-print_out.ensures.err)
+    rw (p.1, p.2) (broken c.args.settings.limits (g.R.Read.remaining c.args.streams.now.input) (g.R.Read.remaining c.run_input.new.reader) (g.W.Write.contents c.args.streams.now.output) (g.W.Write.contents c.print_out.new.writer) c.in_ok-known.known c.in_ok-known.ran c.in_ok-known.ensures.ok c.in_err-print_out.ensures.err)
 
 pub returns-clause-ok : goal.returns-clause-ok
 returns-clause-ok g c =
-    ended c.args.limits (g.R.Read.remaining c.args.reader.now) (g.R.Read.remaining c.run_input.new.reader) (g.W.Write.contents c.args.writer.now) (g.W.Write.contents c.print_out.new.writer) c.in_ok-known.known c.in_ok-known.ran c.in_ok-known.ensures.ok c.in_ok-print_out.ensures.ok
+    ended c.args.settings.limits (g.R.Read.remaining c.args.streams.now.input) (g.R.Read.remaining c.run_input.new.reader) (g.W.Write.contents c.args.streams.now.output) (g.W.Write.contents c.print_out.new.writer) c.in_ok-known.known c.in_ok-known.ran c.in_ok-known.ensures.ok c.in_ok-print_out.ensures.ok
