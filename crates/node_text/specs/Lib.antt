@@ -1,3 +1,4 @@
+pub mod Statuses
 pub mod Stored
 pub mod Texts
 pub mod Answers

@@ -3,6 +3,7 @@ ghost use Rattle.std.specs.Prelude.{◌≡◌, OnOk, OnErr};
 ghost use Rattle.node_core.specs.Seen.{seen};
 ghost use Rattle.node_text.specs.Answers.{Tells, TellsWhy, told};
 ghost use Rattle.node_text.specs.Calls.{fresh, Does, StepsOf, CallsOf};
+ghost use Rattle.node_text.specs.Statuses.{AreTheStatuses};
 ghost use Rattle.node_text.specs.Stored.{refused};
 ghost use Rattle.node_text.specs.Texts as texts;
 ghost use Rattle.node_text.specs.declared.refusal.Refusal.TheVariants as refusal;
@@ -74,7 +75,8 @@ impl Store {
 
     /// Does one step, and says the status of its reply. Want of memory changes nothing.
     pub fn act(&mut self, event: &Step) -> i32
-        ensures { StepsOf event.now result self.old self.new }
+        ensures done { StepsOf event.now result self.old self.new }
+        ensures statuses { AreTheStatuses }
     {
         match self.step(event) {
             Ok(()) => status_of(&self.reply),
