@@ -15,6 +15,8 @@ from crates import PARTS
 # that of another one of its cycle.
 OWN = re.compile(r"^fn (\S+): (?:not proved\b|no proof: (?!(?:in `[^`]*`, of this cycle of calls: )?it calls ))")
 GOAL = re.compile(r"^note: (src/\S+?):(\d+):\d+: it is not proved ")
+# A goal that has no answer, of the function whose folder of proofs this is.
+UNANSWERED = re.compile(r"^fn \S+: no proof: expected answers in \./(proofs/\S+)/Answers\.antt; `search` did not prove ")
 ERROR = re.compile(r"^(?:\./)?(\S+?):\d+:\d+: error: (?:(`[^`]*`): )?(.*)")
 COMPILER = re.compile(r"^(?:\./)?(src/\S+?):(\d+):\d+: error")
 # A proof that only names what another body took away says nothing of the contract.
@@ -30,9 +32,10 @@ class Said:
         self.status, self.wall, self.used = status, wall, used
         self.lines = text.rstrip("\n").split("\n")
         self.is_stale = bool(STALE.search(text))
-        self.is_judged = status == 1 and self.lines[-1].startswith("logic=not-proved")
+        # (a check of some functions alone gives no verdict on the crate, only on these)
+        self.is_judged = status == 1 and self.lines[-1].startswith(("logic=not-proved", "only="))
         self.is_proved = status == 0 and self.lines[-1].startswith("logic=proved")
-        self.own, self.proof_folders, goals = {}, [], []
+        self.own, self.paths, self.proof_folders, goals = {}, [], [], []
         for line in self.lines:
             goal, error, own = GOAL.match(line), ERROR.match(line), OWN.match(line)
             if goal:
@@ -40,6 +43,9 @@ class Said:
             elif error and error[1].startswith("proofs/") and not NAMES_ONLY.search(line):
                 self.proof_folders.append(os.path.dirname(error[1]))
             elif line.startswith("fn "):
+                self.paths.append(line[3:].partition(": ")[0])
+                unanswered = UNANSWERED.match(line)
+                self.proof_folders += [unanswered[1]] if unanswered else []
                 if own:
                     self.own[own[1]] = goals
                 goals = []
@@ -73,7 +79,7 @@ class Prover:
     def rlib(self, name):
         return f"{self.libraries}/crates/{name}/out/rlib"
 
-    def words(self, crate, jobs, kept):
+    def words(self, crate, jobs, kept, only=()):
         own = {it.name for it in crate.below}
         words = [f"{self.kit}/bin/rattle", "check", "--crate-name", crate.name, crate.root()]
         for name in ["std", *crate.uses]:
@@ -84,10 +90,12 @@ class Prover:
         words += ["--antt-project", f"{self.kit}/rattle/logic/antt-project.json", "--logic-built", f"{self.kit}/logic_built"]
         words += ["--jobs", str(jobs), "--links", f"{crate.name}="]
         words += ["--crate-type", "staticlib"] if crate.kind == "staticlib" else []
-        return [*words, "--incremental", kept] if kept else words
+        words += ["--incremental", kept] if kept else []
+        return words + [it for path in only for it in ("--only", path.partition("::")[2])]
 
-    def check(self, crate, texts, jobs, kept):
-        """Checks a copy of the crate with these texts, over the work in `kept` where it is given."""
+    def check(self, crate, texts, jobs, kept, only=()):
+        """Checks a copy of the crate with these texts, over the work in `kept` where it is given: all of it, or only these
+        functions and what they call."""
         with tempfile.TemporaryDirectory(prefix="wrong-body-") as room, tempfile.TemporaryFile() as out:
             for part in PARTS:
                 if os.path.isdir(f"{crate.folder}/{part}"):
@@ -99,12 +107,12 @@ class Prover:
             with self.starting:
                 how = {"stdin": subprocess.DEVNULL, "stdout": out, "stderr": subprocess.STDOUT}
                 join = lambda: os.setpgid(0, self.guard.pid)
-                ran = subprocess.Popen(self.words(crate, jobs, kept), cwd=room, preexec_fn=join, **how)
+                ran = subprocess.Popen(self.words(crate, jobs, kept, only), cwd=room, preexec_fn=join, **how)
             _, status, used = os.wait4(ran.pid, 0)
             ran.returncode = os.waitstatus_to_exitcode(status)
             out.seek(0)
             text = out.read().decode(errors="replace")
         if ran.returncode == -signal.SIGKILL and jobs > 1:
             # most likely for want of memory
-            return self.check(crate, texts, 1, kept)
+            return self.check(crate, texts, 1, kept, only)
         return Said(ran.returncode, text, time.time() - began, used.ru_utime + used.ru_stime)

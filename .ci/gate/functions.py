@@ -40,6 +40,14 @@ class Function:
         is_there = self.owner in parts or parts[: len(self.modules)] == self.modules
         return is_there and "fn" in parts[:-1] and self.name in parts[parts.index("fn") :]
 
+    def has_cycle(self, folder):
+        """Whether a folder of proofs is that of the cycle of calls that it stands in: by the cycle's name, or, where it has
+        none, as a function that its closures call, by the names of its members, as proofs/workers/+fn-run_from-join+run_from."""
+        at, plus, members = folder.partition("/+")
+        if self.cycle:
+            return members == self.cycle
+        return bool(plus) and at == "/".join(["proofs", *self.modules]) and self.name in members.split("+")
+
     def is_told_by(self, path):
         return self.is_named(path) or self.has_inside(path)
 

@@ -41,6 +41,11 @@ class Log:
             fates[name] = fate(name, text)
         return fates[name]
 
+    def paths(self, name):
+        """What the prover calls a crate's functions, as far as `rt ci` has said it."""
+        text = read(self.file) if self.file else ""
+        return re.findall(rf"^fn ({name}::\S+): ", text, re.M)
+
 
 class Lanes:
     """Crates side by side: of those that are proved, the one with most work first."""

@@ -4,7 +4,7 @@ Edits of different functions are tried together, in one check. Nothing is lost b
 its function calls, and no edit touches one. An edit is refused where its own function has a goal of its own that is not
 proved, at a place in it or in its folder of proofs. As a control, no function that no edit touches may have such a goal. What
 cannot be told so is tried alone, as `rt must-fail` does."""
-import re
+import shutil
 import tempfile
 
 from edits import edits_of, functions_of
@@ -19,8 +19,9 @@ class Verdict:
 class Trial:
     """The trial of one crate's edits, over work that it keeps from check to check."""
 
-    def __init__(self, crate, prover, say, jobs):
-        self.crate, self.prover, self.say, self.jobs = crate, prover, say, jobs
+    def __init__(self, crate, prover, say, jobs, paths=()):
+        """`paths` is what the prover calls the crate's functions, where that is known."""
+        self.crate, self.prover, self.say, self.jobs, self.paths = crate, prover, say, jobs, paths
         self.functions, self.edits = functions_of(crate), edits_of(crate)
         self.used, self.wall, self.refused = 0, 0, {}
 
@@ -30,21 +31,21 @@ class Trial:
         with tempfile.TemporaryDirectory(prefix="wrong-bodies-") as self.kept:
             self.in_rounds()
             left = [it for it in self.edits if it not in self.refused]
-            made = {it: self.alone(it, self.kept) for it in left}
             # What kept work says counts only for a refusal, and only where the crate itself is proved over it.
-            if left and not self.check({}, self.kept).is_proved:
-                self.say(f"{self.crate.name}: not proved over its kept work: each edit that was tried alone goes from nothing")
-                made = {it: None for it in left}
-            for edit, verdict in made.items():
-                if verdict is None or not verdict.is_refused:
-                    made[edit] = self.alone(edit, None)
+            serves = not left or self.check({}, self.kept).is_proved
+            if not serves:
+                self.say(f"{self.crate.name}: not proved over its kept work: each edit that is tried alone goes from nothing")
+            made = {}
+            for edit in left:
+                verdict = self.over_a_copy(edit) if serves else None
+                made[edit] = verdict if verdict and verdict.is_refused else self.alone(edit, None)
                 self.say(f"{edit}: alone: {made[edit].word}")
         told = {it: Verdict(it, "refused", f"round {number}") for it, number in self.refused.items()}
         self.say(f"{self.crate.name}: {len(self.edits)} edits, {len(told)} told in rounds, {self.wall:.0f} s, {self.used:.0f} s of processor")
         return [{**told, **made}[it] for it in self.edits]
 
-    def check(self, texts, kept):
-        said = self.prover.check(self.crate, texts, self.jobs(), kept)
+    def check(self, texts, kept, only=()):
+        said = self.prover.check(self.crate, texts, self.jobs(), kept, only)
         self.used, self.wall = self.used + said.used, self.wall + said.wall
         return said
 
@@ -53,7 +54,8 @@ class Trial:
         while waiting:
             number += 1
             taken, waiting, texts = self.next_round(waiting)
-            said = self.check(texts, self.kept)
+            said = self.check(texts, self.kept, self.named(taken))
+            self.paths = self.paths or said.paths
             if not said.is_judged or said.unreadable(texts) or said.is_stale:
                 # The compiler names what it refuses: these go alone, and the others once more.
                 places = said.refused_by_compiler()
@@ -70,6 +72,13 @@ class Trial:
             others = [it for it in taken if it not in told]
             self.say(f"{self.crate.name}: round {number}: {len(told)} of {len(taken)} refused, {said.wall:.0f} s, {said.used:.0f} s of processor"
                      + (f"; not told: {names_of(others)}" if others else ""))
+
+    def named(self, taken):
+        """What the prover calls the functions that these edits touch, where that is known: they and what they call are looked
+        at, and the rest of the crate is not."""
+        touched = [it for edit in taken for it in edit.touched]
+        found = [[path for path in self.paths if each.is_named(path)] for each in touched]
+        return [path for it in found for path in it] if all(found) else []
 
     def next_round(self, waiting):
         """Takes as many edits as touch different functions. Returns them, those left, and the texts with them made."""
@@ -104,7 +113,12 @@ class Trial:
             is_one = sum(it.is_named(path) for it in self.functions) == 1
             if is_one and "proofs/" + "/".join(path.split("::")[1:]) in said.proof_folders:
                 return True
-        return bool(function.cycle) and any(re.search(rf"/\+{function.cycle}$", it) for it in said.proof_folders)
+        return any(function.has_cycle(it) for it in said.proof_folders)
+
+    def over_a_copy(self, edit):
+        """The verdict on one edit over a copy of the kept work, which so has nothing of it for what is checked next."""
+        with tempfile.TemporaryDirectory(prefix="wrong-bodies-") as room:
+            return self.alone(edit, shutil.copytree(self.kept, f"{room}/kept"))
 
     def alone(self, edit, kept):
         """The verdict on one edit by a check of its own."""

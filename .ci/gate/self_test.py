@@ -6,7 +6,8 @@ import subprocess
 import sys
 import tempfile
 
-from checks import OWN
+from checks import OWN, UNANSWERED
+from functions import functions
 from lanes import fate
 
 # Each planted edit: its file, the text before and after, and the verdict that it must get.
@@ -28,6 +29,18 @@ VERDICTS = {
     "fn keys::rev32: no proof: it calls `keys::item`, which is not proved": False,
     "fn keys::rev32: no proof: in `keys::item`, of this cycle of calls: it calls `keys::key`, which is not proved": False,
     "fn keys::rev32: proved": False,
+}
+
+# A line that tells of a goal without an answer, and the folder in which that is missing.
+NO_ANSWER = "fn keys::rev32: no proof: expected answers in ./proofs/keys/rev32/Answers.antt; `search` did not prove `returns`"
+NO_ANSWER_IN = "proofs/keys/rev32"
+
+# Folders of proofs, and whether each is that of a cycle of calls in which `workers::run_from` stands.
+CYCLES = {
+    "proofs/workers/+fn-run_from-join+arg2+run_from": True,
+    "proofs/workers/+run_from_here": False,
+    "proofs/others/+run_from": False,
+    "proofs/workers/run_from": False,
 }
 
 # Ends of what `rt ci` says, and whether split_key is proved by it.
@@ -72,6 +85,10 @@ def self_test(top):
 
     for line, is_own in VERDICTS.items():
         expect(bool(OWN.match(line)) == is_own, "a line of the prover", line)
+    expect((found := UNANSWERED.match(NO_ANSWER)) and found[1] == NO_ANSWER_IN, "a goal without an answer", NO_ANSWER)
+    member = functions("src/workers.rt", "fn run_from() {\n}\n")[0]
+    for folder, is_its in CYCLES.items():
+        expect(member.has_cycle(folder) == is_its, "a cycle of calls", folder)
     for text, is_proved in FATES.items():
         expect(fate("split_key", text) == is_proved, "what rt ci says", text)
     with tempfile.TemporaryDirectory(prefix="wrong-bodies-self-") as folder:

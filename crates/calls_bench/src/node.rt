@@ -20,9 +20,16 @@ pub(crate) fn with_table(alloc: Global) -> Result<Node<Fnv>, AllocError> {
 }
 
 fn begin(alloc: Global, node: &mut Node<Fnv>) -> Result<(), AllocError> {
-    node.step(&Step::Enrol(PID))?;
-    node.step(&asks(new_table(alloc)?))?;
-    Ok(())
+    done(node, Step::Enrol(PID))?;
+    done(node, asks(new_table(alloc)?))
+}
+
+/// Does a step, and lets the reply go.
+fn done(node: &mut Node<Fnv>, step: Step) -> Result<(), AllocError> {
+    match node.step(&step) {
+        Ok(_) => Ok(()),
+        Err(fault) => Err(fault),
+    }
 }
 
 /// The step in which the process asks this call.
@@ -30,20 +37,29 @@ pub(crate) fn asks(call: Call) -> Step {
     Step::Ask(PID, call)
 }
 
-/// Does the step of growth that is due, if one is.
-pub(crate) fn tend(node: &mut Node<Fnv>) -> Result<(), AllocError> {
-    if let Some(step) = node.due() {
-        node.step(&step)?;
+/// Does two steps of growth, so far as they are due.
+pub(crate) fn grow(node: &mut Node<Fnv>) -> Result<(), AllocError> {
+    tend(node)?;
+    tend(node)
+}
+
+fn tend(node: &mut Node<Fnv>) -> Result<(), AllocError> {
+    match node.due() {
+        Some(step) => done(node, step),
+        None => Ok(()),
     }
-    Ok(())
+}
+
+/// Puts the object of a key in, and does two steps of growth.
+pub(crate) fn put(alloc: Global, node: &mut Node<Fnv>, k: u64) -> Result<(), AllocError> {
+    done(node, asks(insert(alloc, k)?))?;
+    grow(node)
 }
 
 /// Puts an object of each of the `KEYS` in.
 pub(crate) fn fill(alloc: Global, node: &mut Node<Fnv>) -> Result<(), AllocError> {
     for k in 0..KEYS {
-        node.step(&asks(insert(alloc, k)?))?;
-        tend(node)?;
-        tend(node)?;
+        put(alloc, node, k)?;
     }
     Ok(())
 }
@@ -61,8 +77,12 @@ pub(crate) fn mixed_steps(alloc: Global, calls: u32) -> Result<Vec<Step>, AllocE
 pub(crate) fn ask_all(node: &mut Node<Fnv>, steps: &[Step]) -> Result<u64, AllocError> {
     let mut found: u64 = 0;
     for step in steps {
-        let reply = node.step(step)?;
-        found = found.wrapping_add(u64::from(has_found(&reply)));
+        found = found.wrapping_add(u64::from(finds(node, step)?));
     }
     Ok(found)
+}
+
+fn finds(node: &mut Node<Fnv>, step: &Step) -> Result<bool, AllocError> {
+    let reply = node.step(step)?;
+    Ok(has_found(&reply))
 }

@@ -1,6 +1,6 @@
 //! The phases of the life of a table: one step for each key, in an order of the phase's own.
 use crate::calls::{count_up, has_found, insert, is_atom, of_key, write, write_or};
-use crate::node::{asks, tend};
+use crate::node::{asks, grow};
 use crate::order::shuffled;
 use ets_term::{Fnv, Term};
 use node_core::{Call, Node, Reply, Step};
@@ -54,14 +54,18 @@ impl Phase {
     pub(crate) fn run(self, node: &mut Node<Fnv>, steps: &[Step]) -> Result<u64, AllocError> {
         let mut done: u64 = 0;
         for step in steps {
-            let reply = node.step(step)?;
+            done = done.wrapping_add(u64::from(self.is_done(node, step)?));
             if matches!(self, Phase::Insert) {
-                tend(node)?;
-                tend(node)?;
+                grow(node)?;
             }
-            done = done.wrapping_add(u64::from(self.is_right(&reply)));
         }
         Ok(done)
+    }
+
+    /// Does a step, and says whether it was answered as it should be.
+    fn is_done(self, node: &mut Node<Fnv>, step: &Step) -> Result<bool, AllocError> {
+        let reply = node.step(step)?;
+        Ok(self.is_right(&reply))
     }
 
     fn seed(self) -> u64 {

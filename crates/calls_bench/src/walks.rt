@@ -1,6 +1,6 @@
 //! Walks over a whole table: by the next key and then a lookup of it, or by both in one call.
-use crate::calls::{first, has_found, insert, is_entry, number_in, of_key};
-use crate::node::{asks, tend, with_table};
+use crate::calls::{first, has_found, is_entry, number_in, of_key};
+use crate::node::{asks, put, with_table};
 use crate::order::shuffled;
 use crate::report::nanoseconds;
 use ets_term::Fnv;
@@ -42,23 +42,27 @@ impl Walks {
 /// All keys, as `first` and `next` tell them.
 fn keys_in_order(alloc: Global, node: &mut Node<Fnv>, count: u32) -> Result<Vec<u64>, AllocError> {
     let mut keys = Vec::new(alloc);
-    let mut reply = node.step(&asks(first(alloc)?))?;
+    let mut next = told_key(node, asks(first(alloc)?))?;
     for _key in 0..count {
-        let Some(key) = number_in(&reply) else {
+        let Some(key) = next else {
             return Ok(keys);
         };
         keys.push(key)?;
-        reply = node.step(&asks(of_key(alloc, "next", key)?))?;
+        next = told_key(node, asks(of_key(alloc, "next", key)?))?;
     }
     Ok(keys)
+}
+
+/// Does a step, and answers the key that it told.
+fn told_key(node: &mut Node<Fnv>, step: Step) -> Result<Option<u64>, AllocError> {
+    let reply = node.step(&step)?;
+    Ok(number_in(&reply))
 }
 
 /// Puts so many objects in, in an order that jumps about.
 fn fill(alloc: Global, node: &mut Node<Fnv>, count: u32) -> Result<(), AllocError> {
     for k in shuffled(alloc, u64::from(count), 1)? {
-        node.step(&asks(insert(alloc, k)?))?;
-        tend(node)?;
-        tend(node)?;
+        put(alloc, node, k)?;
     }
     Ok(())
 }
@@ -67,10 +71,14 @@ fn fill(alloc: Global, node: &mut Node<Fnv>, count: u32) -> Result<(), AllocErro
 fn told(node: &mut Node<Fnv>, steps: &[Step]) -> Result<u64, AllocError> {
     let mut told: u64 = 0;
     for step in steps {
-        let reply = node.step(step)?;
-        told = told.wrapping_add(u64::from(has_found(&reply) || is_entry(&reply)));
+        told = told.wrapping_add(u64::from(tells(node, step)?));
     }
     Ok(told)
+}
+
+fn tells(node: &mut Node<Fnv>, step: &Step) -> Result<bool, AllocError> {
+    let reply = node.step(step)?;
+    Ok(has_found(&reply) || is_entry(&reply))
 }
 
 /// Prints nanoseconds an object of either walk over a table of so many.

@@ -1,0 +1,32 @@
+"""A static library: `rt ci` checks it, and leaves none. It is built of what the gate's check of it left in its out/, or where that
+is not there it is proved first.
+
+    python3 static_library.py TREE CRATE"""
+import os
+import subprocess
+import sys
+
+from checks import Prover
+from crates import crates_of
+from parts import CHECKED
+
+
+def archive_of(crate):
+    return f"{crate.folder}/out/lib{crate.name}.a"
+
+
+def build(prover, crate):
+    rattle, _, *words = prover.words(crate, 1, None)
+    if os.path.exists(f"{crate.folder}/{CHECKED}"):
+        for word in ("--logic-built", "--jobs"):
+            at = words.index(word)
+            words = [*words[:at], *words[at + 2 :]]
+        words += ["--crate-checked", CHECKED]
+    words = [rattle, "build", *words, "--toolchain", f"{prover.kit}/toolchain", "--backend", "llvm", "-o", archive_of(crate)]
+    os.makedirs(f"{crate.folder}/out", exist_ok=True)
+    subprocess.run(words, cwd=crate.folder, stdin=subprocess.DEVNULL, check=True)
+
+
+if __name__ == "__main__":
+    tree = os.path.realpath(sys.argv[1])
+    build(Prover(tree), crates_of(tree)[sys.argv[2]])
