@@ -55,6 +55,14 @@ def sources_of(name: str) -> list[pathlib.Path]:
     return [path for folder in folders for path in folder.rglob("*") if path.suffix in (".rt", ".antt")]
 
 
+def build(crate: str, words: list[str], folder: pathlib.Path) -> None:
+    """Runs what builds a crate; where that fails, its last lines are told and the run stops."""
+    result = subprocess.run(words, cwd=folder, stdin=subprocess.DEVNULL, capture_output=True, text=True)
+    if result.returncode != 0:
+        print("\n".join((result.stdout + result.stderr).splitlines()[-20:]), file=sys.stderr)
+        stop(f"{crate} is not built")
+
+
 class Programs:
     """The store's side: programs proved and built here, or taken from a tree that `rt ci` built of the same sources."""
 
@@ -71,8 +79,7 @@ class Programs:
             if not (folder / "checked").exists():
                 print(f"bench: {crate} is left out, since {self.tree} has no library of it", file=sys.stderr)
                 return None
-            words = [sys.executable, "-B", str(TOP / ".ci/gate/static_library.py"), str(self.tree), crate]
-            subprocess.run(words, stdout=subprocess.DEVNULL, check=True)
+            build(crate, [sys.executable, "-B", str(TOP / ".ci/gate/static_library.py"), str(self.tree), crate], TOP)
         return self._built(crate, f"lib{crate}.a", "lib")
 
     def _built(self, crate: str, file: str, verb: str) -> str:
@@ -94,10 +101,7 @@ class Programs:
 
     def _prove(self, crate: str, verb: str) -> None:
         print(f"bench: {crate} is proved and built first", file=sys.stderr)
-        result = subprocess.run(["rt", verb], cwd=TOP / "crates" / crate, stdin=subprocess.DEVNULL, capture_output=True, text=True)
-        if result.returncode != 0:
-            print("\n".join((result.stdout + result.stderr).splitlines()[-20:]), file=sys.stderr)
-            stop(f"{crate} is not built")
+        build(crate, ["rt", verb], TOP / "crates" / crate)
 
     def script(self) -> str:
         """The program that answers scripts."""
