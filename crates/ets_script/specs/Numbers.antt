@@ -2,7 +2,7 @@
 use Rattle.std.specs.Prelude.{◌≡◌}
 use Rattle.node_shared.specs.declared.pids.TheConstants.{MAX_PIDS}
 use Rattle.ets_script.specs.declared.lines.TheConstants.{MAX_LINE}
-use Rattle.ets_script.specs.declared.feed.TheConstants.{MAX_READS}
+use Rattle.ets_script.specs.declared.run.TheConstants.{MAX_READS}
 
 -- The bytes that a line may have before its LF, and the reads that a script may take: where none of these finds the end
 -- of the input, that is a read fault. And the processes that a script in threads may have.

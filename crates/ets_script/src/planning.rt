@@ -4,9 +4,10 @@ ghost use Rattle.ets_script.specs.Flows.{flow};
 ghost use Rattle.ets_script.specs.inside.Planning.{no_lines, with_line, last_line, PlansNext, PlansAll, IsUnplanned};
 
 use crate::fault::ScriptFault;
-use crate::feed::{Feed, MAX_READS};
+use crate::feed::Feed;
 use crate::lines::NextLine;
 use crate::plan::Plan;
+use crate::run::MAX_READS;
 use std::alloc::{AllocError, Global};
 use std::io::Read;
 

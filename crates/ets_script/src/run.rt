@@ -11,7 +11,7 @@ ghost use Rattle.ets_script.specs.inside.Answered.{AnswersNext, AnswersPart, End
 
 use crate::answer::Answer;
 use crate::fault::ScriptFault;
-use crate::feed::{Feed, MAX_READS};
+use crate::feed::Feed;
 use crate::lines::NextLine;
 use crate::listener::{Listener, Quiet};
 use crate::node_settings::NodeSettings;
@@ -23,6 +23,9 @@ use ets_term::KeyHash;
 use node_core::Node;
 use std::alloc::Global;
 use std::io::{Read, Write};
+
+/// The most reads that a script takes.
+pub const MAX_READS: u32 = 1_000_000_000;
 
 /// Answers each line of a script, from the first state of a node by these settings to that of the node answered. What
 /// was answered has gone out before each read, and at the end.

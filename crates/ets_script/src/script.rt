@@ -64,7 +64,7 @@ impl<H: KeyHash + Copy + Drop> Script<H> {
     }
 
     /// The allocator of all that the script takes.
-    pub fn allocator(&self) -> Global {
+    pub(crate) fn allocator(&self) -> Global {
         *self.names.allocator()
     }
 

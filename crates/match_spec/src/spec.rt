@@ -8,6 +8,7 @@ ghost use Rattle.match_spec.specs.inside.FirstPlaces.{first_of};
 
 pub(crate) mod check;
 pub(crate) mod clause;
+pub(crate) mod conditions;
 
 use crate::bound_key::bound_by_all;
 use crate::expression::compile::expressions_of;

@@ -1,5 +1,5 @@
 ghost use Rattle.std.specs.Prelude.{◌≡◌, is_some};
-ghost use Rattle.node_list.specs.inside.Slots.{item_if};
+ghost use Rattle.node_list.specs.inside.Slots.{stand_in, item_if};
 
 use crate::chain::Chain;
 use crate::link::Link;
@@ -15,7 +15,9 @@ pub struct Item {
 
 impl Item {
     /// What stands at a place with no item.
-    pub fn stand_in(alloc: Global) -> Item {
+    pub fn stand_in(alloc: Global) -> Item
+        ensures { result ≡ stand_in }
+    {
         Item {
             term: Term::Int(0),
             chain: Chain::new(alloc),

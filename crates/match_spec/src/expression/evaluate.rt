@@ -41,8 +41,8 @@ impl<'a> Value<'a> {
     }
 }
 
-// The value of an expression that stands in it or in the object, None where it is to be made.
-fn lent<'a>(
+/// The value of an expression that stands in it or in the object, None where it is to be made.
+pub(crate) fn lent<'a>(
     expression: &'a Expression,
     places: &[Items<usize>],
     object: &'a Term,

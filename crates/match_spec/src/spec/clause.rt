@@ -1,17 +1,15 @@
 // Compiled clauses.
-ghost use Rattle.std.specs.Prelude.{◌≡◌, [], ◌∷◌, false, map, option_copied, IfOk};
+ghost use Rattle.std.specs.Prelude.{◌≡◌, false, map, option_copied, IfOk};
 ghost use Rattle.std.specs.Option.{option_map, option_map_or};
 ghost use Rattle.ets_term.specs.Data.{data_of};
-ghost use Rattle.match_spec.specs.Functions.{apply};
 ghost use Rattle.match_spec.specs.Specifications.{is_true};
-ghost use Rattle.match_spec.specs.inside.CompiledClauses.{counts, hold_of, last_of, outcome_by, first_counted};
-ghost use Rattle.match_spec.specs.inside.CompiledExpressions.{seen, apply_of, expression_value};
+ghost use Rattle.match_spec.specs.inside.CompiledClauses.{counts, last_of, outcome_by, first_counted};
+ghost use Rattle.match_spec.specs.inside.CompiledExpressions.{seen, expression_value};
 
 use crate::expression::Expression;
-use crate::expression::comparison::compares;
-use crate::expression::evaluate::{Value, apply_to_two, discard, evaluate, value_of};
-use crate::expression::function::Function;
+use crate::expression::evaluate::{Value, discard, value_of};
 use crate::pattern::part::{Part, fits};
+use crate::spec::conditions::{hold, is_true};
 use ets_term::{Atom, Items, Term};
 use std::alloc::{AllocError, Global};
 
@@ -25,6 +23,7 @@ pub(crate) struct Clause {
 }
 
 /// What the first of the clauses gives that counts, if one does.
+#[inline(always)]
 pub(crate) fn first_counted(
     alloc: Global,
     clauses: &[Clause],
@@ -53,6 +52,7 @@ pub(crate) fn first_is_true(
 }
 
 // The first of the clauses that counts.
+#[inline(always)]
 fn counted<'a>(
     alloc: Global,
     clauses: &'a [Clause],
@@ -83,6 +83,7 @@ fn counts(alloc: Global, clause: &Clause, object: &Term) -> Result<bool, AllocEr
     )
 }
 
+#[inline(never)]
 fn outcome(alloc: Global, clause: &Clause, object: &Term) -> Result<Term, AllocError>
     ensures { IfOk result (λ t. data_of t ≡ outcome_by clause.now (data_of object.now)) }
 {
@@ -108,91 +109,6 @@ fn is_outcome_true(alloc: Global, clause: &Clause, object: &Term) -> Result<bool
         object,
     )?;
     Ok(is_true(value))
-}
-
-fn hold(
-    alloc: Global,
-    conditions: &[Expression],
-    places: &[Items<usize>],
-    object: &Term,
-) -> Result<bool, AllocError>
-    ensures { IfOk result (λ b. b ≡ hold_of (map (expression_value places.now) conditions.now) (data_of object.now)) }
-{
-    for condition in conditions {
-        if !holds(alloc, condition, places, object)? {
-            return Ok(false);
-        }
-    }
-    Ok(true)
-}
-
-// Whether the condition gives true. A comparison answers at once, without an atom for its answer.
-#[tactic(auto, using(crate::proofs::ValueLaws::expression_value_of_two))]
-fn holds(
-    alloc: Global,
-    condition: &Expression,
-    places: &[Items<usize>],
-    object: &Term,
-) -> Result<bool, AllocError>
-    ensures { IfOk result (λ b. b
-        ≡ option_map_or is_true (expression_value places.now condition.now (data_of object.now)) false) }
-{
-    if let Expression::Apply(function, arguments) = condition {
-        if let [first, second] = arguments.as_slice() {
-            return two_hold(alloc, *function, first, second, places, object);
-        }
-    }
-    Ok(is_true(evaluate(alloc, condition, places, object)?))
-}
-
-fn two_hold(
-    alloc: Global,
-    function: Function,
-    first: &Expression,
-    second: &Expression,
-    places: &[Items<usize>],
-    object: &Term,
-) -> Result<bool, AllocError>
-    ensures { IfOk result (λ b. b
-        ≡ option_map_or is_true (apply_of function
-        (expression_value places.now first.now ∷ expression_value places.now second.now ∷ [])
-        (data_of object.now)) false) }
-{
-    let Some(x) = value_of(alloc, first, places, object)? else {
-        return Ok(false);
-    };
-    let Some(y) = value_of(alloc, second, places, object)? else {
-        return Ok(false);
-    };
-    values_hold(alloc, function, x, y)
-}
-
-#[tactic(auto, using(crate::proofs::ValueLaws::is_true_truth))]
-fn values_hold(alloc: Global, function: Function, x: Value, y: Value) -> Result<bool, AllocError>
-    ensures { IfOk result (λ b. b ≡ option_map_or is_true (apply function (seen x.entry ∷ seen y.entry ∷ [])) false) }
-{
-    if let Function::Compare(comparison) = function {
-        return Ok(compares(comparison, x.term(), y.term()));
-    }
-    Ok(is_true(apply_to_two(alloc, function, x, y)?))
-}
-
-fn is_true(value: Option<Value>) -> bool
-    ensures { result ≡ option_map_or is_true (option_map seen value.entry) false }
-{
-    match value {
-        Some(value) => is_the_true(value.term()),
-        None => false,
-    }
-}
-
-fn is_the_true(term: &Term) -> bool
-    ensures { result ≡ is_true (data_of term.now) }
-{
-    match term {
-        Term::Atom(name) => name.text() == "true",
-        _ => false,
-    }
 }
 
 // The value of the last of these expressions, None where one of them fails or there is none.

@@ -73,6 +73,7 @@ impl<R: Rows> Store<R> {
     }
 
     /// Puts what is given for objects behind the answers.
+    #[inline(always)]
     fn gather<G: Give>(
         &self,
         asked: &G,
@@ -93,6 +94,7 @@ impl<R: Rows> Store<R> {
     }
 
     /// Puts what is given for an object, if anything is, behind the answers.
+    #[inline(always)]
     fn gather_one<G: Give>(
         &self,
         asked: &G,
