@@ -4,7 +4,6 @@ import itertools
 import random
 from typing import Callable, Iterable, Iterator
 
-from plot import Panel
 from timing import Talk
 from workloads import mixed, table
 
@@ -23,8 +22,8 @@ def objects(count: int) -> dict[str, Iterable[str]]:
     return {
         "new": table(),
         "insert": (f"p insert(t,{{{key},{3 * key}}})" for key in mixed(count)),
-        "lookup, there": [f"p lookup(t,{chance.randrange(count)})" for _ in range(ASKED)],
-        "lookup, not there": [f"p lookup(t,{count + chance.randrange(count)})" for _ in range(ASKED)],
+        "lookup, hit": [f"p lookup(t,{chance.randrange(count)})" for _ in range(ASKED)],
+        "lookup, miss": [f"p lookup(t,{count + chance.randrange(count)})" for _ in range(ASKED)],
         "delete": [f"p delete(t,{key})" for key in chance.sample(range(count), min(count, ASKED))],
     }
 
@@ -35,7 +34,7 @@ def processes(count: int) -> dict[str, Iterable[str]]:
     return {
         "spawn": (f"spawn p{number}" for number in range(count)),
         "new": ["p0 new(t,[named_table,public])", "p0 insert(t,{a,1})"],
-        "member, by any of them": [f"p{chance.randrange(count)} member(t,a)" for _ in range(ASKED)],
+        "member": [f"p{chance.randrange(count)} member(t,a)" for _ in range(ASKED)],
         "exit": (f"exit p{number}" for number in mixed(count)),
     }
 
@@ -48,8 +47,8 @@ def tables(count: int) -> dict[str, Iterable[str]]:
     return {
         "spawn": ["spawn p"],
         "new": (f"p new({name},[named_table])" for name in names),
-        "insert of a list": (f"p insert({name},[{row}])" for name in names),
-        "member, of any of them": any_of("member({},7)"),
+        "insert of 64": (f"p insert({name},[{row}])" for name in names),
+        "member": any_of("member({},7)"),
         "delete of a table": (f"p delete({name})" for name in names),
     }
 
@@ -60,17 +59,19 @@ def one_hash(count: int) -> dict[str, Iterable[str]]:
     return {
         "new": table(),
         "insert": (f"p insert(t,{{{key},{key}}})" for key in mixed(count)),
-        "lookup, there": [f"p lookup(t,{chance.randrange(count)})" for _ in range(ASKED // 20)],
-        "lookup, not there": [f"p lookup(t,{count + chance.randrange(count)})" for _ in range(ASKED // 20)],
+        "lookup, hit": [f"p lookup(t,{chance.randrange(count)})" for _ in range(ASKED // 20)],
+        "lookup, miss": [f"p lookup(t,{count + chance.randrange(count)})" for _ in range(ASKED // 20)],
     }
 
 
-# What is drawn: a title, the script, its numbers, the smallest ones for a quick look, and the program's words.
-CURVES: list[tuple[str, Script, tuple[int, ...], list[str]]] = [
-    ("objects in a table", objects, (1_000, 10_000, 100_000, 1_000_000, 10_000_000), []),
-    ("living processes", processes, (1_000, 10_000, 100_000, 1_000_000), []),
-    ("tables that wait for growth", tables, (1_024, 8_192, 65_536), []),
-    ("keys of one hash", one_hash, (10, 30, 100, 300, 1_000, 3_000), ["--hash", "same"]),
+Title = tuple[str, str]  # of a panel, and of its horizontal axis
+
+# The curves: titles, script, numbers (a quick run takes the first two), and the program's arguments.
+CURVES: list[tuple[Title, Script, tuple[int, ...], list[str]]] = [
+    (("By objects", "objects in the table"), objects, (1_000, 10_000, 100_000, 1_000_000, 10_000_000), []),
+    (("By processes", "living processes"), processes, (1_000, 10_000, 100_000, 1_000_000), []),
+    (("By tables with pending growth", "tables"), tables, (1_024, 8_192, 65_536), []),
+    (("By keys with one hash", "keys"), one_hash, (10, 30, 100, 300, 1_000, 3_000), ["--hash", "same"]),
 ]
 
 
@@ -92,8 +93,8 @@ def measured(command: list[str], script: dict[str, Iterable[str]], figures: Figu
                 known[count] = min(spent, known.get(count, spent))
 
 
-def curves(quick: bool, program: str) -> list[tuple[str, Figures]]:
-    """The figures of each curve, the least of three turns; at the greatest numbers of one."""
+def curves(quick: bool, program: str) -> list[tuple[Title, Figures]]:
+    """The figures of each curve: the least of three turns, at a million and more of one."""
     found = []
     for title, script, counts, words in CURVES:
         figures: Figures = {}
@@ -109,7 +110,3 @@ def rows(title: str, figures: Figures) -> list[list[str]]:
     counts = sorted({count for known in figures.values() for count in known})
     cells = lambda known: [f"{known[count]:.0f}" if count in known else "" for count in counts]
     return [[f"ns a line, by {title}", *(f"{count:,}" for count in counts)], *([name, *cells(known)] for name, known in figures.items())]
-
-
-def panels(found: list[tuple[str, Figures]]) -> list[Panel]:
-    return [Panel(f"by {title}", {name: sorted(known.items()) for name, known in figures.items()}) for title, figures in found]

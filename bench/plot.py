@@ -1,84 +1,116 @@
-"""A drawing of curves: nanoseconds against a number of something, both scales logarithmic, in panels side by side."""
+"""Draws SVG charts: curves on logarithmic axes in panels, and bars of ratios. Both are legible on white and dark pages."""
 
 import math
 from dataclasses import dataclass
+from xml.sax.saxutils import escape
 
-COLOURS = ["#0a3d2c", "#27ae60", "#a3d9b1", "#7f7f7f", "#c0392b", "#2e6fb7", "#e0a030", "#7b4fa3", "#8c564b", "#17a2a2", "#d170b0"]
-WIDTH, HEIGHT, MARGIN = 250, 230, 46  # of a panel, and the room on its left and below it
-ABREAST = 3  # panels side by side
+INK, PALE, GRID = "#222222", "#666666", "#e6e6e6"
+COLOURS = ["#1b6ca8", "#d95f02", "#7f7f7f", "#7b4fa3", "#2a9d5c"]  # ours first
+FASTER, SLOWER = COLOURS[0], COLOURS[1]
+WIDTH, HEIGHT = 210, 190  # of a panel
+LEFT, TOP, GAP, BELOW = 62, 58, 112, 66  # around a panel: axis labels, title, labels of lines, title of the axis
+BAR, LABELS, SCALE = 30, 250, 330  # of a chart of bars: height of a row, width of its labels, width of its scale
 
 Points = list[tuple[int, float]]
+Rows = list[tuple[str, float, str]]  # a label, a ratio, and what is written at the bar
 
 
 @dataclass(frozen=True)
 class Panel:
-    """A title, and lines by their names."""
+    """A title, the name of the horizontal axis, and lines by their names."""
 
     title: str
+    across: str
     lines: dict[str, Points]
 
     def counts(self) -> list[int]:
         return sorted({count for points in self.lines.values() for count, _ in points})
 
 
-def drawn(title: str, panels: list[Panel]) -> str:
-    """The whole drawing. A name has one colour in all panels."""
-    names = list(dict.fromkeys(name for panel in panels for name in panel.lines))
-    colours = dict(zip(names, COLOURS * len(names)))
-    figures = [figure for panel in panels for points in panel.lines.values() for _, figure in points]
-    scale = Scale(min(figures), max(figures))
-    lines = [head(title, len(panels) + 1)]
-    for place, panel in enumerate(panels):
-        lines += drawn_panel(*corner(place), panel, colours, scale)
-    return "\n".join([*lines, *legend(*corner(len(panels)), colours), "</svg>", ""])
-
-
+@dataclass(frozen=True)
 class Scale:
-    """Nanoseconds upwards, from a power of ten to a power of ten."""
+    """Maps a logarithmic range to a range of pixels."""
 
-    def __init__(self, least: float, most: float) -> None:
-        self.low, self.high = math.floor(math.log10(least)), math.ceil(math.log10(most))
-        self.ticks = [each * 10**power for power in range(self.low, self.high) for each in (1, 3)] + [10**self.high]
+    low: float
+    high: float
+    start: float
+    end: float
 
-    def up(self, top: float, figure: float) -> float:
-        return top + HEIGHT * (self.high - math.log10(figure)) / (self.high - self.low)
-
-
-def corner(place: int) -> tuple[int, int]:
-    return MARGIN + place % ABREAST * (WIDTH + MARGIN), 34 + place // ABREAST * (HEIGHT + MARGIN)
+    def at(self, value: float) -> float:
+        share = (math.log10(value) - math.log10(self.low)) / (math.log10(self.high) - math.log10(self.low))
+        return self.start + share * (self.end - self.start)
 
 
-def head(title: str, places: int) -> str:
-    width, height = MARGIN + ABREAST * (WIDTH + MARGIN), 34 + -(-places // ABREAST) * (HEIGHT + MARGIN)
-    return (
-        f'<svg xmlns="http://www.w3.org/2000/svg" viewBox="0 0 {width} {height}" font-family="sans-serif" font-size="11">'
-        f'<rect width="{width}" height="{height}" fill="white"/>'
-        f'<text x="{MARGIN}" y="16" font-size="13">{title}</text>'
-    )
+def text(x: float, y: float, words: str, anchor: str = "start", colour: str = INK, size: int = 11, more: str = "") -> str:
+    return f'<text x="{x:.1f}" y="{y:.1f}" text-anchor="{anchor}" fill="{colour}" font-size="{size}"{more}>{escape(words)}</text>'
 
 
-def drawn_panel(left: int, top: int, panel: Panel, colours: dict[str, str], scale: Scale) -> list[str]:
-    """A panel's border, its title, its two scales, and its lines."""
-    lines = [
-        f'<rect x="{left}" y="{top}" width="{WIDTH}" height="{HEIGHT}" fill="none" stroke="#999"/>',
-        f'<text x="{left + 6}" y="{top + 15}" font-weight="bold">{panel.title}</text>',
-    ]
-    for tick in scale.ticks:
-        y = scale.up(top, tick)
-        lines.append(f'<line x1="{left}" x2="{left + WIDTH}" y1="{y:.1f}" y2="{y:.1f}" stroke="#eee"/>')
-        lines.append(f'<text x="{left - 4}" y="{y + 4:.1f}" text-anchor="end">{tick:,}</text>')
+def picture(width: float, height: float, title: str, description: str, parts: list[str]) -> str:
+    """A whole picture on a white ground, with a title and a description for readers who do not see it."""
+    head = f'<svg xmlns="http://www.w3.org/2000/svg" viewBox="0 0 {width:.0f} {height:.0f}" font-family="sans-serif" role="img" aria-labelledby="title desc">'
+    names = f'<title id="title">{escape(title)}</title><desc id="desc">{escape(description)}</desc>'
+    ground = f'<rect width="{width:.0f}" height="{height:.0f}" rx="6" fill="white"/>'
+    return "\n".join([head, names, ground, *parts, "</svg>", ""])
+
+
+# ---- curves ----
+
+
+def curves(title: str, below: str, up: str, panels: list[Panel]) -> str:
+    """Panels of curves with one vertical scale, whose name is `up`. A line has its name at its end, and one colour in all panels."""
+    names = list(dict.fromkeys(name for panel in panels for name in panel.lines))
+    colours = dict(zip(names, COLOURS)) if len(names) <= len(COLOURS) else {}
+    figures = [figure for panel in panels for points in panel.lines.values() for _, figure in points]
+    low, high = bound(min(figures), math.floor), bound(max(figures), math.ceil)
+    parts = [text(LEFT - 44, 24, title, size=15, more=' font-weight="bold"'), text(LEFT - 44, 42, below, colour=PALE)]
+    columns = 2 if len(panels) in (2, 4) else 3
+    for place, panel in enumerate(panels):
+        left, top = LEFT + place % columns * (WIDTH + GAP + LEFT - 20), TOP + 22 + place // columns * (HEIGHT + BELOW)
+        parts += drawn(panel, left, top, colours, Scale(low, high, top + HEIGHT, top), up if place % columns == 0 else "")
+    rows = -(-len(panels) // columns)
+    width = LEFT + columns * (WIDTH + GAP) + (columns - 1) * (LEFT - 20)
+    return picture(width, TOP + 22 + rows * (HEIGHT + BELOW), title, f"{below} Panels: {', '.join(it.title for it in panels)}.", parts)
+
+
+def bound(figure: float, whole) -> float:
+    """The next of 1, 3, 10, 30 .. on the side that `whole` rounds to."""
+    steps = [digit * 10**power for power in range(-2, 9) for digit in (1, 3)]
+    return max(it for it in steps if it <= figure) if whole is math.floor else min(it for it in steps if it >= figure)
+
+
+def drawn(panel: Panel, left: float, top: float, colours: dict[str, str], scale: Scale, up: str) -> list[str]:
+    own = colours or dict(zip(panel.lines, COLOURS))
+    parts = [text(left, top - 8, panel.title, size=12, more=' font-weight="bold"')]
+    for tick in [digit * 10**power for power in range(-2, 9) for digit in (1, 3)]:
+        if scale.low <= tick <= scale.high:
+            y = scale.at(tick)
+            parts.append(f'<line x1="{left}" x2="{left + WIDTH}" y1="{y:.1f}" y2="{y:.1f}" stroke="{GRID}"/>')
+            parts.append(text(left - 6, y + 4, f"{tick:,}", "end", PALE))
     counts = panel.counts()
+    over = Scale(counts[0], counts[-1], left + 8, left + WIDTH - 8)
     for count in counts:
-        x = across(left, counts, count)
-        lines.append(f'<text x="{x:.1f}" y="{top + HEIGHT + 14}" text-anchor="middle">{short(count)}</text>')
+        parts.append(text(over.at(count), top + HEIGHT + 16, short(count), "middle", PALE))
+    parts.append(text(left + WIDTH / 2, top + HEIGHT + 34, panel.across, "middle", PALE))
+    if up:
+        x, y = left - 48, top + HEIGHT / 2
+        parts.append(text(x, y, up, "middle", PALE, more=f' transform="rotate(-90 {x:.1f} {y:.1f})"'))
+    ends = spread({name: scale.at(points[-1][1]) for name, points in panel.lines.items()}, top, top + HEIGHT)
     for name, points in panel.lines.items():
-        lines += line([(across(left, counts, count), scale.up(top, figure)) for count, figure in points], colours[name])
-    return lines
+        places = [(over.at(count), scale.at(figure)) for count, figure in points]
+        path = " ".join(f"{x:.1f},{y:.1f}" for x, y in places)
+        parts.append(f'<polyline points="{path}" fill="none" stroke="{own[name]}" stroke-width="2"/>')
+        parts += [f'<circle cx="{x:.1f}" cy="{y:.1f}" r="2.8" fill="{own[name]}"/>' for x, y in places]
+        parts.append(text(left + WIDTH + 4, ends[name] + 4, name, colour=own[name]))
+    return parts
 
 
-def across(left: int, counts: list[int], count: int) -> float:
-    low, high = math.log10(counts[0]), math.log10(counts[-1])
-    return left + WIDTH * (math.log10(count) - low) / (high - low)
+def spread(ends: dict[str, float], top: float, bottom: float) -> dict[str, float]:
+    """Places for the names at the lines' ends, 13 pixels apart."""
+    found, last = {}, top - 13
+    for name, y in sorted(ends.items(), key=lambda it: it[1]):
+        found[name] = last = max(y, last + 13)
+    over = max(0.0, last - bottom)
+    return {name: y - over for name, y in found.items()}
 
 
 def short(count: int) -> str:
@@ -89,16 +121,28 @@ def short(count: int) -> str:
     return str(count)
 
 
-def line(points: list[tuple[float, float]], colour: str) -> list[str]:
-    path = " ".join(f"{x:.1f},{y:.1f}" for x, y in points)
-    dots = [f'<circle cx="{x:.1f}" cy="{y:.1f}" r="2.5" fill="{colour}"/>' for x, y in points]
-    return [f'<polyline points="{path}" fill="none" stroke="{colour}" stroke-width="1.8"/>', *dots] if points else []
+# ---- bars ----
 
 
-def legend(left: int, top: int, colours: dict[str, str]) -> list[str]:
-    lines = []
-    for place, (name, colour) in enumerate(colours.items()):
-        y = top + 20 + 20 * place
-        lines.append(f'<line x1="{left}" x2="{left + 26}" y1="{y}" y2="{y}" stroke="{colour}" stroke-width="2"/>')
-        lines.append(f'<text x="{left + 34}" y="{y + 4}">{name.replace("<", "&lt;").replace(">", "&gt;")}</text>')
-    return lines
+def bars(title: str, below: str, rows: Rows) -> str:
+    """Bars from 1 to each ratio on a logarithmic scale: to the left what is below 1, to the right what is above."""
+    low, high = bound(min(ratio for _, ratio, _ in rows), math.floor), bound(max(ratio for _, ratio, _ in rows), math.ceil)
+    left, top = LABELS, 76
+    scale, bottom = Scale(low, high, left, left + SCALE), top + BAR * len(rows)
+    parts = [text(16, 24, title, size=15, more=' font-weight="bold"'), text(16, 42, below, colour=PALE)]
+    for tick in (0.1, 0.2, 0.5, 1, 2, 5, 10, 20):
+        if low <= tick <= high:
+            x, line = scale.at(tick), INK if tick == 1 else GRID
+            parts.append(f'<line x1="{x:.1f}" x2="{x:.1f}" y1="{top - 6}" y2="{bottom}" stroke="{line}"/>')
+            parts.append(text(x, top - 12, f"{tick:g}x", "middle", PALE))
+    one = scale.at(1)
+    for place, (label, ratio, note) in enumerate(rows):
+        y, x = top + BAR * place, scale.at(ratio)
+        colour = FASTER if ratio <= 1 else SLOWER
+        parts.append(f'<rect x="{min(x, one):.1f}" y="{y + 5}" width="{max(abs(x - one), 1):.1f}" height="{BAR - 10}" fill="{colour}"/>')
+        parts.append(text(left - 10, y + BAR / 2 + 4, label, "end"))
+        parts.append(text(left + SCALE + 12, y + BAR / 2 + 4, note, colour=colour))
+    parts.append(text(one - 8, bottom + 18, "better than ets", "end", FASTER))
+    parts.append(text(one + 8, bottom + 18, "worse than ets", "start", SLOWER))
+    described = "; ".join(f"{label}: {ratio:g} times ets" for label, ratio, _ in rows)
+    return picture(left + SCALE + 250, bottom + 34, title, described, parts)

@@ -1,7 +1,6 @@
-"""What programs of their own show: layers, rows, tables, whole calls, and clients in threads."""
+"""Sections with programs of their own: layers, rows, tables, whole calls, and clients in threads."""
 
 from building import Programs, erlang, layers as built_layers, rust, tables as built_tables
-from plot import Panel
 from timing import Figures, least, ratio, spread
 
 LAYERS = {
@@ -13,17 +12,16 @@ LAYERS = {
 }
 OPERATIONS = {
     "insert": "insert, ns",
-    "hit": "lookup of a key that is there, ns",
-    "miss": "lookup of a key that is not, ns",
-    "counter": "update of a counter, ns",
-    "write": "update of an element, ns",
-    "write-or": "the same with a Default, of a key that is there, ns",
+    "hit": "lookup, hit, ns",
+    "miss": "lookup, miss, ns",
+    "counter": "update_counter, ns",
+    "write": "update_element, ns",
+    "write-or": "update_element with a default, hit, ns",
     "delete": "delete, ns",
     "bytes": "an object, bytes",
     "longest": "the longest insertion, its growth included, ns",
     "doubling": "a doubling of its buckets, ns",
 }
-DRAWN = {"insert": "insert", "hit": "lookup, there", "miss": "lookup, not there", "counter": "counter", "delete": "delete"}
 COUNTS = (1_000, 100_000, 1_000_000, 4_000_000)  # objects in a table
 FIELD = ("Mutex<HashMap>", "HashMap", "cds_lfht", "oneTBB")
 OURS = {"calls": "Node::step", "table": "Table<SplitRows<Fnv>>", "rows": "SplitRows<Fnv>"}
@@ -39,11 +37,11 @@ CROWD = {
 
 
 def layers(quick: bool, programs: Programs) -> list[list[str]]:
-    """The store's layers beside straight Rust."""
+    """The store's layers and hand-written Rust."""
     count, driver = "100000" if quick else "1000000", built_layers(programs)
     commands = [[driver, part, count] for part in ("text", "store-list", "rust-list", "chase")] if driver else []
     found = least(commands, 1 if quick else 3)
-    rows = [["layer", "this store", "straight Rust", "ratio"]]
+    rows = [["layer", "this store", "hand-written Rust", "ratio"]]
     for operation, shows in LAYERS.items():
         ours, theirs = found.get(("store", operation)), found.get(("Rust", operation))
         rows.append([shows, spread(ours), spread(theirs), ratio(ours, theirs)])
@@ -51,7 +49,7 @@ def layers(quick: bool, programs: Programs) -> list[list[str]]:
 
 
 def curve(wanted: list[str], quick: bool, programs: Programs) -> dict[int, Figures]:
-    """The figures of these of ours and of their peers, with each number of objects, by turns."""
+    """The figures of these of ours and of their peers at each number of objects, interleaved."""
     sides = [side for name in wanted for side in (ours_of(name, programs), *peers_of(name))]
     parts = list(dict.fromkeys(part for side in sides for part in side))
     counts, turns = (COUNTS[:2], 1) if quick else (COUNTS, 3)
@@ -76,7 +74,7 @@ def peers_of(name: str) -> list[list[Part]]:
     return [ours, [(field, part) for part in theirs] if field else []]
 
 
-def beside_the_field(found: Figures, who: str, count: int) -> list[list[str]]:
+def compared(found: Figures, who: str, count: int) -> list[list[str]]:
     """The figures of one of ours and of each peer, and their ratios."""
     peers = PEERS[who]
     rows = [[f"{OURS[who]}, {count:,} objects {{K,V}}", "ours", *peers, *(f"to {name}" for name in peers)]]
@@ -87,26 +85,19 @@ def beside_the_field(found: Figures, who: str, count: int) -> list[list[str]]:
     return rows
 
 
-def panels(curve: dict[int, Figures], names: dict[str, str]) -> list[Panel]:
-    """A panel for each operation that has one, of each of these names that has figures."""
-    points = lambda who, operation: [(count, found[who, operation][0]) for count, found in curve.items() if (who, operation) in found]
-    lines = lambda operation: {shown: points(who, operation) for who, shown in names.items() if points(who, operation)}
-    return [Panel(title, lines(operation)) for operation, title in DRAWN.items()]
-
-
 def walks(quick: bool, programs: Programs) -> list[list[str]]:
-    """A walk over a whole table, as calls: nanoseconds an object."""
+    """A traversal of a whole table, as calls: nanoseconds an object."""
     count, turns = (10_000, 1) if quick else (1_000_000, 3)
     ets = erlang("ets_calls")
     found = least([[*side, "walks", str(count)] for side in ([programs.program("calls_bench")], ets) if side], turns)
     apart, together, theirs = found["calls", "next+lookup"], found["calls", "next_lookup"], found.get(("ets", "next+lookup"))
-    rows = [[f"a walk over {count:,} objects, an object, ns", "ours", "ets", "to ets"]]
+    rows = [[f"a traversal of {count:,} objects, an object, ns", "ours", "ets", "to ets"]]
     rows.append(["next, then lookup", spread(apart), spread(theirs), ratio(apart, theirs)])
     return rows + [["next_lookup", spread(together), "", ""], ["next_lookup over next and lookup", ratio(together, apart), "", ""]]
 
 
 def clients(quick: bool, programs: Programs) -> list[list[str]]:
-    """Threads that ask one node, each through a client of its own: nanoseconds a call of all together."""
+    """Threads that call one node, each through a client of its own: nanoseconds a call of all together."""
     calls, turns = (20_000, 1) if quick else (200_000, 3)
     ours, maps, ets = programs.program("calls_bench"), rust("maps"), erlang("ets_calls")
     sides = [[ours], *([[maps]] if maps else []), *([ets] if ets else [])]
