@@ -1,0 +1,94 @@
+/* Yoyoash for C: an in-memory store of Erlang terms in your process. See docs/c.md for a tour and for what is proved.
+
+   Rules for callers. Nothing checks them, and the guarantees hold only if you keep them:
+   - Start with `yoyoash_store store = {0};`, which is a closed store. Move the struct, never copy it. Only the library
+     reads or writes its contents.
+   - One call at a time may use a store. Any thread may make the call, so protect a store that threads share with a lock.
+     Never use a store in a signal handler, or in a child forked from a process with threads.
+   - Pass no NULL pointer, also when the length is 0. The memory that the arguments of one call point to must not overlap.
+     Lengths must be below 2^63. */
+#ifndef YOYOASH_H
+#define YOYOASH_H
+
+#include <stddef.h>
+#include <stdint.h>
+#include <string.h>
+
+#define YOYOASH_VERSION "0.1.0"
+#define YOYOASH_VERSION_NUMBER 100 /* major * 10000 + minor * 100 + patch */
+
+/* The limits that the program ets_script uses. */
+#define YOYOASH_DEFAULT_PROCESSES 4096u
+#define YOYOASH_DEFAULT_TABLES 65536u
+#define YOYOASH_DEFAULT_OBJECTS 1000000u
+
+#ifdef __cplusplus
+extern "C" {
+#endif
+
+/* A store. {0} is a closed one. */
+typedef struct yoyoash_store {
+    void *opaque[2];
+} yoyoash_store;
+
+/* The status of a call. After every status except VALUE and UNTOLD the call was not made and no table has changed. */
+typedef enum yoyoash_status {
+    YOYOASH_VALUE = 0,        /* the call was made, and its reply is a term */
+    YOYOASH_BADARG = 1,       /* refused: the call's name, its arguments or the access right */
+    YOYOASH_SYSTEM_LIMIT = 2, /* refused: the call would exceed a limit */
+    YOYOASH_NO_PROCESS = 3,   /* refused: the process was never spawned, or has exited */
+    YOYOASH_NO_MEMORY = 4,    /* out of memory */
+    YOYOASH_SYNTAX = 5,       /* the text is not a call; *len is the offset of its first fault */
+    YOYOASH_CLOSED = 6,       /* the store is closed */
+    YOYOASH_UNTOLD = 7        /* the call was made, but there was no memory for its reply's text: try yoyoash_reply */
+} yoyoash_status;
+
+/* Opens a store with these limits: processes and tables that it may ever have, and objects in one table. An open store is closed
+   first. Returns VALUE or NO_MEMORY; NO_MEMORY changes nothing. */
+int32_t yoyoash_open(yoyoash_store *store, uint32_t max_processes, uint32_t max_tables, uint32_t max_objects);
+
+/* Starts a process of the store, and ends it. A process owns tables; its number is used once. When a process ends, each of its
+   tables goes to its heir or is deleted. */
+int32_t yoyoash_spawn(yoyoash_store *store, uint32_t pid);
+int32_t yoyoash_exit(yoyoash_store *store, uint32_t pid);
+
+/* Makes a call for a process. The text is a tuple of the call's name and its arguments, such as `{lookup,t,a}`, with nothing after it.
+   After VALUE, *len is the length of the reply's text, and `out` holds its first bytes, at most out_size. There is no NUL after
+   the text. If *len > out_size, fetch the reply with yoyoash_reply into a larger buffer. After SYNTAX, *len is the offset of the
+   fault; after other statuses it is 0. */
+int32_t yoyoash_call(yoyoash_store *store, uint32_t pid, const char *text, size_t text_len, char *out, size_t out_size, size_t *len);
+
+/* Copies the last reply again, for example into a larger buffer. Makes no call. */
+int32_t yoyoash_reply(yoyoash_store *store, char *out, size_t out_size, size_t *len);
+
+/* Copies the reason why the last call, spawn or exit was refused, such as `argument 1: no such table`; *len is 0 if it was not
+   refused. A reason has at most 100 bytes. Returns VALUE, CLOSED, or UNTOLD if there was no memory for the text. Makes no call. */
+int32_t yoyoash_why(yoyoash_store *store, char *out, size_t out_size, size_t *len);
+
+/* Closes a store and frees its memory. A closed store stays closed. */
+void yoyoash_close(yoyoash_store *store);
+
+/* Makes a call whose text ends with a NUL, such as a literal. */
+static inline int32_t yoyoash_call_text(yoyoash_store *store, uint32_t pid, const char *text, char *out, size_t out_size, size_t *len) {
+    return yoyoash_call(store, pid, text, strlen(text), out, out_size, len);
+}
+
+/* Returns the name of a status: "badarg" for YOYOASH_BADARG. */
+static inline const char *yoyoash_status_text(int32_t status) {
+    switch (status) {
+    case YOYOASH_VALUE: return "value";
+    case YOYOASH_BADARG: return "badarg";
+    case YOYOASH_SYSTEM_LIMIT: return "system_limit";
+    case YOYOASH_NO_PROCESS: return "no process";
+    case YOYOASH_NO_MEMORY: return "no memory";
+    case YOYOASH_SYNTAX: return "syntax";
+    case YOYOASH_CLOSED: return "closed";
+    case YOYOASH_UNTOLD: return "untold";
+    default: return "unknown status";
+    }
+}
+
+#ifdef __cplusplus
+}
+#endif
+#endif

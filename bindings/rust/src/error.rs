@@ -1,0 +1,74 @@
+//! Why a call was refused.
+use std::fmt;
+
+/// The kind of an [`Error`]. New kinds may be added.
+#[derive(Clone, Copy, Debug, PartialEq, Eq, Hash)]
+#[non_exhaustive]
+pub enum ErrorKind {
+    /// The call's name, its arguments or the access right were refused.
+    BadArg,
+    /// The call would exceed a limit.
+    SystemLimit,
+    /// The process was never spawned, or has exited.
+    NoProcess,
+    /// Out of memory.
+    NoMemory,
+    /// The text is not a call. The offset of its first fault is in bytes, from 0.
+    Syntax {
+        /// The offset of the fault in the text.
+        offset: usize,
+    },
+    /// The call was made, but there was no memory for the text of its reply.
+    Untold,
+    /// The library returned a status that this crate does not know, or a reply that it cannot read.
+    Unknown,
+}
+
+/// A call that was refused. It changed nothing, unless its kind is [`ErrorKind::Untold`].
+#[derive(Clone, Debug, PartialEq, Eq)]
+pub struct Error {
+    kind: ErrorKind,
+    reason: String,
+}
+
+impl Error {
+    pub(crate) fn new(kind: ErrorKind, reason: String) -> Error {
+        Error { kind, reason }
+    }
+
+    /// Returns the kind of refusal.
+    pub fn kind(&self) -> ErrorKind {
+        self.kind
+    }
+
+    /// Returns the reason in words, such as `argument 1: no such table`. It may be empty.
+    pub fn reason(&self) -> &str {
+        &self.reason
+    }
+}
+
+impl fmt::Display for ErrorKind {
+    fn fmt(&self, f: &mut fmt::Formatter<'_>) -> fmt::Result {
+        match self {
+            ErrorKind::BadArg => f.write_str("badarg"),
+            ErrorKind::SystemLimit => f.write_str("system_limit"),
+            ErrorKind::NoProcess => f.write_str("no process"),
+            ErrorKind::NoMemory => f.write_str("out of memory"),
+            ErrorKind::Syntax { offset } => write!(f, "syntax error at byte {offset}"),
+            ErrorKind::Untold => f.write_str("no memory for the reply's text"),
+            ErrorKind::Unknown => f.write_str("unknown status"),
+        }
+    }
+}
+
+impl fmt::Display for Error {
+    fn fmt(&self, f: &mut fmt::Formatter<'_>) -> fmt::Result {
+        self.kind.fmt(f)?;
+        if self.reason.is_empty() || self.kind == ErrorKind::NoMemory {
+            return Ok(());
+        }
+        write!(f, ": {}", self.reason)
+    }
+}
+
+impl std::error::Error for Error {}
