@@ -1,4 +1,4 @@
-% Shows what bad lines reply. A syntax fault has the position of the first fault, in bytes from 0. No bad line changes anything.
+% Shows the replies to bad lines. A syntax fault has its position, in bytes from 0. No bad line changes anything.
 spawn p
 p new(t,[named_table])
 

@@ -19,7 +19,7 @@ p match_object(t,{y,'$0'})
 p match_delete(t,{y,'_'})
 p match_delete(t,{no,'_'})
 
-% Uses the first clause whose head matches and whose conditions are all true. The last expression of its body is the result.
+% Uses the first clause whose head matches and whose conditions are all true. The last expression of its body counts.
 p select(t,[{{a,'$1'},[{'>','$1',0}],['$$']}])
 p select(t,[{{b,'$1'},[],[{{'$1','$_'}}]}])
 p select(t,[{{'$1','_'},[{'=:=','$1',a}],[first]},{{a,'_'},[],[second]}])

@@ -19,7 +19,7 @@ spawn ben
 ben lookup(prices,apple)
 ben insert(prices,{apple,1})
 
-% Makes a table without a name, which calls know by the identifier that new returns, and a public one, which all may write.
+% Makes a table without a name, which calls know by its identifier, and a public one, which every process may write.
 ben new(log,[public])
 ben new(votes,[public,named_table])
 anna insert(votes,{anna,yes})
