@@ -1,11 +1,11 @@
-% Misuses, a line each, by `--why`: reasons.ets.stderr has what it says of them on standard error.
+% Shows 57 misuses, one a line. Run it with `--why` to see the reasons; .ci/gate/reasons.txt has them too.
 spawn p
 spawn q
 p new(t,[named_table])
 p new(own,[named_table,private])
 p insert(t,{a,x})
 
-% of tables and their objects
+% Misuses tables and their objects.
 p insert(nosuch,{a,1})
 q lookup(own,a)
 q insert(t,{b,1})
@@ -35,7 +35,7 @@ p whereis([t])
 grow nosuch
 ready nosuch 1
 
-% of processes
+% Misuses processes.
 spawn p
 exit r
 r lookup(t,a)
@@ -43,7 +43,7 @@ exit q
 exit q
 q lookup(t,a)
 
-% of the text
+% Misuses the language.
 p insert(t,{a,1}).
 p lookup(t,a) % x
 p lookup(t,a) p lookup(t,b)

@@ -1,23 +1,23 @@
-% A stock of goods: what is not there has a default, and a walk answers each key with its objects.
+% Shows calls with a default for a missing key, and a traversal that returns each key with its objects.
 spawn shop
 shop new(stock,[named_table])
 
-% Nothing is there yet: the default is answered, and nothing is stored.
+% Reads a missing key: the default is the reply, and nothing is inserted.
 shop lookup_element(stock,pens,2,0)
 shop info(stock,size)
 
-% The first price of a thing makes its object; a later one is written into it, and the default is not used.
+% Writes the first price, which inserts the default with it. A second price is written into the object.
 shop update_element(stock,pens,{3,12},{thing,0,none})
 shop update_element(stock,pens,{3,15},{thing,0,none})
 shop update_element(stock,ink,{3,80},{thing,0,none})
 shop lookup(stock,pens)
 
-% Without a default only what is there is written.
+% Writes without a default: a missing key replies false.
 shop update_element(stock,paper,{3,5})
 shop update_counter(stock,pens,{2,40})
 shop lookup_element(stock,pens,2,0)
 
-% A walk with the objects: each key and what is there of it, by one call.
+% Traverses the table with one call for each key and its objects, and deletes on the way.
 shop safe_fixtable(stock,true)
 shop first_lookup(stock)
 shop delete(stock,pens)
