@@ -1,46 +1,77 @@
-%% A table spread over nodes of Erlang, each with `yets` and a store of its own. A key has its place by erlang:phash2; the process
-%% that makes the table owns its part on each node, and its end, or that of its node, ends them. docs/cluster.md says what holds.
+%% Spreads a table over Erlang nodes, each with `yoyoash' and a store of its own: a demo.
+%% The place of a key is given by erlang:phash2. The process that makes the table owns its part on each node, so the
+%% parts end with that process or with its node. docs/erlang.md says what holds.
 -module(cluster).
 -export([start/2, stop/1, new/3, place/2, insert/2, lookup/2, update_counter/3, delete/2, size/1, tab2list/1]).
+-export_type([table/0]).
 
-%% Starts nodes on this machine, each with the program behind it. That one ends parts no others: `global` is told to leave them.
-start(Names, Program) ->
+-type table() :: #{name := atom(), keypos := pos_integer(), nodes := tuple()}.
+
+%% Starts nodes on this machine, each with a store that runs the program. When one node ends, `global' must not part the
+%% others from each other.
+-spec start([atom()], file:filename_all()) -> [{pid(), node()}].
+start(Names, Program) -> [start_node(Name, Program) || Name <- Names].
+
+start_node(Name, Program) ->
     Args = ["-kernel", "prevent_overlapping_partitions", "false", "-pa", filename:dirname(code:which(?MODULE))],
-    [begin
-        {ok, Peer, Node} = peer:start(#{name => Name, args => Args, peer_down => continue}),
-        {ok, _} = erpc:call(Node, yets, start, [Program]),
-        {Peer, Node}
-    end || Name <- Names].
+    {ok, Peer, Node} = peer:start(#{name => Name, args => Args, peer_down => continue}),
+    case erpc:call(Node, yoyoash, start, [#{program => Program}]) of
+        {ok, _} -> {Peer, Node};
+        Error -> error({no_store, yoyoash:format_error(Error)})
+    end.
+
+%% Stops a node.
+-spec stop({pid(), node()}) -> ok.
 stop({Peer, _Node}) -> peer:stop(Peer).
 
-%% The table on all of the nodes.
+%% Makes the table on all nodes.
+-spec new([node()], atom(), [yoyoash:option()]) -> table().
 new(Nodes, Name, Options) ->
-    [Name = ask(Node, new, [Name, [named_table | Options]]) || Node <- Nodes],
+    [Name = call(Node, new, [Name, [named_table | Options]]) || Node <- Nodes],
     #{name => Name, keypos => proplists:get_value(keypos, Options, 1), nodes => list_to_tuple(Nodes)}.
 
-%% The node that has a key.
+%% Returns the node that has a key.
+-spec place(table(), term()) -> node().
 place(#{nodes := Nodes}, Key) -> element(erlang:phash2(Key, tuple_size(Nodes)) + 1, Nodes).
 
-%% Objects, all of those of one node or none of them.
+%% Inserts objects. On each node all of its objects are inserted, or none.
+-spec insert(table(), tuple() | [tuple()]) -> ok.
 insert(Table, Object) when is_tuple(Object) -> insert(Table, [Object]);
-insert(Table = #{name := Name, keypos := At}, Objects) ->
-    Parts = lists:foldl(fun(Object, Parts) -> maps:update_with(place(Table, element(At, Object)), fun(Part) -> Part ++ [Object] end, [Object], Parts) end, #{}, Objects),
-    maps:foreach(fun(Node, Part) -> true = ask(Node, insert, [Name, Part]) end, Parts).
+insert(Table = #{name := Name}, Objects) ->
+    maps:foreach(fun(Node, Part) -> true = call(Node, insert, [Name, Part]) end, parts(Table, Objects)).
 
-lookup(Table, Key) -> at(Table, Key, lookup, [Key]).
-update_counter(Table, Key, Updates) -> at(Table, Key, update_counter, [Key, Updates]).
-delete(Table, Key) -> at(Table, Key, delete, [Key]).
+%% Groups objects by the node of their key, in their order.
+parts(Table = #{keypos := KeyPos}, Objects) ->
+    Placed = [{place(Table, element(KeyPos, Object)), Object} || Object <- Objects],
+    maps:from_list([{Node, [Object || {At, Object} <- Placed, At =:= Node]} || {Node, _} <- Placed]).
 
-%% From node to node: no moment is common to all.
-size(#{name := Name, nodes := Nodes}) -> lists:sum([ask(Node, info, [Name, size]) || Node <- tuple_to_list(Nodes)]).
-tab2list(#{name := Name, nodes := Nodes}) -> lists:append([ask(Node, tab2list, [Name]) || Node <- tuple_to_list(Nodes)]).
+%% Calls on the node of the key.
+-spec lookup(table(), term()) -> [tuple()].
+lookup(Table, Key) -> at_key(Table, Key, lookup, [Key]).
 
-at(Table = #{name := Name}, Key, Call, Args) -> ask(place(Table, Key), Call, [Name | Args]).
+-spec update_counter(table(), term(), integer()) -> integer().
+update_counter(Table, Key, Increment) -> at_key(Table, Key, update_counter, [Key, Increment]).
 
-%% A call on a node for this process. A refusal is an error here; a node that is gone is {gone, Node}, and whether the call was done
-%% is not known then.
-ask(Node, Call, Args) ->
-    try erpc:call(Node, yets, as, [self(), Call, Args])
+-spec delete(table(), term()) -> true.
+delete(Table, Key) -> at_key(Table, Key, delete, [Key]).
+
+at_key(Table = #{name := Name}, Key, Call, Args) -> call(place(Table, Key), Call, [Name | Args]).
+
+%% Adds up what each node answers, one node after another: the answers are of different moments.
+-spec size(table()) -> non_neg_integer().
+size(Table) -> lists:sum(at_all(Table, info, [size])).
+
+-spec tab2list(table()) -> [tuple()].
+tab2list(Table) -> lists:append(at_all(Table, tab2list, [])).
+
+at_all(#{name := Name, nodes := Nodes}, Call, Args) ->
+    [call(Node, Call, [Name | Args]) || Node <- tuple_to_list(Nodes)].
+
+%% Calls on a node, for this process. A refused call is an error here. A node that cannot be reached is the error
+%% {gone, Node}: nobody knows then whether the call was done.
+call(Node, Call, Args) ->
+    try
+        erpc:call(Node, yoyoash, call_as, [self(), Call, Args])
     catch
         error:{exception, Reason, _} -> error(Reason);
         error:{erpc, noconnection} -> error({gone, Node})

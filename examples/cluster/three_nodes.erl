@@ -1,46 +1,91 @@
-%% Three nodes, of which one is ended: three_nodes:main() prints what it sees.
+%% Starts three nodes, ends one of them, and prints what is seen: three_nodes:main().
 -module(three_nodes).
 -export([main/0]).
 
+-define(KEYS, lists:seq(1, 300)).
+
+-spec main() -> no_return().
 main() ->
-    Peers = [First, Second, Third] = cluster:start([yets_one, yets_two, yets_three], os:getenv("YETS_PROGRAM", "./ets_script")),
-    try seen(First, Second, Third) after [catch cluster:stop(Peer) || Peer <- Peers] end,
-    halt(0).
+    try cluster:start([yoyoash_one, yoyoash_two, yoyoash_three], os:getenv("YOYOASH_PROGRAM")) of
+        Peers ->
+            try show(Peers) after [catch cluster:stop(Peer) || Peer <- Peers] end,
+            halt(0)
+    catch
+        error:{no_store, Line} ->
+            io:format(standard_error, "cluster: ~ts~n", [Line]),
+            halt(1)
+    end.
 
-seen({_, One}, Two = {_, Other}, {_, Three}) ->
-    Table = cluster:new(Nodes = [One, Other, Three], counts, []),
-    cluster:insert(Table, [{Key, 0} || Key <- lists:seq(1, 300)]),
-    say("objects on each node: ~w", [[erpc:call(Node, yets, as, [self(), info, [counts, size]]) || Node <- Nodes]]),
-    say("all of them: ~w, ~w", [cluster:size(Table), length(lists:usort(cluster:tab2list(Table)))]),
-    say("it is protected, so others are refused: ~w", [by_four(fun() -> cluster:update_counter(Table, 1, 1) end)]),
+show(Peers = [_, Second = {_, Two}, _]) ->
+    Nodes = [Node || {_, Node} <- Peers],
+    spread(Nodes),
+    Shared = count_together(Nodes),
+    owner_ends(Nodes),
+    node_ends(Nodes, Second),
+    after_the_end(Shared, Two).
+
+%% Shows that the objects are spread, and that only their owner may write to them.
+spread(Nodes) ->
+    Table = cluster:new(Nodes, counts, []),
+    cluster:insert(Table, [{Key, 0} || Key <- ?KEYS]),
+    say("objects on each node: ~w", [[on(Node, info, [counts, size]) || Node <- Nodes]]),
+    Keys = lists:usort([Key || {Key, 0} <- cluster:tab2list(Table)]),
+    say("all nodes together: ~w objects, ~w keys", [cluster:size(Table), length(Keys)]),
+    Refused = by_four(fun() -> cluster:update_counter(Table, 1, 1) end),
+    say("the table is protected, so others are refused: ~w", [Refused]).
+
+%% Lets four processes count at once in a public table.
+count_together(Nodes) ->
     Shared = cluster:new(Nodes, shared, [public]),
-    cluster:insert(Shared, [{Key, 0} || Key <- lists:seq(1, 300)]),
-    by_four(fun() -> [cluster:update_counter(Shared, Key, 1) || Key <- lists:seq(1, 300)] end),
-    say("each counted by four processes: ~w", [lists:usort([N || {_, N} <- cluster:tab2list(Shared)])]),
-    {Owner, Owned} = spawn_monitor(fun() -> cluster:new(Nodes, mine, []), receive stop -> ok end end),
-    wait(fun() -> there(mine, Nodes) =:= [mine, mine, mine] end),
+    cluster:insert(Shared, [{Key, 0} || Key <- ?KEYS]),
+    by_four(fun() -> [cluster:update_counter(Shared, Key, 1) || Key <- ?KEYS] end),
+    say("each key was counted by four processes: ~w", [lists:usort([N || {_, N} <- cluster:tab2list(Shared)])]),
+    Shared.
+
+owner_ends(Nodes) ->
+    {Owner, Ref} = spawn_monitor(fun() -> cluster:new(Nodes, mine, []), receive stop -> ok end end),
+    wait(fun() -> names(mine, Nodes) =:= [mine, mine, mine] end),
     Owner ! stop,
-    receive {'DOWN', Owned, process, _, normal} -> ok end,
-    wait(fun() -> there(mine, Nodes) =:= [undefined, undefined, undefined] end),
-    say("a table of a process that has ended is gone on each node", []),
-    %% (its owner runs on the second node, and its parts stand on all)
-    erpc:call(Other, fun() -> Self = self(), spawn(fun() -> cluster:new(Nodes, theirs, []), Self ! made, receive stop -> ok end end), receive made -> ok end end),
-    say("a table whose owner is on the second node: ~w", [there(theirs, Nodes)]),
-    cluster:stop(Two),
-    wait(fun() -> there(theirs, [One, Three]) =:= [undefined, undefined] end),
-    say("the second node is ended, and so are its processes' tables on the others: ~w", [there(theirs, [One, Three])]),
-    Found = [try cluster:lookup(Shared, Key) catch error:{gone, Other} -> gone end || Key <- lists:seq(1, 300)],
-    say("lookups then: ~w answered, ~w gone", [length([it || [{_, 4}] <- Found]), length([it || gone <- Found])]),
-    say("all keys of the second node, and no other: ~w", [[Key || {Key, gone} <- lists:zip(lists:seq(1, 300), Found)] =:= [Key || Key <- lists:seq(1, 300), cluster:place(Shared, Key) =:= Other]]),
-    say("a key of a node that lives is counted on: ~w", [cluster:update_counter(Shared, hd([Key || Key <- lists:seq(1, 300), cluster:place(Shared, Key) =/= Other]), 1)]).
+    receive {'DOWN', Ref, process, _, normal} -> ok end,
+    wait(fun() -> names(mine, Nodes) =:= [undefined, undefined, undefined] end),
+    say("a table of a process that has ended is gone on each node", []).
 
-%% What four processes at once come to.
+%% Makes a table whose owner runs on the second node, then ends that node.
+node_ends(Nodes = [One, Two, Three], Second) ->
+    ok = erpc:call(Two, fun() -> own_from_here(Nodes) end),
+    say("a table whose owner is on the second node: ~w", [names(theirs, Nodes)]),
+    cluster:stop(Second),
+    wait(fun() -> names(theirs, [One, Three]) =:= [undefined, undefined] end),
+    say("the second node has ended, and its processes' tables on the others: ~w", [names(theirs, [One, Three])]).
+
+own_from_here(Nodes) ->
+    Self = self(),
+    spawn(fun() -> cluster:new(Nodes, theirs, []), Self ! made, receive stop -> ok end end),
+    receive made -> ok end.
+
+%% Looks up all keys after the second node has ended.
+after_the_end(Shared, Two) ->
+    Found = [{Key, found(Shared, Key, Two)} || Key <- ?KEYS],
+    Gone = [Key || {Key, gone} <- Found],
+    say("lookups then: ~w answered, ~w gone", [length([Key || {Key, [{_, 4}]} <- Found]), length(Gone)]),
+    Lost = [Key || Key <- ?KEYS, cluster:place(Shared, Key) =:= Two],
+    say("the keys of the second node are gone, and no others: ~w", [Gone =:= Lost]),
+    [Kept | _] = ?KEYS -- Lost,
+    say("a key of a node that runs is counted on: ~w", [cluster:update_counter(Shared, Kept, 1)]).
+
+found(Table, Key, Two) -> try cluster:lookup(Table, Key) catch error:{gone, Two} -> gone end.
+
+%% Runs a function in four processes at once, and returns how each ended.
 by_four(Do) ->
-    Those = [spawn_monitor(fun() -> exit({came_to, try Do(), done catch error:Reason -> Reason end}) end) || _ <- lists:seq(1, 4)],
-    [receive {'DOWN', Ref, process, _, {came_to, End}} -> End end || {_, Ref} <- Those].
+    Run = fun() -> exit({ended, try Do(), done catch error:Reason -> Reason end}) end,
+    Refs = [element(2, spawn_monitor(Run)) || _ <- lists:seq(1, 4)],
+    [receive {'DOWN', Ref, process, _, {ended, How}} -> How end || Ref <- Refs].
 
-%% The name of a table on nodes, `undefined` where it is not there.
-there(Name, Nodes) -> [erpc:call(Node, yets, as, [self(), info, [Name, name]]) || Node <- Nodes].
+%% Returns the name of a table on each node, or `undefined' if the table is not there.
+names(Name, Nodes) -> [on(Node, info, [Name, name]) || Node <- Nodes].
+
+on(Node, Call, Args) -> erpc:call(Node, yoyoash, call_as, [self(), Call, Args]).
 
 wait(Is) -> case Is() of true -> ok; false -> timer:sleep(20), wait(Is) end.
-say(Form, Args) -> io:format(Form ++ "~n", Args).
+
+say(Format, Args) -> io:format(Format ++ "~n", Args).

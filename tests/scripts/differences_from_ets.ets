@@ -1,4 +1,4 @@
-% What this store answers where Erlang's ets answers otherwise: the lines of docs/for-ets-users.md, in its order.
+% Where this store answers otherwise than Erlang's ets: the lines of docs/differences-from-ets.md, in its order.
 spawn p
 spawn q
 p new(t,[named_table])

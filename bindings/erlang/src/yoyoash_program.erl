@@ -1,0 +1,120 @@
+%% @doc Finds the program `ets_script' and explains what to do if it cannot be started.
+-module(yoyoash_program).
+-export([find/1, args/1, check_platform/2, format_error/1]).
+-export_type([error/0]).
+
+-type error() ::
+    no_program
+    | {no_program, file:filename_all()}
+    | {not_executable, file:filename_all()}
+    | {wrong_platform, string()}
+    | {cannot_start, file:filename_all(), term()}
+    | {program_ended, file:filename_all(), yoyoash:ended(), [binary()]}
+    | {no_answer, file:filename_all(), [binary()]}.
+
+%% The store's own limits are for scripts; callers in Erlang come and go, and a number is never used again.
+-define(MOST, "4294967295").
+
+%% @doc Returns the path of the program, from the options or from the first place that has one.
+-spec find(yoyoash:options()) -> {ok, file:filename_all()} | {error, error()}.
+find(#{program := Program}) -> usable(Program);
+find(_Options) ->
+    case {os:getenv("YOYOASH_PROGRAM", ""), application:get_env(yoyoash, program)} of
+        {[_ | _] = Program, _} -> usable(Program);
+        {"", {ok, Program}} -> usable(Program);
+        {"", undefined} -> found()
+    end.
+
+%% Looks in the repository around this module, then on PATH, and never in the current folder.
+found() ->
+    case in_repository(module_folder()) of
+        none -> on_path(os:find_executable("ets_script"));
+        Program -> native(Program)
+    end.
+
+on_path(false) -> {error, no_program};
+on_path(Program) -> native(Program).
+
+module_folder() ->
+    case code:which(?MODULE) of
+        File when is_list(File), File =/= "" -> filename:dirname(filename:absname(File));
+        _ -> "/"
+    end.
+
+%% Goes up from a folder to the one that holds this binding and the program.
+in_repository("/") -> none;
+in_repository(Folder) ->
+    Program = filename:join(Folder, "ets_script"),
+    Binding = filename:join([Folder, "bindings", "erlang", "rebar.config"]),
+    case filelib:is_regular(Binding) andalso filelib:is_regular(Program) of
+        true -> Program;
+        false -> in_repository(filename:dirname(Folder))
+    end.
+
+%% The program that was found runs on one platform. A program that the user names may be a way to another machine.
+native(Program) ->
+    case check_platform(os:type(), erlang:system_info(system_architecture)) of
+        ok -> usable(Program);
+        Error -> Error
+    end.
+
+%% @doc Accepts the platform that the program is built for.
+-spec check_platform({unix | win32, atom()}, string()) -> ok | {error, error()}.
+check_platform({unix, linux}, "x86_64" ++ _) -> ok;
+check_platform(_Type, Architecture) -> {error, {wrong_platform, Architecture}}.
+
+usable(Program) ->
+    Path = filename:absname(Program),
+    case {filelib:is_regular(Path), executable(Path)} of
+        {false, _} -> {error, {no_program, Path}};
+        {true, false} -> {error, {not_executable, Path}};
+        {true, true} -> {ok, Path}
+    end.
+
+executable(Path) -> os:find_executable(filename_string(Path)) =/= false.
+
+filename_string(Path) when is_list(Path) -> Path;
+filename_string(Path) -> unicode:characters_to_list(Path, file:native_name_encoding()).
+
+%% @doc Returns the arguments of the program: the caller's, and those that this binding needs.
+-spec args(yoyoash:options()) -> [string()].
+args(Options) ->
+    Given = maps:get(args, Options, application:get_env(yoyoash, args, [])),
+    Added = [{"--why", []}, {"--max-processes", [?MOST]}, {"--max-tables", [?MOST]}],
+    Given ++ lists:append([[Option | Value] || {Option, Value} <- Added, not given(Option, Given)]).
+
+given(Option, Given) ->
+    lists:any(fun(Arg) -> hd(string:split(Arg, "=")) =:= Option end, Given).
+
+%% @doc Explains in one line why no store was started, and what to do.
+-spec format_error(error() | term()) -> string().
+format_error(no_program) ->
+    "the program ets_script was not found: set YOYOASH_PROGRAM to its path";
+format_error({no_program, Path}) ->
+    text("there is no program ~ts: set YOYOASH_PROGRAM to the path of ets_script", [Path]);
+format_error({not_executable, Path}) ->
+    text("~ts is not executable: run chmod +x ~ts", [Path, Path]);
+format_error({wrong_platform, Architecture}) ->
+    text("the program ets_script needs x86-64 Linux and this is ~ts: "
+         "set YOYOASH_PROGRAM to a command that reaches such a machine", [Architecture]);
+format_error({cannot_start, Path, Reason}) ->
+    text("~ts cannot be started (~0tp): run ~ts --version to see why", [Path, Reason, Path]);
+format_error({program_ended, Path, Ended, Notes}) ->
+    text("~ts ended before its first answer (~ts)~ts: run ~ts --version to see why",
+         [Path, ended(Ended), last_note(Notes), Path]);
+format_error({no_answer, Path, Notes}) ->
+    text("~ts does not answer~ts: set YOYOASH_PROGRAM to the path of ets_script", [Path, last_note(Notes)]);
+format_error({already_started, Pid}) ->
+    text("a store is running already, as process ~p: use it, or call yoyoash:stop()", [Pid]);
+format_error({program_ended, Ended}) ->
+    text("the program ended (~ts): start a store again", [ended(Ended)]);
+format_error(Other) ->
+    text("~0tp", [Other]).
+
+ended({status, Status}) -> text("status ~b", [Status]);
+ended({closed, Reason}) -> text("~0tp", [Reason]).
+
+last_note([]) -> "";
+last_note(Notes) -> text(", ~ts", [lists:last(Notes)]).
+
+text(Format, Args) -> lists:flatten(io_lib:format(Format, Args)).
