@@ -82,8 +82,10 @@ class Store:
         # There is no `_way` if the store was never opened.
         way = self.__dict__.get("_way")
         if way and not way.is_closed:
-            warnings.warn(f"{self!r} was never closed: use `with`, or call close()", ResourceWarning, source=self)
-            way.close()
+            try:
+                warnings.warn(f"{self!r} was never closed: use `with`, or call close()", ResourceWarning, source=self)
+            finally:
+                way.close()
 
 
 def checked_name(name: str) -> str:
