@@ -1,6 +1,6 @@
 #!/usr/bin/env python3
-"""Writes yoyoash/calls.py from the tables of docs/calls.md whose first column is `Call`: each call becomes a method with its own
-parameters. A test compares the committed module with what this makes.
+"""Writes yoyoash/calls.py from the tables of docs/calls.md whose first column is `Call`: each call becomes a method
+with its own parameters. A test compares the committed module with what this makes.
 
     python3 bindings/python/generate.py"""
 
@@ -25,7 +25,8 @@ PARAMETERS = {
 }
 # The types of the replies. Another call replies with Any.
 REPLIES = {
-    "Atom": "insert insert_new member delete delete_object delete_all_objects update_element match_delete safe_fixtable give_away setopts",
+    "Atom": "insert insert_new member delete delete_object delete_all_objects update_element match_delete"
+    " safe_fixtable give_away setopts",
     "Tid | Atom": "new whereis",
     "int": "select_count select_delete",
     "list[Any]": "match select",
@@ -42,11 +43,18 @@ from typing import Any
 from .terms import ABSENT, Absent, Atom, Pid, Table, Term, Tid
 
 '''
-KINDS = {
-    "Calls": ("Calls whose method returns the reply or raises a Fault.", "def", "{reply}", "return self._call({words})"),
-    "CollectedCalls": ("Calls whose method collects the call and returns nothing.", "def", "None", "self._collect({words})"),
-    "AwaitedCalls": ("Calls whose method is awaited: it returns the reply or raises a Fault.", "async def", "{reply}", "return await self._call({words})"),
+ABOUT = {
+    "Calls": "Calls whose method returns the reply or raises a Fault.",
+    "CollectedCalls": "Calls whose method collects the call and returns nothing.",
+    "AwaitedCalls": "Calls whose method is awaited: it returns the reply or raises a Fault.",
 }
+# How the methods of each class begin, what they return, and what they do.
+KINDS = {
+    "Calls": ("def", "{reply}", "return self._call({words})"),
+    "CollectedCalls": ("def", "None", "self._collect({words})"),
+    "AwaitedCalls": ("async def", "{reply}", "return await self._call({words})"),
+}
+# What a class that inherits the methods defines.
 HOOKS = {
     "Calls": "def _call(self, call: str, *terms: Term) -> Any:",
     "CollectedCalls": "def _collect(self, call: str, *terms: Term) -> None:",
@@ -78,7 +86,7 @@ def named(parameter):
 
 def method_of(name, forms, kind):
     """Returns the lines of a method. A parameter that the shortest form lacks has a default."""
-    _, defined, returns, body = KINDS[kind]
+    defined, returns, body = KINDS[kind]
     shortest, longest = forms[0][0], forms[-1][0]
     if any(it != longest[: len(it)] for it, _ in forms) or len(longest) - len(shortest) > 1:
         raise SystemExit(f"generate.py: the forms of {name} are not each other's beginnings")
@@ -105,7 +113,8 @@ def documented(name, forms):
     for parameters, reply in forms:
         replies.setdefault(reply, []).append(f"`{name}({','.join(parameters)})`")
     texts = [f"Calls {' or '.join(spelled)}. Reply: {reply.rstrip('.')}." for reply, spelled in replies.items()]
-    lines = [line for text in texts for line in [*textwrap.wrap(text, 108, break_long_words=False, break_on_hyphens=False), ""]][:-1]
+    wrapped = [textwrap.wrap(text, 108, break_long_words=False, break_on_hyphens=False) for text in texts]
+    lines = [line for text in wrapped for line in [*text, ""]][:-1]
     lines[0] = f'"""{lines[0]}'
     lines[-1] += '"""'
     return [f"        {line}" if line else "" for line in lines]
@@ -119,8 +128,9 @@ def module_of(page):
         raise SystemExit(f"generate.py: {PAGE.name} has no call {' '.join(sorted(unknown))}")
     names = textwrap.wrap(" ".join(f'"{name}",' for name in calls), 108)
     lines = ["CALLS = (", *[f"    {line}" for line in names], ")"]
-    for kind, (about, *_) in KINDS.items():
-        lines += ["", "", f"class {kind}:", f'    """{about}"""', "", f"    {HOOKS[kind]}", "        raise NotImplementedError"]
+    for kind, about in ABOUT.items():
+        lines += ["", "", f"class {kind}:", f'    """{about}"""', ""]
+        lines += [f"    {HOOKS[kind]}", "        raise NotImplementedError"]
         for name, forms in calls.items():
             lines += ["", *method_of(name, forms, kind)]
     return HEAD + "\n".join(lines) + "\n"

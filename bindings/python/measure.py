@@ -1,6 +1,6 @@
 #!/usr/bin/env python3
-"""Measures lookups a second: by pipe one by one, in a pipeline and with asyncio, and in this process; and the same calls as texts,
-without the conversion of terms. The ways are interleaved in one run.
+"""Measures lookups a second: by pipe one by one, in a pipeline and with asyncio, and in this process; and the same
+calls as texts, without the conversion of terms. The ways are interleaved in one run.
 
     python3 bindings/python/measure.py [LIBRARY [PROGRAM]]     (found as docs/python.md says)"""
 
@@ -83,9 +83,11 @@ def main(library=None, program=None):
     loop.close()
     best = {name: ROWS / min(turn[name] for turn in taken) for name in ways}
     for name, rate in best.items():
-        print(f"{name:32}{rate:>10,.0f} a second {1e6 / rate:6.1f} us each {rate / best['by pipe, one by one']:5.1f} times the first")
+        times = rate / best["by pipe, one by one"]
+        print(f"{name:32}{rate:>10,.0f} a second {1e6 / rate:6.1f} us each {times:5.1f} times the first")
     load = " ".join(f"{it:.1f}" for it in os.getloadavg())
-    print(f"best of {TURNS} turns of {ROWS}; Python {platform.python_version()}, load {load}, {os.cpu_count()} cores, {datetime.date.today()}")
+    print(f"best of {TURNS} turns of {ROWS}; Python {platform.python_version()}, {os.cpu_count()} cores")
+    print(f"load {load}, {datetime.date.today()}")
 
 
 if __name__ == "__main__":

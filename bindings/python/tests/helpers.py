@@ -18,7 +18,8 @@ SCRIPT = REPOSITORY / "tests/scripts/client.ets"
 # Answers the lines of the script as the program did.
 RECORDED = [sys.executable, str(HERE / "replay.py"), str(SCRIPT)]
 # Answers `K` to `p lookup('t',K)`, and the number of the line to any other.
-ECHO = [sys.executable, "-c", "import sys\nfor n, line in enumerate(sys.stdin):\n print(line[13:-2] if line.startswith('p lookup') else n, flush=True)"]
+ECHO_LINES = "for n, line in enumerate(sys.stdin):\n print(line[13:-2] if line.startswith('p lookup') else n, flush=True)"
+ECHO = [sys.executable, "-c", f"import sys\n{ECHO_LINES}"]
 
 
 def found(find):
@@ -34,11 +35,13 @@ PROGRAM, LIBRARY = found(finding.program), found(finding.library)
 
 def printing(*answers):
     """Returns a program that prints these answers, one for each line, and ends."""
-    return [sys.executable, "-c", f"import os, sys\nfor answer in {list(answers)!r}:\n sys.stdin.readline()\n os.write(1, answer.encode() + b'\\n')"]
+    lines = f"for answer in {list(answers)!r}:\n sys.stdin.readline()\n os.write(1, answer.encode() + b'\\n')"
+    return [sys.executable, "-c", f"import os, sys\n{lines}"]
 
 
 def giving_reasons(program):
-    """Returns a program that prints reasons on standard error by `say(number, what)`, and answers by `answer(what)`."""
+    """Returns a program that prints reasons on standard error by `say(number, what)`, and answers by
+    `answer(what)`."""
     defined = (
         "import sys, time\ndef answer(what):\n print(what, flush=True)\n"
         "def say(number, what):\n print(f'line {number}: {what}', file=sys.stderr, flush=True)\n"

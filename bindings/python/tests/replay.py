@@ -1,4 +1,4 @@
-"""Stands in for ets_script: answers the lines of a script as recorded in its .stdout file, only these and in their order."""
+"""Plays ets_script: answers the lines of a script as recorded in its .stdout file, only these and in their order."""
 
 import pathlib
 import sys

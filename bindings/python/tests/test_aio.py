@@ -52,7 +52,10 @@ class Programs(unittest.IsolatedAsyncioTestCase):
             self.assertEqual(len(await store.ask("p tab2list(t)")), 500_001)
 
     async def test_a_release_follows_a_fix_that_was_cancelled(self):
-        program = "import sys, time\nfor n, line in enumerate(sys.stdin):\n time.sleep(0.2 if n == 0 else 0)\n print(repr(line[2:-1].replace(chr(39), '')), flush=True)"
+        program = (
+            "import sys, time\nfor n, line in enumerate(sys.stdin):\n time.sleep(0.2 if n == 0 else 0)\n"
+            " print(repr(line[2:-1].replace(chr(39), '')), flush=True)"
+        )
         async with Store([sys.executable, "-c", program]) as store:
             p = Process(store, "p", Pid(0))
 
@@ -66,7 +69,10 @@ class Programs(unittest.IsolatedAsyncioTestCase):
             self.assertEqual(store._sent, 3)
 
     async def test_refused_calls_have_their_reasons(self):
-        program = "for n, line in enumerate(sys.stdin, 1):\n answer('** badarg' if n % 2 else n)\n if n % 2: say(n, f'member/2: argument {n}: no')"
+        program = (
+            "for n, line in enumerate(sys.stdin, 1):\n answer('** badarg' if n % 2 else n)\n"
+            " if n % 2: say(n, f'member/2: argument {n}: no')"
+        )
         async with Store(giving_reasons(program)) as store:
             answers = await store.ask_all(["p member(t,1)"] * 100)
             self.assertEqual(answers[1::2], list(range(2, 101, 2)))

@@ -33,7 +33,8 @@ class Errors(unittest.TestCase):
             self.assertIn(words, str(raised.exception))
 
     def test_a_missing_program(self):
-        self.raised(lambda: Store(self.folder / "ets_script"), [f"there is no {self.folder}/ets_script", "export YOYOASH_PROGRAM=", "pip install"])
+        wanted = [f"there is no {self.folder}/ets_script", "export YOYOASH_PROGRAM=", "pip install"]
+        self.raised(lambda: Store(self.folder / "ets_script"), wanted)
         self.raised(lambda: Store([str(self.folder / "x"), "--why"]), ["export YOYOASH_PROGRAM="])
 
     def test_a_missing_library(self):
@@ -132,9 +133,14 @@ class FullTables(unittest.TestCase):
         with store:
             anna = store.spawn("anna")
             table = anna.new(Atom("t"), [])
-            for full, option in [(lambda: anna.insert(table, [(1,), (2,)]), "max_objects="), (lambda: anna.new(Atom("u"), []), "max_tables="), (lambda: store.spawn("ben"), "max_processes=")]:
+            exceeding = {
+                "max_objects=": lambda: anna.insert(table, [(1,), (2,)]),
+                "max_tables=": lambda: anna.new(Atom("u"), []),
+                "max_processes=": lambda: store.spawn("ben"),
+            }
+            for option, call in exceeding.items():
                 with self.assertRaises(SystemLimit) as refused:
-                    full()
+                    call()
                 self.assertIn(option, str(refused.exception) if "limit reached" in refused.exception.reason else option)
 
     @unittest.skipUnless(PROGRAM, "no ets_script found: set YOYOASH_PROGRAM")

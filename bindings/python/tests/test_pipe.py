@@ -40,7 +40,8 @@ class Programs(unittest.TestCase):
                 store.ask("p member(t,1)")
 
     def test_each_refusal_has_its_class(self):
-        kinds = {"badarg": BadArg, "system_limit": SystemLimit, "noproc": NoProcess, "nomem": NoMemory, "line too long": LineTooLong, "syntax 7": Syntax}
+        kinds = {"badarg": BadArg, "system_limit": SystemLimit, "noproc": NoProcess, "nomem": NoMemory}
+        kinds |= {"line too long": LineTooLong, "syntax 7": Syntax}
         with Store(printing(*[f"** {reason}" for reason in kinds])) as store:
             for reason, kind in kinds.items():
                 with self.assertRaises(kind) as refused:

@@ -19,7 +19,10 @@ class Reasons(unittest.TestCase):
         return refused.exception
 
     def test_each_line_has_its_own(self):
-        program = "for n, line in enumerate(sys.stdin, 1):\n answer('** badarg' if n % 2 else n)\n if n % 2: say(n, f'member/2: argument {n}: no')"
+        program = (
+            "for n, line in enumerate(sys.stdin, 1):\n answer('** badarg' if n % 2 else n)\n"
+            " if n % 2: say(n, f'member/2: argument {n}: no')"
+        )
         with Store(giving_reasons(program)) as store:
             faults = [self.refused(store) if number % 2 else store.ask("p member(t,1)") for number in range(1, 10)]
             self.assertEqual([fault.reason for fault in faults[::2]], [f"argument {number}: no" for number in range(1, 10, 2)])
@@ -37,7 +40,8 @@ class Reasons(unittest.TestCase):
             self.assertLess(time.monotonic() - began, 5)
 
     def test_the_reason_of_a_later_line_ends_the_wait(self):
-        with Store(giving_reasons("for n, line in enumerate(sys.stdin, 1):\n answer('** badarg')\n if n == 2: say(2, 'byte 3: a float')")) as store:
+        program = "for n, line in enumerate(sys.stdin, 1):\n answer('** badarg')\n if n == 2: say(2, 'byte 3: a float')"
+        with Store(giving_reasons(program)) as store:
             first, second = self.refused(store), self.refused(store)
             self.assertEqual((first.reason, second.reason), (None, "a float"))
 
@@ -49,7 +53,10 @@ class Reasons(unittest.TestCase):
 
     def test_other_lines_go_on_to_standard_error(self):
         program = "print('building', file=sys.stderr, flush=True)\nsys.stdin.readline()\nanswer('** badarg')\nsay(1, 'a/1: not a set')"
-        client = f"from yoyoash import *\nwith Store({giving_reasons(program)!r}) as store:\n try: store.ask('p a(t)')\n except BadArg as it: print(it.reason)"
+        client = (
+            f"from yoyoash import *\nwith Store({giving_reasons(program)!r}) as store:\n"
+            " try: store.ask('p a(t)')\n except BadArg as it: print(it.reason)"
+        )
         top = pathlib.Path(yoyoash.__file__).parents[1]
         ran = subprocess.run([sys.executable, "-B", "-c", client], cwd=top, capture_output=True, text=True)
         self.assertEqual((ran.stdout, ran.stderr), ("not a set\n", "building\n"))

@@ -26,7 +26,8 @@ __version__ = "0.1.0"
 
 __all__ = [
     "ABSENT", "Atom", "BadArg", "CALLS", "END_OF_TABLE", "Fault", "Gone", "LineTooLong", "NoMemory", "NoProcess", "Pid",
-    "Pipeline", "Process", "Store", "Syntax", "SystemLimit", "Table", "Term", "Tid", "Unavailable", "Untold", "aio", "parse", "spell",
+    "Pipeline", "Process", "Store", "Syntax", "SystemLimit", "Table", "Term", "Tid", "Unavailable", "Untold", "aio",
+    "parse", "spell",
 ]  # fmt: skip
 
 

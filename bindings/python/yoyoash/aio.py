@@ -1,4 +1,5 @@
-"""The client for asyncio, over a pipe. Calls that are awaited at the same time are sent without waiting for each other.
+"""The client for asyncio, over a pipe. Calls that are awaited at the same time are sent without waiting for each
+other.
 
     async with yoyoash.aio.Store() as store:
         anna = await store.spawn("anna")
@@ -21,7 +22,7 @@ from . import finding
 from .calls import AwaitedCalls
 from .faults import CLOSED, BadArg, Fault, NoProcess, Refused, gone
 from .pipe import BLOCK, TOO_MANY, how_it_ended, line_of
-from .reasons import PATIENCE, Heard
+from .reasons import PATIENCE, Heard, reason_of
 from .store import checked_line, checked_name, result_of
 from .terms import END_OF_TABLE, FALSE, TRUE, Pid, Table, Term, spell_all
 
@@ -42,7 +43,8 @@ class Store:
         max_objects: int | None = None,
         **options: Any,
     ):
-        """Takes the arguments of yoyoash.Store. `options` are those of asyncio.create_subprocess_exec. Starts nothing yet."""
+        """Takes the arguments of yoyoash.Store. `options` are those of asyncio.create_subprocess_exec. Starts nothing
+        yet."""
         limits = {"max_processes": max_processes, "max_tables": max_tables, "max_objects": max_objects}
         self._words, self._options = finding.command(command, limits), options
         self._waiting: deque[asyncio.Future[str | None]] = deque()
@@ -174,11 +176,14 @@ class Store:
         while block := await stream.read(BLOCK):
             *lines, begun = (begun + block).split(b"\n")
             for line in lines:
-                if self._heard.hear(line + b"\n"):
+                if found := reason_of(line):
+                    self._heard.keep(*found)
                     self._is_patient = True
+                else:
+                    self._heard.pass_on(line + b"\n")
             self._wake()
         if begun:
-            self._heard.hear(begun)
+            self._heard.pass_on(begun)
         self._heard.number = float("inf")
         self._wake()
 
@@ -188,7 +193,8 @@ class Store:
 
 
 class Process(AwaitedCalls):
-    """A process of the store. Each call of docs/calls.md is a method to await: it returns the reply or raises a Fault."""
+    """A process of the store. Each call of docs/calls.md is a method to await: it returns the reply or raises a
+    Fault."""
 
     def __init__(self, store: Store, name: str, pid: Pid):
         self.store, self.name, self.pid = store, name, pid
@@ -199,7 +205,8 @@ class Process(AwaitedCalls):
 
     @contextlib.asynccontextmanager
     async def fixed(self, table: Table) -> AsyncIterator[Table]:
-        """Fixes the table for the time of an `async with`, so that a traversal visits each key that stays exactly once."""
+        """Fixes the table for the time of an `async with`, so that a traversal visits each key that stays exactly
+        once."""
         try:
             await self.safe_fixtable(table, TRUE)
         except asyncio.CancelledError:
@@ -214,7 +221,8 @@ class Process(AwaitedCalls):
                 await self.safe_fixtable(table, FALSE)
 
     async def walk(self, table: Table) -> AsyncIterator[Any]:
-        """Yields each key of the table. The table is fixed until the iterator ends or is closed (contextlib.aclosing)."""
+        """Yields each key of the table. The table is fixed until the iterator ends or is closed
+        (contextlib.aclosing)."""
         async with self.fixed(table):
             key = await self.first(table)
             while key != END_OF_TABLE:

@@ -9,7 +9,8 @@ CLOSED = "the store is closed"
 
 
 class Refused(str):
-    """The text of a reply that begins with `** `. `why` is the reason, a function that returns it, or None if it is unknown."""
+    """The text of a reply that begins with `** `. `why` is the reason, a function that returns it, or None if it is
+    unknown."""
 
     __slots__ = ("why",)
 
@@ -28,7 +29,8 @@ class Fault(Exception):
 
     @property
     def reason(self) -> str | None:
-        """Returns the reason, such as `argument 1: no such table`, or None if it is unknown. May wait for it, at most a second."""
+        """Returns the reason, such as `argument 1: no such table`, or None if it is unknown. May wait for it, at most
+        a second."""
         if callable(self._why):
             self._why = self._why()
         return self._why
@@ -91,7 +93,14 @@ class Gone(Fault):
         return "open a new Store"
 
 
-KINDS = {"badarg": BadArg, "system_limit": SystemLimit, "noproc": NoProcess, "nomem": NoMemory, "line too long": LineTooLong, "untold": Untold}
+KINDS = {
+    "badarg": BadArg,
+    "system_limit": SystemLimit,
+    "noproc": NoProcess,
+    "nomem": NoMemory,
+    "line too long": LineTooLong,
+    "untold": Untold,
+}
 
 
 def fault(line: str, answer: Refused) -> Fault:

@@ -17,6 +17,8 @@ PACKAGE = pathlib.Path(__file__).resolve().parent
 COPIES = PACKAGE / "native"
 REPOSITORY = PACKAGE.parents[2]
 NEEDS = "x86-64 Linux with glibc 2.34 or later"
+# The file that each variable names.
+NAMES = {"YOYOASH_PROGRAM": "ets_script", "YOYOASH_LIBRARY": "libyoyoash.so"}
 
 
 class Unavailable(OSError):
@@ -25,17 +27,19 @@ class Unavailable(OSError):
 
 def program(given: Path | None = None) -> str:
     """Returns the path of ets_script: the argument, YOYOASH_PROGRAM, the copy in the package, or the repository's."""
-    return _found(given, "YOYOASH_PROGRAM", COPIES / "ets_script", REPOSITORY / "ets_script")
+    return _found(given, "YOYOASH_PROGRAM", REPOSITORY / "ets_script")
 
 
 def library(given: Path | None = None) -> str:
     """Returns the path of libyoyoash.so, found in the same order."""
-    return _found(given, "YOYOASH_LIBRARY", COPIES / "libyoyoash.so", REPOSITORY / "dist/x86_64-linux/libyoyoash.so")
+    return _found(given, "YOYOASH_LIBRARY", REPOSITORY / "dist/x86_64-linux/libyoyoash.so")
 
 
 def command(given: Path | Sequence[str] | None, limits: dict[str, int | None]) -> list[str]:
-    """Returns the words that start the program. A path, or nothing, gets `--why`; a list of words is taken as it is."""
-    words = [program(given), "--why"] if given is None or isinstance(given, (str, os.PathLike)) else [str(it) for it in given]
+    """Returns the words that start the program. A path, or nothing, gets `--why`; a list of words is taken as it
+    is."""
+    is_path = given is None or isinstance(given, (str, os.PathLike))
+    words = [program(given), "--why"] if is_path else [str(it) for it in given]
     for name, limit in limits.items():
         if limit is not None:
             words += [f"--{name.replace('_', '-')}", str(limited(name, limit))]
@@ -53,26 +57,24 @@ def unavailable(path: str, variable: str, error: Exception) -> Unavailable:
     """Returns the exception of a file that cannot be started or loaded."""
     number = getattr(error, "errno", None)
     if not os.path.exists(path):
-        return Unavailable(f"there is no {path}: export {variable}=/path/to/{_name_of(variable)}, or pip install the wheel of the release")
+        export = f"export {variable}=/path/to/{NAMES[variable]}"
+        return Unavailable(f"there is no {path}: {export}, or pip install the wheel of the release ({NEEDS})")
     if number == errno.EACCES:
         return Unavailable(f"{path} is not executable: chmod +x {path}")
     here = f"{platform.system()} {platform.machine()} {' '.join(platform.libc_ver())}".strip()
     detail = error.strerror if isinstance(error, OSError) and error.strerror else error
-    return Unavailable(
-        f"{path} cannot be used on {here} ({detail}): it needs {NEEDS}, for example docker run -it --platform linux/amd64 python:3.12"
-    )
+    example = "docker run -it --platform linux/amd64 python:3.12"
+    return Unavailable(f"{path} cannot be used on {here} ({detail}): it needs {NEEDS}, for example {example}")
 
 
-def _found(given: Path | None, variable: str, *places: pathlib.Path) -> str:
+def _found(given: Path | None, variable: str, in_repository: pathlib.Path) -> str:
     path = os.fspath(given) if given is not None else os.environ.get(variable)
     if path:
-        # A bare word is searched on PATH.
-        return path if os.sep in path else shutil.which(path) or path
-    for place in places:
+        # A bare word is searched on PATH. A relative path is of this folder, whatever `cwd=` says.
+        return os.path.abspath(path) if os.sep in path else shutil.which(path) or path
+    copy = COPIES / NAMES[variable]
+    for place in copy, in_repository:
         if place.is_file():
             return str(place)
-    raise unavailable(str(places[0]), variable, FileNotFoundError())
+    raise unavailable(str(copy), variable, FileNotFoundError())
 
-
-def _name_of(variable: str) -> str:
-    return "ets_script" if variable == "YOYOASH_PROGRAM" else "libyoyoash.so"

@@ -48,9 +48,8 @@ def _load(path: str) -> ctypes.CDLL:
         raise finding.unavailable(path, "YOYOASH_LIBRARY", error) from None
     for name in ("open", "spawn", "exit", "call", "reply", "why", "close"):
         if not hasattr(loaded, f"yoyoash_{name}"):
-            raise finding.Unavailable(
-                f"{path} has no function yoyoash_{name}, so it is not libyoyoash.so.0: export YOYOASH_LIBRARY=/path/to/libyoyoash.so"
-            )
+            export = "export YOYOASH_LIBRARY=/path/to/libyoyoash.so"
+            raise finding.Unavailable(f"{path} has no function yoyoash_{name}, so it is another library: {export}")
     return loaded
 
 
@@ -60,7 +59,8 @@ class Library:
     def __init__(self, path: finding.Path | None = None, limits: dict[str, int | None] | None = None):
         limits = DEFAULTS | {name: limit for name, limit in (limits or {}).items() if limit is not None}
         sizes = [c_uint32(finding.limited(name, limits[name])) for name in DEFAULTS]
-        # No `argtypes` are set: ctypes would convert every argument at every call. Pointers and sizes are made once instead.
+        # No `argtypes` are set: ctypes would convert every argument at every call. Pointers and sizes are made once
+        # instead.
         self._library, self._handle, self._length = _load(finding.library(path)), _Store(), c_size_t()
         self._library.yoyoash_close.restype = None
         self._store, self._length_at, self._do = byref(self._handle), byref(self._length), self._library.yoyoash_call
@@ -72,17 +72,19 @@ class Library:
             raise MemoryError("out of memory: the store was not opened")
 
     def call(self, process: str, pid: Pid, name: str, arguments: str, offset: int | None = None) -> str | None:
-        """Returns the text of the answer to a process's call, or None if the store is closed. `offset` is where the arguments begin
-        in their line, if that is not the usual place."""
+        """Returns the text of the answer to a process's call, or None if the store is closed. `offset` is where the
+        arguments begin in their line, if that is not the usual place."""
         text = (f"{{{name},{arguments}}}" if arguments else f"{{{name}}}").encode()
+        size = _SIZES[len(text)]
         with self._turn:
-            status = self._do(self._store, pid.number, text, _SIZES[len(text)], self._buffer_at, self._buffer_size, self._length_at)
+            status = self._do(self._store, pid.number, text, size, self._buffer_at, self._buffer_size, self._length_at)
             length = self._length.value
             if not status:
                 return self._buffer[:length].decode() if length <= self._buffer_length else self._long_text(length)
             if status == SYNTAX:
                 at = min(max(length - len(name) - 2, 0), len(arguments))
-                return Refused(f"** syntax {at + (len(process) + len(name) + 2 if offset is None else offset)}", self._why())
+                begin = len(process) + len(name) + 2 if offset is None else offset
+                return Refused(f"** syntax {at + begin}", self._why())
             return self._refused(status)
 
     def calls(self, process: str, pid: Pid, calls: Sequence[tuple[str, str]]) -> list[str | None]:

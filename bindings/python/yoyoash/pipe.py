@@ -24,9 +24,14 @@ TOO_MANY = "the program printed more lines than it was sent"
 class Pipe:
     """A running `ets_script`. Threads may share it: one exchange runs at a time."""
 
-    def __init__(self, command: finding.Path | Sequence[str] | None = None, limits: dict[str, int | None] | None = None, **options):
-        """Starts the program. `options` are those of subprocess.Popen. Reads the reasons if the words contain `--why`, unless the
-        caller takes the program's standard error."""
+    def __init__(
+        self,
+        command: finding.Path | Sequence[str] | None = None,
+        limits: dict[str, int | None] | None = None,
+        **options,
+    ):
+        """Starts the program. `options` are those of subprocess.Popen. Reads the reasons if the words contain
+        `--why`, unless the caller takes the program's standard error."""
         words = finding.command(command, limits or {})
         has_reasons = "--why" in words and "stderr" not in options
         if has_reasons:
@@ -66,7 +71,8 @@ class Pipe:
         with self._turn:
             if self.ended:
                 return [None] * count
-            # If this is interrupted, as by Ctrl-C, a later answer could be taken for another line's. So none is sent any more.
+            # If this is interrupted, as by Ctrl-C, a later answer could be taken for another line's. So none is sent
+            # any more.
             self.ended = INTERRUPTED
             first, self._sent = self._sent + 1, self._sent + count
             text = self._answer(lines.encode("ascii"), count)
@@ -96,7 +102,8 @@ class Pipe:
         return b"".join(blocks).decode("ascii")
 
     def _send(self, lines: bytes | memoryview) -> bytes | memoryview:
-        """Sends what the program takes of some lines and returns the rest. There is no rest if the program has ended."""
+        """Sends what the program takes of some lines and returns the rest. There is no rest if the program has
+        ended."""
         try:
             sent = self._lines.write(lines)
         except (BrokenPipeError, ValueError):

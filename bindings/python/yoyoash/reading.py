@@ -8,10 +8,12 @@ from .terms import Atom, Pid, Term, Tid
 
 # Matches one pair of integers or plain atoms: the usual reply of a lookup.
 _PAIR = re.compile(r"\[\{(-?\w+),(-?\w+)\}\]", re.ASCII).fullmatch
-# Finds the tokens: a tuple or list of integers and plain atoms, a bracket, an integer, an atom, a quoted atom, a binary, a pid, a
-# table identifier, and any other character.
+# Finds the tokens: a tuple or list of integers and plain atoms, a bracket, an integer, an atom, a quoted atom, a
+# binary, a pid, a table identifier, and any other character.
 _TOKENS = re.compile(
-    r"(\{[\w@,-]+\}|\[[\w@,-]+\]|[{}\[\]]|-?\d+|[a-z][\w@]*|'[^'\\]*(?:\\.[^'\\]*)*'|<<[\d,]*>>|<0\.\d+\.0>|#Tid<\d+>|.),?", re.ASCII | re.DOTALL
+    r"(\{[\w@,-]+\}|\[[\w@,-]+\]|[{}\[\]]|-?\d+|[a-z][\w@]*|'[^'\\]*(?:\\.[^'\\]*)*'"
+    r"|<<[\d,]*>>|<0\.\d+\.0>|#Tid<\d+>|.),?",
+    re.ASCII | re.DOTALL,
 ).findall
 _ATOM = re.compile(r"[a-z][\w@]*", re.ASCII).fullmatch
 _NEGATIVE = re.compile(r"-\d+", re.ASCII).fullmatch
@@ -61,7 +63,8 @@ def _whole(text: str) -> Term:
 
 
 class _Words(dict):
-    """Keeps atoms, pids and table identifiers by their texts, since replies repeat a few of them. Makes other terms anew."""
+    """Keeps atoms, pids and table identifiers by their texts, since replies repeat a few of them. Makes other terms
+    anew."""
 
     def __missing__(self, token: str) -> Term:
         if _NEGATIVE(token):

@@ -7,7 +7,8 @@ import os
 import re
 import threading
 
-# Matches `line 4: lookup/2: argument 1: no such table`: the line's number, and the reason after the call, the command or the byte.
+# Matches `line 4: lookup/2: argument 1: no such table`: the line's number, and the reason after the call, the command
+# or the byte.
 _REASON = re.compile(rb"line (\d+): (?:byte \d+: |[a-z][\w@]*(?:/\d+)?: )?(.*)\n?").fullmatch
 # At most this many reasons are kept that nobody has read yet.
 MOST = 100_000
@@ -23,18 +24,23 @@ class Heard:
         self.last_line = ""
         self.number: float = 0
 
-    def hear(self, line: bytes) -> bool:
-        """Takes a line of the program's standard error. Returns whether it is a reason."""
-        found = _REASON(line)
-        if not found:
-            os.write(2, line)
-            self.last_line = line.decode("ascii", "replace").strip() or self.last_line
-            return False
+    def keep(self, number: int, reason: str) -> None:
+        """Keeps the reason of a line."""
         if len(self.reasons) == MOST:
             del self.reasons[next(iter(self.reasons))]
-        self.number = int(found[1])
-        self.reasons[int(found[1])] = found[2].decode("ascii", "replace")
-        return True
+        self.number = number
+        self.reasons[number] = reason
+
+    def pass_on(self, line: bytes) -> None:
+        """Prints a line that is not a reason."""
+        os.write(2, line)
+        self.last_line = line.decode("ascii", "replace").strip() or self.last_line
+
+
+def reason_of(line: bytes) -> tuple[int, str] | None:
+    """Returns the number and the reason of a line of standard error, or None if it is not a reason."""
+    found = _REASON(line)
+    return (int(found[1]), found[2].decode("ascii", "replace")) if found else None
 
 
 class Reasons:
@@ -48,8 +54,8 @@ class Reasons:
         self._reader.start()
 
     def of(self, number: int) -> str | None:
-        """Returns the reason of the line with this number. It arrives after the answer, so this waits shortly. After a wait in vain
-        it returns at once until the program prints another reason."""
+        """Returns the reason of the line with this number. It arrives after the answer, so this waits shortly. After
+        a wait in vain it returns at once until the program prints another reason."""
         with self._changed:
             came = self._changed.wait_for(lambda: self._heard.number >= number, PATIENCE if self._is_patient else 0)
             self._is_patient = self._is_patient and came
@@ -68,10 +74,14 @@ class Reasons:
 
     def _read(self) -> None:
         for line in self._stream:
+            found = reason_of(line)
+            if not found:
+                self._heard.pass_on(line)
+                continue
             with self._changed:
-                if self._heard.hear(line):
-                    self._is_patient = True
-                    self._changed.notify_all()
+                self._heard.keep(*found)
+                self._is_patient = True
+                self._changed.notify_all()
         with self._changed:
             self._heard.number = float("inf")
             self._changed.notify_all()

@@ -31,8 +31,8 @@ class Store:
         max_objects: int | None = None,
         **options: Any,
     ):
-        """Starts a program: the path of `ets_script`, or a list of words that starts one. Without it the package finds the program
-        (docs/python.md). `options` are those of subprocess.Popen."""
+        """Starts a program: the path of `ets_script`, or a list of words that starts one. Without it the package
+        finds the program (docs/python.md). `options` are those of subprocess.Popen."""
         limits = {"max_processes": max_processes, "max_tables": max_tables, "max_objects": max_objects}
         self._way = Pipe(command, limits, **options)
 
@@ -47,7 +47,8 @@ class Store:
     ) -> Store:
         """Opens a store in this process, by libyoyoash.so."""
         store = cls.__new__(cls)
-        store._way = Library(library, {"max_processes": max_processes, "max_tables": max_tables, "max_objects": max_objects})
+        limits = {"max_processes": max_processes, "max_tables": max_tables, "max_objects": max_objects}
+        store._way = Library(library, limits)
         return store
 
     def spawn(self, name: str) -> Process:
@@ -96,7 +97,8 @@ def checked_name(name: str) -> str:
 
 
 def checked_line(line: str) -> str:
-    """Returns the line if it has exactly one answer. Raises a ValueError otherwise: all later answers would be shifted."""
+    """Returns the line if it has exactly one answer. Raises a ValueError otherwise: all later answers would be
+    shifted."""
     if not re.fullmatch(r"[ -~\t]+", line) or not line.strip() or line.lstrip().startswith("%"):
         raise ValueError(f"{line!r} is not a line that has an answer")
     return line
@@ -144,7 +146,8 @@ class Process(Calls):
                 key = self.next(table, key)
 
     def objects(self, table: Table) -> Iterator[tuple[Any, ...]]:
-        """Yields each object of the table, one key at a time. The table is fixed until the iterator ends or is closed."""
+        """Yields each object of the table, one key at a time. The table is fixed until the iterator ends or is
+        closed."""
         with self.fixed(table):
             found = self.first_lookup(table)
             while found != END_OF_TABLE:
@@ -164,7 +167,8 @@ class Process(Calls):
 
 
 class Pipeline(CollectedCalls):
-    """Collects calls of a process. `run`, or the end of a `with`, sends them. `answers` then has a reply or a Fault for each."""
+    """Collects calls of a process. `run`, or the end of a `with`, sends them. `answers` then has a reply or a Fault
+    for each."""
 
     def __init__(self, store: Store, name: str, pid: Pid):
         self.store, self.name, self.pid = store, name, pid
@@ -174,10 +178,14 @@ class Pipeline(CollectedCalls):
     def run(self) -> list[Any]:
         """Sends the collected calls. Returns a reply or a Fault for each, in order."""
         calls, self.calls = self.calls, []
-        way = self.store._way
-        pairs = zip(calls, way.calls(self.name, self.pid, calls), strict=True)
-        self.answers = [parse(it) if it and it[0] != "*" else result_of(line_of(self.name, *call), it, way.ended) for call, it in pairs]
+        answers = self.store._way.calls(self.name, self.pid, calls)
+        self.answers = [self._result(call, answer) for call, answer in zip(calls, answers, strict=True)]
         return self.answers
+
+    def _result(self, call: tuple[str, str], answer: str | None) -> Any:
+        if answer and answer[0] != "*":
+            return parse(answer)
+        return result_of(line_of(self.name, *call), answer, self.store._way.ended)
 
     def _collect(self, call: str, *terms: Term) -> None:
         self.calls.append((call, spell_all(terms)))

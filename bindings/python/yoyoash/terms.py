@@ -12,7 +12,8 @@ LEAST, GREATEST = -(2**127), 2**127 - 1
 
 @dataclass(frozen=True, slots=True)
 class Atom:
-    """An atom of 0 to 255 printable ASCII characters. Any other text raises a ValueError here, before anything is sent."""
+    """An atom of 0 to 255 printable ASCII characters. Any other text raises a ValueError here, before anything is
+    sent."""
 
     text: str
     # Keeps the spelling, since an atom is made once and sent many times.
@@ -39,7 +40,8 @@ class _Number:
 
     def __post_init__(self):
         if type(self.number) is not int or not 0 <= self.number < 2**32:
-            raise ValueError(f"{self.number!r} is not the number of a {type(self).__name__}: numbers go from 0 to 4294967295")
+            kind = type(self).__name__
+            raise ValueError(f"{self.number!r} is not the number of a {kind}: numbers go from 0 to 4294967295")
 
     def __repr__(self) -> str:
         return f"{type(self).__name__}({self.number})"
@@ -162,5 +164,6 @@ def spell_all(terms: Iterable[Term]) -> str:
 
 
 def spell(term: Term) -> str:
-    """Returns the text of a term. Raises a TypeError for a value that is not a term, a ValueError for an integer out of range."""
+    """Returns the text of a term. Raises a TypeError for a value that is not a term, a ValueError for an integer out
+    of range."""
     return SPELLED_BY[type(term)](term)
