@@ -1,23 +1,27 @@
-"""Lookups a second: by the pipe, one by one and in a pipeline, and in process; and the same as texts, without a look at the terms. All
-by turns in one run.
+#!/usr/bin/env python3
+"""Measures lookups a second: by pipe one by one, in a pipeline and with asyncio, and in this process; and the same
+calls as texts, without the conversion of terms. The ways are interleaved in one run.
 
-    python3 examples/python/measure.py [LIBRARY [PROGRAM]]     (crates/ets_c/out/libets.so, ./ets_script)"""
+    python3 bindings/python/measure.py [LIBRARY [PROGRAM]]     (found as docs/python.md says)"""
 
+import asyncio
+import datetime
 import os
+import platform
 import sys
 import time
 
-from yoyoash import Atom, Process, Store
-from yoyoash.library import LIBRARY, Library
-from yoyoash.pipe import PROGRAM, Pipe
+from yoyoash import Atom, Process, Store, aio, finding
+from yoyoash.library import Library
+from yoyoash.pipe import Pipe
 
-# (a turn is short, so that the best one had a processor to itself)
+# A turn is short, so that the best one had a core to itself.
 ROWS, TURNS = 200, 500
 TABLE = Atom("t")
 
 
 def filled(store: Store) -> Process:
-    """A process with a table."""
+    """Returns a process with a table."""
     process = store.spawn("p")
     process.new(TABLE, [Atom("named_table")])
     process.insert(TABLE, [(key, 2 * key) for key in range(ROWS)])
@@ -35,9 +39,24 @@ def together(process: Process) -> None:
             calls.lookup(TABLE, key)
 
 
+def awaited(loop: asyncio.AbstractEventLoop, process: aio.Process) -> None:
+    async def lookups() -> None:
+        await asyncio.gather(*[process.lookup(TABLE, key) for key in range(ROWS)])
+
+    loop.run_until_complete(lookups())
+
+
 def as_texts(process: Process, way: Pipe | Library) -> None:
     for key in range(ROWS):
         way.call(process.name, process.pid, "lookup", f"t,{key}")
+
+
+async def filled_for_asyncio(store: aio.Store) -> aio.Process:
+    await store.open()
+    process = await store.spawn("p")
+    await process.new(TABLE, [Atom("named_table")])
+    await process.insert(TABLE, [(key, 2 * key) for key in range(ROWS)])
+    return process
 
 
 def seconds(work, *given) -> float:
@@ -46,21 +65,30 @@ def seconds(work, *given) -> float:
     return time.perf_counter() - began
 
 
-def main(library=LIBRARY, program=PROGRAM):
-    with Store.in_process(library) as near, Store([str(program)]) as far:
-        here, there = filled(near), filled(far)
+def main(library=None, program=None):
+    program = finding.program(program)
+    loop, other = asyncio.new_event_loop(), aio.Store([program])
+    with Store.in_process(library) as near, Store([program]) as far:
+        here, there, soon = filled(near), filled(far), loop.run_until_complete(filled_for_asyncio(other))
         ways = {
-            "by the pipe, one by one": (one_by_one, there),
-            "by the pipe, in a pipeline": (together, there),
+            "by pipe, one by one": (one_by_one, there),
+            "by pipe, in a pipeline": (together, there),
+            "by pipe, asyncio, 200 at once": (awaited, loop, soon),
             "in process": (one_by_one, here),
-            "texts by the pipe, one by one": (as_texts, there, far._way),
+            "texts by pipe, one by one": (as_texts, there, far._way),
             "texts in process": (as_texts, here, near._way),
         }
         taken = [{name: seconds(*way) for name, way in ways.items()} for _ in range(TURNS)]
+        loop.run_until_complete(other.close())
+    loop.close()
     best = {name: ROWS / min(turn[name] for turn in taken) for name in ways}
     for name, rate in best.items():
-        print(f"{name:32}{rate:>10,.0f} a second, {rate / best['by the pipe, one by one']:5.1f} times the first")
-    print(f"the best of {TURNS} turns of {ROWS}; load of the machine {' '.join(f'{it:.1f}' for it in os.getloadavg())}, {os.cpu_count()} processors")
+        times = rate / best["by pipe, one by one"]
+        print(f"{name:32}{rate:>10,.0f} a second {1e6 / rate:6.1f} us each {times:5.1f} times the first")
+    load = " ".join(f"{it:.1f}" for it in os.getloadavg())
+    print(f"best of {TURNS} turns of {ROWS}; Python {platform.python_version()}, {os.cpu_count()} cores")
+    print(f"load {load}, {datetime.date.today()}")
 
 
-main(*sys.argv[1:])
+if __name__ == "__main__":
+    main(*sys.argv[1:])

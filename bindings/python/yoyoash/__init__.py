@@ -1,4 +1,4 @@
-"""A client of the store: a process asks calls as methods, and answers come back as Python values.
+"""Yoyoash: an in-memory store of Erlang terms. A process makes calls as methods, and replies are Python values.
 
     from yoyoash import Atom, Store
 
@@ -8,14 +8,33 @@
         anna.insert(prices, (Atom("apple"), 30))
         assert anna.lookup(prices, Atom("apple")) == [(Atom("apple"), 30)]
 
-docs/python.md tells the rest."""
+`yoyoash.aio` has the same for asyncio. docs/python.md is the guide."""
 
+from typing import TYPE_CHECKING
+
+from .calls import CALLS
 from .faults import BadArg, Fault, Gone, LineTooLong, NoMemory, NoProcess, Syntax, SystemLimit, Untold
+from .finding import Unavailable
 from .reading import parse
-from .store import CALLS, Pipeline, Process, Store
-from .terms import Atom, Pid, Term, Tid, spell
+from .store import Pipeline, Process, Store
+from .terms import ABSENT, END_OF_TABLE, Atom, Pid, Table, Term, Tid, spell
+
+if TYPE_CHECKING:
+    from . import aio
+
+__version__ = "0.1.0"
 
 __all__ = [
-    "Atom", "BadArg", "CALLS", "Fault", "Gone", "LineTooLong", "NoMemory", "NoProcess", "Pid", "Pipeline",
-    "Process", "Store", "Syntax", "SystemLimit", "Term", "Tid", "Untold", "parse", "spell",
+    "ABSENT", "Atom", "BadArg", "CALLS", "END_OF_TABLE", "Fault", "Gone", "LineTooLong", "NoMemory", "NoProcess", "Pid",
+    "Pipeline", "Process", "Store", "Syntax", "SystemLimit", "Table", "Term", "Tid", "Unavailable", "Untold", "aio",
+    "parse", "spell",
 ]  # fmt: skip
+
+
+def __getattr__(name: str):
+    """Imports `aio` at first use, since asyncio takes longer to import than all the rest."""
+    if name == "aio":
+        import importlib
+
+        return importlib.import_module("yoyoash.aio")
+    raise AttributeError(f"module 'yoyoash' has no attribute {name!r}")

@@ -1,12 +1,16 @@
-"""What may come in place of an answer."""
+"""The exceptions that calls raise."""
 
 from __future__ import annotations
 
+import re
 from collections.abc import Callable
+
+CLOSED = "the store is closed"
 
 
 class Refused(str):
-    """The text of an answer that is a refusal. `why` is the reason in words, or a function that has it; None where nobody says it."""
+    """The text of a reply that begins with `** `. `why` is the reason, a function that returns it, or None if it is
+    unknown."""
 
     __slots__ = ("why",)
 
@@ -17,7 +21,7 @@ class Refused(str):
 
 
 class Fault(Exception):
-    """A call that was not answered. `line` is the line that was sent, `answer` what came back for it, and `reason` why, in words."""
+    """A call without a reply. `line` is the line that was sent, `answer` what came back, `reason` why, in words."""
 
     def __init__(self, line: str, answer: str, why: Callable[[], str | None] | str | None = None):
         super().__init__(line, answer)
@@ -25,36 +29,48 @@ class Fault(Exception):
 
     @property
     def reason(self) -> str | None:
-        """Such as `argument 1: no such table`; None where nobody said it."""
+        """Returns the reason, such as `argument 1: no such table`, or None if it is unknown. May wait for it, at most
+        a second."""
         if callable(self._why):
             self._why = self._why()
         return self._why
 
+    @property
+    def remedy(self) -> str | None:
+        """Returns what to do about it, if the package knows."""
+        return None
+
     def __str__(self) -> str:
-        return f"{self.answer}: {self.line}" + (f" ({self.reason})" if self.reason else "")
+        notes = "; ".join(it for it in (self.reason, self.remedy) if it)
+        return f"{self.answer}: {self.line}" + (f" ({notes})" if notes else "")
 
     def __reduce__(self):
         return type(self), (self.line, self.answer, self.reason)
 
 
 class BadArg(Fault):
-    """The call's name, its arguments or the access are not as they should be. Nothing has changed."""
+    """Refused: the name of the call, an argument or the access is wrong. Nothing has changed."""
 
 
 class SystemLimit(Fault):
-    """A limit would be passed. Nothing has changed."""
+    """Refused: a limit would be exceeded. Nothing has changed."""
+
+    @property
+    def remedy(self) -> str | None:
+        full = re.match(r"(object|table|process) limit", self.reason or "")
+        return full and f"open the store with a larger max_{full[1]}{'es' if full[1] == 'process' else 's'}="
 
 
 class NoProcess(Fault):
-    """The process has ended. Nothing has changed."""
+    """Refused: the process has ended. Nothing has changed."""
 
 
 class NoMemory(Fault):
-    """Memory was refused. Nothing has changed."""
+    """Refused: the store runs out of memory. Nothing has changed."""
 
 
 class Syntax(Fault):
-    """The line is none; `at` is the byte of its first fault."""
+    """The line is not a line of the script language. `at` is the byte of its first fault."""
 
     @property
     def at(self) -> int:
@@ -62,26 +78,37 @@ class Syntax(Fault):
 
 
 class LineTooLong(Fault):
-    """The line has over 65,536 bytes. It was skipped."""
+    """The line has more than 65,536 bytes. It was skipped."""
 
 
 class Untold(Fault):
-    """The call was done, in this process, but there was no memory for the text of its reply."""
+    """The call was done in this process, but there was no memory for the text of its reply."""
 
 
 class Gone(Fault):
-    """The program has ended, and whether the call was done is not known; or the store in this process is closed."""
+    """The program has ended or was interrupted, so it is unknown if the call was done; or the store is closed."""
+
+    @property
+    def remedy(self) -> str | None:
+        return "open a new Store"
 
 
-KINDS = {"badarg": BadArg, "system_limit": SystemLimit, "noproc": NoProcess, "nomem": NoMemory, "line too long": LineTooLong, "untold": Untold}
+KINDS = {
+    "badarg": BadArg,
+    "system_limit": SystemLimit,
+    "noproc": NoProcess,
+    "nomem": NoMemory,
+    "line too long": LineTooLong,
+    "untold": Untold,
+}
 
 
 def fault(line: str, answer: Refused) -> Fault:
-    """The fault that an answer tells: behind `** ` stands its kind."""
+    """Returns the exception of a refused line. The kind follows `** `."""
     kind = answer[3:]
     return KINDS.get(kind, Syntax)(line, kind, answer.why)
 
 
-def gone(line: str) -> Gone:
-    """The fault of a line for which no answer came."""
-    return Gone(line, "gone", "the store has ended")
+def gone(line: str, why: str) -> Gone:
+    """Returns the exception of a line that got no answer."""
+    return Gone(line, "gone", why)

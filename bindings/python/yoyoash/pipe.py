@@ -3,77 +3,92 @@
 from __future__ import annotations
 
 import os
-import pathlib
 import select
+import signal
 import subprocess
 import threading
 from collections.abc import Sequence
 from functools import partial
 
-from .faults import Refused
-from .reasons import Reasons
+from . import finding
+from .faults import CLOSED, Refused
+from .reasons import PATIENCE, Reasons
 from .terms import Pid
 
-PROGRAM = pathlib.Path(__file__).resolve().parents[3] / "ets_script"
-COMMAND = (str(PROGRAM), "--why")
-# So many bytes are read at once: a pipe mostly has no more.
+# This many bytes are read at once, since a pipe rarely holds more.
 BLOCK = 65_536
+INTERRUPTED = "an earlier call was interrupted"
+TOO_MANY = "the program printed more lines than it was sent"
 
 
 class Pipe:
-    """A running `ets_script`. Threads may share it, one exchange at a time."""
+    """A running `ets_script`. Threads may share it: one exchange runs at a time."""
 
-    def __init__(self, command: Sequence[str] = COMMAND, **options):
-        """Starts the program; `options` are those of subprocess.Popen. Where it is asked `--why`, its standard error is listened to,
-        if that is not one of the options."""
-        is_told = "--why" in command and "stderr" not in options
-        if is_told:
+    def __init__(
+        self,
+        command: finding.Path | Sequence[str] | None = None,
+        limits: dict[str, int | None] | None = None,
+        **options,
+    ):
+        """Starts the program. `options` are those of subprocess.Popen. Reads the reasons if the words contain
+        `--why`, unless the caller takes the program's standard error."""
+        words = finding.command(command, limits or {})
+        has_reasons = "--why" in words and "stderr" not in options
+        if has_reasons:
             options["stderr"] = subprocess.PIPE
-        self._program = subprocess.Popen(command, stdin=subprocess.PIPE, stdout=subprocess.PIPE, bufsize=0, **options)
-        self._reasons = Reasons(self._program.stderr) if is_told else None
+        try:
+            self._program = subprocess.Popen(words, stdin=subprocess.PIPE, stdout=subprocess.PIPE, bufsize=0, **options)
+        except OSError as error:
+            if os.fsdecode(error.filename or "") != words[0]:
+                raise
+            raise finding.unavailable(words[0], "YOYOASH_PROGRAM", error) from None
+        self._reasons = Reasons(self._program.stderr) if has_reasons else None
         self._lines, self._answers = self._program.stdin, self._program.stdout
         self._lines_at = self._lines.fileno()
-        # (so that lines which the program cannot take yet keep nobody from reading its answers)
+        # Answers have to be read while the program takes no more lines.
         os.set_blocking(self._lines_at, False)
         self._either = select.poll()
         self._either.register(self._lines, select.POLLOUT)
         self._either.register(self._answers, select.POLLIN)
-        self._sent, self._is_gone, self._turn = 0, False, threading.Lock()
+        # Why no more lines are sent; empty while the program runs.
+        self.ended = ""
+        self.is_closed, self._sent, self._turn = False, 0, threading.Lock()
 
     def call(self, process: str, pid: Pid, name: str, arguments: str) -> str | None:
-        """The text of the answer to a process's call; None where the program has ended."""
+        """Returns the text of the answer to a process's call, or None if there was none."""
         return self._exchange(f"{process} {name}({arguments})\n", 1)[0]
 
     def calls(self, process: str, pid: Pid, calls: Sequence[tuple[str, str]]) -> list[str | None]:
-        """Those to its calls, each a name and its arguments."""
+        """Returns the texts of the answers to calls, each a name and its arguments, in one exchange."""
         return self._exchange("".join([f"{process} {name}({arguments})\n" for name, arguments in calls]), len(calls))
 
     def lines(self, lines: Sequence[str]) -> list[str | None]:
-        """The texts of the answers to lines, in one turn."""
+        """Returns the texts of the answers to lines, in one exchange."""
         return self._exchange("".join([f"{line}\n" for line in lines]), len(lines))
 
     def _exchange(self, lines: str, count: int) -> list[str | None]:
-        """The answers to so many lines, in one turn."""
+        """Sends this many lines and returns their answers."""
         with self._turn:
-            if self._is_gone:
+            if self.ended:
                 return [None] * count
-            # Where this is broken off, as by Ctrl-C, and where the program says more than it was asked, nobody knows whose its next
-            # answer would be.
-            self._is_gone = True
+            # If this is interrupted, as by Ctrl-C, a later answer could be taken for another line's. So none is sent
+            # any more.
+            self.ended = INTERRUPTED
             first, self._sent = self._sent + 1, self._sent + count
-            said = self._said(lines.encode("ascii"), count)
-            *answers, rest = said.split("\n")
-            self._is_gone = len(answers) != count or rest != ""
-        if "** " in said:
+            text = self._answer(lines.encode("ascii"), count)
+            *answers, rest = text.split("\n")
+            is_whole = len(answers) == count and rest == ""
+            self.ended = "" if is_whole else TOO_MANY if len(answers) >= count else self._how_it_ended()
+        if "** " in text:
             answers = [self._refused(it, first + place) if it[:3] == "** " else it for place, it in enumerate(answers)]
         return answers[:count] + [None] * (count - len(answers))
 
     def _refused(self, answer: str, number: int) -> Refused:
-        """The refusal of the line with this number."""
+        """Adds to a refusal how to get the reason of the line with this number."""
         return Refused(answer, self._reasons and partial(self._reasons.of, number))
 
-    def _said(self, lines: bytes, count: int) -> str:
-        """Sends lines, and reads what the program says until so many answers are there, or it has ended."""
+    def _answer(self, lines: bytes, count: int) -> str:
+        """Sends lines and reads this many answers, or fewer if the program ends."""
         unsent, blocks = self._send(lines), []
         while count > 0 or unsent:
             if unsent and self._takes_lines():
@@ -87,7 +102,8 @@ class Pipe:
         return b"".join(blocks).decode("ascii")
 
     def _send(self, lines: bytes | memoryview) -> bytes | memoryview:
-        """Sends what the program takes of some lines, and answers the rest of them. There is none where it has ended."""
+        """Sends what the program takes of some lines and returns the rest. There is no rest if the program has
+        ended."""
         try:
             sent = self._lines.write(lines)
         except (BrokenPipeError, ValueError):
@@ -95,20 +111,38 @@ class Pipe:
         return b"" if sent == len(lines) else memoryview(lines)[sent or 0 :]
 
     def _takes_lines(self) -> bool:
-        """Waits until the program takes lines or has said something, and answers whether it takes lines."""
+        """Waits until the program takes lines or has printed something. Returns whether it takes lines."""
         return any(at == self._lines_at for at, _ in self._either.poll())
 
+    def _how_it_ended(self) -> str:
+        try:
+            status = self._program.wait(PATIENCE)
+        except subprocess.TimeoutExpired:
+            return "the program closed its output"
+        return how_it_ended(status, self._reasons.last_line() if self._reasons else "")
+
     def close(self) -> None:
-        """Ends the program. It may be closed again."""
+        """Ends the program. Closing again does nothing."""
+        self.is_closed = True
         self._lines.close()
         with self._turn:
-            self._is_gone = True
+            self.ended = CLOSED
             self._answers.close()
             self._program.wait()
         if self._reasons:
             self._reasons.close()
 
 
+def how_it_ended(status: int, last_line: str) -> str:
+    """Says how a program ended, with the last line of its standard error."""
+    if status < 0:
+        names = {it.value: it.name for it in signal.Signals}
+        how = f"the program was killed by {names.get(-status, f'signal {-status}')}"
+    else:
+        how = f"the program ended with exit status {status}"
+    return f"{how}: {last_line}" if last_line else how
+
+
 def line_of(process: str, name: str, arguments: str) -> str:
-    """The line of a process's call."""
+    """Returns the line of a process's call."""
     return f"{process} {name}({arguments})"

@@ -1,4 +1,4 @@
-"""The text of a term, as the store prints it, read as a Python value."""
+"""Reads the text of a term, as the store prints it, into a Python value."""
 
 from __future__ import annotations
 
@@ -6,19 +6,21 @@ import re
 
 from .terms import Atom, Pid, Term, Tid
 
-# A reply to a lookup mostly is one pair of integers or plain atoms.
+# Matches one pair of integers or plain atoms: the usual reply of a lookup.
 _PAIR = re.compile(r"\[\{(-?\w+),(-?\w+)\}\]", re.ASCII).fullmatch
-# A tuple or a list of integers and plain atoms, a bracket, an integer, an atom, an atom in quotes, a binary, a pid, an identifier, and
-# what else there is.
+# Finds the tokens: a tuple or list of integers and plain atoms, a bracket, an integer, an atom, a quoted atom, a
+# binary, a pid, a table identifier, and any other character.
 _TOKENS = re.compile(
-    r"(\{[\w@,-]+\}|\[[\w@,-]+\]|[{}\[\]]|-?\d+|[a-z][\w@]*|'[^'\\]*(?:\\.[^'\\]*)*'|<<[\d,]*>>|<0\.\d+\.0>|#Tid<\d+>|.),?", re.ASCII | re.DOTALL
+    r"(\{[\w@,-]+\}|\[[\w@,-]+\]|[{}\[\]]|-?\d+|[a-z][\w@]*|'[^'\\]*(?:\\.[^'\\]*)*'"
+    r"|<<[\d,]*>>|<0\.\d+\.0>|#Tid<\d+>|.),?",
+    re.ASCII | re.DOTALL,
 ).findall
 _ATOM = re.compile(r"[a-z][\w@]*", re.ASCII).fullmatch
 _NEGATIVE = re.compile(r"-\d+", re.ASCII).fullmatch
 
 
 def parse(text: str) -> Term:
-    """The term with this text, as the store prints it; else a ValueError."""
+    """Returns the term with this text, as the store prints it. Raises a ValueError for any other text."""
     try:
         pair = _PAIR(text)
         if pair:
@@ -34,7 +36,7 @@ def parse(text: str) -> Term:
 
 
 def _whole(text: str) -> Term:
-    """The term with this text. Terms that are begun and not ended wait in a list, so none is too deep."""
+    """Reads any term. Keeps the open brackets in a list, so depth needs no recursion."""
     if not text.isascii():
         raise ValueError
     terms: list = []
@@ -61,7 +63,8 @@ def _whole(text: str) -> Term:
 
 
 class _Words(dict):
-    """Atoms, pids and identifiers by their texts: replies have few of them, over and over. Each other term of one token is made anew."""
+    """Keeps atoms, pids and table identifiers by their texts, since replies repeat a few of them. Makes other terms
+    anew."""
 
     def __missing__(self, token: str) -> Term:
         if _NEGATIVE(token):
@@ -75,7 +78,7 @@ class _Words(dict):
 
 
 def _word(token: str) -> Atom | Pid | Tid:
-    """The term of a token: an atom, an atom in quotes, a pid or an identifier."""
+    """Returns the term of a token: an atom, a quoted atom, a pid or a table identifier."""
     if _ATOM(token):
         return Atom(token)
     if len(token) > 1:

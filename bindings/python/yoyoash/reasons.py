@@ -1,4 +1,4 @@
-"""Why lines were refused, as a program with `--why` says it on its standard error."""
+"""Reads why lines were refused, as a program with `--why` prints it on standard error."""
 
 from __future__ import annotations
 
@@ -7,55 +7,81 @@ import os
 import re
 import threading
 
-# `line 4: lookup/2: argument 1: no such table`: its number, and behind the call, the command or the byte of its fault the reason.
-_SAID = re.compile(rb"line (\d+): (?:byte \d+: |[a-z][\w@]*(?:/\d+)?: )?(.*)\n?").fullmatch
-# So many reasons are kept that nobody has asked for yet.
+# Matches `line 4: lookup/2: argument 1: no such table`: the line's number, and the reason after the call, the command
+# or the byte.
+_REASON = re.compile(rb"line (\d+): (?:byte \d+: |[a-z][\w@]*(?:/\d+)?: )?(.*)\n?").fullmatch
+# At most this many reasons are kept that nobody has read yet.
 MOST = 100_000
-# Who asks for a reason waits so many seconds for it at most.
+# Reading a reason waits at most this many seconds.
 PATIENCE = 1.0
 
 
-class Reasons:
-    """What a program says of the lines that it refused, by their numbers. A thread reads it, so that the program never waits for a
-    reader; whatever else it says goes on to this program's own standard error."""
+class Heard:
+    """The reasons by the number of their line. Other lines go on to this program's own standard error."""
 
-    def __init__(self, said):
-        self._said = io.BufferedReader(said)
-        self._reasons: dict[int, str] = {}
-        self._heard, self._changed = 0, threading.Condition()
+    def __init__(self) -> None:
+        self.reasons: dict[int, str] = {}
+        self.last_line = ""
+        self.number: float = 0
+
+    def keep(self, number: int, reason: str) -> None:
+        """Keeps the reason of a line."""
+        if len(self.reasons) == MOST:
+            del self.reasons[next(iter(self.reasons))]
+        self.number = number
+        self.reasons[number] = reason
+
+    def pass_on(self, line: bytes) -> None:
+        """Prints a line that is not a reason."""
+        os.write(2, line)
+        self.last_line = line.decode("ascii", "replace").strip() or self.last_line
+
+
+def reason_of(line: bytes) -> tuple[int, str] | None:
+    """Returns the number and the reason of a line of standard error, or None if it is not a reason."""
+    found = _REASON(line)
+    return (int(found[1]), found[2].decode("ascii", "replace")) if found else None
+
+
+class Reasons:
+    """Reads the reasons in a thread, so that the program never waits for a reader."""
+
+    def __init__(self, stream):
+        self._stream = io.BufferedReader(stream)
+        self._heard, self._changed = Heard(), threading.Condition()
         self._is_patient = True
         self._reader = threading.Thread(target=self._read, daemon=True)
         self._reader.start()
 
     def of(self, number: int) -> str | None:
-        """The reason of the line with this number. It comes behind the line's answer, so there may be a wait for it, which is short;
-        after one in vain there is none until the program says something again."""
+        """Returns the reason of the line with this number. It arrives after the answer, so this waits shortly. After
+        a wait in vain it returns at once until the program prints another reason."""
         with self._changed:
-            came = self._changed.wait_for(lambda: self._heard >= number, PATIENCE if self._is_patient else 0)
+            came = self._changed.wait_for(lambda: self._heard.number >= number, PATIENCE if self._is_patient else 0)
             self._is_patient = self._is_patient and came
-            return self._reasons.get(number)
+            return self._heard.reasons.get(number)
+
+    def last_line(self) -> str:
+        """Returns the last line that was not a reason, once the program has ended."""
+        self._reader.join(PATIENCE)
+        return self._heard.last_line
 
     def close(self) -> None:
-        """Waits until the program, which has ended, has said all: shortly, since others may hold its standard error."""
+        """Waits until the rest is read: shortly, since other programs may hold the same standard error."""
         self._reader.join(PATIENCE)
         if not self._reader.is_alive():
-            self._said.close()
+            self._stream.close()
 
     def _read(self) -> None:
-        for line in self._said:
-            said = _SAID(line)
-            if said:
-                self._hear(int(said[1]), said[2].decode("ascii", "replace"))
-            else:
-                os.write(2, line)
+        for line in self._stream:
+            found = reason_of(line)
+            if not found:
+                self._heard.pass_on(line)
+                continue
+            with self._changed:
+                self._heard.keep(*found)
+                self._is_patient = True
+                self._changed.notify_all()
         with self._changed:
-            self._heard = float("inf")
-            self._changed.notify_all()
-
-    def _hear(self, number: int, reason: str) -> None:
-        with self._changed:
-            if len(self._reasons) == MOST:
-                del self._reasons[next(iter(self._reasons))]
-            self._reasons[number] = reason
-            self._heard, self._is_patient = number, True
+            self._heard.number = float("inf")
             self._changed.notify_all()

@@ -1,154 +1,198 @@
-"""A store, its processes, and calls sent together."""
+"""A store, its processes, and calls that are sent together."""
 
 from __future__ import annotations
 
+import contextlib
 import re
-from collections.abc import Callable, Sequence
-from typing import TYPE_CHECKING, Any
+import warnings
+from collections.abc import Iterator, Sequence
+from typing import Any
 
-from .faults import Fault, Refused, fault, gone
-from .library import LIBRARY, Library
-from .pipe import COMMAND, Pipe, line_of
+from . import finding
+from .calls import Calls, CollectedCalls
+from .faults import BadArg, Fault, NoProcess, Refused, fault, gone
+from .library import Library
+from .pipe import Pipe, line_of
 from .reading import parse
-from .terms import Pid, Term, spell_all
-
-# The calls of docs/calls.md.
-CALLS = (
-    "new insert insert_new lookup member lookup_element take delete delete_object delete_all_objects tab2list update_counter"
-    " update_element match match_object match_delete select select_count select_delete first next first_lookup next_lookup"
-    " safe_fixtable give_away setopts whereis info receive"
-).split()
+from .terms import END_OF_TABLE, FALSE, TRUE, Pid, Table, Term, spell_all
 
 
 class Store:
-    """A store, in a program at the other end of a pipe or in this process. A program may be used by several threads, a store in
-    this process by the one that opened it."""
+    """A store: a program at the other end of a pipe, or in this process. Threads may share it, one call at a time."""
 
-    def __init__(self, command: Sequence[str] = COMMAND, **options):
-        """Starts the program; `options` are those of subprocess.Popen."""
-        self._way: Pipe | Library = Pipe(command, **options)
+    _way: Pipe | Library
+
+    def __init__(
+        self,
+        command: finding.Path | Sequence[str] | None = None,
+        *,
+        max_processes: int | None = None,
+        max_tables: int | None = None,
+        max_objects: int | None = None,
+        **options: Any,
+    ):
+        """Starts a program: the path of `ets_script`, or a list of words that starts one. Without it the package
+        finds the program (docs/python.md). `options` are those of subprocess.Popen."""
+        limits = {"max_processes": max_processes, "max_tables": max_tables, "max_objects": max_objects}
+        self._way = Pipe(command, limits, **options)
 
     @classmethod
-    def in_process(cls, library=LIBRARY, **limits: int) -> Store:
-        """A store in this process, by the library that docs/c.md builds; `limits` are `processes`, `tables` and `objects`."""
+    def in_process(
+        cls,
+        library: finding.Path | None = None,
+        *,
+        max_processes: int | None = None,
+        max_tables: int | None = None,
+        max_objects: int | None = None,
+    ) -> Store:
+        """Opens a store in this process, by libyoyoash.so."""
         store = cls.__new__(cls)
-        store._way = Library(library, **limits)
+        limits = {"max_processes": max_processes, "max_tables": max_tables, "max_objects": max_objects}
+        store._way = Library(library, limits)
         return store
 
     def spawn(self, name: str) -> Process:
-        """Enrols a process under a name of the script."""
-        if not re.fullmatch(r"[a-z][A-Za-z0-9_@]{0,254}", name) or name in ("spawn", "exit", "grow", "ready"):
-            raise ValueError(f"{name!r} is no name of a process")
-        return Process(self, name, self.ask(f"spawn {name}"))
+        """Begins a process with this name: an identity inside the store that owns tables."""
+        return Process(self, checked_name(name), self.ask(f"spawn {name}"))
 
-    def ask(self, line: str) -> Term:
-        """The answer to a line of the script language."""
+    def ask(self, line: str) -> Any:
+        """Returns the reply to a line of the script language, or raises a Fault."""
         (answer,) = self.ask_all([line])
         if isinstance(answer, Fault):
             raise answer
         return answer
 
-    def ask_all(self, lines: Sequence[str]) -> list[Term | Fault]:
-        """The answers to lines, in their order, in one turn; a line that was refused has its fault there."""
+    def ask_all(self, lines: Sequence[str]) -> list[Any]:
+        """Returns for each line its reply or its Fault, in order. Over a pipe the lines are sent together."""
         for line in lines:
-            # (a line without an answer would shift all that come after it)
-            if not re.fullmatch(r"[ -~\t]+", line) or not line.strip() or line.lstrip().startswith("%"):
-                raise ValueError(f"{line!r} is no line that is answered")
+            checked_line(line)
         answers = self._way.lines(lines)
-        return [_told(line, answer) for line, answer in zip(lines, answers, strict=True)]
+        return [result_of(line, answer, self._way.ended) for line, answer in zip(lines, answers, strict=True)]
 
     def close(self) -> None:
-        """Ends the store. It may be closed again."""
+        """Ends the store. Closing again does nothing."""
         self._way.close()
 
     def __enter__(self) -> Store:
         return self
 
-    def __exit__(self, *raised) -> None:
+    def __exit__(self, *raised: object) -> None:
         self.close()
 
+    def __del__(self) -> None:
+        # There is no `_way` if the store was never opened.
+        way = self.__dict__.get("_way")
+        if way and not way.is_closed:
+            try:
+                warnings.warn(f"{self!r} was never closed: use `with`, or call close()", ResourceWarning, source=self)
+            finally:
+                way.close()
 
-def _told(line: str, answer: str | None) -> Term | Fault:
-    """What the text of an answer says; None says that none came."""
+
+def checked_name(name: str) -> str:
+    """Returns the name if a process can have it. Raises a ValueError otherwise."""
+    if not re.fullmatch(r"[a-z][A-Za-z0-9_@]{0,254}", name) or name in ("spawn", "exit", "grow", "ready"):
+        raise ValueError(f"{name!r} is not a name of a process")
+    return name
+
+
+def checked_line(line: str) -> str:
+    """Returns the line if it has exactly one answer. Raises a ValueError otherwise: all later answers would be
+    shifted."""
+    if not re.fullmatch(r"[ -~\t]+", line) or not line.strip() or line.lstrip().startswith("%"):
+        raise ValueError(f"{line!r} is not a line that has an answer")
+    return line
+
+
+def result_of(line: str, answer: str | None, ended: str) -> Any:
+    """Returns the term or the Fault of an answer. `ended` says why there is none if it is None."""
     if answer is None:
-        return gone(line)
+        return gone(line, ended)
     return fault(line, answer) if isinstance(answer, Refused) else parse(answer)
 
 
-class _Caller:
-    """Any call of docs/calls.md is a method."""
+class Process(Calls):
+    """A process of the store. Each call of docs/calls.md is a method that returns the reply or raises a Fault."""
 
     def __init__(self, store: Store, name: str, pid: Pid):
         self.store, self.name, self.pid = store, name, pid
-
-    if TYPE_CHECKING:  # (which does not see that the methods are made, below)
-
-        def __getattr__(self, call: str) -> Callable[..., Any]: ...
-
-
-class Process(_Caller):
-    """A process of the store: its calls are methods, which answer or raise a Fault."""
-
-    def __init__(self, store: Store, name: str, pid: Pid):
-        super().__init__(store, name, pid)
         self._ask = store._way.call
 
-    def exit(self) -> Term:
-        """Ends the process."""
+    def exit(self) -> Any:
+        """Ends the process. Its tables go to their heirs, or are deleted."""
         return self.store.ask(f"exit {self.name}")
 
     def pipeline(self) -> Pipeline:
-        """Calls that are collected, and sent together."""
+        """Returns an empty pipeline, which collects calls and sends them together."""
         return Pipeline(self.store, self.name, self.pid)
+
+    @contextlib.contextmanager
+    def fixed(self, table: Table) -> Iterator[Table]:
+        """Fixes the table for the time of a `with`, so that a traversal visits each key that stays exactly once."""
+        self.safe_fixtable(table, TRUE)
+        try:
+            yield table
+        finally:
+            # A table that was deleted has no fixes, and a process that has ended has none.
+            with contextlib.suppress(BadArg, NoProcess):
+                self.safe_fixtable(table, FALSE)
+
+    def walk(self, table: Table) -> Iterator[Any]:
+        """Yields each key of the table. The table is fixed until the iterator ends or is closed."""
+        with self.fixed(table):
+            key = self.first(table)
+            while key != END_OF_TABLE:
+                yield key
+                key = self.next(table, key)
+
+    def objects(self, table: Table) -> Iterator[tuple[Any, ...]]:
+        """Yields each object of the table, one key at a time. The table is fixed until the iterator ends or is
+        closed."""
+        with self.fixed(table):
+            found = self.first_lookup(table)
+            while found != END_OF_TABLE:
+                key, objects = found
+                yield from objects
+                found = self.next_lookup(table, key)
+
+    def _call(self, call: str, *terms: Term) -> Any:
+        arguments = spell_all(terms)
+        answer = self._ask(self.name, self.pid, call, arguments)
+        if answer and answer[0] != "*":
+            return parse(answer)
+        raise result_of(line_of(self.name, call, arguments), answer, self.store._way.ended)
 
     def __repr__(self) -> str:
         return f"<process {self.name} {self.pid!r}>"
 
 
-class Pipeline(_Caller):
-    """Calls of a process that are collected. `run`, or the end of a `with`, sends them; `answers` then has an answer or a
-    Fault for each, in order."""
+class Pipeline(CollectedCalls):
+    """Collects calls of a process. `run`, or the end of a `with`, sends them. `answers` then has a reply or a Fault
+    for each."""
 
     def __init__(self, store: Store, name: str, pid: Pid):
-        super().__init__(store, name, pid)
+        self.store, self.name, self.pid = store, name, pid
         self.calls: list[tuple[str, str]] = []
-        self.answers: list[Term | Fault] = []
+        self.answers: list[Any] = []
 
-    def run(self) -> list[Term | Fault]:
-        """Sends what was collected, and answers the answers."""
+    def run(self) -> list[Any]:
+        """Sends the collected calls. Returns a reply or a Fault for each, in order."""
         calls, self.calls = self.calls, []
         answers = self.store._way.calls(self.name, self.pid, calls)
-        told = zip(calls, answers, strict=True)
-        self.answers = [parse(it) if it and it[0] != "*" else _told(line_of(self.name, *call), it) for call, it in told]
+        self.answers = [self._result(call, answer) for call, answer in zip(calls, answers, strict=True)]
         return self.answers
+
+    def _result(self, call: tuple[str, str], answer: str | None) -> Any:
+        if answer and answer[0] != "*":
+            return parse(answer)
+        return result_of(line_of(self.name, *call), answer, self.store._way.ended)
+
+    def _collect(self, call: str, *terms: Term) -> None:
+        self.calls.append((call, spell_all(terms)))
 
     def __enter__(self) -> Pipeline:
         return self
 
-    def __exit__(self, kind, *raised) -> None:
+    def __exit__(self, kind: object, *raised: object) -> None:
         if kind is None:
             self.run()
-
-
-def _asks(call: str):
-    def method(self: Process, *terms: Term) -> Term:
-        arguments = spell_all(terms)
-        answer = self._ask(self.name, self.pid, call, arguments)
-        if answer and answer[0] != "*":
-            return parse(answer)
-        raise _told(line_of(self.name, call, arguments), answer)
-
-    return method
-
-
-def _collects(call: str):
-    def method(self: Pipeline, *terms: Term) -> None:
-        self.calls.append((call, spell_all(terms)))
-
-    return method
-
-
-for _call in CALLS:
-    for _kind, _method in (Process, _asks(_call)), (Pipeline, _collects(_call)):
-        _method.__name__, _method.__doc__ = _call, f"The call `{_call}` of docs/calls.md."
-        setattr(_kind, _call, _method)

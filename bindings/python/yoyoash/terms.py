@@ -1,32 +1,33 @@
-"""Terms as Python values, and their text: int, tuple, list and bytes, and Atom, Pid and Tid for the rest."""
+"""Terms as Python values and their text: int, tuple, list and bytes, and Atom, Pid and Tid for the rest."""
 
 from __future__ import annotations
 
 from collections.abc import Iterable
 from dataclasses import dataclass, field
 from operator import attrgetter
-from typing import Union
+from typing import Final, Union
 
 LEAST, GREATEST = -(2**127), 2**127 - 1
 
 
 @dataclass(frozen=True, slots=True)
 class Atom:
-    """An atom of 0 to 255 printable ASCII characters. Others are refused here, so none is ever sent."""
+    """An atom of 0 to 255 printable ASCII characters. Any other text raises a ValueError here, before anything is
+    sent."""
 
     text: str
-    # (an atom is spelled once, and sent over and over)
+    # Keeps the spelling, since an atom is made once and sent many times.
     _spelled: str = field(init=False, repr=False, compare=False)
 
     def __post_init__(self):
         if not isinstance(self.text, str):
-            raise TypeError(f"{self.text!r} is no string, as an atom's text is")
+            raise TypeError(f"{self.text!r} is not a string: the text of an atom is one")
         if len(self.text) > 255 or not (self.text.isascii() and self.text.isprintable()):
-            raise ValueError(f"{self.text!r} is no atom: it has 0 to 255 printable ASCII characters")
+            raise ValueError(f"{self.text!r} is not an atom: an atom has 0 to 255 printable ASCII characters")
         object.__setattr__(self, "_spelled", "'" + self.text.replace("\\", "\\\\").replace("'", "\\'") + "'")
 
     def __bool__(self) -> bool:
-        """Only `false` is false: so a call that answers `true` or `false` may stand behind `if`."""
+        """Returns False for `false` only, so `if` works on replies that are `true` or `false`."""
         return self.text != "false"
 
     def __repr__(self) -> str:
@@ -39,7 +40,8 @@ class _Number:
 
     def __post_init__(self):
         if type(self.number) is not int or not 0 <= self.number < 2**32:
-            raise ValueError(f"{self.number!r} is no number of a {type(self).__name__}: these go from 0 to 4294967295")
+            kind = type(self).__name__
+            raise ValueError(f"{self.number!r} is not the number of a {kind}: numbers go from 0 to 4294967295")
 
     def __repr__(self) -> str:
         return f"{type(self).__name__}({self.number})"
@@ -58,19 +60,36 @@ class Tid(_Number):
 
 
 Term = Union[int, Atom, Pid, Tid, tuple, list, bytes]
+# What names a table: its identifier, or the name of a named table.
+Table = Union[Atom, Tid]
+
+TRUE: Final = Atom("true")
+FALSE: Final = Atom("false")
+# The reply of `first` and `next` after the last key.
+END_OF_TABLE: Final = Atom("$end_of_table")
+
+
+class Absent:
+    """The default of a parameter that a call may leave out. It is not a term."""
+
+    def __repr__(self) -> str:
+        return "ABSENT"
+
+
+ABSENT: Final = Absent()
 
 
 def _integer(number: int) -> str:
     text = repr(number)
-    # (with fewer than 39 digits it is no greater than 10^38, which is in range)
+    # Fewer than 39 digits are at most 10^38, which is in range.
     if len(text) < 39 or LEAST <= number <= GREATEST:
         return text
-    raise ValueError(f"{text} is past the range of integers")
+    raise ValueError(f"{text} is out of range: integers go from -2**127 to 2**127 - 1")
 
 
 _BYTES = tuple(map(str, range(256)))
 
-# How each kind of term is spelled that has no terms in it.
+# Spells each kind of term that contains no other terms.
 LEAVES = {
     int: _integer,
     Atom: attrgetter("_spelled"),
@@ -92,7 +111,7 @@ def _list(it: list) -> str:
 
 
 class _Sign(str):
-    """A piece of text that stands between terms."""
+    """A comma or a bracket between terms."""
 
     __slots__ = ()
 
@@ -101,7 +120,7 @@ _COMMA = _Sign(",")
 
 
 def _nest(nest: tuple | list) -> str:
-    """The text of a tuple or a list that has others in it, to any depth."""
+    """Spells a tuple or a list that contains others, to any depth, without recursion."""
     parts: list[str] = []
     left: list = [nest]
     while left:
@@ -121,7 +140,7 @@ def _nest(nest: tuple | list) -> str:
 
 
 class _SpelledBy(dict):
-    """How each type of terms is spelled. One that is derived from the type of a term is spelled as that."""
+    """Maps each type to the function that spells it. A derived type is spelled as its base."""
 
     def __missing__(self, kind: type):
         if issubclass(kind, bool):
@@ -133,17 +152,18 @@ class _SpelledBy(dict):
 
 def _refuse(it):
     hint = f"; an atom is Atom({str(it).lower()!r})" if isinstance(it, (bool, str)) else ""
-    raise TypeError(f"{it!r} is no term{hint}")
+    raise TypeError(f"{it!r} is not a term{hint}")
 
 
 SPELLED_BY = _SpelledBy(LEAVES | {tuple: _tuple, list: _list})
 
 
 def spell_all(terms: Iterable[Term]) -> str:
-    """The texts of terms, with commas between them. What is no term is a TypeError, and a number past its range a ValueError."""
+    """Returns the texts of terms, separated by commas. Raises as `spell` does."""
     return ",".join([SPELLED_BY[type(it)](it) for it in terms])
 
 
 def spell(term: Term) -> str:
-    """The text of a term. What is no term is a TypeError, and a number past its range a ValueError."""
+    """Returns the text of a term. Raises a TypeError for a value that is not a term, a ValueError for an integer out
+    of range."""
     return SPELLED_BY[type(term)](term)

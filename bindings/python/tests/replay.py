@@ -1,4 +1,4 @@
-"""Stands in for ets_script: answers the lines of a script as recorded beside it, and only these, in their order."""
+"""Plays ets_script: answers the lines of a script as recorded in its .stdout file, only these and in their order."""
 
 import pathlib
 import sys
@@ -7,7 +7,7 @@ script = pathlib.Path(sys.argv[1])
 lines = [line for line in script.read_text().splitlines() if line and not line.startswith("%")]
 answers = script.with_name(script.name + ".stdout").read_text().splitlines()
 for line, answer in zip(lines, answers, strict=True):
-    asked = sys.stdin.readline().rstrip("\n")
-    if asked != line:
-        sys.exit(f"asked {asked!r}, recorded {line!r}")
+    sent = sys.stdin.readline().rstrip("\n")
+    if sent != line:
+        sys.exit(f"sent {sent!r}, recorded {line!r}")
     print(answer, flush=True)

@@ -1,0 +1,110 @@
+"""Builds the wheel. pip calls this by pyproject.toml; `build-wheel` calls it for a release. It needs nothing but
+Python.
+
+The wheel is the same, byte for byte, whenever it is built from the same files: names are sorted, times are fixed, and
+nothing is compressed, since compressors differ."""
+
+import ast
+import base64
+import hashlib
+import os
+import pathlib
+import platform
+import re
+import stat
+import sys
+import zipfile
+
+HERE = pathlib.Path(__file__).resolve().parent
+# What the wheel has of dist/, with its mode.
+COPIES = {"ets_script": 0o755, "libyoyoash.so": 0o755}
+GLIBC = (2, 34)
+NATIVE, PURE = f"py3-none-manylinux_{GLIBC[0]}_{GLIBC[1]}_x86_64", "py3-none-any"
+EARLIEST = (1980, 1, 1, 0, 0, 0)
+
+
+def project():
+    """Returns the keys of [project] whose values are strings or lists. (Python 3.10 has no reader of TOML.)"""
+    section = (HERE / "pyproject.toml").read_text().partition("[project]\n")[2].partition("\n[")[0]
+    pairs = re.findall(r'^([a-z-]+) = (".*?"$|\[.*?\]$)', section, re.M | re.S)
+    return {key: ast.literal_eval(value) for key, value in pairs}
+
+
+def metadata(about):
+    """Returns the text of METADATA."""
+    lines = ["Metadata-Version: 2.1", f"Name: {about['name']}", f"Version: {about['version']}"]
+    lines += [f"Summary: {about['description']}", f"Requires-Python: {about['requires-python']}"]
+    lines += [f"Keywords: {','.join(about['keywords'])}"]
+    lines += [f"Classifier: {it}" for it in about["classifiers"]]
+    return "\n".join([*lines, "Description-Content-Type: text/markdown", "", (HERE / about["readme"]).read_text()])
+
+
+def copies_of(dist):
+    """Returns the program and the library of dist/ with their modes. Refuses what needs a later glibc than the
+    wheel's name says."""
+    copies = {}
+    for name, mode in COPIES.items():
+        content = (dist / name).read_bytes()
+        needed = max((tuple(map(int, it)) for it in re.findall(rb"\0GLIBC_(\d+)\.(\d+)", content)), default=GLIBC)
+        if needed > GLIBC:
+            needs, promises = ".".join(map(str, needed)), ".".join(map(str, GLIBC))
+            raise SystemExit(f"build-wheel: {dist / name} needs glibc {needs}, and the wheel promises {promises}")
+        copies[f"yoyoash/native/{name}"] = (content, mode)
+    return copies
+
+
+def write_wheel(folder, files, tag):
+    """Writes a wheel of these files, and returns its name. Each file has a content and a mode."""
+    about = project()
+    stem = f"{about['name']}-{about['version']}"
+    info = f"{stem}.dist-info"
+    is_pure = str(tag == PURE).lower()
+    wheel = f"Wheel-Version: 1.0\nGenerator: yoyoash\nRoot-Is-Purelib: {is_pure}\nTag: {tag}\n"
+    files = dict(sorted(files.items()))
+    files[f"{info}/METADATA"] = (metadata(about).encode(), 0o644)
+    files[f"{info}/WHEEL"] = (wheel.encode(), 0o644)
+    record = [f"{name},sha256={checksum(content)},{len(content)}\n" for name, (content, _) in files.items()]
+    files[f"{info}/RECORD"] = ("".join([*record, f"{info}/RECORD,,\n"]).encode(), 0o644)
+    with zipfile.ZipFile(folder / f"{stem}-{tag}.whl", "w", zipfile.ZIP_STORED) as archive:
+        for name, (content, mode) in files.items():
+            entry = zipfile.ZipInfo(name, EARLIEST)
+            entry.create_system, entry.external_attr = 3, (stat.S_IFREG | mode) << 16
+            archive.writestr(entry, content)
+    return f"{stem}-{tag}.whl"
+
+
+def checksum(content):
+    """Returns a checksum as RECORD has it."""
+    return base64.urlsafe_b64encode(hashlib.sha256(content).digest()).rstrip(b"=").decode()
+
+
+def modules():
+    """Returns the package's own files."""
+    names = [*(HERE / "yoyoash").glob("*.py"), HERE / "yoyoash/py.typed"]
+    return {f"yoyoash/{it.name}": (it.read_bytes(), 0o644) for it in names}
+
+
+def is_for_here():
+    """Returns whether this machine runs what dist/ has."""
+    name, version = platform.libc_ver()
+    has_glibc = name == "glibc" and tuple(map(int, version.split(".")[:2])) >= GLIBC
+    return sys.platform == "linux" and platform.machine() == "x86_64" and has_glibc
+
+
+def build_wheel(wheel_directory, config_settings=None, metadata_directory=None):
+    """Builds what `pip install bindings/python` installs: with the program and the library if this machine runs
+    them."""
+    dist = pathlib.Path(os.environ.get("YOYOASH_DIST") or HERE.parents[1] / "dist/x86_64-linux")
+    has_copies = is_for_here() and all((dist / name).is_file() for name in COPIES)
+    files = modules() | (copies_of(dist) if has_copies else {})
+    return write_wheel(pathlib.Path(wheel_directory), files, NATIVE if has_copies else PURE)
+
+
+def build_editable(wheel_directory, config_settings=None, metadata_directory=None):
+    """Builds what `pip install -e bindings/python` installs: the path of this folder."""
+    return write_wheel(pathlib.Path(wheel_directory), {"yoyoash.pth": (f"{HERE}\n".encode(), 0o644)}, PURE)
+
+
+def build_sdist(sdist_directory, config_settings=None):
+    """Refuses: a source distribution would have neither the program nor the library."""
+    raise SystemExit("yoyoash has no source distribution: use bindings/python/build-wheel DIST OUTDIR")

@@ -1,0 +1,111 @@
+"""The wheel: what it has, and that it is the same whenever it is built."""
+
+import base64
+import csv
+import hashlib
+import importlib.util
+import os
+import pathlib
+import re
+import subprocess
+import sys
+import tempfile
+import unittest
+import zipfile
+
+import yoyoash
+from helpers import PACKAGE, REPOSITORY
+
+DIST = pathlib.Path(os.environ.get("YOYOASH_DIST", REPOSITORY / "dist/x86_64-linux"))
+COPIES = ("ets_script", "libyoyoash.so")
+
+
+def backend():
+    spec = importlib.util.spec_from_file_location("backend", PACKAGE / "backend.py")
+    module = importlib.util.module_from_spec(spec)
+    spec.loader.exec_module(module)
+    return module
+
+
+class Wheel(unittest.TestCase):
+    def setUp(self):
+        folder = tempfile.TemporaryDirectory()
+        self.addCleanup(folder.cleanup)
+        self.folder = pathlib.Path(folder.name)
+
+    def dist(self, **contents):
+        """Makes a folder like dist/."""
+        dist = self.folder / "dist"
+        dist.mkdir(exist_ok=True)
+        for name in COPIES:
+            (dist / name).write_bytes(contents.get(name.partition(".")[0], b"\x7fELF \0GLIBC_2.34\0"))
+        return dist
+
+    def build(self, dist, outdir):
+        words = [sys.executable, "-B", str(PACKAGE / "build-wheel"), str(dist), str(self.folder / outdir)]
+        return subprocess.run(words, capture_output=True, text=True)
+
+    def test_a_wheel_has_the_package_and_the_copies(self):
+        built = self.build(self.dist(), "out")
+        self.assertEqual((built.returncode, built.stderr), (0, ""))
+        path = pathlib.Path(built.stdout.strip())
+        self.assertEqual(path.name, f"yoyoash-{yoyoash.__version__}-py3-none-manylinux_2_34_x86_64.whl")
+        with zipfile.ZipFile(path) as wheel:
+            names = set(wheel.namelist())
+            sources = {f"yoyoash/{it.name}" for it in (PACKAGE / "yoyoash").glob("*.py")} | {"yoyoash/py.typed"}
+            self.assertEqual({it for it in names if ".dist-info/" not in it}, sources | {f"yoyoash/native/{it}" for it in COPIES})
+            self.assertEqual(wheel.getinfo("yoyoash/native/ets_script").external_attr >> 16 & 0o777, 0o755)
+            info = f"yoyoash-{yoyoash.__version__}.dist-info"
+            for name, checksum, size in csv.reader(wheel.read(f"{info}/RECORD").decode().splitlines()):
+                names.discard(name)
+                if checksum:
+                    content = wheel.read(name)
+                    digest = base64.urlsafe_b64encode(hashlib.sha256(content).digest()).rstrip(b"=").decode()
+                    self.assertEqual((checksum, int(size)), (f"sha256={digest}", len(content)))
+            self.assertEqual(names, set())
+            metadata = wheel.read(f"{info}/METADATA").decode()
+        self.assertIn(f"\nVersion: {yoyoash.__version__}\n", metadata)
+        self.assertIn("\nRequires-Python: >=3.10\n", metadata)
+        self.assertIn("License: not chosen yet, all rights reserved", metadata)
+
+    def test_two_builds_are_the_same_bytes(self):
+        dist = self.dist()
+        paths = []
+        for outdir in "first", "second":
+            paths.append(pathlib.Path(self.build(dist, outdir).stdout.strip()))
+            for it in dist.iterdir():
+                os.utime(it, (1_000_000_000, 1_000_000_000))
+        self.assertEqual(paths[0].read_bytes(), paths[1].read_bytes())
+
+    def test_a_file_that_is_missing_or_needs_a_later_glibc_is_refused(self):
+        late = self.build(self.dist(libyoyoash=b"\x7fELF \0GLIBC_2.38\0"), "out")
+        self.assertEqual((late.returncode, "needs glibc 2.38" in late.stderr), (1, True))
+        missing = self.build(self.folder / "nowhere", "out")
+        self.assertEqual((missing.returncode, "there is no" in missing.stderr), (1, True))
+
+    def test_pip_gets_a_pure_wheel_if_there_are_no_copies(self):
+        made, before = backend(), os.environ.get("YOYOASH_DIST")
+        os.environ["YOYOASH_DIST"] = str(self.folder / "nowhere")
+        try:
+            name = made.build_wheel(self.folder)
+        finally:
+            os.environ.pop("YOYOASH_DIST") if before is None else os.environ.update(YOYOASH_DIST=before)
+        self.assertTrue(name.endswith("-py3-none-any.whl"))
+        with zipfile.ZipFile(self.folder / name) as wheel:
+            self.assertFalse([it for it in wheel.namelist() if "native" in it])
+
+    def test_an_editable_wheel_has_the_path_of_the_sources(self):
+        name = backend().build_editable(self.folder)
+        with zipfile.ZipFile(self.folder / name) as wheel:
+            self.assertEqual(wheel.read("yoyoash.pth").decode(), f"{PACKAGE}\n")
+
+    def test_the_version_is_told_once(self):
+        about = backend().project()
+        self.assertEqual((about["version"], about["name"]), (yoyoash.__version__, "yoyoash"))
+        self.assertTrue(about["description"] and len(about["classifiers"]) > 5)
+
+    @unittest.skipUnless(all((DIST / name).is_file() for name in COPIES), f"there is no {DIST}")
+    def test_the_copies_link_to_glibc_alone(self):
+        for name in COPIES:
+            needed = set(re.findall(rb"\0(lib[a-z_]+\.so\.\d+)(?=\0)", (DIST / name).read_bytes()))
+            self.assertLessEqual(needed, {b"libc.so.6", b"libm.so.6", b"libgcc_s.so.1", b"libpthread.so.0", b"libyoyoash.so.0"})
