@@ -1,4 +1,4 @@
-//! What C keeps of a store.
+//! The handle that a caller in C keeps: what `yoyoash_store` is.
 ghost use Rattle.std.specs.Prelude.{◌≡◌, None, Some, MatchOption, is_some};
 
 use crate::held::{Held, Loose};
@@ -6,20 +6,21 @@ use node_text::Store;
 use std::alloc::Global;
 use std::mem;
 
-/// A handle: it is closed, or has a store.
+/// A handle: it is closed, or it holds a store. To C it is two words, of which only this library reads the content, and
+/// two zeros are a closed handle.
 #[repr(C)]
 #[derive(Drop)]
-pub struct EtsStore {
+pub struct Handle {
     pub held: Held,
     pub is_open: bool,
     ghost tells: { is_open ≡ is_some held.store },
 }
 
-impl EtsStore {
-    fn closed(alloc: Global) -> EtsStore
+impl Handle {
+    fn closed(alloc: Global) -> Handle
         ensures { result.held.store ≡ None }
     {
-        EtsStore {
+        Handle {
             held: Held::empty(alloc),
             is_open: false,
         }
@@ -30,7 +31,7 @@ impl EtsStore {
         ensures taken { MatchOption result (self.old.held.store ≡ None) (λ b. self.old.held.store ≡ Some b.value) }
         ensures closed { self.new.held.store ≡ None }
     {
-        let EtsStore { held, is_open } = mem::replace(self, EtsStore::closed(alloc));
+        let Handle { held, is_open } = mem::replace(self, Handle::closed(alloc));
         if is_open {
             Some(held.into_loose().into_box())
         } else {
@@ -43,7 +44,7 @@ impl EtsStore {
         requires { self.old.held.store ≡ None }
         ensures { self.new.held.store ≡ Some store.value }
     {
-        *self = EtsStore {
+        *self = Handle {
             held: Held::of_loose(Loose::of(store)),
             is_open: true,
         };

@@ -1,18 +1,19 @@
-//! The store for C: each call on a handle is a step of the machine, and tells its reply as a status and a text.
+//! The store as a C library: each call on a handle does one step of the store, and returns a status and a text.
 //!
-//! examples/c/ets.h declares these functions.
+//! bindings/c/include/yoyoash.h declares these functions.
 //!
-//! *Guarantee.* A call on a handle does what the machine does of the call that its text spells, or is refused and
-//! changes nothing; its status, the length of its text and the text in the caller's room are those of the reply. Why it
-//! was refused is told when it is asked for. A closed handle is told.
+//! *Guarantee.* A call on a handle does the step that its text spells, as the specification says, or it is refused and
+//! changes nothing. The status, the length of the reply's text and the bytes in the caller's buffer are those of the
+//! reply. `yoyoash_why` returns why the last call was refused. Each call on a closed handle returns `CLOSED`.
 //!
-//! *Weakness.* What C owes, nothing checks: a handle that is moved and never copied, rooms that do not overlap, one
-//! thread for a store, and the handle alone in each call.
+//! *Weakness.* Nothing checks what a caller in C must do: move a handle and never copy it, pass buffers that do not
+//! overlap, and let one call at a time use a handle. A handle may move to another thread, since a store is `Send`; the
+//! caller's lock, or a join, must then order the calls of the two threads.
 //!
-//! *Mechanism.* A handle is a pointer to a box, and whether it has one. A call takes the box out, does its step, and
-//! puts it back.
+//! *Mechanism.* A handle is a pointer to a box, and whether there is one. A call takes the box out, does its step, and
+//! puts the box back.
 //!
-//! *Limits.* A text is read 128 levels deep with the tuple of the call, so an argument may have 127.
+//! *Limits.* The tuple of a call counts as one of the 128 levels that a text may have, so an argument may have 127.
 #![tactic(auto)]
 
 ghost use Rattle.std.specs.Prelude.{◌≡◌, None};
@@ -23,17 +24,17 @@ ghost use Rattle.node_text.specs.Calls.{Opens, Steps, Calls, TellsAgain, TellsRe
 mod handle;
 mod held;
 
-use crate::handle::EtsStore;
+use crate::handle::Handle;
 use node_core::{Limits, Step};
 use node_text::{CLOSED, NO_MEMORY, Store, VALUE};
 use std::alloc::Global;
 
-/// Gives a handle a new store with these limits: how many processes and tables ever, and how many objects in one table.
-/// A store that it had ends. `NO_MEMORY` changes nothing.
+/// Opens a new store in a handle. The limits are the number of processes ever spawned, of tables ever made, and of
+/// objects in one table. A store that the handle held is freed. `NO_MEMORY` changes nothing.
 #[unsafe(no_mangle)]
-pub extern "C" fn ets_open(
+pub extern "C" fn yoyoash_open(
     alloc: Global,
-    handle: &mut EtsStore,
+    handle: &mut Handle,
     processes: u32,
     tables: u32,
     objects: u32,
@@ -54,24 +55,24 @@ pub extern "C" fn ets_open(
     VALUE
 }
 
-/// Begins the process of this number.
+/// Spawns the process of this number. A number is used once.
 #[unsafe(no_mangle)]
-pub extern "C" fn ets_enrol(alloc: Global, handle: &mut EtsStore, pid: u32) -> i32
+pub extern "C" fn yoyoash_spawn(alloc: Global, handle: &mut Handle, pid: u32) -> i32
     ensures { Steps handle.old.held.store (Enrol pid) result handle.new.held.store }
 {
     step(alloc, handle, &Step::Enrol(pid))
 }
 
-/// Ends the process of this number, and its tables with it, but for those that have an heir.
+/// Ends the process of this number. Its tables go to their heirs, and those without an heir are deleted.
 #[unsafe(no_mangle)]
-pub extern "C" fn ets_end(alloc: Global, handle: &mut EtsStore, pid: u32) -> i32
+pub extern "C" fn yoyoash_exit(alloc: Global, handle: &mut Handle, pid: u32) -> i32
     ensures { Steps handle.old.held.store (End pid) result handle.new.held.store }
 {
     step(alloc, handle, &Step::End(pid))
 }
 
-/// Does a step on the store of a handle, and says its status.
-fn step(alloc: Global, handle: &mut EtsStore, event: &Step) -> i32
+/// Does one step on the store of a handle, and returns its status.
+fn step(alloc: Global, handle: &mut Handle, event: &Step) -> i32
     ensures { Steps handle.old.held.store event.now result handle.new.held.store }
 {
     let Some(mut store) = handle.take(alloc) else {
@@ -82,13 +83,13 @@ fn step(alloc: Global, handle: &mut EtsStore, event: &Step) -> i32
     status
 }
 
-/// Does the call of a text for the process of this number: a tuple of the call's name and its arguments, such as
-/// `{lookup,t,a}`. The reply's whole length goes into `len`, and what fits of it into `out`; after `SYNTAX` the length
-/// is the offset of the fault.
+/// Does the call of a text for the process of this number. The text is a tuple of the call's name and its arguments,
+/// such as `{lookup,t,a}`. Writes the whole length of the reply's text to `len`, and as much of the text as fits to
+/// `out`; after `SYNTAX` it writes the offset of the fault to `len`.
 #[unsafe(no_mangle)]
-pub extern "C" fn ets_call(
+pub extern "C" fn yoyoash_call(
     alloc: Global,
-    handle: &mut EtsStore,
+    handle: &mut Handle,
     pid: u32,
     text: &[u8],
     out: &mut [u8],
@@ -105,11 +106,11 @@ pub extern "C" fn ets_call(
     status
 }
 
-/// Tells the last reply again, as `ets_call` told it.
+/// Returns the last reply again, as `yoyoash_call` returned it.
 #[unsafe(no_mangle)]
-pub extern "C" fn ets_reply(
+pub extern "C" fn yoyoash_reply(
     alloc: Global,
-    handle: &mut EtsStore,
+    handle: &mut Handle,
     out: &mut [u8],
     len: &mut usize,
 ) -> i32
@@ -125,11 +126,11 @@ pub extern "C" fn ets_reply(
     status
 }
 
-/// Tells in words why the last call, or the last beginning or end of a process, was refused; nothing where it was not.
+/// Writes in words why the last call, spawn or exit was refused; the length is 0 if it was not.
 #[unsafe(no_mangle)]
-pub extern "C" fn ets_why(
+pub extern "C" fn yoyoash_why(
     alloc: Global,
-    handle: &mut EtsStore,
+    handle: &mut Handle,
     out: &mut [u8],
     len: &mut usize,
 ) -> i32
@@ -145,9 +146,9 @@ pub extern "C" fn ets_why(
     status
 }
 
-/// Ends the store of a handle, if it has one, and frees all that it has.
+/// Closes a handle, and frees the store that it held, if any.
 #[unsafe(no_mangle)]
-pub extern "C" fn ets_close(alloc: Global, handle: &mut EtsStore)
+pub extern "C" fn yoyoash_close(alloc: Global, handle: &mut Handle)
     ensures { handle.new.held.store ≡ None }
 {
     let _ended = handle.take(alloc);
