@@ -17,8 +17,8 @@ from lanes import Log
 from parts import PROGRAM, TOP
 
 OUT = f"{TOP}/{PROGRAM}/out"
-# The first guess of how fast a run goes: the part of all processors' time in which proofs run. It has the weight of so many seconds of
-# measured time.
+# The first guess of how fast a run goes, as the part of all processors' time in which proofs run, and the seconds of measured time that
+# weigh as much.
 GUESS, GUESS_SECONDS = 0.7, 300
 
 
