@@ -9,6 +9,7 @@ import time
 
 from costs import Costs, budget, table
 from crates import crates_of
+from dist import built
 from lanes import Log
 from parts import BEGAN, PROGRAM, TOP, Part, end_on_signals, say, side_by_side, unproved
 
@@ -57,13 +58,27 @@ def on_the_program(copy, log):
         Part("the examples, cut at every byte", [f"{TOP}/.ci/cuts", program], after=[is_there]),
         Part("devices that fail", [f"{TOP}/.ci/devices", program], after=[is_there]),
         Part("memory refused", [f"{TOP}/.ci/refusals", program, *tests], after=[is_there, *are_there], show=r"^refusals: "),
-        Part("Erlang over the program", [f"{TOP}/.ci/door_erlang", program], after=[is_there]),
+    ]
+
+
+def on_the_files_of_dist(copy, log, words):
+    """The files of dist/, built from what is proved, and what is tried on them: the packages, the release and ./ets_script."""
+    write = [it for it in words if it == "--write"]
+    is_there = [Proved("ets_script_cli", log), Proved("ets_c", log)]
+    dist = Part("the files of dist", [f"{TOP}/.ci/dist", copy, *write], after=is_there, show=r"^dist: ")
+    sources = Part("the sources of dist", [f"{TOP}/.ci/dist", "--sources"], ends_all=True)
+    return [
+        *([] if write else [sources]),
+        dist,
+        *(Part(f"bindings/{it}", [f"{TOP}/bindings/{it}/test", built(copy)], after=[dist]) for it in ("c", "rust", "python", "erlang")),
+        Part("the release", [f"{TOP}/.ci/release"], after=[dist], show=r"^release: "),
+        Part("./ets_script", [f"{TOP}/.ci/wrapper", built(copy), "--build"], after=[dist], show=r"^wrapper: "),
     ]
 
 
 def parts_of(words, copy, logs):
     """What the gate runs: what costs no proof, the tests of the gate itself, the proofs, the wrong bodies, and what is tried on the program and
-    on the library for C."""
+    on the files of dist/."""
     politely = ["nice", "-n", "10"]
     order = Part("the order of checks", [sys.executable, "-B", f"{TOP}/.ci/gate/order_test.py"], ends_all=True)
     itself = Part("the program of wrong bodies", [*politely, f"{TOP}/.ci/wrong_bodies", "--self"], ends_all=True)
@@ -71,15 +86,14 @@ def parts_of(words, copy, logs):
     tried = [*politely, f"{TOP}/.ci/wrong_bodies", "--libraries", copy, "--after", proofs.file(logs), *words]
     edits = Part("every wrong body", tried, show=r"^wrong bodies: ")
     log = Log(proofs.file(logs))
-    c = Part("the store for C", [*politely, f"{TOP}/.ci/door_c", copy], after=[Proved("ets_c", log)], show=r"^door_c: ")
-    return [*unproved(logs), order, itself, *on_the_program(copy, log), c], proofs, edits
+    return [*unproved(logs), order, itself, *on_the_program(copy, log), *on_the_files_of_dist(copy, log, words)], proofs, edits
 
 
 def report(edits, costs):
     """What each crate took beside its budget."""
     took = {name: float(used) for name, used in re.findall(r"^edits of (\w+): (\d+) s", edits.text, re.M)}
     measured = lambda name, kind: took.get(name, 0) if kind == "edits" else costs.of(name, kind)
-    return table(crates_of(TOP), measured, budget(f"{TOP}/docs/gate.md"))
+    return table(crates_of(TOP), measured, budget(f"{TOP}/docs/internals/ci.md"))
 
 
 def main(words):
