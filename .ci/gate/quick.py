@@ -9,6 +9,7 @@ import time
 from crates import crates_of
 from parts import BEGAN, TOP, Part, end_on_signals, say, side_by_side, unproved
 
+DIST = f"{TOP}/dist/x86_64-linux/ets_script"
 # The list, its keys, and the terms below both.
 PROVED = ["ets_term", "split_key", "node_list"]
 
@@ -20,15 +21,16 @@ def main():
     for name in PROVED:
         below = [proofs[it] for it in crates[name].uses if it in proofs]
         proofs[name] = Part(f"{name} proved", ["rt", "check", "--jobs", "1"], f"crates/{name}", after=below)
-    bindings = [Part(it.removeprefix(f"{TOP}/"), [it]) for it in sorted(glob.glob(f"{TOP}/bindings/*/test"))]
+    on_dist = [Part(it.removeprefix(f"{TOP}/"), [it]) for it in sorted(glob.glob(f"{TOP}/bindings/*/test"))]
+    on_dist += [Part("the snippets of the pages", [f"{TOP}/.ci/snippets", DIST])]
     tests = [Part(f"the tests of {name}", ["rt", "try", "--test", "--seconds", "300"], f"crates/{name}") for name in crates if name.endswith("_tests")]
     with tempfile.TemporaryDirectory(prefix="quick-") as logs:
-        parts = [*proofs.values(), *unproved(logs), *bindings, *tests]
+        parts = [*proofs.values(), *unproved(logs), *on_dist, *tests]
         failed = side_by_side(parts, logs, len(os.sched_getaffinity(0)))
     count = lambda part: len(re.findall(r"^fn \S+: proved$", part.text, re.M))
     print(f"proved: {', '.join(f'{name} ({count(it)} functions)' for name, it in proofs.items() if it.is_well)}")
     print("run, unproved: the scripts and the tests")
-    print("run over the programs in dist/: the bindings")
+    print("run with the programs in dist/: the bindings and the snippets of the pages")
     print(f"not checked: the proofs of the other {len(crates) - len(proofs)} crates and the mutants; .ci/run checks them")
     say(f"total: {time.time() - BEGAN:.0f} s")
     print(f"{len(parts) - len(failed)} passed, {len(failed)} failed", flush=True)
