@@ -1,4 +1,4 @@
-"""What each crate's checks cost, in seconds of processor, beside the budget in docs/gate.md."""
+"""Measures the CPU seconds of each crate's checks, and compares them with the budget in docs/internals/ci.md."""
 import os
 import re
 import threading
@@ -19,7 +19,7 @@ def is_prover(words):
 
 
 class Costs:
-    """Looks at the provers that run below a folder, every two seconds, and remembers what each had used when it was last seen."""
+    """Looks every two seconds at the provers that run below a folder, and keeps the last CPU time of each."""
 
     def __init__(self, folder):
         self.folder, self.seen = os.path.realpath(folder), {}
@@ -38,11 +38,11 @@ class Costs:
         words = words_of(pid)
         if not is_prover(words) or not os.readlink(f"/proc/{pid}/cwd").startswith(f"{self.folder}/"):
             return
-        # (behind the name, which may have blanks: state is the first field, the parent the second, and the four times, of itself and of
-        # the children that have ended, are the 12th to the 15th)
+        # (after the name, which may have blanks, the state is the first field and the parent the second; the four times, of itself and of
+        # its ended children, are the 12th to the 15th)
         fields = read(f"/proc/{pid}/stat").rpartition(")")[2].split()
         if is_prover(words_of(fields[1])):
-            # (one job of a check, whose parent has its time when it has ended)
+            # (one job of a check: its parent has its time once it has ended)
             return
         name, kind = words[words.index("--crate-name") + 1], "tests" if "--test" in words else "proofs"
         self.seen[pid, name, kind] = sum(map(int, fields[11:15])) / TICKS
@@ -51,18 +51,18 @@ class Costs:
         return sum(used for (_, name, what), used in self.seen.items() if (name, what) == (crate, kind))
 
 
-KINDS = ("proofs", "tests", "edits")
+KINDS = ("proofs", "tests", "mutants")
 
 
 def budget(page):
-    """The budget of each crate: the rows | `name` | proofs | tests | edits | of the page's table."""
+    """Returns the budget of each crate, from the rows | `name` | proofs | tests | mutants | of the page's table."""
     rows = re.findall(r"^\| `(\w+)` \| *(\d*) *\| *(\d*) *\| *(\d*) *\|", read(page), re.M)
     return {name: dict(zip(KINDS, (int(it or 0) for it in numbers))) for name, *numbers in rows}
 
 
 def table(names, measured, allowed):
-    """A line for each crate, measured / budget, of what costs anything; and the sums."""
-    lines, sums = [f"{'seconds of processor / budget':30}" + "".join(f"{kind:>16}" for kind in KINDS)], dict.fromkeys(KINDS, 0)
+    """Returns a line for each crate with measured / budget, and the sums."""
+    lines, sums = [f"{'CPU seconds / budget':30}" + "".join(f"{kind:>16}" for kind in KINDS)], dict.fromkeys(KINDS, 0)
     for name in names:
         cells = ""
         for kind in KINDS:

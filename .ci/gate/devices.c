@@ -1,8 +1,8 @@
-/* Loaded in front of a program (LD_PRELOAD), it stands for its devices: a read of standard input gives, and a write to standard
-   output takes, so many bytes at most, and one of the calls fails. .ci/devices says what is to become of it.
+/* Replaces the reads and writes of a program (by LD_PRELOAD): a read of standard input and a write to standard output move a
+   limited number of bytes, and one of the calls fails. .ci/devices says how the program must end.
 
    DEVICES is "MOST READ WRITE FAULT": the most bytes of a call; the number of the read and of the write that fails, from 1, or
-   0 for none; and how, by the number of an error, or 0 where the call gives or takes nothing. */
+   0 if none does; and the number of the error, or 0 if the call moves no byte. */
 #define _GNU_SOURCE
 #include <errno.h>
 #include <stdio.h>
@@ -17,7 +17,7 @@ __attribute__((constructor)) static void begin(void) {
     if (!words || sscanf(words, "%ld %ld %ld %ld", &most, &bad_read, &bad_write, &fault) != 4) _exit(3);
 }
 
-/* Does a call on a device, or fails. */
+/* Runs a call, or fails. */
 static ssize_t call(long number, int file, const void *bytes, size_t count, long *bad) {
     if (*bad > 0 && --*bad == 0) {
         errno = fault;

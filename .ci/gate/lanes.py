@@ -1,4 +1,4 @@
-"""Which crate has its wrong bodies tried, and when."""
+"""Decides which crate has its mutants tried, and when."""
 import os
 import re
 import threading
@@ -8,14 +8,14 @@ from crates import read
 
 
 def lanes():
-    """One crate a processor, where each has 2 GB of free memory."""
+    """Returns one lane a processor, if each has 2 GB of free memory."""
     free = int(re.search(r"MemAvailable:\s+(\d+)", read("/proc/meminfo"))[1]) // 2_000_000
     return max(1, min(len(os.sched_getaffinity(0)), free))
 
 
 def fate(name, text):
-    """What `rt ci` has said of a crate so far: whether it is proved, in this run or in one before, or None. A name may be
-    that of a crate's tests, `NAME: its tests are`."""
+    """Returns whether the output of `rt ci` says so far that a crate is proved, in this run or in one before; None if it says
+    nothing yet. A name may be that of a crate's tests, `NAME: its tests are`."""
     if re.search(rf"^rt: {name} (proved$|is kept: )|^\d+ passed, 0 failed$", text, re.M):
         return True
     has_ended = re.search(rf"^rt: {name} NOT PROVED|^\d+ passed, \d+ failed$", text, re.M)
@@ -23,14 +23,14 @@ def fate(name, text):
 
 
 class Log:
-    """What `rt ci` says as it runs; without a file, every crate is taken to be proved."""
+    """The output of `rt ci` as it runs; without a file, every crate counts as proved."""
 
     def __init__(self, file):
-        # (how long it was when it was last read, the text, and what that says of crates)
+        # (its length when it was last read, the text, and what that says of crates)
         self.file, self.known = file, (0, "", {})
 
     def is_proved(self, name):
-        """Whether a crate is proved: True, False, or None where `rt ci` has not said yet."""
+        """Returns whether a crate is proved, or None if `rt ci` has not said yet."""
         if not self.file:
             return True
         size = os.path.getsize(self.file) if os.path.isfile(self.file) else 0
@@ -42,20 +42,20 @@ class Log:
         return fates[name]
 
     def paths(self, name):
-        """What the prover calls a crate's functions, as far as `rt ci` has said it."""
+        """Returns the prover's names of a crate's functions, as far as `rt ci` has printed them."""
         text = read(self.file) if self.file else ""
         return re.findall(rf"^fn ({name}::\S+): ", text, re.M)
 
 
 class Lanes:
-    """Crates side by side: of those that are proved, the one with most work first."""
+    """Crates in parallel: of those that are proved, the one with most work first."""
 
     def __init__(self, todo, log, number):
         self.todo, self.log, self.number = todo, log, number
         self.running, self.lock = 0, threading.Lock()
 
     def take(self):
-        """A crate to try and whether it is proved, or None where no more is left."""
+        """Returns a crate to try and whether it is proved, or None if none is left."""
         while True:
             with self.lock:
                 for crate in self.todo:
@@ -69,12 +69,12 @@ class Lanes:
             time.sleep(1)
 
     def jobs(self):
-        """How many jobs a check may have: those of lanes that no other crate needs, four at most."""
+        """Returns the number of jobs for a check: the lanes that no other crate needs, four at most."""
         with self.lock:
             return max(1, min(4, self.number // max(1, self.running + len(self.todo))))
 
     def run(self, work):
-        """Has each lane work on one crate after the other."""
+        """Lets each lane work on one crate after another."""
 
         def lane():
             while (taken := self.take()) is not None:

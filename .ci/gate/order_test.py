@@ -1,11 +1,11 @@
-"""The test of the order in which checks go (proofs.py), on crates that are made up."""
+"""Tests the order in which checks run (proofs.py), on made-up crates."""
 import sys
 import types
 
 from parts import CHECKED
 from proofs import Check, Order, in_order, leave_checked
 
-# Each crate, those below it, and the seconds of its proof and of its tests: a chain of three, two beside it that are short, and one of tests.
+# Each crate, those below it, and the seconds of its proof and of its tests: a chain of three, two short ones, and one with tests.
 CRATES = {
     "low": ((), 100, 0),
     "side": (("low",), 50, 0),
@@ -29,7 +29,7 @@ def checks_of(call=None, memory=1):
 
 
 def turns(processors, memory=100):
-    """What runs at once, turn by turn, each crate with its jobs; all that runs in a turn ends with it."""
+    """Returns what runs at the same time, turn by turn, each crate with its jobs; all checks of a turn end with it."""
     order, seen = Order(checks_of(), processors, memory), []
     while order.waiting or order.running:
         while order.next_check() is not None:
@@ -42,7 +42,7 @@ def turns(processors, memory=100):
 
 
 class Made:
-    """A crate of the kit's program, which answers what it is asked to prove."""
+    """A crate of the kit's program, which returns the words of what it should prove."""
 
     folder, is_static = "/made", True
 
@@ -62,13 +62,13 @@ def main():
     def expect(found, wanted, what):
         if found != wanted:
             faults.append(what)
-            print(f"{what}: {found} and not {wanted}", file=sys.stderr)
+            print(f"{what}: {found}, expected {wanted}", file=sys.stderr)
 
     chain = [{"low": 4}, {"middle": 4, "tests": 2, "side": 2, "other": 2}, {"high": 4}, {"top": 4}]
     expect(turns(4), chain, "the chain has all processors, the others half of them")
-    expect(turns(2)[1], {"middle": 2, "tests": 1, "side": 1}, "two others beside the chain, where there are two processors")
-    expect(turns(4, 1.4)[1], {"middle": 4, "tests": 2}, "what has no room waits")
-    expect(len(turns(4, 0.1)), 7, "one check goes, however little room there is")
+    expect(turns(2)[1], {"middle": 2, "tests": 1, "side": 1}, "on two processors, two others run with the chain")
+    expect(turns(4, 1.4)[1], {"middle": 4, "tests": 2}, "a check without memory waits")
+    expect(len(turns(4, 0.1)), 7, "one check runs, however little memory there is")
 
     def call(given, jobs):
         return dict(given), jobs
@@ -82,7 +82,7 @@ def main():
 
     try:
         in_order(Order(checks_of(fails), 4, 100))
-        expect("nothing", "an error", "an error in a check is told")
+        expect("nothing", "an error", "an error in a check is raised")
     except KeyError:
         pass
 

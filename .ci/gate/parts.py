@@ -1,10 +1,9 @@
-"""The parts of a gate: commands, several side by side, each with its output in a file and its time on the screen."""
+"""The parts of a CI run: commands that run in parallel, each with its output in a file and its time on the screen."""
 import os
 import re
 import shutil
 import signal
 import subprocess
-import sys
 import threading
 import time
 
@@ -12,33 +11,35 @@ from crates import read
 
 TOP = os.path.realpath(f"{os.path.dirname(os.path.realpath(__file__))}/../..")
 PROGRAM = "crates/ets_script_cli"
-# What the check of a static library proved, in its folder, from which it is built.
+# The page with the budget of each crate.
+BUDGET = f"{TOP}/docs/internals/ci.md"
+# Where the check of a static library leaves its result, from which the library is built.
 CHECKED = "out/checked"
 BEGAN = time.time()
-# What a failure's report leaves out.
+# Lines that the report of a failure leaves out.
 PROVED = re.compile(r"(fn|struct|enum|impl|trait) \S+: proved$|statements ")
 running, is_over = [], threading.Event()
 
 
 def say(text):
-    # (in one piece, since parts speak side by side)
+    # (in one piece, since parts print in parallel)
     print(f"{(time.time() - BEGAN) / 60:5.1f} min  {text}\n", end="", flush=True)
 
 
 class Part:
-    """A command in a folder of the tree. It waits until the parts that it comes after have passed. Where one that ends all
-    fails, the others are ended: it is cheap, and they are not."""
+    """A command in a folder of the tree. It waits until the parts in `after` have passed. If a part with `ends_all` fails,
+    all others are stopped: it is cheap, and they are not."""
 
     def __init__(self, name, words, folder="", after=(), show=None, ends_all=False):
         self.name, self.words, self.folder, self.after, self.show, self.ends_all = name, words, folder, after, show, ends_all
         self.is_well, self.is_ended, self.text = None, False, ""
 
     def file(self, logs):
-        """Where its output stands, below the folder `logs`."""
+        """Returns the file of its output in the folder `logs`."""
         return f"{logs}/{re.sub(r'[^a-z_]+', '-', self.name)}"
 
     def run(self, logs):
-        """Runs it. The lines of its output that `show` matches are told as they come."""
+        """Runs it and prints the lines of its output that `show` matches as they come."""
         file, began = self.file(logs), time.time()
         how = {"cwd": os.path.join(TOP, self.folder), "stdin": subprocess.DEVNULL, "stderr": subprocess.STDOUT, "process_group": 0}
         with open(file, "w", encoding="utf-8") as it:
@@ -52,8 +53,8 @@ class Part:
         self.ran.returncode = os.waitstatus_to_exitcode(status)
         follower.join()
         self.text, self.is_well = read(file), self.ran.returncode == 0
-        word = "ok" if self.is_well else "ended" if self.is_ended else "FAILED"
-        say(f"{self.name}: {word}, {time.time() - began:.0f} s, {used.ru_utime + used.ru_stime:.0f} s of processor")
+        word = "ok" if self.is_well else "stopped" if self.is_ended else "FAILED"
+        say(f"{self.name}: {word}, {time.time() - began:.0f} s, {used.ru_utime + used.ru_stime:.0f} s of CPU")
 
     def follow(self, file):
         rest, has_ended = "", not self.show
@@ -72,9 +73,10 @@ class Part:
 
 
 def scripts(to):
-    """The scripts in one folder, so that the program is compiled once for all: the examples, the rules, and the rules by the other hash."""
-    for prefix, folder, words in ("", "examples", ""), ("rule_", "examples/rules", ""), ("rule_by_one_hash_", "examples/rules", "--hash\nsame\n"):
-        files = [it for it in os.listdir(f"{TOP}/{folder}") if os.path.isfile(f"{TOP}/{folder}/{it}")]
+    """Copies the scripts into one folder, so that the program is compiled once for all: the examples, and those of tests/scripts
+    with both hash functions."""
+    for prefix, folder, words in ("", "examples", ""), ("test_", "tests/scripts", ""), ("test_with_one_hash_", "tests/scripts", "--hash\nsame\n"):
+        files = [it for it in os.listdir(f"{TOP}/{folder}") if it.endswith((".ets", ".ets.args", ".ets.stdout"))]
         for it in files:
             shutil.copy(f"{TOP}/{folder}/{it}", f"{to}/{prefix}{it}")
         for it in files if words else ():
@@ -84,18 +86,20 @@ def scripts(to):
 
 
 def unproved(logs):
-    """What costs no proof: the tables of calls, the scripts by the sources as they are compiled with checks, and the client."""
+    """Returns the parts that need no proof: the tables of calls, the pages, and the scripts run by the sources, compiled with
+    sanitizers."""
     os.mkdir(f"{logs}/scripts")
     scripts(f"{logs}/scripts")
     return [
         Part("the tables of calls", [f"{TOP}/.ci/names"], ends_all=True),
-        Part("the client", [sys.executable, "-B", "examples/python/test_yoyoash.py"], ends_all=True),
+        Part("the pages and comments", [f"{TOP}/.ci/prose"], ends_all=True),
+        Part("the check of pages itself", [f"{TOP}/.ci/prose", "--self"], ends_all=True),
         Part("the scripts", ["rt", "try", "--seconds", "300", "--cases", f"{logs}/scripts"], PROGRAM, ends_all=True),
     ]
 
 
 def side_by_side(parts, logs, at_once):
-    """Runs parts, so many at once. One whose turn never comes has failed."""
+    """Runs parts in parallel, at most `at_once`, and returns those that failed or never ran."""
     waiting, lock = list(parts), threading.Lock()
 
     def take():
@@ -133,7 +137,7 @@ def side_by_side(parts, logs, at_once):
 
 
 def end_running():
-    """Ends every part that runs, with all that it began."""
+    """Stops every running part with all processes that it started."""
     for it in running:
         if it.ran.returncode is None:
             it.is_ended = True

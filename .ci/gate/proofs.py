@@ -1,12 +1,12 @@
-"""Every proof, test and program of a tree: the kit's `rt ci`, with its checks in an order by what each is known to take.
+"""Runs every proof, test and program of a tree: the kit's `rt ci`, with its checks ordered by the time that each is known to take.
 
     python3 proofs.py TREE
 
-`rt ci` makes a task of each check, and one function of its program, `in_lanes`, says which task goes when. That function is replaced
-here; what is checked, how, and the verdict are the kit's. Its own gives a proof a second processor only where nearly all are idle, so
-the longest chain of crates goes at the pace of one processor, and it decides how long all takes. Where the kit's program has no such
-function, it runs as it is. And what the check of a static library proved is left in its out/, as that of a program is where it is
-built: .ci/door_c builds it without a second proof."""
+`rt ci` makes a task of each check, and one function of its program, `in_lanes`, decides which task runs when. This replaces that
+function; what is checked, how, and the verdict are the kit's. The kit's own function gives a proof a second processor only when
+nearly all are idle, so the longest chain of crates runs on one processor and decides the total time. If the kit's program has no such
+function, it runs as it is. This also leaves what the check of a static library proved in its out/, so that .ci/dist builds the
+library without a second proof."""
 import importlib.machinery
 import importlib.util
 import inspect
@@ -18,12 +18,13 @@ import sys
 import threading
 
 from costs import budget
-from parts import CHECKED, TOP
+from parts import BUDGET, CHECKED
 
-# The kit reckons with more memory than most checks take: of ours the larger took 0.4 to 0.7 of it, two small ones 0.7 and 0.8.
-OF_RECKONED = 0.6
-# Seconds of what the gate does once a check has ended, beside the other checks: what is tried on the program.
-BEHIND = {("ets_script_cli", "proof"): 300}
+# The part of the memory that the kit expects for a check that is reserved here. Our larger checks took 0.4 to 0.7 of it, two small ones
+# 0.7 and 0.8.
+OF_EXPECTED = 0.6
+# The seconds of what CI runs after a check: what it tries on the program.
+AFTER = {("ets_script_cli", "proof"): 300}
 
 
 class Check:
@@ -33,46 +34,46 @@ class Check:
         self.key, (self.waits, lines, self.memory, self.call) = key, task
         name, kind = key
         known = seconds.get(name, {}).get({"proof": "proofs"}.get(kind, kind), 0)
-        # (a task of no line has no work)
+        # (a task without lines has no work)
         self.seconds = known or 60 if lines else 0
         self.jobs, self.is_first = 0, False
 
 
 class Order:
-    """Which check goes when: of those that wait for nothing more, the one with the longest chain of others behind it.
+    """Decides which check runs when: of those that wait for nothing more, the one before the longest chain of others.
 
-    Behind the first of them, two at once, what is left is nearly as long as behind any that waits: they have a job for each processor.
-    The others have half as many, and take what these leave."""
+    The first of them, at most two at a time, are those before a chain nearly as long as the longest: they get a job for each processor.
+    The others get half as many, and run at a lower priority."""
 
     def __init__(self, checks, processors, memory):
         self.running, self.ended = [], set()
         self.processors, self.memory = processors, memory
-        self.behind = {it.key: it.seconds + BEHIND.get(it.key, 0) for it in checks}
+        self.chain = {it.key: it.seconds + AFTER.get(it.key, 0) for it in checks}
         own = {it.key: it.seconds for it in checks}
         # (lowest first)
         for it in reversed(checks):
             for below in it.waits:
-                self.behind[below] = max(self.behind[below], own[below] + self.behind[it.key])
-        self.waiting = sorted(checks, key=lambda it: -self.behind[it.key])
+                self.chain[below] = max(self.chain[below], own[below] + self.chain[it.key])
+        self.waiting = sorted(checks, key=lambda it: -self.chain[it.key])
 
     def is_first(self, check):
-        longest = max(self.behind[it.key] for it in self.waiting)
-        return 4 * self.behind[check.key] >= 3 * longest and sum(it.is_first for it in self.running) < 2
+        longest = max(self.chain[it.key] for it in self.waiting)
+        return 4 * self.chain[check.key] >= 3 * longest and sum(it.is_first for it in self.running) < 2
 
     def jobs_of(self, is_first):
         return self.processors if is_first else max(1, self.processors // 2)
 
-    def has_room(self, check, is_first):
+    def has_memory(self, check, is_first):
         if not self.running or not check.seconds:
             return True
         used = sum(it.memory for it in [*self.running, check] if it.seconds)
         others = sum(not it.is_first for it in self.running if it.seconds)
-        return OF_RECKONED * used <= self.memory and (is_first or others <= self.processors // 2)
+        return OF_EXPECTED * used <= self.memory and (is_first or others <= self.processors // 2)
 
     def next_check(self):
-        """Takes the check that begins now, if one does."""
+        """Returns the check that starts now, if one does."""
         for it in self.waiting:
-            if self.ended.issuperset(it.waits) and self.has_room(it, self.is_first(it)):
+            if self.ended.issuperset(it.waits) and self.has_memory(it, self.is_first(it)):
                 it.is_first = self.is_first(it)
                 it.jobs = self.jobs_of(it.is_first)
                 self.waiting.remove(it)
@@ -86,12 +87,12 @@ class Order:
 
 
 def in_order(order):
-    """Runs the checks, each in a thread, and returns what each gave."""
+    """Runs the checks, each in a thread, and returns the result of each."""
     given, ended = {}, queue.SimpleQueue()
 
     def work(check):
         if not check.is_first:
-            # (of this thread alone, and what it begins)
+            # (of this thread alone, and of what it starts)
             os.setpriority(os.PRIO_PROCESS, 0, 10)
         try:
             ended.put((check, check.call(given, check.jobs), None))
@@ -110,8 +111,8 @@ def in_order(order):
 
 
 def program():
-    """The kit's program `rt`, as a module, or None where it has not the form that is looked for."""
-    file = os.path.realpath(shutil.which("rt") or sys.exit("gate: the kit's command rt is not on the path"))
+    """Returns the kit's program `rt` as a module, or None if it does not have the expected form."""
+    file = os.path.realpath(shutil.which("rt") or sys.exit("proofs: `rt` not found: put the bin/ of the Rattle kit on PATH"))
     try:
         loader = importlib.machinery.SourceFileLoader("rt", file)
         made = importlib.util.module_from_spec(importlib.util.spec_from_loader("rt", loader))
@@ -122,7 +123,7 @@ def program():
 
 
 def leave_checked(rt):
-    """Has the kit's check of a static library write what it proved, which `rt ci` itself lets go."""
+    """Makes the kit's check of a static library write what it proved, which `rt ci` discards."""
     own = rt.Crate.ci
 
     def ci(crate, flags, tests):
@@ -138,7 +139,7 @@ def main(tree):
     rt = program()
     if rt is None:
         return subprocess.run(["rt", "ci"], stdin=subprocess.DEVNULL).returncode
-    seconds, own = budget(f"{TOP}/docs/gate.md"), rt.in_lanes
+    seconds, own = budget(BUDGET), rt.in_lanes
 
     def in_lanes(tasks):
         if any(len(it) != 4 for it in tasks.values()):
@@ -155,6 +156,6 @@ if __name__ == "__main__":
     try:
         sys.exit(main(os.path.realpath(sys.argv[1])))
     except Exception:
-        # (others wait for the last line)
+        # (other parts wait for the last line)
         print("0 passed, 1 failed", flush=True)
         raise

@@ -1,4 +1,5 @@
-"""The quick look, as .ci/quick says."""
+"""The quick check, which .ci/quick describes."""
+import glob
 import os
 import re
 import sys
@@ -8,7 +9,8 @@ import time
 from crates import crates_of
 from parts import BEGAN, TOP, Part, end_on_signals, say, side_by_side, unproved
 
-# The list, its keys, and the terms that both stand on.
+DIST = f"{TOP}/dist/x86_64-linux/ets_script"
+# The list, its keys, and the terms below both.
 PROVED = ["ets_term", "split_key", "node_list"]
 
 
@@ -19,15 +21,18 @@ def main():
     for name in PROVED:
         below = [proofs[it] for it in crates[name].uses if it in proofs]
         proofs[name] = Part(f"{name} proved", ["rt", "check", "--jobs", "1"], f"crates/{name}", after=below)
+    on_dist = [Part(it.removeprefix(f"{TOP}/"), [it]) for it in sorted(glob.glob(f"{TOP}/bindings/*/test"))]
+    on_dist += [Part("the snippets of the pages", [f"{TOP}/.ci/snippets", DIST])]
     tests = [Part(f"the tests of {name}", ["rt", "try", "--test", "--seconds", "300"], f"crates/{name}") for name in crates if name.endswith("_tests")]
     with tempfile.TemporaryDirectory(prefix="quick-") as logs:
-        parts = [*proofs.values(), *unproved(logs), *tests]
+        parts = [*proofs.values(), *unproved(logs), *on_dist, *tests]
         failed = side_by_side(parts, logs, len(os.sched_getaffinity(0)))
     count = lambda part: len(re.findall(r"^fn \S+: proved$", part.text, re.M))
     print(f"proved: {', '.join(f'{name} ({count(it)} functions)' for name, it in proofs.items() if it.is_well)}")
-    print("run, unproved: the scripts, the client, the tests")
-    print(f"neither: the proofs of the other {len(crates) - len(proofs)} crates and the wrong bodies, which .ci/run goes through")
-    say(f"in all: {time.time() - BEGAN:.0f} s")
+    print("run, unproved: the scripts and the tests")
+    print("run with the programs in dist/: the bindings and the snippets of the pages")
+    print(f"not checked: the proofs of the other {len(crates) - len(proofs)} crates and the mutants; .ci/run checks them")
+    say(f"total: {time.time() - BEGAN:.0f} s")
     print(f"{len(parts) - len(failed)} passed, {len(failed)} failed", flush=True)
     return 1 if failed else 0
 

@@ -1,16 +1,17 @@
-"""The record .ci/tried: which crates' wrong bodies were all refused, and at which text.
+"""The record .ci/tried: the crates whose mutants were all rejected, and at which text.
 
-A crate's line has a sum over the kit, the program that tries, the crate with its edits, and all crates below it without theirs."""
+The line of a crate has a sum over the kit, the program that tries mutants, the crate with its mutants, and all crates below it
+without theirs."""
 import hashlib
 import os
 
 from crates import PARTS, read
 
-HEAD = "# Each crate whose wrong bodies were all refused, and the sum of the text at which they were. .ci/wrong_bodies --write writes it.\n"
+HEAD = "# Each crate whose mutants were all rejected, and the sum of the text at which they were. .ci/mutants --write writes it.\n"
 
 
 def program():
-    """The text of the program that tries wrong bodies."""
+    """Returns the text of the program that tries mutants."""
     folder = os.path.dirname(os.path.realpath(__file__))
     return [read(f"{folder}/{name}.py") for name in ("crates", "functions", "edits", "checks", "rounds")]
 
@@ -30,7 +31,7 @@ class Record:
         return self.sums.get(name) == made
 
     def write(self, sums, name, is_refused):
-        """Writes what is known of a crate now, and the lines that still stand."""
+        """Writes what is known of a crate now, and the lines that still hold."""
         known = {**self.sums, name: sums[name] if is_refused else ""}
         self.sums = {it: made for it, made in sums.items() if known.get(it) == made}
         with open(self.file, "w", encoding="utf-8") as it:
@@ -38,6 +39,6 @@ class Record:
 
 
 def in_turn(sums):
-    """One crate, another with each change of anything: it is tried though the record has it."""
+    """Returns one crate, another with each change: it is tried although the record has it."""
     names = sorted(sums)
     return names[int(hashlib.sha256(repr(sorted(sums.items())).encode()).hexdigest(), 16) % len(names)]

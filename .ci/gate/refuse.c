@@ -1,11 +1,11 @@
-/* Loaded in front of a program (LD_PRELOAD), it runs the program again and again on one input: first with no allocation
-   refused, then once for each allocation that one line of the input takes, that one refused. The program has the input in
-   three pieces, up to the line, the line, and what is behind it; so what it takes between two reads is what the line takes.
-   .ci/refusals says what is to become of it.
+/* Runs a program repeatedly on one input (by LD_PRELOAD): first with no allocation refused, then once for each allocation
+   that one line of the input takes, with that allocation refused. The program reads the input in three pieces: up to the line,
+   the line, and the rest. So the allocations between two reads are those of the line. .ci/refusals says how it must end.
 
-   REFUSED is "FROM TO", the places of the line's first byte and of the first behind it; "0 0" stands for what comes before
-   the first read, "0 -1" for all that the program allocates, "-1 -1" for nothing. Each run is told on standard output by a line "STATUS OUTPUT ERRORS", the status that
-   waits say and two numbers of bytes, and then by those bytes: what the run wrote, and what it said on standard error. */
+   REFUSED is "FROM TO": the offsets of the first byte of the line and of the first byte after it. "0 0" means the allocations
+   before the first read, "0 -1" all allocations of the program, and "-1 -1" none. For each run this prints a line
+   "STATUS OUTPUT ERRORS" (the status as wait() returns it, and two numbers of bytes), and then the bytes of standard output
+   and of standard error. */
 #define _GNU_SOURCE
 #include <errno.h>
 #include <fcntl.h>
@@ -22,12 +22,12 @@ extern void *__libc_malloc(size_t), *__libc_calloc(size_t, size_t), *__libc_real
 /* A run that takes longer hangs. */
 enum { SECONDS = 20 };
 
-/* How many allocations this run has taken, and the number of the one that it is refused, from 1. */
+/* The number of allocations of this run so far, and the number of the refused one, from 1. */
 static long taken, refused;
 static long from = -1, to = -1;
-/* Whether all that this run takes is counted. */
+/* Whether all allocations of this run are counted. */
 static int counts_all;
-/* How many allocations came before the line, and up to its end. Every run sees it. */
+/* The number of allocations before the line, and up to its end. All runs share it. */
 static struct { long before, end; } *counted;
 
 static int refuses(void) {
@@ -50,7 +50,7 @@ int posix_memalign(void **place, size_t alignment, size_t size) {
     return 0;
 }
 
-/* Reads no further than to where the piece ends. */
+/* Reads no further than the end of the piece. */
 ssize_t read(int file, void *buffer, size_t room) {
     long at = lseek(file, 0, SEEK_CUR), end = at < from ? from : at < to ? to : at + (long)room;
     if (counted && !refused && at == from && from < to) counted->before = taken;
@@ -68,7 +68,7 @@ static void copy(int file, off_t count) {
         if (sendfile(1, file, &at, count - at) <= 0) fail("sendfile");
 }
 
-/* Begins a run, with this allocation refused, and returns 1 in it; tells of it once it has ended, and returns 0. */
+/* Starts a run with this allocation refused, and returns 1 in it. Once it has ended, prints how and returns 0. */
 static int run(long which) {
     int output = memfd_create("output", 0), errors = memfd_create("errors", 0), status;
     pid_t child = fork();

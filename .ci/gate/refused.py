@@ -1,4 +1,4 @@
-"""The scripts whose lines are refused memory, and the calls that take none, as .ci/refusals says."""
+"""Makes the scripts whose lines are refused memory, and lists the calls that take none, for .ci/refusals."""
 import re
 from dataclasses import dataclass
 
@@ -6,13 +6,13 @@ KINDS = "set", "bag", "duplicate_bag"
 ITEMS = "name", "named_table", "owner", "protection", "heir", "size", "type", "keypos", "fixed"
 SPAWN = re.compile(rb"[ \t]*spawn[ \t]+([a-z][a-z0-9_@]*)[ \t\r]*")
 NEW = re.compile(rb"[ \t]*[a-z][a-z0-9_@]*[ \t]+new[ \t]*\(.*")
-# Scripts of the examples that are larger are left to those that are made here.
+# The most bytes of a script of a folder: larger ones are replaced by those made here.
 LARGE = 8_000
 
 
 @dataclass
 class Script:
-    """A script, the words of its command line, and what is asked besides where the node is looked at."""
+    """A script, the words of its command line, and the lines that are added when the store is read."""
 
     name: str
     words: list
@@ -25,7 +25,7 @@ def text_of(lines):
 
 
 def is_answered(line):
-    """Whether a line is none of those that print nothing."""
+    """Returns whether the program prints a reply to a line."""
     return bool(line.strip(b" \t\r")) and not line.lstrip(b" \t").startswith(b"%")
 
 
@@ -34,7 +34,7 @@ def spawned(script):
 
 
 def look(script, answers):
-    """Lines that look at the node: each process reads each table of the script, whether it is there or not."""
+    """Returns lines that read the store: each process reads each table of the script, whether it exists or not."""
     told = zip(filter(is_answered, script.lines), answers, strict=True)
     tables = dict.fromkeys(answer.decode() for line, answer in told if NEW.fullmatch(line) and not answer.startswith(b"**"))
     calls = [call for it in tables for call in (f"tab2list({it})", f"first({it})", *(f"info({it},{item})" for item in ITEMS))]
@@ -42,12 +42,12 @@ def look(script, answers):
 
 
 def receives(script):
-    """Lines that empty each mailbox."""
+    """Returns lines that empty each mailbox."""
     return [f"{who} receive()".encode() for who in spawned(script)]
 
 
 def of_folder(folder, prefix):
-    """The scripts of a folder that are not large. One that runs in threads reads all its lines before it answers one."""
+    """Yields the scripts of a folder, without large ones and those with --threads, which read all lines before the first reply."""
     for file in sorted(folder.glob("*.ets")):
         text, args = file.read_bytes(), file.with_name(file.name + ".args")
         words = args.read_text().splitlines() if args.exists() else []
@@ -64,8 +64,8 @@ def listed(objects):
 
 
 PROCESSES = ["spawn p", "spawn q", "spawn r"]
-LONG = "'a key that is long, and stands in memory of its own'"
-# Each call, on a table of p's that all may write; and then its end, with its owner's.
+LONG = "'a key that is long, and that has memory of its own.'"
+# Each call, on a public table of p; then the end of the table, with its owner.
 CALLS = f"""\
 p insert(t,{{last,0}})
 p insert(t,[{{a,1}},{{0,1}},{{b,1}}])
@@ -130,7 +130,7 @@ KEYS = ["a", "b", "c", "d", "e", "f", "[g]", "last", LONG]
 
 
 def of_calls(kind, count, words, key=None):
-    """Each call on a table of so many objects: under so many numbers, or all under one key."""
+    """Makes a script of each call on a table of `count` objects: each with its own number, or all with one key."""
     objects = listed(f"{{{it if key is None else key},{it}}}" for it in range(count))
     lines = [*PROCESSES, f"p new(t,[{kind},named_table,public])", f"p insert(t,{objects})", *(it.replace("KIND", kind) for it in CALLS)]
     name = f"calls on a {kind} of {count}{'' if key is None else ' under one key'}"
@@ -138,7 +138,7 @@ def of_calls(kind, count, words, key=None):
 
 
 def of_growth(words):
-    """A table that is doubled from 2 buckets to 128, with buckets that are made ready."""
+    """Makes a script that doubles a table from 2 buckets to 128, and makes buckets ready."""
     lines = [*PROCESSES, "p new(t,[named_table])", f"p insert(t,{listed(f'{{{it}}}' for it in range(300))})", "ready t 1"]
     for size in 2, 4, 8, 16, 32, 64:
         lines += ["grow t", f"ready t {size + 1}", f"ready t {size}", f"p insert(t,{{{size},new}})", f"ready t {2 * size - 1}"]
@@ -146,7 +146,7 @@ def of_growth(words):
 
 
 def of_ends():
-    """Owners that end: of tables with three heirs that live, of one whose heir has ended, of one with none."""
+    """Makes a script in which owners end: of tables with three living heirs, of one whose heir has ended, of one without an heir."""
     lines = [*PROCESSES, "spawn s", "spawn u", "p new(e,[named_table])"]
     lines += [f"p new({name},[named_table,{{heir,<0.{pid}.0>,{{data,of,{name}}}}}])" for pid, name in enumerate("abcd", 1)]
     lines += [f"p insert({name},[{{1,{name}}},{{2,{name}}}])" for name in "abcd"]
@@ -155,7 +155,7 @@ def of_ends():
 
 
 def of_numbers(count):
-    """So many processes, tables, fixes and messages."""
+    """Makes a script with `count` processes, tables, fixes and messages."""
     each = range(count)
     lines = [f"spawn p{it}" for it in each] + [f"p0 new(t{it},[named_table,public,{{heir,<0.1.0>,{it}}}])" for it in each]
     lines += [f"p{it} safe_fixtable(t0,true)" for it in each] + [f"p0 give_away(t{it},<0.1.0>,{it})" for it in each]
@@ -164,7 +164,7 @@ def of_numbers(count):
 
 
 def own():
-    """The scripts that are made here."""
+    """Yields the scripts that are made here."""
     for words in [], ["--hash", "same"]:
         for kind in KINDS:
             yield from (of_calls(kind, count, words) for count in (7, 8, 9, 63, 64, 65))
@@ -176,7 +176,7 @@ def own():
 
 
 def free(kind, calls):
-    """Calls that take no memory, behind a script that leaves a table of this kind."""
+    """Returns calls that take no memory, and the script before them, which leaves a table of this kind."""
     lines = [*PROCESSES, f"p new(t,[{kind},named_table,{{heir,<0.1.0>,x}}])", "p insert(t,[{a,1},{b,2},{a,3}])", "p safe_fixtable(t,true)", "p delete(t,b)"]
     return [it.encode() for it in lines], [it.encode() for it in calls]
 

@@ -1,4 +1,4 @@
-"""The gate, as .ci/run says."""
+"""The whole CI, which .ci/run describes."""
 import os
 import re
 import resource
@@ -11,11 +11,11 @@ from costs import Costs, budget, table
 from crates import crates_of
 from dist import built
 from lanes import Log
-from parts import BEGAN, PROGRAM, TOP, Part, end_on_signals, say, side_by_side, unproved
+from parts import BEGAN, BUDGET, PROGRAM, TOP, Part, end_on_signals, say, side_by_side, unproved
 
 
 def copy_without_edits(to):
-    """The tree with a .git of its own and without must-fail folders, since `rt ci` tries wrong bodies one by one."""
+    """Copies the tree, with a .git of its own and without must-fail folders, since `rt ci` would try mutants one by one."""
     listed = subprocess.run(["git", "ls-files", "-z", "--cached", "--others", "--exclude-standard"], cwd=TOP, stdout=subprocess.PIPE, check=True)
     files = [it for it in listed.stdout.split(b"\0") if it and not re.match(rb"crates/\w+/must-fail/", it)]
     packed = subprocess.Popen(["tar", "cf", "-", "--null", "-T", "-"], cwd=TOP, stdin=subprocess.PIPE, stdout=subprocess.PIPE)
@@ -23,18 +23,18 @@ def copy_without_edits(to):
     packed.stdin.write(b"\0".join(it for it in files if os.path.lexists(os.path.join(os.fsencode(TOP), it))))
     packed.stdin.close()
     if packed.wait() or unpacked.wait():
-        sys.exit("gate: the tree could not be copied")
+        sys.exit("run: the tree could not be copied")
     subprocess.run(["git", "init", "-q", to], check=True)
 
 
 def counted(pattern, text):
-    """The two numbers of a last line, or none passed and one failed where it has not that form."""
+    """Returns the two numbers of a last line, or (0, 1) if it does not have that form."""
     found = re.fullmatch(pattern, text.rstrip("\n").rpartition("\n")[2])
     return (int(found[1]), int(found[2])) if found else (0, 1)
 
 
 class Proved:
-    """A crate, or its tests, as a part that others come after, by what is said of the proofs."""
+    """A crate, or its tests, as a part that others wait for, by the output of the proofs."""
 
     def __init__(self, name, log):
         self.name, self.log = name, log
@@ -49,20 +49,22 @@ def crates_with_refused_memory():
 
 
 def on_the_program(copy, log):
-    """What is tried on the program, and on tests of refused memory, as soon as they are proved and built."""
+    """Returns the parts that try the program, and the tests of refused memory, as soon as these are proved and built."""
     program, is_there = f"{copy}/{PROGRAM}/out/ets_script_cli", Proved("ets_script_cli", log)
     with_tests = crates_with_refused_memory()
     tests, are_there = [f"{copy}/crates/{it}/out/{it}_tests" for it in with_tests], [Proved(f"{it}: its tests are", log) for it in with_tests]
     return [
-        Part("the front door", [f"{TOP}/.ci/door", program], after=[is_there]),
+        Part("the scripts by the proved program", [f"{TOP}/tests/run", program], after=[is_there]),
+        Part("the snippets of the pages", [f"{TOP}/.ci/snippets", program], after=[is_there]),
+        Part("command lines and reasons", [f"{TOP}/.ci/door", program], after=[is_there]),
         Part("the examples, cut at every byte", [f"{TOP}/.ci/cuts", program], after=[is_there]),
-        Part("devices that fail", [f"{TOP}/.ci/devices", program], after=[is_there]),
-        Part("memory refused", [f"{TOP}/.ci/refusals", program, *tests], after=[is_there, *are_there], show=r"^refusals: "),
+        Part("failing devices", [f"{TOP}/.ci/devices", program], after=[is_there]),
+        Part("refused memory", [f"{TOP}/.ci/refusals", program, *tests], after=[is_there, *are_there], show=r"^refusals: "),
     ]
 
 
 def on_the_files_of_dist(copy, log, words):
-    """The files of dist/, built from what is proved, and what is tried on them: the packages, the release and ./ets_script."""
+    """Returns the parts on the files of dist/, built from what is proved: the packages, the release and ./ets_script."""
     write = [it for it in words if it == "--write"]
     is_there = [Proved("ets_script_cli", log), Proved("ets_c", log)]
     dist = Part("the files of dist", [f"{TOP}/.ci/dist", copy, *write], after=is_there, show=r"^dist: ")
@@ -77,23 +79,22 @@ def on_the_files_of_dist(copy, log, words):
 
 
 def parts_of(words, copy, logs):
-    """What the gate runs: what costs no proof, the tests of the gate itself, the proofs, the wrong bodies, and what is tried on the program and
-    on the files of dist/."""
+    """Returns all parts: those that need no proof, the tests of CI itself, what is tried on the program; the proofs; and the mutants."""
     politely = ["nice", "-n", "10"]
     order = Part("the order of checks", [sys.executable, "-B", f"{TOP}/.ci/gate/order_test.py"], ends_all=True)
-    itself = Part("the program of wrong bodies", [*politely, f"{TOP}/.ci/wrong_bodies", "--self"], ends_all=True)
+    itself = Part("the program that tries mutants", [*politely, f"{TOP}/.ci/mutants", "--self"], ends_all=True)
     proofs = Part("every proof, test and program (rt ci)", [sys.executable, "-B", f"{TOP}/.ci/gate/proofs.py", copy], show=r"^rt: ")
-    tried = [*politely, f"{TOP}/.ci/wrong_bodies", "--libraries", copy, "--after", proofs.file(logs), *words]
-    edits = Part("every wrong body", tried, show=r"^wrong bodies: ")
+    tried = [*politely, f"{TOP}/.ci/mutants", "--libraries", copy, "--after", proofs.file(logs), *words]
+    mutants = Part("the mutants", tried, show=r"^mutants: ")
     log = Log(proofs.file(logs))
-    return [*unproved(logs), order, itself, *on_the_program(copy, log), *on_the_files_of_dist(copy, log, words)], proofs, edits
+    return [*unproved(logs), order, itself, *on_the_program(copy, log), *on_the_files_of_dist(copy, log, words)], proofs, mutants
 
 
-def report(edits, costs):
-    """What each crate took beside its budget."""
-    took = {name: float(used) for name, used in re.findall(r"^edits of (\w+): (\d+) s", edits.text, re.M)}
-    measured = lambda name, kind: took.get(name, 0) if kind == "edits" else costs.of(name, kind)
-    return table(crates_of(TOP), measured, budget(f"{TOP}/docs/internals/ci.md"))
+def report(mutants, costs):
+    """Returns the table of what each crate took, with its budget."""
+    took = {name: float(used) for name, used in re.findall(r"^mutants of (\w+): (\d+) s", mutants.text, re.M)}
+    measured = lambda name, kind: took.get(name, 0) if kind == "mutants" else costs.of(name, kind)
+    return table(crates_of(TOP), measured, budget(BUDGET))
 
 
 def main(words):
@@ -103,17 +104,17 @@ def main(words):
         os.mkdir(copy)
         copy_without_edits(copy)
         costs = Costs(copy)
-        single, proofs, edits = parts_of(words, copy, logs)
-        all_parts = [*single, proofs, edits]
+        single, proofs, mutants = parts_of(words, copy, logs)
+        all_parts = [*single, proofs, mutants]
         side_by_side(all_parts, logs, len(all_parts))
         counts = [(1, 0) if it.is_well else (0, 1) for it in single]
-        counts += [counted(r"(\d+) passed, (\d+) failed", proofs.text), counted(r"(\d+) refused, (\d+) not", edits.text)]
-        print(report(edits, costs))
+        counts += [counted(r"(\d+) passed, (\d+) failed", proofs.text), counted(r"(\d+) refused, (\d+) not", mutants.text)]
+        print(report(mutants, costs))
     passed, failed = map(sum, zip(*counts))
-    # (what failed without a count of its own)
+    # (a part can fail without a count of its own)
     failed = failed or sum(not it.is_well for it in all_parts)
     used = resource.getrusage(resource.RUSAGE_CHILDREN)
-    say(f"in all: {(time.time() - BEGAN) / 60:.0f} minutes, {(used.ru_utime + used.ru_stime) / 60:.0f} of processor")
+    say(f"total: {(time.time() - BEGAN) / 60:.0f} minutes, {(used.ru_utime + used.ru_stime) / 60:.0f} of CPU")
     print(f"{passed} passed, {failed} failed", flush=True)
     return 1 if failed else 0
 

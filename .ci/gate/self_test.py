@@ -1,4 +1,4 @@
-"""The test of .ci/wrong_bodies: among the wrong bodies of split_key, edits that it must not pass over."""
+"""Tests .ci/mutants: plants, among the mutants of split_key, edits that it must report."""
 import os
 import re
 import shutil
@@ -14,7 +14,7 @@ from lanes import fate
 PLANTED = {
     "a_comment": ("src/keys.rt", "in reverse order.", "in the reverse order.", "NOT REFUSED"),
     "a_mask_by_name": ("src/buckets.rt", "hash & (size - 1)", "{ let mask = size - 1; hash & mask }", "NOT REFUSED"),
-    # (its callee is broken in the same round, so it has no goal of its own there)
+    # (the function that it calls is changed in the same round, so it has no goal of its own there)
     "a_sum_turned_round": ("src/keys.rt", "2 * u64::from(rev32(hash)) + 1", "1 + 2 * u64::from(rev32(hash))", "NOT REFUSED"),
     "a_text_that_is_gone": ("src/keys.rt", "number.swap_bits()", "number", "BAD EDIT"),
     "a_word_that_is_none": ("src/buckets.rt", "bucket - (1 << top)", "bucket - (1 << tip)", "BAD EDIT"),
@@ -31,11 +31,11 @@ VERDICTS = {
     "fn keys::rev32: proved": False,
 }
 
-# A line that tells of a goal without an answer, and the folder in which that is missing.
+# A line that reports a goal without an answer, and the folder in which that is missing.
 NO_ANSWER = "fn keys::rev32: no proof: expected answers in ./proofs/keys/rev32/Answers.antt; `search` did not prove `returns`"
 NO_ANSWER_IN = "proofs/keys/rev32"
 
-# Folders of proofs, and whether each is that of a cycle of calls in which `workers::run_from` stands.
+# Folders of proofs, and whether each is that of a cycle of calls with `workers::run_from`.
 CYCLES = {
     "proofs/workers/+fn-run_from-join+arg2+run_from": True,
     "proofs/workers/+run_from_here": False,
@@ -43,7 +43,7 @@ CYCLES = {
     "proofs/workers/run_from": False,
 }
 
-# Ends of what `rt ci` says, and whether split_key is proved by it.
+# Ends of the output of `rt ci`, and whether split_key is proved by it.
 FATES = {
     "rt: split_key proved\n": True,
     "rt: split_key is kept: an earlier run on this machine proved the same files\n": True,
@@ -70,8 +70,8 @@ class Room:
                 it.write(f"file: {file}\nold: {old}\nnew: {new}\n")
 
     def tried(self, *words):
-        """Returns the status of a run and what it printed."""
-        ran = subprocess.run([f"{self.folder}/.ci/wrong_bodies", *words], stdout=subprocess.PIPE, text=True)
+        """Returns the status of a run and its output."""
+        ran = subprocess.run([f"{self.folder}/.ci/mutants", *words], stdout=subprocess.PIPE, text=True)
         return ran.returncode, ran.stdout
 
 
@@ -81,7 +81,7 @@ def self_test(top):
     def expect(is_so, what, text):
         if not is_so:
             faults.append(what)
-            print(f"{what}: not so:\n{text}", file=sys.stderr)
+            print(f"not so: {what}:\n{text}", file=sys.stderr)
 
     for line, is_own in VERDICTS.items():
         expect(bool(OWN.match(line)) == is_own, "a line of the prover", line)
@@ -91,7 +91,7 @@ def self_test(top):
         expect(member.has_cycle(folder) == is_its, "a cycle of calls", folder)
     for text, is_proved in FATES.items():
         expect(fate("split_key", text) == is_proved, "what rt ci says", text)
-    with tempfile.TemporaryDirectory(prefix="wrong-bodies-self-") as folder:
+    with tempfile.TemporaryDirectory(prefix="mutants-self-") as folder:
         room = Room(top, folder)
         true = len(os.listdir(room.edits))
         status, text = room.tried("--write")
@@ -101,9 +101,9 @@ def self_test(top):
         status, text = room.tried("--write")
         expect(status == 1 and text.endswith(f"\n{true} refused, {len(PLANTED)} not\n"), "among others, all planted edits are reported", text)
         for name, (_, _, _, word) in PLANTED.items():
-            expect(re.search(rf"^wrong bodies: must-fail split_key/{name}.edit: {word}: ", text, re.M), f"{name} is {word}", text)
-        expect("split_key " not in open(f"{folder}/.ci/tried", encoding="utf-8").read().split("\n", 1)[1], "the record has no line any more", text)
+            expect(re.search(rf"^mutants: must-fail split_key/{name}.edit: {word}: ", text, re.M), f"{name} is {word}", text)
+        expect("split_key " not in open(f"{folder}/.ci/tried", encoding="utf-8").read().split("\n", 1)[1], "the record has no line of it any more", text)
         status, text = room.tried("split_key/a_mask_by_name")
         expect(status == 1 and text.endswith("\n0 refused, 1 not\n"), "a weak edit by itself is reported", text)
-    print(f"wrong_bodies --self: {len(faults)} faults")
+    print(f"mutants --self: {len(faults)} faults")
     return 1 if faults else 0

@@ -1,5 +1,5 @@
-"""A static library: `rt ci` checks it, and leaves none. It is built of what the gate's check of it left in its out/, or where that
-is not there it is proved first.
+"""Builds a static library, which `rt ci` checks but does not build: from what the check in CI left in its out/, or, if that does
+not exist, by proving it first.
 
     python3 static_library.py TREE CRATE"""
 import os

@@ -1,4 +1,4 @@
-% Each call, and the same with one argument more than it may have.
+% Calls each function, then each with one argument too many.
 spawn p
 spawn q
 p new(t,[named_table])

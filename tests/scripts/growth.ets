@@ -1,4 +1,4 @@
-% Growth changes no answer.
+% Grows a table, which changes no reply.
 spawn p
 p new(t,[named_table])
 p insert(t,{a,1})

@@ -1,4 +1,4 @@
-% An heir is no heir of its own.
+% Deletes an inherited table when its heir ends.
 spawn p
 spawn q
 p new(t,[named_table,{heir,<0.1.0>,g}])
@@ -6,3 +6,4 @@ exit p
 exit q
 spawn r
 r info(t,size)
+r new(t,[named_table])

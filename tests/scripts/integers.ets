@@ -1,4 +1,4 @@
-% Integers go from -2^127 to 2^127-1. Past 64 bits they are as any others.
+% Accepts integers from -2^127 to 2^127-1, also past 64 bits.
 spawn p
 p new(t,[named_table])
 p insert(t,{c,9223372036854775807})
@@ -8,7 +8,7 @@ p update_counter(t,c,{2,1,9223372036854775807,0})
 p insert(t,{c,9223372036854775807})
 p update_counter(t,c,[{2,1},{9,1}])
 p insert(t,9223372036854775808)
-% The greatest and the least.
+% Stores the greatest and the least.
 p insert(t,170141183460469231731687303715884105728)
 p insert(t,{c,-170141183460469231731687303715884105729})
 p insert(t,{c,170141183460469231731687303715884105727})
@@ -19,12 +19,12 @@ p insert(t,{c,-170141183460469231731687303715884105728})
 p update_counter(t,c,-1)
 p lookup(t,c)
 p update_counter(t,c,{2,-1,0,5})
-% A sum past the range is over every threshold where something is added, and under every one where something is taken.
+% Compares a sum past the range with a threshold: above each if it adds, below each if it subtracts.
 p insert(t,{c,170141183460469231731687303715884105727})
 p update_counter(t,c,{2,170141183460469231731687303715884105727,170141183460469231731687303715884105727,7})
 p insert(t,{c,-170141183460469231731687303715884105728})
 p update_counter(t,c,{2,-170141183460469231731687303715884105728,-170141183460469231731687303715884105728,8})
-% What functions give at the ends of 64 bits, and at those of the range.
+% Evaluates functions at the ends of 64 bits and of the range.
 p select(t,[{'_',[],[{'rem',-9223372036854775808,-1}]}])
 p select(t,[{'_',[],[{'div',-9223372036854775808,-1}]}])
 p select(t,[{'_',[],[{'rem',-170141183460469231731687303715884105728,-1}]}])
@@ -37,13 +37,13 @@ p select(t,[{'_',[],[{'*',9223372036854775808,9223372036854775808}]}])
 p select(t,[{'_',[],[{'*',18446744073709551616,9223372036854775808}]}])
 p select(t,[{'_',[],[{'*',18446744073709551616,-9223372036854775808}]}])
 p select(t,[{'_',[],[{'>',18446744073709551616,9223372036854775807}]}])
-% Two keys whose last 64 bits are the same are two.
+% Keeps keys apart that share their last 64 bits.
 p insert(t,[{1,low},{18446744073709551617,high}])
 p lookup(t,1)
 p lookup(t,18446744073709551617)
 p insert(t,{low,184467440737095516159,-00018446744073709551616})
 p lookup(t,low)
-% Pids, identifiers and buckets stay below 2^32.
+% Limits pids, identifiers and buckets to less than 2^32.
 p lookup(t,<0.18446744073709551616.0>)
 p lookup(#Tid<18446744073709551616>,a)
 ready t 18446744073709551616

@@ -1,7 +1,15 @@
-% An element of each object of a key.
+% Reads an element of each object of a key.
 spawn p
-p new(t,[named_table,bag])
-p insert(t,[{a,1},{a,2}])
-p lookup_element(t,a,2)
+p new(t,[named_table])
+p new(b,[named_table,bag])
+p insert(t,{a,1})
+p insert(b,[{a,1},{a,2,3}])
+p lookup_element(b,a,2)
+p lookup_element(b,a,3)
+p lookup_element(b,c,1)
 p lookup_element(t,a,3)
-p delete_object(t,a)
+p lookup_element(t,a,0)
+p lookup_element(t,a,-1)
+p lookup_element(t,a,x)
+p lookup_element(t,c,1)
+p lookup_element(t,a)

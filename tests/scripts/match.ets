@@ -1,8 +1,16 @@
-% Bindings come in order of the variables' numbers.
+% Finds and deletes objects by patterns.
 spawn p
 p new(t,[named_table])
-p insert(t,{x,x})
-p insert(t,{y,z})
+p match_delete(t,5)
+p insert(t,[{x,x},{y,z}])
 p match(t,{'$1','$1'})
+p match(t,'_')
+p match(t,{y,'$2'})
+p match_object(t,{'_',x})
 p delete(t,x)
 p match(t,{'$2','$0'})
+p match(t,5)
+p match_object(t,[])
+p match_delete(t,{no,'_'})
+p match_delete(t,{'_',z})
+p tab2list(t)

@@ -1,4 +1,4 @@
-% A position is the integer that it is. Cut to 64 or to 32 bits these would name the key, or the element behind it.
+% Reads positions in full: cut to 64 or 32 bits, these would be the key or the element after it.
 spawn p
 p new(t,[named_table])
 p new(b,[named_table,bag])

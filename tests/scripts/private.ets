@@ -1,6 +1,14 @@
-% A private table is its owner's alone; what it is, all may ask.
+% Refuses other processes every access to a private table, except its properties.
 spawn p
-p new(t,[named_table,private])
 spawn q
+p new(t,[named_table,private])
+p insert(t,{a,1})
 q lookup(t,a)
+q insert(t,{a,2})
+q tab2list(t)
+q delete(t)
 q info(t,protection)
+q info(t,size)
+q whereis(t)
+p lookup(t,a)
+p delete(t)

@@ -1,10 +1,16 @@
-% Specifications: conditions and bodies that fail, and what is none.
+% Finds, counts and deletes objects by match specifications.
 spawn p
 p new(t,[named_table])
-p insert(t,{a,1})
-p insert(t,{b,2})
-p select(t,[{{'$1','$2'},[{'>','$2',1}],['$$']}])
-p select(t,[{{'$1','$2'},[{'div','$2',0}],['$$']}])
+p insert(t,[{a,1},{b,2},{c,3}])
+p select(t,[{{'$1','$2'},[{'>','$2',2}],['$$']}])
+p select(t,[{{'$1','$2'},[{div,'$2',0}],['$$']}])
 p select(t,[{'_',[],[{hd,[]}]}])
-p select(t,[])
-p select(t,[{'$1',[],['$2']}])
+p select_count(t,[{{'_','$1'},[{'>','$1',1}],[true]}])
+p select_delete(t,[{{'_','$1'},[],['$1']}])
+p select_delete(t,[{{'_','$1'},[{'>','$1',1}],[true]}])
+p tab2list(t)
+p select(t,[{{'$1','_'},[{'=:=','$1',a}],[first]},{'_',[],[second]}])
+p select(t,[{'_',[],['$01']}])
+p select(t,[{'_',[],[{rem,-170141183460469231731687303715884105728,-1}]}])
+p select(t,[{'_',[],[{andalso,false,{hd,[]}}]}])
+p select(t,[{'_',[],[{and,false,{hd,[]}}]}])

@@ -1,4 +1,4 @@
-% The offset of the fault that is noticed first.
+% Prints the offset of the first syntax error.
 p f([a,
 p insert(t,{a,1|2})
 p insert(t,{a,1.5})

@@ -1,4 +1,4 @@
-% Terms are printed in one way.
+% Prints each term in its one form.
 spawn p
 p new(t,[named_table])
 p insert(t,{'A b',<<"hi">>,"ab",-0})

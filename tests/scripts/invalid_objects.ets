@@ -1,0 +1,16 @@
+% Refuses what is not an object of the table.
+spawn p
+p new(t,[{keypos,2}])
+p insert(#Tid<0>,{a,k})
+p insert(#Tid<0>,{a})
+p insert(#Tid<0>,{a,'$end_of_table'})
+p insert(#Tid<0>,a)
+p insert(#Tid<0>,1)
+p insert(#Tid<0>,[{a,b},{a}])
+p insert(#Tid<0>,[{a},{a,b}])
+p insert_new(#Tid<0>,{a})
+p insert_new(#Tid<0>,[{a,k},{a}])
+p insert(t,{a,b})
+p insert(#Tid<1>,{a,b})
+p insert(7,{a,b})
+p tab2list(#Tid<0>)

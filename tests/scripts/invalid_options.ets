@@ -1,0 +1,16 @@
+% Refuses unknown options and malformed ones.
+spawn p
+p new(t,set)
+p new(t,{})
+p new(t,[heap])
+p new(t,[set,heap])
+p new(t,[1])
+p new(t,[{keypos,0}])
+p new(t,[{keypos,4294967296}])
+p new(t,[{keypos,x}])
+p new(t,[{read_concurrency,auto}])
+p new(t,[{write_concurrency,on}])
+p new(t,[{heir,<0.1.0>}])
+p new(t,[{heir,1,a}])
+p new(t,[{heir,none,a}])
+p new(t,[])

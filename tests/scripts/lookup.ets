@@ -1,0 +1,15 @@
+% Finds what was stored.
+spawn p
+p new(t,[named_table])
+p insert(t,[{a,1},{[],x},{#Tid<7>,<0.7.0>,y}])
+p lookup(t,a)
+p lookup(t,[])
+p lookup(t,#Tid<7>)
+p lookup(t,{})
+p member(t,a)
+p member(t,1)
+p lookup_element(t,#Tid<7>,3)
+p lookup_element(t,#Tid<7>,1)
+p lookup(u,a)
+p member(#Tid<1>,a)
+p tab2list([])

@@ -1,2 +1,0 @@
-% No process of this name was spawned.
-p lookup(t,a)

@@ -1,0 +1,19 @@
+% Refuses writes to a protected table by any process but its owner.
+spawn p
+spawn q
+p new(p,[public,named_table])
+p new(r,[public,protected,named_table])
+p insert(r,{a,1})
+q insert(p,{a,1})
+q insert(r,{b,1})
+q insert_new(r,{b,1})
+q take(r,a)
+q delete(r,a)
+q delete_object(r,{a,1})
+q delete_all_objects(r)
+q lookup(r,a)
+q member(r,a)
+q lookup_element(r,a,2)
+q tab2list(r)
+q take(p,a)
+p tab2list(p)

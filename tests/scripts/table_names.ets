@@ -1,0 +1,17 @@
+% Creates tables with and without names, and refuses malformed options.
+spawn p
+p new(t,[set,public,protected,named_table])
+p new(t,[])
+p new(u,[{keypos,4294967295},bag,set])
+p new(t,[named_table])
+p new(u,[heap])
+p new(u,[set,heap])
+p new(u,[{keypos,0}])
+p new(u,[{keypos,4294967296}])
+p new(u,[{keypos,x}])
+p new(u,[{keypos,1,1}])
+p new(u,set)
+p new(u,{})
+p new(1,[])
+p new(u)
+p new(u,[])

@@ -1,0 +1,23 @@
+% Refills the tombstone of a deleted key.
+spawn p
+p new(t,[named_table])
+p insert(t,{a,1})
+p safe_fixtable(t,true)
+p delete(t,a)
+p member(t,a)
+p lookup(t,a)
+p tab2list(t)
+p info(t,size)
+p insert_new(t,{a,2})
+p first(t)
+p delete_all_objects(t)
+p next(t,a)
+p update_counter(t,a,1,{x,5})
+p safe_fixtable(t,false)
+p lookup(t,a)
+% Refills it by insert_new, and keeps the object after the fix.
+p safe_fixtable(t,true)
+p delete(t,a)
+p insert_new(t,{a,2})
+p safe_fixtable(t,false)
+p lookup(t,a)

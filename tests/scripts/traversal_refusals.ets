@@ -1,0 +1,20 @@
+% Refuses fixes and traversals that are malformed, without rights, or from unknown keys.
+spawn p
+spawn q
+p new(t,[named_table,private])
+p insert(t,{a,1})
+p safe_fixtable(t,yes)
+p safe_fixtable(u,true)
+q safe_fixtable(t,true)
+q safe_fixtable(t,false)
+q first(t)
+q first_lookup(t)
+q next(t,a)
+q next_lookup(t,a)
+p first(u)
+p first_lookup(u)
+p next(t,b)
+p next(t,'$end_of_table')
+p next_lookup(t,b)
+p next_lookup(t,'$end_of_table')
+p next(t,a)

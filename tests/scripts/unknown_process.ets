@@ -1,0 +1,2 @@
+% Calls from a name that was never spawned.
+p lookup(t,a)
