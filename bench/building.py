@@ -56,7 +56,7 @@ def sources_of(name: str) -> list[pathlib.Path]:
 
 
 def build(crate: str, words: list[str], folder: pathlib.Path) -> None:
-    """Runs what builds a crate; where that fails, its last lines are told and the run stops."""
+    """Builds a crate; if that fails, prints the last lines and stops the run."""
     result = subprocess.run(words, cwd=folder, stdin=subprocess.DEVNULL, capture_output=True, text=True)
     if result.returncode != 0:
         print("\n".join((result.stdout + result.stderr).splitlines()[-20:]), file=sys.stderr)
@@ -73,7 +73,7 @@ class Programs:
         return self._built(crate, crate, "run")
 
     def archive(self, crate: str) -> str | None:
-        """A static library. The gate leaves none in its tree, but what it checked, of which this is built."""
+        """Returns a static library. CI leaves none in its tree, but what it checked, from which this builds one."""
         folder = self.tree / "crates" / crate / "out"
         if self.tree != TOP and not (folder / f"lib{crate}.a").exists():
             if not (folder / "checked").exists():

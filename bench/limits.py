@@ -7,12 +7,12 @@ from typing import Callable, Iterable, Iterator
 from timing import Talk
 from workloads import mixed, table
 
-ASKED = 100_000  # lines behind a fill
+ASKED = 100_000  # lines after a fill
 FEWEST = 1_000  # lines, below which a part is not shown: the way there and back is most of it
 AT_ONCE = 500_000  # lines a part of a script
 LIMITS = ["--max-objects", "100000000", "--max-processes", "2000000"]
 
-Script = Callable[[int], dict[str, Iterable[str]]]  # the parts of a script with so many of something, by their names
+Script = Callable[[int], dict[str, Iterable[str]]]  # the parts of a script of a size, by their names
 Figures = dict[str, dict[int, float]]  # nanoseconds a line, by the part and the number
 
 

@@ -9,11 +9,11 @@ from timing import LIMIT, Runs, Talk, ratio, spread, timed
 from workloads import SHAPES, WORKLOADS, Shape, Workload, by_lists, lookups, mixed, rounds, searches, singly
 
 Commands = dict[str, list[str]]
-MARKS = (25_000, 50_000, 100_000, 200_000)  # lookups behind lists, while growth catches up
+MARKS = (25_000, 50_000, 100_000, 200_000)  # lookups after lists, while growth catches up
 
 
 def workloads(word: str, quick: bool, programs: Commands) -> list[list[str]]:
-    """The workloads whose name has this word: the store beside each peer."""
+    """The workloads whose name has this word: the store and each peer."""
     rows = [["script", "this store", "peer", "its time", "ratio"]]
     for workload in WORKLOADS:
         if word in workload.name:
@@ -66,7 +66,7 @@ def memory(quick: bool, programs: Commands) -> list[list[str]]:
     """Bytes an object of several shapes: by how much the peak of a program grows where it gets twice as many objects."""
     count = 150_000 if quick else 300_000
     rivals = [name for name in programs if name != "store"]
-    rows = [[f"{2 * count:,} objects beside {count:,}, bytes an object", "this store", *rivals, *(f"to {name}" for name in rivals)]]
+    rows = [[f"{2 * count:,} objects compared with {count:,}, bytes an object", "this store", *rivals, *(f"to {name}" for name in rivals)]]
     for shape in SHAPES:
         each = {name: [(peak(command, shape, 2 * count) - peak(command, shape, count)) / count] for name, command in programs.items()}
         rows.append([shape.name, *map(spread, each.values()), *(ratio(each["store"], each[name]) for name in rivals)])
@@ -74,7 +74,7 @@ def memory(quick: bool, programs: Commands) -> list[list[str]]:
 
 
 def peak(command: list[str], shape: Shape, count: int) -> float:
-    """The peak of a program's memory as it fills a table with so many objects."""
+    """The peak of a program's memory as it fills a table with this many objects."""
     script, runs = OUT / "memory.txt", Runs()
     with open(script, "w") as given:
         given.writelines(line + "\n" for line in shape.lines(count))
@@ -107,12 +107,12 @@ def passes(quick: bool, programs: Commands) -> list[list[str]]:
 
 
 def lists(quick: bool, programs: Commands) -> list[list[str]]:
-    """A table filled by lists of 100 in a true shuffle beside one filled one by one, and lookups behind it, a line each:
+    """A table filled by lists of 100 in a true shuffle, one filled one by one, and lookups after that, a line each:
     growth, of which a line does two steps, catches up meanwhile."""
     count, turns = (30_000, 1) if quick else (300_000, 3)
     marks = [mark * count // 300_000 for mark in MARKS]
     keys = lookups(count, marks[-1])
-    parts = {f"lookups {start + 1:,} to {end:,} behind lists": keys[start:end] for start, end in zip([0, *marks], marks)}
+    parts = {f"lookups {start + 1:,} to {end:,} after lists": keys[start:end] for start, end in zip([0, *marks], marks)}
     spent: dict[tuple[str, str], list[float]] = {}
     for _ in range(turns):
         checks = {name: [] for name in programs}
@@ -120,13 +120,13 @@ def lists(quick: bool, programs: Commands) -> list[list[str]]:
             note = lambda part, talk, lines, each: checks[name].append(noted(spent, part, name, talk.ask(lines), each))
             with Talk(command) as talk:
                 note("put one by one, an object", talk, singly(count), count)
-                note("lookups behind that", talk, keys[: marks[0]], marks[0])
+                note("lookups after that", talk, keys[: marks[0]], marks[0])
             with Talk(command) as talk:
                 note("put by lists of 100, an object", talk, by_lists(count), count)
                 for part, lines in parts.items():
                     note(part, talk, lines, len(lines))
         if len(set(map(tuple, checks.values()))) > 1:
-            stop("the answers behind lists differ")
+            stop("the answers after lists differ")
     rivals = [name for name in programs if name != "store"]
     rows = [[f"{count:,} objects {{K,V}}, ns", *programs, *(f"to {name}" for name in rivals)]]
     for part in dict.fromkeys(part for part, _ in spent):

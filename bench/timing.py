@@ -95,7 +95,7 @@ class Talk:
 
 
 def least(commands: list[list[str]], times: int) -> Figures:
-    """The least of each figure and the greatest, of so many runs by turns. A command prints lines of WHO OPERATION FIGURE."""
+    """The least of each figure and the greatest, of this many interleaved runs. A command prints lines of WHO OPERATION FIGURE."""
     found: Figures = {}
     for _ in range(times):
         for command in commands:
@@ -136,7 +136,7 @@ def load() -> str:
 
 
 def print_table(rows: list[list[str]]) -> None:
-    """The table, and the load behind it."""
+    """Prints a table, and the load after it."""
     widths = [max(len(row[i]) for row in rows) for i in range(len(rows[0]))]
     print()
     for row in rows:

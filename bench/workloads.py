@@ -169,7 +169,7 @@ def by_lists(count: int) -> list[str]:
 
 
 def lookups(count: int, lines: int) -> list[str]:
-    """So many lookups in a table of so many objects, in an order that has nothing to do with that of the insertions."""
+    """Lookups in a table of this many objects, in an order that has nothing to do with that of the insertions."""
     chance = random.Random(lines)
     return [f"p lookup(t,{chance.randrange(count)})" for _ in range(lines)]
 

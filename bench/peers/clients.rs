@@ -1,4 +1,4 @@
-//! Clients of one map behind a lock, each in a thread of its own: nine lookups, then an insertion, and so on.
+//! Clients of one map with a lock, each in a thread of its own: nine lookups, then an insertion, and so on.
 use crate::order::{show, shuffled};
 use crate::term::Term;
 use crate::{Key, Map, found, key, object};
@@ -70,7 +70,7 @@ fn ask_all(book: &Mutex<Book>, mut own: Option<Journal>, calls: &[Call]) -> (usi
     (found, own)
 }
 
-/// Prints nanoseconds a call of all clients together, of so many calls each.
+/// Prints nanoseconds a call of all clients together, with this many calls each.
 fn clients(who: &str, threads: u64, count: u64, is_kept: bool) {
     let map = (0..KEYS).map(|k| (key(k), object(k))).collect();
     let journal = || is_kept.then(Vec::new);

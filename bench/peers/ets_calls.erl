@@ -79,7 +79,7 @@ walks(Count) ->
     [ets:insert(Table, {Key, 1}) || Key <- shuffled(Count, 1)],
     show("ets", "next+lookup", lists:min([walked(Table, Count) || _ <- lists:seq(1, 3)]) / Count).
 
-%% The nanoseconds of one walk, behind the first key.
+%% The nanoseconds of one traversal, after the first key.
 walked(Table, Count) ->
     Key = ets:first(Table),
     Start = erlang:monotonic_time(nanosecond),

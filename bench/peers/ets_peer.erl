@@ -1,6 +1,6 @@
 %% The same script language as `ets_script`, over Erlang/OTP's own ets, in one run of erl.
 %%
-%% The first process of a script is the one that reads it, so its calls cost no message; each further one is a
+%% The first process of a script reads the script, so its calls cost no message; each further one is a
 %% process of its own that is asked by messages. It takes good scripts only.
 -module(ets_peer).
 -export([main/0]).

@@ -1,4 +1,4 @@
-//! Measures the store's layers as a library, each beside the same in straight Rust: library PART COUNT.
+//! Measures the store's layers as a library, each with the same in hand-written Rust: library PART COUNT.
 //!
 //! Prints a line for each figure: WHO OPERATION FIGURE, in nanoseconds an operation or in bytes an item.
 mod list;

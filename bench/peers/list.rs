@@ -1,4 +1,4 @@
-//! A split-ordered list in straight Rust, laid out as `node_list` is: keys and links in one arena, items in another.
+//! A split-ordered list in hand-written Rust, laid out as `node_list` is: keys and links in one arena, items in another.
 use crate::order::shuffled;
 use crate::term::Term;
 

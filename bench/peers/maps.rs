@@ -1,4 +1,4 @@
-//! Rust's own hash map, beside the store's tables and nodes: maps PART COUNT [CALLS].
+//! Rust's own hash map, as a peer of the store's tables and calls: maps PART COUNT [CALLS].
 //!
 //! Prints a line for each figure: WHO OPERATION FIGURE, in nanoseconds an operation or in bytes an object.
 mod clients;
@@ -50,7 +50,7 @@ impl Hash for Key {
 
 pub type Map = HashMap<Key, Term, BuildHasherDefault<Fnv>>;
 
-/// What stands before a map: a lock that each call takes, or nothing.
+/// How a call reaches a map: through a lock, or directly.
 trait Door {
     fn new(map: Map) -> Self;
 
@@ -152,7 +152,7 @@ fn lives<D: Door>(who: &str, count: u64, is_whole: bool) {
     }
 }
 
-/// The longest of so many insertions into one table.
+/// The longest of this many insertions into one table.
 fn longest(count: u64) {
     let mut map: Mutex<Map> = Door::new(Map::default());
     let insertion = |k| {
@@ -164,7 +164,7 @@ fn longest(count: u64) {
     show("Mutex<HashMap>", "longest", longest as f64);
 }
 
-/// As many tables as make some 300,000 objects, so that the pages of a small one do not blur it.
+/// As many tables as make about 300,000 objects, so that the pages of a small one do not blur it.
 fn bytes(count: u64) {
     let order: Vec<u64> = shuffled(count, 1).collect();
     let before = resident();

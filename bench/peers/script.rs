@@ -1,4 +1,4 @@
-//! The same script language as `ets_script`, as a straight Rust program: std only, no proofs.
+//! The same script language as `ets_script`, as a hand-written Rust program: std only, no proofs.
 //!
 //! It answers the calls that the workloads of this folder make, and takes good scripts only.
 mod term;
@@ -130,7 +130,7 @@ impl Table {
     }
 }
 
-/// The number behind the variable in the only condition of a specification of one clause.
+/// The number that the variable is compared with in the only condition of a specification of one clause.
 fn bound_of(spec: &Term) -> &Term {
     let Term::List(clauses) = spec else { unreachable!() };
     let Term::Tuple(clause) = &clauses[0] else { unreachable!() };

@@ -177,7 +177,7 @@ template <class Table> static void times(size_t count) {
     for (auto &known : best) printf("%s %s %.1f\n", Table::name, known.first, known.second);
 }
 
-// The longest of so many insertions into one table.
+// The longest of this many insertions into one table.
 template <class Table> static void longest(size_t count) {
     Table table;
     double most = 0;
@@ -190,7 +190,7 @@ template <class Table> static void longest(size_t count) {
     printf("%s longest %.0f\n", Table::name, most);
 }
 
-// As many tables as make some 300,000 objects, so that the pages of a small one do not blur it.
+// As many tables as make about 300,000 objects, so that the pages of a small one do not blur it.
 template <class Table> static void bytes(size_t count) {
     Keys keys = shuffled(count, 1);
     size_t before = in_use();

@@ -1,4 +1,4 @@
-//! Terms and their text, as straight Rust has them: the peer of `ets_term` and `term_text`.
+//! Terms and their text, in hand-written Rust: the peer of `ets_term` and `term_text`.
 use std::io::Write;
 
 #[derive(Clone, Debug, PartialEq, Eq, Hash, PartialOrd, Ord)]
