@@ -41,7 +41,7 @@ module_folder() ->
         _ -> "/"
     end.
 
-%% Goes up from a folder to the one that holds this binding and the program.
+%% Goes up from a folder until one holds this binding and the program.
 in_repository("/") -> none;
 in_repository(Folder) ->
     Program = filename:join(Folder, "ets_script"),
