@@ -233,6 +233,7 @@ start_test_() ->
             {"the platform", fun platform/0},
             {"limits", fun limits/0},
             {"an application", fun application/0},
+            {"an application that does not start", fun application_fails/0},
             {"a child of a supervisor", fun supervised/0},
             {"options", fun options/0}
         ]
@@ -278,6 +279,17 @@ application() ->
     t = yoyoash:new(t, [named_table]),
     quietly(fun() -> ok = application:stop(yoyoash), ok = application:unload(yoyoash) end),
     undefined = erlang:whereis(yoyoash).
+
+application_fails() ->
+    ok = application:load(yoyoash),
+    Program = os:getenv("YOYOASH_PROGRAM", ""),
+    true = os:putenv("YOYOASH_PROGRAM", "/no/such/program"),
+    quietly(fun() ->
+        {error, Reason} = application:ensure_all_started(yoyoash),
+        contains(yoyoash:format_error(Reason), "/no/such/program")
+    end),
+    true = os:putenv("YOYOASH_PROGRAM", Program),
+    ok = application:unload(yoyoash).
 
 supervised() ->
     process_flag(trap_exit, true),
