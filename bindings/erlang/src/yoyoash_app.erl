@@ -11,9 +11,16 @@
 start(_Type, _Args) ->
     case supervisor:start_link({local, yoyoash_sup}, ?MODULE, []) of
         {ok, Pid} -> {ok, Pid};
-        {error, Reason} -> {error, Reason};
+        {error, Reason} -> explained(Reason);
         ignore -> {error, ignore}
     end.
+
+%% Logs one line that names the remedy, since the supervisor's report does not.
+explained({shutdown, {failed_to_start_child, yoyoash, Reason}} = Shutdown) ->
+    logger:error("yoyoash: ~ts", [yoyoash:format_error(Reason)]),
+    {error, Shutdown};
+explained(Reason) ->
+    {error, Reason}.
 
 %% @doc Has nothing left to do when the application stops.
 -spec stop(term()) -> ok.

@@ -27,29 +27,30 @@ find(_Options) ->
 
 %% Looks in the repository around this module, then on PATH, and never in the current folder.
 found() ->
-    case in_repository(module_folder()) of
-        none -> on_path(os:find_executable("ets_script"));
-        Program -> native(Program)
+    Programs = [Program || File <- [code:which(?MODULE), source()], Program <- in_repository(File)],
+    case Programs ++ [os:find_executable("ets_script")] of
+        [false] -> {error, no_program};
+        [Program | _] -> native(Program)
     end.
 
-on_path(false) -> {error, no_program};
-on_path(Program) -> native(Program).
+%% Returns the path of this module's source when it was compiled.
+source() -> proplists:get_value(source, module_info(compile), "").
 
-module_folder() ->
-    case code:which(?MODULE) of
-        File when is_list(File), File =/= "" -> filename:dirname(filename:absname(File));
-        _ -> "/"
-    end.
+%% Goes up from a file, and through links, until a folder holds this binding and the program.
+in_repository([_ | _] = File) -> above(filename:dirname(filename:absname(File)));
+in_repository(_NoFile) -> [].
 
-%% Goes up from a folder to the one that holds this binding and the program.
-in_repository("/") -> none;
-in_repository(Folder) ->
+above("/") -> [];
+above(Folder) ->
     Program = filename:join(Folder, "ets_script"),
     Binding = filename:join([Folder, "bindings", "erlang", "rebar.config"]),
     case filelib:is_regular(Binding) andalso filelib:is_regular(Program) of
-        true -> Program;
-        false -> in_repository(filename:dirname(Folder))
+        true -> [Program];
+        false -> above(target(file:read_link_all(Folder), filename:dirname(Folder)))
     end.
+
+target({ok, Link}, Parent) -> filename:absname(Link, Parent);
+target({error, _NoLink}, Parent) -> Parent.
 
 %% The program that was found runs on one platform. A program that the user names may be a way to another machine.
 native(Program) ->
@@ -88,6 +89,8 @@ given(Option, Given) ->
 
 %% @doc Explains in one line why no store was started, and what to do.
 -spec format_error(error() | term()) -> string().
+format_error({yoyoash, {{shutdown, {failed_to_start_child, yoyoash, Reason}}, _Start}}) ->
+    format_error(Reason);
 format_error(no_program) ->
     "the program ets_script was not found: set YOYOASH_PROGRAM to its path";
 format_error({no_program, Path}) ->

@@ -53,7 +53,7 @@ call(Pid, Name, Args) ->
     try
         gen_server:call(?NAME, {Pid, Name, Args}, infinity)
     catch
-        exit:{noproc, _} -> {error, badarg, {general, <<"no store is running: call yoyoash:start_link() first">>}};
+        exit:{noproc, _} -> {error, badarg, {general, <<"no store is running: start one by yoyoash:start_link()">>}};
         exit:{_Reason, {gen_server, call, _}} -> {error, badarg, {general, <<"the store has ended: start it again">>}}
     end.
 

@@ -6,7 +6,7 @@
 
 store_test_() ->
     {foreach, fun started/0, fun stopped/1, [
-        fun(_) -> {Name, fun() -> ok = Test() end} end || {Name, Test} <- tests()
+        fun(_) -> {Name, {timeout, 60, fun() -> ok = Test() end}} end || {Name, Test} <- tests()
     ]}.
 
 tests() ->
@@ -39,7 +39,7 @@ stopped(Pid) ->
 
 examples_test_() ->
     {setup, fun started/0, fun stopped/1, [
-        {Name, fun() -> same_by_both(Example) end} || {Name, Example} <- yoyoash_examples:examples()
+        {Name, {timeout, 60, fun() -> same_by_both(Example) end}} || {Name, Example} <- yoyoash_examples:examples()
     ]}.
 
 same_by_both(Example) ->
@@ -226,14 +226,18 @@ second_store() ->
 %%% Starting
 
 start_test_() ->
-    {timeout, 60, [
-        {"programs that cannot be started", fun bad_programs/0},
-        {"the platform", fun platform/0},
-        {"limits", fun limits/0},
-        {"an application", fun application/0},
-        {"a child of a supervisor", fun supervised/0},
-        {"options", fun options/0}
-    ]}.
+    [
+        {Name, {timeout, 60, Test}}
+     || {Name, Test} <- [
+            {"programs that cannot be started", fun bad_programs/0},
+            {"the platform", fun platform/0},
+            {"limits", fun limits/0},
+            {"an application", fun application/0},
+            {"an application that does not start", fun application_fails/0},
+            {"a child of a supervisor", fun supervised/0},
+            {"options", fun options/0}
+        ]
+    ].
 
 %% Each mistake is one line with a remedy, and no report.
 bad_programs() ->
@@ -275,6 +279,17 @@ application() ->
     t = yoyoash:new(t, [named_table]),
     quietly(fun() -> ok = application:stop(yoyoash), ok = application:unload(yoyoash) end),
     undefined = erlang:whereis(yoyoash).
+
+application_fails() ->
+    ok = application:load(yoyoash),
+    Program = os:getenv("YOYOASH_PROGRAM", ""),
+    true = os:putenv("YOYOASH_PROGRAM", "/no/such/program"),
+    quietly(fun() ->
+        {error, Reason} = application:ensure_all_started(yoyoash),
+        contains(yoyoash:format_error(Reason), "/no/such/program")
+    end),
+    true = os:putenv("YOYOASH_PROGRAM", Program),
+    ok = application:unload(yoyoash).
 
 supervised() ->
     process_flag(trap_exit, true),
@@ -324,7 +339,8 @@ contains(Text, Part) ->
         _ -> ok
     end.
 
-eventually(Is) -> eventually(Is, 500).
+%% Waits until a function is true, ten seconds at most.
+eventually(Is) -> eventually(Is, 1_000).
 
 eventually(_Is, 0) -> error(never);
 eventually(Is, Left) ->
