@@ -63,7 +63,7 @@ HOOKS = {
 
 
 def calls_of(page):
-    """Returns for each name its forms: pairs of the parameters and the words about the reply, shortest first."""
+    """Returns for each name its forms: pairs of the parameters and what it does, shortest first."""
     calls, in_table = {}, False
     for line in page.splitlines():
         cells = [cell.strip() for cell in re.split(r"(?<!\\)\|", line)[1:-1]] if line.startswith("|") else []
@@ -108,11 +108,11 @@ def method_of(name, forms, kind):
 
 
 def documented(name, forms):
-    """Returns the lines of a docstring: each form and its reply."""
-    replies = {}
-    for parameters, reply in forms:
-        replies.setdefault(reply, []).append(f"`{name}({','.join(parameters)})`")
-    texts = [f"Calls {' or '.join(spelled)}. Reply: {reply.rstrip('.')}." for reply, spelled in replies.items()]
+    """Returns the lines of a docstring: each form and what it does."""
+    texts = {}
+    for parameters, text in forms:
+        texts.setdefault(text, []).append(f"`{name}({','.join(parameters)})`")
+    texts = [f"Calls {' or '.join(spelled)}. {text[0].upper()}{text[1:].rstrip('.')}." for text, spelled in texts.items()]
     wrapped = [textwrap.wrap(text, 108, break_long_words=False, break_on_hyphens=False) for text in texts]
     lines = [line for text in wrapped for line in [*text, ""]][:-1]
     lines[0] = f'"""{lines[0]}'
