@@ -14,7 +14,7 @@ import time
 from costs import budget
 from crates import PARTS, crates_of, read
 from lanes import Log
-from parts import PROGRAM, TOP
+from parts import BUDGET, PROGRAM, TOP
 
 OUT = f"{TOP}/{PROGRAM}/out"
 # The first guess of how fast a run goes, as the part of all processors' time in which proofs run, and the seconds of measured time that
@@ -44,7 +44,7 @@ class Progress:
     """How many crates are proved, and how long the others will take."""
 
     def __init__(self, crates, log):
-        allowed = budget(f"{TOP}/docs/internals/ci.md")
+        allowed = budget(BUDGET)
         self.weights = {it.name: allowed.get(it.name, {}).get("proofs", 0) or 60 for it in crates}
         self.log, self.began = Log(log), time.time()
 
