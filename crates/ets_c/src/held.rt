@@ -9,7 +9,7 @@ use node_text::Store;
 use std::alloc::{Allocator, Global};
 use std::marker::Model;
 
-/// A box as its pointer.
+/// A box, as its pointer.
 pub(crate) struct Loose<T, A: Allocator> {
     at: *mut T,
     alloc: A,
@@ -36,7 +36,7 @@ impl<T: Drop, A: Allocator> Loose<T, A> {
     }
 }
 
-/// A pointer that C keeps: it owns nothing, or a store.
+/// A pointer that C keeps, which owns a store or nothing.
 #[repr(C)]
 #[derive(Drop)]
 pub struct Held {
@@ -51,6 +51,9 @@ impl Model for Held {
 
     ghost also_owns = { λ h. holds the_row h.alloc h.at h.store };
 }
+
+// It owns the store alone, and `free` takes memory back on any thread.
+unsafe impl Send for Held {}
 
 impl Held {
     pub(crate) fn of_loose(loose: Loose<Store, Global>) -> Held

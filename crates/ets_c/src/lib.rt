@@ -26,6 +26,7 @@ mod held;
 
 use crate::handle::Handle;
 use node_core::{Limits, Step};
+use node_text::laws::is_send;
 use node_text::{CLOSED, NO_MEMORY, Store, VALUE};
 use std::alloc::Global;
 
@@ -152,4 +153,9 @@ pub extern "C" fn yoyoash_close(alloc: Global, handle: &mut Handle)
     ensures { handle.new.held.store ≡ None }
 {
     let _ended = handle.take(alloc);
+}
+
+/// Shows that a handle may move to another thread, since `is_send` takes its type.
+pub fn handles_are_send() {
+    is_send::<Handle>();
 }

@@ -13,14 +13,29 @@ use std::alloc::{AllocError, Global};
 use std::convert::AsStr;
 use std::io;
 
-/// What `--version` tells.
+/// The version that `--version` prints.
 const VERSION: &str = "0.1.0";
+
+/// The first line of the help.
+const ABOUT: &str =
+    "Runs a script of calls on an in-memory store of Erlang terms, and prints the reply to each line.";
+
+/// The usage in the help and in refusals.
+const USAGE: &str = "ets_script [OPTIONS] < SCRIPT";
+
+/// The example that ends the help.
+const EXAMPLE: &str = "Example:
+  printf 'spawn p\\np new(t,[named_table])\\np insert(t,{a,1})\\np lookup(t,a)\\n' | ets_script
+  <0.0.0>
+  t
+  true
+  [{a,1}]";
 
 /// The hashes that `--hash` names.
 const HASHES: [&str; 2] = ["fnv", "same"];
 
-/// What these words ask, of which the first is the program's name. Words that the program does not know are refused
-/// with clap's text, and a call for help is answered with it.
+/// Returns the settings of a command line, whose first word is the program's name. Refuses words that the program does
+/// not know, with clap's text; a call for help returns the help as an error too.
 pub fn settings<S: AsStr>(alloc: Global, words: &[S]) -> Result<Settings, Error>
     ensures { Settles (map S.text words.entry.now) result }
 {
@@ -28,8 +43,8 @@ pub fn settings<S: AsStr>(alloc: Global, words: &[S]) -> Result<Settings, Error>
     Ok(asked_settings(&matches))
 }
 
-/// As `settings`, with options more: the limits beside that of a table's objects, reasons, and a call for the version.
-/// Reasons of processes in threads are refused.
+/// Returns what a command line asks, as `settings` does, with more options: the limits of processes and of tables,
+/// `--why` and `--version`. Refuses `--why` together with `--threads`.
 pub fn request<S: AsStr>(alloc: Global, words: &[S]) -> Result<Request, Error>
     ensures { Requests (map S.text words.entry.now) result }
 {
@@ -40,16 +55,21 @@ pub fn request<S: AsStr>(alloc: Global, words: &[S]) -> Result<Request, Error>
     Ok(request)
 }
 
-/// What these words ask, each option by itself.
+/// Returns what a command line asks, each option by itself.
 fn parsed_request<S: AsStr>(alloc: Global, words: &[S]) -> Result<Request, Error>
     ensures { Parses (map S.text words.entry.now) result }
 {
-    let processes = number_option(alloc, "max-processes", "4096", "The most processes ever");
-    let tables = number_option(alloc, "max-tables", "65536", "The most tables ever");
+    let processes = number_option(
+        alloc,
+        "max-processes",
+        "4096",
+        "Limit the processes ever spawned",
+    );
+    let tables = number_option(alloc, "max-tables", "65536", "Limit the tables ever made");
     let why = flag_option(
         alloc,
         "why",
-        "Tell on standard error why lines were refused",
+        "Print on standard error why lines were refused",
     );
     let command = settings_command(alloc)?
         .arg(processes)?
@@ -65,7 +85,7 @@ fn parsed_request<S: AsStr>(alloc: Global, words: &[S]) -> Result<Request, Error
     })
 }
 
-/// The refusal of two options that do not go together, in the parser's words.
+/// Returns the refusal of two options that exclude each other, in the parser's form.
 fn conflict(alloc: Global) -> Result<Error, AllocError>
     ensures { IfOk result (λ error. kind_of error ≡ ArgumentConflict) }
 {
@@ -73,7 +93,7 @@ fn conflict(alloc: Global) -> Result<Error, AllocError>
     settings_command(alloc)?.error(ErrorKind::ArgumentConflict, words)
 }
 
-/// The command whose options are those of the settings.
+/// Returns the command whose options are those of the settings.
 fn settings_command<'a>(alloc: Global) -> Result<Command<'a>, AllocError>
     ensures { (hashes : _) × TakesNames spec.hash_names hashes
         × IfOk result (λ command. app_of command ≡ spec.command_line hashes) }
@@ -83,15 +103,25 @@ fn settings_command<'a>(alloc: Global) -> Result<Command<'a>, AllocError>
         alloc,
         "max-objects",
         "1000000",
-        "The most objects in one table",
+        "Limit the objects in one table",
     );
-    Command::new(alloc, "ets_script")
-        .arg(flag_option(alloc, "threads", "Run each process in a thread of its own"))?
+    described(Command::new(alloc, "ets_script"))
+        .arg(flag_option(alloc, "threads", "Run each process in its own thread"))?
         .arg(hash)?
         .arg(objects)
 }
 
-/// The option of this name, which takes no value.
+/// Gives a command the texts of its help, which change nothing of what it parses.
+fn described<'a>(command: Command<'a>) -> Command<'a>
+    ensures { app_of result ≡ app_of command.entry }
+{
+    command
+        .about(ABOUT)
+        .override_usage(USAGE)
+        .after_help(EXAMPLE)
+}
+
+/// Returns the option of this name, which takes no value.
 fn flag_option<'a>(alloc: Global, name: &'a str, help: &'a str) -> Arg<'a>
     ensures { rule_of result ≡ spec.flag_option name.entry.now }
 {
@@ -101,19 +131,20 @@ fn flag_option<'a>(alloc: Global, name: &'a str, help: &'a str) -> Arg<'a>
         .action(ArgAction::SetTrue)
 }
 
+/// Returns the option `--hash`.
 fn hash_option<'a>(alloc: Global) -> Arg<'a>
     ensures { (hashes : _) × TakesNames spec.hash_names hashes
         × (rule_of result ≡ spec.hash_option hashes) }
 {
     Arg::new(alloc, "hash")
         .long("hash")
-        .help("The hash of keys: FNV-1a, or one for all")
+        .help("Hash keys by FNV-1a, or to one hash for all keys (for testing)")
         .action(ArgAction::Set)
         .value_parser(HASHES.as_slice())
         .default_value("fnv")
 }
 
-/// The option of this name, whose value is a number below 2^32, and this one where it is not given.
+/// Returns the option of this name, whose value is a number below 2^32, with the value that it has by default.
 fn number_option<'a>(alloc: Global, name: &'a str, default: &'a str, help: &'a str) -> Arg<'a>
     ensures { rule_of result ≡ spec.number_option name.entry.now default.entry.now }
 {
@@ -125,7 +156,7 @@ fn number_option<'a>(alloc: Global, name: &'a str, default: &'a str, help: &'a s
         .default_value(default)
 }
 
-/// The settings among what was matched, which has a number of objects.
+/// Returns the settings among what was matched, which has a number of objects.
 fn asked_settings(matches: &ArgMatches) -> Settings
     ensures { HasNumber (found_of matches.now) (codes "max-objects")
         → Asks (rows_of (found_of matches.now)) result }
@@ -137,7 +168,7 @@ fn asked_settings(matches: &ArgMatches) -> Settings
     }
 }
 
-/// The number of the option of this name, which has one.
+/// Returns the number of the option of this name, which has one.
 fn asked_number(matches: &ArgMatches, name: &str) -> u32
     ensures { HasNumber (found_of matches.now) name.now
         → Spells (one_text (found_of matches.now) name.now) result }
@@ -145,7 +176,7 @@ fn asked_number(matches: &ArgMatches, name: &str) -> u32
     matches.get_one(name).unwrap_or(0)
 }
 
-/// Whether there is a value, and it is this name.
+/// Returns whether there is a value, and it is this name.
 fn is_named(name: &str, value: Option<&str>) -> bool
     ensures { result ≡ spec.is_named name.now (option_map (λ text. text.now) value.entry) }
 {
@@ -155,8 +186,8 @@ fn is_named(name: &str, value: Option<&str>) -> bool
     }
 }
 
-/// Tells in the parser's words why a command line has no settings, and says the program's status: 0 after the help or
-/// the version that was called for, 2 where the words were refused, and 1 for want of memory.
+/// Prints the parser's text of a command line that has no settings, and returns the program's status: 0 after the help
+/// or the version, 2 if the words were refused, and 1 if memory ran out.
 pub fn refuse<R: Print + Eprint>(rt: &R, error: &Error) -> io::Result<u8>
     ensures { IfOk result (λ status. status ≡ spec.refused_status (kind_of error.now)) }
 {

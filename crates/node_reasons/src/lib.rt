@@ -1,16 +1,16 @@
-//! Why a step is refused: the first rule that it breaks, in the order of the machine, and which argument the rule
-//! speaks of.
+//! The reason why a step is refused: the first rule that it breaks, in the order of the specification, and the argument
+//! that the rule is about.
 //!
-//! *Guarantee.* `why` tells no reason of an answer, and of a refusal the one that specs/Why.antt names; the law in
-//! `laws` ties that to the machine: where there is a reason the step has its rule's refusal, and where there is none it
-//! is answered. It takes no memory and changes nothing.
+//! *Guarantee.* `why` returns no reason if the step has an answer. If the step is refused, `why` returns the reason that
+//! specs/Why.antt names. The law in `laws` ties reasons to the specification: a step with a reason is refused as the
+//! reason's rule says, and a step without a reason is answered. `why` allocates nothing and changes nothing.
 //!
-//! *Weakness.* Which limit an update of counters or elements passed is not told apart.
+//! *Weakness.* One reason covers the three limits that an update of counters or elements can exceed.
 //!
-//! *Mechanism.* A step that is refused changes nothing, so the node is as the step found it. All rules of a call but
-//! the last are tried, in their order; where none of these is broken it is the last.
+//! *Mechanism.* A refused step changes nothing, so `why` finds the node as the step found it. It tries all rules of a
+//! call but the last, in their order. If none of these is broken, the last one is.
 //!
-//! *Limits.* What is told of a reply that the machine does not give to this step here is not said.
+//! *Limits.* Nothing is said about a reply that the specification does not allow for this step.
 #![tactic(auto)]
 
 mod access;

@@ -1,14 +1,14 @@
 ghost use Rattle.std.specs.Prelude.{◌≡◌};
 ghost use Rattle.node_reasons.specs.Reasons.{whole, argument};
 
-/// A rule of docs/calls.md that a refused step breaks.
+/// A rule of docs/calls.md, which a refused step breaks.
 #[derive(Clone, Copy, Debug, PartialEq, Eq)]
 pub enum Rule {
-    /// The process that asks or ends does not live.
+    /// The process was never spawned, or has exited.
     NoProcess,
-    /// A process with this number was enrolled before.
+    /// A process with this number was spawned before.
     IsKnown,
-    /// The argument is nested too deep.
+    /// The argument is nested more than 128 levels deep.
     TooDeep,
     /// No call has this name.
     NoCall,
@@ -24,61 +24,62 @@ pub enum Rule {
     NotOwner,
     /// The table is a bag, and the call is for sets.
     NotASet,
-    /// The argument is no object of the table, or has an element that is none; a Default, once it has the key.
+    /// The argument is not an object of the table, or is a list that has something else in it. An object is a tuple that
+    /// has the key position, and its key is not `'$end_of_table'`. A Default is looked at with the key in its place.
     NotAnObject,
-    /// The key has no object, or in a walk no slot.
+    /// The key has no object; in a traversal, it has no tombstone either.
     NoKey,
-    /// The argument is no position: an integer of at least 1.
+    /// The argument is not a position, which is an integer of at least 1.
     NotAPosition,
-    /// An object has fewer elements.
+    /// The object, or one of the objects, has fewer elements.
     NoElement,
-    /// The argument is no pattern: an atom or a tuple.
+    /// The argument is not a pattern, which is an atom or a tuple.
     NotAPattern,
-    /// The argument is no match specification.
+    /// The argument is not a match specification.
     NotASpecification,
-    /// The argument is no update, or one of the key's element.
+    /// The argument is not an update, or it updates the key.
     NotAnUpdate,
-    /// The object has no integer at a position of the update.
+    /// The object has no integer at a position of the update: another element, or none.
     NotACounter,
-    /// The argument is not an atom that could be a name, or no term that could name a table.
+    /// The argument is not an atom; for `info`, it is not an identifier of a table either.
     NotAName,
     /// A named table has this name.
     NameIsTaken,
-    /// The argument is no list of options of the call.
+    /// The argument is not a list of options of the call.
     NotOptions,
-    /// The argument is no item of `info`.
+    /// The argument is not an item of `info`.
     NotAnItem,
     /// The argument is neither `true` nor `false`.
     NotABoolean,
-    /// The argument is no pid.
+    /// The argument is not a pid.
     NotAPid,
-    /// The process that is to get the table is the caller.
+    /// The process that would get the table is the caller, which owns it.
     IsTheCaller,
-    /// The process that is to get the table does not live.
+    /// The process that would get the table was never spawned, or has exited.
     IsNotLiving,
-    /// As many processes were ever enrolled as there may be.
+    /// As many processes were spawned as the limit allows.
     TooManyProcesses,
-    /// As many tables were ever made as there may be.
+    /// As many tables were made as the limit allows.
     TooManyTables,
-    /// The table would have more objects than it may.
+    /// The table would have more objects than the limit allows.
     TooManyObjects,
-    /// The process fixes the table as often as it can.
+    /// The process has fixed the table as often as the limit allows.
     TooManyFixes,
-    /// The update would pass the range of integers, the depth of an object or the number of objects.
+    /// The update would exceed the range of integers, the depth of an object or the number of objects.
     PastALimit,
 }
 
-/// Why a step is refused.
+/// The reason why a step is refused.
 #[derive(Clone, Copy, Debug, PartialEq, Eq)]
 pub struct Reason {
-    /// The first rule that is broken.
+    /// The first broken rule.
     pub rule: Rule,
-    /// The argument that it speaks of, counted from 1; None where it speaks of the step, or of the call as a whole.
+    /// The argument that the rule is about, counted from 1; `None` if the rule is about the step or the whole call.
     pub argument: Option<usize>,
 }
 
 impl Reason {
-    /// A rule on the step, or on its call as a whole.
+    /// Returns the reason that the step, or its whole call, breaks a rule.
     pub(crate) fn whole(rule: Rule) -> Reason
         ensures { result ≡ whole rule }
     {
@@ -88,7 +89,7 @@ impl Reason {
         }
     }
 
-    /// A rule on an argument.
+    /// Returns the reason that an argument breaks a rule.
     pub(crate) fn argument(number: usize, rule: Rule) -> Reason
         ensures { result ≡ argument number rule }
     {

@@ -1,4 +1,4 @@
-// Reasons in words.
+// The text of each reason.
 ghost use Rattle.std.specs.Prelude.{◌≡◌};
 ghost use Rattle.node_reasons.specs.Words.{words_of};
 
@@ -6,47 +6,48 @@ use crate::reason::{Reason, Rule};
 use std::fmt;
 
 impl Rule {
-    /// The rule that is broken, in a few words.
+    /// Returns the text of the broken rule.
     pub fn words(&self) -> &'static str
         ensures { result.now ≡ words_of self.now }
     {
         match self {
-            Rule::NoProcess => "the process does not live",
-            Rule::IsKnown => "a process with this number was enrolled before",
+            Rule::NoProcess => "no such process (or it has exited)",
+            Rule::IsKnown => "process number already used",
             Rule::TooDeep => "more than 128 levels deep",
-            Rule::NoCall => "no call has this name",
-            Rule::WrongArity => "the call has another number of arguments",
+            Rule::NoCall => "unknown call",
+            Rule::WrongArity => "wrong number of arguments",
             Rule::NoTable => "no such table",
             Rule::NotReadable => "the process may not read this table",
             Rule::NotWritable => "the process may not write to this table",
             Rule::NotOwner => "the process does not own this table",
-            Rule::NotASet => "not a set",
-            Rule::NotAnObject => "not an object of this table",
-            Rule::NoKey => "not a key that is there",
-            Rule::NotAPosition => "not a position of at least 1",
-            Rule::NoElement => "a position past the object",
-            Rule::NotAPattern => "not a pattern",
-            Rule::NotASpecification => "not a match specification",
-            Rule::NotAnUpdate => "not an update, or one of the key",
-            Rule::NotACounter => "the object has no integer there",
-            Rule::NotAName => "not a name",
-            Rule::NameIsTaken => "a table has this name",
-            Rule::NotOptions => "not options of this call",
-            Rule::NotAnItem => "not an item of info",
-            Rule::NotABoolean => "neither true nor false",
+            Rule::NotASet => "the table is not a set",
+            Rule::NotAnObject =>
+                "not a tuple that has the key position, or the key is '$end_of_table'",
+            Rule::NoKey => "no such key",
+            Rule::NotAPosition => "position must be at least 1",
+            Rule::NoElement => "position is past the end of the object",
+            Rule::NotAPattern => "pattern must be a tuple or an atom",
+            Rule::NotASpecification => "malformed match specification",
+            Rule::NotAnUpdate => "malformed update, or it would change the key",
+            Rule::NotACounter => "the element is missing or not an integer",
+            Rule::NotAName => "table name must be an atom",
+            Rule::NameIsTaken => "table name already in use",
+            Rule::NotOptions => "unknown or malformed option",
+            Rule::NotAnItem => "unknown info item",
+            Rule::NotABoolean => "must be true or false",
             Rule::NotAPid => "not a pid",
-            Rule::IsTheCaller => "the process owns the table",
-            Rule::IsNotLiving => "a process that does not live",
-            Rule::TooManyProcesses => "as many processes as there may be were enrolled",
-            Rule::TooManyTables => "as many tables as there may be were made",
-            Rule::TooManyObjects => "the table would have more objects than it may",
-            Rule::TooManyFixes => "the process fixes the table as often as it can",
-            Rule::PastALimit => "a number, a depth or a count would pass its limit",
+            Rule::IsTheCaller => "the process already owns the table",
+            Rule::IsNotLiving => "no such process (or it has exited)",
+            Rule::TooManyProcesses => "process limit reached",
+            Rule::TooManyTables => "table limit reached",
+            Rule::TooManyObjects => "object limit reached",
+            Rule::TooManyFixes => "fix limit reached",
+            Rule::PastALimit => "integer range, depth limit or object limit would be exceeded",
         }
     }
 }
 
-/// `argument 1: no such table`, or the words alone where the rule speaks of the step.
+/// Writes `argument 1: no such table`, or the text alone if the rule is about the whole step.
 impl fmt::Display for Reason {
     ghost use Rattle.std.specs.Prelude.{Some};
     ghost use Rattle.node_reasons.specs.Words.{reason_text};

@@ -1,4 +1,4 @@
--- The statuses, which the code has as constants: the numbers that examples/c/ets.h gives them.
+-- The statuses, which are constants in the code: the numbers that bindings/c/include/yoyoash.h gives them.
 use Rattle.std.specs.Prelude.{◌≡◌, pos}
 use Rattle.node_text.specs.declared.status.TheConstants as is
 

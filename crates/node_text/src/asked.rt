@@ -1,4 +1,4 @@
-//! What a text asks.
+//! The call that a text spells.
 ghost use Rattle.std.specs.Prelude.{◌≡◌, IfOk};
 ghost use Rattle.node_text.specs.Texts as spec;
 
@@ -6,12 +6,12 @@ use ets_term::{Atom, Items, Term};
 use std::alloc::{AllocError, Global};
 use term_text::read_term_bytes;
 
-/// What a text asks.
+/// The call that a text spells.
 #[derive(Drop)]
 pub enum Asked {
     /// A call: its name and its arguments.
     Call(Atom, Items<Term>),
-    /// It is no call; the offset of its first fault.
+    /// The text is not a call; the offset of its first fault.
     Faulty(usize),
 }
 
@@ -29,7 +29,7 @@ pub fn read_call(alloc: Global, text: &[u8]) -> Result<Asked, AllocError>
     }
 }
 
-/// The call that a term is.
+/// Returns the call that a term is.
 fn call_in(term: Term) -> Asked
     ensures { result ≡ spec.call_in term }
 {
@@ -39,7 +39,7 @@ fn call_in(term: Term) -> Asked
     }
 }
 
-/// The call that the elements of a tuple are.
+/// Returns the call that the elements of a tuple are.
 fn call_of(mut terms: Vec<Term>) -> Asked
     ensures { result ≡ spec.call_of terms.items }
 {

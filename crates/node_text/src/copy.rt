@@ -1,8 +1,8 @@
-//! Text into room that may be too small for it.
+//! Copies of texts into buffers that may be too small.
 ghost use Rattle.std.specs.Prelude.{◌≡◌};
 ghost use Rattle.node_text.specs.Answers.{front_of};
 
-/// Puts as much of a text in front as there is room for. What is behind it stays.
+/// Copies as much of a text as fits to the front of a buffer. The bytes after it stay as they were.
 pub fn copy_front(text: &[u8], out: &mut [u8])
     ensures { out.new ≡ front_of text.now out.old }
 {

@@ -1,19 +1,21 @@
-//! A node that is asked by texts: each call is a text and its reply another, and a refusal has a reason in words.
+//! A store that is called by texts: a call is a text, its reply is another, and a refusal has a reason in words.
 //!
-//! *Guarantee.* The call of a text does what the machine does of the call that it spells, or is refused and changes
-//! nothing; its status, the length of its text and the text in the caller's room are those of the reply. Why it was
-//! refused is told where it was, by the words of the rule that `node_reasons` names.
+//! *Guarantee.* A call does the step that its text spells, as the specification says, or it is refused and changes
+//! nothing. The status, the length of the reply's text and the bytes in the caller's buffer are those of the reply. A
+//! refused step has the reason that `node_reasons` names. A text that is not a call has the one that `script_reasons`
+//! finds at its first fault. A store may move to another thread.
 //!
-//! *Weakness.* What is told of a text that is no call is only tested.
+//! *Weakness.* What is found at the fault of a text is a guess at what the author meant.
 //!
-//! *Mechanism.* A store keeps the last reply, and a reason of a few words of memory, which is put into words when it is
-//! asked for.
+//! *Mechanism.* A store keeps the last reply, and the reason of the last refusal in a few machine words. It makes the
+//! reason's text when it is asked for.
 //!
-//! *Limits.* A text is read 128 levels deep with the tuple of the call, so an argument may have 127.
+//! *Limits.* The tuple of a call counts as one of the 128 levels that a text may have, so an argument may have 127.
 #![tactic(auto)]
 
 mod asked;
 mod copy;
+pub mod laws;
 mod printed;
 mod refusal;
 mod status;

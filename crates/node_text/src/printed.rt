@@ -1,4 +1,4 @@
-//! Steps, calls and replies as texts, to be looked at.
+//! Steps, calls and replies as texts, for people to read.
 ghost use Rattle.std.specs.Prelude.{◌≡◌, ◌++◌, map, false, IfOk, OnOk, string_bytes};
 ghost use Rattle.term_text.specs.Printed.{printed, atom_text, row_text, comma_if};
 ghost use Rattle.node_text.specs.Printed.{call_text, step_text, reply_text};
@@ -8,7 +8,7 @@ use node_core::{Call, Reply, Step};
 use std::alloc::{AllocError, Global};
 use term_text::print_term;
 
-/// A step as a script has it, but for the process, which stands there by its pid: `<0.3.0> insert(t,{a,1})`.
+/// Returns a step as a script has it, with the pid in place of the process's name: `<0.3.0> insert(t,{a,1})`.
 pub fn step_text(alloc: Global, step: &Step) -> Result<String, AllocError>
     ensures { IfOk result (λ text. string_bytes text ≡ step_text step.now) }
 {
@@ -37,7 +37,7 @@ pub fn step_text(alloc: Global, step: &Step) -> Result<String, AllocError>
     }
 }
 
-/// A call as a script has it: `insert(t,{a,1})`.
+/// Returns a call as a script has it: `insert(t,{a,1})`.
 pub fn call_text(alloc: Global, call: &Call) -> Result<String, AllocError>
     ensures { IfOk result (λ text. string_bytes text ≡ call_text call.now) }
 {
@@ -46,7 +46,7 @@ pub fn call_text(alloc: Global, call: &Call) -> Result<String, AllocError>
     format!(in alloc; "{name}({arguments})")
 }
 
-/// A reply as a script prints it: its term, or `** badarg`.
+/// Returns a reply as a script prints it: its term, or `** badarg`.
 pub fn reply_text(alloc: Global, reply: &Reply) -> Result<String, AllocError>
     ensures { IfOk result (λ text. string_bytes text ≡ reply_text reply.now) }
 {
@@ -58,7 +58,7 @@ pub fn reply_text(alloc: Global, reply: &Reply) -> Result<String, AllocError>
     }
 }
 
-/// A term's text.
+/// Returns a term's text.
 pub fn term_text(alloc: Global, term: &Term) -> Result<String, AllocError>
     ensures { IfOk result (λ text. string_bytes text ≡ printed term.now) }
 {
@@ -74,7 +74,7 @@ fn atom_text(alloc: Global, atom: &Atom) -> Result<String, AllocError>
     term_text(alloc, &term)
 }
 
-/// Terms with commas between them.
+/// Returns the texts of terms with commas between them.
 fn row_text(alloc: Global, terms: &[Term]) -> Result<String, AllocError>
     ensures { IfOk result (λ text. string_bytes text ≡ row_text false (map printed terms.now)) }
 {
@@ -88,7 +88,7 @@ fn row_text(alloc: Global, terms: &[Term]) -> Result<String, AllocError>
     Ok(text)
 }
 
-/// A comma, where something stands before.
+/// Appends a comma if a term comes before.
 fn append_comma(later: bool, text: &mut String) -> Result<(), AllocError>
     ensures { OnOk result (string_bytes text.new ≡ string_bytes text.old ++ comma_if later) }
 {

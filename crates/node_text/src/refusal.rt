@@ -18,16 +18,16 @@ use std::fmt;
 /// Why a call was refused.
 #[derive(Clone, Copy, Debug, PartialEq, Eq)]
 pub enum Refusal {
-    /// Its step breaks this rule.
+    /// The step breaks this rule.
     Broken(Reason),
-    /// Its text is no call, and this stands where that has its first fault.
+    /// The text is not a call, and this is wrong where it has its first fault.
     Odd(Oddity),
-    /// There was no memory.
+    /// Memory ran out.
     NoMemory,
 }
 
 impl Refusal {
-    /// Why a step has this reply, which a node gave that stands so since. It takes no memory.
+    /// Returns why a step has this reply, which the node gave and after which it did not change. Allocates nothing.
     pub(crate) fn of(node: &Node<Fnv>, event: &Step, reply: &Reply) -> Option<Refusal>
         ensures exactly { is_some result ≡ not (is_value reply.now) }
         ensures named { (new : State) → step (seen node.now) event.now reply.now new
@@ -39,7 +39,7 @@ impl Refusal {
         }
     }
 
-    /// It in words.
+    /// Returns its text.
     pub(crate) fn text(&self, alloc: Global) -> Result<String, AllocError>
         ensures { IfOk result (λ text. string_bytes text ≡ refusal_text self.now) }
     {
@@ -47,7 +47,7 @@ impl Refusal {
     }
 }
 
-/// `argument 1: no such table`, `a full stop` or `no memory`.
+/// Writes `argument 1: no such table`, `unexpected '.'` or `out of memory`.
 impl fmt::Display for Refusal {
     ghost use Rattle.std.specs.Prelude.{Some};
 
@@ -57,7 +57,7 @@ impl fmt::Display for Refusal {
         match self {
             Refusal::Broken(reason) => write!(f, "{reason}"),
             Refusal::Odd(oddity) => write!(f, "{oddity}"),
-            Refusal::NoMemory => write!(f, "no memory"),
+            Refusal::NoMemory => write!(f, "out of memory"),
         }
     }
 }

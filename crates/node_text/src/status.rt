@@ -1,4 +1,4 @@
-//! What a call of the interface answers: a number, as examples/c/ets.h names them.
+//! The statuses that a call of the interface returns: the numbers that bindings/c/include/yoyoash.h names.
 ghost use Rattle.std.specs.Prelude.{◌≡◌};
 ghost use Rattle.node_text.specs.Answers.{status_of};
 
@@ -8,20 +8,20 @@ use node_core::Reply;
 pub const VALUE: i32 = 0;
 /// The arguments are wrong, the table does not exist, or the process has no access to it.
 pub const BADARG: i32 = 1;
-/// A limit would be passed.
+/// A limit would be exceeded.
 pub const SYSTEM_LIMIT: i32 = 2;
-/// The process that asks or ends does not live.
+/// The process was never spawned, or has exited.
 pub const NO_PROCESS: i32 = 3;
-/// There was no memory, and nothing has changed.
+/// Memory ran out, and nothing has changed.
 pub const NO_MEMORY: i32 = 4;
-/// The text is no call, and nothing has changed.
+/// The text is not a call, and nothing has changed.
 pub const SYNTAX: i32 = 5;
 /// The handle has no store.
 pub const CLOSED: i32 = 6;
-/// The step was done and its reply is a term, but there was no memory for the reply's text.
+/// The step was done and its reply is a term, but memory ran out for the reply's text.
 pub const UNTOLD: i32 = 7;
 
-/// The status of a reply whose text is told.
+/// Returns the status of a reply.
 pub fn status_of(reply: &Reply) -> i32
     ensures { result ≡ status_of reply.now }
 {

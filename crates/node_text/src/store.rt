@@ -1,4 +1,4 @@
-//! A node that is asked by texts, the reply that it gave last, and why it refused what it was asked last.
+//! A node that is called by texts, its last reply, and why it refused the last call.
 ghost use Rattle.std.specs.Prelude.{◌≡◌, OnOk, OnErr};
 ghost use Rattle.node_core.specs.Seen.{seen};
 ghost use Rattle.node_text.specs.Answers.{Tells, TellsWhy, told};
@@ -20,8 +20,8 @@ use std::alloc::{AllocError, Global};
 use std::marker::Model;
 use term_text::print_term;
 
-/// A node, the reply to the last step that was done, and why the last call was refused, if it was. Contracts see what
-/// calls can see of the node.
+/// A node, the reply to the last step that was done, and why the last call was refused, if it was. Contracts see of the
+/// node what calls can see of it. A store may move to another thread, as `laws` proves.
 #[derive(Drop)]
 pub struct Store {
     node: Node<Fnv>,
@@ -41,12 +41,12 @@ impl Model for Store {
     ghost view = { λ s. record { node = seen s.node; reply = s.reply; refusal = s.refusal } };
 }
 
-/// Why a text was not done.
+/// The reason why a text was not done.
 #[derive(Drop)]
 pub enum AskFault {
-    /// It is no call; the offset of its first fault.
+    /// The text is not a call; the offset of its first fault.
     Syntax(usize),
-    /// There was no memory.
+    /// Memory ran out.
     Memory,
 }
 
@@ -62,7 +62,7 @@ impl From<AllocError> for AskFault {
 }
 
 impl Store {
-    /// A node without processes and tables. Before the first step the last reply is that no process asked.
+    /// Returns a store without processes and tables, whose last reply is `NoProcess`.
     pub fn new(alloc: Global, limits: Limits) -> Store
         ensures { result ≡ fresh limits }
     {
@@ -73,7 +73,7 @@ impl Store {
         }
     }
 
-    /// Does one step, and says the status of its reply. Want of memory changes nothing.
+    /// Does one step, and returns the status of its reply. Changes nothing if memory runs out.
     pub fn act(&mut self, event: &Step) -> i32
         ensures done { StepsOf event.now result self.old self.new }
         ensures statuses { AreTheStatuses }
@@ -84,8 +84,8 @@ impl Store {
         }
     }
 
-    /// Does the call of a text, and puts what fits of its reply's text into `out`, and that text's whole length into
-    /// `len`; after `SYNTAX` that is the offset of the fault. Answers the status.
+    /// Does the call of a text, and returns its status. Writes as much of the reply's text as fits to `out`, and the
+    /// whole length of that text to `len`; after `SYNTAX` that is the offset of the fault.
     pub fn call(
         &mut self,
         alloc: Global,
@@ -107,7 +107,7 @@ impl Store {
         }
     }
 
-    /// Puts what fits of the last reply's text into `out`, and its whole length into `len`; answers the reply's status.
+    /// Returns the status of the last reply. Writes as much of its text as fits to `out`, and its whole length to `len`.
     pub fn tell(&self, alloc: Global, out: &mut [u8], len: &mut usize) -> i32
         ensures { Tells self.now.reply (told result len.new out.old out.new) }
     {
@@ -124,8 +124,8 @@ impl Store {
         VALUE
     }
 
-    /// Puts what fits of why the last call was refused into `out`, in words, and their whole length into `len`; nothing
-    /// where it was not refused.
+    /// Writes as much as fits of the reason why the last call was refused to `out`, and its whole length to `len`. The
+    /// length is 0 if the call was not refused.
     pub fn tell_why(&self, alloc: Global, out: &mut [u8], len: &mut usize) -> i32
         ensures { TellsWhy self.now.refusal (told result len.new out.old out.new) }
     {
@@ -141,7 +141,7 @@ impl Store {
         VALUE
     }
 
-    /// Does one step, and keeps its reply and why that is one. Want of memory changes nothing, and is kept.
+    /// Does one step, and keeps its reply and the reason of a refusal. If memory runs out, keeps only that.
     fn step(&mut self, event: &Step) -> Result<(), AllocError>
         ensures ok { OnOk result (Does self.old event.now self.new) }
         ensures err { OnErr result (self.new ≡ refused refusal.NoMemory self.old) }
@@ -155,7 +155,7 @@ impl Store {
         Ok(())
     }
 
-    /// Does the call of a text, and at most two steps that are due. A fault changes nothing, and is kept.
+    /// Does the call of a text, and at most two pending growth steps. After a fault, keeps only that.
     fn ask(&mut self, alloc: Global, pid: u32, text: &[u8]) -> Result<(), AskFault>
         ensures { Asks text.now (texts.asked text.now) pid self.old result self.new }
     {
@@ -176,7 +176,7 @@ impl Store {
         }
     }
 
-    /// Does at most two steps that are due, which no call can see. Without memory for one it stays due.
+    /// Does at most two pending growth steps, which no call can see. A step for which memory runs out stays pending.
     fn tend(&mut self)
         ensures { self.new ≡ self.old }
     {
@@ -185,7 +185,7 @@ impl Store {
     }
 }
 
-/// Does the step that is due, if any. Nothing is ever due but that a table grows, or readies a bucket.
+/// Does the pending growth step, if there is one: a table grows, or readies a bucket.
 fn do_due(node: &mut Node<Fnv>)
     ensures { seen node.new ≡ seen node.old }
 {

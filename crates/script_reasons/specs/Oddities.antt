@@ -8,8 +8,10 @@ use Rattle.term_text.specs.Text.{is_digit, is_small, is_name, begins}
 use Rattle.script_reasons.specs.declared.oddity.Oddity.{Oddity}
 use Rattle.script_reasons.specs.declared.oddity.Oddity.TheVariants as oddity
 use Rattle.script_reasons.specs.declared.place.Place.{Place}
+use Rattle.script_reasons.specs.declared.place.Quoting.{Quoting}
+use Rattle.script_reasons.specs.declared.place.Quoting.TheVariants.{Escaped}
 use Rattle.script_reasons.specs.Classes.{is_clean, begins_atom, begins_number, goes_deeper, begins_variable, may_begin, last, wants_term}
-use Rattle.script_reasons.specs.Places.{is_quoted, is_escaped, place_of}
+use Rattle.script_reasons.specs.Places.{is_quoted, place_of}
 
 -- digits enough for a number that could be past its range wherever it stands
 abbrev pub long_number : ℕ
@@ -21,11 +23,13 @@ ended place = if is_quoted place.quoting || nat_lt 0 place.levels then oddity.En
     else if place.is_open then oddity.EndsInCall
     else oddity.Ends
 
--- in quotes: behind a backslash; or a character of a string, which stands one level further in
+-- inside quotes: after a backslash; or a character of a string, which is one level deeper
+abbrev pub quoted_at : Quoting → ℕ → ℕ → Oddity
+quoted_at (Escaped quote) levels b = oddity.Escape quote
+quoted_at _ levels b = if nat_le (max_depth - 1) levels then oddity.TooDeep else oddity.Other b
+
 abbrev pub quoted : Place → ℕ → Oddity
-quoted place b = if is_escaped place.quoting then oddity.Escape
-    else if nat_le (max_depth - 1) place.levels then oddity.TooDeep
-    else oddity.Other b
+quoted place b = quoted_at place.quoting place.levels b
 
 -- behind the parenthesis that ends a call
 abbrev pub behind_call : ℕ → Oddity

@@ -12,10 +12,6 @@ is_quoted Outside = false
 is_quoted (Inside quote) = true
 is_quoted (Escaped quote) = true
 
-abbrev pub is_escaped : Quoting → Bool
-is_escaped (Escaped quote) = true
-is_escaped _ = false
-
 -- behind one byte more: what one of `'` and `"` opens the same closes, unless a backslash stands before it
 abbrev pub past : Quoting → ℕ → Quoting
 past Outside b = if among (codes "'\"") b then Inside b else Outside

@@ -1,4 +1,4 @@
--- What is said of a refused line, in words.
+-- The text that says why a line was refused.
 use Rattle.std.specs.Prelude.{ℕ, List, ◌++◌, length, if◌then◌else◌, codes, decimal}
 use Rattle.std.specs.Str.{is_utf8}
 use Rattle.node_core.specs.declared.step.Call.{Call}
@@ -21,17 +21,17 @@ step_subject (Ask p call) = call_subject call
 step_subject (Grow t) = codes "grow"
 step_subject (Ready t bucket) = codes "ready"
 
--- a name as it stands on a line
+-- a name as the line has it
 abbrev pub shown : List ℕ → List ℕ
 shown name = if is_utf8 name then name else codes "the name"
 
--- `lookup/2: argument 1: no such table`, or `byte 17: a full stop`
+-- `lookup/2: argument 1: no such table`, or `byte 17: unexpected '.'`
 abbrev pub remark_text : Remark → List ℕ
 remark_text (remark.Broken step reason) = step_subject step ++ (codes ": " ++ reason_text reason)
-remark_text (remark.SpawnedBefore name) = codes "spawn: " ++ (shown name.now ++ codes " was spawned before")
+remark_text (remark.SpawnedBefore name) = codes "spawn: " ++ (shown name.now ++ codes " was already spawned")
 remark_text (remark.AskedOfNone name call) =
     call_subject call ++ (codes ": " ++ (shown name.now ++ codes " was never spawned"))
 remark_text (remark.EndedNone name) = codes "exit: " ++ (shown name.now ++ codes " was never spawned")
 remark_text (remark.Faulty at oddity) = codes "byte " ++ (decimal at ++ (codes ": " ++ oddity_text oddity))
-remark_text remark.TooLong = codes "more than 65536 bytes"
-remark_text remark.NoMemory = codes "no memory"
+remark_text remark.TooLong = codes "line longer than 65536 bytes"
+remark_text remark.NoMemory = codes "out of memory"

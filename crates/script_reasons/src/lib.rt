@@ -1,14 +1,14 @@
-//! Why a line of a script, or the text of a call, was refused, in words: the rule that its step breaks, or what stands
-//! where it has its fault.
+//! Texts that say why a line of a script, or the text of a call, was refused: the rule that its step breaks, or what is
+//! wrong where the text has its fault.
 //!
-//! *Guarantee.* What `oddity_at` and `oddity_in_call` find at an offset is what specs/Oddities.antt says of the text
-//! before it and from it on. It and a `Remark` are printed in the words of specs/Words.antt and specs/Remarks.antt.
+//! *Guarantee.* `oddity_at` and `oddity_in_call` return what specs/Oddities.antt says about an offset, by the text before
+//! it and the text from it on. An `Oddity` and a `Remark` print as specs/Words.antt and specs/Remarks.antt say.
 //!
-//! *Weakness.* What is found at a fault is a guess of what was meant.
+//! *Weakness.* What is found at a fault is a guess at what the author meant.
 //!
-//! *Mechanism.* A line is looked at again up to its fault, by its quotes and brackets alone.
+//! *Mechanism.* A line is read again up to its fault, by its quotes and brackets alone.
 //!
-//! *Limits.* It takes no memory.
+//! *Limits.* Nothing here allocates.
 #![tactic(auto)]
 
 mod classes;

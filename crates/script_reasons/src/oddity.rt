@@ -6,7 +6,7 @@ use crate::classes::{
     begins_atom, begins_number, begins_variable, digits_len, goes_deeper, is_clean, last,
     may_begin, name_len, starts_digit, wants_term,
 };
-use crate::place::Place;
+use crate::place::{Place, Quoting};
 use ets_term::{MAX_CHARACTERS, MAX_DEPTH};
 use term_text::{is_digit_byte, is_small_byte};
 
@@ -41,8 +41,8 @@ pub enum Oddity {
     /// A colon, as between a module and its function.
     Colon,
     PlusSign,
-    /// A backslash before what is neither the quote nor a backslash.
-    Escape,
+    /// A backslash before a byte that is neither this quote nor a backslash.
+    Escape(u8),
     PastRange,
     LongName,
     TooDeep,
@@ -106,12 +106,10 @@ fn standing(before: &[u8], byte: u8, behind: &[u8]) -> Oddity
 fn quoted(place: &Place, byte: u8) -> Oddity
     ensures { result ≡ spec.quoted place.now byte }
 {
-    if place.quoting.is_escaped() {
-        Oddity::Escape
-    } else if place.levels >= MAX_DEPTH - 1 {
-        Oddity::TooDeep
-    } else {
-        Oddity::Other(byte)
+    match place.quoting {
+        Quoting::Escaped(quote) => Oddity::Escape(quote),
+        _ if place.levels >= MAX_DEPTH - 1 => Oddity::TooDeep,
+        _ => Oddity::Other(byte),
     }
 }
 

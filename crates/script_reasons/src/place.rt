@@ -23,15 +23,6 @@ impl Quoting {
         }
     }
 
-    pub fn is_escaped(self) -> bool
-        ensures { result ≡ spec.is_escaped self }
-    {
-        match self {
-            Quoting::Escaped(_) => true,
-            Quoting::Outside | Quoting::Inside(_) => false,
-        }
-    }
-
     /// Behind one byte more.
     fn past(self, byte: u8) -> Quoting
         ensures { result ≡ spec.past self byte }

@@ -1,4 +1,4 @@
-// What is said of a refused line.
+// The text that says why a line was refused.
 ghost use Rattle.std.specs.Prelude.{◌≡◌};
 ghost use Rattle.script_reasons.specs.Remarks.{shown};
 
@@ -7,24 +7,24 @@ use node_core::{Call, Step};
 use node_reasons::Reason;
 use std::fmt;
 
-/// What is said of a refused line.
+/// The reason why a line was refused.
 #[derive(Drop)]
 pub enum Remark<'a> {
-    /// The step that it asks, and the rule that this breaks.
+    /// The step of the line, and the rule that it breaks.
     Broken(Step, Reason),
-    /// It spawns a name that was spawned before.
+    /// The line spawns a name that was already spawned.
     SpawnedBefore(&'a [u8]),
-    /// It asks a call for a name that was never spawned.
+    /// The line makes a call as a name that was never spawned.
     AskedOfNone(&'a [u8], Call),
-    /// It ends a name that was never spawned.
+    /// The line ends a name that was never spawned.
     EndedNone(&'a [u8]),
-    /// It could not be read: the offset of its fault, and what stands there.
+    /// The line could not be read: the offset of its fault, and what is wrong there.
     Faulty(usize, Oddity),
     TooLong,
     NoMemory,
 }
 
-/// `lookup/2: argument 1: no such table`, or `byte 17: a full stop`.
+/// Writes `lookup/2: argument 1: no such table`, or `byte 17: unexpected '.'`.
 impl fmt::Display for Remark<'_> {
     ghost use Rattle.std.specs.Prelude.{Some};
     ghost use Rattle.script_reasons.specs.Remarks.{remark_text};
@@ -34,7 +34,7 @@ impl fmt::Display for Remark<'_> {
     fn fmt<W: fmt::Write>(&self, f: &mut fmt::Formatter<W>) -> fmt::Result {
         match self {
             Remark::Broken(step, reason) => write!(f, "{}: {reason}", StepSubject { step }),
-            Remark::SpawnedBefore(name) => write!(f, "spawn: {} was spawned before", shown(*name)),
+            Remark::SpawnedBefore(name) => write!(f, "spawn: {} was already spawned", shown(*name)),
             Remark::AskedOfNone(name, call) => {
                 write!(
                     f,
@@ -45,13 +45,13 @@ impl fmt::Display for Remark<'_> {
             }
             Remark::EndedNone(name) => write!(f, "exit: {} was never spawned", shown(*name)),
             Remark::Faulty(at, oddity) => write!(f, "byte {at}: {oddity}"),
-            Remark::TooLong => write!(f, "more than 65536 bytes"),
-            Remark::NoMemory => write!(f, "no memory"),
+            Remark::TooLong => write!(f, "line longer than 65536 bytes"),
+            Remark::NoMemory => write!(f, "out of memory"),
         }
     }
 }
 
-/// What a step is on a line: the command's word, or a call.
+/// The name of a step: the command's word, or the call.
 #[derive(Clone, Copy)]
 struct StepSubject<'a> {
     step: &'a Step,
@@ -74,7 +74,7 @@ impl fmt::Display for StepSubject<'_> {
     }
 }
 
-/// `lookup/2`.
+/// The name of a call, and how many arguments it has: `lookup/2`.
 #[derive(Clone, Copy)]
 struct CallSubject<'a> {
     call: &'a Call,
@@ -91,7 +91,7 @@ impl fmt::Display for CallSubject<'_> {
     }
 }
 
-/// A name of a process as it stands on a line.
+/// Returns a process's name as the line has it.
 fn shown(name: &[u8]) -> &str
     ensures { result.now ≡ shown name.now }
 {

@@ -1,4 +1,4 @@
-// What stands at a fault, in words.
+// The text of what is wrong at a fault.
 ghost use Rattle.std.specs.Prelude.{◌≡◌};
 ghost use Rattle.script_reasons.specs.Words.{words_of};
 
@@ -6,38 +6,39 @@ use crate::oddity::Oddity;
 use std::fmt;
 
 impl Oddity {
-    /// What stands there, in a few words; without the byte, where it is one.
+    /// Returns the text of what is wrong, without the byte that some texts name.
     pub fn words(&self) -> &'static str
         ensures { result.now ≡ words_of self.now }
     {
         match self {
-            Oddity::Ends => "the line ends too early",
-            Oddity::EndsInCall => "the line ends before the call does",
-            Oddity::EndsInTerm => "the line ends before the term does",
-            Oddity::NotPrintable(_) => "a byte that is not printable ASCII",
-            Oddity::FullStop => "a full stop",
-            Oddity::Comment => "a comment, which needs a line of its own",
-            Oddity::Behind => "more behind the end of the call",
-            Oddity::Variable => "a variable",
-            Oddity::Float => "a float",
-            Oddity::Map => "a map",
-            Oddity::Identifier => "no identifier of a table, as #Tid<7>",
-            Oddity::Character => "a character",
-            Oddity::Base => "a number with a base",
-            Oddity::ImproperList => "an improper list",
-            Oddity::Colon => "a colon; calls stand without a module",
-            Oddity::PlusSign => "a plus sign",
-            Oddity::Escape => "an escape of neither the quote nor a backslash",
-            Oddity::PastRange => "a number past its range",
-            Oddity::LongName => "an atom of over 255 characters",
-            Oddity::TooDeep => "over 128 levels deep",
-            Oddity::NoCall => "no tuple that begins with the name of a call",
-            Oddity::Other(_) => "not expected here",
+            Oddity::Ends => "unexpected end of line",
+            Oddity::EndsInCall => "unexpected end of line inside a call",
+            Oddity::EndsInTerm => "unexpected end of line inside a term",
+            Oddity::NotPrintable(_) => "not a printable ASCII character",
+            Oddity::FullStop => "unexpected '.'",
+            Oddity::Comment => "comments must be on their own line",
+            Oddity::Behind => "unexpected text after the call",
+            Oddity::Variable => "variables are not supported",
+            Oddity::Float => "floats are not supported",
+            Oddity::Map => "maps are not supported",
+            Oddity::Identifier => "references other than #Tid<N> are not supported",
+            Oddity::Character => "character literals are not supported",
+            Oddity::Base => "integers with a base are not supported",
+            Oddity::ImproperList => "improper lists are not supported",
+            Oddity::Colon => "unexpected ':' (calls have no module)",
+            Oddity::PlusSign => "unexpected '+'",
+            Oddity::Escape(_) => "can be escaped",
+            Oddity::PastRange => "integer out of range",
+            Oddity::LongName => "atom longer than 255 characters",
+            Oddity::TooDeep => "more than 128 levels deep",
+            Oddity::NoCall => "expected a tuple that begins with the call's name",
+            Oddity::Other(_) => "unexpected",
         }
     }
 }
 
-/// `a full stop`, or with the byte `a byte that is not printable ASCII (195)` and `; is not expected here`.
+/// Writes `unexpected '.'`; with the byte, `not a printable ASCII character (195)`, `only \' and \\ can be escaped` and
+/// `unexpected ';'`.
 impl fmt::Display for Oddity {
     ghost use Rattle.std.specs.Prelude.{Some};
     ghost use Rattle.script_reasons.specs.Words.{oddity_text};
@@ -47,7 +48,10 @@ impl fmt::Display for Oddity {
     fn fmt<W: fmt::Write>(&self, f: &mut fmt::Formatter<W>) -> fmt::Result {
         match self {
             Oddity::NotPrintable(byte) => write!(f, "{} ({byte})", self.words()),
-            Oddity::Other(byte) => write!(f, "'{}' is {}", *byte as char, self.words()),
+            Oddity::Escape(quote) => {
+                write!(f, "only \\{} and \\\\ {}", *quote as char, self.words())
+            }
+            Oddity::Other(byte) => write!(f, "{} '{}'", self.words(), *byte as char),
             _ => write!(f, "{}", self.words()),
         }
     }

@@ -1,5 +1,5 @@
-// What no script of examples/rules can say. Values from outside: a test is a table of rows, a step and the reply that
-// the rules want of it. A row that is answered otherwise is named by its place.
+// Tests what no script of tests/scripts can say. A test is a table of rows: a step, and the reply that the rules of
+// docs/calls.md want, written by hand. A failed row is named by its place.
 use crate::tests::kept;
 use crate::tests::text::{is_told, term, terms};
 use ets_term::{AllSame, Atom, Fnv, Items, KeyHash, Term};

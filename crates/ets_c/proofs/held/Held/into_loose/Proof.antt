@@ -4,7 +4,7 @@ use mathlib.Core.Bool.{true≢false}
 use mathlib.Core.List.{List, [], ◌∷◌, ◌++◌}
 use seplogic.Ra.Ura.{Ura}
 use mir.Val.{Val, vptr}
-use base.Logic.{SProp, ent, emp, id⊢}
+use base.Logic.{SProp, ent, id⊢}
 use base.Fml.{ftrue, fsep}
 use prog.Memory.{Memory}
 use prog.Routine.{Routine}
@@ -19,8 +19,8 @@ use types.Run.{stop, fld, no_more, and_then, of_opd, returns, enter}
 use types.ByLocal.{alloc_all, pass_all, free_all, look_at, get, get_in, sets}
 use denote.RattleType.{RattleType}
 use denote.Exit.{yes}
-use denote.RawPtr.{Ptr, block_ptr}
-use denote.Signature.{type_at, Slot, plain}
+use denote.RawPtr.{block_ptr}
+use denote.Signature.{Slot, plain}
 use denote.Steps.{nothing, heard}
 use denote.Triple.Spec.{triple_of}
 use denote.Triple.Table.{entered}

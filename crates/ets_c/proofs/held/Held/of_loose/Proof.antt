@@ -19,7 +19,7 @@ use types.ByLocal.{alloc_all, pass_all, free_all, look_at, get, get_in, sets}
 use denote.RattleType.{RattleType}
 use denote.Exit.{yes}
 use denote.RawPtr.{block_ptr}
-use denote.Signature.{type_at, Slot, plain}
+use denote.Signature.{Slot, plain}
 use denote.Steps.{nothing}
 use denote.Triple.Spec.{triple_of}
 use denote.Triple.Table.{entered}
