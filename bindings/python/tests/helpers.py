@@ -6,10 +6,11 @@ import random
 import re
 import sys
 
-from yoyoash import Atom, Pid, Tid, Unavailable, finding, spell
+from yoyoash import Atom, Pid, Tid, Unavailable, aio, finding, pipe, reasons, spell
 
-# A busy machine makes steps slow, which asyncio would report.
+# A busy machine makes steps slow: asyncio would report them, and a reason may arrive late.
 logging.getLogger("asyncio").setLevel(logging.ERROR)
+reasons.PATIENCE = pipe.PATIENCE = aio.PATIENCE = 30.0
 
 HERE = pathlib.Path(__file__).resolve().parent
 PACKAGE = HERE.parent

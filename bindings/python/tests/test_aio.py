@@ -4,6 +4,7 @@ import asyncio
 import sys
 import time
 import unittest
+from unittest import mock
 
 from helpers import ECHO, giving_reasons, printing
 from yoyoash import Atom, BadArg, Gone, Pid
@@ -79,11 +80,15 @@ class Programs(unittest.IsolatedAsyncioTestCase):
             self.assertEqual([it.reason for it in answers[::2]], [f"argument {number}: no" for number in range(1, 101, 2)])
 
     async def test_a_missing_reason_is_waited_for_once(self):
+        with mock.patch("yoyoash.aio.PATIENCE", 1.0):
+            await self.check_missing_reasons()
+
+    async def check_missing_reasons(self):
         async with Store(giving_reasons("for line in sys.stdin: answer('** badarg')")) as store:
             began = time.monotonic()
             answers = await store.ask_all(["p member(t,1)"] * 50)
             self.assertEqual({(type(it), it.reason) for it in answers}, {(BadArg, None)})
-            self.assertLess(time.monotonic() - began, 5)
+            self.assertLess(time.monotonic() - began, 20)
 
     async def test_each_call_that_waits_is_gone_if_the_program_ends(self):
         async with Store(printing("1", "2")) as store:

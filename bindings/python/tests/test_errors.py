@@ -45,8 +45,11 @@ class Errors(unittest.TestCase):
         with mock.patch.multiple(finding, COPIES=nowhere, REPOSITORY=self.folder), mock.patch.dict(os.environ):
             os.environ.pop("YOYOASH_PROGRAM", None)
             os.environ.pop("YOYOASH_LIBRARY", None)
-            self.raised(Store, ["export YOYOASH_PROGRAM="])
-            self.raised(Store.in_process, ["export YOYOASH_LIBRARY="])
+            self.raised(Store, [f"there is no {nowhere}/ets_script", "export YOYOASH_PROGRAM=", "pip install"])
+            self.raised(Store.in_process, [f"there is no {nowhere}/libyoyoash.so", "export YOYOASH_LIBRARY=", "pip install"])
+            (self.folder / "bindings/python").mkdir(parents=True)
+            self.raised(Store, [f"git -C {self.folder} checkout -- ets_script", "export YOYOASH_PROGRAM="])
+            self.raised(Store.in_process, ["checkout -- dist/x86_64-linux/libyoyoash.so", "export YOYOASH_LIBRARY="])
 
     def test_a_program_that_is_not_executable(self):
         path = self.file("ets_script", b"#!/bin/sh\n")

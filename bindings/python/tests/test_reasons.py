@@ -6,6 +6,7 @@ import sys
 import threading
 import time
 import unittest
+from unittest import mock
 
 import yoyoash
 from helpers import giving_reasons
@@ -13,6 +14,11 @@ from yoyoash import Atom, BadArg, Pid, Process, Store
 
 
 class Reasons(unittest.TestCase):
+    def enter_patience(self, seconds):
+        patience = mock.patch("yoyoash.reasons.PATIENCE", seconds)
+        patience.start()
+        self.addCleanup(patience.stop)
+
     def refused(self, store):
         with self.assertRaises(BadArg) as refused:
             store.ask("p member(t,1)")
@@ -33,11 +39,12 @@ class Reasons(unittest.TestCase):
             self.assertEqual(self.refused(store).reason, "no memory")
 
     def test_a_missing_one_blocks_no_answer(self):
+        self.enter_patience(1.0)
         with Store(giving_reasons("for line in sys.stdin: answer('** badarg')")) as store:
             faults = [self.refused(store) for _ in range(50)]
             began = time.monotonic()
             self.assertEqual({fault.reason for fault in faults}, {None})
-            self.assertLess(time.monotonic() - began, 5)
+            self.assertLess(time.monotonic() - began, 20)
 
     def test_the_reason_of_a_later_line_ends_the_wait(self):
         program = "for n, line in enumerate(sys.stdin, 1):\n answer('** badarg')\n if n == 2: say(2, 'byte 3: a float')"

@@ -76,5 +76,8 @@ def _found(given: Path | None, variable: str, in_repository: pathlib.Path) -> st
     for place in copy, in_repository:
         if place.is_file():
             return str(place)
+    if (REPOSITORY / "bindings/python").is_dir():
+        restore = f"git -C {REPOSITORY} checkout -- {in_repository.relative_to(REPOSITORY)}"
+        raise Unavailable(f"there is no {in_repository}: {restore}, or export {variable}=/path/to/{NAMES[variable]}")
     raise unavailable(str(copy), variable, FileNotFoundError())
 
