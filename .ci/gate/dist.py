@@ -51,12 +51,14 @@ def run_tool(kit, name, *words):
 
 
 def build_libraries(prover, tree, to):
-    """Makes the archive and the shared object, each of the library for C and the kit's C functions, with the exported names alone."""
+    """Makes the archive and the shared object, each of the library for C, the kit's C functions and what they need of libgcc, with the exported names alone."""
     crate, kit = crates_of(tree)["ets_c"], prover.kit
     build(prover, crate)
     with tempfile.TemporaryDirectory(prefix="dist-") as room:
         whole = f"{room}/yoyoash.o"
-        run_tool(kit, "ld.lld", "-r", "-o", whole, "--whole-archive", archive_of(crate), f"{kit}/c/liblibc_c.a")
+        # (libgcc has the division of integers of 128 bits)
+        own, runtime = [archive_of(crate), f"{kit}/c/liblibc_c.a"], f"{kit}/toolchain/lib/libgcc.a"
+        run_tool(kit, "ld.lld", "-r", "-o", whole, "--whole-archive", *own, "--no-whole-archive", runtime)
         run_tool(kit, "llvm-objcopy", "--strip-debug", "--wildcard", f"--keep-global-symbol={EXPORTED}", whole)
         run_tool(kit, "llvm-ar", "rcsD", f"{room}/libyoyoash.a", whole)
         how = ["-shared", f"-soname={SONAME}", "--no-undefined", "--build-id=none", "--gc-sections", "--strip-all", "-znow", "-zrelro", "-znoexecstack"]

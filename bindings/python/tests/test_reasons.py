@@ -35,8 +35,8 @@ class Reasons(unittest.TestCase):
             self.assertEqual(str(faults[0]), "badarg: p member(t,1) (argument 1: no)")
 
     def test_a_late_one_is_waited_for(self):
-        with Store(giving_reasons("sys.stdin.readline()\nanswer('** badarg')\ntime.sleep(0.2)\nsay(1, 'no memory')")) as store:
-            self.assertEqual(self.refused(store).reason, "no memory")
+        with Store(giving_reasons("sys.stdin.readline()\nanswer('** badarg')\ntime.sleep(0.2)\nsay(1, 'out of memory')")) as store:
+            self.assertEqual(self.refused(store).reason, "out of memory")
 
     def test_a_missing_one_blocks_no_answer(self):
         self.enter_patience(1.0)
@@ -69,9 +69,9 @@ class Reasons(unittest.TestCase):
         self.assertEqual((ran.stdout, ran.stderr), ("not a set\n", "building\n"))
 
     def test_a_caller_that_takes_the_standard_error_gets_it(self):
-        with Store(giving_reasons("sys.stdin.readline()\nanswer('** badarg')\nsay(1, 'no memory')"), stderr=subprocess.PIPE) as store:
+        with Store(giving_reasons("sys.stdin.readline()\nanswer('** badarg')\nsay(1, 'out of memory')"), stderr=subprocess.PIPE) as store:
             self.assertIsNone(self.refused(store).reason)
-            self.assertEqual(store._way._program.stderr.readline(), b"line 1: no memory\n")
+            self.assertEqual(store._way._program.stderr.readline(), b"line 1: out of memory\n")
             store._way._program.stderr.close()
 
     def test_each_of_four_threads_has_its_own(self):

@@ -139,7 +139,7 @@ class Library:
 
     def _spawn(self, name: str) -> str | None:
         if name in self._pids:
-            return Refused("** badarg", f"{name} was spawned before")
+            return Refused("** badarg", f"{name} was already spawned")
         pid = Pid(len(self._pids))
         status = self._library.yoyoash_spawn(self._store, pid.number)
         if status != VALUE:
