@@ -35,7 +35,7 @@ typedef struct yoyoash_store {
 typedef enum yoyoash_status {
     YOYOASH_VALUE = 0,        /* the call was made, and its reply is a term */
     YOYOASH_BADARG = 1,       /* refused: the call's name, its arguments or the access right */
-    YOYOASH_SYSTEM_LIMIT = 2, /* refused: the call would exceed a limit */
+    YOYOASH_SYSTEM_LIMIT = 2, /* refused: the call would exceed a limit; open the store with larger ones */
     YOYOASH_NO_PROCESS = 3,   /* refused: the process was never spawned, or has exited */
     YOYOASH_NO_MEMORY = 4,    /* out of memory */
     YOYOASH_SYNTAX = 5,       /* the text is not a call; *len is the offset of its first fault */

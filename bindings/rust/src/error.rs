@@ -45,6 +45,16 @@ impl Error {
     pub fn reason(&self) -> &str {
         &self.reason
     }
+
+    /// Returns what to do if a limit of the store was reached.
+    pub fn remedy(&self) -> Option<&'static str> {
+        match self.reason.as_str() {
+            "object limit reached" => Some("open the store with a larger Limits::objects"),
+            "table limit reached" => Some("open the store with a larger Limits::tables"),
+            "process limit reached" => Some("open the store with a larger Limits::processes"),
+            _ => None,
+        }
+    }
 }
 
 impl fmt::Display for ErrorKind {
@@ -64,10 +74,13 @@ impl fmt::Display for ErrorKind {
 impl fmt::Display for Error {
     fn fmt(&self, f: &mut fmt::Formatter<'_>) -> fmt::Result {
         self.kind.fmt(f)?;
-        if self.reason.is_empty() || self.kind == ErrorKind::NoMemory {
-            return Ok(());
+        if !self.reason.is_empty() && self.kind != ErrorKind::NoMemory {
+            write!(f, ": {}", self.reason)?;
         }
-        write!(f, ": {}", self.reason)
+        match self.remedy() {
+            Some(remedy) => write!(f, "; {remedy}"),
+            None => Ok(()),
+        }
     }
 }
 

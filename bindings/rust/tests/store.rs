@@ -49,11 +49,13 @@ fn refused_calls_have_a_kind_and_a_reason() -> Result<(), Error> {
 fn limits_hold() -> Result<(), Error> {
     let mut store = Store::with_limits(Limits { processes: 1, tables: 1, objects: 1 })?;
     store.spawn(0)?;
-    assert_eq!(store.spawn(1).unwrap_err().kind(), ErrorKind::SystemLimit);
+    let error = store.spawn(1).unwrap_err();
+    assert_eq!(error.kind(), ErrorKind::SystemLimit);
+    assert_eq!(error.to_string(), "system_limit: process limit reached; open the store with a larger Limits::processes");
     store.call(0, "{new,t,[named_table]}")?;
-    assert_eq!(kind_of(&mut store, "{new,u,[]}"), ErrorKind::SystemLimit);
+    assert!(store.call(0, "{new,u,[]}").unwrap_err().remedy().is_some_and(|text| text.ends_with("Limits::tables")));
     store.call(0, "{insert,t,{a}}")?;
-    assert_eq!(kind_of(&mut store, "{insert,t,{b}}"), ErrorKind::SystemLimit);
+    assert!(store.call(0, "{insert,t,{b}}").unwrap_err().remedy().is_some_and(|text| text.ends_with("Limits::objects")));
     Ok(())
 }
 
