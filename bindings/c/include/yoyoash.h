@@ -3,7 +3,7 @@
    Rules for callers. Nothing checks them, and the guarantees hold only if you keep them:
    - Start with `yoyoash_store store = {0};`, which is a closed store. Move the struct, never copy it. Only the library
      reads or writes its contents.
-   - One call at a time may use a store. Any thread may make the call, so protect a store that threads share with a lock.
+   - One call at a time may use a store. Any thread may make the call, if a lock, or the start or end of a thread, orders the calls.
      Never use a store in a signal handler, or in a child forked from a process with threads.
    - Pass no NULL pointer, also when the length is 0. The memory that the arguments of one call point to must not overlap.
      Lengths must be below 2^63. */
@@ -58,11 +58,11 @@ int32_t yoyoash_exit(yoyoash_store *store, uint32_t pid);
    fault; after other statuses it is 0. */
 int32_t yoyoash_call(yoyoash_store *store, uint32_t pid, const char *text, size_t text_len, char *out, size_t out_size, size_t *len);
 
-/* Copies the last reply again, for example into a larger buffer. Makes no call. */
+/* Copies the reply of the last call, spawn or exit that was made or refused, for example into a larger buffer. Makes no call. */
 int32_t yoyoash_reply(yoyoash_store *store, char *out, size_t out_size, size_t *len);
 
 /* Copies the reason why the last call, spawn or exit was refused, such as `argument 1: no such table`; *len is 0 if it was not
-   refused. A reason has at most 100 bytes. Returns VALUE, CLOSED, or UNTOLD if there was no memory for the text. Makes no call. */
+   refused. No reason of this version has over 100 bytes. Returns VALUE, CLOSED, or UNTOLD if there was no memory for the text. Makes no call. */
 int32_t yoyoash_why(yoyoash_store *store, char *out, size_t out_size, size_t *len);
 
 /* Closes a store and frees its memory. A closed store stays closed. */
