@@ -9,7 +9,7 @@ COLOURS = ["#1b6ca8", "#d95f02", "#7f7f7f", "#7b4fa3", "#2a9d5c"]  # ours first
 FASTER, SLOWER = COLOURS[0], COLOURS[1]
 WIDTH, HEIGHT = 210, 190  # of a panel
 LEFT, TOP, GAP, BELOW = 62, 58, 112, 66  # around a panel: axis labels, title, labels of lines, title of the axis
-BAR, LABELS, SCALE = 30, 250, 330  # of a chart of bars: height of a row, width of its labels, width of its scale
+BAR, LABELS, SCALE = 30, 270, 330  # of a chart of bars: height of a row, width of its labels, width of its scale
 
 Points = list[tuple[int, float]]
 Rows = list[tuple[str, float, str]]  # a label, a ratio, and what is written at the bar
@@ -145,4 +145,4 @@ def bars(title: str, below: str, rows: Rows) -> str:
     parts.append(text(one - 8, bottom + 18, "better than ets", "end", FASTER))
     parts.append(text(one + 8, bottom + 18, "worse than ets", "start", SLOWER))
     described = "; ".join(f"{label}: {ratio:g} times ets" for label, ratio, _ in rows)
-    return picture(left + SCALE + 250, bottom + 34, title, described, parts)
+    return picture(left + SCALE + 270, bottom + 34, title, described, parts)

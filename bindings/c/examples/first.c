@@ -1,5 +1,5 @@
 /* Makes calls on one table, and prints each with its reply or with the reason why it was refused.
-   Build: cc first.c $(pkg-config --cflags --libs yoyoash) -o first */
+   Build: cc -I bindings/c/include bindings/c/examples/first.c dist/x86_64-linux/libyoyoash.a -o first */
 #include <yoyoash.h>
 #include <stdio.h>
 

@@ -1,5 +1,5 @@
 /* Four threads share one store under a lock, each as a process of its own.
-   Build: cc threads.c $(pkg-config --cflags --libs yoyoash) -pthread -o threads */
+   Build: cc -I bindings/c/include bindings/c/examples/threads.c dist/x86_64-linux/libyoyoash.a -pthread -o threads */
 #include <yoyoash.h>
 #include <pthread.h>
 #include <stdio.h>
