@@ -4,8 +4,8 @@ import pathlib
 import re
 import subprocess
 
-from building import OUT, stop
-from timing import LIMIT, Runs, Talk, ratio, spread, timed
+from building import OUT, erlang, stop
+from timing import LIMIT, Figures, Runs, Talk, least, ratio, spread, timed
 from workloads import SHAPES, WORKLOADS, Shape, Workload, by_lists, lookups, mixed, rounds, searches, singly
 
 Commands = dict[str, list[str]]
@@ -63,14 +63,24 @@ def with_erlang(programs: Commands) -> Commands:
 
 
 def memory(quick: bool, programs: Commands) -> list[list[str]]:
-    """Bytes an object of several shapes: by how much the peak of a program grows where it gets twice as many objects."""
+    """Bytes an object of several shapes: how much the peak of a program grows for each of twice as many objects, and what ets counts for
+    its own tables (the peak of a program in Erlang that reads a script has much else in it)."""
     count = 150_000 if quick else 300_000
-    rivals = [name for name in programs if name != "store"]
+    own = {name: command for name, command in programs.items() if name != "Erlang"}
+    ets = by_calls("memory", 2 * count, 1)
+    rivals = [*(name for name in own if name != "store"), "ets"]
     rows = [[f"{2 * count:,} objects compared with {count:,}, bytes an object", "this store", *rivals, *(f"to {name}" for name in rivals)]]
     for shape in SHAPES:
-        each = {name: [(peak(command, shape, 2 * count) - peak(command, shape, count)) / count] for name, command in programs.items()}
+        each = {name: [(peak(command, shape, 2 * count) - peak(command, shape, count)) / count] for name, command in own.items()}
+        each["ets"] = ets.get(("ets", shape.short), [])
         rows.append([shape.name, *map(spread, each.values()), *(ratio(each["store"], each[name]) for name in rivals)])
     return rows
+
+
+def by_calls(part: str, count: int, turns: int) -> Figures:
+    """The figures of ets, called in process."""
+    command = erlang("ets_calls")
+    return least([[*command, part, str(count)]], turns) if command else {}
 
 
 def peak(command: list[str], shape: Shape, count: int) -> float:
@@ -83,26 +93,21 @@ def peak(command: list[str], shape: Shape, count: int) -> float:
 
 
 def passes(quick: bool, programs: Commands) -> list[list[str]]:
-    """Calls that look at all objects of a table that was filled one by one, an object: from the line's way in to the end of
-    its answer."""
+    """Calls that search all objects of a table that was filled one by one, an object: from the line's way in to the end of its answer,
+    and in ets by calls in process, where nothing is read and printed."""
     count, turns = (20_000, 1) if quick else (1_000_000, 3)
-    programs, fill, asked = with_erlang(programs), singly(count), searches(count)
-    spent = {(search.name, name): [] for search in asked for name in programs}
+    fill, asked = singly(count), searches(count)
+    spent = {search.name: [] for search in asked}
     for _ in range(turns):
-        lengths = {name: [] for name in programs}
-        for name, command in programs.items():
-            with Talk(command) as talk:
-                talk.ask(fill)
-                for search in asked:
-                    told = [talk.ask([search.call]) for _ in range(search.passes)]
-                    spent[search.name, name] += [1e9 * seconds / count for seconds, _, _ in told]
-                    lengths[name].append(told[0][1])
-        if len(set(map(tuple, lengths.values()))) > 1:
-            stop(f"the answers to searches differ in length: {lengths}")
-    rows = [[f"all of {count:,} objects {{K,V}}, ns an object", *programs, "ratio"]]
+        with Talk(programs["store"]) as talk:
+            talk.ask(fill)
+            for search in asked:
+                spent[search.name] += [1e9 * talk.ask([search.call])[0] / count for _ in range(search.passes)]
+    ets = by_calls("searches", count, turns)
+    rows = [[f"all of {count:,} objects {{K,V}}, ns an object", "this store", "ets", "ratio"]]
     for search in asked:
-        each = [spent[search.name, name] for name in programs]
-        rows.append([search.name, *map(spread, each), ratio(each[0], each[-1])])
+        theirs = ets.get(("ets", search.short), [])
+        rows.append([search.name, spread(spent[search.name]), spread(theirs), ratio(spent[search.name], theirs)])
     return rows
 
 

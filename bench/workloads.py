@@ -152,6 +152,7 @@ class Search:
     """A call that looks at all objects of a filled table."""
 
     name: str
+    short: str  # its name in peers/ets_calls.erl
     call: str
     passes: int  # how often it is asked of one table
 
@@ -183,12 +184,12 @@ def rounds(keys: list[int], is_fixed: bool) -> list[str]:
 def searches(count: int) -> list[Search]:
     value = count // 2 * 3
     return [
-        Search("select, a guard true of one", f"p select(t,[{{{{'$1','$2'}},[{{'=:=','$2',{value}}}],['$1']}}])", 10),
-        Search("match of a value", f"p match(t,{{'$1',{value}}})", 10),
-        Search("select_count of half", f"p select_count(t,[{{{{'_','$1'}},[{{'>','$1',{value}}}],[true]}}])", 10),
-        Search("select of all", "p select(t,[{{'_','$1'},[],['$1']}])", 2),
-        Search("tab2list", "p tab2list(t)", 2),
-        Search("select_delete of half", f"p select_delete(t,[{{{{'_','$1'}},[{{'>','$1',{value}}}],[true]}}])", 1),
+        Search("select, a guard true of one", "select_one", f"p select(t,[{{{{'$1','$2'}},[{{'=:=','$2',{value}}}],['$1']}}])", 10),
+        Search("match of a value", "match", f"p match(t,{{'$1',{value}}})", 10),
+        Search("select_count of half", "select_count", f"p select_count(t,[{{{{'_','$1'}},[{{'>','$1',{value}}}],[true]}}])", 10),
+        Search("select of all", "select_all", "p select(t,[{{'_','$1'},[],['$1']}])", 2),
+        Search("tab2list", "tab2list", "p tab2list(t)", 2),
+        Search("select_delete of half", "select_delete", f"p select_delete(t,[{{{{'_','$1'}},[{{'>','$1',{value}}}],[true]}}])", 1),
     ]
 
 
@@ -197,6 +198,7 @@ class Shape:
     """Objects of one shape, one a line, for what they take in memory."""
 
     name: str
+    short: str  # its name in peers/ets_calls.erl
     options: str
     object: Callable[[int], str]
 
@@ -209,9 +211,9 @@ class Shape:
 TEN_BYTES = "<<" + ",".join(map(str, range(10))) + ">>"
 
 SHAPES = [
-    Shape("{Int,Int}", "", lambda i: f"{{{i},{i * 3}}}"),
-    Shape("{Atom,Binary of 10 bytes}", "", lambda i: f"{{k{i},{TEN_BYTES}}}"),
-    Shape("{Int,Int} in a bag, 100 a key", ",bag", lambda i: f"{{{i // 100},{i}}}"),
+    Shape("{Int,Int}", "pair", "", lambda i: f"{{{i},{i * 3}}}"),
+    Shape("{Atom,Binary of 10 bytes}", "atom", "", lambda i: f"{{k{i},{TEN_BYTES}}}"),
+    Shape("{Int,Int} in a bag, 100 a key", "bag", ",bag", lambda i: f"{{{i // 100},{i}}}"),
 ]
 
 # The full sizes keep the fastest peer busy for half a second or more on a machine with nothing else to do.

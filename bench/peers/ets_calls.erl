@@ -1,5 +1,5 @@
-%% Erlang/OTP's own ets asked by calls, in one run of erl: ets_calls:main(["times", Count]), ["walks", Count], or
-%% ["clients", Clients, Calls].
+%% Erlang/OTP's own ets asked by calls, in one run of erl: ets_calls:main(["times", Count]), ["walks", Count],
+%% ["searches", Count], ["memory", Count], or ["clients", Clients, Calls].
 %%
 %% Prints lines of WHO OPERATION FIGURE, in nanoseconds a call. Keys, objects and their order are made before the clock
 %% runs, and stand as persistent terms, which no collection of garbage copies.
@@ -15,6 +15,12 @@ main(["times", Count]) ->
     halt(0);
 main(["walks", Count]) ->
     walks(list_to_integer(Count)),
+    halt(0);
+main(["searches", Count]) ->
+    searches(list_to_integer(Count)),
+    halt(0);
+main(["memory", Count]) ->
+    memory(list_to_integer(Count)),
     halt(0);
 main(["clients", Clients, Calls]) ->
     clients("ets", [public], list_to_integer(Clients), list_to_integer(Calls)),
@@ -145,3 +151,39 @@ power_of_two(Count, Power) when Power >= Count -> Power;
 power_of_two(Count, Power) -> power_of_two(Count, Power * 2).
 
 show(Who, Operation, Figure) -> io:format("~s ~s ~.1f~n", [Who, Operation, float(Figure)]).
+
+%% ---- searches of a whole table, and memory ----
+
+%% The nanoseconds an object of each search, in a table that was filled one by one.
+searches(Count) ->
+    Table = ets:new(t, [public]),
+    [ets:insert(Table, {K, 3 * K}) || K <- shuffled(Count, 1)],
+    Value = Count div 2 * 3,
+    Half = fun(Result) -> [{{'_', '$1'}, [{'>', '$1', Value}], [Result]}] end,
+    [search(Name, Count, Search) || {Name, Search} <- [
+        {"select_one", fun() -> ets:select(Table, [{{'$1', '$2'}, [{'=:=', '$2', Value}], ['$1']}]) end},
+        {"match", fun() -> ets:match(Table, {'$1', Value}) end},
+        {"select_count", fun() -> ets:select_count(Table, Half(true)) end},
+        {"select_all", fun() -> ets:select(Table, [{{'_', '$1'}, [], ['$1']}]) end},
+        {"tab2list", fun() -> ets:tab2list(Table) end},
+        {"select_delete", fun() -> ets:select_delete(Table, Half(true)) end}
+    ]].
+
+search(Name, Count, Search) ->
+    Start = erlang:monotonic_time(nanosecond),
+    _ = Search(),
+    show("ets", Name, (erlang:monotonic_time(nanosecond) - Start) / Count).
+
+%% The bytes an object that a table of each shape takes, as ets counts them.
+memory(Count) ->
+    Ten = list_to_binary(lists:seq(0, 9)),
+    bytes("pair", set, [{K, 3 * K} || K <- shuffled(Count, 1)]),
+    bytes("atom", set, [{list_to_atom("k" ++ integer_to_list(K)), Ten} || K <- shuffled(Count, 1)]),
+    bytes("bag", bag, [{K div 100, K} || K <- shuffled(Count, 1)]).
+
+bytes(Name, Kind, Objects) ->
+    Table = ets:new(t, [Kind]),
+    Before = ets:info(Table, memory),
+    [ets:insert(Table, Object) || Object <- Objects],
+    show("ets", Name, (ets:info(Table, memory) - Before) * erlang:system_info(wordsize) / length(Objects)),
+    ets:delete(Table).
