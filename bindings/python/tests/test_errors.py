@@ -180,7 +180,34 @@ class Unclosed(unittest.TestCase):
         output, errors = self.run_python(script, "-Wdefault::ResourceWarning")
         self.assertEqual((output, errors.count(" ResourceWarning: <"), "Traceback" in errors), ("0\n", 1, False))
 
+    @unittest.skipUnless(PROGRAM, "no ets_script found: set YOYOASH_PROGRAM")
+    def test_python_ends_while_a_store_by_pipe_is_open(self):
+        self.check_ends_while_open(f"Store({str(PROGRAM)!r})")
+
+    @unittest.skipUnless(LIBRARY, "no libyoyoash.so found: set YOYOASH_LIBRARY")
+    def test_python_ends_while_a_store_in_process_is_open(self):
+        self.check_ends_while_open(f"Store.in_process({str(LIBRARY)!r})")
+
+    def check_ends_while_open(self, opening):
+        """Checks how Python ends while two stores are open. Another thread makes calls in the last case."""
+        begun = f"import os, threading\nfrom yoyoash import *\nstores = [{opening}, {opening}]\nanna = stores[0].spawn('anna')\n"
+        thread = (
+            "def look():\n try:\n  while True: anna.member(Atom('t'), 1)\n except Gone: pass\n"
+            "anna.new(Atom('t'), [Atom('named_table')])\nthreading.Thread(target=look, daemon=True).start()\n"
+        )
+        forked = "child = os.fork()\nif child: print(os.waitpid(child, 0)[1])"
+        ends = {"": (0, "", ""), "1 / 0": (1, "", "ZeroDivisionError"), forked: (0, "0\n", ""), thread: (0, "", "")}
+        for script, wanted in ends.items():
+            with self.subTest(script):
+                ran = self.ran(begun + script, "-Wdefault::ResourceWarning")
+                self.assertEqual((ran.returncode, ran.stdout, ran.stderr.count("Fatal")), (*wanted[:2], 0), ran.stderr)
+                self.assertIn(wanted[2], ran.stderr)
+                self.assertEqual(ran.stderr.count(" ResourceWarning: <"), 4 if script == forked else 2)
+
     def run_python(self, script, *options):
-        top = pathlib.Path(finding.__file__).parents[1]
-        ran = subprocess.run([sys.executable, "-B", *options, "-c", script], cwd=top, capture_output=True, text=True, timeout=60)
+        ran = self.ran(script, *options)
         return ran.stdout, ran.stderr
+
+    def ran(self, script, *options):
+        top = pathlib.Path(finding.__file__).parents[1]
+        return subprocess.run([sys.executable, "-B", *options, "-c", script], cwd=top, capture_output=True, text=True, timeout=60)

@@ -6,6 +6,7 @@ import io
 import os
 import re
 import threading
+from collections.abc import Iterator
 
 # Matches `line 4: lookup/2: argument 1: no such table`: the line's number, and the reason after the call, the command
 # or the byte.
@@ -47,7 +48,7 @@ class Reasons:
     """Reads the reasons in a thread, so that the program never waits for a reader."""
 
     def __init__(self, stream):
-        self._stream = io.BufferedReader(stream)
+        self._stream = stream
         self._heard, self._changed = Heard(), threading.Condition()
         self._is_patient = True
         self._reader = threading.Thread(target=self._read, daemon=True)
@@ -72,8 +73,18 @@ class Reasons:
         if not self._reader.is_alive():
             self._stream.close()
 
+    def _lines(self) -> Iterator[bytes]:
+        """Yields the lines of the program's standard error. Reads without a buffered reader: its lock would be held in
+        a forked child, and at the end of Python, with no thread that releases it."""
+        begun = b""
+        while block := self._stream.read(io.DEFAULT_BUFFER_SIZE):
+            *lines, begun = (begun + block).split(b"\n")
+            yield from [line + b"\n" for line in lines]
+        if begun:
+            yield begun
+
     def _read(self) -> None:
-        for line in self._stream:
+        for line in self._lines():
             found = reason_of(line)
             if not found:
                 self._heard.pass_on(line)

@@ -2,9 +2,11 @@
 
 from __future__ import annotations
 
+import atexit
 import contextlib
 import re
 import warnings
+import weakref
 from collections.abc import Iterator, Sequence
 from typing import Any
 
@@ -15,6 +17,9 @@ from .library import Library
 from .pipe import Pipe, line_of
 from .reading import parse
 from .terms import END_OF_TABLE, FALSE, TRUE, Pid, Table, Term, spell_all
+
+# Holds the stores that exist, for `close_all`.
+_stores: weakref.WeakSet[Store] = weakref.WeakSet()
 
 
 class Store:
@@ -34,7 +39,7 @@ class Store:
         """Starts a program: the path of `ets_script`, or a list of words that starts one. Without it the package
         finds the program (docs/python.md). `options` are those of subprocess.Popen."""
         limits = {"max_processes": max_processes, "max_tables": max_tables, "max_objects": max_objects}
-        self._way = Pipe(command, limits, **options)
+        self._begin(Pipe(command, limits, **options))
 
     @classmethod
     def in_process(
@@ -48,8 +53,12 @@ class Store:
         """Opens a store in this process, by libyoyoash.so."""
         store = cls.__new__(cls)
         limits = {"max_processes": max_processes, "max_tables": max_tables, "max_objects": max_objects}
-        store._way = Library(library, limits)
+        store._begin(Library(library, limits))
         return store
+
+    def _begin(self, way: Pipe | Library) -> None:
+        self._way = way
+        _stores.add(self)
 
     def spawn(self, name: str) -> Process:
         """Begins a process with this name: an identity inside the store that owns tables."""
@@ -79,7 +88,8 @@ class Store:
     def __exit__(self, *raised: object) -> None:
         self.close()
 
-    def __del__(self) -> None:
+    def _drop(self) -> None:
+        """Closes a store that its user has not closed, and warns."""
         # There is no `_way` if the store was never opened.
         way = self.__dict__.get("_way")
         if way and not way.is_closed:
@@ -87,6 +97,18 @@ class Store:
                 warnings.warn(f"{self!r} was never closed: use `with`, or call close()", ResourceWarning, source=self)
             finally:
                 way.close()
+
+    def __del__(self) -> None:
+        self._drop()
+
+
+@atexit.register
+def close_all() -> None:
+    """Closes the stores that are still open when Python ends. Python stops daemon threads after this: one that held a
+    lock of a store would hold it for ever."""
+    with contextlib.ExitStack() as drops:
+        for store in _stores:
+            drops.callback(store._drop)
 
 
 def checked_name(name: str) -> str:
