@@ -92,12 +92,17 @@ def is_for_here():
 
 
 def build_wheel(wheel_directory, config_settings=None, metadata_directory=None):
-    """Builds what `pip install bindings/python` installs: with the program and the library if this machine runs
-    them."""
+    """Builds what `pip install bindings/python` installs: with the program and the library if this machine runs them,
+    else without. Refuses if this machine runs them and one is missing: pip does not show what a successful build
+    prints."""
+    if not is_for_here():
+        return write_wheel(pathlib.Path(wheel_directory), modules(), PURE)
     dist = pathlib.Path(os.environ.get("YOYOASH_DIST") or HERE.parents[1] / "dist/x86_64-linux")
-    has_copies = is_for_here() and all((dist / name).is_file() for name in COPIES)
-    files = modules() | (copies_of(dist) if has_copies else {})
-    return write_wheel(pathlib.Path(wheel_directory), files, NATIVE if has_copies else PURE)
+    missing = [name for name in COPIES if not (dist / name).is_file()]
+    if missing:
+        remedy = "'git checkout -- dist' restores it, or set YOYOASH_DIST to the folder that has it"
+        raise SystemExit(f"yoyoash: there is no {dist / missing[0]}: {remedy}")
+    return write_wheel(pathlib.Path(wheel_directory), modules() | copies_of(dist), NATIVE)
 
 
 def build_editable(wheel_directory, config_settings=None, metadata_directory=None):

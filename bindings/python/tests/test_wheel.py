@@ -12,6 +12,7 @@ import sys
 import tempfile
 import unittest
 import zipfile
+from unittest import mock
 
 import yoyoash
 from helpers import PACKAGE, REPOSITORY
@@ -83,13 +84,24 @@ class Wheel(unittest.TestCase):
         missing = self.build(self.folder / "nowhere", "out")
         self.assertEqual((missing.returncode, "there is no" in missing.stderr), (1, True))
 
-    def test_pip_gets_a_pure_wheel_if_there_are_no_copies(self):
-        made, before = backend(), os.environ.get("YOYOASH_DIST")
-        os.environ["YOYOASH_DIST"] = str(self.folder / "nowhere")
-        try:
-            name = made.build_wheel(self.folder)
-        finally:
-            os.environ.pop("YOYOASH_DIST") if before is None else os.environ.update(YOYOASH_DIST=before)
+    def built_by_pip(self, dist, is_for_here):
+        """Builds what pip installs on a machine that runs the copies, or on another. Returns the wheel's name."""
+        made = backend()
+        made.is_for_here = lambda: is_for_here
+        with mock.patch.dict(os.environ, YOYOASH_DIST=str(dist)):
+            return made.build_wheel(self.folder)
+
+    def test_pip_gets_no_wheel_if_a_copy_is_missing(self):
+        dist = self.dist()
+        self.assertTrue(self.built_by_pip(dist, True).endswith("-manylinux_2_34_x86_64.whl"))
+        for name in reversed(COPIES):
+            (dist / name).unlink()
+            with self.assertRaises(SystemExit) as refused:
+                self.built_by_pip(dist, True)
+            self.assertIn(f"there is no {dist / name}: 'git checkout -- dist' restores it", str(refused.exception))
+
+    def test_pip_gets_a_pure_wheel_on_another_machine(self):
+        name = self.built_by_pip(self.folder / "nowhere", False)
         self.assertTrue(name.endswith("-py3-none-any.whl"))
         with zipfile.ZipFile(self.folder / name) as wheel:
             self.assertFalse([it for it in wheel.namelist() if "native" in it])
