@@ -77,7 +77,9 @@ start() -> start(#{}).
 -spec start(options()) -> {ok, pid()} | {error, term()}.
 start(Options) -> yoyoash_server:start(nolink, Options).
 
-%% @doc Stops the store. All tables are deleted. It exits with `noproc' if no store is running.
+%% @doc Stops a store that {@link start/1} began. All tables are deleted. It exits with `noproc' if no store is running.
+%%
+%% A supervisor starts its store again, empty: use `application:stop(yoyoash)'.
 -spec stop() -> ok.
 stop() -> gen_server:stop(?MODULE).
 
@@ -93,6 +95,7 @@ format_error({error, Reason}) -> format_error(Reason);
 format_error(Reason) -> yoyoash_program:format_error(Reason).
 
 %% @doc Does a call for another process, which may be on another node: that process owns the table that `new' makes.
+%% No access right is checked for the process that calls it.
 -spec call_as(pid(), atom(), [term()]) -> term().
 call_as(Pid, Name, Args) ->
     case is_pid(Pid) andalso lists:member({Name, length(Args)}, calls()) of
@@ -265,12 +268,14 @@ foldr(Fun, Acc, Table) -> lists:foldr(Fun, Acc, tab2list(Table)).
 %% @doc Returns the items that the store has about a table.
 -spec info(table()) -> [{item() | node, term()}] | undefined.
 info(Table) ->
-    case info(Table, size) of
-        undefined -> undefined;
-        Size -> [{size, Size}, {node, node()} | [{Item, info(Table, Item)} || Item <- items()]]
+    Items = [{Item, info(Table, Item)} || Item <- items()],
+    case lists:last(Items) of
+        {owner, undefined} -> undefined;
+        {owner, _} -> [{node, node()} | Items]
     end.
 
-items() -> [id, owner, heir, name, named_table, type, keypos, protection].
+%% Returns the items of a table. The owner comes last: if the table has one, it existed during the calls before.
+items() -> [size, id, heir, name, named_table, type, keypos, protection, owner].
 
 %% @doc Calls `ets:fun2ms/1', which works in the shell. In a module write `ets:fun2ms' and include `ms_transform.hrl'.
 -spec fun2ms(fun()) -> ets:match_spec().

@@ -1,6 +1,6 @@
 %% @doc Finds the program `ets_script' and explains what to do if it cannot be started.
 -module(yoyoash_program).
--export([find/1, args/1, check_platform/2, format_error/1]).
+-export([are_options/1, find/1, args/1, check_platform/2, format_error/1]).
 -export_type([error/0]).
 
 -type error() ::
@@ -14,6 +14,16 @@
 
 %% The store's own limits are for scripts; callers in Erlang come and go, and a number is never used again.
 -define(MOST, "4294967295").
+
+%% @doc Says whether a term is a map of the known options, with a list of strings as `args'.
+-spec are_options(term()) -> boolean().
+are_options(Options) when is_map(Options) ->
+    maps:size(maps:without([program, args], Options)) =:= 0 andalso are_strings(given_args(Options));
+are_options(_NoMap) -> false.
+
+are_strings(Args) -> is_list(Args) andalso lists:all(fun io_lib:char_list/1, Args).
+
+given_args(Options) -> maps:get(args, Options, application:get_env(yoyoash, args, [])).
 
 %% @doc Returns the path of the program, from the options or from the first place that has one.
 -spec find(yoyoash:options()) -> {ok, file:filename_all()} | {error, error()}.
@@ -80,7 +90,7 @@ filename_string(Path) -> unicode:characters_to_list(Path, file:native_name_encod
 %% @doc Returns the arguments of the program: the caller's, and those that this binding needs.
 -spec args(yoyoash:options()) -> [string()].
 args(Options) ->
-    Given = maps:get(args, Options, application:get_env(yoyoash, args, [])),
+    Given = given_args(Options),
     Added = [{"--why", []}, {"--max-processes", [?MOST]}, {"--max-tables", [?MOST]}],
     Given ++ lists:append([[Option | Value] || {Option, Value} <- Added, not given(Option, Given)]).
 
@@ -103,12 +113,13 @@ format_error({wrong_platform, Architecture}) ->
 format_error({cannot_start, Path, Reason}) ->
     text("~ts cannot be started (~0tp): run ~ts --version to see why", [Path, Reason, Path]);
 format_error({program_ended, Path, Ended, Notes}) ->
-    text("~ts ended before its first answer (~ts)~ts: run ~ts --version to see why",
-         [Path, ended(Ended), last_note(Notes), Path]);
+    text("~ts ended before its first answer (~ts)~ts: correct the option args, or run ~ts --version to see why",
+         [Path, ended(Ended), telling_note(Notes), Path]);
 format_error({no_answer, Path, Notes}) ->
-    text("~ts does not answer~ts: set YOYOASH_PROGRAM to the path of ets_script", [Path, last_note(Notes)]);
+    text("~ts does not answer~ts: set YOYOASH_PROGRAM to the path of ets_script", [Path, telling_note(Notes)]);
 format_error({already_started, Pid}) ->
-    text("a store is running already, as process ~p: use it, or call yoyoash:stop()", [Pid]);
+    text("a store is running already, as process ~p: "
+         "use it, or end it by yoyoash:stop() or application:stop(yoyoash)", [Pid]);
 format_error({program_ended, Ended}) ->
     text("the program ended (~ts): start a store again", [ended(Ended)]);
 format_error(Other) ->
@@ -117,7 +128,10 @@ format_error(Other) ->
 ended({status, Status}) -> text("status ~b", [Status]);
 ended({closed, Reason}) -> text("~0tp", [Reason]).
 
-last_note([]) -> "";
-last_note(Notes) -> text(", ~ts", [lists:last(Notes)]).
+%% Returns the first note that says what is wrong, or else the last one.
+telling_note([]) -> "";
+telling_note(Notes) ->
+    Errors = [Note || Note = <<"error: ", _/binary>> <- Notes],
+    text(", ~ts", [hd(Errors ++ [lists:last(Notes)])]).
 
 text(Format, Args) -> lists:flatten(io_lib:format(Format, Args)).

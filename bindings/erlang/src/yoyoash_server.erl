@@ -6,6 +6,7 @@
 -export([start/2, call/3]).
 -export([init/1, handle_call/3, handle_cast/2, handle_info/2, format_status/1]).
 -export_type([result/0]).
+-include_lib("kernel/include/logger.hrl").
 
 -type result() :: {ok, term()} | {error, badarg | system_limit | enomem, yoyoash_errors:cause()}.
 
@@ -15,9 +16,11 @@
 -define(LONGEST_LINE, 65536).
 %% How long the first answer may take, since a program of changed sources is built first, in milliseconds.
 -define(FIRST_ANSWER, 600_000).
+%% How many of the last notes before the first answer are kept.
+-define(NOTES, 20).
 %% How long to wait for the reason of a refused call, in milliseconds.
 -define(REASON, 1_000).
-%% When to try again to end a process for which the program had no memory, in milliseconds.
+%% When to try again to end a process or to read its messages, if the program had no memory for it, in milliseconds.
 -define(AGAIN, 1_000).
 
 -record(store, {
@@ -28,13 +31,15 @@
     %% The processes that have not ended.
     live = #{} :: #{pid() => true},
     %% The processes that were named as heirs: the only ones to which a table may come when another process ends.
-    heirs = #{} :: #{pid() => true}
+    heirs = #{} :: #{pid() => true},
+    %% The processes that may have owned a table: the only ones whose end may send a table to an heir.
+    owners = #{} :: #{pid() => true}
 }).
 
 %% @doc Starts a store under the name `yoyoash'; `link' links it to the caller.
 -spec start(link | nolink, yoyoash:options()) -> {ok, pid()} | {error, term()}.
 start(Link, Options) ->
-    maps:size(maps:without([program, args], Options)) =:= 0 orelse error(badarg, [Options]),
+    yoyoash_program:are_options(Options) orelse error(badarg, [Options]),
     case yoyoash_program:find(Options) of
         {ok, Program} -> unwrapped(start(Link, Program, yoyoash_program:args(Options)));
         Error -> Error
@@ -79,29 +84,36 @@ greet(Port, Program) ->
         {Ended, Notes} -> {stop, {shutdown, {program_ended, Program, Ended, Notes}}}
     end.
 
-%% What the program writes before its first answer are notes, such as that it is built first. They are shown if the
-%% program takes more than a second, or when it answers.
-greeting(Port, Notes, Unshown, Deadline) ->
-    try next_line(Port, 1_000) of
-        <<"** noproc">> -> show(Unshown);
-        <<"line 1: ", _/binary>> -> greeting(Port, Notes, Unshown, Deadline);
-        Note -> greeting(Port, Notes ++ [Note], Unshown ++ [Note], Deadline)
-    catch
-        throw:no_line ->
-            show(Unshown),
-            case erlang:monotonic_time(millisecond) > Deadline of
-                true -> {no_answer, Notes};
-                false -> greeting(Port, Notes, [], Deadline)
-            end;
-        throw:{stop, {program_ended, Ended}} -> {Ended, Notes}
+%% Waits for the first answer until the deadline. What the program writes before it are notes, such as that it is built
+%% first. They are logged if the program takes more than a second, or when it answers. The last note is the first in the
+%% lists.
+greeting(Port, Notes, Unlogged, Deadline) ->
+    case erlang:monotonic_time(millisecond) > Deadline of
+        true -> {no_answer, lists:reverse(Notes)};
+        false -> greeting_in_time(Port, Notes, Unlogged, Deadline)
     end.
 
-show(Notes) -> lists:foreach(fun(Note) -> io:format(standard_error, "~ts~n", [Note]) end, Notes).
+greeting_in_time(Port, Notes, Unlogged, Deadline) ->
+    try next_line(Port, 1_000) of
+        <<"** noproc">> -> log(Unlogged);
+        <<"line 1: ", _/binary>> -> greeting(Port, Notes, Unlogged, Deadline);
+        Note -> greeting(Port, with(Note, Notes), with(Note, Unlogged), Deadline)
+    catch
+        throw:no_line ->
+            log(Unlogged),
+            greeting(Port, Notes, [], Deadline);
+        throw:{stop, {program_ended, Ended}} ->
+            {Ended, lists:reverse(Notes)}
+    end.
+
+with(Note, Notes) -> lists:sublist([Note | Notes], ?NOTES).
+
+log(Notes) -> lists:foreach(fun(Note) -> ?LOG_NOTICE("yoyoash: ~ts", [Note]) end, lists:reverse(Notes)).
 
 %% @private
--spec handle_call({pid(), atom(), [term()]}, gen_server:from(), #store{}) ->
+-spec handle_call(term(), gen_server:from(), #store{}) ->
     {reply, result(), #store{}} | {stop, term(), result(), #store{}}.
-handle_call({Pid, Name, Args}, _From, S0) ->
+handle_call({Pid, Name, Args}, _From, S0) when is_pid(Pid), is_atom(Name), is_list(Args) ->
     try
         {Result, S} = request(Pid, Name, Args, S0),
         {reply, Result, S}
@@ -109,7 +121,9 @@ handle_call({Pid, Name, Args}, _From, S0) ->
         throw:{stop, Reason} ->
             Text = unicode:characters_to_binary(yoyoash_program:format_error(Reason)),
             {stop, Reason, {error, badarg, {general, Text}}, S0}
-    end.
+    end;
+handle_call(_Unknown, _From, S) ->
+    {reply, {error, badarg, {general, <<"not a call of the store">>}}, S}.
 
 %% @private
 -spec handle_cast(term(), #store{}) -> {noreply, #store{}}.
@@ -124,8 +138,10 @@ handle_info(Message, S) ->
         throw:{stop, Reason} -> {stop, Reason, S}
     end.
 
+heard({'DOWN', _Ref, process, Pid, noconnection}, S) -> forgotten(Pid, ended(Pid, S));
 heard({'DOWN', _Ref, process, Pid, _Reason}, S) -> ended(Pid, S);
-heard({again, Pid}, S) -> ended(Pid, S);
+heard({exit_again, Process, Owned}, S) -> exited(Process, Owned, S);
+heard({deliver, Pid}, S) -> deliver(Pid, S);
 heard({Port, {exit_status, Status}}, #store{port = Port}) -> throw({stop, {program_ended, {status, Status}}});
 heard({'EXIT', Port, Reason}, #store{port = Port}) -> throw({stop, {program_ended, {closed, Reason}}});
 %% (a reason that came late, or a note)
@@ -150,16 +166,18 @@ request(Pid, Name, Args, Named, S0 = #store{terms = Terms}) ->
     case yoyoash_text:arguments(Args, Terms) of
         {ok, Text} ->
             {Result, S} = ask([process(Pid, S0), " ", atom_to_list(Name), "(", Text, ")"], S0),
-            {Result, followed(Name, Result, Named, S)};
+            {Result, followed(Name, Result, Pid, Named, S)};
         {error, Cause} ->
             {{error, badarg, Cause}, S0}
     end.
 
-%% Does what follows from a call that was done: a gift is delivered, an heir is remembered.
-followed(give_away, {ok, _}, Named, S) -> lists:foldl(fun deliver/2, S, Named);
-followed(Name, {ok, _}, Named, S = #store{heirs = Heirs}) when Name =:= new; Name =:= setopts ->
-    S#store{heirs = maps:merge(Heirs, maps:from_keys(Named, true))};
-followed(_Name, _Result, _Named, S) -> S.
+%% Does what follows from a call that was done: a gift is delivered, the owner and the heir are remembered.
+followed(give_away, {ok, _}, _Pid, Named, S) -> lists:foldl(fun deliver/2, S, Named);
+followed(Name, {ok, _}, Pid, Named, S = #store{heirs = Heirs}) when Name =:= new; Name =:= setopts ->
+    owns(Pid, S#store{heirs = maps:merge(Heirs, maps:from_keys(Named, true))});
+followed(_Name, _Result, _Pid, _Named, S) -> S.
+
+owns(Pid, S = #store{owners = Owners}) -> S#store{owners = Owners#{Pid => true}}.
 
 enrol_all([], S) -> {ok, S};
 enrol_all([Pid | Pids], S0) ->
@@ -186,27 +204,41 @@ enrol(Pid, S = #store{terms = Terms}) ->
 
 process(Pid, #store{terms = Terms}) -> ["p", integer_to_list(yoyoash_text:number(Pid, Terms))].
 
-%% Ends a process in the store, and delivers its tables to their heirs.
-ended(Pid, S0) ->
-    case ask(["exit ", process(Pid, S0)], S0) of
-        {{error, enomem, _}, S} ->
-            _ = erlang:send_after(?AGAIN, self(), {again, Pid}),
-            S;
-        {_, S = #store{live = Live, heirs = Heirs}} ->
-            Left = S#store{live = maps:remove(Pid, Live), heirs = maps:remove(Pid, Heirs)},
-            lists:foldl(fun deliver/2, Left, maps:keys(Left#store.heirs))
+%% Ends a process that has ended here.
+ended(Pid, S = #store{live = Live, heirs = Heirs, owners = Owners}) when is_map_key(Pid, Live) ->
+    Left = S#store{
+        live = maps:remove(Pid, Live), heirs = maps:remove(Pid, Heirs), owners = maps:remove(Pid, Owners)
+    },
+    exited(process(Pid, S), is_map_key(Pid, Owners), Left);
+ended(_Pid, S) -> S.
+
+%% Forgets the number of a process whose connection was lost: if it comes back, it is a new process of the store.
+forgotten(Pid, S = #store{terms = Terms}) -> S#store{terms = yoyoash_text:forget(Pid, Terms)}.
+
+%% Ends a process of the store. If it may have owned tables, delivers them to their heirs.
+exited(Process, Owned, S0) ->
+    case ask(["exit ", Process], S0) of
+        {{error, enomem, _}, S} -> again({exit_again, Process, Owned}, S);
+        {_, S} when Owned -> lists:foldl(fun deliver/2, S, maps:keys(S#store.heirs));
+        {_, S} -> S
     end.
 
 %% Sends a process the messages that the store has for it.
 deliver(Pid, S0 = #store{live = Live}) when is_map_key(Pid, Live) ->
     case ask([process(Pid, S0), " receive()"], S0) of
+        {{ok, []}, S} -> S;
         {{ok, Messages}, S} ->
             lists:foreach(fun(Message) -> Pid ! Message end, Messages),
-            S;
-        {_, S} ->
-            S
+            owns(Pid, S);
+        {{error, enomem, _}, S} -> again({deliver, Pid}, owns(Pid, S));
+        {_, S} -> S
     end;
 deliver(_Pid, S) -> S.
+
+%% Sends this server a message later.
+again(Message, S) ->
+    _ = erlang:send_after(?AGAIN, self(), Message),
+    S.
 
 %% Sends a line and returns its answer.
 ask(Text, S = #store{port = Port, line = Line}) ->
@@ -267,7 +299,7 @@ reason(S = #store{port = Port}) ->
 
 %% Says what a line of the program is: no term begins as a reason or as a note does.
 classified(<<"** ", Kind/binary>>, _S) -> {refused, Kind};
-classified(<<"ets_script: ", _/binary>> = Note, _S) -> show([Note]), other;
+classified(<<"ets_script: ", _/binary>> = Note, _S) -> log([Note]), other;
 classified(<<"line ", Rest/binary>>, #store{line = Line}) ->
     [Number, Reason] = binary:split(Rest, <<": ">>),
     case binary_to_integer(Number) of
@@ -281,7 +313,8 @@ next_line(Port, Timeout) ->
     receive
         {Port, {data, {eol, Text}}} -> Text;
         {Port, {data, {noeol, Text}}} -> iolist_to_binary([Text | rest_of_line(Port)]);
-        {Port, {exit_status, Status}} -> throw({stop, {program_ended, {status, Status}}})
+        {Port, {exit_status, Status}} -> throw({stop, {program_ended, {status, Status}}});
+        {'EXIT', Port, Reason} -> throw({stop, {program_ended, {closed, Reason}}})
     after Timeout -> throw(no_line)
     end.
 
@@ -289,5 +322,6 @@ rest_of_line(Port) ->
     receive
         {Port, {data, {eol, Text}}} -> [Text];
         {Port, {data, {noeol, Text}}} -> [Text | rest_of_line(Port)];
-        {Port, {exit_status, Status}} -> throw({stop, {program_ended, {status, Status}}})
+        {Port, {exit_status, Status}} -> throw({stop, {program_ended, {status, Status}}});
+        {'EXIT', Port, Reason} -> throw({stop, {program_ended, {closed, Reason}}})
     end.

@@ -3,7 +3,7 @@
 %% What is known is a map: the number of each pid and of each table's reference, and the pid and the reference of each
 %% number.
 -module(yoyoash_text).
--export([new/0, number/2, add/2, pids/1, arguments/2, read/2, atoms/0]).
+-export([new/0, number/2, add/2, forget/2, pids/1, arguments/2, read/2, atoms/0]).
 -export_type([known/0]).
 
 -type known() :: #{
@@ -27,6 +27,10 @@ number(Pid, Known) -> maps:get(Pid, Known, none).
 %% @doc Gives a pid the next number.
 -spec add(pid(), known()) -> {non_neg_integer(), known()}.
 add(Pid, Known = #{next := N}) -> {N, Known#{next := N + 1, Pid => N, {pid, N} => Pid}}.
+
+%% @doc Forgets the number of a pid. The pid of the number stays known, since objects may hold it.
+-spec forget(pid(), known()) -> known().
+forget(Pid, Known) -> maps:remove(Pid, Known).
 
 %% @doc Returns the pids in a term.
 -spec pids(term()) -> [pid()].

@@ -19,9 +19,13 @@ tests() ->
         {"terms there and back", fun random_terms/0},
         {"a table goes to its heir", fun heir/0},
         {"a table ends with its owner", fun owner_ends/0},
+        {"a reader that ends", fun reader_ends/0},
+        {"a process that comes back", fun comes_back/0},
+        {"a message that is no call", fun no_call/0},
         {"a call for another process", fun for_another/0},
         {"callers at once", fun callers_at_once/0},
         {"a program that ends", fun program_ends/0},
+        {"a program that ends under load", fun program_ends_under_load/0},
         {"a second store", fun second_store/0}
     ].
 
@@ -178,6 +182,48 @@ owner_ends() ->
     receive {'DOWN', Ref, process, _, normal} -> ok end,
     eventually(fun() -> yoyoash:whereis(t) =:= undefined end).
 
+%% Ends a process that owned nothing: this takes one line of the program, for any number of heirs.
+reader_ends() ->
+    t = yoyoash:new(t, [named_table]),
+    Heirs = [spawn(fun() -> receive stop -> ok end end) || _ <- lists:seq(1, 20)],
+    [true = yoyoash:setopts(t, {heir, Heir, data}) || Heir <- Heirs],
+    {Reader, Ref} = spawn_monitor(fun() -> [] = yoyoash:lookup(t, a), receive stop -> ok end end),
+    ok = eventually(fun() -> lists:member(Reader, live()) end),
+    Before = lines(),
+    Reader ! stop,
+    receive {'DOWN', Ref, process, _, normal} -> ok end,
+    ok = eventually(fun() -> not lists:member(Reader, live()) end),
+    ?assertEqual(Before + 1, lines()),
+    [Heir ! stop || Heir <- Heirs],
+    ok.
+
+%% Returns the number of lines that the store has sent, from the field `line' of its state.
+lines() -> element(3, sys:get_state(yoyoash)).
+
+%% Returns the processes that have not ended, from the field `live'.
+live() -> maps:keys(element(5, sys:get_state(yoyoash))).
+
+%% Reports a lost connection of this process: it ends in the store, and its next call is that of a new process.
+comes_back() ->
+    t = yoyoash:new(t, [named_table]),
+    true = yoyoash:insert(t, {self()}),
+    Self = self(),
+    yoyoash ! {'DOWN', make_ref(), process, Self, noconnection},
+    undefined = yoyoash:whereis(t),
+    t = yoyoash:new(t, [named_table]),
+    Self = yoyoash:info(t, owner),
+    true = yoyoash:insert(t, {Self}),
+    [{Self}] = yoyoash:lookup(t, Self),
+    ok.
+
+%% Sends messages that are no calls of the store: they are refused, and the tables stay.
+no_call() ->
+    t = yoyoash:new(t, [named_table]),
+    {error, badarg, {general, _}} = gen_server:call(yoyoash, state),
+    {error, badarg, {general, _}} = gen_server:call(yoyoash, {a, b, c}),
+    true = is_reference(yoyoash:whereis(t)),
+    ok.
+
 for_another() ->
     Pid = spawn(fun() -> receive stop -> ok end end),
     t = yoyoash:call_as(Pid, new, [t, [named_table]]),
@@ -202,25 +248,53 @@ callers_at_once() ->
 %% The program is killed: its server ends and says how, and calls say that there is no store.
 program_ends() ->
     t = yoyoash:new(t, [named_table]),
+    quietly(fun() -> {status, 137} = kill_program() end),
+    {badarg, Shown} = shown(fun() -> yoyoash:lookup(t, a) end),
+    contains(Shown, "start_link"),
+    ok.
+
+%% Kills the program twenty times while three processes call: each time the server ends, and so do the callers.
+program_ends_under_load() ->
+    yoyoash:stop(),
+    quietly(fun() -> [ok = killed_under_load() || _ <- lists:seq(1, 20)] end),
+    ok.
+
+killed_under_load() ->
+    {ok, _} = yoyoash:start(),
+    t = yoyoash:new(t, [named_table, public]),
+    Binary = binary:copy(<<"x">>, 20_000),
+    Refs = [element(2, spawn_monitor(fun() -> insert_until_refused(0, Binary) end)) || _ <- [1, 2, 3]],
+    ok = eventually(fun() -> yoyoash:info(t, size) > 10 end),
+    _ = kill_program(),
+    lists:foreach(fun ended_normally/1, Refs).
+
+insert_until_refused(N, Binary) ->
+    try yoyoash:insert(t, {N, Binary}) of
+        true -> insert_until_refused(N + 1, Binary)
+    catch
+        error:badarg -> ok
+    end.
+
+ended_normally(Ref) ->
+    receive {'DOWN', Ref, process, _, normal} -> ok after 5_000 -> error(caller_hangs) end.
+
+%% Kills the program, waits until its server has ended, and returns how the server says that the program ended.
+kill_program() ->
     Server = erlang:whereis(yoyoash),
     {links, Links} = process_info(Server, links),
     [Port] = [Link || Link <- Links, is_port(Link)],
     {os_pid, OsPid} = erlang:port_info(Port, os_pid),
     Ref = monitor(process, Server),
-    quietly(fun() ->
-        _ = os:cmd("kill -9 " ++ integer_to_list(OsPid)),
-        receive
-            {'DOWN', Ref, process, _, Reason} -> {program_ended, {status, 137}} = Reason
-        after 5_000 -> error(no_end)
-        end
-    end),
-    {badarg, Shown} = shown(fun() -> yoyoash:lookup(t, a) end),
-    contains(Shown, "start_link"),
-    ok.
+    _ = os:cmd("kill -9 " ++ integer_to_list(OsPid)),
+    receive
+        {'DOWN', Ref, process, _, {program_ended, Ended}} -> Ended
+    after 5_000 -> exit(Server, kill), error(server_hangs)
+    end.
 
 second_store() ->
     {error, Reason = {already_started, _}} = yoyoash:start(),
     contains(yoyoash:format_error(Reason), "yoyoash:stop()"),
+    contains(yoyoash:format_error(Reason), "application:stop(yoyoash)"),
     ok.
 
 %%% Starting
@@ -235,7 +309,8 @@ start_test_() ->
             {"an application", fun application/0},
             {"an application that does not start", fun application_fails/0},
             {"a child of a supervisor", fun supervised/0},
-            {"options", fun options/0}
+            {"options", fun options/0},
+            {"a message for which memory lacked", fun message_later/0}
         ]
     ].
 
@@ -249,7 +324,13 @@ bad_programs() ->
         contains(yoyoash:format_error(Error), "status 3")
     end),
     in_file("\177ELF no program", 8#755, fun(File) -> bad_program(File, program_ended, "--version") end),
-    {error, _} = yoyoash:start(#{args => ["--no-such-option"]}),
+    in_file("#!/bin/sh\nseq 1000; exit 3\n", 8#755, fun(File) ->
+        {program_ended, _, {status, 3}, Notes} = bad_program(File, program_ended, "1000"),
+        ?assertEqual([integer_to_binary(N) || N <- lists:seq(981, 1000)], Notes)
+    end),
+    {error, Reason} = yoyoash:start(#{args => ["--no-such-option"]}),
+    contains(yoyoash:format_error(Reason), "unexpected argument '--no-such-option'"),
+    contains(yoyoash:format_error(Reason), "correct the option args"),
     ok.
 
 bad_program(Program, Kind, Remedy) ->
@@ -293,7 +374,7 @@ application_fails() ->
 
 supervised() ->
     process_flag(trap_exit, true),
-    {ok, Sup} = supervisor:start_link(yoyoash_app, []),
+    {ok, Sup} = yoyoash_sup:start_link(),
     First = erlang:whereis(yoyoash),
     quietly(fun() ->
         exit(First, kill),
@@ -305,8 +386,39 @@ supervised() ->
     undefined = erlang:whereis(yoyoash).
 
 options() ->
-    {badarg, _} = shown(fun() -> yoyoash:start(#{progam => "x"}) end),
+    [
+        {badarg, _} = shown(fun() -> yoyoash:start(Options) end)
+     || Options <- [#{progam => "x"}, [], #{args => "--why"}, #{args => [<<"--why">>]}, #{args => none}]
+    ],
     ok.
+
+%% Runs a program that has no memory for the messages of a process at first: they are sent later.
+message_later() ->
+    in_file(forgetful_program(), 8#755, fun(File) ->
+        {ok, _} = yoyoash:start(#{program => File}),
+        Self = self(),
+        Giver = spawn(fun() -> true = yoyoash:give_away(t, Self, gift), receive stop -> ok end end),
+        receive {'ETS-TRANSFER', t, Giver, gift} -> ok after 10_000 -> error(no_transfer) end,
+        yoyoash:stop(),
+        Giver ! stop
+    end).
+
+%% Returns a program that has no memory for the first `receive()'.
+forgetful_program() ->
+    "#!/bin/sh
+line=0 spawned=0 gift='** nomem'
+while read -r call; do
+  line=$((line + 1))
+  case $call in
+    spawn*) echo \"<0.$spawned.0>\"; spawned=$((spawned + 1));;
+    *give_away*) echo true;;
+    *'receive()')
+      echo \"line $line: receive/0: out of memory\"
+      echo \"$gift\"; gift=\"[{'ETS-TRANSFER',t,<0.0.0>,gift}]\";;
+    *) echo '** noproc';;
+  esac
+done
+".
 
 %%% Text
 
