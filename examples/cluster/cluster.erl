@@ -28,7 +28,10 @@ stop({Peer, _Node}) -> peer:stop(Peer).
 -spec new([node()], atom(), [yoyoash:option()]) -> table().
 new(Nodes, Name, Options) ->
     [Name = call(Node, new, [Name, [named_table | Options]]) || Node <- Nodes],
-    #{name => Name, keypos => proplists:get_value(keypos, Options, 1), nodes => list_to_tuple(Nodes)}.
+    #{name => Name, keypos => keypos(Options), nodes => list_to_tuple(Nodes)}.
+
+%% Returns the position of the key: the last option counts, as in the store.
+keypos(Options) -> lists:last([1 | proplists:get_all_values(keypos, Options)]).
 
 %% Returns the node that has a key.
 -spec place(table(), term()) -> node().

@@ -6,7 +6,7 @@
 
 -spec main() -> no_return().
 main() ->
-    try cluster:start([yoyoash_one, yoyoash_two, yoyoash_three], os:getenv("YOYOASH_PROGRAM")) of
+    try cluster:start(node_names(), os:getenv("YOYOASH_PROGRAM")) of
         Peers ->
             try show(Peers) after [catch cluster:stop(Peer) || Peer <- Peers] end,
             halt(0)
@@ -15,6 +15,9 @@ main() ->
             io:format(standard_error, "cluster: ~ts~n", [Line]),
             halt(1)
     end.
+
+%% Returns names of nodes that no other run at the same time has.
+node_names() -> [list_to_atom(lists:concat(["yoyoash_", Number, "_", os:getpid()])) || Number <- [one, two, three]].
 
 show(Peers = [_, Second = {_, Two}, _]) ->
     Nodes = [Node || {_, Node} <- Peers],
