@@ -1,4 +1,4 @@
-%% @doc Tables with the calls of `ets', in a formally verified store.
+%% @doc Tables with the calls of `ets', in a proved correct store.
 %%
 %% A program that says `yoyoash' where it said `ets' has its tables in the program `ets_script', which one process runs
 %% through a port. Start that process by {@link start_link/1}, by {@link child_spec/1} under a supervisor, or by the
