@@ -4,7 +4,7 @@ import re
 import threading
 import time
 
-from crates import read
+from tools import read
 
 TICKS = os.sysconf("SC_CLK_TCK")
 

@@ -14,10 +14,9 @@ import subprocess
 import sys
 import tempfile
 
-from checks import Prover
-from crates import crates_of, read
 from parts import PROGRAM, TOP
 from static_library import archive_of, build
+from tools import Prover, crates_of, read
 
 DIST = f"{TOP}/dist/x86_64-linux"
 FILES = ["ets_script", "libyoyoash.a", "libyoyoash.so"]

@@ -7,7 +7,7 @@ import subprocess
 import threading
 import time
 
-from crates import read
+from tools import read
 
 TOP = os.path.realpath(f"{os.path.dirname(os.path.realpath(__file__))}/../..")
 PROGRAM = "crates/ets_script_cli"

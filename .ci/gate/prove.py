@@ -12,9 +12,8 @@ import tempfile
 import time
 
 from costs import budget
-from crates import PARTS, crates_of, read
-from lanes import Log
 from parts import BUDGET, PROGRAM, TOP
+from tools import PARTS, Log, crates_of, read
 
 OUT = f"{TOP}/{PROGRAM}/out"
 # The first guess of how fast a run goes, as the part of all processors' time in which proofs run, and the seconds of measured time that

@@ -6,8 +6,8 @@ import sys
 import tempfile
 import time
 
-from crates import crates_of
 from parts import BEGAN, TOP, Part, end_on_signals, say, side_by_side, unproved
+from tools import crates_of
 
 DIST = f"{TOP}/dist/x86_64-linux/ets_script"
 # The list, its keys, and the terms below both.
@@ -23,7 +23,7 @@ def main():
         proofs[name] = Part(f"{name} proved", ["rt", "check", "--jobs", "1"], f"crates/{name}", after=below)
     on_dist = [Part(it.removeprefix(f"{TOP}/"), [it]) for it in sorted(glob.glob(f"{TOP}/bindings/*/test"))]
     on_dist += [Part("the snippets of the pages", [f"{TOP}/.ci/snippets", DIST])]
-    tests = [Part(f"the tests of {name}", ["rt", "try", "--test", "--seconds", "300"], f"crates/{name}") for name in crates if name.endswith("_tests")]
+    tests = [Part(f"the tests of {name}", ["rt", "try", "--test", "--seconds", "300"], f"crates/{name}") for name in crates if name.startswith("test_")]
     with tempfile.TemporaryDirectory(prefix="quick-") as logs:
         parts = [*proofs.values(), *unproved(logs), *on_dist, *tests]
         failed = side_by_side(parts, logs, len(os.sched_getaffinity(0)))

@@ -8,10 +8,9 @@ import tempfile
 import time
 
 from costs import Costs, budget, table
-from crates import crates_of
 from dist import built
-from lanes import Log
 from parts import BEGAN, BUDGET, PROGRAM, TOP, Part, end_on_signals, say, side_by_side, unproved
+from tools import Log, crates_of
 
 
 def copy_without_edits(to):
@@ -108,7 +107,7 @@ def main(words):
         all_parts = [*single, proofs, mutants]
         side_by_side(all_parts, logs, len(all_parts))
         counts = [(1, 0) if it.is_well else (0, 1) for it in single]
-        counts += [counted(r"(\d+) passed, (\d+) failed", proofs.text), counted(r"(\d+) refused, (\d+) not", mutants.text)]
+        counts += [counted(r"(\d+) passed, (\d+) failed", proofs.text), counted(r"(\d+) rejected, (\d+) not", mutants.text)]
         print(report(mutants, costs))
     passed, failed = map(sum, zip(*counts))
     # (a part can fail without a count of its own)

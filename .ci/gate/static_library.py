@@ -6,9 +6,8 @@ import os
 import subprocess
 import sys
 
-from checks import Prover
-from crates import crates_of
 from parts import CHECKED
+from tools import Prover, crates_of
 
 
 def archive_of(crate):

@@ -9,7 +9,7 @@ CYCLE = re.compile(r"^\s*#\[cycle\((\w+)\)\]")
 
 
 class Function:
-    """A function with a body, from its comments and attributes to its last line."""
+    """A function with a body: its lines, from its comments and attributes to its last line."""
 
     def __init__(self, file, lines, name, modules, owner, cycle):
         self.file, self.lines, self.name, self.owner, self.cycle = file, lines, name, owner, cycle
@@ -18,14 +18,14 @@ class Function:
         self.modules += modules
 
     def key(self):
-        """What no other edit of a round may touch: its cycle of calls, which has one proof, or else itself."""
+        """Returns what no other edit of a round may touch: its cycle of calls, which has one proof, or else itself."""
         return self.cycle or (self.file, self.lines.start)
 
     def holds(self, file, row):
         return self.file == file and row in self.lines
 
     def is_named(self, path):
-        """Whether the prover's name can be this function's: of a method by its type, wherever the impl stands, as
+        """Returns whether the prover's name can be this function's. A method is named by its type, wherever the impl is:
         walked::Walked::fix, items::RefItemsIntoIterator::into_iter or fault::TextFaultFromAllocError::from."""
         _, *parts = path.split("::")
         if parts[-1] != self.name:
@@ -35,20 +35,20 @@ class Function:
         return parts[:-1] == self.modules
 
     def has_inside(self, path):
-        """Whether the prover's name is a closure's or a loop's of this function, as list::fn::are_counters::all."""
+        """Returns whether the prover's name is a closure's or a loop's of this function: list::fn::are_counters::all."""
         parts = path.split("::")[1:]
         is_there = self.owner in parts or parts[: len(self.modules)] == self.modules
         return is_there and "fn" in parts[:-1] and self.name in parts[parts.index("fn") :]
 
     def has_cycle(self, folder):
-        """Whether a folder of proofs is that of the cycle of calls that it stands in: by the cycle's name, or, where it has
-        none, as a function that its closures call, by the names of its members, as proofs/workers/+fn-run_from-join+run_from."""
+        """Returns whether a folder of proofs belongs to the cycle of calls that this function is in. The folder has the cycle's name,
+        or else the names of its members: proofs/workers/+fn-run_from-join+run_from."""
         at, plus, members = folder.partition("/+")
         if self.cycle:
             return members == self.cycle
         return bool(plus) and at == "/".join(["proofs", *self.modules]) and self.name in members.split("+")
 
-    def is_told_by(self, path):
+    def owns(self, path):
         return self.is_named(path) or self.has_inside(path)
 
 
@@ -72,7 +72,7 @@ def functions(file, text):
 
 
 def first_of(lines, row):
-    """The first of the comments and attributes above a function's head, and the cycle of calls that they name."""
+    """Returns the row of the first comment or attribute above a function's head, and the cycle of calls that they name."""
     cycle = ""
     while row and re.match(r"^\s*(#\[|///)", lines[row - 1]):
         row -= 1
@@ -82,7 +82,7 @@ def first_of(lines, row):
 
 
 def last_of(lines, row, indent):
-    """The last line of the function whose head stands in a row, or None where it has no body."""
+    """Returns the last row of the function whose head is in a row, or None if it has no body."""
     for at in range(row, len(lines)):
         line = lines[at].rstrip()
         is_outer = line.startswith(indent) and not line.startswith(f"{indent} ")
@@ -92,7 +92,7 @@ def last_of(lines, row, indent):
 
 
 def owner_of(head):
-    """The type that a block is of: of `impl<T> Trait<X> for a::Type<T> where ..` it is Type."""
+    """Returns the type that a block is for: Type, for `impl<T> Trait<X> for a::Type<T> where ..`."""
     depth, plain = 0, ""
     for letter in head.replace("->", "  "):
         depth += (letter == "<") - (letter == ">")

@@ -5,11 +5,19 @@ import re
 
 # The folders of a crate that a check reads.
 PARTS = ("src", "specs", "proofs")
+# What starts a comment, by the suffix of a file.
+COMMENTS = {".rt": b"//", ".antt": b"--"}
 
 
 def read(file):
     with open(file, encoding="utf-8") as it:
         return it.read()
+
+
+def without_comments(path, text):
+    """Returns the bytes of a file without the lines that are comments only, since no proof depends on them."""
+    mark = COMMENTS.get(os.path.splitext(path)[1])
+    return b"\n".join(it for it in text.split(b"\n") if not mark or not it.lstrip().startswith(mark))
 
 
 class Crate:
@@ -22,7 +30,7 @@ class Crate:
         return "src/main.rt" if os.path.isfile(f"{self.folder}/src/main.rt") else "src/lib.rt"
 
     def files(self, *parts):
-        """The crate's files in these of its folders, each as a path from the crate's own."""
+        """Yields the crate's files in these of its folders, each as a path from the crate's own."""
         for part in parts:
             for at, folders, names in os.walk(f"{self.folder}/{part}"):
                 folders.sort()
@@ -33,16 +41,16 @@ class Crate:
         return sum(read(f"{self.folder}/{it}").count("\n") for it in self.files(*PARTS))
 
     def sum(self, *parts):
-        """A sum over the crate's line in crates.txt and its files in these folders."""
+        """Returns a checksum over the crate's line in crates.txt and its files in these folders, without comments."""
         made = hashlib.sha256(repr((self.name, self.kind, self.uses)).encode())
         for path in self.files(*parts):
             with open(f"{self.folder}/{path}", "rb") as it:
-                made.update(repr((path, it.read())).encode())
+                made.update(repr((path, without_comments(path, it.read()))).encode())
         return made.hexdigest()
 
 
 def crates_of(tree):
-    """The crates by name, in the file's order, each with those below it, lowest first."""
+    """Returns the crates by name, in the file's order, each with those below it, lowest first."""
     found = {}
     for line in read(f"{tree}/crates.txt").splitlines():
         head, _, uses = line.partition("#")[0].partition(":")

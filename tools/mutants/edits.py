@@ -1,13 +1,13 @@
-"""The wrong bodies of a crate: crates/NAME/must-fail/*.edit, as `rt must-fail` reads them."""
+"""The mutants of a crate: crates/NAME/must-fail/*.edit, as `rt must-fail` reads them."""
 import os
 import re
 
-from crates import PARTS, read
-from functions import functions
+from .crates import PARTS, read
+from .functions import functions
 
 
 class Edit:
-    """Lines 'file: PATH', and then pairs 'old: TEXT', 'new: TEXT', of which each old text stands once in the file."""
+    """Lines 'file: PATH', and then pairs 'old: TEXT', 'new: TEXT', where each old text occurs once in the file."""
 
     def __init__(self, crate, path):
         self.crate, self.name = crate, os.path.basename(path)[: -len(".edit")]
@@ -22,7 +22,7 @@ class Edit:
                 old = text
             elif word == "new":
                 if not file or not old:
-                    self.fault = "a 'new:' line stands before any 'file:' or 'old:' line"
+                    self.fault = "a 'new:' line comes before any 'file:' or 'old:' line"
                     return
                 self.pairs.append((file, old, text))
                 old = None
@@ -30,14 +30,14 @@ class Edit:
         if not paths or any(os.path.normpath(it) != it or it.split("/")[0] not in PARTS for it in paths):
             self.fault = "a 'file:' line names no file below src/, specs/ or proofs/, or there is no pair"
         elif self.made_in({}) is None:
-            self.fault = "an 'old:' text does not stand in its file exactly once"
+            self.fault = "an 'old:' text does not occur in its file exactly once"
         self.touched = None if self.fault else self.functions_touched()
 
     def __str__(self):
         return f"{self.crate.name}/{self.name}.edit"
 
     def made_in(self, texts):
-        """The texts, by path, with this edit made too, or None where it cannot be made."""
+        """Returns the texts, by path, with this edit made too, or None if it cannot be made."""
         made = dict(texts)
         for file, old, new in self.pairs:
             if file not in made:
@@ -51,7 +51,7 @@ class Edit:
         return made
 
     def functions_touched(self):
-        """The functions whose text it changes, or None where it changes anything else, or the number of lines."""
+        """Returns the functions whose text it changes, or None if it changes anything else, or the number of lines."""
         found = []
         for file, text in self.made_in({}).items():
             whole = read(f"{self.crate.folder}/{file}")

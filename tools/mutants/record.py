@@ -1,19 +1,21 @@
 """The record .ci/tried: the crates whose mutants were all rejected, and at which text.
 
-The line of a crate has a sum over the kit, the program that tries mutants, the crate with its mutants, and all crates below it
-without theirs."""
+The line of a crate has a checksum over the kit, the modules that decide on a mutant, the crate with its mutants, and all crates below
+it without theirs. Lines that are comments only are left out of crates."""
 import hashlib
 import os
 
-from crates import PARTS, read
+from .crates import PARTS, read
 
-HEAD = "# Each crate whose mutants were all rejected, and the sum of the text at which they were. .ci/mutants --write writes it.\n"
+HEAD = "# Each crate whose mutants were all rejected, and the checksum of the text at which they were. .ci/mutants --write writes it.\n"
+# The modules that decide whether a mutant is rejected.
+DECIDES = ("crates", "functions", "edits", "checks", "rounds")
 
 
 def program():
-    """Returns the text of the program that tries mutants."""
+    """Returns the text of the modules that decide."""
     folder = os.path.dirname(os.path.realpath(__file__))
-    return [read(f"{folder}/{name}.py") for name in ("crates", "functions", "edits", "checks", "rounds")]
+    return [read(f"{folder}/{name}.py") for name in DECIDES]
 
 
 def sum_of(crate, kit):
@@ -27,12 +29,12 @@ class Record:
         if os.path.isfile(file):
             self.sums = dict(line.split() for line in read(file).splitlines() if line and line[0] != "#")
 
-    def stands(self, name, made):
+    def has(self, name, made):
         return self.sums.get(name) == made
 
-    def write(self, sums, name, is_refused):
-        """Writes what is known of a crate now, and the lines that still hold."""
-        known = {**self.sums, name: sums[name] if is_refused else ""}
+    def write(self, sums, name, is_rejected):
+        """Writes what is known of a crate now, and the lines that are still of the present text."""
+        known = {**self.sums, name: sums[name] if is_rejected else ""}
         self.sums = {it: made for it, made in sums.items() if known.get(it) == made}
         with open(self.file, "w", encoding="utf-8") as it:
             it.write(HEAD + "".join(f"{name} {made}\n" for name, made in sorted(self.sums.items())))

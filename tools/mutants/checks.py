@@ -1,4 +1,4 @@
-"""One check of a crate with other texts in the place of its own, and what the prover said."""
+"""One check of a crate with some of its texts replaced, and what the prover said."""
 import os
 import re
 import shutil
@@ -9,30 +9,30 @@ import tempfile
 import threading
 import time
 
-from crates import PARTS
+from .crates import PARTS
 
-# A function's verdict, where it has a goal of its own that is not proved: not only a call of one that is not, its own or
-# that of another one of its cycle.
+# The verdict on a function with a goal of its own that is not proved. A call of an unproved function, by it or by another function of
+# its cycle, is no goal of its own.
 OWN = re.compile(r"^fn (\S+): (?:not proved\b|no proof: (?!(?:in `[^`]*`, of this cycle of calls: )?it calls ))")
 GOAL = re.compile(r"^note: (src/\S+?):(\d+):\d+: it is not proved ")
-# A goal that has no answer, of the function whose folder of proofs this is.
+# A goal without an answer. The group is the folder of proofs of its function.
 UNANSWERED = re.compile(r"^fn \S+: no proof: expected answers in \./(proofs/\S+)/Answers\.antt; `search` did not prove ")
 ERROR = re.compile(r"^(?:\./)?(\S+?):\d+:\d+: error: (?:(`[^`]*`): )?(.*)")
 COMPILER = re.compile(r"^(?:\./)?(src/\S+?):(\d+):\d+: error")
-# A proof that only names what another body took away says nothing of the contract.
+# A proof that only names what another body took away says nothing about the contract.
 NAMES_ONLY = re.compile(r"has no field|is not in scope|has no `|was not admitted")
 UNREADABLE = re.compile(r"is not in scope|has no field|is no name|operand is missing|expected the end|cannot continue")
 STALE = re.compile(r"module .Rattle-(\w+)-.*Run the lower steps again")
 
 
 class Said:
-    """What a check said: `own` has the functions with goals of their own, each with the places of these goals."""
+    """What a check said: `own` has the functions with goals of their own, each with the lines of these goals."""
 
     def __init__(self, status, text, wall, used):
         self.status, self.wall, self.used = status, wall, used
         self.lines = text.rstrip("\n").split("\n")
         self.is_stale = bool(STALE.search(text))
-        # (a check of some functions alone gives no verdict on the crate, only on these)
+        # (a check of some functions gives a verdict on these only, not on the crate)
         self.is_judged = status == 1 and self.lines[-1].startswith(("logic=not-proved", "only="))
         self.is_proved = status == 0 and self.lines[-1].startswith("logic=proved")
         self.own, self.paths, self.proof_folders, goals = {}, [], [], []
@@ -51,7 +51,7 @@ class Said:
                 goals = []
 
     def unreadable(self, changed):
-        """A line that says that a text could not be read, so that no contract was tried, or ''."""
+        """Returns a line that says that a text could not be read, so that no contract was tried, or ''."""
         for line in self.lines:
             error = ERROR.match(line)
             if error and (error[1] in changed or error[1].startswith(("src/", "specs/"))):
@@ -59,7 +59,7 @@ class Said:
                     return line
         return ""
 
-    def refused_by_compiler(self):
+    def rejected_by_compiler(self):
         return [(it[1], int(it[2])) for it in map(COMPILER.match, self.lines) if it]
 
 
@@ -67,10 +67,10 @@ class Prover:
     """The kit's prover over the libraries that `rt ci` left in a tree."""
 
     def __init__(self, libraries):
-        rt = shutil.which("rt") or sys.exit("wrong_bodies: the kit's command rt is not on the path")
+        rt = shutil.which("rt") or sys.exit("mutants: the kit's command rt is not on the path")
         ask = lambda word: subprocess.run([rt, word], stdout=subprocess.PIPE, text=True, check=True).stdout.strip()
         self.kit, self.line, self.libraries = os.path.dirname(ask("doc")), ask("version"), libraries
-        # The shell ends all checks, which are of its group, when this program ends, however it ends.
+        # All checks are in the process group of this shell, which ends them when this program ends, however it ends.
         reads, self.held = os.pipe()
         how = {"stdin": reads, "stdout": subprocess.DEVNULL, "stderr": subprocess.DEVNULL, "preexec_fn": os.setpgrp}
         self.guard = subprocess.Popen(["sh", "-c", "read _; kill -9 0"], **how)
@@ -94,9 +94,9 @@ class Prover:
         return words + [it for path in only for it in ("--only", path.partition("::")[2])]
 
     def check(self, crate, texts, jobs, kept, only=()):
-        """Checks a copy of the crate with these texts, over the work in `kept` where it is given: all of it, or only these
-        functions and what they call."""
-        with tempfile.TemporaryDirectory(prefix="wrong-body-") as room, tempfile.TemporaryFile() as out:
+        """Checks a copy of the crate with these texts: all of it, or only the functions of `only` and what they call. The check
+        starts from the work in `kept`, if that is given."""
+        with tempfile.TemporaryDirectory(prefix="mutant-") as room, tempfile.TemporaryFile() as out:
             for part in PARTS:
                 if os.path.isdir(f"{crate.folder}/{part}"):
                     shutil.copytree(f"{crate.folder}/{part}", f"{room}/{part}")
@@ -113,6 +113,6 @@ class Prover:
             out.seek(0)
             text = out.read().decode(errors="replace")
         if ran.returncode == -signal.SIGKILL and jobs > 1:
-            # most likely for want of memory
+            # (most likely it ran out of memory)
             return self.check(crate, texts, 1, kept, only)
         return Said(ran.returncode, text, time.time() - began, used.ru_utime + used.ru_stime)

@@ -1,4 +1,4 @@
-"""Tests .ci/mutants: plants, among the mutants of split_key, edits that it must report."""
+"""Tests the program: plants, among the mutants of split_key, edits that it must report."""
 import os
 import re
 import shutil
@@ -6,16 +6,17 @@ import subprocess
 import sys
 import tempfile
 
-from checks import OWN, UNANSWERED
-from functions import functions
-from lanes import fate
+from .checks import OWN, UNANSWERED
+from .crates import without_comments
+from .functions import functions
+from .lanes import fate
 
 # Each planted edit: its file, the text before and after, and the verdict that it must get.
 PLANTED = {
-    "a_comment": ("src/keys.rt", "in reverse order.", "in the reverse order.", "NOT REFUSED"),
-    "a_mask_by_name": ("src/buckets.rt", "hash & (size - 1)", "{ let mask = size - 1; hash & mask }", "NOT REFUSED"),
+    "a_comment": ("src/keys.rt", "in reverse order.", "in the reverse order.", "NOT REJECTED"),
+    "a_mask_by_name": ("src/buckets.rt", "hash & (size - 1)", "{ let mask = size - 1; hash & mask }", "NOT REJECTED"),
     # (the function that it calls is changed in the same round, so it has no goal of its own there)
-    "a_sum_turned_round": ("src/keys.rt", "2 * u64::from(rev32(hash)) + 1", "1 + 2 * u64::from(rev32(hash))", "NOT REFUSED"),
+    "a_sum_turned_round": ("src/keys.rt", "2 * u64::from(rev32(hash)) + 1", "1 + 2 * u64::from(rev32(hash))", "NOT REJECTED"),
     "a_text_that_is_gone": ("src/keys.rt", "number.swap_bits()", "number", "BAD EDIT"),
     "a_word_that_is_none": ("src/buckets.rt", "bucket - (1 << top)", "bucket - (1 << tip)", "BAD EDIT"),
 }
@@ -54,12 +55,22 @@ FATES = {
 }
 
 
+# Files, and what the record has of them.
+COMMENTED = [
+    ("src/lib.rt", b"//! All keys.\nfn key() {\n    // why\n}", b"fn key() {\n}"),
+    ("specs/Key.antt", b"-- a key\nkey = 1 -- one", b"key = 1 -- one"),
+    ("must-fail/a.edit", b"-- as it is", b"-- as it is"),
+]
+
+
 class Room:
     """A tree of its own with the crate split_key and this program."""
 
     def __init__(self, top, folder):
         self.folder, self.edits = folder, f"{folder}/crates/split_key/must-fail"
-        shutil.copytree(f"{top}/.ci", f"{folder}/.ci", ignore=shutil.ignore_patterns("tried"))
+        shutil.copytree(f"{top}/tools", f"{folder}/tools", ignore=shutil.ignore_patterns("__pycache__"))
+        os.mkdir(f"{folder}/.ci")
+        shutil.copy(f"{top}/.ci/mutants", f"{folder}/.ci")
         shutil.copytree(f"{top}/crates/split_key", f"{folder}/crates/split_key", ignore=shutil.ignore_patterns("out"))
         with open(f"{folder}/crates.txt", "w", encoding="utf-8") as it:
             it.write("split_key:\n")
@@ -91,19 +102,21 @@ def self_test(top):
         expect(member.has_cycle(folder) == is_its, "a cycle of calls", folder)
     for text, is_proved in FATES.items():
         expect(fate("split_key", text) == is_proved, "what rt ci says", text)
+    for path, text, left in COMMENTED:
+        expect(without_comments(path, text) == left, "a text without comments", text)
     with tempfile.TemporaryDirectory(prefix="mutants-self-") as folder:
         room = Room(top, folder)
         true = len(os.listdir(room.edits))
         status, text = room.tried("--write")
-        expect(status == 0 and text.endswith(f"\n{true} refused, 0 not\n"), "the crate's own edits are refused", text)
+        expect(status == 0 and text.endswith(f"\n{true} rejected, 0 not\n"), "the crate's own mutants are rejected", text)
         expect(os.path.getsize(f"{folder}/.ci/tried") > 100, "the record has a line", text)
         room.plant()
         status, text = room.tried("--write")
-        expect(status == 1 and text.endswith(f"\n{true} refused, {len(PLANTED)} not\n"), "among others, all planted edits are reported", text)
+        expect(status == 1 and text.endswith(f"\n{true} rejected, {len(PLANTED)} not\n"), "among others, all planted edits are reported", text)
         for name, (_, _, _, word) in PLANTED.items():
             expect(re.search(rf"^mutants: must-fail split_key/{name}.edit: {word}: ", text, re.M), f"{name} is {word}", text)
         expect("split_key " not in open(f"{folder}/.ci/tried", encoding="utf-8").read().split("\n", 1)[1], "the record has no line of it any more", text)
         status, text = room.tried("split_key/a_mask_by_name")
-        expect(status == 1 and text.endswith("\n0 refused, 1 not\n"), "a weak edit by itself is reported", text)
+        expect(status == 1 and text.endswith("\n0 rejected, 1 not\n"), "a weak edit by itself is reported", text)
     print(f"mutants --self: {len(faults)} faults")
     return 1 if faults else 0

@@ -4,7 +4,7 @@ import re
 import threading
 import time
 
-from crates import read
+from .crates import read
 
 
 def lanes():

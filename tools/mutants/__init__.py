@@ -1,0 +1,1 @@
+"""Tries the mutants of the crates of a tree, many in one check."""
