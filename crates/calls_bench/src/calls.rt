@@ -63,7 +63,7 @@ pub(crate) fn number_in(reply: &Reply) -> Option<u64> {
     }
 }
 
-/// Whether a key was told with its objects.
+/// Returns whether a key was told with its objects.
 pub(crate) fn is_entry(reply: &Reply) -> bool {
     match reply {
         Reply::Value(Term::Tuple(parts)) => parts.len() == 2,
@@ -71,7 +71,7 @@ pub(crate) fn is_entry(reply: &Reply) -> bool {
     }
 }
 
-/// Whether a lookup found an object.
+/// Returns whether a lookup found an object.
 pub(crate) fn has_found(reply: &Reply) -> bool {
     match reply {
         Reply::Value(Term::List(objects)) => objects.len() == 1,

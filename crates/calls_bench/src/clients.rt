@@ -26,7 +26,8 @@ impl Gate for Open {
     fn after(&self, _client: usize, _call: usize) {}
 }
 
-/// Lets so many clients ask so many calls each, at once, and times that. Want of memory, and more than 4,096 clients, are an error.
+/// Lets a number of clients ask a number of calls each, at once, and times that. Running out of memory, and more than
+/// 4,096 clients, are errors.
 pub(crate) fn crowd<R: Alloc<A = Global> + Clock + Threads + Wait + Sync>(
     rt: &R,
     clients: u32,
@@ -56,7 +57,7 @@ fn share<L: Ledger + Send + Sync, R: Alloc<A = Global> + Clock + Threads + Wait 
     work_together(rt, &shared, clients, calls)
 }
 
-/// The jobs are made before the clock runs, and what the clients saw is counted behind it.
+/// The jobs are made before the clock runs, and what the clients saw is counted after it.
 fn work_together<L: Ledger + Send + Sync, R: Alloc<A = Global> + Clock + Threads + Wait + Sync>(
     rt: &R,
     shared: &Shared<L, Fnv>,
@@ -96,7 +97,7 @@ fn work<L: Ledger, R: Wait>(
     Ok(work)
 }
 
-/// So many clients.
+/// A number of clients.
 fn joined<L: Ledger, R: Wait>(
     rt: &R,
     alloc: Global,

@@ -1,4 +1,5 @@
-//! Times whole calls of a node, of one caller and of clients in threads, and prints lines of WHO OPERATION FIGURE: calls_bench times|walks|alone|clients|check COUNT CALLS.
+//! Times whole calls of a node, of one caller and of clients in threads, and prints lines of WHO OPERATION FIGURE:
+//! calls_bench times|walks|alone|clients|check COUNT CALLS.
 #![tactic(auto)]
 
 mod calls;
@@ -20,7 +21,8 @@ use std::{env, io};
 /// What is taken where no number is given.
 const COUNT: u32 = 1_000;
 
-/// Does one part of the measuring: `clients` of so many threads, each with so many calls; the others of so many objects or calls.
+/// Does one part of the measuring: `clients` with a number of threads, each with a number of calls; the others with a
+/// number of objects or calls.
 fn run<R: Print + Alloc<A = Global> + Clock + Threads + Wait + Sync>(
     rt: &R,
     part: &str,

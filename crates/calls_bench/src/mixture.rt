@@ -8,7 +8,7 @@ use std::io;
 /// How many keys there are.
 pub(crate) const KEYS: u64 = 10_000;
 
-/// So many calls, in an order of the seed's own.
+/// A number of calls, in an order of the seed's own.
 pub(crate) fn mixture(alloc: Global, calls: u32, seed: u64) -> Result<Vec<Call>, AllocError> {
     let mut mixture = Vec::new(alloc);
     for (at, k) in shuffled(alloc, u64::from(calls), seed)?.iter().enumerate() {
@@ -32,7 +32,7 @@ pub(crate) struct Outcome {
 }
 
 impl Outcome {
-    /// Prints the nanoseconds of a call, where so many callers asked so many calls each.
+    /// Prints the nanoseconds of a call, where a number of callers asked a number of calls each.
     pub(crate) fn show(
         self,
         rt: &impl Print,

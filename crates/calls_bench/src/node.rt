@@ -37,7 +37,7 @@ pub(crate) fn asks(call: Call) -> Step {
     Step::Ask(PID, call)
 }
 
-/// Does two steps of growth, so far as they are due.
+/// Does two steps of growth, if they are pending.
 pub(crate) fn grow(node: &mut Node<Fnv>) -> Result<(), AllocError> {
     tend(node)?;
     tend(node)

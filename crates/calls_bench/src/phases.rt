@@ -41,7 +41,7 @@ impl Phase {
         }
     }
 
-    /// The steps, of so many keys.
+    /// The steps, of a number of keys.
     pub(crate) fn steps(self, alloc: Global, count: u32) -> Result<Vec<Step>, AllocError> {
         let mut steps = Vec::new(alloc);
         for k in shuffled(alloc, u64::from(count), self.seed())? {

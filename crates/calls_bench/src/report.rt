@@ -81,7 +81,7 @@ fn live(
     Ok(())
 }
 
-/// Prints nanoseconds a step of each phase of a table of so many objects.
+/// Prints nanoseconds a step of each phase of a table of a number of objects.
 pub(crate) fn times(rt: &(impl Print + Alloc<A = Global> + Clock), count: u32) -> io::Result<()> {
     let mut phases = all_phases(rt.alloc())?;
     for _turn in 0..repeats(count) {
@@ -99,7 +99,7 @@ pub(crate) fn times(rt: &(impl Print + Alloc<A = Global> + Clock), count: u32) -
     Ok(())
 }
 
-/// Prints nanoseconds a step of a mixture of so many, of one caller.
+/// Prints nanoseconds a step of a mixture of steps of one caller.
 pub(crate) fn alone(rt: &(impl Print + Alloc<A = Global> + Clock), calls: u32) -> io::Result<()> {
     let mut node = with_table(rt.alloc())?;
     mixed(rt, &mut node, calls)
@@ -118,7 +118,7 @@ fn mixed(
     Outcome { nanoseconds, found }.show(rt, "alone", 1, calls)
 }
 
-/// Prints nanoseconds a call of so many clients, which ask so many each at once.
+/// Prints nanoseconds a call of a number of clients, which ask a number of each at once.
 pub(crate) fn crowded<R: Print + Alloc<A = Global> + Clock + Threads + Wait + Sync>(
     rt: &R,
     clients: u32,

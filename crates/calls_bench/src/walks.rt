@@ -13,7 +13,7 @@ use std::time::Instant;
 /// How often each walk is timed; the least counts.
 const TURNS: u32 = 3;
 
-/// Two walks over one table, as steps that are made before the clock runs: each begins behind the first key.
+/// Two walks over one table, as steps that are made before the clock runs: each begins after the first key.
 #[derive(Drop)]
 struct Walks {
     apart: Vec<Step>,
@@ -59,7 +59,7 @@ fn told_key(node: &mut Node<Fnv>, step: Step) -> Result<Option<u64>, AllocError>
     Ok(number_in(&reply))
 }
 
-/// Puts so many objects in, in an order that jumps about.
+/// Puts a number of objects in, in an order that jumps about.
 fn fill(alloc: Global, node: &mut Node<Fnv>, count: u32) -> Result<(), AllocError> {
     for k in shuffled(alloc, u64::from(count), 1)? {
         put(alloc, node, k)?;
@@ -81,7 +81,7 @@ fn tells(node: &mut Node<Fnv>, step: &Step) -> Result<bool, AllocError> {
     Ok(has_found(&reply) || is_entry(&reply))
 }
 
-/// Prints nanoseconds an object of either walk over a table of so many.
+/// Prints nanoseconds an object of either walk over a table of a number.
 pub(crate) fn time_walks(
     rt: &(impl Print + Alloc<A = Global> + Clock),
     count: u32,
@@ -122,7 +122,7 @@ fn timed(
     Ok(spent)
 }
 
-/// Prints how many objects either walk tells behind the first.
+/// Prints how many objects either walk tells after the first.
 pub(crate) fn check(rt: &(impl Print + Alloc<A = Global>), count: u32) -> io::Result<()> {
     let mut node = with_table(rt.alloc())?;
     checked(rt, &mut node, count)

@@ -11,7 +11,7 @@ use Rattle.node_list.proofs.CellLaws.{from-on}
 use Rattle.node_list.proofs.CallerLaws.{put-stands, put-keeps}
 use Rattle.ets_bench.specs.Buckets.{IsDummyOf, HasDummies}
 
--- a fresh place is none at which a node stands
+-- a fresh place is one without a node
 pub fresh-apart : (place at : ℕ) (cs : List Cell) (d : Cell) (ds : List Cell) → IsFresh place cs → from at cs ≡ d ∷ ds → place ≢ at
 fresh-apart place at [] d ds f e = absurd (cc)
 fresh-apart place at (c ∷ cs) d ds f e =
@@ -20,7 +20,7 @@ fresh-apart place at (c ∷ cs) d ds f e =
       | inr other ↦ fresh-apart place at cs d ds f.1 (sym (from-on at c cs other) ∙ e)
     ]
 
--- a dummy stands before the keys that are not below its own
+-- a dummy is before the keys that are not below its own
 pub dummy-stands : (bucket at key : ℕ) (cs : List Cell) → IsDummyOf bucket at cs → key_of_dummy bucket ≤ key → StandsUpTo key at cs
 dummy-stands bucket at key cs d h = record { cell = new_cell at (key_of_dummy bucket) None; later = d.later; is = d.is; up_to = h }
 

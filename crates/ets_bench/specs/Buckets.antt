@@ -5,7 +5,7 @@ use Rattle.node_list.specs.Cells.{Cell, new_cell}
 use Rattle.node_list.specs.Places.{from}
 use Rattle.ets_bench.specs.declared.lists.Lists.{Lists}
 
--- the dummy of this bucket stands at this place
+-- the dummy of this bucket is at this place
 pub record IsDummyOf (bucket at : ℕ) (cells : List Cell) : Type 0 where
   pub later : List Cell
   pub is : from at cells ≡ new_cell at (key_of_dummy bucket) None ∷ later

@@ -12,9 +12,10 @@ use std::alloc::{AllocError, Global};
 /// The most items, and the most buckets.
 const MOST: u64 = 1 << 31;
 
-/// Puts the items `{K,1}`, for each K below `items` in shuffled order, into a list of so many buckets; where `finds` is
-/// not 0 it then looks each up in another order, and answers how many it found. It answers 0 at once where the number
-/// of buckets is no power of two or a number is above 2^31, and where memory is refused. It promises an answer, and no more.
+/// Puts the items `{K,1}`, for each K below `items` in shuffled order, into a list of a number of buckets; where
+/// `finds` is not 0 it then looks each up in another order, and answers how many it found. It answers 0 at once where
+/// the number of buckets is no power of two or a number is above 2^31, and if memory runs out. It promises an answer,
+/// and no more.
 #[unsafe(no_mangle)]
 pub extern "C" fn ets_bench_list(alloc: Global, items: u64, buckets: u64, finds: u64) -> u64
     ensures { finds ≡ 0 → result ≡ 0 }
@@ -34,7 +35,7 @@ pub extern "C" fn ets_bench_list(alloc: Global, items: u64, buckets: u64, finds:
     count_found(&lists, items)
 }
 
-/// A list of so many buckets with the items in it.
+/// A list of a number of buckets with the items in it.
 fn filled(alloc: Global, items: u64, buckets: u64) -> Result<Lists, AllocError>
     requires some { 0 < buckets }
     requires power { IsPowerOfTwo buckets }
@@ -47,7 +48,7 @@ fn filled(alloc: Global, items: u64, buckets: u64) -> Result<Lists, AllocError>
     Ok(lists)
 }
 
-/// A list of so many buckets, with room for the items.
+/// A list of a number of buckets, with room for the items.
 fn with_dummies(alloc: Global, items: u64, buckets: u64) -> Result<Lists, AllocError>
     requires some { 0 < buckets }
     requires power { IsPowerOfTwo buckets }

@@ -17,7 +17,7 @@ pub struct Lists {
 }
 
 impl Lists {
-    /// A list of one bucket, with room for so many nodes and buckets more.
+    /// A list of one bucket, with room for a number of nodes and buckets more.
     pub fn new(alloc: Global, nodes: usize, buckets: usize) -> Result<Lists, AllocError>
         ensures stands { IfOk result (λ l. HasDummies l.dummies.items l.list.cells) }
         ensures one { IfOk result (λ l. vec_len l.dummies ≡ 1) }
@@ -82,7 +82,7 @@ impl Lists {
         Ok(())
     }
 
-    /// Whether an item of this number stands in its bucket.
+    /// Returns whether an item of this number is in its bucket.
     pub fn has_item(&self, number: Integer, steps: &mut Steps) -> bool
         requires { IsReady self.now }
     {

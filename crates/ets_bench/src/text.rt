@@ -3,7 +3,7 @@ use term_text::{print_term, read_term};
 
 const TEXT: &str = "{key123,456,[1,2,3],'Hello World'}";
 
-/// Reads one text so many times, and answers how many bytes it read in all, modulo 2^64, or 0 where memory is refused.
+/// Reads one text a number of times, and answers how many bytes it read in all, modulo 2^64, or 0 if memory runs out.
 /// Its contract promises safety and an end; the driver compares the answer.
 #[unsafe(no_mangle)]
 pub extern "C" fn ets_bench_read(alloc: Global, turns: u64) -> u64 {
@@ -17,8 +17,8 @@ pub extern "C" fn ets_bench_read(alloc: Global, turns: u64) -> u64 {
     bytes
 }
 
-/// Reads the text once, prints its term so many times into one `String`, and answers how many bytes it printed in all,
-/// modulo 2^64, or 0 where memory is refused. Its contract promises safety and an end; the driver compares the answer.
+/// Reads the text once, prints its term a number of times into one `String`, and answers how many bytes it printed in
+/// all, modulo 2^64, or 0 if memory runs out. Its contract promises safety and an end; the driver compares the answer.
 #[unsafe(no_mangle)]
 pub extern "C" fn ets_bench_print(alloc: Global, turns: u64) -> u64 {
     let Ok((term, _taken)) = read_term(alloc, TEXT) else {

@@ -1,4 +1,4 @@
-//! A store behind a pointer that C keeps.
+//! A store that C keeps by a pointer.
 ghost use Rattle.std.specs.Prelude.{◌≡◌, Option, None, Some, IsSome};
 ghost use Rattle.std.specs.Coded.{coded_option};
 ghost use Rattle.std_alloc.specs.Box.Ownership.{box_owns};
@@ -52,7 +52,7 @@ impl Model for Held {
     ghost also_owns = { λ h. holds the_row h.alloc h.at h.store };
 }
 
-// It owns the store alone, and `free` takes memory back on any thread.
+// It owns the store alone, and `free` gives memory back on any thread.
 unsafe impl Send for Held {}
 
 impl Held {

@@ -1,4 +1,4 @@
--- Lines that were answered, one behind the other.
+-- Lines that were answered, one after another.
 use Rattle.std.proofs.Common.{◌≡◌, ℕ, zero, suc, ◌≤◌, ◌<◌, ◌⊎◌, Bool, true, false, List, [], ◌∷◌, ◌++◌, length, refl, sym, ap, ◌∙◌, subst, arith, inl, inr, append-nil, append_assoc}
 use Rattle.ets_script.specs.Lines.{Line, text, too_long, IsOneLine, IsLine}
 use Rattle.ets_script.specs.Replies.{printed}
@@ -15,7 +15,7 @@ weaker old new bytes said L M f a = record { line = a.line; answer = a.answer; i
 pub none_is : the_none ≡ the_none
 none_is = refl
 
--- a line behind whole lines
+-- a line after whole lines
 pub then_line : (n : ℕ) (a b c : Scripted) (input out bytes said : List ℕ) (M : Type 0) → ScriptText n ⊥ a input out b → IsAnswered b bytes said c M → ScriptText (suc n) M a (input ++ bytes) (out ++ said) c
 then_line zero a b c input out bytes said M (i, o, s) x = (
   c,
@@ -61,7 +61,7 @@ last_text : (start s1 s2 : Scripted) (n : ℕ) (input out bytes : List ℕ) (ans
 last_text start s1 s2 n input out bytes answer M m lines one short some answers =
     (suc n, then_line n start s1 s2 input out bytes (printed answer) M lines (record { line = text bytes; answer = answer; is_line = (bytes, one, short, inr (refl, some, m, refl)); answers = answers; prints = refl }))
 
--- it ended behind an LF
+-- it ended after an LF
 last_none : (start s1 s2 : Scripted) (n : ℕ) (input out : List ℕ) (answer : Answer) (M : Type 0) → ScriptText n ⊥ start input out s1 → AnswersLine s1 (text []) answer s2 → AreLines M start input (out ++ printed answer) s2
 last_none start s1 s2 n input out answer M lines (silent, same) = (
   n,

@@ -106,7 +106,7 @@ same_lengths done p (jobs ∷ lists) (n ∷ left) (short, steps, more) = ap (λ 
 pub as_many : {limits : Limits} {lists : List (List Job)} {done : List Entry} {left : List ℕ} → RunsJobs limits lists done left → length left ≡ length lists
 as_many {limits} {lists} {done} {left} r = same_lengths done 0 lists left r.each
 
--- a fault is told as it was found
+-- a fault is reported as it was found
 pub fault_told : {N F : Type 0} (P : F → Type 0) (r : Result N F) (fault : F) → IsErrAnd r (λ told. told ≡ fault) → P fault → IfErr r P
 fault_told P (Ok x) fault told is = tt
 fault_told P (Err e) fault told is = subst P (sym told) is

@@ -1,4 +1,4 @@
--- What is told of the command line's words.
+-- What holds of the command line's words.
 use Rattle.std.proofs.Common.{zero, suc, ◌≡◌, ◌∙◌, ◌&&◌, ◌<◌, ◌≤◌, not, sym, ap, ap₂, subst, refl, inl, inr, arith, ℕ, Bool, true, false, List, [], ◌∷◌, length, map, codes, Option, Some, None, Result, Ok, Err, is_some}
 use Rattle.std.specs.List.{All, list_all, slice_index_or}
 use Rattle.std.specs.Result.{IsErrAnd, IfOk}
@@ -31,7 +31,7 @@ abbrev error_or : {T : Type 0} → Result T Error → Error → Error
 error_or (Ok m) e = e
 error_or (Err f) e = f
 
--- a parse failed, and its error is told
+-- a parse failed, and its error is returned
 pub refused : {T U : Type 0} (kinds : Kinds) (parsed : Result T Error) (e : Error) (r : Result U Error) → FailsBy kinds parsed → parsed ≡ Err e → IsErrAnd r (λ told. told ≡ e) → FailsBy kinds r
 refused kinds (Ok m) e r fails is told = cc
 refused kinds (Err f) e (Ok s) fails is told = absurd told
@@ -164,7 +164,7 @@ only_there (x ∷ xs) (suc k) name zero d h lt same =
     cc
 only_there (x ∷ xs) (suc k) name (suc j) d h lt same = ap suc (only_there xs k name j d (and_parts (not (bytes_eq x.id.now name)) _ h).1 (omega arith) same)
 
--- a name that is none of an option that clap adds
+-- a name that no option added by clap has
 abbrev is_own : Text → Bool
 is_own name = not (bytes_eq name []) && (not (bytes_eq name (codes "help")) && not (bytes_eq name (codes "version")))
 

@@ -73,7 +73,7 @@ module _ (old : Command) (m : ArgMatches) (p : IsParsedFrom old m) (plain : IsPl
   no_groups : groups_of p.built ≡ []
   no_groups = (p.from.plain plain).1
 
-  -- the entry is none of a group
+  -- the entry is not one of a group
   no_group : (e : Entry) → e.0.now ≡ id → EntryPasses p.built e → e.1.is_group ≡ true → ⊥
   no_group e key pass group = elim (pass.3 group) [
     | inl empty ↦ named (sym key ∙ empty)

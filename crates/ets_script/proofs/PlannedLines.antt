@@ -1,4 +1,4 @@
--- Lines that were planned, one behind the other.
+-- Lines that were planned, one after another.
 use Rattle.std.proofs.Common.{◌≡◌, ℕ, ◌≤◌, ◌<◌, ◌⊎◌, Bool, true, false, List, [], ◌∷◌, ◌++◌, length, take, drop, refl, sym, ap, ◌∙◌, subst, arith, Option, inl, inr, append-nil, append_assoc, length-append}
 use Rattle.std.specs.Prelude.{⊤}
 use Rattle.std.specs.Io.KnownBytes.{Consumes, IsAtEnd, prepend_known}
@@ -10,12 +10,12 @@ use Rattle.ets_script.specs.inside.Planning.{with_line, with_lines, last_line, A
 use Rattle.ets_script.proofs.KnownBytes.{between, nothing_held, read_more, same_known, taken_front, the_none, unheld}
 use Rattle.ets_script.proofs.HeldLines.{weaker_line, none_or_some, one_line_of, both_one_line, Ended}
 
--- a line behind lines
+-- a line after lines
 plan_then : (most : ℕ) (lines : List Line) (line : Line) (plan : Planned) → lines_plan most (lines ++ line ∷ []) plan ≡ line_plan most line (lines_plan most lines plan)
 plan_then most [] line plan = refl
 plan_then most (first ∷ lines) line plan = plan_then most lines line (line_plan most first plan)
 
--- behind whole lines one that is whole, the last, or none
+-- after whole lines one that is whole, the last, or none
 then_whole : (input bytes : List ℕ) (lines : List Line) (line : Line) → AreWhole input lines → IsLine bytes line ⊥ → AreWhole (input ++ bytes) (lines ++ line ∷ [])
 then_whole input bytes [] line none is = (bytes, [], ap (λ k. k ++ bytes) none ∙ sym (append-nil bytes), is, refl)
 then_whole input bytes (first ∷ lines) line (front, rest, parts, whole, more) is =

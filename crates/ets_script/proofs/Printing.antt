@@ -1,4 +1,4 @@
--- Texts that are printed one behind the other.
+-- Texts that are printed one after another.
 use Rattle.std.proofs.Common.{◌≡◌, ℕ, zero, suc, ◌+◌, ◌≤◌, ◌<◌, List, [], ◌∷◌, ◌++◌, length, drop, get_or, flat_map, refl, sym, ap, ◌∙◌, subst, Option, append-nil, append_assoc}
 use Rattle.std.proofs.lemmas.List.{drop_more, drop_all}
 use Rattle.std.specs.Prelude.{Some, codes, slice_index_or, Result, Ok, Err, OnOk, OnErr}
@@ -11,7 +11,7 @@ use Rattle.ets_script.specs.inside.Journal.{stop_text}
 use Rattle.ets_script.specs.inside.Output.{Sends, Breaks}
 use Rattle.ets_script.proofs.KnownBytes.{between, sends_on, sends_two, sends_none, breaks_on, breaks_first, breaks_two}
 
--- of a text behind what waited all but this rest was printed
+-- of a text after the buffered text all but this rest was printed
 pub record Printed (a : Option (List ℕ)) (p whole : List ℕ) (b : Option (List ℕ)) (q rest : List ℕ) : Type 0 where
   pub front : List ℕ
   pub parts : whole ≡ front ++ rest
@@ -73,7 +73,7 @@ stop_text_some name (suc n) some = refl
 pub entry_text_own : (names : List (List ℕ)) (e : Entry) (p : ℕ) (name : List ℕ) → process_of e.step ≡ Some p → name ≡ slice_index_or names p [] → entry_text names e ≡ name ++ (codes " " ++ (reply_text e.reply ++ codes "\n"))
 entry_text_own names e p name is named = ap (λ (o : Option ℕ). own_text names o e.reply) is ∙ ap (λ (k : List ℕ). line_of k (reply_text e.reply)) (sym named)
 
--- a whole text was printed behind nothing, and what waits goes out
+-- a whole text was printed after nothing, and the buffer is written
 pub out_ok : {T E : Type 0} (r : Result T E) (a b c : Option (List ℕ)) (p text q s : List ℕ) → p ≡ [] → Sends (between a b) (p ++ text) q → OnOk r (Sends (between b c) q s) → OnOk r (s ≡ []) → OnOk r (Appends a c text)
 out_ok (Ok x) a b c p text q s none first last empty =
     let all = subst (λ (k : List ℕ). Sends (between a c) (p ++ text) k) empty (sends_on a b c (p ++ text) q s first last) in

@@ -80,7 +80,7 @@ waited start now before old w h1 h2 left p g one waits = kept waits.kept
         enough (inl was) = let lt = (subst (λ (b : Bool). PassedOver b g.skipped) was g.passed).1 in omega (arith, lt, length-append g.skipped h1.bytes)
         enough (inr lt) = omega (arith, lt, length-append g.skipped h1.bytes)
 
--- what waited went out
+-- the buffered text went out
 pub flushed : (start now : Scripted) (before old w1 w2 : Option (List ℕ)) (h : Held) (left : Option (List ℕ)) (p1 p2 : List ℕ) → Progress start before old h left p1 w1 now → Sends (between w1 w2) p1 p2 → Progress start before old h left p2 w2 now
 flushed start now before old w1 w2 h left p1 p2 g sent = record {
   input = g.input;
@@ -103,7 +103,7 @@ refilled start now before old w h1 h2 l1 l2 p n g r = record {
   sent = g.sent;
 }
 
--- what waited went out, and more was read
+-- the buffered text went out, and more was read
 pub read_on : (start now : Scripted) (before old w1 w2 : Option (List ℕ)) (h1 h2 h3 : Held) (l1 l2 : Option (List ℕ)) (p1 p2 : List ℕ) (n : ℕ) → Progress start before old h1 l1 p1 w1 now → IsOneLine h1.bytes
     → Sends (between w1 w2) p1 p2 → Waits h1 h2 → Refills h2 h3 (between l1 l2) n → Progress start before old h3 l2 p2 w2 now
 read_on start now before old w1 w2 h1 h2 h3 l1 l2 p1 p2 n g one sent waits r =

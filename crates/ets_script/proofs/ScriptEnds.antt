@@ -105,7 +105,7 @@ pub read_broken : (start now : Scripted) (before old w1 w2 : Option (List ℕ)) 
 read_broken start now before old w1 w2 h1 h2 l1 l2 p1 p2 g one sent none waits kept =
     read_failed start now before old w2 h2 l1 l2 p2 (waited start now before old w2 h1 h2 l1 p2 (flushed start now before old w1 w2 h1 l1 p1 p2 g sent) one waits) none (one_line_held h1 h2 one waits) kept
 
--- the last answer was printed, and what waits goes out
+-- the last answer was printed, and the buffer is written
 pub end_ok : {T E : Type 0} (r : Result T E) (h : Held) (s1 s2 : Scripted) (p1 p2 p3 : List ℕ) (w1 w2 w3 : Option (List ℕ)) (answer : Answer) → AnswersPart h.is_skipping s1 h.bytes answer s2 → Sends (between w1 w2) (p1 ++ printed answer) p2
     → OnOk r (Sends (between w2 w3) p2 p3) → OnOk r (p3 ≡ []) → OnOk r (EndsAll h s1 s2 p1 (between w1 w3))
 end_ok (Ok x) h s1 s2 p1 p2 p3 w1 w2 w3 answer answers printed_so sent none =
@@ -119,7 +119,7 @@ end_err (Ok x) h s1 s2 p1 p2 w1 w2 w3 answer answers printed_so broken = tt
 end_err (Err e) h s1 s2 p1 p2 w1 w2 w3 answer answers printed_so broken =
     record { answer = answer; answers = answers; broken = breaks_on w1 w2 w3 (p1 ++ printed answer) p2 printed_so broken }
 
--- a fault is told as it was found
+-- a fault is reported as it was found
 pub stop_told : {N : Type 0} (start : Scripted) (before after old new : Option (List ℕ)) (r : Result N ScriptFault) (fault : ScriptFault) → IsErrAnd r (λ told. told ≡ fault)
     → Stops start (between before after) (between old new) fault → IfErr r (Stops start (between before after) (between old new))
 stop_told start before after old new (Ok x) fault told stops = tt

@@ -11,7 +11,7 @@ use Rattle.ets_script.specs.inside.PlanCodes.{Limited}
 abbrev with_name : List ℕ → Planned → Planned
 with_name name plan = record plan { names = plan.names ++ name ∷ []; jobs = plan.jobs ++ [] ∷ [] }
 
--- a name that is none yet, by whether there is room
+-- a new name, by whether there is room
 spawned_by : (l : Limited) (name : List ℕ) (b : Bool) → number_of l.plan name ≡ None → nat_le l.most (length l.plan.names) ≡ b
     → spawned l.most (number_of l.plan name) name l.plan ≡ (if b then answered (Replied SystemLimit) l.plan else with_name name l.plan)
 spawned_by l name b none is =

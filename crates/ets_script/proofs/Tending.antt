@@ -1,4 +1,4 @@
--- What calls can see of a node. What is due grows a table, or readies a bucket of one; so it changes nothing that a call can see.
+-- What calls can see of a node. A pending step doubles a table, or readies a bucket of one; so it changes nothing that a call can see.
 use Rattle.std.proofs.Common.{suc, ◌≡◌, ◌∙◌, ap, subst, refl, ℕ, Bool, true, false, List, [], ◌∷◌, Option, Some, None, Result, Ok, Err, cond}
 use Rattle.std.specs.Prelude.{⊤, IfOk, OnErr, option_map, position, not, unwrap_or}
 use Rattle.std.specs.Option.{option_map_or}
@@ -55,7 +55,7 @@ pub due_unseen : {E : Type 0} (old new : State) (e : Step) (done : Result Reply 
 due_unseen old new e (Ok r) is made failed = nothing_seen (seen old) (seen new) e r (due_from_growth 0 old.world.tables e is) made
 due_unseen old new e (Err f) is made failed = ap seen failed
 
--- the table that a term names is the one that it names in what is seen, and so is the next identifier
+-- the table that a term names is the same in the observable state, and so is the next identifier
 pub table-seen : (names : List (List ℕ)) (n : State) (t : Term) → table_of (record { names = names; node = seen n }) t ≡ unwrap_or (resolve n.world.tables t) (next_identifier n)
 table-seen names n t =
     ap (λ (o : Option ℕ). unwrap_or o (next_identifier (seen n))) (resolve-seen n.world.tables t)

@@ -57,7 +57,7 @@ command_line hashes =
     (hash_option hashes))
     objects_option
 
--- the text of a number in decimal digits, before which a plus may stand
+-- the text of a number in decimal digits, with or without a plus before it
 abbrev pub Spells : Option Text → ℕ → Type 0
 Spells (Some text) n = IsNumeral 10 (without_leading_plus text) × (n ≡ digits_value 10 (without_leading_plus text))
 Spells None n = ⊥
@@ -66,18 +66,18 @@ Spells None n = ⊥
 abbrev pub is_named : Text → Option Text → Bool
 is_named name text = option_map_or (λ t. bytes_eq t name) text false
 
--- a flag is given: its value is true there, and else false
+-- a flag is given: its value is true then, and else false
 abbrev pub is_given : Text → List Row → Bool
 is_given flag rows = is_named (codes "true") (first_of flag rows)
 
--- what the matches ask
+-- the settings of the matches
 pub record Asks (rows : List Row) (settings : Settings) : Type 0 where
   pub threads : settings.threads ≡ is_given (codes "threads") rows
   pub same : settings.same ≡ is_named (codes "same") (first_of (codes "hash") rows)
   pub objects : Spells (one_of (codes "max-objects") rows) settings.objects
 
--- The words are refused where the command has a fault in them, and then for that fault; else the settings are what its
--- matches ask. Memory aside.
+-- The words are refused if the command has a fault in them, and then for that fault; otherwise the settings are those
+-- of its matches. Memory aside.
 pub record Settles (words : List Text) (result : Result Settings Error) : Type 0 where
   pub hashes : ValueParser
   pub names : TakesNames hash_names hashes
@@ -95,11 +95,11 @@ limited_line hashes =
     (number_option (codes "max-processes") (codes "4096")))
     (number_option (codes "max-tables") (codes "65536"))
 
--- the same command line, with options more: these limits, reasons, and the version
+-- the same command line, with more options: these limits, reasons, and the version
 abbrev pub request_line : ValueParser → App
 request_line hashes = with_version (with_rule (limited_line hashes) (flag_option (codes "why")))
 
--- what the matches ask of them
+-- the options of its matches
 pub record AsksAll (rows : List Row) (request : Request) : Type 0 where
   pub settings : Asks rows request.settings
   pub processes : Spells (one_of (codes "max-processes") rows) request.processes
@@ -113,29 +113,29 @@ pub record Parses (words : List Text) (result : Result Request Error) : Type 0 w
   pub faults : FailsBy (fault_of (request_line hashes) words) result
   pub request : IfOk result (AsksAll (matches_of (request_line hashes) words))
 
--- reasons are not told of processes in threads
+-- reasons are not reported for processes in threads
 abbrev pub conflict_of : List Row → Kinds
 conflict_of rows =
     if is_given (codes "why") rows && is_given (codes "threads") rows then ArgumentConflict ∷ [] else []
 
--- the faults of the words; where there are none, options that do not go together
+-- the faults of the words; if there are none, options that exclude each other
 abbrev pub request_faults : ValueParser → List Text → Kinds
 request_faults hashes words =
     or_else (fault_of (request_line hashes) words) (conflict_of (matches_of (request_line hashes) words))
 
--- the same, and options that do not go together are refused where there is no other fault
+-- the same, and options that exclude each other are refused if there is no other fault
 pub record Requests (words : List Text) (result : Result Request Error) : Type 0 where
   pub hashes : ValueParser
   pub names : TakesNames hash_names hashes
   pub faults : FailsBy (request_faults hashes words) result
   pub request : IfOk result (AsksAll (matches_of (request_line hashes) words))
 
--- the limits that are asked for
+-- the limits of the options
 abbrev pub limits_of : Request → Limits
 limits_of request =
     record { processes = request.processes; tables = request.tables; objects = request.settings.objects }
 
--- the program's status where its command line gives no settings
+-- the program's status if its command line gives no settings
 abbrev pub refused_status : ErrorKind → ℕ
 refused_status DisplayHelp = 0
 refused_status DisplayVersion = 0

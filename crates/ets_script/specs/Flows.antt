@@ -1,11 +1,11 @@
 -- What passes through a reader or a writer.
 use Rattle.std.specs.Prelude.{ℕ, List, Option}
 
--- What is known of its bytes before and after: of those that a reader has left, or of those that a writer holds.
+-- Its bytes before and after: those that a reader has left, or those that a writer holds.
 pub record Flow : Type 0 where
   pub before : Option (List ℕ)
   pub after : Option (List ℕ)
 
--- from one state of it to another, by what tells its bytes in each
+-- from one state of it to another, by the word for its bytes in each
 abbrev pub flow : {S : Type 0} → (S → Option (List ℕ)) → S → S → Flow
 flow known old new = record { before = known old; after = known new }

@@ -1,4 +1,4 @@
--- What a script's output is.
+-- The output of a script.
 use Rattle.std.specs.Prelude.{◌≡◌, ℕ, zero, suc, ◌⊎◌, Bool, true, false, List, [], ◌∷◌, ◌++◌, length, ⊤, Option, Some, None, position, unwrap_or}
 use Rattle.std.specs.Str.{bytes_eq}
 use Rattle.ets_term.specs.declared.term.Term.{Term}
@@ -16,17 +16,17 @@ use Rattle.ets_script.specs.Replies.{printed}
 use Rattle.ets_script.specs.declared.answer.Answer.{Answer}
 use Rattle.ets_script.specs.declared.answer.Answer.TheVariants.{Silent, Replied, NoMemory, Syntax, TooLong}
 
--- The names that were spawned, in order: the first stands for process 0, the next for process 1, and so on. And the
--- state of the machine, which is what calls can see of the node.
+-- The names that were spawned, in order: the first is that of process 0, the next that of process 1, and so on. And the
+-- state of the machine, which is the observable state of the node.
 pub record Scripted : Type 0 where
   pub names : List (List ℕ)
   pub node : State
 
--- the process that a name stands for
+-- the process with a name
 abbrev pub pid_of : Scripted → List ℕ → Option ℕ
 pid_of s name = position (bytes_eq name) s.names
 
--- the table that a term names; else the next identifier, which no table has
+-- the table that a term names, or else the next identifier, which no table has
 abbrev pub table_of : Scripted → Term → ℕ
 table_of s t = unwrap_or (resolve s.node.world.tables t) (next_identifier s.node)
 
@@ -39,7 +39,7 @@ abbrev pub Steps : Scripted → Step → Answer → Scripted → Type 0
 Steps old s answer new =
     (r : Reply) × (answer ≡ Replied r) × step old.node s r new.node × (new.names ≡ old.names)
 
--- a step of the process that a name stands for
+-- a step of the process with a name
 abbrev pub StepsOf : Option ℕ → (ℕ → Step) → Scripted → Answer → Scripted → Type 0
 StepsOf None s old answer new = Unchanged old (Replied NoProcess) answer new
 StepsOf (Some p) s old answer new = Steps old (s p) answer new
@@ -67,17 +67,17 @@ Obeys (ask name word terms) old answer new =
 Obeys (grow t) old answer new = Steps old (Grow (table_of old t)) answer new
 Obeys (ready t bucket) old answer new = Steps old (Ready (table_of old t) bucket) answer new
 
--- a line that is silent, and one that is not: this may have the want of memory in place of its answer
+-- a line that is silent, and one that is not: the latter may have out of memory as its answer
 abbrev pub AnswersText : Bool → Scripted → List ℕ → Answer → Scripted → Type 0
 AnswersText true old t answer new = Unchanged old Silent answer new
 AnswersText false old t answer new = Obeys (command t) old answer new ⊎ Unchanged old NoMemory answer new
 
--- what a line is answered, and the state after it
+-- the answer to a line, and the state after it
 abbrev pub AnswersLine : Scripted → Line → Answer → Scripted → Type 0
 AnswersLine old (text t) answer new = AnswersText (is_silent t) old t answer new
 AnswersLine old too_long answer new = Unchanged old TooLong answer new
 
--- These bytes are one line, which has this output; `last` where nothing follows it.
+-- These bytes are one line, which has this output; `last` if nothing follows it.
 pub record IsAnswered (old : Scripted) (bytes out : List ℕ) (new : Scripted) (last : Type 0) : Type 0 where
   pub line : Line
   pub answer : Answer
@@ -85,8 +85,8 @@ pub record IsAnswered (old : Scripted) (bytes out : List ℕ) (new : Scripted) (
   pub answers : AnswersLine old line answer new
   pub prints : out ≡ printed answer
 
--- This number of lines is all of the input, and what they print is all of the output, from one state to another. The
--- last may lack its LF where `last` holds.
+-- This number of lines is all of the input, and their answers are all of the output, from one state to another. If
+-- `last` holds, the last line may lack its LF.
 abbrev pub ScriptText : ℕ → Type 0 → Scripted → List ℕ → List ℕ → Scripted → Type 0
 ScriptText zero last old input output new = (input ≡ []) × (output ≡ []) × (new ≡ old)
 ScriptText (suc n) last old input output new =

@@ -9,7 +9,7 @@ use Rattle.ets_script.specs.Script.{Scripted, at_start, IsScript, AreWholeLines,
 use Rattle.ets_script.specs.declared.fault.ScriptFault.{ScriptFault}
 use Rattle.ets_script.specs.declared.fault.ScriptFault.TheVariants.{Read, Write, Memory, Differs, Missing}
 
--- the reader had all of a script, which was read to its end, and all that its lines print was written
+-- the reader had all of a script, which was read to its end, and all answers to its lines were written
 abbrev pub Completes : Scripted → Scripted → Flow → Flow → Type 0
 Completes start end reader writer =
     (input : List ℕ) × (output : List ℕ)
@@ -23,7 +23,7 @@ LeavesNode start node reader writer = (end : Scripted) × (end.node ≡ node) ×
 -- From what the reader had to what it has left. At a read fault these were whole lines, each with its LF, all of whose
 -- answers were written, and a part of a line, which was not answered. At a write fault a prefix of the answers was
 -- written: answers to whole lines, and to a last one without an LF if all of the input was read; some of what was read
--- may not have been looked at. Without memory to begin with, nothing was read or written. It stops for nothing else.
+-- may not have been parsed. Without memory at the start, nothing was read or written. It stops for no other reason.
 abbrev pub Stops : Scripted → Flow → Flow → ScriptFault → Type 0
 Stops start reader writer Read =
     (lines : List ℕ) × (part : List ℕ) × (output : List ℕ) × (end : Scripted)
@@ -44,10 +44,10 @@ EndsWithin limits reader writer status =
     ((status ≡ 0) × (end : Scripted) × Completes (at_start limits) end reader writer)
     ⊎ ((status ≡ 1) × (fault : ScriptFault) × Stops (at_start limits) reader writer fault)
 
--- the limits that are usual, with this number of objects in one table
+-- the usual limits, with this number of objects in one table
 abbrev pub usual : ℕ → Limits
 usual objects = record { processes = 4096; tables = 65536; objects = objects }
 
--- the same by these limits
+-- the same with these limits
 abbrev pub ProgramEnds : ℕ → Flow → Flow → ℕ → Type 0
 ProgramEnds objects = EndsWithin (usual objects)

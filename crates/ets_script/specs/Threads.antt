@@ -1,4 +1,4 @@
--- What a script prints whose processes run in threads of their own.
+-- The output of a script whose processes run in threads of their own.
 use Rattle.std.specs.Prelude.{◌≡◌, ◌⊎◌, ℕ, zero, suc, ◌-◌, ◌≤◌, ◌<◌, true, List, [], ◌∷◌, ◌++◌, map, flat_map, take, length, Option, Some, None, Err, slice_index_or, codes, min}
 use Rattle.std.specs.Io.KnownBytes.{Appends, Consumes, IsAtEnd}
 use Rattle.node_core.specs.declared.limits.Limits.{Limits}
@@ -28,7 +28,7 @@ use Rattle.ets_script.specs.declared.fault.ScriptFault.TheVariants.{Read, Write,
 abbrev pub line_of : List ℕ → List ℕ → List ℕ
 line_of name said = name ++ (codes " " ++ (said ++ codes "\n"))
 
--- the line of a process's reply; what is no step of a process has none
+-- the line of a process's reply; a step of no process has none
 abbrev pub own_text : List (List ℕ) → Option ℕ → Reply → List ℕ
 own_text names None r = []
 own_text names (Some p) r = line_of (slice_index_or names p []) (reply_text r)
@@ -36,13 +36,13 @@ own_text names (Some p) r = line_of (slice_index_or names p []) (reply_text r)
 abbrev pub entry_text : List (List ℕ) → Entry → List ℕ
 entry_text names e = own_text names (process_of e.step) e.reply
 
--- the lines of those that memory stopped: the names, in order, of which some jobs are left
+-- the lines of those that ran out of memory: the names, in order, that have jobs left
 abbrev pub stopped_text : List (List ℕ) → List ℕ → List ℕ
 stopped_text (name ∷ names) (zero ∷ left) = stopped_text names left
 stopped_text (name ∷ names) (suc n ∷ left) = line_of name (codes "** nomem") ++ stopped_text names left
 stopped_text names left = []
 
--- the answers known before, the replies of the processes in the order of the journal, and those that were stopped
+-- the planned answers, the replies of the processes in the order of the journal, and those that stopped
 abbrev pub threads_text : List Answer → List (List ℕ) → List Entry → List ℕ → List ℕ
 threads_text answers names done left =
     flat_map printed answers ++ (flat_map (entry_text names) done ++ stopped_text names left)
@@ -59,7 +59,7 @@ AreDone done p (jobs ∷ others) (n ∷ left) =
 AreDone done p [] (n ∷ left) = ⊥
 AreDone done p (jobs ∷ others) [] = ⊥
 
--- The journal is a run of the node from its empty state, in which each process does its jobs, and none but these has
+-- The journal is a run of the node from its empty state, in which each process does its jobs, and no other process has
 -- entries.
 pub record RunsJobs (limits : Limits) (jobs : List (List Job)) (done : List Entry) (left : List ℕ) : Type 0 where
   pub end : State
@@ -67,8 +67,8 @@ pub record RunsJobs (limits : Limits) (jobs : List (List Job)) (done : List Entr
   pub each : AreDone done 0 jobs left
   pub no_others : (p : ℕ) → has_entries p done ≡ true → p < length jobs
 
--- The input's lines are planned, and what they ask of the processes is done in one run. That run is printed behind the
--- answers that were known before.
+-- The input's lines are planned, and the jobs of the processes are done in one run. That run is printed after the
+-- planned answers.
 pub record ThreadsText (limits : Limits) (input output : List ℕ) : Type 0 where
   pub lines : List Line
   pub plan : Planned
@@ -110,6 +110,6 @@ ThreadsStatus limits reader writer status =
     ((status ≡ 0) × ThreadsEnd limits reader writer)
     ⊎ ((status ≡ 1) × (fault : ScriptFault) × ThreadsStop limits reader writer fault)
 
--- the same by the limits that are usual, with this number of objects in one table
+-- the same with the usual limits, with this number of objects in one table
 abbrev pub ProgramThreads : ℕ → Flow → Flow → ℕ → Type 0
 ProgramThreads objects = ThreadsStatus (usual objects)

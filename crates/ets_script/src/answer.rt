@@ -1,4 +1,4 @@
-//! What a line is answered, and how that is printed.
+//! The answer to a line, and how it is printed.
 ghost use Rattle.std.specs.Prelude.{◌++◌, OnOk, OnErr, codes};
 ghost use Rattle.ets_script.specs.Flows.{flow};
 ghost use Rattle.ets_script.specs.Replies.{printed, reply_text};
@@ -9,14 +9,14 @@ use itoa::Buffer;
 use node_core::Reply;
 use std::io::Write;
 
-/// What a line is answered.
+/// The answer to a line.
 #[derive(Drop)]
 pub enum Answer {
     /// Nothing is printed.
     Silent,
     /// A reply of the node, or one that the script itself gives in the node's words.
     Replied(Reply),
-    /// There was no memory, and nothing has changed.
+    /// Out of memory, and nothing has changed.
     NoMemory,
     /// The line is no command; the offset of its first fault.
     Syntax(usize),
@@ -24,7 +24,7 @@ pub enum Answer {
 }
 
 impl Answer {
-    /// Prints the answer on a line of its own, behind what waits.
+    /// Prints the answer on a line of its own, after the buffered text.
     pub fn print<W: Write>(&self, pending: &mut Pending, writer: &mut W) -> Result<(), WriteFault>
         ensures ok { OnOk result (Sends (flow W.contents writer.old writer.new)
             (pending.old ++ printed self.now) pending.new) }
@@ -41,7 +41,7 @@ impl Answer {
     }
 }
 
-/// Prints a reply, and an LF.
+/// Prints a reply and an LF.
 pub fn print_reply<W: Write>(
     reply: &Reply,
     pending: &mut Pending,

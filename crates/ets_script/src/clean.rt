@@ -1,4 +1,4 @@
-//! Clean bytes: those that may stand on a line that is no comment.
+//! Clean bytes: those that are allowed on a line that is no comment.
 ghost use Rattle.std.specs.Prelude.{◌≡◌, ◌≤◌, length};
 ghost use Rattle.std.specs.List.{list_all, prefix_len};
 ghost use Rattle.ets_script.specs.Classes as spec;
@@ -11,7 +11,8 @@ fn is_clean(byte: u8) -> bool
     byte == b'\t' || is_character_byte(byte)
 }
 
-/// Whether all of these are clean. Nearly all lines are, and a walk that stops nowhere looks at many bytes at once.
+/// Returns whether all of these are clean. Nearly all lines are, and a scan without an early exit handles many bytes at
+/// once.
 fn are_clean(text: &[u8]) -> bool
     ensures { result ≡ list_all spec.is_clean text.now }
 {
@@ -22,7 +23,7 @@ fn are_clean(text: &[u8]) -> bool
     are
 }
 
-/// How many bytes at the front are clean.
+/// Returns the number of clean bytes at the front.
 pub fn clean_len(text: &[u8]) -> usize
     ensures len { result ≡ prefix_len spec.is_clean text.now }
     ensures within { result ≤ length text.now }

@@ -13,8 +13,8 @@ use node_reasons::why;
 use script_reasons::{Remark, oddity_at};
 use std::alloc::AllocError;
 
-/// What is to be said of a line that has this answer of a script that stands so since: nothing where it was not
-/// refused. A line that was is read again.
+/// Explains why a line was refused, or returns nothing if it was not. The script must not have changed since its
+/// answer. A refused line is parsed again.
 pub fn explain<'a, H: KeyHash + Copy + Drop>(
     script: &Script<H>,
     line: &'a [u8],
@@ -36,7 +36,7 @@ pub fn explain<'a, H: KeyHash + Copy + Drop>(
     }
 }
 
-/// What is to be said of a command that has this refusal.
+/// Explains the refusal of a command.
 fn explain_command<'a, H: KeyHash + Copy + Drop>(
     script: &Script<H>,
     command: Command<'a>,
@@ -66,7 +66,7 @@ fn explain_command<'a, H: KeyHash + Copy + Drop>(
     }
 }
 
-/// What is to be said of a step that has this refusal.
+/// Explains the refusal of a step.
 fn explain_step<'a, H: KeyHash + Copy + Drop>(
     script: &Script<H>,
     event: Step,

@@ -7,18 +7,18 @@ use thiserror::Error;
 /// Why a script stops before its end.
 #[derive(Debug, Drop, Error)]
 pub enum ScriptFault {
-    /// The reader failed, or gave no end of input in a billion reads. The answers to all whole lines before have gone
-    /// out.
+    /// The reader failed, or there was no end of input in a billion reads. The answers to all whole lines before are
+    /// written.
     #[error("read fault")]
     Read,
-    /// The writer failed, or took no byte. What went out is a prefix of the answers.
+    /// The writer failed, or took no byte. What was written is a prefix of the answers.
     #[error("write fault")]
     Write,
-    /// There was no memory to begin with, and nothing was read; or a script whose processes run in threads could not go
+    /// There was no memory at the start, and nothing was read; or a script whose processes run in threads could not go
     /// on, and nothing was written.
     #[error("** nomem")]
     Memory,
-    /// What the client of this process saw is not the process's part of the journal. Nothing was written.
+    /// The record of this process's client is not the process's part of the journal. Nothing was written.
     #[error("differs <0.{0}.0>")]
     Differs(u32),
     /// This process has entries in the journal and no client. Nothing was written.

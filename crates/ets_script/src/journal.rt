@@ -15,7 +15,7 @@ use crate::processes::Ran;
 use node_shared::Entry;
 use std::io::Write;
 
-/// Prints what was known before and what the processes came to, and sees to it that all goes out.
+/// Prints the planned answers and the results of the processes, and flushes.
 pub fn print_out<W: Write>(
     known: &Known,
     ran: &Ran,
@@ -33,7 +33,7 @@ pub fn print_out<W: Write>(
     pending.flush(writer)
 }
 
-/// Prints the answers that were known before, and then what the processes came to.
+/// Prints the planned answers, and then the results of the processes.
 fn print_all<W: Write>(
     known: &Known,
     ran: &Ran,
@@ -50,7 +50,7 @@ fn print_all<W: Write>(
     print_ran(&known.names, ran, pending, writer)
 }
 
-/// Prints the journal, and then the names of those that were stopped.
+/// Prints the journal, and then the names of the processes that stopped.
 fn print_ran<W: Write>(
     names: &Names,
     ran: &Ran,
@@ -67,7 +67,7 @@ fn print_ran<W: Write>(
     print_stopped(names, ran.left.as_slice(), pending, writer)
 }
 
-/// Prints answers, one behind the other.
+/// Prints answers, one after another.
 fn print_answers<W: Write>(
     answers: &[Answer],
     pending: &mut Pending,
@@ -84,7 +84,7 @@ fn print_answers<W: Write>(
     Ok(())
 }
 
-/// Prints the line of each entry of a process, in their order.
+/// Prints the line of each entry of a process, in order.
 fn print_entries<W: Write>(
     names: &Names,
     entries: &[Entry],
@@ -102,7 +102,7 @@ fn print_entries<W: Write>(
     Ok(())
 }
 
-/// Prints the line of an entry; that of no process has none.
+/// Prints the line of an entry; an entry of no process has none.
 fn print_entry<W: Write>(
     names: &Names,
     entry: &Entry,
@@ -138,7 +138,7 @@ fn print_name<W: Write>(
     pending.add(writer, b" ")
 }
 
-/// Prints a line for each process of which some jobs are left.
+/// Prints a line for each process with jobs left.
 fn print_stopped<W: Write>(
     names: &Names,
     left: &[usize],
@@ -157,7 +157,7 @@ fn print_stopped<W: Write>(
     Ok(())
 }
 
-/// Prints the line of a process that was stopped with so many jobs left; none where none are.
+/// Prints the line of a process that stopped with `left` jobs; nothing if it has none left.
 fn print_stop<W: Write>(
     name: &[u8],
     left: usize,

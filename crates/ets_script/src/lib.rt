@@ -1,17 +1,17 @@
 //! Scripts of calls: a script's output is the text of a run's replies.
 //!
 //! *Guarantee.* From the bytes read to the bytes written: each line is answered as the language of scripts says, by a
-//! node from its first state on, and what went out before each read is all that was asked. A script that stops early
-//! has answered the whole lines before, or a front of their answers where a write failed.
+//! node that starts empty, and all answers to lines read are written before the next read. A script that stops early
+//! has answered all whole lines before, or a prefix of their answers if a write failed.
 //!
-//! *Weakness.* That what was answered is flushed before each read is only tested, and so is what `refuse` prints, and
-//! what `run_script_aloud` says of refused lines, but for the reason of a step.
+//! *Weakness.* Only tests show that answers are flushed before each read, what `refuse` prints, and what
+//! `run_script_aloud` prints about refused lines, except for the reason of a step.
 //!
-//! *Mechanism.* Bytes are fed in pieces; a line is looked for by `memchr`, read once from left to right, asked, and
-//! answered into a buffer, which goes out before the next read.
+//! *Mechanism.* Bytes are read in pieces. A line is found by `memchr`, parsed once from left to right, executed, and
+//! answered into a buffer, which is written before the next read.
 //!
-//! *Limits.* A line has at most 65,536 bytes; a longer one is told and passed. A reader is asked at most 1,000,000,000
-//! times.
+//! *Limits.* A line has at most 65,536 bytes; a longer one is reported and passed over. A reader is asked at most
+//! 1,000,000,000 times.
 #![tactic(auto)]
 
 mod answer;

@@ -1,18 +1,18 @@
-//! Who hears of each line that was answered.
+//! Observers of answered lines.
 use crate::answer::Answer;
 use crate::script::Script;
 use ets_term::KeyHash;
 
-/// Who hears of each line that was answered, in order. It changes nothing of the script.
+/// An observer of each answered line, in order. It changes nothing of the script.
 pub trait Listener {
-    /// A line was answered; of one that is too long nothing is handed in.
+    /// Called when a line was answered; a line that is too long is passed as nothing.
     fn hear<H: KeyHash + Copy + Drop>(&mut self, script: &Script<H>, line: &[u8], answer: &Answer);
 
-    /// What was answered has gone out.
+    /// Called when the answers were written.
     fn tell(&mut self);
 }
 
-/// Nobody.
+/// An observer that does nothing.
 #[derive(Drop)]
 pub struct Quiet;
 

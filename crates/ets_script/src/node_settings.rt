@@ -1,7 +1,7 @@
-//! What the node of a script is made by.
+//! What the node of a script is created with.
 use node_core::Limits;
 
-/// What the node of a script is made by: its limits, and the hash of its keys.
+/// What the node of a script is created with: its limits, and the hasher of its keys.
 #[derive(Drop)]
 pub struct NodeSettings<H> {
     pub limits: Limits,

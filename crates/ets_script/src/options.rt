@@ -1,25 +1,25 @@
-//! What the command line asks of the program.
+//! The options of the command line.
 
-/// What the command line asks of the program.
+/// The options that `settings` parses.
 #[derive(Clone, Copy)]
 pub struct Settings {
     /// Whether each process runs in a thread of its own.
     pub threads: bool,
-    /// Whether all keys get one hash: `AllSame` in place of `Fnv`.
+    /// Whether all keys get the same hash: `AllSame` in place of `Fnv`.
     pub same: bool,
-    /// The most objects in one table.
+    /// The greatest number of objects in one table.
     pub objects: u32,
 }
 
-/// What the command line asks of the program, with what is not in `Settings`: the limits beside theirs, and reasons.
+/// All options: `Settings`, the other limits, and reasons.
 #[derive(Clone, Copy)]
 pub struct Request {
-    /// What `settings` reads too.
+    /// The options that `settings` parses too.
     pub settings: Settings,
-    /// The most processes ever enrolled.
+    /// The greatest number of processes ever enrolled.
     pub processes: u32,
-    /// The most tables ever made.
+    /// The greatest number of tables ever created.
     pub tables: u32,
-    /// Whether it is told why lines were refused.
+    /// Whether reasons of refused lines are reported.
     pub why: bool,
 }

@@ -1,4 +1,4 @@
-//! What the lines of a script come to before any of its steps is done.
+//! The plan of a script's lines, made before any of its steps is run.
 ghost use Rattle.std.specs.Prelude.{◌≡◌, ◌∷◌, ◌++◌, ◌+◌, ◌<◌, [], false, map, vec_items, length, IfOk, IfSome};
 ghost use Rattle.std.specs.Str.{bytes_eq};
 ghost use Rattle.indexmap.specs.IndexSet.{spare, contains_by, index_set_len};
@@ -17,23 +17,22 @@ use node_shared::Job;
 use std::alloc::{AllocError, Global};
 use std::marker::Model;
 
-/// What is known before any step is done: the answers that come first, and the names of the processes.
+/// What is known before any step is run: the answers that come first, and the names of the processes.
 #[derive(Drop)]
 pub struct Known {
     pub answers: Items<Answer>,
     pub names: Names,
 }
 
-/// What is to be done: the jobs of each process, in the order of the processes, and how many turns there are to keep
-/// the node.
+/// The work: the jobs of each process, in the order of the processes, and the number of turns for pending growth steps.
 #[derive(Drop)]
 pub struct Work {
     pub jobs: Items<Items<Job>>,
     pub turns: u32,
 }
 
-/// What the lines so far come to: the answers that are known, the names that are spawned, and the jobs of each. A
-/// contract sees these, and the most names that there may be.
+/// The plan of the lines so far: the planned answers, the names that are spawned, and the jobs of each. A contract sees
+/// these, and the greatest number of names.
 #[derive(Drop)]
 pub struct Plan {
     alloc: Global,
@@ -63,7 +62,7 @@ impl Model for Plan {
 }
 
 impl Plan {
-    /// Nothing yet; at most so many names are spawned.
+    /// Creates an empty plan, for a greatest number of names.
     pub fn new(alloc: Global, most: u32) -> Plan
         ensures { result ≡ no_lines most }
     {
@@ -77,7 +76,7 @@ impl Plan {
         }
     }
 
-    /// What is known, and what is to be done, with a turn for each line.
+    /// Returns the planned answers and the work, with a turn for each line.
     pub fn into_parts(self) -> (Known, Work)
         ensures parts { AreParts result.0 result.1 self.plan }
         ensures named { length result.0.names ≡ length result.1.jobs }
@@ -100,7 +99,7 @@ impl Plan {
         self.lines = self.lines.saturating_add(1);
     }
 
-    /// Adds what a line says.
+    /// Adds a line to the plan.
     pub fn line(&mut self, line: &[u8]) -> Result<(), AllocError>
         ensures { IfOk result (λ _. self.new ≡ with_line (text line.now) self.old) }
     {
@@ -118,7 +117,7 @@ impl Plan {
         self.answered(Answer::TooLong)
     }
 
-    /// Adds what a command says.
+    /// Adds a command.
     fn said(&mut self, command: Command<'_>) -> Result<(), AllocError>
         ensures { IfOk result (λ _. self.new ≡ with_command (command_seen command.entry) self.old) }
     {
@@ -134,14 +133,14 @@ impl Plan {
         }
     }
 
-    /// Adds an answer that is known.
+    /// Adds a planned answer.
     fn answered(&mut self, answer: Answer) -> Result<(), AllocError>
         ensures { IfOk result (λ _. self.new ≡ with_answer answer self.old) }
     {
         self.answers.push(answer)
     }
 
-    /// The number of a name.
+    /// Returns the number of a name.
     fn number(&self, name: &[u8]) -> Option<usize>
         ensures number { result ≡ number_of self.now.plan name.now }
         ensures within { IfSome result (λ n. n < length self.now.plan.jobs) }
@@ -168,7 +167,7 @@ impl Plan {
         add_job(self.alloc, &mut self.jobs, number, job)
     }
 
-    /// A new name, if it is one and there may be more. Room for it is made first.
+    /// Adds a new name, if it is new and there may be more. Reserves capacity for it first.
     fn spawned(&mut self, name: &[u8]) -> Result<(), AllocError>
         ensures { IfOk result (λ _. self.new ≡ with_name name.now self.old) }
     {
@@ -187,7 +186,7 @@ impl Plan {
     }
 }
 
-/// Adds a new name, for which there is room.
+/// Adds a new name, for which there is capacity.
 fn add_name(names: &mut IndexSet<Vec<u8>>, name: Vec<u8>)
     requires room { 0 < spare names.old }
     requires new { contains_by (λ k. bytes_eq name.items k.items) names.old ≡ false }
@@ -197,7 +196,7 @@ fn add_name(names: &mut IndexSet<Vec<u8>>, name: Vec<u8>)
     let _ = names.insert(name);
 }
 
-/// Puts a job behind those of a process.
+/// Adds a job after those of a process.
 fn add_job(
     alloc: Global,
     jobs: &mut Items<Items<Job>>,

@@ -11,7 +11,7 @@ use crate::run::MAX_READS;
 use std::alloc::{AllocError, Global};
 use std::io::Read;
 
-/// Reads a script to its end, and plans its lines. At most so many names are spawned.
+/// Reads a script to its end, and plans its lines, with a greatest number of names.
 pub fn plan_input<R: Read>(alloc: Global, reader: &mut R, most: u32) -> Result<Plan, ScriptFault>
     ensures ok { IfOk result (PlansAll (no_lines most) (flow R.remaining reader.old reader.new)) }
     ensures err { IfErr result IsUnplanned }
@@ -43,7 +43,7 @@ fn plan_all<R: Read>(reader: &mut R, feed: &mut Feed, plan: &mut Plan) -> Result
     }
 }
 
-/// Plans the next line, if its end is held, and says how many of the bytes held it takes.
+/// Plans the next line, if its end is buffered, and returns the number of buffered bytes that it takes.
 fn plan_next(feed: &Feed, plan: &mut Plan) -> Result<Option<usize>, AllocError>
     ensures { IfOk result (PlansNext feed.now plan.old plan.new) }
 {
@@ -60,7 +60,7 @@ fn plan_next(feed: &Feed, plan: &mut Plan) -> Result<Option<usize>, AllocError>
     }
 }
 
-/// Plans what is held as the last line, which has no LF. An empty one is silent, and does not count.
+/// Plans the rest of the buffer as the last line, which has no LF. An empty one has no answer, and does not count.
 fn plan_last(feed: &Feed, plan: &mut Plan) -> Result<(), AllocError>
     ensures { IfOk result (λ _. plan.new
         ≡ with_line (last_line feed.now.is_skipping feed.now.bytes) plan.old) }

@@ -1,4 +1,4 @@
-//! The processes of a script in threads of their own, over one node.
+//! The processes of a script in threads of their own, on one node.
 ghost use Rattle.std.specs.Prelude.{◌≡◌, ◌+◌, map, IfOk, IfErr};
 ghost use Rattle.std.specs.Thread.{IsSync};
 ghost use Rattle.node_shared.specs.Working.{AllWorked};
@@ -20,14 +20,14 @@ use std::sync::ledger::{Blank, Ledger};
 use std::thread;
 use std::thread::Threads;
 
-/// What the processes came to: the journal, and how many jobs of each were left, because memory was refused to it.
+/// The results of the processes: the journal, and for each the number of jobs that were left because memory ran out.
 #[derive(Drop)]
 pub struct Ran {
     pub entries: Vec<Entry>,
     pub left: Vec<usize>,
 }
 
-/// Nothing is done around a call.
+/// A gate that does nothing.
 struct Quiet;
 
 impl Gate for Quiet {
@@ -36,8 +36,8 @@ impl Gate for Quiet {
     fn after(&self, _client: usize, _call: usize) {}
 }
 
-/// Does the work of a script on a node by these settings: each process in a thread of its own, and one more that keeps
-/// the node.
+/// Runs the jobs of a script on a node with these settings: each process in a thread of its own, and one more thread
+/// for pending growth steps.
 pub fn run_work<T: Threads + Wait + Sync, H: KeyHash + Copy + Drop + Send + Sync>(
     rt: &T,
     alloc: Global,
@@ -52,7 +52,7 @@ pub fn run_work<T: Threads + Wait + Sync, H: KeyHash + Copy + Drop + Send + Sync
     run_counted::<Brand, T, H>(rt, alloc, blank, settings, work)
 }
 
-/// The same, with the blank of the ledger that counts the entries.
+/// Does the same with the blank of the ledger that counts the entries.
 fn run_counted<
     L: Ledger + Send + Sync,
     T: Threads + Wait + Sync,
@@ -86,7 +86,7 @@ fn run_counted<
     }
 }
 
-/// Enrols the processes, lets them do their jobs, and gives their clients, with how many jobs of each were left.
+/// Enrols the processes, runs their jobs, and returns their clients, each with the number of its jobs that were left.
 fn run_shared<
     L: Ledger + Send + Sync,
     T: Threads + Wait + Sync,
@@ -104,7 +104,7 @@ fn run_shared<
     part(alloc, workers)
 }
 
-/// Enrols a process for each list of jobs, in order. Nothing is drawn where there is none.
+/// Enrols a process for each list of jobs, in order. Draws no number if there is no list.
 fn enrol_all<L: Ledger, T: Wait, H: KeyHash + Copy + Drop>(
     rt: &T,
     alloc: Global,
@@ -142,7 +142,7 @@ fn enrol_each<L: Ledger, T: Wait, H: KeyHash + Copy + Drop>(
     Ok(work)
 }
 
-/// Draws the next number, if a seat is left. It waits for nobody.
+/// Draws the next number, if a seat is left. It never waits.
 fn draw(pids: &Pids, seats: &mut Vec<Seat>) -> Option<Drawn>
     requires { AreSeatsOf pids.now seats.old.items }
     ensures { AreSeatsOf pids.now seats.new.items }
@@ -153,8 +153,8 @@ fn draw(pids: &Pids, seats: &mut Vec<Seat>) -> Option<Drawn>
     }
 }
 
-/// The client of the process with this number, which was drawn. The numbers come in order, and the node has room for
-/// each: that none was drawn, or another, or was refused, is told as want of memory, and never comes.
+/// Returns the client of the process with this number, which was drawn. Numbers are drawn in order and within the
+/// limit, so the branches for another number or a refusal are unreachable; they return `AllocError`.
 fn enrol<L: Ledger, T: Wait, H: KeyHash + Copy + Drop>(
     rt: &T,
     shared: &Shared<L, H>,
@@ -172,7 +172,8 @@ fn enrol<L: Ledger, T: Wait, H: KeyHash + Copy + Drop>(
     }
 }
 
-/// Lets the clients do their jobs, each in a thread of its own, while another does so many due steps at most.
+/// Runs the clients' jobs, each client in a thread of its own, while another thread runs at most `turns` pending growth
+/// steps.
 fn run_kept<
     L: Ledger + Send + Sync,
     T: Threads + Wait + Sync,
@@ -199,7 +200,7 @@ fn run_kept<
     workers
 }
 
-/// The clients apart from how many jobs of each were left.
+/// Separates the clients from the numbers of jobs that were left.
 fn part<L: Ledger>(
     alloc: Global,
     workers: Vec<Worked<L>>,

@@ -1,4 +1,4 @@
-//! The program between what it is asked, its input, its output and its errors.
+//! The program, from its options to its status.
 ghost use Rattle.std.specs.Prelude.{◌≡◌, false, true, IfOk, OnOk, IfErr};
 ghost use Rattle.ets_script.specs.CommandLine.{limits_of};
 ghost use Rattle.ets_script.specs.Flows.{flow};
@@ -19,8 +19,8 @@ use std::io::{self, Read, Write};
 use std::sync::Wait;
 use std::thread::Threads;
 
-/// Answers a script as the settings ask, in threads or alone, and says the program's status: 0 at the end of the input;
-/// else 1, with one line of errors. In threads it may wait.
+/// Answers a script by the settings, in threads or alone, and returns the program's status: 0 at the end of the input;
+/// otherwise 1, with one line on standard error. In threads it may wait.
 pub fn answer_input<T: Threads + Wait + Sync, R: Read, W: Write, E: Write>(
     rt: &T,
     alloc: Global,
@@ -39,8 +39,8 @@ pub fn answer_input<T: Threads + Wait + Sync, R: Read, W: Write, E: Write>(
     answer_request(rt, alloc, &request, streams, errors)
 }
 
-/// Answers a script line by line, each when it was read, by the usual limits but for that of the settings, and says the
-/// program's status.
+/// Answers a script line by line, each when it was read, with the usual limits except for that of the settings, and
+/// returns the program's status.
 pub fn answer_alone<R: Read, W: Write, E: Write>(
     alloc: Global,
     settings: &Settings,
@@ -55,7 +55,7 @@ pub fn answer_alone<R: Read, W: Write, E: Write>(
     answer_lines(alloc, &request, streams, errors)
 }
 
-/// What the settings ask, with the usual limits beside theirs.
+/// Returns the options of the settings, with the usual limits.
 fn usual_request(settings: &Settings) -> Request
     ensures { result
         ≡ record { settings = settings.now; processes = 4096; tables = 65536; why = false } }
@@ -69,7 +69,7 @@ fn usual_request(settings: &Settings) -> Request
     }
 }
 
-/// As `answer_input`, by the limits that are asked for.
+/// Does what `answer_input` does, with the limits of the options.
 pub fn answer_request<T: Threads + Wait + Sync, R: Read, W: Write, E: Write>(
     rt: &T,
     alloc: Global,
@@ -93,7 +93,7 @@ pub fn answer_request<T: Threads + Wait + Sync, R: Read, W: Write, E: Write>(
     }
 }
 
-/// Answers a script line by line by the limits that are asked for, and says the status.
+/// Answers a script line by line with the limits of the options, and returns the status.
 fn answer_lines<R: Read, W: Write, E: Write>(
     alloc: Global,
     request: &Request,
@@ -111,7 +111,7 @@ fn answer_lines<R: Read, W: Write, E: Write>(
     }
 }
 
-/// Answers a script by this hash, and says the status.
+/// Answers a script with this hasher, and returns the status.
 fn answer_by<H: KeyHash + Copy + Drop, R: Read, W: Write, E: Write>(
     alloc: Global,
     request: &Request,
@@ -129,7 +129,7 @@ fn answer_by<H: KeyHash + Copy + Drop, R: Read, W: Write, E: Write>(
     }
 }
 
-/// Runs a script line by line, and tells why lines were refused where that is asked for.
+/// Runs a script line by line, and reports why lines were refused if an option asks for it.
 fn run_lines<H: KeyHash + Copy + Drop, R: Read, W: Write, E: Write>(
     alloc: Global,
     request: &Request,
@@ -155,7 +155,7 @@ fn run_lines<H: KeyHash + Copy + Drop, R: Read, W: Write, E: Write>(
     }
 }
 
-/// Tells a fault on a line of errors, and says the status.
+/// Prints a fault on a line of standard error, and returns the status.
 fn tell<E: Write>(fault: &ScriptFault, errors: &mut E) -> io::Result<u8>
     ensures { IfOk result (λ status. status ≡ 1) }
 {
@@ -163,7 +163,7 @@ fn tell<E: Write>(fault: &ScriptFault, errors: &mut E) -> io::Result<u8>
     Ok(1)
 }
 
-/// Answers a script whose processes run in threads of their own, and says the program's status.
+/// Answers a script whose processes run in threads of their own, and returns the program's status.
 fn answer_in_threads<T: Threads + Wait + Sync, R: Read, W: Write, E: Write>(
     rt: &T,
     alloc: Global,
@@ -181,7 +181,7 @@ fn answer_in_threads<T: Threads + Wait + Sync, R: Read, W: Write, E: Write>(
     }
 }
 
-/// Runs a script in threads by the hash and the limits that are asked for.
+/// Runs a script in threads with the hasher and the limits of the options.
 fn run_by<T: Threads + Wait + Sync, R: Read, W: Write>(
     rt: &T,
     alloc: Global,
@@ -205,7 +205,7 @@ fn run_by<T: Threads + Wait + Sync, R: Read, W: Write>(
     }
 }
 
-/// The limits that are asked for.
+/// Returns the limits of the options.
 fn limits_of(request: &Request) -> Limits
     ensures { result ≡ limits_of request.now }
 {

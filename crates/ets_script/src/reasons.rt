@@ -1,4 +1,4 @@
-//! Why lines were refused, told to a second writer.
+//! Reasons of refused lines, for a second writer.
 ghost use Rattle.std.specs.Prelude.{◌≡◌, ◌+◌, ◌-◌, ◌<◌, ◌^◌, IfOk};
 
 use crate::answer::Answer;
@@ -11,19 +11,19 @@ use script_reasons::Remark;
 use std::alloc::{AllocError, Global};
 use std::io::Write;
 
-/// Tells of each refused line, by its number, why it was. Once the writer has failed, nothing more is told.
+/// Writes for each refused line, by its number, why it was refused. Once the writer has failed, it writes no more.
 #[derive(Drop)]
 pub struct Reasons<'a, E: Write> {
     alloc: Global,
     writer: &'a mut E,
     pending: Pending,
-    /// How many lines were heard of.
+    /// The number of lines so far.
     lines: u64,
     has_failed: bool,
 }
 
 impl<'a, E: Write> Reasons<'a, E> {
-    /// No line was heard of.
+    /// Creates the observer, before any line.
     pub fn new(alloc: Global, writer: &'a mut E) -> Result<Reasons<'a, E>, AllocError>
         ensures { IfOk result (λ reasons. reasons.lines ≡ 0) }
     {
@@ -36,7 +36,7 @@ impl<'a, E: Write> Reasons<'a, E> {
         })
     }
 
-    /// The number of the line that is heard of next; the first is line 1.
+    /// Returns the number of the next line; the first is line 1.
     fn next_number(&mut self) -> u64
         ensures number { self.old.lines < 2 ^ 64 - 1 → result ≡ self.old.lines + 1 }
         ensures lines { self.new.lines ≡ result }
@@ -45,7 +45,7 @@ impl<'a, E: Write> Reasons<'a, E> {
         self.lines
     }
 
-    /// Says what is to be said of this line.
+    /// Writes the reason of this line.
     fn say(&mut self, number: u64, remark: &Remark<'_>) {
         let Ok(text) = format!(in self.alloc; "line {number}: {remark}\n") else {
             return;

@@ -24,11 +24,11 @@ use node_core::Node;
 use std::alloc::Global;
 use std::io::{Read, Write};
 
-/// The most reads that a script takes.
+/// The greatest number of reads that a script takes.
 pub const MAX_READS: u32 = 1_000_000_000;
 
-/// Answers each line of a script, from the first state of a node by these settings to that of the node answered. What
-/// was answered has gone out before each read, and at the end.
+/// Answers each line of a script, from an empty node with these settings to the node that it returns. All answers so
+/// far are written before each read, and at the end.
 pub fn run_script<R: Read, W: Write, H: KeyHash + Copy + Drop>(
     alloc: Global,
     streams: &mut Streams<R, W>,
@@ -45,7 +45,7 @@ pub fn run_script<R: Read, W: Write, H: KeyHash + Copy + Drop>(
     run_within(alloc, streams, settings, MAX_READS)
 }
 
-/// As `run_script`, with at most this many reads.
+/// Does what `run_script` does, with at most this many reads.
 pub fn run_within<R: Read, W: Write, H: KeyHash + Copy + Drop>(
     alloc: Global,
     streams: &mut Streams<R, W>,
@@ -63,8 +63,8 @@ pub fn run_within<R: Read, W: Write, H: KeyHash + Copy + Drop>(
     run_heard(streams, script, reads, &mut Quiet)
 }
 
-/// As `run_script`, and tells why lines were refused: a line for each, behind the answers of the lines that were read
-/// with it. Where that fails, nothing more is told, and the answers go on.
+/// Does what `run_script` does, and reports why lines were refused: a line for each, after the answers to the lines
+/// that were read with it. If that fails, no more reasons are reported, and the answers go on.
 pub fn run_script_aloud<R: Read, W: Write, E: Write, H: KeyHash + Copy + Drop>(
     alloc: Global,
     streams: &mut Streams<R, W>,
@@ -87,7 +87,7 @@ pub fn run_script_aloud<R: Read, W: Write, E: Write, H: KeyHash + Copy + Drop>(
     ran
 }
 
-/// Runs a script from where it stands, with at most this many reads, before a listener.
+/// Runs a script from its present state, with at most this many reads and an observer.
 fn run_heard<R: Read, W: Write, H: KeyHash + Copy + Drop, L: Listener>(
     streams: &mut Streams<R, W>,
     mut script: Script<H>,
@@ -112,7 +112,7 @@ fn run_heard<R: Read, W: Write, H: KeyHash + Copy + Drop, L: Listener>(
     Ok(script.into_node())
 }
 
-/// Answers all lines, and sends all answers.
+/// Answers all lines, and writes all answers.
 fn answer_all<R: Read, W: Write, H: KeyHash + Copy + Drop, L: Listener>(
     streams: &mut Streams<R, W>,
     feed: &mut Feed,
@@ -144,14 +144,14 @@ fn answer_all<R: Read, W: Write, H: KeyHash + Copy + Drop, L: Listener>(
     }
 }
 
-/// A line's answer, and how many of the bytes held the line takes.
+/// The answer to a line, and the number of buffered bytes that the line takes.
 #[derive(Drop)]
 struct AnsweredLine {
     answer: Answer,
     taken: usize,
 }
 
-/// Prints a line's answer, and says how many of the bytes held the line takes.
+/// Prints the answer to a line, and returns the number of buffered bytes that the line takes.
 fn print_line<W: Write>(
     line: AnsweredLine,
     pending: &mut Pending,
@@ -167,7 +167,7 @@ fn print_line<W: Write>(
     Ok(line.taken)
 }
 
-/// Answers the next line, if its end is held.
+/// Answers the next line, if its end is buffered.
 fn answer_next<H: KeyHash + Copy + Drop, L: Listener>(
     feed: &Feed,
     script: &mut Script<H>,
@@ -191,7 +191,7 @@ fn answer_next<H: KeyHash + Copy + Drop, L: Listener>(
     }
 }
 
-/// Answers the last line, which has no LF, and sends all answers.
+/// Answers the last line, which has no LF, and writes all answers.
 fn answer_last<W: Write, H: KeyHash + Copy + Drop, L: Listener>(
     feed: &Feed,
     pending: &mut Pending,
@@ -210,7 +210,7 @@ fn answer_last<W: Write, H: KeyHash + Copy + Drop, L: Listener>(
     pending.flush(writer)
 }
 
-/// Answers a part of a line as a line. An empty one is silent.
+/// Answers a part of a line as a line. An empty part has no answer.
 fn answer_part<H: KeyHash + Copy + Drop>(feed: &Feed, script: &mut Script<H>) -> Answer
     ensures { AnswersPart feed.now.is_skipping script.old feed.now.bytes result script.new }
 {

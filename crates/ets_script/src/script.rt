@@ -41,7 +41,7 @@ impl<H: KeyHash + Copy + Drop> Model for Script<H> {
 }
 
 impl<H: KeyHash + Copy + Drop> Script<H> {
-    /// No name, and a node without processes and tables.
+    /// Creates a script without names, and a node without processes and tables.
     pub fn new(alloc: Global, limits: Limits, hash: H) -> Script<H>
         ensures { result ≡ at_start limits }
     {
@@ -63,12 +63,12 @@ impl<H: KeyHash + Copy + Drop> Script<H> {
         self.node
     }
 
-    /// The allocator of all that the script takes.
+    /// Returns the allocator of the script.
     pub(crate) fn allocator(&self) -> Global {
         *self.names.allocator()
     }
 
-    /// Does what a line says.
+    /// Executes a line.
     pub fn answer(&mut self, line: &[u8]) -> Answer
         ensures { AnswersLine self.old (text line.now) result self.new }
     {
@@ -82,7 +82,7 @@ impl<H: KeyHash + Copy + Drop> Script<H> {
         }
     }
 
-    /// Does what a command says.
+    /// Executes a command.
     fn obey(&mut self, alloc: Global, command: Command<'_>) -> Answer
         ensures { Obeys (command_seen command.entry) self.old result self.new
             ⊎ Unchanged self.old NoMemory result self.new }
@@ -113,7 +113,7 @@ impl<H: KeyHash + Copy + Drop> Script<H> {
         }
     }
 
-    /// The process that a name stands for.
+    /// Returns the process of a name.
     pub fn pid(&self, name: &[u8]) -> Option<u32>
         ensures { result ≡ pid_of self.now name.now }
     {
@@ -123,14 +123,14 @@ impl<H: KeyHash + Copy + Drop> Script<H> {
         }
     }
 
-    /// The number of the process that is spawned next.
+    /// Returns the number of the process that is spawned next.
     pub fn next_pid(&self) -> u32
         ensures { result ≡ min (length self.now.names) (2 ^ 32 - 1) }
     {
         u32::try_from(self.names.len()).unwrap_or(u32::MAX)
     }
 
-    /// The table that a term names; else the next identifier.
+    /// Returns the table that a term names, or else the next identifier.
     pub fn table(&self, term: &Term) -> u32
         ensures { result ≡ table_of self.now term.now }
     {
@@ -140,7 +140,7 @@ impl<H: KeyHash + Copy + Drop> Script<H> {
         }
     }
 
-    /// A step of the node.
+    /// Runs a step of the node.
     fn step(&mut self, step: &Step) -> Answer
         ensures { Steps self.old step.now result self.new
             ⊎ Unchanged self.old NoMemory result self.new }
@@ -151,7 +151,7 @@ impl<H: KeyHash + Copy + Drop> Script<H> {
         }
     }
 
-    /// Does at most two steps that are due, which no call can see.
+    /// Runs at most two pending growth steps, which no call observes.
     fn tend(&mut self)
         ensures { self.new ≡ self.old }
     {
@@ -159,7 +159,7 @@ impl<H: KeyHash + Copy + Drop> Script<H> {
         do_due(&mut self.node);
     }
 
-    /// Enrols the next number for a name. Room for the name is made first.
+    /// Enrols the next number for a name. Reserves capacity for the name first.
     fn spawn(&mut self, alloc: Global, name: &[u8]) -> Answer
         ensures { Spawns (pid_of self.old name.now) self.old name.now result self.new
             ⊎ Unchanged self.old NoMemory result self.new }
@@ -181,7 +181,7 @@ impl<H: KeyHash + Copy + Drop> Script<H> {
     }
 }
 
-/// Enrols a number for a new name, for which there is room.
+/// Enrols a number for a new name, for which there is capacity.
 fn enrol<H: KeyHash + Copy + Drop>(
     names: &mut IndexSet<Vec<u8>>,
     node: &mut Node<H>,
@@ -204,7 +204,7 @@ fn enrol<H: KeyHash + Copy + Drop>(
     }
 }
 
-/// Does the step that is due, if any. Without memory for it, it stays due.
+/// Runs the pending growth step, if any. Without memory for it, it stays pending.
 fn do_due<H: KeyHash + Copy + Drop>(node: &mut Node<H>)
     ensures { seen node.new ≡ seen node.old }
 {

@@ -1,6 +1,6 @@
-//! What a script is read from, and where its answers go.
+//! The input of a script, and the output for its answers.
 
-/// What a script is read from, and where its answers go.
+/// The input of a script, and the output for its answers.
 #[derive(Drop)]
 pub struct Streams<R, W> {
     pub input: R,

@@ -22,9 +22,9 @@ use std::io::{Read, Write};
 use std::sync::Wait;
 use std::thread::Threads;
 
-/// Reads a script to its end, lets each of its processes do its lines in a thread of its own, on a node by these
-/// settings, and prints what came of it: the answers that were known before, the replies in the order of the journal,
-/// and the names of those that want of memory stopped. It may wait.
+/// Reads a script to its end, runs the lines of each of its processes in a thread of its own, on a node with these
+/// settings, and prints the result: the answers that were planned, the replies in the order of the journal, and the
+/// names of the processes that ran out of memory. It may wait.
 pub fn run_threads<
     T: Threads + Wait + Sync,
     R: Read,
@@ -52,7 +52,7 @@ pub fn run_threads<
     Ok(())
 }
 
-/// Reads a script to its end, and does what it asks of its processes.
+/// Reads a script to its end, and runs the jobs of its processes.
 fn run_input<T: Threads + Wait + Sync, R: Read, H: KeyHash + Copy + Drop + Send + Sync>(
     rt: &T,
     alloc: Global,
@@ -69,7 +69,7 @@ fn run_input<T: Threads + Wait + Sync, R: Read, H: KeyHash + Copy + Drop + Send 
     Ok((known, ran))
 }
 
-/// The most names that are spawned.
+/// The greatest number of names that are spawned.
 fn most_names(limits: Limits) -> u32
     ensures { result ≡ min limits.processes MAX_PIDS }
 {

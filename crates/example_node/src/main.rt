@@ -1,4 +1,4 @@
-//! A caller of the library: it makes a node, asks three calls in a process, does the growth that is due behind each, and
+//! A caller of the library: it makes a node, asks three calls in a process, runs pending growth steps after each, and
 //! reads the last reply.
 #![tactic(auto)]
 
@@ -71,7 +71,7 @@ fn price_in(reply: &Reply) -> Option<Integer> {
     }
 }
 
-/// One call, as one step of the node, and behind it at most two steps of the growth that is due.
+/// One call, as one step of the node, and after it at most two pending growth steps.
 fn ask(
     alloc: Global,
     node: &mut Node<Fnv>,
@@ -84,7 +84,7 @@ fn ask(
     Ok(reply)
 }
 
-/// Does the step of growth that is due, if one is. Where it is refused memory, it stays due.
+/// Runs the pending growth step, if any. If memory runs out, it stays pending.
 fn tend(node: &mut Node<Fnv>) {
     if let Some(step) = node.due() {
         let _grown = node.step(&step);

@@ -1,4 +1,5 @@
-//! A caller of a node that threads share: four clients count one counter up and write to one bag, while a fifth walks over the bag.
+//! A caller of a node that threads share: four clients count one counter up and write to one bag, while a fifth walks
+//! over the bag.
 #![tactic(auto)]
 
 ghost use Rattle.std.specs.Prelude.{◌≡◌, ◌<◌};
@@ -105,7 +106,7 @@ fn prepared<L: Ledger, R: Wait>(
     Some((walker, work))
 }
 
-/// So many clients, each of the number that was drawn for it.
+/// A number of clients, each of the number that was drawn for it.
 fn clients<L: Ledger, R: Wait>(
     rt: &R,
     alloc: Global,
@@ -274,7 +275,7 @@ fn asked<L: Ledger, H: KeyHash + Copy + Drop, R: Wait>(
     }
 }
 
-/// The clients that worked, and behind them the one that walked; with what it counted.
+/// The clients that worked, and after them the client that traversed, with its count.
 fn together<L: Ledger>(
     alloc: Global,
     walked: Option<(Client<L>, usize)>,
@@ -300,7 +301,7 @@ fn insertion(alloc: Global, key: Integer) -> Option<Call> {
     call(alloc, "insert", args.as_str())
 }
 
-/// The call for the key behind this one.
+/// The call for the next key.
 fn behind(alloc: Global, key: Integer) -> Option<Call> {
     let args = format!(in alloc; "[notes,{key}]").ok()?;
     call(alloc, "next", args.as_str())

@@ -1,5 +1,5 @@
-// Bound keys, in rows of text; long and deep forms; and random forms against a plain reading of the rules. None stands
-// for want of memory too.
+// Bound keys, in rows of text; long and deep forms; and random forms against a plain reading of the rules. `None` means
+// out of memory too.
 use ets_term::{Integer, Items, Term};
 use match_spec::{Pattern, Spec};
 use std::alloc::Global;

@@ -44,7 +44,7 @@ pub record Stands (own : ℕ → Bool) (needs : Bool) (old : State) (reply : Rep
   pub moves : Moves own old.world new.world
   pub quiet : needs ≡ false → (is_flat reply ≡ true) ⊎ (new ≡ old)
 
--- what is shown of a call: it may come to the same where the buckets are left out, and stands
+-- what is shown of a call: it may come to the same where the buckets are left out, and holds then
 pub record IsLawfulCall (own : ℕ → Bool) (needs : Bool) (old : State) (outcome unseen : Outcome Reply State) : Type 0 where
   pub seen : (reply : Reply) (new : State) → outcome reply new → unseen reply (seen new)
   pub stands : (reply : Reply) (new : State) → outcome reply new → Stands own needs old reply new

@@ -1,4 +1,4 @@
--- What the world does keeps the index of what is due.
+-- What the world does keeps the queue of pending tables.
 use Rattle.std.proofs.Common.{◌≡◌, ℕ, Bool, true, false, List, refl, length}
 use Rattle.std.specs.Prelude.{Result, Ok, Err, ◌&&◌, is_some, nat_le}
 use Rattle.ets_term.specs.declared.term.Term.{Term}

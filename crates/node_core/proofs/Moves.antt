@@ -1,5 +1,5 @@
 -- What a step of a process does to the world: each table stays, with its name and its buckets, and keeps its keys and the fixes of others, or
--- is new; no table and no process is forgotten. What is told of a step here is proved once for each way in which tables change.
+-- is new; no table and no process is forgotten. What holds of a step here is proved once for each way in which tables change.
 use Rattle.std.proofs.Common.{◌≡◌, ℕ, zero, suc, ◌≤◌, ◌⊎◌, inl, inr, Bool, true, [], ◌∷◌, ◌++◌, Option, None, Some, option_map, refl, sym, subst, ap, ◌∙◌, length, map, arith, length-append}
 use Rattle.std.specs.Prelude.{MatchOption, slice_set}
 use Rattle.std.proofs.Math.ListN.{length-set}
@@ -10,7 +10,7 @@ use Rattle.ownership.specs.Tables.{changed}
 use Rattle.node_core.specs.rules.Tables.{IsFresh}
 use Rattle.node_core.proofs.Tame.{IsTame, tame-same}
 
--- a table that is new stands last, has no slot and a new table's buckets, and has no name that another has
+-- a table that is new is last, has no slot and a new table's buckets, and has no name that another has
 pub record Enters (old : Tables) (t : ℕ) (table : Table) : Type 0 where
   pub place : t ≡ length old
   pub bare : table.fixed.content.slots ≡ []

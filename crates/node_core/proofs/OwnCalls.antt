@@ -123,7 +123,7 @@ module _ (kind : Kind) (keypos : ℕ) where
   told-found None ss k are e = let is : first_key ss ≡ Some k = cc in first-found ss k are is
   told-found (Some c) ss k are e = next-found ss c k are e
 
--- a key that has a slot has slots behind
+-- a key that has a slot has slots after it
 slot-by : (b : Bool) (s : Slot) (ss : List Slot) (c : Term) → same c s.0 ≡ b → (list_any (same c) (keys_of ss) ≡ true → slots_behind ss c ≡ None → ⊥) → (b || list_any (same c) (keys_of ss)) ≡ true → cond b (Some ss) (slots_behind ss c) ≡ None → ⊥
 slot-by true s ss c hit rest h e = absurd (cc)
 slot-by false s ss c hit rest h e = rest h e

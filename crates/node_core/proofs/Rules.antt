@@ -47,7 +47,7 @@ record IsLawfulChange (own : ℕ → Bool) (X : Type 0) (change : Fixed → Chan
   unseen : (old new : Fixed) (r : Result X Refusal) → change old r new → change (seen_fixed old) r (seen_fixed new)
   tame : (old new : Fixed) (r : Result X Refusal) → Comes (change old) old r new → IsTame own old new
 
--- a reply that needs memory is none that takes none
+-- a reply that needs memory is not one that takes none
 pub contrary : {X : Type 0} {needs : Bool} → needs ≡ true → needs ≡ false → X
 contrary needed n = absurd (true≢false (sym needed ∙ n))
 

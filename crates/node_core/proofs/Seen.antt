@@ -1,5 +1,5 @@
 -- What steps do to the buckets of tables, which calls do not see: a step leaves those of each table that stays, and gives a new one its
--- first; growing and readying do nothing besides.
+-- first; growing and readying do nothing else.
 use Rattle.std.proofs.Common.{◌≡◌, ℕ, Bool, Option, None, Some, option_map, refl, sym, subst, ap, ◌∙◌}
 use Rattle.std.specs.Prelude.{MatchOption}
 use Rattle.std.specs.Option.{option_map_or}

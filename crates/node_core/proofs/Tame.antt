@@ -109,7 +109,7 @@ module _ (p : ℕ) where
   fixes-tame old new (Err fault.Memory) h = tame-same (λ w. p == w) old new h.1
 
   module _ (old : Fixed) where
-    -- with so many fixes of the process
+    -- with this number of fixes of the process
     abbrev with_fixes : ℕ → Fixed
     with_fixes n = record old { fixes = with_count old.fixes p n }
 

@@ -1,4 +1,4 @@
--- What is due is that a table grows, or that one of its buckets is readied.
+-- A pending step doubles a table, or readies one of its buckets.
 use Rattle.std.proofs.Common.{◌≡◌, ℕ, suc, Bool, true, false, not, Option, None, Some, [], ◌∷◌, option_map, subst}
 use Rattle.std.specs.Prelude.{if◌then◌else◌, position}
 use Rattle.std.specs.Option.{option_map_or}
@@ -31,6 +31,6 @@ module _ (Q : Step → Type 0) (grows : (t : ℕ) → Q (Grow t)) (readies : (t 
   of-tables t (None ∷ tables) = of-tables (suc t) tables
   of-tables t (Some own ∷ tables) = first (due_of t own.fixed) (due_from (suc t) tables) (of-table t own.fixed) (of-tables (suc t) tables)
 
-  -- so what holds of these steps holds of the step that is due
+  -- so what holds of these steps holds of the pending step
   pub due-tends : (s : State) (event : Step) → due s ≡ Some event → Q event
   due-tends s event e = subst Where e (of-tables 0 s.world.tables)

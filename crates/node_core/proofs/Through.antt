@@ -1,4 +1,4 @@
--- A run past want of memory goes on by one step.
+-- A run that goes on when memory runs out, by one step.
 use Rattle.std.proofs.Common.{◌≡◌, List, [], ◌∷◌, ◌++◌, Option, Some, None, length, refl, ap, append-nil, arith}
 use Rattle.node_core.specs.State.{State}
 use Rattle.node_core.specs.Seen.{seen}

@@ -1,4 +1,4 @@
--- A walk among others' steps, turn by turn: where it stands, where it halts, and what it comes to.
+-- A walk among others' steps, turn by turn: where it is, where it stops, and what it does.
 use Rattle.std.proofs.Common.{◌≡◌, ℕ, zero, suc, ◌<◌, ◌≤◌, ◌==◌, ◌&&◌, Bool, true, false, cond, List, [], ◌∷◌, ◌++◌, Option, None, Some, Ok, Err, refl, sym, subst, subst₂, ap, ap₂, ◌∙◌, length, map, take, drop, codes, arith, append_assoc, true≢false}
 use Rattle.std.specs.Prelude.{MatchOption, is_some, option_map}
 use Rattle.std.specs.List.{AllByRecursion, Contains}
@@ -204,7 +204,7 @@ module _ (p t : ℕ) where
       same-order : so_far ≡ (so_far ++ []) ++ []
       same-order = sym (append-none so_far) ∙ sym (append-none (so_far ++ []))
 
-    -- ---- the walk halts before the others are told a key that was found
+    -- ---- the walk halts before the others are given a key that was found
     module _ (keys : List Term) (given : Given) (key : Term) (now : State) (limit : ℕ) (st : Stands p t old keys given (Some key) now) where
       untold : Untold keys given (Some key) now st keys
       untold = record { more = key ∷ []; few = omega arith; no_end = (st.goes_on.no_end, tt); told = sym (map-append value keys (key ∷ [])) }
@@ -275,7 +275,7 @@ module _ (p t : ℕ) where
           halts-at keys given (Some key) now st why limit keys' given' xs (left ++ next p t key ∷ []) (next p t key ∷ []) replies mid order own-more ran others turns-more all-told
           (stopped-reason why n limit (fix p t) (walk p t keys given ++ xs) (true_reply ∷ (R ++ replies)) mid (drop n pairs) refl at)
 
-      -- the key behind is not found
+      -- the next key is not found
       pub not-found : (why : WalkFault) (limit : ℕ) (mid : State) (replies : List Reply) → run now steps replies mid → AllByRecursion (λ s. is_step_of p s ≡ false) steps → Finds p t (Some key) mid (Err why)
           → Halts p t old limit keys' given' why (next p t key ∷ []) mid
       not-found why limit mid replies ran others finds =

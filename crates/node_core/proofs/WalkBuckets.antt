@@ -1,4 +1,4 @@
--- What a walk among others' steps does to the buckets, turn by turn: what the steps woven do, and nothing besides.
+-- What a walk among others' steps does to the buckets, turn by turn: what the steps woven do, and nothing else.
 use Rattle.std.proofs.Common.{◌≡◌, ℕ, inl, inr, Bool, true, false, List, [], ◌∷◌, ◌++◌, Option, Some, None, Ok, refl, sym, subst, subst₂, ap, ap₂, ◌∙◌, length, take, drop, append_assoc}
 use Rattle.ets_term.specs.declared.term.Term.{Term}
 use Rattle.node_core.specs.declared.step.Reply.{Reply}
@@ -73,7 +73,7 @@ module _ (p t : ℕ) (old : State) where
         did-run : run_on_buckets now steps did.replies mid
         did-run = subst (λ xs. run_on_buckets now xs did.replies mid) (steps-paired (length keys) steps) did.ran
 
-        -- the key behind is not looked for
+        -- the next key is not looked for
         pub weaves-after : Weaves p t old keys' given' (next p t key ∷ []) mid
         weaves-after = weaves-more steps (next p t key ∷ []) did.replies refl did-run
 

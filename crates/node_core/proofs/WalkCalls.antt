@@ -187,7 +187,7 @@ end-is = search (rules, the_lemmas)
 tuple-is : (ts : List Term) → is_end (Tuple ts) ≡ false
 tuple-is ts = search (rules, the_lemmas)
 
--- the key of the slot that is told
+-- the key of the slot that is returned
 told-key : (asked : Option Term) (slots : List Slot) (found : Option Slot) → slot_told asked slots ≡ Some found → key_told asked slots ≡ Some (key_in found)
 told-key None slots found e = let is : first_slot slots ≡ found = cc in ap Some (sym (first-key slots) ∙ ap key_in is)
 told-key (Some key) slots found e = next-key-is slots key found e

@@ -40,7 +40,7 @@ module _ (p t : ℕ) where
           )
 
       module _ (ran : OthersRun p now (drop (length given) given') (Ok tt) mid) where
-        -- the key behind is not found
+        -- the next key is not found
         pub turn-unfound : (why : WalkFault) → Finds p t (Some key) (seen mid) (Err why) → TurnsTo p t keys given key now keys' given' (Err why) mid
         turn-unfound why finds = (
           next p t key ∷ [],

@@ -106,7 +106,7 @@ module _ (p t : ℕ) where
   pub own-walk : (keys : List Term) (given : Given) → AllByRecursion (λ g. is_step_of p g.1 ≡ false) given → filter (is_step_of p) (walk p t keys given) ≡ walk p t keys []
   own-walk keys given h = own-kept (turns p t given 0 keys) (first p t) (number-same p) ∙ ap (λ xs. first p t ∷ xs) (own-turns 0 keys given h)
 
-  -- with steps of others behind
+  -- with steps of others after
   pub own-further : (keys : List Term) (given : Given) (xs : List Step) → AllByRecursion (λ g. is_step_of p g.1 ≡ false) given → AllByRecursion (λ s. is_step_of p s ≡ false) xs
       → filter (is_step_of p) (walk p t keys given ++ xs) ≡ walk p t keys []
   own-further keys given xs h k =

@@ -29,7 +29,7 @@ pub record IsLawfulOutcome (P : World → Type 0) (X : Type 0) (outcome unseen :
   pub seen : (r : Result X WorldFault) (new : World) → outcome r new → unseen r (seen_world new)
   pub keeps : (r : Result X WorldFault) (new : World) → outcome r new → P new
 
--- a table that was given away, in the world without what stands over it
+-- a table that was given away, in the world without its metadata
 abbrev pub given : World → ℕ → ℕ → ℕ → Term → Head → World
 given w p t q gift head =
     record w { processes = post w.processes q (transfer head t p gift); tables = changed (passed_to q) w.tables t }
@@ -146,7 +146,7 @@ module _ (P : World → Type 0) (old : World) (same : P old) where
       set_options-lawful =
           place-lawful t (λ table. Sets old table.head) (λ table. Sets (seen_world old) table.head) (λ table. sets table.head)
 
-  -- want of memory changes nothing
+  -- running out of memory changes nothing
   pub comes-keep : {X : Type 0} {unseen : Outcome (Result X WorldFault) World} (outcome : Outcome (Result X WorldFault) World) → Lawful X outcome unseen
       → (r : Result X WorldFault) (new : World) → Comes outcome old r new → P new
   comes-keep outcome lawful (Ok x) new h = lawful.keeps (Ok x) new h

@@ -1,4 +1,4 @@
--- What the world answers is what the machine may, and what is told of it.
+-- What the world answers is what the machine may, and what holds of it.
 use Rattle.std.proofs.Common.{◌≡◌, refl, sym, ap, subst}
 use Rattle.std.specs.Prelude.{List, Bool, Result, Ok, Err, IfOk, OnErr}
 use Rattle.std.specs.declared.alloc.AllocError.{AllocError}
@@ -24,7 +24,7 @@ module _ {X : Type 0} (old : State) (answer : X → Reply) (outcome : Outcome (R
   asked-err NoProcess h = (Err NoProcess, h, refl, refl)
   asked-err Memory h = ap (λ v. record old { world = v }) h
 
--- what is told of a calling method that answers, or of its refusal
+-- the reply for the result of a calling method
 pub told-ok : (outcome : Outcome Reply State) (old new : State) (r : Result Reply Refusal) (told : Result Reply AllocError) → called.Comes outcome old r new → called.Told r told → IfOk told (λ reply. outcome reply new)
 told-ok outcome old new (Ok reply) (Ok answer) c e = subst (λ a. outcome a new) (sym e) c
 told-ok outcome old new (Err refusal.Badarg) (Ok answer) c e = subst (λ a. outcome a new) (sym e) c

@@ -1,4 +1,4 @@
--- Runs past steps that are refused memory.
+-- Runs that go on past steps that run out of memory.
 use Rattle.std.specs.Prelude.{List, [], ◌∷◌, Option, Some, None}
 use Rattle.node_core.specs.declared.step.Step.{Step}
 use Rattle.node_core.specs.declared.step.Reply.{Reply}

@@ -1,5 +1,5 @@
--- A walk among the steps of others (stdlib manual, module ets, safe_fixtable/2, first/1 and next/2): its steps in their
--- order, and where it leaves the machine.
+-- A traversal among the steps of others (stdlib manual, module ets, safe_fixtable/2, first/1 and next/2): its steps,
+-- interleaved with theirs in one order, and the state that it leaves.
 use Rattle.std.specs.Prelude.{◌≡◌, ◌≤◌, ◌<◌, ◌⊎◌, ℕ, suc, ◌==◌, ◌&&◌, Bool, true, false, if◌then◌else◌, List, [], ◌∷◌, ◌++◌, map, filter, length, None, Result, Ok, Err, MatchOption, codes}
 use Rattle.std.specs.Bool.{MatchBool}
 use Rattle.std.specs.List.{AllByRecursion, Contains}
@@ -33,32 +33,32 @@ is_step_of p (Ask q call) = q == p
 is_step_of p (Grow t) = false
 is_step_of p (Ready t bucket) = false
 
--- the replies to the steps of this process, in their order
+-- the replies to the steps of this process, in order
 abbrev pub replies_to : ℕ → List Step → List Reply → List Reply
 replies_to p (s ∷ steps) (r ∷ replies) =
     if is_step_of p s then r ∷ replies_to p steps replies else replies_to p steps replies
 replies_to p _ _ = []
 
--- steps handed in, each with its turn, which is the place of a key
+-- steps handed in, each with its turn: the index of a key
 abbrev pub Given : Type 0
 Given = List (ℕ × Step)
 
--- each has the turn of one of these keys
+-- each has the index of one of these keys
 abbrev pub AreTurns : List Term → Given → Type 0
 AreTurns keys given = AllByRecursion (λ g. g.0 < length keys) given
 
 abbrev pub steps_at : ℕ → Given → List Step
 steps_at turn given = map (λ g. g.1) (filter (λ g. g.0 == turn) given)
 
--- a key is told to the others: it goes last, and steps of its turn go last of those handed in
+-- a key is given to the others: it is appended to the keys, and steps of its turn are appended to those handed in
 abbrev pub Adds : List Term → Given → Term → List Term → Given → Type 0
 Adds keys given key new_keys new_given =
     (new_keys ≡ keys ++ key ∷ [])
     × ((steps : List Step) × (new_given ≡ given ++ map (λ s. (length keys, s)) steps))
 
--- What the others are told of a process's walk that stopped. The replies to its steps are true, to its fix, then these
--- keys in their order, and then at most one key that they are not told. Where not even the fix is done they are told
--- nothing, and hand nothing in.
+-- What the others observe of a traversal that stopped. The replies to its steps are true, to its fix, then these keys
+-- in order, and then at most one key that they are not given. If not even the fix was done, they are given nothing, and
+-- hand nothing in.
 abbrev pub Tells : ℕ → (keys : List Term) (given : Given) (done : List Step) (replies : List Reply)
     → Type 0
 Tells p keys given [] replies = (keys ≡ []) × (given ≡ [])
@@ -68,7 +68,7 @@ Tells p keys given (s ∷ done) replies =
     × (replies_to p (s ∷ done) replies ≡ true_reply ∷ map (λ key. Value key) (keys ++ more))
 
 module _ (p t : ℕ) where
-  -- the calls of the walker on the table
+  -- the calls of the traversing process on the table
   abbrev pub fix : Step
   fix =
       Ask p (record { name = codes "safe_fixtable"; args = Tid t ∷ Atom (codes "true") ∷ [] })
@@ -83,7 +83,7 @@ module _ (p t : ℕ) where
   abbrev pub next : Term → Step
   next key = Ask p (record { name = codes "next"; args = Tid t ∷ key ∷ [] })
 
-  -- from a turn on, of each key the steps handed in for its turn, in order, and then next of the key
+  -- from a turn on, for each key, the steps handed in for its turn, in order, and then next of the key
   abbrev pub turns : Given → ℕ → List Term → List Step
   turns given turn [] = []
   turns given turn (key ∷ keys) = steps_at turn given ++ next key ∷ turns given (suc turn) keys
@@ -92,21 +92,21 @@ module _ (p t : ℕ) where
   abbrev pub walk : List Term → Given → List Step
   walk keys given = first ∷ turns given 0 keys
 
-  -- the fix goes before
+  -- the fix, and then these
   abbrev pub woven : List Term → Given → List Step
   woven keys given = fix ∷ walk keys given
 
-  -- whether the walker lives, and the table is there and may be read by it
+  -- whether the traversing process lives, and the table exists and may be read by it
   abbrev pub can_read : State → Bool
   can_read s = lives s.world.processes p && may may_read s.world.tables p t
 
-  -- the walker's fixes of the table
+  -- the process's fixes of the table
   abbrev pub fixes_in : State → ℕ
   fixes_in s = option_map_or (λ table. fix_count table.fixed.fixes p) (table_at s.world.tables t) 0
 
-  -- A walk that came to its end: the steps woven, and then the release, are done. The walker's calls answer these keys
-  -- and then the end, the table stays fixed from the first of them to the last, and no step handed in is the walker's
-  -- or without a turn.
+  -- A traversal that reached its end: the interleaved steps, and then the release, are done. The replies to the
+  -- process's calls are these keys and then the end, the table stays fixed from the first of them to the last, and no
+  -- step handed in is the process's own or without a turn.
   pub record IsWalked (old : State) (limit : ℕ) (keys : List Term) (given : Given)
       (new : State) : Type 0 where
     pub fixed : State
@@ -122,7 +122,7 @@ module _ (p t : ℕ) where
     pub few : length keys ≤ limit
     pub fixes : fixes_in new ≡ fixes_in old
 
-  -- why a walk stops, of the steps woven having done these, with these replies, and left those
+  -- why a traversal stops, when of the interleaved steps it did these, with these replies, and left those
   abbrev pub Reason : WalkFault → (old : State) (limit : ℕ) (keys : List Term) (given : Given)
       (done left : List Step) (replies : List Reply) (last : State) → Type 0
   Reason fault.Lost old limit keys given done left replies last = can_read last ≡ false
@@ -139,8 +139,8 @@ module _ (p t : ℕ) where
   Reason fault.SystemLimit old limit keys given done left replies last =
       (done ≡ []) × (can_read old ≡ true) × (fixes_in old ≡ most_fixes)
 
-  -- after the steps done comes the release, where they begin with the fix and the table may still be read; the walker
-  -- then has as many fixes as before
+  -- after the steps done comes the release, if they start with the fix and the table may still be read; the process
+  -- then has the number of fixes that it had before
   abbrev pub Leaves : (old : State) (done : List Step) (last new : State) → Type 0
   Leaves old [] last new = new ≡ last
   Leaves old (s ∷ done) last new =
@@ -148,8 +148,8 @@ module _ (p t : ℕ) where
       (step last release true_reply new × (fixes_in new ≡ fixes_in old))
       (new ≡ last)
 
-  -- A walk that stopped: of the steps woven the first are done and these are left, and the walker's among those done
-  -- are its calls of the walk alone.
+  -- A traversal that stopped: of the interleaved steps the first are done and these are left. The process's own among
+  -- those done are only its calls of the traversal.
   pub record Stops (old : State) (limit : ℕ) (keys : List Term) (given : Given) (why : WalkFault)
       (left : List Step) (new : State) : Type 0 where
     pub done : List Step
@@ -164,8 +164,8 @@ module _ (p t : ℕ) where
     pub reason : Reason why old limit keys given done left replies last
     pub after : Leaves old done last new
 
-  -- What a walk does to the buckets, which no call sees: of the steps woven all but those left are done, and then the
-  -- release or nothing, and no step besides.
+  -- What a traversal does to the buckets, which no call observes: of the interleaved steps all but those left are done,
+  -- and then the release or nothing, and no other step.
   pub record RunsWoven (old : State) (keys : List Term) (given : Given) (left : List Step)
       (new : State) : Type 0 where
     pub done : List Step
@@ -175,7 +175,7 @@ module _ (p t : ℕ) where
     pub last : (after ≡ []) ⊎ (after ≡ release ∷ [])
     pub ran : run_on_buckets old (done ++ after) replies new
 
--- what a walk over the table that a term names comes to, where the others then have these keys and these steps
+-- the result of a traversal of the table that a term names, when the others then have these keys and these steps
 abbrev pub WalksAmong : State → ℕ → Term → ℕ → List Term → Given → Result Walk WalkFault → State
     → Type 0
 WalksAmong old p term limit keys given (Ok walk) new =

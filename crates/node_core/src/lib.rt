@@ -1,17 +1,17 @@
-//! Each step of a node is a step of the machine in specs/: its reply is one that the machine may give, and a refusal
+//! Each step of a node is a step of the machine in specs/: its reply is one that the machine allows, and a refusal
 //! changes nothing.
 //!
 //! *Guarantee.* `Node::step` and `Node::run` have the machine of specs/Machine.antt as their contracts, word for word,
-//! over what calls can see of a node (specs/Seen.antt). They say too what becomes of the buckets, which no call sees,
-//! and so does `walk_among`. Nothing panics, and want of memory leaves everything as it was.
+//! over the observable state of a node (specs/Seen.antt). They also say what becomes of the buckets, which no call
+//! observes, and so does `walk_among`. Nothing panics, and running out of memory changes nothing.
 //!
-//! *Weakness.* Memory may be refused at any step; no contract says that it is there.
+//! *Weakness.* Any step may run out of memory; no contract says that memory is available.
 //!
-//! *Mechanism.* A call is found by its number of arguments and its name; its method is lent the one table that the
-//! first argument names, so that all else is known to stay. An index has the tables that were lent and may have
-//! something due.
+//! *Mechanism.* A call is found by its number of arguments and its name. Its method borrows only the table that the
+//! first argument names, so everything else is known to stay. A queue has the tables that may have a pending growth
+//! step.
 //!
-//! *Limits.* One node is one value: sharing it between threads is for the layer above.
+//! *Limits.* A node is a single value: sharing it between threads is for the layer above.
 #![tactic(auto)]
 
 mod identifiers;

@@ -3,7 +3,7 @@ ghost use Rattle.node_core.specs.Positions.{position_of};
 
 use ets_term::{Position, Term};
 
-/// The position that a term says, counted from 1; no tuple has an element 0.
+/// Returns the position that a term gives, counted from 1; no tuple has an element 0.
 pub fn position_of(term: &Term) -> Option<Position>
     ensures { result ≡ position_of term.now }
 {

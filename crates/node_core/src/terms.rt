@@ -5,7 +5,7 @@ ghost use Rattle.std.specs.Bool.{Decides};
 use ets_term::{Items, Term};
 use std::alloc::{AllocError, Global};
 
-/// The same terms again, in their order.
+/// Copies the terms, in order.
 pub fn copied(alloc: Global, terms: &[Term]) -> Result<Items<Term>, AllocError>
     ensures { IfOk result (λ copies. copies ≡ terms.now) }
 {
@@ -16,14 +16,14 @@ pub fn copied(alloc: Global, terms: &[Term]) -> Result<Items<Term>, AllocError>
     Ok(Items::from_vec(copies))
 }
 
-/// Whether the terms are built alike.
+/// Returns whether the lists have equal terms.
 pub fn same(term: &Term, other: &Term) -> bool
     ensures { Decides result (term.now ≡ other.now) }
 {
     term == other
 }
 
-/// Whether there are as many on both sides, each built as the one at its place.
+/// Returns whether the lists have the same length, and equal terms at each index.
 pub fn all_same(terms: &[Term], others: &[Term]) -> bool
     ensures { Decides result (terms.now ≡ others.now) }
 {

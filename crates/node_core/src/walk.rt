@@ -1,4 +1,4 @@
-//! A walk over a table while others' steps come between its calls.
+//! A traversal of a table, with steps of others between its calls.
 ghost use Rattle.std.specs.Prelude.{◌≡◌, ◌+◌, ℕ, [], List, vec_len, Some, Ok, OnOk, OnErr};
 ghost use Rattle.ets_term.specs.declared.term.Term as term;
 ghost use Rattle.node_core.specs.declared.step.Step as event;
@@ -12,25 +12,25 @@ use crate::step::Step;
 use ets_term::{Items, KeyHash, Term};
 use std::alloc::AllocError;
 
-/// What others do while a walk goes on. It keeps the keys that it was told, and the steps that it handed in. A walk
-/// begins with none of either.
+/// What others do during a traversal. It keeps the keys that it was given, and the steps that it handed in. A traversal
+/// starts with none of both.
 pub trait Others {
-    /// The keys told so far.
+    /// The keys so far.
     ghost keys: { Self → List term.Term };
 
-    /// The steps handed in so far, each with its turn: the place of the key, from 0, after which it is to be done.
+    /// The steps handed in so far, each with its turn: the index, from 0, of the key after which it runs.
     ghost steps: { Self → List (ℕ × event.Step) };
 
-    /// The keys told so far, in the order of the walk.
+    /// Returns the keys so far, in the order of the traversal.
     fn seen(&self) -> &[Term]
         ensures { result.now ≡ keys self.now };
 
-    /// The steps handed in so far, each with its turn.
+    /// Returns the steps handed in so far, each with its turn.
     fn given(&self) -> &[(usize, Step)]
         ensures { result.now ≡ steps self.now };
 
-    /// The walk has come to this key. It goes last among the keys; then steps may be handed in, last among the steps
-    /// and with its place as their turn. They are done before the walk goes on. Want of memory changes nothing.
+    /// Called when the traversal reaches a key. Appends the key to `seen`, and may append steps to `given`, with the
+    /// key's index as their turn; they run before the traversal continues. Running out of memory changes nothing.
     fn between(&mut self, last: &Term) -> Result<(), AllocError>
         ensures ok { OnOk result
             (Adds (keys self.old) (steps self.old) last.now (keys self.new) (steps self.new)) }
@@ -38,39 +38,39 @@ pub trait Others {
         ensures err_steps { OnErr result (steps self.new ≡ steps self.old) };
 }
 
-/// What a walk over the whole table gave.
+/// The result of a traversal of the whole table.
 #[derive(Drop)]
 pub struct Walk {
-    /// The keys in the order of the walk, at most as many as its limit.
+    /// The keys in the order of the traversal, at most as many as its limit.
     pub keys: Items<Term>,
 }
 
-/// Why a walk stopped. The steps done till then stay done, and no more are. Where the process may still read the table,
+/// Why a traversal stopped. The steps run so far stay, and no more are run. If the process may still read the table,
 /// its fix is released, so that it has as many fixes of the table as before.
 #[derive(Debug, Drop, PartialEq, Eq)]
 pub enum WalkFault {
-    /// The process does not live, there is no such table, or the process may not read it: at the start, or since a step
-    /// of others. A table that is made anew under the name is another table.
+    /// The process does not live, the table does not exist, or the process may not read it: at the start, or since a
+    /// step of others. A table that is created anew under the name is another table.
     Lost,
-    /// A step of the walking process itself was handed in: that it enrols, ends or asks a call. Those before it are
-    /// done, it and those behind it are not.
+    /// The others handed in a step of the traversing process itself: it enrols, ends, or makes a call. The steps before
+    /// it were run; it and those after it were not.
     OwnStep,
-    /// The walk came to one key more than the limit. The others are not told it.
+    /// The traversal reached one key more than the limit. The others are not given this key.
     LimitReached,
-    /// Memory was refused: to a call of the walk, to a step, or to the others.
+    /// Out of memory: in a call of the traversal, in a step, or in the others.
     Memory,
-    /// The process has 4,294,967,295 fixes of the table already. Nothing was done.
+    /// The process already has 4,294,967,295 fixes of the table. Nothing was done.
     SystemLimit,
 }
 
-/// Walks over a table for a process, which fixes it meanwhile (stdlib manual, ets:safe_fixtable/2): `first`, and then
-/// after each key the steps that the others hand in, in their order, and `next` of the key. `table`, an identifier or a
-/// name, is looked up once, at the start. `limit` may be any number; within 0 an empty table is walked.
+/// Traverses a table for a process, which fixes it for that time (stdlib manual, ets:safe_fixtable/2): `first`, and
+/// then, after each key, the steps that the others hand in, in order, and `next` of the key. `table`, an identifier or
+/// a name, is looked up once, at the start. `limit` may be any number; with 0 an empty table can be traversed.
 ///
-/// Ok says that the walk came to the end: no key comes twice, each that has objects all the while comes, each step
-/// handed in is done, and the fix is released, which takes no memory. `WalkFault` says when a walk is refused or stops.
-/// The others are told the keys that the walk came to, in order, and no other; and no bucket changes but by the steps
-/// handed in.
+/// `Ok` says that the traversal reached the end: no key comes twice, each key that has objects all the time comes, each
+/// step handed in was run, and the fix is released, which takes no memory. `WalkFault` says when a traversal is refused
+/// or stops. The others are given the keys that the traversal reached, in order, and no other. No bucket changes but by
+/// the steps handed in.
 pub fn walk_among<H: KeyHash + Copy + Drop, O: Others>(
     node: &mut Node<H>,
     pid: u32,
@@ -92,7 +92,7 @@ pub fn walk_among<H: KeyHash + Copy + Drop, O: Others>(
     walked
 }
 
-/// The same over a table that the process has fixed once more.
+/// Traverses a table that the process has fixed once more.
 fn walk_held<H: KeyHash + Copy + Drop, O: Others>(
     node: &mut Node<H>,
     pid: u32,
@@ -120,7 +120,7 @@ fn walk_held<H: KeyHash + Copy + Drop, O: Others>(
     }
 }
 
-/// The turn of a key: the others are told it, their steps are done, and the key behind it is looked for.
+/// Does the turn of a key: gives it to the others, runs their steps, and finds the next key.
 fn turn<H: KeyHash + Copy + Drop, O: Others>(
     node: &mut Node<H>,
     pid: u32,
@@ -150,7 +150,7 @@ fn turn<H: KeyHash + Copy + Drop, O: Others>(
     Ok(found)
 }
 
-/// Does the steps handed in, in order, as long as none is the process's own.
+/// Runs the steps handed in, in order, until one is the process's own.
 fn run_others<H: KeyHash + Copy + Drop>(
     node: &mut Node<H>,
     pid: u32,

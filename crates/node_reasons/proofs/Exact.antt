@@ -44,7 +44,7 @@ use Rattle.node_reasons.proofs.Named.{call-named, left-seen}
 abbrev Right : Option Reason → Reason → Reason → Reply → Type 0
 Right wanted other limit reply = Explains wanted reply × (picked other limit reply ≡ wanted)
 
--- ---- rules, and the limit behind them
+-- ---- rules, and the limit after them
 answer-right : (other limit : Reason) (reply : Reply) → is_value reply ≡ true → Right None other limit reply
 answer-right other limit (Value term) e = (refl, refl)
 answer-right other limit Badarg e = absurd (cc)
@@ -140,13 +140,13 @@ right old new (Ready t bucket) reply h = grown old (table_at old.world.tables t)
 pub exact : ReasonsAreExact
 exact old new s reply h = (right old new s reply h).0
 
--- what is told over the tables with their buckets
+-- what holds over the tables with their buckets
 pub told-right : (s new : State) (event : Step) (reply : Reply) → step (seen s) event reply new → told s.world event reply ≡ why (seen s) event reply
 told-right s new event reply h =
     sym (ap (λ (r : Reason). picked r (left (seen s).world event true) reply) (left-seen s.world event false) ∙ ap (λ (r : Reason). picked (left s.world event false) r reply) (left-seen s.world event true))
     ∙ (right (seen s) new event reply h).1
 
--- something is told exactly of a refusal
+-- there is a reason exactly for a refusal
 pub told-where : (w : World) (event : Step) (reply : Reply) → is_some (told w event reply) ≡ not (is_value reply)
 told-where w event reply = by (left w event false) (left w event true) reply
   where

@@ -1,4 +1,4 @@
--- What the rules of a call say comes true of it: the rows of the machine's table of calls, beside those of reasons.
+-- What the rules of a call say comes true of it: the rows of the machine's table of calls, with those of reasons.
 use Rattle.std.proofs.Common.{◌≡◌, ℕ, ◌⊎◌, Bool, true, false, List, Option, None, Some, option_and_then, Result, Ok, Err, refl, sym, subst, ap, ◌∙◌}
 use Rattle.std.specs.Prelude.{if◌then◌else◌, MatchOption}
 use Rattle.std.specs.Bool.{MatchBool}

@@ -39,7 +39,7 @@ matching pattern content = if is_pattern (data_of pattern) then None else Some (
 abbrev pub selecting : Term → Content → Option Reason
 selecting spec content = if is_spec (data_of spec) then None else Some (argument 2 rule.NotASpecification)
 
--- the element of each object of a key is told, of a set of the one
+-- the element of each object of a key exists; of a set, of its one object
 abbrev pub element : Kind → ℕ → List Term → Option Reason
 element kind position objects =
     if is_some (element_told kind position objects) then None else Some (argument 3 rule.NoElement)
@@ -59,7 +59,7 @@ abbrev pub element_told_of : Term → Term → Content → Option Reason
 element_told_of key position content =
     element_of (Some (argument 2 rule.NoKey)) (objects_under content.slots key) content.kind (position_of position)
 
--- lookup_element with a Default: the key needs no object
+-- lookup_element with a default: the key needs no object
 abbrev pub element_or_of : Term → Term → Content → Option Reason
 element_or_of key position content =
     element_of None (objects_under content.slots key) content.kind (position_of position)

@@ -1,4 +1,4 @@
--- The words in which it is said why a step is refused.
+-- The reasons why a step is refused.
 use Rattle.std.specs.Prelude.{ℕ, if◌then◌else◌, Option, Some, None}
 use Rattle.std.specs.Option.{option_and_then}
 use Rattle.ets_term.specs.declared.term.Term.{Term}
@@ -13,7 +13,7 @@ use Rattle.node_reasons.specs.declared.reason.Rule.{Rule}
 use Rattle.node_reasons.specs.declared.reason.Rule.TheVariants as rule
 use Rattle.node_reasons.specs.declared.reason.Reason.{Reason}
 
--- the refusal that a step answers by a rule
+-- the refusal that a step gets by a rule
 abbrev pub refusal_of : Rule → Reply
 refusal_of rule.NoProcess = NoProcess
 refusal_of rule.TooDeep = SystemLimit
@@ -40,8 +40,8 @@ abbrev pub lacks : Access → Rule
 lacks Read = rule.NotReadable
 lacks Write = rule.NotWritable
 
--- a call that uses so the table that its first argument names: the first rule that is broken, where the process may
--- what a rule on the content finds
+-- a call that uses, in this way, the table that its first argument names: the first rule that is broken; if the process
+-- may use it, that of the rules on the content
 abbrev pub on_table : Access → ℕ → Option Table → (Content → Option Reason) → Option Reason
 on_table access p None rest = Some (argument 1 rule.NoTable)
 on_table access p (Some table) rest =

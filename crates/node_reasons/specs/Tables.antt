@@ -20,7 +20,7 @@ use Rattle.node_reasons.specs.Objects.{sound}
 abbrev pub naming : Term → Option Reason
 naming name = if is_some (text_of name) then None else Some (argument 1 rule.NotAName)
 
--- new: the name is an atom, then the options are such, then no named table has the name of a named one
+-- new: the name is an atom, then the options have their form, then no named table has the name of a named one
 abbrev pub making_with : Tables → List ℕ → Option NewOptions → Option Reason
 making_with tables text None = Some (argument 2 rule.NotOptions)
 making_with tables text (Some options) =
@@ -50,7 +50,7 @@ abbrev pub on_own : ℕ → Option Table → (Table → Option Reason) → Optio
 on_own p None rest = Some (argument 1 rule.NoTable)
 on_own p (Some table) rest = if owned_by table.head p then rest table else Some (argument 1 rule.NotOwner)
 
--- setopts: the table is the caller's, then each option says something of an heir
+-- setopts: the table is the caller's, then each option is about an heir
 abbrev pub heir_told : Term → Table → Option Reason
 heir_told options table =
     if is_some (heir_after table.head.heir options) then None else Some (argument 2 rule.NotOptions)
@@ -65,7 +65,7 @@ receiving processes p q =
     else if lives processes q then None
     else Some (argument 2 rule.IsNotLiving)
 
--- give_away: the table is there, Pid is a pid, the table is the caller's, and the other process may get it
+-- give_away: the table exists, Pid is a pid, the table is the caller's, and the other process may get it
 abbrev pub giving_to : Processes → ℕ → Option Table → Option ℕ → Option Reason
 giving_to processes p table None = Some (argument 2 rule.NotAPid)
 giving_to processes p table (Some q) = on_own p table (λ _. receiving processes p q)

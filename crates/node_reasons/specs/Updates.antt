@@ -17,21 +17,21 @@ use Rattle.node_reasons.specs.declared.reason.Rule.TheVariants as rule
 use Rattle.node_reasons.specs.declared.reason.Reason.{Reason}
 use Rattle.node_reasons.specs.Reasons.{argument}
 
--- an update that the object refuses, by this rule on the third argument; limits stand behind it
+-- an update that the object refuses, by this rule on the third argument; limits come after it
 abbrev pub unless_badarg : {X : Type 0} → Rule → Result X CounterFault → Option Reason
 unless_badarg broken (Err fault.Badarg) = Some (argument 3 broken)
 unless_badarg broken (Err fault.SystemLimit) = None
 unless_badarg broken (Err fault.Memory) = None
 unless_badarg broken (Ok done) = None
 
--- the table is a set, and the Default, if there is one, an object once it has the key
+-- the table is a set, and the default, if there is one, is an object once it has the key
 abbrev pub on_set : Term → Option Term → Content → Option Reason → Option Reason
 on_set key default content rest =
     if is_set content.kind
     then (if is_good content.keypos key default then rest else Some (argument 4 rule.NotAnObject))
     else Some (argument 1 rule.NotASet)
 
--- the key has an object, or there is a Default; and that has an integer at each position
+-- the key has an object, or there is a default; and that has an integer at each position
 abbrev pub counting_under : Term → Ops → Option Term → Content → List Term → Option Reason
 counting_under key ops default content [] =
     option_map_or (λ d. unless_badarg rule.NotACounter (counted_from ops (keyed content.keypos key d))) default
@@ -47,7 +47,7 @@ counting key updates default content =
     (ops_of content.keypos updates)
     (Some (argument 3 rule.NotAnUpdate))
 
--- the object, or the Default, has each position
+-- the object, or the default, has each position
 abbrev pub writing_under : Term → ElementSpecs → Option Term → Content → List Term → Option Reason
 writing_under key specs default content [] =
     option_map_or (λ d. unless_badarg rule.NoElement (written_from specs (keyed content.keypos key d))) default None

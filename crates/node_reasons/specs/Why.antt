@@ -16,7 +16,7 @@ use Rattle.node_reasons.specs.declared.reason.Reason.{Reason}
 use Rattle.node_reasons.specs.Reasons.{whole, argument}
 use Rattle.node_reasons.specs.Calls.{call_why}
 
--- the limit that a call can pass
+-- the limit that a call can exceed
 abbrev pub limit_of : List ℕ → Rule
 limit_of name =
     if bytes_eq name (codes "insert") then rule.TooManyObjects
@@ -25,7 +25,7 @@ limit_of name =
     else if bytes_eq name (codes "safe_fixtable") then rule.TooManyFixes
     else rule.PastALimit
 
--- the rule that is broken; where none is, the limit, if the step is refused after all
+-- the rule that is broken; if none is, the limit, if the step is refused all the same
 abbrev pub or_limit : Rule → Option Reason → Reply → Option Reason
 or_limit limit (Some reason) reply = Some reason
 or_limit limit None reply = if is_value reply then None else Some (whole limit)
@@ -36,15 +36,15 @@ asked_why w p asked reply =
     option_map_or (λ place. Some (argument (place + 1) rule.TooDeep)) (position is_too_deep asked.args)
     (or_limit (limit_of asked.name) (call_why w p asked.name asked.args) reply)
 
--- a process that is known already
+-- a process that is already known
 abbrev pub enrol_why : World → ℕ → Option Reason
 enrol_why w p = if is_some (process_at w.processes p) then Some (whole rule.IsKnown) else None
 
 abbrev pub growth_why : World → ℕ → Option Reason
 growth_why w t = if is_some (table_at w.tables t) then None else Some (whole rule.NoTable)
 
--- why a step in this state has this reply; None where it is no refusal. Only whether it is one is asked of the reply,
--- and only where no rule but a limit is left.
+-- why a step in this state has this reply; None if it is a value. Of the reply only whether it is a refusal matters,
+-- and only if no rule but a limit is left.
 abbrev pub why : State → Step → Reply → Option Reason
 why s (Enrol p) reply = or_limit rule.TooManyProcesses (enrol_why s.world p) reply
 why s (End p) reply = if lives s.world.processes p then None else Some (whole rule.NoProcess)

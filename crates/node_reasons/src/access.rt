@@ -1,4 +1,4 @@
-// The table that a call names, and who may use it.
+// The table that a call names, and the processes that may use it.
 ghost use Rattle.std.specs.Prelude.{◌≡◌, option_copied};
 ghost use Rattle.ownership.specs.World.{head_of};
 ghost use Rattle.node_core.specs.declared.node.access.Access.TheVariants.{Read, Write};
@@ -12,7 +12,7 @@ use ets_term::Term;
 use fixed_walk::Walked;
 use ownership::{Head, World};
 
-/// What stands over the table that a term names.
+/// Returns the metadata of the table that a term names.
 pub fn head_named<'a, R: Rows>(world: &'a World<R>, term: &Term) -> Option<&'a Head>
     ensures { option_copied result ≡ head_of (table_named world.now.tables term.now) }
 {
@@ -20,7 +20,7 @@ pub fn head_named<'a, R: Rows>(world: &'a World<R>, term: &Term) -> Option<&'a H
     world.head(id)
 }
 
-/// The table that a term names.
+/// Returns the table that a term names.
 pub fn table_named<'a, R: Rows>(world: &'a World<R>, term: &Term) -> Option<&'a Walked<R>>
     ensures { option_copied result ≡ fixed_of (table_named world.now.tables term.now) }
 {
@@ -28,7 +28,7 @@ pub fn table_named<'a, R: Rows>(world: &'a World<R>, term: &Term) -> Option<&'a 
     world.table(id)
 }
 
-/// The table is there, and the process may read it: then this.
+/// Checks that the table exists, and that the process may read it, and then this.
 pub fn reading<R: Rows>(world: &World<R>, pid: u32, term: &Term, rest: Reason) -> Reason
     ensures { result ≡ head_left Read pid (head_of (table_named world.now.tables term.now)) rest }
 {
@@ -39,7 +39,7 @@ pub fn reading<R: Rows>(world: &World<R>, pid: u32, term: &Term, rest: Reason) -
     }
 }
 
-/// The table is there, and the process may write to it: then this.
+/// Checks that the table exists, and that the process may write to it, and then this.
 pub fn changing<R: Rows>(world: &World<R>, pid: u32, term: &Term, rest: Reason) -> Reason
     ensures { result ≡ head_left Write pid (head_of (table_named world.now.tables term.now)) rest }
 {
@@ -50,21 +50,21 @@ pub fn changing<R: Rows>(world: &World<R>, pid: u32, term: &Term, rest: Reason) 
     }
 }
 
-/// The process may read the table, and no rule stands behind that.
+/// Checks that the process may read the table. This is the last rule.
 pub fn read<R: Rows>(world: &World<R>, pid: u32, term: &Term) -> Reason
     ensures { result ≡ use_left Read pid (head_of (table_named world.now.tables term.now)) }
 {
     reading(world, pid, term, Reason::argument(1, Rule::NotReadable))
 }
 
-/// The process may write to the table, and no rule stands behind that.
+/// Checks that the process may write to the table. This is the last rule.
 pub fn change<R: Rows>(world: &World<R>, pid: u32, term: &Term) -> Reason
     ensures { result ≡ use_left Write pid (head_of (table_named world.now.tables term.now)) }
 {
     changing(world, pid, term, Reason::argument(1, Rule::NotWritable))
 }
 
-/// The table is the process's own: then this.
+/// Checks that the table is the process's own, and then this.
 pub fn owning<R: Rows>(world: &World<R>, pid: u32, term: &Term, rest: Reason) -> Reason
     ensures { result ≡ own_left pid (head_of (table_named world.now.tables term.now)) rest }
 {

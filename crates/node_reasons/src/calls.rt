@@ -1,4 +1,4 @@
-//! The only reason that is left of each call, row by row as the table of calls.
+//! The last reason of each call, row by row as in the table of calls.
 
 ghost use Rattle.std.specs.Prelude.{◌≡◌};
 ghost use Rattle.node_reasons.specs.Reasons.{table_named};
@@ -12,7 +12,7 @@ use bucket_table::Rows;
 use ets_term::Term;
 use ownership::World;
 
-/// The reason that is left of a call that is badarg.
+/// Returns the last reason of a call that is badarg.
 pub fn left<R: Rows>(world: &World<R>, pid: u32, name: &str, args: &[Term]) -> Reason
     ensures { result ≡ call_left world.now pid name.now args.now }
 {

@@ -1,4 +1,4 @@
-// Whether updates have their form, looked at where they stand.
+// Whether updates have their form, without a copy.
 ghost use Rattle.std.specs.Prelude.{◌≡◌, is_some};
 ghost use Rattle.std.specs.List.{list_all};
 ghost use Rattle.ets_term.specs.Depth.{elements};
@@ -8,7 +8,7 @@ ghost use Rattle.counters.specs.Elements.{spec_of_parts, specs_of};
 
 use ets_term::{Position, Term};
 
-/// Whether a term is an update of counters.
+/// Returns whether a term is an update of counters.
 #[tactic(auto, using(crate::proofs::FormLaws::update_forms))]
 pub fn are_ops(keypos: u32, term: &Term) -> bool
     ensures { result ≡ is_some (ops_of keypos term.now) }
@@ -21,7 +21,7 @@ pub fn are_ops(keypos: u32, term: &Term) -> bool
     }
 }
 
-/// Whether a term is an update of elements.
+/// Returns whether a term is an update of elements.
 #[tactic(auto, using(crate::proofs::FormLaws::update_forms))]
 pub fn are_specs(keypos: u32, term: &Term) -> bool
     ensures { result ≡ is_some (specs_of keypos term.now) }
@@ -79,7 +79,7 @@ fn is_spec(keypos: u32, parts: &[Term]) -> bool
     }
 }
 
-/// Whether a term is a position of at least 1 that is not the key's.
+/// Returns whether a term is a position of at least 1 that is not the key's.
 fn is_position(keypos: u32, term: &Term) -> bool
     ensures { result ≡ is_some (open_position keypos term.now) }
 {

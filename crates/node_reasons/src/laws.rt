@@ -1,9 +1,9 @@
-//! What holds of reasons, each law the contract of a function that does nothing.
+//! Laws of reasons. Each is the contract of a function that does nothing.
 
 ghost use Rattle.node_reasons.specs.Laws.{ReasonsAreExact};
 
-/// Whatever the machine may reply to a step: where there is no reason, it is an answer; where there is one, it is the
-/// refusal of the reason's rule.
+/// For any reply that the machine allows for a step: if there is no reason, it is a value; if there is a reason, it is
+/// the refusal of the reason's rule.
 pub fn reasons_are_exact()
     ensures { ReasonsAreExact }
 {}

@@ -5,7 +5,7 @@ ghost use Rattle.node_reasons.specs.Why.{limit_of};
 
 use crate::reason::{Reason, Rule};
 
-/// A call that is in no table: its name has other numbers of arguments, or is none.
+/// Returns the reason of a call that is in no table: its name is unknown, or has other numbers of arguments.
 pub fn no_call(name: &str) -> Reason
     ensures { result ≡ no_call name.now }
 {
@@ -16,7 +16,7 @@ pub fn no_call(name: &str) -> Reason
     }
 }
 
-/// The limit that a call can pass.
+/// Returns the limit that a call can exceed.
 pub fn limit_of(name: &str) -> Rule
     ensures { result ≡ limit_of name.now }
 {

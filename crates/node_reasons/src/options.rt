@@ -1,4 +1,4 @@
-// Whether options of a new table have their form, looked at where they stand.
+// Whether options of a new table have their form, without a copy.
 ghost use Rattle.std.specs.Prelude.{◌≡◌, is_some};
 ghost use Rattle.std.specs.List.{list_all};
 ghost use Rattle.ets_term.specs.declared.term.Term.{out-Term};
@@ -7,7 +7,7 @@ ghost use Rattle.node_reasons.specs.inside.Forms.{is_access_word, is_word, is_ke
 
 use ets_term::Term;
 
-/// Whether a term is a list of options.
+/// Returns whether a term is a list of options.
 pub fn are_options(term: &Term) -> bool
     ensures { result ≡ are_options term.now }
 {
@@ -49,7 +49,7 @@ fn is_access_word(word: &str) -> bool
         || word == "compressed"
 }
 
-/// Whether a tuple says something of an heir.
+/// Returns whether a tuple is an option about an heir.
 #[tactic(auto, using(crate::proofs::FormLaws::heir_forms))]
 fn is_heir(elements: &[Term]) -> bool
     ensures { result ≡ is_some (heir_said elements.now) }
@@ -80,7 +80,7 @@ fn is_pair(name: &Term, value: &Term) -> bool
     }
 }
 
-/// Whether a term is a position that keys can have.
+/// Returns whether a term is a position that keys can have.
 fn is_keypos(term: &Term) -> bool
     ensures { result ≡ is_keypos_form (out-Term term.now) }
 {
@@ -90,7 +90,7 @@ fn is_keypos(term: &Term) -> bool
     }
 }
 
-/// Whether a pair says how the table is to be used, which changes nothing.
+/// Returns whether a pair is a tuning option, which changes nothing.
 fn is_tuning(name: &Term, value: &Term) -> bool
     ensures { result ≡ is_tuning name.now value.now }
 {

@@ -16,9 +16,9 @@ use ets_term::{KeyHash, Term};
 use node_core::{Call, Node, Reply, Step};
 use ownership::World;
 
-/// Why a step has this reply, which the node gave it, or would give it now: the first rule that the step breaks, with
-/// the argument's number; None where the reply is an answer. A refused step changes nothing, so the node is as the step
-/// found it. It takes no memory.
+/// Returns why a step has this reply, which the node gave it, or would give it now: the first rule that the step
+/// breaks, with the argument's number, or `None` if the reply is a value. A refused step changes nothing, so the node
+/// is as the step found it. It takes no memory.
 pub fn why<H: KeyHash + Copy + Drop>(node: &Node<H>, event: &Step, reply: &Reply) -> Option<Reason>
     ensures exactly { is_some result ≡ not (is_value reply.now) }
     ensures named { (new : State) → step (seen node.now) event.now reply.now new
@@ -48,7 +48,7 @@ fn told<R: Rows>(world: &World<R>, event: &Step, reply: &Reply) -> Option<Reason
     }
 }
 
-/// The reason that is left of a step that is refused, by a limit or not.
+/// Returns the last reason of a refused step, with or without a limit.
 fn left<R: Rows>(world: &World<R>, event: &Step, limited: bool) -> Reason
     ensures { result ≡ left world.now event.now limited }
 {
@@ -80,7 +80,7 @@ fn asked<R: Rows>(world: &World<R>, pid: u32, call: &Call, limited: bool) -> Rea
     }
 }
 
-/// The place of the first argument that is too deep.
+/// Returns the number of the first argument that is too deep.
 fn first_too_deep(args: &[Term]) -> Option<usize>
     ensures { result ≡ position is_too_deep args.now }
 {

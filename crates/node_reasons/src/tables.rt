@@ -11,7 +11,7 @@ use bucket_table::Rows;
 use ets_term::Term;
 use ownership::{InfoItem, World};
 
-/// The name is an atom, and the options are such; else the name is taken.
+/// Checks that the name is an atom, and the options have their form; the last rule is that the name is not taken.
 pub fn making(name: &Term, options: &Term) -> Reason
     ensures { result ≡ making_left name.now options.now }
 {
@@ -25,7 +25,7 @@ pub fn making(name: &Term, options: &Term) -> Reason
     }
 }
 
-/// The item is one; else the term can name no table.
+/// Checks that the item is one; the last rule is that the term can name a table.
 pub fn informing(item: &Term) -> Reason
     ensures { result ≡ informing_left item.now }
 {
@@ -35,7 +35,7 @@ pub fn informing(item: &Term) -> Reason
     }
 }
 
-/// The flag is a boolean; else the process may not read the table.
+/// Checks that the flag is a boolean; the last rule is that the process may read the table.
 pub fn fixing<R: Rows>(world: &World<R>, pid: u32, term: &Term, flag: &Term) -> Reason
     ensures { result ≡ fixing_left pid (head_of (table_named world.now.tables term.now)) flag.now }
 {
@@ -48,7 +48,8 @@ pub fn fixing<R: Rows>(world: &World<R>, pid: u32, term: &Term, flag: &Term) -> 
     }
 }
 
-/// The table is there, the other is a pid, the table is the process's own; else the other may not get it.
+/// Checks that the table exists, that the other is a pid, and that the table is the process's own; the last rule is
+/// that the other may get it.
 pub fn giving<R: Rows>(world: &World<R>, pid: u32, term: &Term, to: &Term) -> Reason
     ensures { result ≡ giving_left pid (head_of (table_named world.now.tables term.now)) to.now }
 {

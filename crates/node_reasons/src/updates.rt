@@ -1,4 +1,4 @@
-// The rules of calls that look at the objects of a key.
+// The rules of calls that examine the objects of a key.
 ghost use Rattle.std.specs.Prelude.{◌≡◌, None, Some, true, false, if◌then◌else◌};
 ghost use Rattle.table_ops.specs.Update.{is_set};
 ghost use Rattle.node_core.specs.Positions.{position_of};
@@ -18,7 +18,8 @@ use fixed_walk::Walked;
 use ownership::World;
 use table_ops::Kind;
 
-/// The position is one, and the key has an object where it needs one; else the object has no such element.
+/// Checks that the position is one, and that the key has an object if it needs one; the last rule is that the object
+/// has the element.
 pub fn element<R: Rows>(
     world: &World<R>,
     pid: u32,
@@ -37,7 +38,7 @@ pub fn element<R: Rows>(
     reading(world, pid, term, rest)
 }
 
-/// The same with a Default.
+/// Does the same with a default.
 pub fn element_or<R: Rows>(
     world: &World<R>,
     pid: u32,
@@ -56,7 +57,8 @@ pub fn element_or<R: Rows>(
     reading(world, pid, term, rest)
 }
 
-/// The operations are such, the table is a set, and the key has an object; else that has no integer.
+/// Checks that the operations have their form, that the table is a set, and that the key has an object; the last rule
+/// is that it has integers there.
 pub fn counting<R: Rows>(
     world: &World<R>,
     pid: u32,
@@ -79,7 +81,7 @@ pub fn counting<R: Rows>(
     changing(world, pid, term, rest)
 }
 
-/// The same with a Default, which is an object once it has the key.
+/// Does the same with a default, which must be an object once it has the key.
 pub fn counting_or<R: Rows>(
     world: &World<R>,
     pid: u32,
@@ -108,7 +110,8 @@ pub fn counting_or<R: Rows>(
     changing(world, pid, term, rest)
 }
 
-/// The values are such, and the table is a set; else the object has no such element.
+/// Checks that the values have their form, and that the table is a set; the last rule is that the object has the
+/// elements.
 pub fn writing<R: Rows>(
     world: &World<R>,
     pid: u32,
@@ -130,7 +133,7 @@ pub fn writing<R: Rows>(
     changing(world, pid, term, rest)
 }
 
-/// The same with a Default, which is an object once it has the key.
+/// Does the same with a default, which must be an object once it has the key.
 pub fn writing_or<R: Rows>(
     world: &World<R>,
     pid: u32,
@@ -162,7 +165,7 @@ fn position_left(position: &Term, rest: Reason) -> Reason
     }
 }
 
-/// The key has an object, where it needs one: then this.
+/// Checks that the key has an object, if it needs one, and then this.
 fn key_left(needed: bool, rest: Reason, objects: &[Term]) -> Reason
     ensures { result ≡ key_left needed rest objects.now }
 {
@@ -178,7 +181,7 @@ fn is_set<R: Rows>(table: &Walked<R>) -> bool
     matches!(table.kind(), Kind::Set)
 }
 
-/// The table is a set: then this.
+/// Checks that the table is a set, and then this.
 fn set_left<R: Rows>(table: &Walked<R>, rest: Reason) -> Reason
     ensures { result ≡ (if is_set table.now.content.kind then rest else argument 1 NotASet) }
 {
@@ -189,7 +192,7 @@ fn set_left<R: Rows>(table: &Walked<R>, rest: Reason) -> Reason
     }
 }
 
-/// The table is a set, and the Default an object once it has the key: then this.
+/// Checks that the table is a set, and that the default is an object once it has the key, and then this.
 fn default_left<R: Rows>(table: &Walked<R>, key: &Term, default: &Term, rest: Reason) -> Reason
     ensures { result ≡ set_left key.now (Some default.now) table.now.content rest }
 {

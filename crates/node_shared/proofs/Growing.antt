@@ -37,7 +37,7 @@ run-on limits old new es s r run does =
     let pushed = run-on-buckets-push (empty limits) old new (map step_of es) (map reply_of es) s r run does.0 does.1 in
     rw (map-append step_of es (entry s r ∷ []), map-append reply_of es (entry s r ∷ [])) pushed
 
--- a step that is done behind a run, with entries that stand in it
+-- a step that is done after a run, with entries that are in it
 pub continues : (limits : Limits) (old new : State) (es own : List Entry) (s : Step) (r : Reply) → Within own es → IsRun limits es old → Does old s r new → Continues limits own s r
 continues limits old new es own s r stand run does = (es, new, stand, run-on limits old new es s r run does)
 
@@ -69,7 +69,7 @@ pub due-weighs : (old : State) (s : Step) → due old ≡ Some s → weight s �
 due-weighs old s is = due-tends (λ s. weight s ≡ 0) (λ t. refl) (λ t bucket. refl) old s is
 
 module _ (limits : Limits) (es : List Entry) (old new : State) (total parts : ℕ) where
-  -- after a step that goes last all stands
+  -- after a step that goes last all holds
   pub stands : (s : Step) (r : Reply) (more : ℕ) → Stands limits old es total parts → Does old s r new → weight s ≡ more → Stands limits new (es ++ entry s r ∷ []) (total + more) parts
   stands s r more was does adds =
       let m = step-remembers (seen old) (seen new) s r does.0 in
@@ -93,7 +93,7 @@ module _ (limits : Limits) (es : List Entry) (old new : State) (total parts : �
         let enough = was.enough in
         omega arith
 
-    -- after an enrolment with which a part is given out all stands
+    -- after an enrolment with which a part is given out all holds
     pub stands-joined : (left : ℕ) → left + 1 ≡ parts → Stands limits new (es ++ entry (Enrol p) r ∷ []) (total + 1) left
     stands-joined left gave =
         let s = stands (Enrol p) r 1 was does refl in

@@ -38,7 +38,7 @@ did-more old now new jobs left call j item sum lt did one =
     map-append step_of es (e ∷ []) ∙ (λ i. was i ++ last i ∷ []) ∙ sym more in
     (omega arith, (es ++ e ∷ [], new_is, rw after steps))
 
--- the next job is the one behind those that were done
+-- the next job is the first after those that were done
 pub did-next : (old now new : Recorded) (before after : List Job) (j : Job) (jobs : List Job) (left : ℕ) → before ++ j ∷ after ≡ jobs → left + length before ≡ length jobs → DidAll old jobs left now → DidJob now j new → DidAll old jobs (left - 1) new
 did-next old now new before after j jobs left is sum did done =
     let item : j ≡ get_or jobs (length before) j = sym (get_or-append_seam before j after j) ∙ ap (λ l. get_or l (length before) j) is in

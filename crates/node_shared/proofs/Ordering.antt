@@ -9,7 +9,7 @@ use Rattle.node_shared.specs.declared.entry.Entry.{Entry}
 use Rattle.node_shared.specs.declared.history.rule.Known.{Known}
 use Rattle.node_shared.specs.History.{Within, Knows, IsOrdered, Added, opening, keeper, author, joined, kept, given, spent}
 
--- what stands in a list stands in a longer one
+-- what is in a list is in a longer one
 pub within-more : (xs ys : List Entry) (e : Entry) → Within xs ys → Within xs (ys ++ e ∷ [])
 within-more [] ys e h = tt
 within-more (x ∷ xs) [] e h = absurd h

@@ -1,4 +1,4 @@
--- What a client is once the reply that it lent is let go.
+-- A client after the reply that it borrowed is released.
 use Rattle.std.specs.Prelude.{◌≡◌, ⊤, Result, MatchResult}
 use Rattle.std.specs.Borrow.{Fml, RattleType, Bor, MutBor, follows_so}
 use Rattle.std.specs.declared.sync.ledger.Ledger as ledger
@@ -9,7 +9,7 @@ use Rattle.node_shared.specs.Records.{Recorded, records}
 use Rattle.node_shared.specs.contracts.client.Client as client
 
 module _ (L : RattleType) (l : ledger.Ghosts L.Denot) where
-  -- its record has one entry more, the step with the reply that was answered; on want of memory it is as it was
+  -- its record has one more entry, the step with the reply that was returned; if memory ran out, it is unchanged
   abbrev pub Answers : {E : Type 0} → MutBor Recorded → Step → Result (Bor Reply) E → Fml
   Answers c s r =
       follows_so (client.the_row L l) (client.the_row L l) c.ghost_name none (λ _ _. ⊤)

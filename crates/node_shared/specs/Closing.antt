@@ -33,13 +33,13 @@ pub record IsFirstOther (journal : List Entry) (clients : List Recorded) (p : �
   pub other : ¬ IsPart journal client
   pub pid : client.pid ≡ p
 
--- p is the least process that has entries and no client
+-- p is the lowest process that has entries and no client
 pub record IsLeastMissing (journal : List Entry) (clients : List Recorded) (p : ℕ) : Type 0 where
   pub entries : has_entries p journal ≡ true
   pub none : has_client p clients ≡ false
   pub least : (q : ℕ) → has_entries q journal ≡ true → has_client q clients ≡ false → p ≤ q
 
--- what the comparison of the journal with the clients' records comes to
+-- the result of the comparison of the journal with the clients' records
 abbrev pub Compares : List Entry → List Recorded → Result Transcript CloseFault → Type 0
 Compares journal clients (Ok transcript) =
     (transcript.entries.items ≡ journal) × AreParts journal clients × NoneMissing journal clients

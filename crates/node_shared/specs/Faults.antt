@@ -1,4 +1,4 @@
--- Why a process is not let in.
+-- Why a process is not enrolled.
 use Rattle.std.specs.Prelude.{◌≡◌, ℕ, false}
 use Rattle.node_core.specs.declared.step.Step.TheVariants.{Enrol}
 use Rattle.node_core.specs.State.{State}

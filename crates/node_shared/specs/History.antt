@@ -1,4 +1,4 @@
--- A history, which its keeper knows whole, and each author by entries that stand in it.
+-- A history, of which its owner knows all, and each writer some entries.
 use Rattle.std.specs.Prelude.{◌≡◌, ◌⊎◌, ℕ, true, false, List, [], ◌∷◌, ◌++◌}
 use mathlib.Core.Option.{some}
 use lib.ListN.{get_elem?}
@@ -15,7 +15,7 @@ no_table = record { words = 0; slots = 0; views_name = 0; atom = 0; block = 0; o
 abbrev pub no_limits : Limits
 no_limits = record { processes = 0; tables = 0; objects = 0 }
 
--- these entries stand in the list, in their order, with others between them
+-- these entries are in the list, in their order, with others between them
 abbrev pub Within : List Entry → List Entry → Type 0
 Within [] ys = Unit {0}
 Within (x ∷ xs) [] = ⊥
@@ -42,20 +42,20 @@ kept v = record { keeps = v.keeps; all = v.all; own = [] }
 abbrev pub given : Known → Known
 given v = author v.own
 
--- what a seat knows where this one alone may be the keeper's, who has all: what it has stands in that
+-- what a seat knows when only this one may be the owner's, which knows all: what it knows is in that
 abbrev pub Knows : ℕ → List Entry → ℕ → Known → Type 0
 Knows seat all i v = (v.keeps ≡ true → (i ≡ seat) × (v.all ≡ all)) × Within v.own all
 
--- at most one seat is the keeper's, who has all, and what a seat has stands in it
+-- at most one seat is the owner's, which knows all, and what any seat knows is in that
 abbrev pub IsOrdered : List Known → Type 0
 IsOrdered views =
     (seat : ℕ) × (all : List Entry)
     × ((i : ℕ) (v : Known) → get_elem? views i ≡ some v → Knows seat all i v)
 
--- the keeper that knows one entry more, behind all and behind its own
+-- the owner that knows one more entry, as the last of all and of its own
 abbrev pub longer : Known → Entry → Known
 longer v e = keeper (v.all ++ e ∷ []) (v.own ++ e ∷ [])
 
--- the entry that was said goes behind all, and behind its own, which stood there
+-- the entry that was written is the last of all, and of its own, which were in the history
 abbrev pub Added : Step Entry → Me Entry Known → ℕ → Me Entry Known → Type 0
 Added s v found w = (e : Entry) × (s.said ≡ some e) × (w ≡ (longer v.0 e, v.1)) × Within v.0.own v.0.all

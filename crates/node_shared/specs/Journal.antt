@@ -1,4 +1,4 @@
--- The journal of a shared node: each step that was done, with its reply, in their order.
+-- The journal of a shared node: each step that was run, with its reply, in order.
 use Rattle.std.specs.Prelude.{ℕ, Bool, List, map, filter, length, Option, Some, None, is_some}
 use Rattle.std.specs.List.{list_any}
 use Rattle.node_core.specs.declared.limits.Limits.{Limits}
@@ -33,7 +33,7 @@ process_of (Ask p call) = Some p
 process_of (Grow t) = None
 process_of (Ready t bucket) = None
 
--- how many entries are of processes
+-- the number of entries of processes
 abbrev pub process_entries : List Entry → ℕ
 process_entries entries = length (filter (λ e. is_some (process_of e.step)) entries)
 

@@ -5,8 +5,8 @@ use Rattle.node_core.specs.State.{State}
 use Rattle.node_shared.specs.declared.entry.Entry.{Entry}
 use Rattle.node_shared.specs.Journal.{IsRun, process_entries}
 
--- The journal is a run to the node's state, the total counts its entries of processes, and of the parts of the ledger
--- there is one for each process that may still be enrolled, and one more.
+-- The journal is a run to the node's state, the total counts its entries of processes, and the ledger has a part for
+-- each process that may still be enrolled, and one more.
 pub record Stands (limits : Limits) (state : State) (journal : List Entry) (total parts : ℕ) : Type 0 where
   pub same : state.limits ≡ limits
   pub run : IsRun limits journal state

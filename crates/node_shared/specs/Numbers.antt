@@ -1,4 +1,4 @@
--- The word's rule, and what its two steps do.
+-- The rule of the word, and what its two steps do.
 use Rattle.std.specs.Prelude.{◌≡◌, ℕ, ◌+◌, ◌-◌, ◌<◌, ◌≤◌, List, [], ◌∷◌}
 use mathlib.Core.Option.{some}
 use lib.ListN.{get_elem?}
@@ -20,7 +20,7 @@ one_fewer (Opening n) = Opening (n - 1)
 one_fewer Undrawn = Undrawn
 one_fewer (Drawn x) = Drawn x
 
--- how many numbers a seat may still draw, itself or by the seats that it makes
+-- the number of process numbers that a seat may still draw, itself or by the seats split off it
 abbrev pub owed : View → ℕ
 owed (Opening n) = n
 owed Undrawn = 1
@@ -46,6 +46,6 @@ pub record IsNumbered (n word : ℕ) (views : List View) : Type 0 where
 abbrev pub Numbered : ℕ → State (Unit {0}) View → Type 0
 Numbered n s = (word : ℕ) × (s.words ≡ word ∷ []) × IsNumbered n word s.views
 
--- a seat that waits then has the number that it found
+-- a waiting seat then has the number that it found
 abbrev pub Drew : Step (Unit {0}) → Me (Unit {0}) View → ℕ → Me (Unit {0}) View → Type 0
 Drew st m r m' = (m' ≡ (Drawn r, m.1)) × (r < 4096)

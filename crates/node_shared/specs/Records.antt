@@ -1,4 +1,4 @@
--- What callers see of a book, of a share and of a client.
+-- What callers observe of a book, of a share and of a client.
 use Rattle.std.specs.Prelude.{◌≡◌, ℕ, Bool, true, List, [], ◌∷◌, ◌++◌, None}
 use Rattle.std.specs.Bool.{MatchBool}
 use Rattle.std.specs.Option.{IsSomeAnd}
@@ -17,18 +17,18 @@ pub record Kept : Type 0 where
   pub journal : List Entry
   pub total : ℕ
 
--- the step is done with this reply, and its entry goes last
+-- the step is done with this reply, and its entry is the last
 abbrev pub Enters : Kept → Step → Reply → Kept → Type 0
 Enters old s r new = Does old.state s r new.state × (new.journal ≡ old.journal ++ entry s r ∷ [])
 
--- the step that is due is done, and entered; or none is due
+-- the pending growth step is run, and has its entry; or none is pending
 abbrev pub Tends : Kept → Kept → Bool → Type 0
 Tends old new did =
     MatchBool did
     (IsSomeAnd (due old.state) (λ event. (r : Reply) × Enters old event r new))
     ((due old.state ≡ None) × (new ≡ old))
 
--- a process, and how many entries are counted for it
+-- a process, and the number of entries that are counted for it
 pub record Held : Type 0 where
   pub pid : ℕ
   pub amount : ℕ
@@ -38,11 +38,11 @@ pub record Recorded : Type 0 where
   pub pid : ℕ
   pub entries : List Entry
 
--- the record of a process that was enrolled with this reply, and did nothing more
+-- the record of a process that was enrolled with this reply, and did nothing else
 abbrev pub enrolled : ℕ → Reply → Recorded
 enrolled p r = record { pid = p; entries = entry (Enrol p) r ∷ [] }
 
--- a client begins so, and was enrolled by a reply that is no refusal
+-- a client starts in this way, and was enrolled by a reply that is no refusal
 abbrev pub IsEnrolled : ℕ → Recorded → Type 0
 IsEnrolled p client = (r : Reply) × (is_value r ≡ true) × (client ≡ enrolled p r)
 

@@ -1,4 +1,4 @@
--- What callers see of a served node, and what a reply of it is.
+-- What callers observe of a served node, and what a reply of it is.
 use Rattle.std.specs.Prelude.{◌≡◌, ℕ, Bool, true, List, [], ◌∷◌, ◌++◌, None}
 use Rattle.std.specs.Bool.{MatchBool}
 use Rattle.std.specs.Option.{IsSomeAnd}
@@ -19,11 +19,11 @@ pub record Reached : Type 0 where
   pub state : State
   pub history : List Entry
 
--- the step is done with this reply, and stands last in the history
+-- the step is done with this reply, and is the last of the history
 abbrev pub Goes : Reached → Step → Reply → Reached → Type 0
 Goes old s r new = Does old.state s r new.state × (new.history ≡ old.history ++ entry s r ∷ [])
 
--- the step that is due is done so; or none is due
+-- the pending growth step is run in this way; or none is pending
 abbrev pub Tended : Reached → Reached → Bool → Type 0
 Tended old new did =
     MatchBool did
@@ -36,7 +36,7 @@ Continues limits entries s r =
     (before : List Entry) × (state : State)
     × Within entries before × IsRun limits (before ++ entry s r ∷ []) state
 
--- a caller whose process was enrolled, and did nothing more
+-- a caller whose process was enrolled, and did nothing else
 abbrev pub Begun : Limits → ℕ → Recorded → Type 0
 Begun limits p caller =
     (r : Reply) × (is_value r ≡ true) × (caller ≡ enrolled p r) × Continues limits [] (Enrol p) r

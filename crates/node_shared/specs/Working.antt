@@ -1,4 +1,4 @@
--- What a client's record has of its jobs.
+-- The entries of a client's jobs in its record.
 use Rattle.std.specs.Prelude.{◌≡◌, ℕ, ◌≤◌, ◌-◌, List, [], ◌∷◌, ◌++◌, map, take, length}
 use Rattle.std.specs.declared.vec.Vec.{Vec}
 use Rattle.std.specs.declared.alloc.Global.{Global}
@@ -24,7 +24,7 @@ DidJob old job new = (r : Reply) × (new ≡ records old (job_step old.pid job) 
 abbrev pub AreOfJobs : ℕ → List Job → ℕ → List Entry → Type 0
 AreOfJobs p jobs left done = map (λ e. e.step) done ≡ map (job_step p) (take (length jobs - left) jobs)
 
--- the record has such entries more
+-- the record has these further entries
 abbrev pub DidAll : Recorded → List Job → ℕ → Recorded → Type 0
 DidAll old jobs left new =
     (left ≤ length jobs)

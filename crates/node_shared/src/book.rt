@@ -18,8 +18,8 @@ use std::marker::Model;
 use std::sync::ledger;
 use std::sync::ledger::{Blank, Ledger};
 
-/// What lies under the lock: the node, the journal of the steps that were done, and the ledger that counts the entries
-/// of processes. A contract sees the node's state, the journal and the ledger's total. The journal is a run of the node
+/// What is under the lock: the node, the journal of the steps that were run, and the ledger that counts the entries of
+/// processes. A contract sees the node's state, the journal and the ledger's total. The journal is a run of the node
 /// from its empty state, and the total is the number of its entries of processes.
 #[derive(Drop)]
 pub struct Book<L: Ledger, H: KeyHash + Copy + Drop> {
@@ -45,18 +45,18 @@ impl<L: Ledger, H: KeyHash + Copy + Drop> Model for Book<L, H> {
     ghost invariant = { λ b. Stands b.limits b.node b.journal.items b.counted.total b.rest.parts };
 }
 
-/// Why a process is not let in. Nothing has changed.
+/// Why a process is not enrolled. Nothing has changed.
 #[derive(Drop)]
 pub enum BookFault {
-    /// The node refused: `Badarg` for a number enrolled before, else `SystemLimit`.
+    /// The node refused: `Badarg` for a number that was enrolled before, otherwise `SystemLimit`.
     Refused(Reply),
-    /// Memory was refused.
+    /// Out of memory.
     Memory,
 }
 
 impl<L: Ledger, H: KeyHash + Copy + Drop> Book<L, H> {
-    /// The opening book: a node without processes and tables, and an empty journal. It takes the blank of `L`, which
-    /// has a part for each process and one more.
+    /// Creates the opening book: a node without processes and tables, and an empty journal. It takes the blank of `L`,
+    /// which has a part for each process and one more.
     pub fn new(alloc: Global, blank: Blank, limits: Limits, hash: H) -> Self
         requires name { blank.name ≡ L.name }
         requires parts { blank.parts ≡ L.parts }
@@ -74,7 +74,7 @@ impl<L: Ledger, H: KeyHash + Copy + Drop> Book<L, H> {
         }
     }
 
-    /// Does a step of the share's own process, and writes its entry. Want of memory changes nothing.
+    /// Runs a step of the share's own process, and adds its entry. Running out of memory changes nothing.
     pub fn step(&mut self, share: &mut Share<L>, event: &Step) -> Result<Reply, AllocError>
         requires { is_step_of share.old.pid event.now ≡ true }
         ensures entered { IfOk result (λ r. Enters self.old event.now r self.new) }
@@ -86,7 +86,7 @@ impl<L: Ledger, H: KeyHash + Copy + Drop> Book<L, H> {
         self.enter(share, step)
     }
 
-    /// The same of a step that goes into its entry as it is.
+    /// Does the same for a step that is moved into its entry.
     pub(crate) fn enter(&mut self, share: &mut Share<L>, step: Step) -> Result<Reply, AllocError>
         requires { is_step_of share.old.pid step ≡ true }
         ensures entered { IfOk result (λ r. Enters self.old step r self.new) }
@@ -101,7 +101,7 @@ impl<L: Ledger, H: KeyHash + Copy + Drop> Book<L, H> {
         Ok(answer)
     }
 
-    /// Enrols a process, writes the entry of that, and gives the process its share. A fault changes nothing.
+    /// Enrols a process, adds the entry of that, and gives the process its share. A fault changes nothing.
     pub fn join(&mut self, pid: u32) -> Result<(Share<L>, Reply), BookFault>
         ensures entered { IfOk result (λ joined. Enters self.old (Enrol pid) joined.1 self.new) }
         ensures granted { IfOk result (λ joined. is_value joined.1 ≡ true) }
@@ -126,7 +126,8 @@ impl<L: Ledger, H: KeyHash + Copy + Drop> Book<L, H> {
         Ok((Share { tokens, pid }, answer))
     }
 
-    /// Does the step that is due, if any, and writes its entry; says whether one was. Want of memory changes nothing.
+    /// Runs the pending growth step, if any, and adds its entry. Returns whether it did. Running out of memory changes
+    /// nothing.
     pub fn tend(&mut self) -> Result<bool, AllocError>
         ensures tended { IfOk result (Tends self.old self.new) }
         ensures counted { self.new.total ≡ self.old.total }
@@ -141,8 +142,8 @@ impl<L: Ledger, H: KeyHash + Copy + Drop> Book<L, H> {
         Ok(true)
     }
 
-    /// The journal: a run of the node from its empty state to the state that it has. The total counts its entries of
-    /// processes. It takes no memory.
+    /// Returns the journal: a run of the node from its empty state to its present state. The total counts its entries
+    /// of processes. It takes no memory.
     pub fn journal(&self) -> &[Entry]
         ensures entries { result.now ≡ self.now.journal }
         ensures run { IsRun self.now.state.limits self.now.journal self.now.state }
@@ -151,7 +152,7 @@ impl<L: Ledger, H: KeyHash + Copy + Drop> Book<L, H> {
         self.journal.as_slice()
     }
 
-    /// The journal, which is a run of the node with the limits that come with it.
+    /// Returns the journal, which is a run of a node with the limits that come with it.
     pub(crate) fn into_run(self) -> (Limits, Vec<Entry>)
         ensures journal { result.1.items ≡ self.journal }
         ensures run { IsRun result.0 self.journal self.state }
@@ -168,7 +169,7 @@ impl<L: Ledger, H: KeyHash + Copy + Drop> Book<L, H> {
     }
 }
 
-/// The reply goes out; its copy goes.
+/// Returns the reply and drops the copy.
 fn refused(reply: Reply, _again: Reply) -> BookFault
     ensures { result ≡ Refused reply }
 {

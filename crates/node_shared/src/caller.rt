@@ -11,8 +11,8 @@ use std::alloc::AllocError;
 use std::marker::Model;
 use std::sync::Wait;
 
-/// What speaks for one process of a server. A contract sees the process, and its steps with the replies that came,
-/// which stand in the server's history in this order. The program has no list of them.
+/// The caller of one process of a server. A contract sees the process, and its steps with their replies, which are in
+/// the server's history in this order. The program has no list of them.
 #[derive(Drop)]
 pub struct Caller<B: Room> {
     pid: u32,
@@ -37,15 +37,15 @@ impl<B: Room> Caller<B> {
         Caller { pid, author }
     }
 
-    /// The process. It takes no memory.
+    /// Returns the process. It takes no memory.
     pub fn pid(&self) -> u32
         ensures { result ≡ self.now.pid }
     {
         self.pid
     }
 
-    /// Asks a call, and answers its reply. Some run of the node has all that this caller was answered before, in order,
-    /// and ends with this call and this reply. Want of memory changes nothing. It may wait for the lock.
+    /// Makes a call and returns its reply. Some run of the node has all earlier replies of this caller, in order, and
+    /// ends with this call and this reply. Running out of memory changes nothing. It may wait for the lock.
     pub fn ask<H: KeyHash + Copy + Drop, R: Wait>(
         &mut self,
         rt: &R,
@@ -60,8 +60,8 @@ impl<B: Room> Caller<B> {
         self.step(rt, server, event)
     }
 
-    /// Ends the process, and answers the reply; calls after it answer `NoProcess`. Of order and want of memory it is as
-    /// `ask`. It may wait for the lock.
+    /// Ends the process and returns the reply; the reply to later calls is `NoProcess`. `ask` says what holds of order
+    /// and of running out of memory. It may wait for the lock.
     pub fn end<H: KeyHash + Copy + Drop, R: Wait>(
         &mut self,
         rt: &R,

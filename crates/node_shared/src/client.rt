@@ -14,8 +14,8 @@ use std::marker::Model;
 use std::sync::Wait;
 use std::sync::ledger::Ledger;
 
-/// What speaks for one process: its share, and a record of its steps, each with the reply that came. A contract sees
-/// the process and the record, which begins with the enrolment and is as long as the share's count.
+/// The client of one process: its share, and a record of its steps, each with its reply. A contract sees the process
+/// and the record, which begins with the enrolment and is as long as the share's count.
 #[derive(Drop)]
 pub struct Client<L: Ledger> {
     alloc: Global,
@@ -41,7 +41,7 @@ impl<L: Ledger> Client<L> {
     ghost use Rattle.std.specs.Borrow.{sem};
     ghost use Rattle.node_shared.specs.Asking.{Answers};
 
-    /// The client of a process that was enrolled.
+    /// Creates the client of a process that was enrolled.
     pub(crate) fn of(alloc: Global, share: Share<L>, entries: Vec<Entry>) -> Self
         requires count { length entries.items ≡ share.amount }
         requires begins { Begins share.pid entries.items }
@@ -54,14 +54,14 @@ impl<L: Ledger> Client<L> {
         }
     }
 
-    /// The process. It takes no memory.
+    /// Returns the process. It takes no memory.
     pub fn pid(&self) -> u32
         ensures { result ≡ self.now.pid }
     {
         self.share.pid()
     }
 
-    /// The record, from the enrolment on. It takes no memory.
+    /// Returns the record, from the enrolment on. It takes no memory.
     pub fn entries(&self) -> &[Entry]
         ensures entries { result.now ≡ self.now.entries }
         ensures begins { Begins self.now.pid self.now.entries }
@@ -69,8 +69,8 @@ impl<L: Ledger> Client<L> {
         self.entries.as_slice()
     }
 
-    /// Asks a call, and answers its reply; the record has both. Want of memory changes nothing. It may wait for the
-    /// lock.
+    /// Makes a call and returns its reply; the record gets both. Running out of memory changes nothing. It may wait for
+    /// the lock.
     pub fn ask<H: KeyHash + Copy + Drop, R: Wait>(
         &mut self,
         rt: &R,
@@ -84,8 +84,8 @@ impl<L: Ledger> Client<L> {
         Ok(self.last())
     }
 
-    /// Ends the process, and answers the reply; the record has both. Calls after it answer `NoProcess`. Want of memory
-    /// changes nothing. It may wait for the lock.
+    /// Ends the process and returns the reply; the record gets both. The reply to later calls is `NoProcess`. Running
+    /// out of memory changes nothing. It may wait for the lock.
     pub fn end<H: KeyHash + Copy + Drop, R: Wait>(
         &mut self,
         rt: &R,
@@ -98,8 +98,8 @@ impl<L: Ledger> Client<L> {
         Ok(self.last())
     }
 
-    /// Does a step of the process, and keeps it with its reply. The journal's copy of it is made before the lock is
-    /// taken.
+    /// Runs a step of the process, and records it with its reply. The journal's copy of the step is made before the
+    /// lock is taken.
     pub(crate) fn step<H: KeyHash + Copy + Drop, R: Wait>(
         &mut self,
         rt: &R,
@@ -117,7 +117,7 @@ impl<L: Ledger> Client<L> {
         Ok(())
     }
 
-    /// The reply of the last entry.
+    /// Returns the reply of the last entry.
     fn last(&self) -> &Reply
         ensures { IsLast self.now.entries result.now }
     {

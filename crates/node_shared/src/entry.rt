@@ -4,7 +4,7 @@ ghost use Rattle.node_shared.specs.Journal.{is_entry_of, process_of};
 
 use node_core::{Reply, Step};
 
-/// One entry of a journal: a step that was done, and its reply.
+/// An entry of a journal: a step that was run, and its reply.
 #[derive(Drop)]
 pub struct Entry {
     pub step: Step,
@@ -12,21 +12,21 @@ pub struct Entry {
 }
 
 impl Entry {
-    /// Whether the entries are the same: steps and replies that are built alike.
+    /// Returns whether the entries are equal: equal steps and equal replies.
     pub fn same(&self, other: &Entry) -> bool
         ensures { Decides result (self.now ≡ other.now) }
     {
         self.step.same(&other.step) && self.reply.same(&other.reply)
     }
 
-    /// Whether its step is one of this process.
+    /// Returns whether its step is of this process.
     pub fn is_of(&self, pid: u32) -> bool
         ensures { result ≡ is_entry_of pid self.now }
     {
         self.step.is_of(pid)
     }
 
-    /// The process whose step it has, if it is one of a process.
+    /// Returns the process of its step, if it is a step of a process.
     pub fn process(&self) -> Option<u32>
         ensures { result ≡ process_of self.now.step }
     {

@@ -1,5 +1,5 @@
-/// What is called around each call of a client, by its thread, with no lock held. Clients, and the calls of each, are
-/// numbered from 0.
+/// Callbacks around each call of a client, in its thread, without a lock. Clients, and the calls of each, are numbered
+/// from 0.
 pub trait Gate {
     fn before(&self, client: usize, call: usize);
 

@@ -1,5 +1,5 @@
-//! A history that exists in proofs alone: its keeper knows it whole, and an author those entries that it added, which
-//! stand in it in their order. What runs is one atomic word, which stays 0.
+//! A history that exists only in proofs: its owner knows all of it, and a writer the entries that it added, which are
+//! in it in their order. At run time it is one atomic word, which stays 0.
 ghost use Rattle.std.specs.Prelude.{◌≡◌, [], ◌∷◌, ◌++◌, IfOk};
 ghost use Rattle.node_shared.specs.Journal.{entry};
 ghost use Rattle.node_shared.specs.History.{Within, opening};
@@ -15,7 +15,7 @@ use std::alloc::{AllocError, Global};
 use std::marker::{Brand, Model, PhantomData};
 use std::mem;
 
-/// Names one history, and the limits of its node. Each call of a program picks them.
+/// Names a history, and the limits of its node. A program chooses them anew for each history.
 pub trait Room {
     ghost use Rattle.atomic_table.specs.Seated.{TableId};
     ghost use Rattle.node_core.specs.declared.limits.Limits.{Limits};
@@ -36,7 +36,7 @@ impl Room for Brand {
 /// The word of a history.
 pub type Word = Table<Entry, Known, (), Order, Global>;
 
-/// A history in which nothing stands, and which no type names yet.
+/// An empty history, which no type names yet.
 #[derive(Drop)]
 pub struct Opening {
     pub(crate) word: Word,
@@ -46,7 +46,7 @@ pub struct Opening {
     ghost is_first: { seat.me ≡ (opening, []) },
 }
 
-/// Who knows the whole history. A contract sees it as its entries.
+/// The token that knows the whole history. A contract sees it as its entries.
 #[derive(Drop)]
 pub struct Keeper<B: Room> {
     seat: Seat<Entry, Known>,
@@ -69,7 +69,7 @@ impl<B: Room> Model for Keeper<B> {
     ghost invariant = { λ k. (k.seat.table_id ≡ B.table) × (k.seat.me ≡ (keeper k.seat.me.0.all [], [])) };
 }
 
-/// Who adds entries. A contract sees it as the entries that it added.
+/// The token of a writer of entries. A contract sees it as the entries that it added.
 #[derive(Drop)]
 pub struct Author<B: Room> {
     seat: Seat<Entry, Known>,
@@ -93,7 +93,7 @@ impl<B: Room> Model for Author<B> {
 }
 
 impl Opening {
-    /// A new history: nothing stands in it, and its one seat is the keeper's.
+    /// Creates an empty history, whose one seat is the owner's.
     pub fn new(alloc: Global) -> Result<Opening, AllocError>
         ensures { IfOk result (λ o. o.seat.me ≡ (opening, [])) }
     {
@@ -101,7 +101,7 @@ impl Opening {
         Ok(Opening { word, seat })
     }
 
-    /// The history under its name: its word, and its keeper.
+    /// Returns the word of the history, and its owner, under the history's name.
     pub(crate) fn named<B: Room>(self) -> (Word, Keeper<B>)
         requires { self.word.shared.table_id ≡ B.table }
         ensures same { result.0 ≡ self.word }
@@ -121,7 +121,7 @@ impl Opening {
 }
 
 impl<B: Room> Keeper<B> {
-    /// One more author, who added nothing.
+    /// Creates another writer, which has added nothing.
     pub(crate) fn author(&mut self, word: &Word) -> Author<B>
         requires table { word.now.shared.table_id ≡ B.table }
         requires one { word.now.shared.table_id.words ≡ 1 }
@@ -135,8 +135,8 @@ impl<B: Room> Keeper<B> {
         }
     }
 
-    /// Adds the entry of a step and its reply, which goes last in the history and last of what the author added. The
-    /// reply comes back.
+    /// Adds the entry of a step and its reply, as the last of the history and the last that the writer added. Returns
+    /// the reply.
     pub(crate) fn enter(
         &mut self,
         word: &Word,

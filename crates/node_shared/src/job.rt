@@ -6,25 +6,25 @@ use crate::client::Client;
 use node_core::{Call, Step};
 use std::sync::ledger::Ledger;
 
-/// What a client is to do.
+/// A job of a client.
 #[derive(Drop)]
 pub enum Job {
-    /// It asks this call.
+    /// To make this call.
     Ask(Call),
-    /// It ends its process.
+    /// To end its process.
     End,
 }
 
-/// A client that has worked.
+/// A client after its jobs.
 #[derive(Drop)]
 pub struct Worked<L: Ledger> {
     pub client: Client<L>,
-    /// How many of its jobs were not done, because memory was refused.
+    /// The number of its jobs that were not done, because memory ran out.
     pub left: usize,
 }
 
 impl Job {
-    /// The job as a step of a process.
+    /// Returns the job as a step of a process.
     pub(crate) fn into_step(self, pid: u32) -> Step
         ensures step { result ≡ job_step pid self }
         ensures own { is_step_of pid result ≡ true }

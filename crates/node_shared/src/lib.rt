@@ -2,21 +2,21 @@
 //! journal.
 //!
 //! *Guarantee.* Whenever the lock is free, the steps of the journal with their replies are a run of the node from its
-//! empty state to the state that it has. A client's record has the steps that it did, each with the reply that it got.
-//! Where `close` answers a transcript, the record of each client is its process's part of that run, and no process is
-//! without a client. Process numbers are drawn without a lock, each once, from 0 on.
+//! empty state to its present state. A client's record has the steps that it made, each with the reply that it got. If
+//! `close` returns a transcript, the record of each client is its process's part of that run, and no process is without
+//! a client. Process numbers are drawn without a lock, each once, from 0 on.
 //!
-//! A `Server` stores nothing of a call. What was done under its lock is such a run too, which exists in proofs alone;
-//! and with each reply that a caller gets, a run has all that it was answered before, in order, and ends with this
-//! reply.
+//! A `Server` stores nothing of a call. The steps under its lock are such a run too, which exists only in proofs. For
+//! each reply that a caller gets, there is a run that has all of the caller's earlier replies, in order, and ends with
+//! this reply.
 //!
-//! *Weakness.* A call that waits for the lock owes no return. Nothing is said of time, of fairness, or of the order of
-//! calls of clients that told each other nothing.
+//! *Weakness.* A call that waits for the lock need not return. Nothing is said of time, of fairness, or of the order of
+//! calls of clients that did not communicate.
 //!
-//! *Mechanism.* A step is done and written under one lock. A ledger counts the entries of processes: the lock's side
-//! has the total, each client's share its own part, so that no client can be answered from elsewhere. `close` compares
-//! the records with the journal. A server's history is known to tokens of one atomic word: to its keeper under the lock
-//! whole, to each caller by its own steps.
+//! *Mechanism.* A step is run and recorded under one lock. A ledger counts the entries of processes: the lock's side
+//! has the total, each client's share its own part, so that no other node can reply to a client. `close` compares the
+//! records with the journal. Tokens of one atomic word know a server's history: its owner, under the lock, knows all of
+//! it, and each caller its own steps.
 //!
 //! *Limits.* At most 4,096 numbers can be drawn. The journal of a `Shared` grows for as long as it is shared.
 #![tactic(auto)]

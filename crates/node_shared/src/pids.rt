@@ -9,11 +9,11 @@ use atomic_table::Table;
 pub use rule::{Numbers, View};
 use std::alloc::{AllocError, Global};
 
-/// As many numbers can be drawn at most.
+/// The greatest number of process numbers.
 pub const MAX_PIDS: usize = 4_096;
 
-/// Process numbers that threads draw, from 0 on, each once: one atomic word, which has the next. Drawing waits for
-/// nobody.
+/// Process numbers that threads draw, from 0 on, each once: one atomic word, which has the next number. Drawing never
+/// waits.
 #[derive(Drop)]
 pub struct Pids {
     table: Table<(), View, u64, Numbers, Global>,
@@ -27,7 +27,7 @@ pub struct Seat {
     ghost is_undrawn: { seat.me ≡ (undrawn, []) },
 }
 
-/// A number that nobody else has, or gets.
+/// A number that nobody else has or gets.
 #[derive(Drop)]
 pub struct Drawn {
     seat: atomic_table::Seat<(), View>,
@@ -40,12 +40,12 @@ pub struct Drawn {
 pub enum PidsFault {
     /// More than `MAX_PIDS` were asked for.
     TooMany,
-    /// Memory was refused.
+    /// Out of memory.
     Memory,
 }
 
 impl Pids {
-    /// The numbers below `n`, and a seat for each.
+    /// Returns the numbers below `n`, and a seat for each.
     pub fn open(alloc: Global, n: usize) -> Result<(Pids, Vec<Seat>), PidsFault>
         requires { 0 < n }
         ensures seats { IfOk result (λ opened. (vec_len opened.1 ≡ n)
@@ -59,7 +59,7 @@ impl Pids {
         open_seats(alloc, n).map_err(|_| PidsFault::Memory)
     }
 
-    /// Draws the seat's number. It waits for nobody and takes no memory.
+    /// Draws the seat's number. It never waits and takes no memory.
     pub fn draw(&self, seat: Seat) -> Drawn
         requires { seat.seat.table_id ≡ self.now.table.shared.table_id }
         ensures { result.seat.table_id ≡ self.now.table.shared.table_id }
@@ -71,7 +71,7 @@ impl Pids {
 }
 
 impl Drawn {
-    /// The number. It takes no memory.
+    /// Returns the number. It takes no memory.
     pub fn pid(&self) -> u32
         ensures seen { self.now.seat.me ≡ (drawn result, []) }
         ensures number { result ≡ self.now.number }

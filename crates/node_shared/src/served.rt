@@ -13,8 +13,8 @@ use node_core::{Limits, Node, Reply, Step};
 use std::alloc::{AllocError, Global};
 use std::marker::Model;
 
-/// What lies under the lock of a server: the node, and the keeper of its history. A contract sees the node's state and
-/// the history, which is a run of the node from its empty state. Of a step nothing is stored.
+/// What is under the lock of a server: the node, and the owner of its history. A contract sees the node's state and the
+/// history, which is a run of the node from its empty state. Nothing is stored of a step.
 #[derive(Drop)]
 pub struct Served<B: Room, H: KeyHash + Copy + Drop> {
     node: Node<H>,
@@ -37,7 +37,7 @@ impl<B: Room, H: KeyHash + Copy + Drop> Model for Served<B, H> {
 }
 
 impl<B: Room, H: KeyHash + Copy + Drop> Served<B, H> {
-    /// A node without processes and tables, and the keeper of a history in which nothing stands.
+    /// Creates a node without processes and tables, and the owner of an empty history.
     pub fn new(alloc: Global, keeper: Keeper<B>, limits: Limits, hash: H) -> Self
         requires none { keeper ≡ [] }
         requires limits { limits ≡ B.limits }
@@ -49,7 +49,8 @@ impl<B: Room, H: KeyHash + Copy + Drop> Served<B, H> {
         }
     }
 
-    /// Does a step, which goes last in the history and last of what the author did. Want of memory changes nothing.
+    /// Runs a step, which is then the last of the history and the last of the writer. Running out of memory changes
+    /// nothing.
     pub fn step(
         &mut self,
         word: &Word,
@@ -67,7 +68,8 @@ impl<B: Room, H: KeyHash + Copy + Drop> Served<B, H> {
         Ok(self.keeper.enter(word, author, event, reply))
     }
 
-    /// Enrols a process, which goes last in the history, and makes the author of its steps. A fault changes nothing.
+    /// Enrols a process, which is then the last step of the history, and creates the writer of its steps. A fault
+    /// changes nothing.
     pub fn join(&mut self, word: &Word, pid: u32) -> Result<(Author<B>, Reply), BookFault>
         requires table { word.now.shared.table_id ≡ B.table }
         requires one { word.now.shared.table_id.words ≡ 1 }
@@ -90,8 +92,8 @@ impl<B: Room, H: KeyHash + Copy + Drop> Served<B, H> {
         Ok((author, reply))
     }
 
-    /// Does the step that is due, if any, which goes last in the history; says whether one was. Want of memory changes
-    /// nothing.
+    /// Runs the pending growth step, if any, which is then the last of the history. Returns whether it did. Running out
+    /// of memory changes nothing.
     pub fn tend(&mut self, word: &Word) -> Result<bool, AllocError>
         requires table { word.now.shared.table_id ≡ B.table }
         requires one { word.now.shared.table_id.words ≡ 1 }

@@ -13,7 +13,7 @@ use node_core::Limits;
 use std::alloc::Global;
 use std::sync::{Mutex, Wait};
 
-/// A node that threads share for as long as they like: of a call nothing is stored once it is answered.
+/// A node that threads share for as long as they like: nothing is stored of a call once it has its reply.
 #[derive(Drop)]
 pub struct Server<B: Room, H: KeyHash + Copy + Drop> {
     pub(crate) word: Word,
@@ -23,9 +23,9 @@ pub struct Server<B: Room, H: KeyHash + Copy + Drop> {
 }
 
 impl<B: Room, H: KeyHash + Copy + Drop> Server<B, H> {
-    /// A node without processes and tables, as `Served::new` makes it, behind the lock. Its history is the one that was
-    /// opened. A lock's value is known by its type alone, so of the node itself no clause here says more: the type says
-    /// of it that the history is a run of a node with these limits.
+    /// Locks a node without processes and tables, as `Served::new` makes it, whose history is the one given. A lock's
+    /// value is known by its type only, so no clause here says more of the node itself. The type says that the history
+    /// is a run of a node with these limits.
     pub fn new(alloc: Global, opening: Opening, limits: Limits, hash: H) -> Self
         requires table { opening.word.shared.table_id ≡ B.table }
         requires limits { limits ≡ B.limits }
@@ -38,7 +38,7 @@ impl<B: Room, H: KeyHash + Copy + Drop> Server<B, H> {
         }
     }
 
-    /// Enrols the number that was drawn, and makes the caller of that process. It may wait for the lock.
+    /// Enrols the number that was drawn, and returns the caller of that process. It may wait for the lock.
     pub fn client<R: Wait>(&self, rt: &R, drawn: Drawn) -> Result<Caller<B>, JoinFault>
         ensures ok { IfOk result (Begun B.limits drawn.number) }
         ensures err { IfErr result (HandsBack drawn) }
@@ -52,8 +52,8 @@ impl<B: Room, H: KeyHash + Copy + Drop> Server<B, H> {
         }
     }
 
-    /// Does due steps, with the lock taken for each anew, until none is due, memory is refused, or so many turns were
-    /// taken; answers how many it did. It may wait for the lock.
+    /// Runs pending growth steps, taking the lock anew for each, until none is pending, memory runs out, or `turns`
+    /// were taken. Returns the number of steps that it ran. It may wait for the lock.
     pub fn keep<R: Wait>(&self, rt: &R, turns: u32) -> u32
         ensures { result ≤ turns }
     {
@@ -67,7 +67,7 @@ impl<B: Room, H: KeyHash + Copy + Drop> Server<B, H> {
         done
     }
 
-    /// Does one due step, and says whether it did: not where none is due, and not where memory is refused.
+    /// Runs a pending growth step. Returns whether it did: it does not if none is pending or memory runs out.
     fn tend<R: Wait>(&self, rt: &R) -> bool {
         matches!(self.served.lock(rt).tend(&self.word), Ok(true))
     }

@@ -4,7 +4,7 @@ use std::marker::Model;
 use std::sync::ledger;
 use std::sync::ledger::Ledger;
 
-/// The right of one process to do its steps, which counts its entries. A contract sees the process and the count.
+/// The right of one process to make its steps, which counts its entries. A contract sees the process and the count.
 #[derive(Drop)]
 pub struct Share<L: Ledger> {
     pub(crate) tokens: ledger::Share<L>,
@@ -23,7 +23,7 @@ impl<L: Ledger> Model for Share<L> {
 }
 
 impl<L: Ledger> Share<L> {
-    /// The process. It takes no memory.
+    /// Returns the process. It takes no memory.
     pub fn pid(&self) -> u32
         ensures { result ≡ self.now.pid }
     {

@@ -15,7 +15,7 @@ use std::alloc::Global;
 use std::sync::ledger::{Blank, Ledger};
 use std::sync::{Mutex, Wait};
 
-/// A node that threads share: its book behind one lock.
+/// A node that threads share: its book under one lock.
 #[derive(Drop)]
 pub struct Shared<L: Ledger, H: KeyHash + Copy + Drop> {
     alloc: Global,
@@ -23,17 +23,17 @@ pub struct Shared<L: Ledger, H: KeyHash + Copy + Drop> {
     pub(crate) book: Mutex<Book<L, H>>,
 }
 
-/// Why no client is made. The number that was drawn comes back.
+/// Why no client is created. The number that was drawn is handed back.
 #[derive(Drop)]
 pub enum JoinFault {
-    /// The node refused to enrol the number: `SystemLimit`, or `Badarg` for one that was enrolled before.
+    /// The node refused to enrol the number: `SystemLimit`, or `Badarg` for a number that was enrolled before.
     Refused(Reply, Drawn),
-    /// Memory was refused, and nothing has changed.
+    /// Out of memory, and nothing has changed.
     Memory(Drawn),
 }
 
 impl<L: Ledger, H: KeyHash + Copy + Drop> Shared<L, H> {
-    /// The opening book, as `Book::new` makes it, behind the lock.
+    /// Locks the opening book, as `Book::new` makes it.
     pub fn new(alloc: Global, blank: Blank, limits: Limits, hash: H) -> Self
         requires name { blank.name ≡ L.name }
         requires parts { blank.parts ≡ L.parts }
@@ -47,7 +47,7 @@ impl<L: Ledger, H: KeyHash + Copy + Drop> Shared<L, H> {
         }
     }
 
-    /// Enrols the number that was drawn, and makes the client of that process. It may wait for the lock.
+    /// Enrols the number that was drawn, and returns the client of that process. It may wait for the lock.
     pub fn client<R: Wait>(&self, rt: &R, drawn: Drawn) -> Result<Client<L>, JoinFault>
         ensures ok { IfOk result (IsEnrolled drawn.number) }
         ensures err { IfErr result (HandsBack drawn) }
@@ -68,13 +68,13 @@ impl<L: Ledger, H: KeyHash + Copy + Drop> Shared<L, H> {
         }
     }
 
-    /// Does one due step, and says whether it did: not where none is due, and not where memory is refused.
+    /// Runs a pending growth step. Returns whether it did: it does not if none is pending or memory runs out.
     fn tend<R: Wait>(&self, rt: &R) -> bool {
         matches!(self.book.lock(rt).tend(), Ok(true))
     }
 
-    /// The journal, which is a run of the node with these limits. A lock's value is known by its type alone, so the
-    /// book says once more which limits it has; they are never others.
+    /// Returns the journal, which is a run of the node with these limits. A lock's value is known by its type only, so
+    /// the book says once more which limits it has; they are never others.
     pub(crate) fn into_journal(self) -> Option<Vec<Entry>>
         ensures { IfSome result (λ journal. (state : State) × IsRun self.limits journal.items state) }
     {
@@ -92,8 +92,8 @@ impl<L: Ledger, H: KeyHash + Copy + Drop> Shared<L, H> {
     }
 }
 
-/// Does due steps, with the lock taken for each anew, until none is due, memory is refused, or so many turns were
-/// taken; answers how many it did. It may wait for the lock.
+/// Runs pending growth steps, taking the lock anew for each, until none is pending, memory runs out, or `turns` were
+/// taken. Returns the number of steps that it ran. It may wait for the lock.
 pub fn keep<L: Ledger, H: KeyHash + Copy + Drop, R: Wait>(
     rt: &R,
     shared: &Shared<L, H>,

@@ -11,25 +11,25 @@ use ets_term::KeyHash;
 use std::alloc::AllocError;
 use std::sync::ledger::Ledger;
 
-/// The journal of a node that is shared no more.
+/// The journal of a node that is no longer shared.
 #[derive(Drop)]
 pub struct Transcript {
     pub entries: Vec<Entry>,
 }
 
-/// Why a journal is not handed out.
+/// Why `close` returns no journal.
 #[derive(Debug, Drop, PartialEq, Eq)]
 pub enum CloseFault {
     /// The process of the first client whose record is not its part of the journal.
     Differs(u32),
-    /// The least process that has entries and no client.
+    /// The lowest process that has entries and no client.
     Missing(u32),
-    /// Memory was refused.
+    /// Out of memory.
     Memory,
 }
 
-/// Ends the sharing: the journal, where the record of each client is its part of it, and each process with entries has
-/// a client. It waits for nobody. A fault hands nothing back.
+/// Ends the sharing and returns the journal. The record of each client is its part of the journal, and each process
+/// with entries has a client. It does not wait. After a fault nothing is returned.
 pub fn close<L: Ledger, H: KeyHash + Copy + Drop>(
     shared: Shared<L, H>,
     clients: Vec<Client<L>>,
@@ -54,7 +54,7 @@ fn compare<L: Ledger>(journal: Vec<Entry>, clients: &[Client<L>]) -> Result<Tran
     Ok(Transcript { entries: journal })
 }
 
-/// The process of the first client whose record is not its part of the journal.
+/// Returns the process of the first client whose record is not its part of the journal.
 fn stray<L: Ledger>(journal: &[Entry], clients: &[Client<L>]) -> Option<u32>
     ensures { Strays journal.now clients.now result }
 {
@@ -66,7 +66,7 @@ fn stray<L: Ledger>(journal: &[Entry], clients: &[Client<L>]) -> Option<u32>
     None
 }
 
-/// Whether these are the entries of the process, in order.
+/// Returns whether these are the entries of the process, in order.
 fn is_part(journal: &[Entry], pid: u32, own: &[Entry]) -> bool
     ensures { Decides result (of pid journal.now ≡ own.now) }
 {
@@ -85,7 +85,7 @@ fn is_part(journal: &[Entry], pid: u32, own: &[Entry]) -> bool
     at == own.len()
 }
 
-/// The least process that has entries and no client.
+/// Returns the lowest process that has entries and no client.
 fn missing<L: Ledger>(journal: &[Entry], clients: &[Client<L>]) -> Option<u32>
     ensures { Misses journal.now clients.now result }
 {
@@ -96,7 +96,7 @@ fn missing<L: Ledger>(journal: &[Entry], clients: &[Client<L>]) -> Option<u32>
     least
 }
 
-/// The least after one entry more.
+/// Returns the lowest such process after one more entry.
 fn lesser<L: Ledger>(least: Option<u32>, entry: &Entry, clients: &[Client<L>]) -> Option<u32>
     ensures { MissesNext entry.now clients.now least result }
 {
@@ -119,7 +119,7 @@ fn has_client<L: Ledger>(pid: u32, clients: &[Client<L>]) -> bool
 }
 
 impl Transcript {
-    /// The entries of a process, in order.
+    /// Returns the entries of a process, in order.
     pub fn of(&self, pid: u32) -> Result<Vec<&Entry>, AllocError>
         ensures { IfOk result (λ own. map (λ e. e.now) own.items ≡ of pid self.now.entries.items) }
     {

@@ -13,9 +13,9 @@ use std::sync::ledger::Ledger;
 use std::thread;
 use std::thread::Threads;
 
-/// Lets each client do its jobs in order, in a thread of its own. The clients come back in their order. A client stops
-/// where memory is refused to it; the `Err` is want of memory for the threads or for the list, and steps may have been
-/// done. It may wait.
+/// Runs the jobs of each client in order, in a thread for each client. The clients are returned in their order. A
+/// client stops when it runs out of memory. `Err` says that there was no memory for the threads or for the list; steps
+/// may have been run. It may wait.
 pub fn run_clients<
     L: Ledger + Send + Sync,
     H: KeyHash + Copy + Drop + Send + Sync,
@@ -33,7 +33,8 @@ pub fn run_clients<
     run_from(rt, alloc, shared, 0, work, gate)
 }
 
-/// The same for clients that are numbered from `first` on: one half of them in a new thread, the other here.
+/// Does the same for clients that are numbered from `first` on: for one half of them in a new thread, for the other
+/// here.
 fn run_from<
     L: Ledger + Send + Sync,
     H: KeyHash + Copy + Drop + Send + Sync,

@@ -17,12 +17,12 @@ use Rattle.node_text.specs.declared.asked.Asked.TheVariants.{Call, Faulty}
 use Rattle.node_text.specs.declared.refusal.Refusal.TheVariants.{Broken, Odd, NoMemory}
 use Rattle.node_text.specs.declared.status.TheConstants as is
 
--- a new store by these limits, before its first step
+-- a new store with these limits, before its first step
 abbrev pub fresh : Limits → Stored
 fresh limits = record { node = empty limits; reply = NoProcess; refusal = None }
 
--- Why a step has the reply that is kept: no reason for an answer; for a refusal the rule that the step breaks, if the
--- specification would refuse it so once more. A refused step changes nothing.
+-- Why a step has the reply that is kept: no reason for a value; for a refusal the rule that the step breaks, if the
+-- specification would refuse it in this way once more. A refused step changes nothing.
 pub record Explains (event : Step) (new : Stored) : Type 0 where
   pub exactly : is_some new.refusal ≡ not (is_value new.reply)
   pub named : (after : State) → step new.node event new.reply after

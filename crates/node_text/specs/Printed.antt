@@ -1,4 +1,4 @@
--- Steps, calls and replies as texts, as a script has them; a process stands there by its pid.
+-- Steps, calls and replies as texts, as a script has them; a process is written as its pid.
 use Rattle.std.specs.Prelude.{ℕ, List, ◌++◌, map, false, codes, decimal}
 use Rattle.ets_term.specs.declared.term.Term.TheVariants.{Pid, Tid}
 use Rattle.node_core.specs.declared.step.Call.{Call}

@@ -1,4 +1,4 @@
--- What a text asks.
+-- The call that a text spells.
 use Rattle.std.specs.Prelude.{ℕ, List, [], ◌∷◌, length, ◌==◌, if◌then◌else◌, unwrap_or}
 use Rattle.ets_term.specs.declared.term.Term.{Term, out-Term}
 use Rattle.ets_term.specs.declared.term.Term.TheOpen.{Term-F}
@@ -7,7 +7,7 @@ use Rattle.term_text.specs.Reader.{Reading, goes, found, fails, reading}
 use Rattle.node_text.specs.declared.asked.Asked.{Asked}
 use Rattle.node_text.specs.declared.asked.Asked.TheVariants.{Call, Faulty}
 
--- arguments behind a name, which is an atom
+-- arguments after a name, which is an atom
 abbrev pub named_form : List Term → Term-F Term → Asked
 named_form args (Term-F.Atom name) = Call name args
 named_form args _ = Faulty 0
@@ -24,8 +24,8 @@ call_form _ = Faulty 0
 abbrev pub call_in : Term → Asked
 call_in term = call_form (out-Term term)
 
--- What the reader of terms gives of so many bytes: a term that takes them all is looked at as a call. At the end of a
--- text the reader has found a term or a fault.
+-- The result of the reader of terms for this number of bytes: a term that takes them all is read as a call. At the end
+-- of a text the reader has found a term or a fault.
 abbrev pub asked_by : ℕ → Reading → Asked
 asked_by len (found t n) = if n == len then call_in t else Faulty n
 asked_by len (fails f) = Faulty (unwrap_or (offset f) 0)

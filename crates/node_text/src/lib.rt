@@ -1,9 +1,9 @@
 //! A store that is called by texts: a call is a text, its reply is another, and a refusal has a reason in words.
 //!
-//! *Guarantee.* A call does the step that its text spells, as the specification says, or it is refused and changes
+//! *Guarantee.* A call makes the step that its text spells, as the specification says, or it is refused and changes
 //! nothing. The status, the length of the reply's text and the bytes in the caller's buffer are those of the reply. A
-//! refused step has the reason that `node_reasons` names. A text that is not a call has the one that `script_reasons`
-//! finds at its first fault. A store may move to another thread.
+//! refused step has the reason that `node_reasons` names. A text that is not a call has the reason that
+//! `script_reasons` finds at its first fault. A store may move to another thread.
 //!
 //! *Weakness.* What is found at the fault of a text is a guess at what the author meant.
 //!

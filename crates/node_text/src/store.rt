@@ -20,8 +20,8 @@ use std::alloc::{AllocError, Global};
 use std::marker::Model;
 use term_text::print_term;
 
-/// A node, the reply to the last step that was done, and why the last call was refused, if it was. Contracts see of the
-/// node what calls can see of it. A store may move to another thread, as `laws` proves.
+/// A node, the reply to the last step that was done, and why the last call was refused, if it was. Contracts see the
+/// observable state of the node. A store may move to another thread, as `laws` proves.
 #[derive(Drop)]
 pub struct Store {
     node: Node<Fnv>,
@@ -176,7 +176,7 @@ impl Store {
         }
     }
 
-    /// Does at most two pending growth steps, which no call can see. A step for which memory runs out stays pending.
+    /// Runs at most two pending growth steps, which no call observes. A step that runs out of memory stays pending.
     fn tend(&mut self)
         ensures { self.new ≡ self.old }
     {
@@ -185,7 +185,7 @@ impl Store {
     }
 }
 
-/// Does the pending growth step, if there is one: a table grows, or readies a bucket.
+/// Runs the pending growth step, if there is one: a table doubles, or readies a bucket.
 fn do_due(node: &mut Node<Fnv>)
     ensures { seen node.new ≡ seen node.old }
 {

@@ -38,7 +38,7 @@ opens b = b == byte "("
 abbrev closes : ℕ → Bool
 closes b = b == byte ")"
 
--- the place behind such a text
+-- the place after such a text
 abbrev at : Quoting → ℕ → Bool → Bool → Place
 at q n o c = record { quoting = q; levels = n; is_open = o; is_closed = c }
 
@@ -56,7 +56,7 @@ made-push : (q : Quoting) (bs : List ℕ) (b : ℕ) (v : Bool) → made (past q 
 made-push q bs b true = ap (made (past q b)) (append-none bs)
 made-push q bs b false = same (past q b) _ _ _ _ _ _ (fold-append level 0 bs (b ∷ [])) (any-push opens bs b) (any-push closes bs b)
 
--- a place behind one byte more is that of the text with it
+-- a place after one byte more is that of the text with it
 pub place_push : (xs : List ℕ) (b : ℕ) → place_of (xs ++ b ∷ []) ≡ passed (place_of xs) b
 place_push xs b = let by_bytes : place_of (xs ++ b ∷ []) ≡ made (past (quoting xs) b) (bare xs ++ added (is_quoted (quoting xs)) b) =
     ap (λ (q : Quoting). made q (bare (xs ++ b ∷ []))) (fold-append past Outside xs (b ∷ []))

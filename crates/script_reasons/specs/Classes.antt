@@ -1,4 +1,4 @@
--- Bytes of a line by what they may stand for, and what stands at the end of a text.
+-- Classes of bytes on a line, and what is at the end of a text.
 use Rattle.std.specs.Prelude.{ℕ, ◌-◌, List, [], ◌∷◌, length, filter, slice_index, Bool, false, not, ◌&&◌, ◌||◌, ◌==◌, nat_le, codes}
 use Rattle.std.specs.Str.{byte}
 use Rattle.ets_term.specs.Character.{is_character}
@@ -13,7 +13,7 @@ among (sign ∷ signs) b = (b == sign) || among signs b
 abbrev pub is_gap : ℕ → Bool
 is_gap b = among (codes " \t") b
 
--- what may stand on a line: the tab, and printable ASCII
+-- a byte that is allowed on a line: the tab, and printable ASCII
 abbrev pub is_clean : ℕ → Bool
 is_clean b = (b == byte "\t") || is_character b
 
@@ -23,7 +23,7 @@ begins_atom b = is_small b || (b == byte "'")
 abbrev pub begins_number : ℕ → Bool
 begins_number b = is_digit b || (b == byte "-")
 
--- how a term begins, an identifier of a table aside
+-- a byte with which a term begins, an identifier of a table aside
 abbrev pub goes_deeper : ℕ → Bool
 goes_deeper b = begins_atom b || begins_number b || among (codes "\"[{<") b
 
@@ -31,18 +31,18 @@ goes_deeper b = begins_atom b || begins_number b || among (codes "\"[{<") b
 abbrev pub begins_variable : ℕ → Bool
 begins_variable b = (nat_le 65 b && nat_le b 90) || (b == byte "_")
 
--- how a term begins, or blanks before one
+-- a byte with which a term, or blanks before one, begins
 abbrev pub may_begin : ℕ → Bool
 may_begin b = begins_term b || is_blank b
 
--- the last byte, 0 of none
+-- the last byte, or 0
 abbrev pub last : List ℕ → ℕ
 last text = slice_index text (length text - 1)
 
--- the last byte that is neither a space nor a tab, 0 of none
+-- the last byte that is neither a space nor a tab, or 0
 abbrev pub last_sign : List ℕ → ℕ
 last_sign text = last (filter (λ b. not (is_gap b)) text)
 
--- a term may begin behind these signs
+-- a term may begin after these signs
 abbrev pub wants_term : List ℕ → Bool
 wants_term before = among (codes ",{[<(") (last_sign before)

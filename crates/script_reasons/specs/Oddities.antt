@@ -1,4 +1,4 @@
--- What stands where a line has its fault. Of several rows that fit, the first says it.
+-- The problem at the fault of a line. Of several rows that fit, the first decides.
 use Rattle.std.specs.Prelude.{ℕ, ◌-◌, List, [], ◌∷◌, take, drop, not, ◌&&◌, ◌||◌, ◌==◌, nat_lt, nat_le, if◌then◌else◌}
 use Rattle.std.specs.List.{prefix_len}
 use Rattle.std.specs.Str.{byte}
@@ -13,7 +13,7 @@ use Rattle.script_reasons.specs.declared.place.Quoting.TheVariants.{Escaped}
 use Rattle.script_reasons.specs.Classes.{is_clean, begins_atom, begins_number, goes_deeper, begins_variable, may_begin, last, wants_term}
 use Rattle.script_reasons.specs.Places.{is_quoted, place_of}
 
--- digits enough for a number that could be past its range wherever it stands
+-- digits enough for a number that can be out of range in any position
 abbrev pub long_number : ℕ
 long_number = 10
 
@@ -31,7 +31,7 @@ quoted_at _ levels b = if nat_le (max_depth - 1) levels then oddity.TooDeep else
 abbrev pub quoted : Place → ℕ → Oddity
 quoted place b = quoted_at place.quoting place.levels b
 
--- behind the parenthesis that ends a call
+-- after the parenthesis that ends a call
 abbrev pub behind_call : ℕ → Oddity
 behind_call b = if b == byte "." then oddity.FullStop
     else if b == byte "%" then oddity.Comment
@@ -43,7 +43,7 @@ word b behind = if is_small b && nat_lt max_characters (prefix_len is_name (b �
     else if nat_le long_number (prefix_len is_digit (b ∷ behind)) then oddity.PastRange
     else oddity.Other b
 
--- a sign, whatever stands beside it
+-- a sign, whatever is before and after it
 abbrev pub sign : ℕ → List ℕ → Oddity
 sign b behind = if b == byte "." then oddity.FullStop
     else if b == byte "%" then oddity.Comment
@@ -54,18 +54,19 @@ sign b behind = if b == byte "." then oddity.FullStop
     else if begins_variable b then oddity.Variable
     else word b behind
 
--- right behind `#`
+-- directly after `#`
 abbrev pub behind_hash : ℕ → Oddity
 behind_hash b = if b == byte "{" then oddity.Map else oddity.Identifier
 
--- where no term may begin, or none that begins so
+-- a place where no term may begin, or none with this byte
 abbrev pub misplaced : List ℕ → ℕ → List ℕ → Oddity
 misplaced before b behind = if last before == byte "#" then behind_hash b
     else if (b == byte ".") && is_digit (last before) && begins is_digit behind then oddity.Float
     else if (b == byte "#") && is_digit (last before) then oddity.Base
     else sign b behind
 
--- where a term may begin: one that is a level too deep; or one whose fault is further on, and told where it begins
+-- a place where a term may begin: one that is a level too deep; or one whose fault is further on, and is reported where
+-- it begins
 abbrev pub begun : Place → List ℕ → ℕ → List ℕ → Oddity
 begun place before b behind = if nat_le max_depth place.levels && goes_deeper b then oddity.TooDeep
     else if begins_atom b then oddity.LongName
@@ -80,16 +81,16 @@ standing before b behind = if not (is_clean b) then oddity.NotPrintable b
     else if wants_term before then begun (place_of before) before b behind
     else misplaced before b behind
 
--- the rest of a line, behind this text
+-- the rest of a line, after this text
 abbrev pub stands : List ℕ → List ℕ → Oddity
 stands before [] = ended (place_of before)
 stands before (b ∷ behind) = standing before b behind
 
--- what stands at an offset of a line
+-- the problem at an offset of a line
 abbrev pub oddity_at : List ℕ → ℕ → Oddity
 oddity_at line at = stands (take at line) (drop at line)
 
--- what stands at an offset of a text that should be a call: at its front mostly a term that is none
+-- the problem at an offset of a text that should be a call: at its front usually a term that is no call
 abbrev pub in_call : ℕ → Oddity → Oddity
 in_call at (oddity.Other b) = if (at == 0) && may_begin b then oddity.NoCall else oddity.Other b
 in_call at other = other

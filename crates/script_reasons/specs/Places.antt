@@ -1,4 +1,4 @@
--- Where the text of a line has come to, by its quotes and brackets.
+-- The lexical state of a line at an offset: its open quotes and brackets.
 use Rattle.std.specs.Prelude.{ℕ, ◌+◌, ◌-◌, List, [], ◌∷◌, Bool, true, false, ◌==◌, if◌then◌else◌, fold, codes}
 use Rattle.std.specs.List.{list_any}
 use Rattle.std.specs.Str.{byte}
@@ -12,7 +12,7 @@ is_quoted Outside = false
 is_quoted (Inside quote) = true
 is_quoted (Escaped quote) = true
 
--- behind one byte more: what one of `'` and `"` opens the same closes, unless a backslash stands before it
+-- after one more byte: a quote `'` or `"` is closed by the same sign, unless a backslash comes before it
 abbrev pub past : Quoting → ℕ → Quoting
 past Outside b = if among (codes "'\"") b then Inside b else Outside
 past (Inside quote) b = if b == quote then Outside else if b == byte "\\" then Escaped quote else Inside quote
@@ -22,7 +22,7 @@ past (Escaped quote) b = Inside quote
 abbrev pub quoting : List ℕ → Quoting
 quoting text = fold past Outside text
 
--- a text that begins so, without what is quoted in it
+-- a text that begins in this state, without what is quoted in it
 abbrev pub bare_from : Quoting → List ℕ → List ℕ
 bare_from before [] = []
 bare_from before (b ∷ bs) = if is_quoted before then bare_from (past before b) bs else b ∷ bare_from (past before b) bs
@@ -31,12 +31,12 @@ bare_from before (b ∷ bs) = if is_quoted before then bare_from (past before b)
 abbrev pub bare : List ℕ → List ℕ
 bare text = bare_from Outside text
 
--- how many brackets are open behind one byte more
+-- the number of open brackets after one more byte
 abbrev pub level : ℕ → ℕ → ℕ
 level n b = if among (codes "[{") b then n + 1 else if among (codes "]}") b then n - 1 else n
 
--- where a text has come to at its end: in quotes or not; how many brackets are open; and whether parentheses came,
--- outside quotes all
+-- the state at the end of a text: in quotes or not; the number of open brackets; and whether the parentheses came, all
+-- outside quotes
 abbrev pub place_of : List ℕ → Place
 place_of text = record {
   quoting = quoting text;

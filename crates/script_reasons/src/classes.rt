@@ -1,4 +1,4 @@
-//! Bytes of a line by what they may stand for, and what stands at the ends of a text.
+//! Classes of bytes on a line, and what is at the ends of a text.
 ghost use Rattle.std.specs.Prelude.{◌≡◌, ◌≤◌, length, if◌then◌else◌};
 ghost use Rattle.std.specs.List.{prefix_len};
 ghost use Rattle.term_text.specs.Text.{is_blank, is_digit, is_name, begins, begins_term};
@@ -12,14 +12,14 @@ fn is_gap(byte: u8) -> bool
     byte == b' ' || byte == b'\t'
 }
 
-/// Whether the byte may stand on a line.
+/// Returns whether the byte is allowed on a line.
 pub fn is_clean(byte: u8) -> bool
     ensures { result ≡ spec.is_clean byte }
 {
     byte == b'\t' || is_character_byte(byte)
 }
 
-/// Whether a term begins with this byte; an identifier of a table does not count.
+/// Returns whether a term begins with this byte; an identifier of a table does not count.
 pub fn goes_deeper(byte: u8) -> bool
     ensures { result ≡ spec.goes_deeper byte }
 {
@@ -44,7 +44,7 @@ pub fn begins_variable(byte: u8) -> bool
     matches!(byte, b'A'..=b'Z' | b'_')
 }
 
-/// Whether a term may begin with this byte, or with blanks.
+/// Returns whether a term, or blanks before one, can begin with this byte.
 pub fn may_begin(byte: u8) -> bool
     ensures { result ≡ spec.may_begin byte }
 {
@@ -73,21 +73,21 @@ fn is_blank(byte: u8) -> bool
     byte == b' ' || byte == b'\t' || byte == b'\n' || byte == b'\r'
 }
 
-/// Whether a term, or a number of one, is wanted behind this text.
+/// Returns whether a term, or the number of one, must come after this text.
 pub fn wants_term(before: &[u8]) -> bool
     ensures { result ≡ spec.wants_term before.now }
 {
     matches!(last_sign(before), b',' | b'{' | b'[' | b'<' | b'(')
 }
 
-/// How many bytes at the front could stand in a name.
+/// Returns the number of bytes at the front that can be in a name.
 pub fn name_len(text: &[u8]) -> usize
     ensures { result ≡ prefix_len is_name text.now }
 {
     text.iter().take_while(|byte| is_name_byte(**byte)).count()
 }
 
-/// How many digits stand at the front.
+/// Returns the number of digits at the front.
 pub fn digits_len(text: &[u8]) -> usize
     ensures len { result ≡ prefix_len is_digit text.now }
     ensures within { result ≤ length text.now }
@@ -104,14 +104,14 @@ pub fn starts_digit(text: &[u8]) -> bool
     }
 }
 
-/// The last byte of a text, 0 where there is none.
+/// Returns the last byte of a text, or 0 if it is empty.
 pub fn last(text: &[u8]) -> u8
     ensures { result ≡ spec.last text.now }
 {
     text.last().copied().unwrap_or(0)
 }
 
-/// The last byte that is neither a space nor a tab, 0 where there is none.
+/// Returns the last byte that is neither a space nor a tab, or 0.
 fn last_sign(text: &[u8]) -> u8
     ensures { result ≡ spec.last_sign text.now }
 {
@@ -122,7 +122,7 @@ fn last_sign(text: &[u8]) -> u8
     last
 }
 
-/// The last sign of a text behind one byte more.
+/// Returns the last sign of a text after one more byte.
 fn later(last: u8, byte: u8) -> u8
     ensures { result ≡ (if spec.is_gap byte then last else byte) }
 {

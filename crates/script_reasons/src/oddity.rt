@@ -1,4 +1,4 @@
-//! What stands where a line has its fault.
+//! The problem at the fault of a line.
 ghost use Rattle.std.specs.Prelude.{◌≡◌};
 ghost use Rattle.script_reasons.specs.Oddities as spec;
 
@@ -10,10 +10,10 @@ use crate::place::{Place, Quoting};
 use ets_term::{MAX_CHARACTERS, MAX_DEPTH};
 use term_text::{is_digit_byte, is_small_byte};
 
-/// So many digits make a number that could be past its range wherever it stands.
+/// A number with this many digits can be out of range in any position.
 const LONG_NUMBER: usize = 10;
 
-/// What stands where a line has its fault.
+/// The problem at the fault of a line.
 #[derive(Clone, Copy, Debug, PartialEq, Eq)]
 pub enum Oddity {
     /// The line ends, and no parenthesis was opened.
@@ -26,12 +26,12 @@ pub enum Oddity {
     NotPrintable(u8),
     FullStop,
     Comment,
-    /// More text behind the parenthesis that ends a call.
+    /// More text after the parenthesis that ends a call.
     Behind,
     Variable,
     Float,
     Map,
-    /// What stands behind `#` and is neither a base nor a map.
+    /// Text after `#` that is neither a base nor a map.
     Identifier,
     /// A character as `$a`.
     Character,
@@ -51,7 +51,7 @@ pub enum Oddity {
     Other(u8),
 }
 
-/// What stands at an offset of a line that is no command, where it has its fault.
+/// Diagnoses a line that is no command, at the offset of its fault.
 pub fn oddity_at(line: &[u8], at: usize) -> Oddity
     ensures { result ≡ spec.oddity_at line.now at }
 {
@@ -62,8 +62,8 @@ pub fn oddity_at(line: &[u8], at: usize) -> Oddity
     }
 }
 
-/// What stands at an offset of a text that is no call as a tuple, such as `{lookup,t,a}`, where it has its fault; at 0
-/// that mostly is a term that is none.
+/// Diagnoses a text that is no call as a tuple, such as `{lookup,t,a}`, at the offset of its fault; at offset 0 it is
+/// usually a term that is no call.
 pub fn oddity_in_call(text: &[u8], at: usize) -> Oddity
     ensures { result ≡ spec.oddity_in_call text.now at }
 {
@@ -85,7 +85,7 @@ fn ended(place: &Place) -> Oddity
     }
 }
 
-/// What a byte tells behind this text and before that.
+/// Diagnoses a byte, between the text before it and the text after it.
 fn standing(before: &[u8], byte: u8, behind: &[u8]) -> Oddity
     ensures { result ≡ spec.standing before.now byte behind.now }
 {
@@ -123,7 +123,7 @@ fn behind_call(byte: u8) -> Oddity
     }
 }
 
-/// What stands where a term is wanted.
+/// Diagnoses a place where a term must come.
 fn begun(place: &Place, before: &[u8], byte: u8, behind: &[u8]) -> Oddity
     ensures { result ≡ spec.begun place.now before.now byte behind.now }
 {
@@ -138,7 +138,7 @@ fn begun(place: &Place, before: &[u8], byte: u8, behind: &[u8]) -> Oddity
     }
 }
 
-/// What a byte tells that stands where none like it may.
+/// Diagnoses a byte of a kind that cannot come here.
 fn misplaced(before: &[u8], byte: u8, behind: &[u8]) -> Oddity
     ensures { result ≡ spec.misplaced before.now byte behind.now }
 {
@@ -163,7 +163,7 @@ fn behind_hash(byte: u8) -> Oddity
     }
 }
 
-/// What a sign tells by itself.
+/// Diagnoses a sign by itself.
 fn sign(byte: u8, behind: &[u8]) -> Oddity
     ensures { result ≡ spec.sign byte behind.now }
 {
@@ -179,7 +179,7 @@ fn sign(byte: u8, behind: &[u8]) -> Oddity
     }
 }
 
-/// What a name or a number tells that stands where none may, or that is too long.
+/// Diagnoses a name or a number where none can come, or that is too long.
 fn word(byte: u8, behind: &[u8]) -> Oddity
     ensures { result ≡ spec.word byte behind.now }
 {

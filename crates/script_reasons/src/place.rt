@@ -1,15 +1,15 @@
-//! Where the text of a line has come to, by its quotes and brackets.
+//! The lexical state of a line at an offset: its open quotes and brackets.
 ghost use Rattle.std.specs.Prelude.{◌≡◌, ◌+◌, ◌^◌, ◌<◌};
 ghost use Rattle.script_reasons.specs.Places as spec;
 ghost use Rattle.script_reasons.specs.inside.Passing.{passed};
 
-/// Whether a text has come to inside of quotes.
+/// Whether a text ends inside quotes.
 #[derive(Clone, Copy)]
 pub enum Quoting {
     Outside,
-    /// In quotes, which this sign ends.
+    /// In quotes, which this sign closes.
     Inside(u8),
-    /// There, behind a backslash.
+    /// In quotes, after a backslash.
     Escaped(u8),
 }
 
@@ -23,7 +23,7 @@ impl Quoting {
         }
     }
 
-    /// Behind one byte more.
+    /// Returns the state after one more byte.
     fn past(self, byte: u8) -> Quoting
         ensures { result ≡ spec.past self byte }
     {
@@ -38,20 +38,20 @@ impl Quoting {
     }
 }
 
-/// Where the text of a line has come to.
+/// The lexical state of a line at an offset.
 #[derive(Clone, Copy)]
 pub struct Place {
     pub quoting: Quoting,
-    /// How many brackets of terms are open.
+    /// The number of open brackets of terms.
     pub levels: usize,
-    /// The parenthesis before arguments has come.
+    /// Whether the parenthesis before arguments was read.
     pub is_open: bool,
-    /// The parenthesis behind them has come.
+    /// Whether the parenthesis after them was read.
     pub is_closed: bool,
 }
 
 impl Place {
-    /// Where a text has come to at its end.
+    /// Returns the state at the end of a text.
     pub fn behind(text: &[u8]) -> Place
         ensures { result ≡ spec.place_of text.now }
     {
@@ -67,7 +67,7 @@ impl Place {
         place
     }
 
-    /// Goes on behind one byte more.
+    /// Advances by one byte.
     fn pass(&mut self, byte: u8)
         requires { self.old.levels + 1 < 2 ^ 64 }
         ensures { self.new ≡ passed self.old byte }
@@ -81,7 +81,7 @@ impl Place {
     }
 }
 
-/// How many brackets are open behind one byte more, which stands outside quotes.
+/// Returns the number of open brackets after one more byte, which is outside quotes.
 fn level(levels: usize, byte: u8) -> usize
     requires { levels + 1 < 2 ^ 64 }
     ensures { result ≡ spec.level levels byte }

@@ -51,7 +51,7 @@ impl fmt::Display for Remark<'_> {
     }
 }
 
-/// The name of a step: the command's word, or the call.
+/// Returns the name of a step: the command's word, or the call.
 #[derive(Clone, Copy)]
 struct StepSubject<'a> {
     step: &'a Step,
@@ -74,7 +74,7 @@ impl fmt::Display for StepSubject<'_> {
     }
 }
 
-/// The name of a call, and how many arguments it has: `lookup/2`.
+/// Returns the name of a call with its number of arguments: `lookup/2`.
 #[derive(Clone, Copy)]
 struct CallSubject<'a> {
     call: &'a Call,

@@ -61,7 +61,7 @@ fn end_at(fault: &ScriptFault) -> End {
     }
 }
 
-/// Whether a script ends so, and these answers went out, whatever the hash.
+/// Returns whether a script ends so, and these answers went out, whatever the hash.
 fn is_run(alloc: Global, run: &Run, script: &[u8], answers: &[u8], end: End) -> bool {
     is_run_by(alloc, run, Fnv, script, answers, end)
         && is_run_by(alloc, run, AllSame, script, answers, end)

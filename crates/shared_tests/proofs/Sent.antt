@@ -27,7 +27,7 @@ call_sync : IsSync Call.the_row
 call_sync = search (crosses, terms.crosses, sendable) depth 60 fits 20000
 
 module _ (a b d : Lifetime) (α β γ : Lft) (L H R : RattleType) (l : Ledger.Ghosts L.Denot) (k : KeyHash.Ghosts H.Denot) (c : Clone.Ghosts H.Denot) where
-  -- what the thread that does what is due takes with it
+  -- what the thread that runs pending steps takes with it
   abbrev pub Kept : List RattleType
   Kept = ShrRef a α R ∷ ShrRef b β (Shared.the_row L H l k c) ∷ ShrRef d γ AtomicBool.the_row ∷ []
 

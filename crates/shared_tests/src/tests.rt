@@ -38,7 +38,7 @@ fn asks(alloc: Global, calls: &[(&str, &str)]) -> Result<Vec<Job>, Fail> {
     Ok(jobs)
 }
 
-/// So many processes, and all else as usual.
+/// A number of processes, and all else as usual.
 fn limits(processes: u32) -> Limits
     ensures { result.processes ≡ processes }
 {
@@ -59,7 +59,7 @@ fn two_seats(alloc: Global) -> Result<(Pids, Seat, Seat), Fail>
     Ok((pids, one, other))
 }
 
-/// So many clients, which join by the numbers from 0 on.
+/// A number of clients, which join by the numbers from 0 on.
 fn joined<L: Ledger, H: KeyHash + Copy + Drop, R: Wait>(
     rt: &R,
     alloc: Global,

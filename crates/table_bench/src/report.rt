@@ -102,7 +102,7 @@ pub(crate) fn times<S: Store>(
     )
 }
 
-/// Prints the nanoseconds of the longest of so many insertions into one table, each with its steps of growth.
+/// Prints the nanoseconds of the longest of a number of insertions into one table, each with its steps of growth.
 pub(crate) fn longest<S: Store>(
     rt: &(impl Print + Alloc<A = Global> + Clock),
     count: u64,
@@ -129,7 +129,8 @@ fn filled<S: Store>(alloc: Global, keys: &[u64]) -> Result<S, AllocError> {
     Ok(store)
 }
 
-/// Prints bytes an object, of as many tables as make some 300,000 objects, so that the pages of a small one do not blur it.
+/// Prints bytes an object, of as many tables as make about 300,000 objects, so that the pages of a small one do not
+/// blur it.
 pub(crate) fn measure<S: Store>(
     rt: &(impl Print + Alloc<A = Global> + Files),
     count: u64,

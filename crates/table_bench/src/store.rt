@@ -13,7 +13,7 @@ pub trait Store: Drop {
     /// How it is called in what is printed.
     fn name() -> &'static str;
 
-    /// Puts `{K,1}` of a new key, and does two steps of growth that are due.
+    /// Puts `{K,1}` of a new key, and runs two pending growth steps.
     fn insert(&mut self, alloc: Global, k: u64) -> Result<bool, AllocError>;
 
     fn hit(&mut self, k: u64) -> bool;
@@ -38,12 +38,12 @@ pub(crate) fn object(alloc: Global, k: u64) -> Result<Term, AllocError> {
     Ok(Term::Tuple(Items::from_vec(fields)))
 }
 
-/// Whether so many slots are too many for so many buckets.
+/// Returns whether these slots are too many for these buckets.
 pub(crate) fn is_full(slots: usize, buckets: u32) -> bool {
     slots / LOAD > buckets as usize
 }
 
-/// Whether this is one object with a value, which is read.
+/// Returns whether this is one object with a value, which is read.
 pub(crate) fn has_value(objects: &[Term]) -> bool {
     match objects {
         [Term::Tuple(fields)] => matches!(fields.get(1), Some(Term::Int(1..))),

@@ -13,7 +13,7 @@ const ONE_MORE: Ops = Ops::One(Op {
     bound: None,
 });
 
-/// Want of memory, and of another refusal that nothing was done.
+/// Out of memory, and any other refusal.
 fn memory(refusal: Refusal) -> Result<bool, AllocError> {
     match refusal {
         Refusal::Memory => Err(AllocError),
@@ -69,7 +69,8 @@ impl Store for Table<SplitRows<Fnv>> {
     }
 }
 
-/// Makes the least bucket ready that is not, or doubles the buckets where they are full; answers whether either was due.
+/// Makes the least bucket ready that is not, or doubles the buckets where they are full; answers whether either was
+/// due.
 fn grow_if_due(table: &mut Table<SplitRows<Fnv>>) -> Result<bool, AllocError> {
     if let Some(bucket) = table.least() {
         table.ready(bucket)?;

@@ -28,7 +28,7 @@ abbrev pub AnswersPart : Bool → Scripted → List ℕ → Answer → Scripted 
 AnswersPart true old bytes answer new = AnswersLine old too_long answer new
 AnswersPart false old bytes answer new = AnswersLine old (text bytes) answer new
 
--- the last answer went out behind what waited
+-- the last answer was written after the buffered text
 pub record EndsAll (h : Held) (start now : Scripted) (waiting : List ℕ) (writer : Flow) : Type 0 where
   pub answer : Answer
   pub answers : AnswersPart h.is_skipping start h.bytes answer now

@@ -11,7 +11,7 @@ use Rattle.script_reasons.specs.Oddities.{oddity_at}
 use Rattle.ets_script.specs.declared.answer.Answer.{Answer}
 use Rattle.ets_script.specs.declared.answer.Answer.TheVariants.{Silent, Replied, NoMemory, Syntax, TooLong}
 
--- what is said of a line by its answer: nothing where it was not refused, and of one that could not be read what stands at its fault
+-- the reason of a line by its answer: none if it was not refused, and for a syntax error what is at its fault
 abbrev pub SaidOf : List ℕ → Answer → Option Remark → Type 0
 SaidOf line Silent said = said ≡ None
 SaidOf line (Replied reply) said = is_value reply ≡ true → said ≡ None
@@ -19,6 +19,6 @@ SaidOf line NoMemory said = said ≡ Some remark.NoMemory
 SaidOf line (Syntax at) said = said ≡ Some (remark.Faulty at (oddity_at line at))
 SaidOf line TooLong said = said ≡ Some remark.TooLong
 
--- what is said of a step: the rule that it breaks
+-- the reason of a step: the rule that it breaks
 abbrev pub step_said : State → Step → Reply → Option Remark
 step_said s event reply = option_map (remark.Broken event) (why s event reply)

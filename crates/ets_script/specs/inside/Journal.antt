@@ -4,15 +4,15 @@ use Rattle.ets_script.specs.Threads.{line_of, entry_text, stopped_text, threads_
 use Rattle.ets_script.specs.declared.plan.Known.{Known}
 use Rattle.ets_script.specs.declared.processes.Ran.{Ran}
 
--- the line of a process of which so many jobs are left
+-- the line of a process with this number of jobs left
 abbrev pub stop_text : List ℕ → ℕ → List ℕ
 stop_text name zero = []
 stop_text name (suc n) = line_of name (codes "** nomem")
 
--- the replies of the processes that ran, in the order of the journal, and the lines of those that were stopped
+-- the replies of the processes, in the order of the journal, and the lines of those that stopped
 abbrev pub ran_text : List (List ℕ) → Ran → List ℕ
 ran_text names ran = flat_map (entry_text names) ran.entries.items ++ stopped_text names ran.left.items
 
--- the text of what was known before and of the processes that ran
+-- the text of the planned answers and of the results of the processes
 abbrev pub out_text : Known → Ran → List ℕ
 out_text known ran = threads_text known.answers known.names ran.entries.items ran.left.items

@@ -1,4 +1,4 @@
--- A plan with the most names that it may have, and its code.
+-- A plan with its greatest number of names, and its code.
 use Rattle.std.specs.Prelude.{ℕ, List, refl}
 use Rattle.std.specs.Coded.{Coded, code_by, coded×, coded_ℕ, coded_list}
 use Rattle.ets_script.specs.declared.answer.Answer.{Answer}

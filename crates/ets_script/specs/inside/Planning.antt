@@ -14,11 +14,11 @@ use Rattle.ets_script.specs.declared.fault.ScriptFault.TheVariants.{Read, Memory
 use Rattle.ets_script.specs.inside.Feeds.{Held, EndsLine}
 use Rattle.ets_script.specs.inside.PlanCodes.{Limited}
 
--- no line yet, and at most so many names
+-- no line yet, and a greatest number of names
 abbrev pub no_lines : ℕ → Limited
 no_lines most = record { most = most; plan = nothing }
 
--- an answer that is known is added
+-- a planned answer is added
 abbrev pub with_answer : Answer → Limited → Limited
 with_answer answer l = record l { plan = answered answer l.plan }
 
@@ -54,7 +54,7 @@ abbrev pub PlansNext : Held → Limited → Limited → Option ℕ → Type 0
 PlansNext h old new (Some taken) = PlansHeld h old new taken
 PlansNext h old new None = IsOneLine h.bytes × (new ≡ old)
 
--- what is held when the input ends, as a line
+-- the rest of the buffer when the input ends, as a line
 abbrev pub last_line : Bool → List ℕ → Line
 last_line true bytes = too_long
 last_line false bytes = text bytes
@@ -75,7 +75,7 @@ PlansAll start reader now =
 abbrev pub AreParts : Known → Work → Planned → Type 0
 AreParts known work plan = (known.answers ≡ plan.answers) × (known.names ≡ plan.names) × (work.jobs ≡ plan.jobs)
 
--- what stops the planning of a script
+-- the reasons for which the planning of a script stops
 abbrev pub IsUnplanned : ScriptFault → Type 0
 IsUnplanned Read = ⊤
 IsUnplanned Memory = ⊤

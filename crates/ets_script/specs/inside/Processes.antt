@@ -52,7 +52,7 @@ HaveRun p [] (client ∷ clients) left = ⊥
 HaveRun p (jobs ∷ others) [] left = ⊥
 HaveRun p (jobs ∷ others) (client ∷ clients) [] = ⊥
 
--- what may stop a script before anything is printed
+-- the reasons for which a script stops before anything is printed
 abbrev pub Stops : Limits → ScriptFault → Type 0
 Stops limits Read = ⊤
 Stops limits Write = ⊥
@@ -60,7 +60,7 @@ Stops limits Memory = ⊤
 Stops limits (Differs p) = IsUnclosed limits (close.Differs p)
 Stops limits (Missing p) = IsUnclosed limits (close.Missing p)
 
--- the reader had a whole script, and what it asks of its processes was done
+-- the reader had a whole script, and the jobs of its processes were done
 pub record RunsInput (limits : Limits) (reader : Flow) (known : Known) (ran : Ran) : Type 0 where
   pub input : List ℕ
   pub lines : List Line

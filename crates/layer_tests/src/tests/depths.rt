@@ -11,7 +11,7 @@ fn listed(alloc: Global, term: Term) -> Option<Term> {
     Some(Term::List(filled(outer.push(term).ok(), outer)?))
 }
 
-/// A list within a list, so many levels deep.
+/// A list within a list, to a depth.
 pub fn nested(alloc: Global, levels: usize) -> Option<Term> {
     let mut term = Term::List(Items::new(alloc));
     for _ in 1..levels {

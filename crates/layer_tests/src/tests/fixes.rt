@@ -1,5 +1,5 @@
 // Values from outside: each test is a table of rows, each a call and what it is to answer, over both kept forms of
-// rows. None stands for want of memory.
+// rows. `None` means out of memory.
 use super::filled;
 use bucket_table::{PlainRows, Rows, SplitRows};
 use ets_term::{AllSame, Fnv, Integer, Items, Term};
@@ -72,7 +72,7 @@ fn count_of<R: Rows>(table: &Walked<R>, key: Integer) -> usize {
     count
 }
 
-/// The key behind this one in a walk.
+/// The next key in a walk.
 fn behind<R: Rows>(table: &Walked<R>, key: Integer) -> Result<Option<&Term>, Badarg> {
     let key = Term::Int(key);
     let found = table.next(&key);
@@ -80,7 +80,7 @@ fn behind<R: Rows>(table: &Walked<R>, key: Integer) -> Result<Option<&Term>, Bad
     found
 }
 
-/// Whether a walk came to this key, or to the end.
+/// Returns whether a walk came to this key, or to the end.
 fn is(found: Option<&Term>, wanted: Option<Integer>) -> bool {
     match (found, wanted) {
         (Some(Term::Int(key)), Some(number)) => *key == number,

@@ -1,4 +1,4 @@
-//! FNV-1a, beside a plain reading of it.
+//! FNV-1a; compared with a plain reading of it.
 use ets_term::{Atom, Fnv, Integer, KeyHash, Term};
 use std::alloc::Global;
 use std::process::Abort;

@@ -1,4 +1,4 @@
-//! The hash with a seed, beside values of its definition that were computed outside.
+//! The hash with a seed; compared with values of its definition that were computed outside.
 use super::filled;
 use ets_term::{Atom, Items, KeyHash, Keyed, Term};
 use std::alloc::Global;
@@ -29,7 +29,7 @@ fn push_terms(alloc: Global, terms: &mut Items<Term>) -> Option<()> {
     terms.push(binary(alloc)?).ok()
 }
 
-/// Whether these are the numbers of the terms, one after the other.
+/// Returns whether these are the numbers of the terms, one after the other.
 fn are_hashed(hash: Keyed, terms: &[Term], wanted: &[u32]) -> bool {
     for (term, number) in terms.iter().zip(wanted) {
         if hash.hash32(term) != *number {

@@ -51,7 +51,7 @@ fn copy_has_text(alloc: Global, atom: &Atom, text: &str) -> Option<bool> {
     Some(same)
 }
 
-/// Whether an atom and its copy have its text.
+/// Returns whether an atom and its copy have its text.
 fn is_kept(alloc: Global, text: &str) -> Option<bool> {
     let made = Atom::new(alloc, text).ok()?;
     let same = made.text() == text;
@@ -60,7 +60,7 @@ fn is_kept(alloc: Global, text: &str) -> Option<bool> {
     Some(copied? && same)
 }
 
-/// Whether an atom of so many characters and its copy have its text.
+/// Returns whether an atom of a number of characters and its copy have its text.
 fn keeps_text(alloc: Global, count: usize) -> Option<bool> {
     let text = long_text(alloc, "", "a", count, "").ok()?;
     let kept = is_kept(alloc, text.as_str());
@@ -158,7 +158,7 @@ const RISING: [Told<'static>; 22] = [
     Told::Binary("2"),
 ];
 
-/// Whether terms compare as their places do.
+/// Returns whether terms compare as their places do.
 fn compare(low: (usize, &Term), high: (usize, &Term)) -> bool {
     let (i, first) = low;
     let (j, second) = high;
@@ -199,7 +199,7 @@ fn terms_rise(rt: HostRuntime) {
     assert!(rt; rise(rt.alloc()) == Some(true));
 }
 
-/// Whether a term is so deep, and a copy equals it.
+/// Returns whether a term is so deep, and a copy equals it.
 fn is_of_depth(alloc: Global, term: &Term, depth: usize) -> Option<bool> {
     term.fits();
     term.hashes_its_encoding();
@@ -217,7 +217,7 @@ fn has_depth(alloc: Global, made: Option<Term>, depth: usize) -> Option<bool> {
     same
 }
 
-/// Whether a tuple and a list of these atoms are so deep.
+/// Returns whether a tuple and a list of these atoms are so deep.
 fn are_of_depth(alloc: Global, letters: &str, depth: usize) -> Option<bool> {
     Some(
         has_depth(alloc, tuple(alloc, letters), depth)?
@@ -253,7 +253,7 @@ fn depths_and_copies(rt: HostRuntime) {
     assert!(rt; other_terms_are_of_depth(alloc) == Some(true));
 }
 
-/// Whether a list within a list, so many levels deep, is so deep, and told from what is too deep.
+/// Returns whether a list within a list, at a depth, has this depth, and differs from one that is too deep.
 fn is_nested(alloc: Global, levels: usize) -> Option<bool> {
     let term = nested(alloc, levels)?;
     let told = term.is_too_deep() == (levels > MAX_DEPTH);
@@ -333,7 +333,7 @@ fn pair_has_two(pair: &Term) -> bool {
         && pair.element(18446744073709551617).is_none()
 }
 
-/// Whether a pair of atoms has two elements.
+/// Returns whether a pair of atoms has two elements.
 fn a_pair_has_two(alloc: Global) -> Option<bool> {
     let pair = tuple(alloc, "ab")?;
     let two = pair_has_two(&pair);
@@ -341,7 +341,7 @@ fn a_pair_has_two(alloc: Global) -> Option<bool> {
     Some(two)
 }
 
-/// Whether a list of atoms has no element.
+/// Returns whether a list of atoms has no element.
 fn a_list_has_none(alloc: Global) -> Option<bool> {
     let list = list(alloc, "ab")?;
     let none = list.element(1).is_none();
@@ -400,7 +400,7 @@ fn hashes_tell_tuples_from_lists(rt: HostRuntime) {
     assert!(rt; tuple_and_list_hash_apart(rt.alloc()) == Some(true));
 }
 
-/// Whether items grow by three numbers and lose the last.
+/// Returns whether items grow by three numbers and lose the last.
 fn grow_and_shrink(items: &mut Items<u8>) -> Option<bool> {
     let empty = items.is_empty();
     items.push(1).ok()?;

@@ -178,7 +178,7 @@ fn push_long(
     text.push_str(end)
 }
 
-/// A start, a part so many times, and an end.
+/// A start, a part a number of times, and an end.
 pub fn long_text(
     alloc: Global,
     start: &str,
@@ -252,7 +252,7 @@ fn the_deepest_term(rt: HostRuntime) {
     assert!(rt; depth_of_deepest(rt.alloc()) == Some((128, 256)));
 }
 
-/// A writer that takes at most so many bytes a write, and fails at its k-th.
+/// A writer that takes at most a number of bytes a write, and fails at its k-th.
 #[derive(Drop)]
 struct Failing {
     taken: Vec<u8>,
@@ -278,7 +278,7 @@ impl Write for Failing {
     }
 }
 
-/// Whether a writer that fails after so many bytes has that front of the text.
+/// Returns whether a writer that fails after a number of bytes has that front of the text.
 fn leaves_a_front(alloc: Global, term: &Term, text: &str, left: usize) -> bool {
     let mut out = Failing {
         taken: Vec::new(alloc),
@@ -293,7 +293,7 @@ fn leaves_a_front(alloc: Global, term: &Term, text: &str, left: usize) -> bool {
     failed && front
 }
 
-/// Whether the text of a term is this.
+/// Returns whether the text of a term is this.
 fn writes(alloc: Global, term: &Term, text: &str) -> bool {
     let mut whole = Vec::new(alloc);
     let written = write_term(term, &mut whole);
@@ -313,7 +313,7 @@ fn leaves_each_front(alloc: Global, term: &Term, text: &str) -> bool {
     true
 }
 
-/// Whether a term of a text is written as this text, and a fault leaves a front of it.
+/// Returns whether a term of a text is written as this text, and a fault leaves a front of it.
 fn is_written(alloc: Global, text: &str) -> bool {
     match read_term(alloc, text) {
         Ok((term, _)) => {
@@ -330,7 +330,7 @@ fn a_fault_leaves_a_front_of_the_text(rt: HostRuntime) {
     assert!(rt; is_written(rt.alloc(), "{a,'B',[<0.1.0>,#Tid<2>],<<1,2>>,-3}"));
 }
 
-/// Whether a writer that takes nothing is a fault.
+/// Returns whether a writer that takes nothing is a fault.
 fn is_stuck(alloc: Global) -> bool {
     let mut stuck = Failing {
         taken: Vec::new(alloc),

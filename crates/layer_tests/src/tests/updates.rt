@@ -1,4 +1,4 @@
-//! Values from outside: updates of one object, as rows of text. None stands for want of memory.
+//! Values from outside: updates of one object, as rows of text. `None` means out of memory.
 use counters::{
     CounterFault, ElementSpecs, Ops, apply_elements, apply_ops, is_default, keyed,
     read_element_specs, read_ops, start_counter, start_elements, update_counter, update_elements,
@@ -15,7 +15,7 @@ mod elements;
 mod refused;
 mod rows;
 
-/// Whether a call answers this, where `badarg` and `system_limit` are its refusals.
+/// Returns whether a call answers this, where `badarg` and `system_limit` are its refusals.
 fn is_told(outcome: &Result<Term, CounterFault>, wanted: &Term) -> bool {
     match outcome {
         Ok(answer) => *answer == *wanted,

@@ -85,7 +85,8 @@ impl Tally {
     }
 }
 
-/// Whether 5,000 random objects, each with a pattern and a specification, agree, and enough of them say something.
+/// Returns whether 5,000 random objects, each with a pattern and a specification, agree, and enough of them say
+/// something.
 fn agree(alloc: Global, seed: u64) -> bool {
     let mut tally = Tally {
         matched: 0,

@@ -7,7 +7,7 @@ fn read(alloc: Global, text: &str) -> Option<Term> {
     Some(read_term(alloc, text).ok()?.0)
 }
 
-/// Whether a key that was found is that of a text, or there is none and no text.
+/// Returns whether a key that was found is that of a text, or there is not one and no text.
 fn is_key(alloc: Global, found: Option<&Term>, wanted: Option<&'static str>) -> Option<bool> {
     match (found, wanted) {
         (Some(key), Some(text)) => Some(*key == read(alloc, text)?),
@@ -15,7 +15,7 @@ fn is_key(alloc: Global, found: Option<&Term>, wanted: Option<&'static str>) -> 
     }
 }
 
-/// A pattern, where the key stands, and the key that it binds.
+/// A pattern, the position of the key, and the key that it binds.
 type PatternRow = (&'static str, Position, Option<&'static str>);
 
 const PATTERNS: [PatternRow; 11] = [

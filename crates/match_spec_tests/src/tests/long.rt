@@ -31,7 +31,7 @@ fn many_numbers(alloc: Global) -> Option<Term> {
     Some(Term::Tuple(numbers))
 }
 
-/// Whether each value is the number of its place.
+/// Returns whether each value is the number of its place.
 fn are_numbered(values: &[Term]) -> bool {
     for (i, value) in values.iter().enumerate() {
         if *value != Term::Int(i as Integer) {

@@ -1,4 +1,5 @@
-// A plain reading of the rules over raw terms. It stands apart from the crate: no place, no compiled form, no shared code.
+// A plain reading of the rules over raw terms. It shares nothing with the crate: no place, no compiled form, no shared
+// code.
 use crate::tests::forms::{atom, copy};
 use ets_term::{Integer, Items, Term};
 use std::alloc::Global;

@@ -1,5 +1,5 @@
-// Want of memory. Run with each allocation refused in turn, by `.ci/refusals`: what is compiled or tried again is what it is at
-// once.
+// Out of memory. Run with each allocation refused in turn, by `.ci/refusals`: what is compiled or tried again is what
+// it is at once.
 use super::*;
 use term_text::{TextFault, read_term};
 

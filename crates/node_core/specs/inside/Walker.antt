@@ -1,4 +1,4 @@
--- What the parts of a walk among others' steps come to.
+-- What the parts of a traversal among the steps of others do.
 use Rattle.std.specs.Prelude.{◌≡◌, ◌≤◌, ◌<◌, ℕ, suc, Bool, true, false, List, [], ◌∷◌, ◌++◌, map, take, drop, filter, length, Option, Some, None, Result, Ok, Err, MatchOption, is_some, codes, slice_get}
 use Rattle.std.specs.List.{AllByRecursion, list_any}
 use Rattle.std.specs.Map.{keys_of}
@@ -28,7 +28,7 @@ use Rattle.node_core.specs.Woven.{is_step_of, replies_to, Given, AreTurns, fix, 
 abbrev pub is_there : ℕ → State → Bool
 is_there t s = is_some (table_at s.world.tables t)
 
--- a key from which the walk can go on
+-- a key from which the traversal can go on
 pub record IsFound (t : ℕ) (s : State) (key : Term) : Type 0 where
   pub slot : is_there t s ≡ true → list_any (same key) (keys_of (slots_in t s)) ≡ true
   pub shallow : is_too_deep key ≡ false
@@ -38,12 +38,12 @@ abbrev pub CanGoOn : ℕ → State → Option Term → Type 0
 CanGoOn t s call = MatchOption call (Unit {0}) (λ key. IsFound t s key)
 
 module _ (p t : ℕ) where
-  -- the walker's call: first, or next of a key
+  -- the call of the traversal: first, or next of a key
   abbrev pub call_of : Option Term → Step
   call_of None = first p t
   call_of (Some key) = next p t key
 
-  -- what the call answers: a key or the end
+  -- its result: a key or the end
   abbrev pub Finds : Option Term → State → Result (Option Term) WalkFault → Type 0
   Finds call s (Ok found) =
       (can_read p t s ≡ true) × step s (call_of call) (key_reply found) s × CanGoOn t s found
@@ -51,7 +51,7 @@ module _ (p t : ℕ) where
   Finds call s (Err fault.Memory) = Unit {0}
   Finds call s (Err _) = ⊥
 
-  -- one fix more of the walker
+  -- one more fix of the process
   abbrev pub Holds : State → Result (Unit {0}) WalkFault → State → Type 0
   Holds old (Ok done) new =
       step old (fix p t) true_reply new × (fixes_in p t new ≡ suc (fixes_in p t old))
@@ -62,21 +62,21 @@ module _ (p t : ℕ) where
       (can_read p t old ≡ true) × (fixes_in p t old < most_fixes) × (new ≡ old)
   Holds old (Err _) new = ⊥
 
-  -- one fix less, where the table may be read
+  -- one fix less, if the table may be read
   abbrev pub LetsGo : State → Bool → State → Type 0
   LetsGo old true new =
       (can_read p t old ≡ true) × step old (release p t) true_reply new
       × ((n : ℕ) → fixes_in p t old ≡ suc n → fixes_in p t new ≡ n)
   LetsGo old false new = (can_read p t old ≡ false) × (new ≡ old)
 
-  -- a run from a state on that is a walk from this call on, in a table that stays fixed
+  -- a run from a state on that is a traversal from this call on, in a table that stays fixed
   pub record Walking (call : Option Term) (keys : List Term) (old : State) (steps : List Step)
       (replies : List Reply) (new : State) : Type 0 where
     pub done : run old steps replies new
     pub answers : Walks p t call keys old steps replies new done
     pub held : StaysFixed t (states old steps replies new done)
 
-  -- such a walk was found whole, or it is whole with what comes from now on
+  -- such a traversal was exact before, or is exact with what comes from now on
   abbrev pub Leads : Option Term → List Term → State → List Step → List Reply → State → Type 0
   Leads None keys fixed steps replies now = Walking None keys fixed steps replies now
   Leads (Some key) keys fixed steps replies now =
@@ -84,7 +84,7 @@ module _ (p t : ℕ) where
       → Walking (Some key) further now more others end
       → Walking None (keys ++ key ∷ further) fixed (steps ++ more) (replies ++ others) end
 
-  -- the walk so far, where the last of its calls has found this
+  -- the traversal so far, when the last of its calls found this
   pub record Stands (old : State) (keys : List Term) (given : Given) (found : Option Term)
       (now : State) : Type 0 where
     pub fixed : State
@@ -101,7 +101,7 @@ module _ (p t : ℕ) where
     pub readable : can_read p t now ≡ true
     pub goes_on : CanGoOn t now found
 
-  -- a walk that stopped and left these steps, before the release
+  -- a traversal that stopped and left these steps, before the release
   pub record Halts (old : State) (limit : ℕ) (keys : List Term) (given : Given) (why : WalkFault)
       (left : List Step) (now : State) : Type 0 where
     pub done : List Step
@@ -116,7 +116,7 @@ module _ (p t : ℕ) where
         Reason p t why old limit keys given (fix p t ∷ done) left (true_reply ∷ replies) now
     pub fixes : is_there t now ≡ true → fixes_in p t now ≡ suc (fixes_in p t old)
 
-  -- ---- the same of the buckets
+  -- the same for the buckets:
   -- the fix is done
   abbrev pub IsHeld : State → State → Type 0
   IsHeld old new =
@@ -130,7 +130,7 @@ module _ (p t : ℕ) where
   LetsGoOn old true new = step_on_buckets old (release p t) true_reply new
   LetsGoOn old false new = new ≡ old
 
-  -- the fix is done, and of the steps of the walk all but those left
+  -- the fix is done, and of the steps of the traversal all but those left
   pub record Weaves (old : State) (keys : List Term) (given : Given) (left : List Step)
       (now : State) : Type 0 where
     pub done : List Step
@@ -138,7 +138,7 @@ module _ (p t : ℕ) where
     pub order : walk p t keys given ≡ done ++ left
     pub ran : run_on_buckets old (fix p t ∷ done) replies now
 
-  -- what the turn of a key comes to, from wherever the walk began
+  -- what the turn of a key does, wherever the traversal began
   abbrev pub TurnsTo : (keys : List Term) (given : Given) (key : Term) (was : State)
       (keys' : List Term) (given' : Given) → Result (Option Term) WalkFault → State → Type 0
   TurnsTo keys given key was keys' given' (Ok found) now =
@@ -151,7 +151,7 @@ module _ (p t : ℕ) where
       → Halts old limit keys' given' why left (seen now))
       × ((old : State) → Weaves old keys given [] was → Weaves old keys' given' left now)
 
-  -- what the whole walk comes to, before the release
+  -- what the whole traversal does, before the release
   abbrev pub EndsIn : (limit : ℕ) (was : State) (keys : List Term) (given : Given)
       → Result Walk WalkFault → State → Type 0
   EndsIn limit was keys given (Ok walk) now =
@@ -164,8 +164,8 @@ module _ (p t : ℕ) where
       → Halts old limit keys given why left (seen now))
       × ((old : State) → IsHeld old was → Weaves old keys given left now)
 
--- the steps handed in are done in order, none of them of this process: all, or those before one that is its own or that
--- memory was refused for
+-- the steps handed in are done in order, none of them of this process: all, or those before one that is its own or ran
+-- out of memory
 abbrev pub steps_of : Given → List Step
 steps_of given = map (λ g. g.1) given
 

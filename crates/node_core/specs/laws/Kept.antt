@@ -12,11 +12,11 @@ use Rattle.node_core.specs.declared.step.Step.{Step}
 use Rattle.node_core.specs.State.{State}
 use Rattle.node_core.specs.Machine.{step}
 
--- the slots of the table with this identifier; none where it is not there
+-- the slots of the table with this identifier; none if it does not exist
 abbrev pub slots_in : ℕ → State → List Slot
 slots_in t s = option_map_or (λ table. table.fixed.content.slots) (table_at s.world.tables t) []
 
--- whether it is there and some process fixes it
+-- whether it exists and some process fixes it
 abbrev pub is_fixed_in : ℕ → State → Bool
 is_fixed_in t s =
     option_map_or (λ table. is_fixed table.fixed.fixes) (table_at s.world.tables t) false
@@ -25,7 +25,7 @@ is_fixed_in t s =
 abbrev pub StaysFixed : ℕ → List State → Type 0
 StaysFixed t stretch = AllByRecursion (λ s. is_fixed_in t s ≡ true) stretch
 
--- where a table is fixed before and after a step, the keys of its slots before are among those after, in the same order
+-- if a table is fixed before and after a step, the keys of its slots before are among those after, in the same order
 abbrev pub StepsKeepKeys : Type 0
 StepsKeepKeys =
     (old new : State) (s : Step) (r : Reply) (t : ℕ) → step old s r new → is_fixed_in t old ≡ true

@@ -15,7 +15,8 @@ use Rattle.node_core.specs.Machine.{run}
 abbrev pub HasNoEnd : List Slot → Type 0
 HasNoEnd slots = AllByRecursion (λ key. is_atom (codes "$end_of_table") key ≡ false) (keys_of slots)
 
--- no two slots of one table have one key, none has the key '$end_of_table', and no two named tables have one name
+-- no two slots of one table have the same key, none has the key '$end_of_table', and no two named tables have the same
+-- name
 pub record IsSound (s : State) : Type 0 where
   pub keys : (t : ℕ) (table : Table) → table_at s.world.tables t ≡ Some table
       → HasDistinctKeys table.fixed.content.slots
@@ -26,13 +27,13 @@ pub record IsSound (s : State) : Type 0 where
       → table_at s.world.tables u ≡ Some other
       → one.head.named ≡ true → other.head.named ≡ true → one.head.name ≡ other.head.name → t ≡ u
 
--- so is the state after a run where the one before it is
+-- the state after a run is sound if the one before it is
 abbrev pub RunsStaySound : Type 0
 RunsStaySound =
     (old : State) (steps : List Step) (replies : List Reply) (new : State)
     → run old steps replies new → IsSound old → IsSound new
 
--- and so is each that a run reaches from the empty one
+-- so is each state that a run reaches from the empty one
 abbrev pub ReachedAreSound : Type 0
 ReachedAreSound =
     (limits : Limits) (steps : List Step) (replies : List Reply) (s : State)

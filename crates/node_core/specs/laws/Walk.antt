@@ -1,4 +1,4 @@
--- Whole walks (stdlib manual, module ets, safe_fixtable/2, first/1, next/2, first_lookup/1 and next_lookup/2), in a
+-- Exact traversals (stdlib manual, module ets, safe_fixtable/2, first/1, next/2, first_lookup/1 and next_lookup/2) in a
 -- run: its steps, replies and states.
 use Rattle.std.specs.Prelude.{◌≡◌, ℕ, ◌==◌, Bool, true, false, if◌then◌else◌, List, [], ◌∷◌, Option, Some, None, option_map, MatchOption, codes}
 use Rattle.std.specs.List.{AllByRecursion, IsDistinct, Contains}
@@ -30,15 +30,15 @@ states old (s ∷ steps) [] new done = absurd done
 abbrev pub is_table : State → ℕ → Term → Bool
 is_table s t term = option_map_or (λ u. u == t) (resolve s.world.tables term) false
 
--- a call of a walk by its name, of the two that ask the same: whether it asks for the objects too
+-- whether a call of a traversal, of the two with the same purpose, asks for the objects too, by its name
 abbrev pub walk_name : List ℕ → List ℕ → List ℕ → Option Bool
 walk_name name own lookup =
     if bytes_eq name own then Some false
     else if bytes_eq name lookup then Some true
     else None
 
--- what a call asks of the table for a walk: None is first, Some is next of this key; with it, whether it asks for the
--- objects too; the outer None is any other call
+-- what a call asks of the table for a traversal: None is first, Some is next of this key; with it, whether it asks for
+-- the objects too; the outer None is any other call
 abbrev pub walk_call : State → ℕ → List ℕ → List Term → Option (Option Term × Bool)
 walk_call s t name (term ∷ []) =
     if is_table s t term
@@ -52,24 +52,24 @@ walk_call s t name (term ∷ key ∷ []) =
     else None
 walk_call s t name _ = None
 
--- the same of a step, where this process asks
+-- the same for a step, if this process makes the call
 abbrev pub walk_step : State → ℕ → ℕ → Step → Option (Option Term × Bool)
 walk_step s p t (Ask q call) = if q == p then walk_call s t call.name call.args else None
 walk_step s p t _ = None
 
--- the reply is this key, or, where it was asked for the objects too, the key with some
+-- the reply is this key, or, if the call asks for the objects too, the key with some objects
 abbrev pub IsKey : Bool → Term → Reply → Type 0
 IsKey false key r = r ≡ Value key
 IsKey true key r = (objects : List Term) × (r ≡ Value (key_and_objects (key, objects)))
 
--- the reply is the next key, and the walk goes on from it; or it is the end, and no step is left
+-- the reply is the next key, and the traversal goes on from it; or it is the end, and no step is left
 abbrev pub Answers : Bool → Reply → List Step → List Term → (Term → List Term → Type 0) → Type 0
 Answers objects r steps [] Further = (r ≡ key_reply None) × (steps ≡ [])
 Answers objects r steps (key ∷ keys) Further = IsKey objects key r × Further key keys
 
 module _ (p t : ℕ) where
-  -- the calls of first and next, each with the objects or without, that the process makes on the table are, in order,
-  -- this one and next of each key that is answered
+  -- the calls of first and next, each with or without the objects, that the process makes on the table are, in order,
+  -- this one and next of each key that is replied
   abbrev pub Walks : Option Term → List Term → (old : State) (steps : List Step)
       (replies : List Reply) (new : State) → run old steps replies new → Type 0
   Walks call keys old [] [] new done = ⊥
@@ -87,7 +87,7 @@ pub record IsWhole (t : ℕ) (stretch : List State) (keys : List Term) : Type 0 
   pub all : (key : Term) → AllByRecursion (λ s. is_present (slots_in t s) key ≡ true) stretch
       → Contains keys key
 
--- in every run, each walk over a table that stays fixed, whoever fixes it, is whole, whatever others do meanwhile
+-- in every run, each traversal of a table that stays fixed, by any process, is exact, whatever others do
 abbrev pub WalksAreWhole : Type 0
 WalksAreWhole =
     (old : State) (steps : List Step) (replies : List Reply) (new : State)

@@ -13,7 +13,7 @@ use ets_term::{KeyHash, Term};
 use fixed_walk::Walked;
 use ownership::Head;
 
-/// What a call is to do with a table.
+/// What a call does with a table.
 #[derive(Clone, Copy)]
 pub enum Access {
     Read,
@@ -23,7 +23,7 @@ pub enum Access {
 impl<H: KeyHash + Copy + Drop> Node<H> {
     ghost use Rattle.node_core.specs.inside.Lending.{LendsTable, LendsUsable};
 
-    /// The table that a term names, where the process may read it.
+    /// Returns the table that a term names, if the process may read it.
     pub(crate) fn readable(&self, pid: u32, term: &Term) -> Option<&Walked<SplitRows<H>>>
         ensures { option_copied result ≡ usable_fixed Read self.now.world.tables pid term.now }
     {
@@ -35,7 +35,7 @@ impl<H: KeyHash + Copy + Drop> Node<H> {
         self.world.table(id)
     }
 
-    /// The table that a term names, where the process may use it so, for a change of it alone.
+    /// Borrows the table that a term names for a change, if the process may use it in this way.
     pub(crate) fn usable_mut(
         &mut self,
         access: Access,
@@ -56,7 +56,7 @@ impl<H: KeyHash + Copy + Drop> Node<H> {
         self.table_mut(id)
     }
 
-    /// The table with an identifier, for a change of it alone. What may then be due of it is looked for.
+    /// Borrows the table with an identifier for a change, and marks it dirty: it may have a pending step afterwards.
     pub(crate) fn table_mut(&mut self, id: u32) -> Option<&mut Walked<SplitRows<H>>>
         ensures* lends { sem 𝓛
             (LendsTable H.row H.KeyHash H.Clone ⟦<SplitRows<H> as Rows>⟧ self.entry id result) }
@@ -66,7 +66,7 @@ impl<H: KeyHash + Copy + Drop> Node<H> {
         self.world.table_mut(id)
     }
 
-    /// The identifier of the table that a term names, where the process may use it so.
+    /// Returns the identifier of the table that a term names, if the process may use it in this way.
     pub(crate) fn usable_id(&self, access: Access, pid: u32, term: &Term) -> Option<u32>
         ensures { result
             ≡ option_map (λ found. found.0) (usable access self.now.world.tables pid term.now) }

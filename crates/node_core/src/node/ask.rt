@@ -1,4 +1,4 @@
-// What a process asks.
+// Calls of a process.
 ghost use Rattle.std.specs.Prelude.{◌≡◌, IfOk, OnErr};
 ghost use Rattle.std.specs.List.{list_any};
 ghost use Rattle.ets_term.specs.Depth.{is_too_deep};
@@ -34,7 +34,7 @@ fn any_too_deep(terms: &[Term]) -> bool
     terms.iter().any(|term| is_too_deep(term))
 }
 
-/// Whether a term is too deep. Most arguments are leaves, which are told at once.
+/// Returns whether a term is too deep. Most arguments are leaves, which are answered at once.
 #[inline(always)]
 fn is_too_deep(term: &Term) -> bool
     ensures { result ≡ is_too_deep term.now }
@@ -46,7 +46,7 @@ fn is_too_deep(term: &Term) -> bool
     }
 }
 
-/// The reply of a call, or of its refusal.
+/// Returns the reply for the result of a call.
 pub fn told(call: Result<Reply, Refusal>) -> Result<Reply, AllocError>
     ensures { Told call result }
 {

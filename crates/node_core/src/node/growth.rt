@@ -1,4 +1,4 @@
-// Growing a table and readying its buckets.
+// Doubling the buckets of a table, and readying them.
 ghost use Rattle.std.specs.Prelude.{◌≡◌, IfOk, OnErr};
 ghost use Rattle.node_core.specs.rules.Growth.{in_table, Grows, Readies};
 

@@ -48,7 +48,7 @@ impl<H: KeyHash + Copy + Drop> Node<H> {
     }
 }
 
-/// The objects of an argument: a list has many, and any other term is the only one.
+/// Returns the objects of an argument: the elements of a list, or else the term itself.
 fn objects_in(argument: &Term) -> &[Term]
     ensures { result.now ≡ objects_in argument.now }
 {

@@ -80,7 +80,7 @@ impl<H: KeyHash + Copy + Drop> Node<H> {
     }
 }
 
-/// Whether a term could name a table.
+/// Returns whether a term can name a table.
 fn can_name(term: &Term) -> bool
     ensures { result ≡ names_form (out-Term term.now) }
 {

@@ -1,4 +1,4 @@
-// Processes: they enter, and they end.
+// The start and the end of processes.
 ghost use Rattle.std.specs.Prelude.{◌≡◌, IfOk, OnErr};
 ghost use Rattle.node_core.specs.Machine.{step};
 ghost use Rattle.node_core.specs.declared.step.Step.TheVariants.{Enrol, End};

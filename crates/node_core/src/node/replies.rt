@@ -13,14 +13,14 @@ use ownership::WorldFault;
 use std::alloc::{AllocError, Global};
 use table_ops::Refusal;
 
-/// The atom `true`.
+/// Returns the atom `true`.
 pub fn true_reply(alloc: Global) -> Reply
     ensures { result ≡ true_reply }
 {
     atom_reply(alloc, b"true")
 }
 
-/// The atom `true` or `false`.
+/// Returns the atom `true` or `false`.
 pub fn truth_reply(alloc: Global, truth: bool) -> Reply
     ensures { result ≡ truth_reply truth }
 {
@@ -31,7 +31,7 @@ pub fn truth_reply(alloc: Global, truth: bool) -> Reply
     }
 }
 
-/// The atom with this text, which is a short atom's.
+/// Returns the atom with this text, which must be short.
 pub fn atom_reply(alloc: Global, text: &[u8]) -> Reply
     requires text { IsAtomText text.now }
     requires short { length text.now ≤ 22 }
@@ -43,7 +43,7 @@ pub fn atom_reply(alloc: Global, text: &[u8]) -> Reply
     Reply::Value(Term::Atom(atom))
 }
 
-/// A list of copies of these objects.
+/// Returns a list of copies of these objects.
 pub fn list_reply(alloc: Global, objects: &[Term]) -> Result<Reply, AllocError>
     ensures { IfOk result (λ r. r ≡ list_reply objects.now) }
 {
@@ -51,7 +51,7 @@ pub fn list_reply(alloc: Global, objects: &[Term]) -> Result<Reply, AllocError>
     Ok(Reply::Value(Term::List(copies)))
 }
 
-/// The refusal of the world, as a calling method has it.
+/// Converts a refusal of the world into that of a call.
 pub fn refused(fault: WorldFault) -> Result<Reply, Refusal>
     ensures { result ≡ refused_as fault }
 {

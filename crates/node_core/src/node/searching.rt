@@ -1,4 +1,4 @@
-// Calls that search a table by a pattern or a specification.
+// Calls that search a table by a pattern or a match specification.
 ghost use Rattle.std.specs.Prelude.{◌≡◌, ◌<◌, ◌^◌, true, false, map, IfOk, OnOk, IsErrOf};
 ghost use Rattle.ets_term.specs.Data.{data_of};
 ghost use Rattle.match_spec.specs.Specifications.{is_pattern, is_spec};
@@ -107,7 +107,7 @@ impl<H: KeyHash + Copy + Drop> Node<H> {
     }
 }
 
-/// The pattern that an argument is.
+/// Compiles the pattern of an argument.
 fn pattern_of(alloc: Global, argument: &Term) -> Result<Pattern, Refusal>
     ensures same { IfOk result (λ pattern. pattern ≡ argument.now) }
     ensures good { OnOk result (is_pattern (data_of argument.now) ≡ true) }
@@ -121,7 +121,7 @@ fn pattern_of(alloc: Global, argument: &Term) -> Result<Pattern, Refusal>
     }
 }
 
-/// The specification that an argument is.
+/// Compiles the match specification of an argument.
 fn spec_of(alloc: Global, argument: &Term) -> Result<Spec, Refusal>
     ensures same { IfOk result (λ spec. spec ≡ argument.now) }
     ensures good { OnOk result (is_spec (data_of argument.now) ≡ true) }
@@ -135,7 +135,7 @@ fn spec_of(alloc: Global, argument: &Term) -> Result<Spec, Refusal>
     }
 }
 
-/// Deletes the objects that a pattern matches.
+/// Deletes the objects that match a pattern.
 fn delete_matching<R: Rows>(
     alloc: Global,
     table: &mut Walked<R>,
@@ -150,7 +150,7 @@ fn delete_matching<R: Rows>(
     Ok(done?)
 }
 
-/// Deletes the objects for which a specification gives `true`, and answers how many they were.
+/// Deletes the objects for which a match specification gives `true`, and returns their number.
 fn delete_chosen<R: Rows>(
     alloc: Global,
     table: &mut Walked<R>,
@@ -172,7 +172,7 @@ fn answers_reply(found: Items<Term>) -> Reply
     Reply::Value(Term::List(found))
 }
 
-/// A count of objects of a table, which an integer always holds.
+/// Returns the number of objects of a table as an integer, whose range always suffices.
 fn count_reply(count: usize) -> Reply
     requires { count < 2 ^ 32 }
     ensures { result ≡ count_reply count }

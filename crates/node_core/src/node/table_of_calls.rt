@@ -1,4 +1,4 @@
-// The table of calls: a name and its method, at most eight names a function, by number of arguments.
+// The table of calls: each name with its method, by number of arguments, with at most eight names in a function.
 ghost use Rattle.node_core.specs.Calls.{call, calls_of_none, calls_of_one, calls_of_two, other_calls_of_two, table_calls_of_two, calls_of_three, calls_of_four};
 ghost use Rattle.node_core.specs.inside.Refusals.{Comes};
 

@@ -1,4 +1,4 @@
-// Calls that make tables and let them go.
+// Calls that create and delete tables.
 ghost use Rattle.std.specs.Prelude.{◌≡◌, ◌≤◌, IfOk};
 ghost use Rattle.ownership.specs.Outcomes as outcomes;
 ghost use Rattle.ownership.specs.Tables as tables;
@@ -55,7 +55,7 @@ impl<H: KeyHash + Copy + Drop> Node<H> {
         }
     }
 
-    /// A table of these options, without objects.
+    /// Creates a table with these options, without objects.
     fn empty_table(&self, options: &NewOptions) -> Result<Walked<SplitRows<H>>, AllocError>
         requires { 1 ≤ options.now.keypos }
         ensures { IfOk result (λ table.
@@ -83,8 +83,8 @@ impl<H: KeyHash + Copy + Drop> Node<H> {
     }
 }
 
-/// The table enters the world. The index of what is due has room for it first, so that no later step wants memory for
-/// it.
+/// Adds the table to the world. The queue of pending tables gets capacity for it first, so that no later step needs
+/// memory for it.
 fn enter<H: KeyHash + Copy + Drop>(
     world: &mut World<SplitRows<H>>,
     due: &mut Identifiers,

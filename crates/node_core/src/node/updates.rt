@@ -60,7 +60,7 @@ impl<H: KeyHash + Copy + Drop> Node<H> {
     }
 }
 
-/// Does the operations that a term tells on the counters of a key's object.
+/// Applies the operations of a term to the counters of a key's object.
 fn count<R: Rows>(
     alloc: Global,
     table: &mut Walked<R>,
@@ -78,7 +78,8 @@ fn count<R: Rows>(
     answer
 }
 
-/// Writes the elements that a term tells into a key's object, or into the Default where there is one; whether it did.
+/// Writes the element values of a term into a key's object, or into the default if the key is missing. Returns whether
+/// it wrote.
 fn write<R: Rows>(
     alloc: Global,
     table: &mut Walked<R>,

@@ -1,4 +1,4 @@
-// What a walk among others' steps does to the table that it walks over.
+// What a traversal among the steps of others does to its table.
 ghost use Rattle.std.specs.Prelude.{◌≡◌, Some, option_copied, IsTrue};
 ghost use Rattle.fixed_walk.specs.Fixed.{FixesOnce};
 ghost use Rattle.fixed_walk.specs.laws.Walks.{key_told};
@@ -19,14 +19,14 @@ impl<H: KeyHash + Copy + Drop> Node<H> {
         self.alloc
     }
 
-    /// Whether the process lives, and the table with this identifier is there and may be read by it.
+    /// Returns whether the process lives, and may read the table with this identifier.
     fn can_read(&self, pid: u32, id: u32) -> bool
         ensures { result ≡ can_read pid id self.now }
     {
         self.world.lives(pid) && self.world.may_read(pid, id)
     }
 
-    /// One fix more of the table.
+    /// Fixes the table once more.
     pub(crate) fn hold(&mut self, pid: u32, id: u32) -> Result<(), WalkFault>
         ensures holds { Holds pid id (seen self.old) result (seen self.new) }
         ensures buckets { HoldsOn pid id self.old result self.new }
@@ -44,7 +44,7 @@ impl<H: KeyHash + Copy + Drop> Node<H> {
         }
     }
 
-    /// One fix less, where the process may read the table; whether it may. It takes no memory.
+    /// Releases one fix if the process may read the table, and returns whether it may. It takes no memory.
     pub(crate) fn let_go(&mut self, pid: u32, id: u32) -> bool
         ensures lets_go { LetsGo pid id (seen self.old) result (seen self.new) }
         ensures buckets { LetsGoOn pid id self.old result self.new }
@@ -59,7 +59,7 @@ impl<H: KeyHash + Copy + Drop> Node<H> {
         true
     }
 
-    /// The first key, or the key behind the last one; None at the end.
+    /// Returns the first key, or the key after the last one, or `None` at the end.
     pub(crate) fn key_behind(
         &self,
         pid: u32,

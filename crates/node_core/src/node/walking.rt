@@ -1,4 +1,4 @@
-// Calls that fix a table and walk over it.
+// Calls that fix a table and traverse it.
 ghost use Rattle.std.specs.Prelude.{◌≡◌, option_copied, option_map, IfOk};
 ghost use Rattle.std.specs.Map.Iter.{deref_pair};
 ghost use Rattle.node_core.specs.declared.node.access.Access.TheVariants.{Read};
@@ -96,7 +96,7 @@ impl<H: KeyHash + Copy + Drop> Node<H> {
     }
 }
 
-/// A key as an answer, or the end.
+/// Returns a key as a reply, or `'$end_of_table'`.
 fn key_reply(alloc: Global, key: Option<&Term>) -> Result<Reply, AllocError>
     ensures { IfOk result (λ r. r ≡ key_reply (option_copied key.entry)) }
 {
@@ -106,7 +106,7 @@ fn key_reply(alloc: Global, key: Option<&Term>) -> Result<Reply, AllocError>
     }
 }
 
-/// A key with its objects as an answer, or the end.
+/// Returns a key with its objects as a reply, or `'$end_of_table'`.
 fn slot_reply(alloc: Global, slot: Option<(&Term, &[Term])>) -> Result<Reply, AllocError>
     ensures { IfOk result (λ r. r ≡ slot_reply (option_map deref_pair slot.entry)) }
 {

@@ -1,4 +1,4 @@
--- Whether options have their form, whatever is read of them.
+-- Whether options have their form.
 use Rattle.std.specs.Prelude.{ℕ, pos, nat_le, ◌&&◌, ◌||◌, Bool, false, if◌then◌else◌, List, [], ◌∷◌, is_some, codes}
 use Rattle.std.specs.Str.{bytes_eq}
 use Rattle.std.specs.List.{list_all}

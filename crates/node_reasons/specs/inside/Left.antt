@@ -1,4 +1,4 @@
--- The only reason that is left where a rule is broken: the last rule of a call need not be tried.
+-- The last reason, when a rule is broken: the last rule of a call need not be tried.
 use Rattle.std.specs.Prelude.{◌≡◌, ℕ, ◌==◌, Bool, if◌then◌else◌, List, [], ◌∷◌, Option, Some, None, is_some, codes}
 use Rattle.std.specs.Option.{option_map_or}
 use Rattle.ets_term.specs.declared.term.Term.{Term, out-Term}
@@ -21,17 +21,17 @@ use Rattle.node_reasons.specs.declared.reason.Reason.{Reason}
 use Rattle.node_reasons.specs.Reasons.{argument, lacks}
 use Rattle.node_reasons.specs.inside.Forms.{are_options}
 
--- this reason is the one, where there is one
+-- this reason is the one, if there is one
 abbrev pub Names : Option Reason → Reason → Type 0
 Names None named = Unit {0}
 Names (Some reason) named = named ≡ reason
 
--- the table is there, and the process may use it so: then this
+-- the table exists, and the process may use it in this way, and then this
 abbrev pub head_left : Access → ℕ → Option Head → Reason → Reason
 head_left access p None rest = argument 1 rule.NoTable
 head_left access p (Some head) rest = if may access head p then rest else argument 1 (lacks access)
 
--- no rule stands behind that
+-- there are no further rules
 abbrev pub use_left : Access → ℕ → Option Head → Reason
 use_left access p head = head_left access p head (argument 1 (lacks access))
 
@@ -39,7 +39,7 @@ abbrev pub content_left : Access → ℕ → Option Head → Option Fixed → (C
 content_left access p head fixed rest =
     option_map_or (λ f. head_left access p head (rest f.content)) fixed (argument 1 rule.NoTable)
 
--- the table is the process's own: then this
+-- the table is the process's own, and then this
 abbrev pub own_left : ℕ → Option Head → Reason → Reason
 own_left p None rest = argument 1 rule.NoTable
 own_left p (Some head) rest = if owned_by head p then rest else argument 1 rule.NotOwner
@@ -68,7 +68,7 @@ making_left name options =
 abbrev pub informing_left : Term → Reason
 informing_left item = if is_some (item_of item) then argument 1 rule.NotAName else argument 2 rule.NotAnItem
 
--- the key has an object, where it needs one: then this
+-- the key has an object, if it needs one, and then this
 abbrev pub key_left : Bool → Reason → List Term → Reason
 key_left needed rest [] = if needed then argument 2 rule.NoKey else rest
 key_left needed rest (object ∷ objects) = rest
@@ -82,7 +82,7 @@ element_left key position needed content =
     position_left (position_of position)
     (key_left needed (argument 3 rule.NoElement) (objects_under content.slots key))
 
--- the table is a set, and the Default an object: then this
+-- the table is a set, and the default an object, and then this
 abbrev pub set_left : Term → Option Term → Content → Reason → Reason
 set_left key default content rest =
     if is_set content.kind

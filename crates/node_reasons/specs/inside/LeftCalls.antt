@@ -1,4 +1,4 @@
--- The only reason that is left of each call, row by row as the table of calls.
+-- The last reason of each call, row by row as in the table of calls.
 use Rattle.std.specs.Prelude.{ℕ, ◌+◌, Bool, true, false, if◌then◌else◌, List, [], ◌∷◌, Option, Some, None, option_map, position, codes}
 use Rattle.std.specs.Option.{option_map_or}
 use Rattle.std.specs.Str.{bytes_eq}
@@ -24,7 +24,7 @@ use Rattle.node_reasons.specs.inside.Left.{head_left, use_left, content_left, ow
 abbrev pub fixed_of : Option Table → Option Fixed
 fixed_of table = option_map (λ t. t.fixed) table
 
--- of a table as a call names it: the process may use it so, then this of its content
+-- of a table as a call names it: the process may use it in this way, and then this of its content
 abbrev pub table_left : Access → ℕ → Option Table → (Content → Reason) → Reason
 table_left access p table rest = content_left access p (head_of table) (fixed_of table) rest
 
@@ -99,7 +99,7 @@ module _ (w : World) (p : ℕ) (name : List ℕ) where
   call_left (x ∷ y ∷ z ∷ default ∷ []) = four_left p name (table_named w.tables x) y z default
   call_left _ = no_call name
 
--- the only reason that is left of a call that is past a limit, or badarg
+-- the last reason of a call that exceeds a limit, or is badarg
 abbrev pub refused_left : World → ℕ → Call → Bool → Reason
 refused_left w p asked limited = if limited then whole (limit_of asked.name) else call_left w p asked.name asked.args
 
@@ -113,7 +113,7 @@ asked_left w p asked limited =
 abbrev pub enrol_left : Bool → Reason
 enrol_left limited = if limited then whole rule.TooManyProcesses else whole rule.IsKnown
 
--- the only reason that is left of a step that is refused, by a limit or not
+-- the last reason of a refused step, with or without a limit
 abbrev pub left : World → Step → Bool → Reason
 left w (Enrol p) limited = enrol_left limited
 left w (End p) limited = whole rule.NoProcess
@@ -121,7 +121,7 @@ left w (Ask p asked) limited = asked_left w p asked limited
 left w (Grow t) limited = whole rule.NoTable
 left w (Ready t bucket) limited = whole rule.NoTable
 
--- none of an answer, the one of a limit, or the other
+-- none of a value, the one of a limit, or the other
 abbrev pub picked : Reason → Reason → Reply → Option Reason
 picked other limit (Value term) = None
 picked other limit Badarg = Some other

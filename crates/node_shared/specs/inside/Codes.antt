@@ -1,4 +1,4 @@
--- The codes of what contracts see: each stands for a list of numbers, so that a program's value can be seen as it.
+-- The codes of what contracts see: each is a list of numbers, so that a program's value can be seen as it.
 use Rattle.std.specs.Prelude.{ℕ, List, refl}
 use Rattle.std.specs.Coded.{Coded, code_by, coded×, coded_ℕ, coded_list}
 use Rattle.node_core.specs.State.{State}

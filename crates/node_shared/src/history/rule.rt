@@ -1,18 +1,18 @@
-//! The one word of a history, which stays 0, and the steps on it: an entry is added, entries are taken in, entries are
-//! given out.
+//! The one word of a history, which stays 0, and the atomic steps on it: an entry is added, entries are taken in,
+//! entries are given out.
 use crate::entry::Entry;
 use atomic_table::{Join, Play, Split, TableRule};
 use std::collections::LinkedList;
 
-/// What a seat knows: the keeper's the whole history, and each some entries that stand in it, in their order. No value
-/// of it is made.
+/// What a seat knows: the owner's seat the whole history, any other some of its entries, in order. No value of this
+/// type exists at run time.
 pub struct Known {
     pub keeps: bool,
     pub all: LinkedList<Entry>,
     pub own: LinkedList<Entry>,
 }
 
-/// The rule of the word: there is one history, which one seat at most has whole, and what a seat has stands in it.
+/// The rule of the word: there is one history, at most one seat has all of it, and what any seat has is in it.
 pub struct Order;
 
 impl TableRule<Entry, Known, ()> for Order {
@@ -23,7 +23,7 @@ impl TableRule<Entry, Known, ()> for Order {
     ghost first = { λ about. opening };
 }
 
-/// The keeper adds an entry: behind all, and behind its own.
+/// The owner adds an entry: it is the last of the history, and of the owner's own.
 pub struct Adds;
 
 impl Play<Entry, Known> for Adds {
@@ -32,7 +32,7 @@ impl Play<Entry, Known> for Adds {
     ghost then = { Added };
 }
 
-/// The keeper's own entries: another's are taken in, or they are given out.
+/// The owner's own entries: another seat's are taken in, or they are given out.
 pub struct Own;
 
 impl Split<Known> for Own {

@@ -1,9 +1,9 @@
-//! The one word of the numbers, and the two steps on it: a seat is split off, a number is drawn.
+//! The one word of the numbers, and the two atomic steps on it: a seat is split off, a number is drawn.
 use atomic_table::{Play, Split, TableRule};
 
-/// What a seat has seen. No value of it is made.
+/// What a seat has observed. No value of this type exists at run time.
 pub enum View {
-    /// The seat that the table was made with. So many seats are still to be split off it.
+    /// The seat that the table was made with. This number of seats can still be split off it.
     Opening(u64),
     /// It has no number yet.
     Undrawn,
@@ -33,7 +33,7 @@ impl Split<View> for SplitsOff {
     ghost right = { λ _. undrawn };
 }
 
-/// A number is drawn: the word is one more, and the number that stood there is the seat's.
+/// A number is drawn: the word is incremented, and the seat gets its previous value.
 pub struct Draws;
 
 impl Play<(), View> for Draws {

@@ -27,7 +27,7 @@ enum Event<'a> {
     Ready(u32, u32),
 }
 
-/// A step, and its reply: a term, a list in some order behind `~`, or `** badarg` and its like.
+/// A step, and its reply: a term, a list in some order after `~`, or `** badarg` and its like.
 type Row = (Event<'static>, &'static str);
 
 /// The step in which a process asks a call.
@@ -58,7 +58,7 @@ fn step(alloc: Global, event: Event) -> Result<Step, AllocError> {
     }
 }
 
-/// The items of a list. Any other term is a fault of the test, told as want of memory.
+/// The items of a list. Any other term is a fault of the test, reported as out of memory.
 fn items_of(term: Term) -> Result<Items<Term>, AllocError> {
     match term {
         Term::List(items) => Ok(items),
@@ -75,7 +75,7 @@ fn sorted(term: Term) -> Result<Vec<Term>, AllocError> {
     kept(items.sort(), items)
 }
 
-/// Whether a list has these items, in any order.
+/// Returns whether a list has these items, in any order.
 fn has_items(alloc: Global, value: &Term, wanted: &str) -> Result<bool, AllocError> {
     let items = sorted(value.try_clone(alloc)?)?;
     let same = are_told(alloc, items.as_slice(), wanted);
@@ -83,7 +83,7 @@ fn has_items(alloc: Global, value: &Term, wanted: &str) -> Result<bool, AllocErr
     same
 }
 
-/// Whether a text tells a list of these sorted items, in any order.
+/// Returns whether a text tells a list of these sorted items, in any order.
 fn are_told(alloc: Global, items: &[Term], text: &str) -> Result<bool, AllocError> {
     let told = sorted(term(alloc, text)?)?;
     let same = items == told.as_slice();
@@ -91,7 +91,7 @@ fn are_told(alloc: Global, items: &[Term], text: &str) -> Result<bool, AllocErro
     Ok(same)
 }
 
-/// Whether this is the reply that is wanted.
+/// Returns whether this is the reply that is wanted.
 fn is(alloc: Global, reply: &Reply, wanted: &str) -> Result<bool, AllocError> {
     match reply {
         Reply::Value(value) => match wanted.strip_prefix("~") {
@@ -104,7 +104,7 @@ fn is(alloc: Global, reply: &Reply, wanted: &str) -> Result<bool, AllocError> {
     }
 }
 
-/// Whether the step is answered so.
+/// Returns whether the step is answered so.
 fn does<H: KeyHash + Copy + Drop>(
     alloc: Global,
     node: &mut Node<H>,
@@ -157,7 +157,7 @@ fn wrong_by<H: KeyHash + Copy + Drop>(
 }
 
 /// The place of the first row that a new node with these limits answers otherwise, by a hash that spreads keys or by
-/// the one that does not.
+/// one that does not.
 fn wrong_within(alloc: Global, limits: Limits, rows: &[Row]) -> Result<Option<usize>, AllocError> {
     match wrong_by(alloc, limits, Fnv, rows)? {
         Some(place) => Ok(Some(place)),

@@ -1,12 +1,12 @@
 // Terms as the tests write them: `{a,-1}`, `[x,[]]`, `#7` for an identifier, `<7` for a pid, `@7` for lists in lists,
 // seven deep. An atom is any other word, without quotes. A text that tells no term is a fault of its test, which then
-// fails as for want of memory.
+// fails as if memory ran out.
 use crate::tests::kept;
 use ets_term::{Atom, Integer, Items, Term};
 use std::alloc::{AllocError, Global};
 use std::mem;
 
-/// What is read so far: the terms before each sign that is open, those behind the last one, and the word that goes on.
+/// What is read so far: the terms before each sign that is open, those after the last one, and the word that goes on.
 #[derive(Drop)]
 struct Reader {
     alloc: Global,
@@ -90,7 +90,7 @@ pub fn term(alloc: Global, text: &str) -> Result<Term, AllocError> {
     last.ok_or(AllocError)
 }
 
-/// Whether a text tells this term.
+/// Returns whether a text tells this term.
 pub fn is_told(alloc: Global, value: &Term, text: &str) -> Result<bool, AllocError> {
     let told = term(alloc, text)?;
     let same = *value == told;
@@ -121,7 +121,7 @@ fn atom(alloc: Global, word: &str) -> Result<Term, AllocError> {
     }
 }
 
-/// The number behind this sign.
+/// The number after this sign.
 fn number(word: &str, sign: &str) -> Option<u32> {
     word.strip_prefix(sign)?.parse::<u32>().ok()
 }

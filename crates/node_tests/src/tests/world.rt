@@ -211,7 +211,7 @@ fn answer(alloc: Global, world: &mut Tables, event: Event) -> Result<Term, World
     }
 }
 
-/// How a refusal is told.
+/// The text of a refusal.
 fn refusal(fault: &WorldFault) -> &'static str {
     match fault {
         WorldFault::Badarg => "** badarg",
@@ -221,7 +221,7 @@ fn refusal(fault: &WorldFault) -> &'static str {
     }
 }
 
-/// Whether a call is answered so.
+/// Returns whether a call is answered so.
 fn does(alloc: Global, world: &mut Tables, event: Event, wanted: &str) -> Result<bool, AllocError> {
     match answer(alloc, world, event) {
         Ok(answer) => {

@@ -1,10 +1,10 @@
--- How a place goes on behind one byte more.
+-- How a lexical state advances by one byte.
 use Rattle.std.specs.Prelude.{ℕ, ◌||◌, ◌==◌, if◌then◌else◌}
 use Rattle.std.specs.Str.{byte}
 use Rattle.script_reasons.specs.declared.place.Place.{Place}
 use Rattle.script_reasons.specs.Places.{is_quoted, past, level}
 
--- a place behind one byte more
+-- a state after one more byte
 abbrev pub passed : Place → ℕ → Place
 passed place b = if is_quoted place.quoting
     then record place { quoting = past place.quoting b }

@@ -4,8 +4,8 @@ use ets_script::{request, settings};
 use node_core::Limits;
 use std::alloc::Global;
 
-/// Whether there are threads, whether the hash is the one for all keys, and the most objects, as these words ask; or
-/// the kind of the refusal.
+/// Returns whether there are threads, whether the hash is the one for all keys, and the most objects, as these words
+/// ask; or the kind of the refusal.
 fn asked(alloc: Global, words: &[&str]) -> Result<(bool, bool, u32), ErrorKind> {
     match settings(alloc, words) {
         Ok(settings) => Ok((settings.threads, settings.same, settings.objects)),

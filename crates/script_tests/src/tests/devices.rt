@@ -46,7 +46,7 @@ impl Seen {
         }
     }
 
-    /// Whether so many bytes were written, and all of them flushed; before a read that failed, too.
+    /// Returns whether a number of bytes were written, and all of them flushed; before a read that failed, too.
     pub fn is_all_flushed(&self, count: usize) -> bool {
         self.written.get() == count
             && self.flushed.get() == count

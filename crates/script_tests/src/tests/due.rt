@@ -1,4 +1,4 @@
-//! What is due of tables is done behind calls, two steps at most, and behind nothing else.
+//! Pending growth steps run after calls, two at most, and after nothing else.
 use super::devices::{GOOD, Seen, Source, Target};
 use ets_script::{NodeSettings, Streams, run_script};
 use ets_term::Fnv;
@@ -6,7 +6,7 @@ use node_core::{Limits, Step};
 use std::alloc::{AllocError, Global};
 use std::test::Fail;
 
-/// What is due of the node that a script leaves.
+/// The pending step of the node that a script leaves.
 #[derive(Clone, Copy, PartialEq, Eq)]
 enum Due {
     Nothing,
@@ -17,7 +17,7 @@ enum Due {
     Fault,
 }
 
-/// What is due of a node.
+/// The pending step of a node.
 fn kind(step: Option<Step>) -> Due {
     match step {
         None => Due::Nothing,
@@ -72,7 +72,7 @@ const NINE: &str =
 const FORTY: &str =
     "p insert(t,[{1},{2},{3},{4},{5},{6},{7},{8},{9},{10},{11},{12},{13},{14},{15},{16},{17},{18},{19},{20},{21},{22},{23},{24},{25},{26},{27},{28},{29},{30},{31},{32},{33},{34},{35},{36},{37},{38},{39},{40}])\n";
 
-/// Lines behind a new table, what follows them, and what is due then.
+/// Lines after a new table, what follows them, and the step that is pending then.
 const ROWS: [(&str, &str, Due); 12] = [
     ("", "", Due::Nothing),
     (NINE, "", Due::Bucket(3)),

@@ -14,7 +14,7 @@ fn by(devices: Devices) -> Run {
     Run { devices, ..usual() }
 }
 
-/// Whether the whole script is answered, however few bytes a read gives and a write takes.
+/// Returns whether the whole script is answered, however few bytes a read gives and a write takes.
 fn is_answered_slowly(alloc: Global) -> bool {
     for most_read in [1, 3, 8, 31] {
         for most_written in [1, 3, 8, 31] {
@@ -36,8 +36,8 @@ fn slow_devices(rt: HostRuntime) {
     assert!(rt; is_answered_slowly(rt.alloc()));
 }
 
-/// Whether the lines that came whole before a failing read are answered, and nothing else, when reads give so many
-/// bytes.
+/// Returns whether the lines that came whole before a failing read are answered, and nothing else, when reads give a
+/// number bytes.
 fn answers_whole_lines(alloc: Global, most_read: usize) -> bool {
     for good_reads in 0..=10 {
         let lines = most_read.saturating_mul(good_reads as usize) / 8;
@@ -60,8 +60,8 @@ fn failing_reads(rt: HostRuntime) {
     assert!(rt; answers_whole_lines(rt.alloc(), 3));
 }
 
-/// Whether a front of the answers went out before a failing write, when writes take so many bytes, of lines that come
-/// one a read.
+/// Returns whether a front of the answers went out before a failing write, when writes take a number of bytes, of lines
+/// that come one a read.
 fn answers_a_front(alloc: Global, most_written: usize) -> bool {
     for good_writes in 0..4 {
         let run = by(Devices {
@@ -100,7 +100,7 @@ fn stuck_writers(rt: HostRuntime) {
     assert!(rt; is_run(rt.alloc(), &unflushed, SCRIPT, b"", End::Write));
 }
 
-/// How a script ends that may make so many reads, of a line each.
+/// How a script ends that may make a number of reads, of a line each.
 fn ends_within(alloc: Global, reads: u32, end: End) -> bool {
     let devices = Devices {
         most_read: 8,
@@ -120,7 +120,7 @@ fn the_last_read_must_find_the_end(rt: HostRuntime) {
     assert!(rt; ends_within(rt.alloc(), 5, End::Whole));
 }
 
-/// So many lines of eight bytes, whose answers have ten.
+/// A number of lines of eight bytes, whose answers have ten.
 const LINES: u32 = 120;
 
 fn repeated(alloc: Global, line: &[u8]) -> Result<Vec<u8>, AllocError> {
@@ -131,7 +131,7 @@ fn repeated(alloc: Global, line: &[u8]) -> Result<Vec<u8>, AllocError> {
     Ok(text)
 }
 
-/// Devices that give a line a read, and of which a read or a write fails behind so many, as the end says.
+/// Devices that give a line a read, and of which a read or a write fails after a number of them, as the end says.
 fn failing(end: End, lines: u32) -> Devices {
     let slow = Devices {
         most_read: 8,
@@ -149,7 +149,7 @@ fn failing(end: End, lines: u32) -> Devices {
     }
 }
 
-/// The first number of lines behind which the device fails, and the answers to them are not what went out.
+/// The first number of lines after which the device fails, and the answers to them are not what went out.
 fn wrong_front(alloc: Global, script: &[u8], answers: &[u8], end: End) -> Option<u32> {
     for lines in 0..LINES {
         let front = &answers[..answers.len().min(10 * lines as usize)];

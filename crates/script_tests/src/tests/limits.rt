@@ -1,4 +1,4 @@
-//! Limits, and that the script goes on behind a refusal.
+//! Limits, and that the script goes on after a refusal.
 use super::{Run, answered, usual};
 use node_core::Limits;
 

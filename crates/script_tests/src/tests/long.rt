@@ -6,7 +6,7 @@ use node_core::Limits;
 use std::alloc::{AllocError, Global};
 use std::test::Fail;
 
-/// Whether a line of so many letters with this end, and one behind it, are answered so.
+/// Returns whether a line of a number of letters with this end, and one after it, are answered so.
 fn is_long_line(
     alloc: Global,
     run: &Run,
@@ -61,7 +61,8 @@ fn long_lines_in_parts(rt: HostRuntime) -> Result<(), Fail> {
     Ok(())
 }
 
-/// Whether a line is answered before the next read, where the first brought it and so many letters of a further line.
+/// Returns whether a line is answered before the next read, where the first brought it and a number of letters of a
+/// further line.
 fn is_answered_first(alloc: Global, letters: usize) -> Result<bool, AllocError> {
     let script = with_repeats(alloc, b"spawn p\n", b"a", letters, b"")?;
     let devices = Devices {
@@ -78,7 +79,7 @@ fn answers_go_out_within_a_long_line(rt: HostRuntime) -> Result<(), Fail> {
     Ok(())
 }
 
-/// A text, so many times one more, and an end.
+/// A text, a number of times one more, and an end.
 fn with_repeats(
     alloc: Global,
     front: &[u8],
@@ -94,7 +95,7 @@ fn with_repeats(
     Ok(text)
 }
 
-/// Whether a binary of so many bytes is stored and found.
+/// Returns whether a binary of a number of bytes is stored and found.
 fn is_long_binary(alloc: Global, bytes: usize) -> Result<bool, AllocError> {
     let script = with_repeats(
         alloc,
@@ -125,7 +126,7 @@ fn long_texts_in_quotes(rt: HostRuntime) -> Result<(), Fail> {
     Ok(())
 }
 
-/// Whether a script of so many lines is answered, of which each read gives one byte.
+/// Returns whether a script of a number of lines is answered, of which each read gives one byte.
 fn is_read_by_bytes(alloc: Global, lines: usize) -> Result<bool, AllocError> {
     let script = with_repeats(alloc, b"spawn p\n", b"spawn p\n", lines, b"")?;
     let answers = with_repeats(alloc, b"<0.0.0>\n", b"** badarg\n", lines, b"")?;
@@ -160,7 +161,7 @@ fn add_spawn(
     answers.extend_from_slice(format!(in alloc; "<0.{number}.0>\n")?.as_bytes())
 }
 
-/// Whether so many names are spawned, and one more is past the limit.
+/// Returns whether a number of names are spawned, and one more is past the limit.
 fn are_names(alloc: Global, count: u32) -> Result<bool, AllocError> {
     let mut script = Vec::new(alloc);
     let mut answers = Vec::new(alloc);

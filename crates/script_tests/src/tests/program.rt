@@ -36,7 +36,7 @@ fn status(alloc: Global, devices: &Devices, words: &[u8]) -> io::Result<(u8, boo
     Ok((status, errors.as_slice() == words))
 }
 
-/// Whether a fault is told in these words.
+/// Returns whether a fault is reported in these words.
 fn is_told(alloc: Global, fault: &ScriptFault, words: &str) -> Result<bool, AllocError> {
     Ok(format!(in alloc; "{fault}")?.as_str() == words)
 }

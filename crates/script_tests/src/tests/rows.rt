@@ -1,4 +1,4 @@
-//! Scripts with their answers: what the calls do is told in docs/calls.md.
+//! Scripts with their answers: what the calls do is in docs/calls.md.
 use super::{answered, usual};
 
 #[test]

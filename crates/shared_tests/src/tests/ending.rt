@@ -1,4 +1,5 @@
-// Calls after the end of their process, with a hash that is the same for all keys, while another thread does what is due.
+// Calls after the end of their process, with a hash that is the same for all keys, while another thread runs pending
+// steps.
 ghost use Rattle.std.specs.Prelude.{◌≡◌};
 
 use super::keeper::worked;
@@ -41,7 +42,8 @@ fn ended<L: Ledger + Send + Sync, R: Threads + Wait + Sync>(
     worked(rt, alloc, shared, work)
 }
 
-/// Whether the process is let in, asks three calls and ends, and all that it asks then has the reply `NoProcess`.
+/// Returns whether the process is let in, asks three calls and ends, and all that it asks then has the reply
+/// `NoProcess`.
 fn is_silent(own: &[&Entry]) -> bool {
     let is_refused = |entry: &Entry| matches!(entry.reply, Reply::NoProcess);
     own.len() == 8

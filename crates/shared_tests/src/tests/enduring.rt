@@ -17,8 +17,8 @@ const JOBS: u32 = 20_000;
 /// From this job on, clients of even numbers have ended.
 const LAST: u32 = 15_000;
 
-/// A job of a client: at first it makes its table, with its neighbour as the heir; then it writes to both tables, reads the neighbour's,
-/// and takes its messages, in turn.
+/// A job of a client: at first it makes its table, with its neighbour as the heir; then it writes to both tables, reads
+/// the neighbour's, and takes its messages, in turn.
 fn job(alloc: Global, own: u32, number: u32) -> Result<Job, Fail> {
     if number == LAST && own % 2 == 0 {
         return Ok(Job::End);
@@ -88,7 +88,7 @@ fn steps_of_eight<L: Ledger + Send + Sync, R: Threads + Wait + Sync>(
     Ok(transcript.entries.len())
 }
 
-/// Whether each of two rounds has all steps of the clients, and due ones.
+/// Returns whether each of two rounds has all steps of the clients, and due ones.
 fn are_two_whole<R: Threads + Wait + Sync>(rt: &R, alloc: Global) -> Result<bool, Fail> {
     for _ in 0..2 {
         let steps = steps_of_eight::<Brand, R>(rt, alloc, Blank::new(9))?;

@@ -28,13 +28,13 @@ fn ask<L: Ledger>(
     Ok(())
 }
 
-/// Whether four steps are due, and the journal then has seven entries.
+/// Returns whether four steps are pending, and the journal then has seven entries.
 fn is_tended<L: Ledger>(book: &mut Book<L, Fnv>) -> Result<bool, AllocError> {
     let tended = book.tend()? && book.tend()? && book.tend()? && book.tend()?;
     Ok(tended && !book.tend()? && book.journal().len() == 7)
 }
 
-/// Whether it is so of a table that got nine objects.
+/// Returns whether it is so of a table that got nine objects.
 fn is_grown<L: Ledger>(alloc: Global, book: &mut Book<L, Fnv>) -> Result<bool, Fail> {
     let (mut share, _reply) = book.join(0).map_err(|_| "join")?;
     ask(alloc, book, &mut share, "new", "[t,[named_table]]")?;

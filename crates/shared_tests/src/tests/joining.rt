@@ -1,4 +1,4 @@
-// Numbers are opened, a process is let in once and up to the limit, and one that is missing at the end is told.
+// Numbers are opened, a process is let in once and up to the limit, and one that is missing at the end is reported.
 ghost use Rattle.std.specs.Prelude.{◌≡◌};
 
 use super::{joined, limits, two_seats};

@@ -1,4 +1,4 @@
-// Clients that work while another thread does what is due.
+// Clients that work while another thread runs pending steps.
 ghost use Rattle.std.specs.Thread.{IsSync};
 
 use super::done;
@@ -22,7 +22,7 @@ impl Gate for Open {
     fn after(&self, _client: usize, _call: usize) {}
 }
 
-/// Does what is due again and again, and once more when the others are through.
+/// Runs pending steps until the others are through, and once more then.
 fn keep_until<L: Ledger, H: KeyHash + Copy + Drop, R: Wait>(
     rt: &R,
     shared: &Shared<L, H>,
@@ -38,7 +38,7 @@ fn keep_until<L: Ledger, H: KeyHash + Copy + Drop, R: Wait>(
     }
 }
 
-/// The clients, after all their jobs. What is due then is done, too.
+/// The clients, after all their jobs. The steps that are pending then are run, too.
 pub(super) fn worked<
     L: Ledger + Send + Sync,
     H: KeyHash + Copy + Drop + Send + Sync,
@@ -53,7 +53,7 @@ pub(super) fn worked<
     done(alloc, beside(rt, alloc, shared, work, &are_through)?)
 }
 
-/// What came of the clients. Another thread does what is due until they are through.
+/// What came of the clients. Another thread runs pending steps until they are through.
 fn beside<
     L: Ledger + Send + Sync,
     H: KeyHash + Copy + Drop + Send + Sync,

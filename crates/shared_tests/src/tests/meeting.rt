@@ -1,4 +1,5 @@
-// Two clients run at once: the first call of each waits until the other is at its own, and a later one until a reply is there.
+// Two clients run at once: the first call of each waits until the other is at its own, and a later one until a reply is
+// there.
 ghost use Rattle.std.specs.Prelude.{◌≡◌};
 
 use super::{asks, call, done, entries_of, joined, limits};
@@ -85,7 +86,7 @@ fn reader_and_writer<L: Ledger, R: Wait>(
     Ok(vec![in alloc; (reader, reads), (writer, writes)]?)
 }
 
-/// Whether the last reply to the client is this term.
+/// Returns whether the last reply to the client is this term.
 fn is_last<L: Ledger>(alloc: Global, client: &Client<L>, wanted: &str) -> Result<bool, Fail> {
     let (wanted, _) = read_term(alloc, wanted).map_err(|_| "a term")?;
     match client.entries().last() {

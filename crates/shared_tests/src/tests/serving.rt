@@ -1,4 +1,4 @@
-// A server does what it is asked, and what is due, and threads may ask it at once.
+// A server does what it is asked, and pending steps, and threads may ask it at once.
 ghost use Rattle.std.specs.Prelude.{◌≡◌};
 ghost use Rattle.std.specs.Thread.{IsSync};
 
@@ -34,7 +34,7 @@ fn fill<B: Room, R: Wait>(
     Ok(())
 }
 
-/// Whether the process asks in vain once it has ended.
+/// Returns whether the process asks in vain once it has ended.
 fn is_silent<B: Room, R: Wait>(
     rt: &R,
     alloc: Global,
@@ -46,7 +46,8 @@ fn is_silent<B: Room, R: Wait>(
     Ok(matches!(late, Reply::NoProcess))
 }
 
-/// Whether four steps are due behind nine insertions, three turns leave one, and a process that has ended asks in vain.
+/// Returns whether four steps are pending after nine insertions, three turns leave one, and a process that has ended
+/// asks in vain.
 fn is_asked<B: Room, R: Wait>(
     rt: &R,
     alloc: Global,
@@ -59,7 +60,7 @@ fn is_asked<B: Room, R: Wait>(
     Ok(kept && is_silent(rt, alloc, server, &mut caller)?)
 }
 
-/// Whether it is so of a server with these limits.
+/// Returns whether it is so of a server with these limits.
 fn is_served<B: Room, R: Wait>(
     rt: &R,
     alloc: Global,

@@ -60,7 +60,7 @@ fn answer<R: Rows>(alloc: Global, table: &mut Table<R>, step: Step) -> Integer {
     change(alloc, table, step).unwrap_or(MEMORY)
 }
 
-/// Whether each step has its answer.
+/// Returns whether each step has its answer.
 fn runs<R: Rows>(alloc: Global, table: &mut Table<R>, steps: &[(Step, Integer)]) -> bool {
     for (step, wanted) in steps {
         if answer(alloc, table, *step) != *wanted {
@@ -85,7 +85,7 @@ fn same(alloc: Global, kind: Kind, keypos: u32, limit: u32) -> Option<Table<Spli
     Some(Table::new(alloc, rows, kind, keypos.max(1), limit))
 }
 
-/// A table, by its kind, where the key stands and how many objects it may have; and steps on it, with their answers.
+/// A table, by its kind, the position of the key and how many objects it may have; and steps on it, with their answers.
 type Life = (Kind, u32, u32, &'static [(Step, Integer)]);
 
 fn plain_runs(alloc: Global, life: Life) -> bool {

@@ -65,7 +65,7 @@ fn succeeds<R: Rows>(alloc: Global, table: &mut Walked<R>, key: Integer) -> Opti
     )
 }
 
-/// Whether the calls on one key succeed for each of so many keys, while the table grows.
+/// Returns whether the calls on one key succeed for each of a number of keys, while the table grows.
 fn all_succeed<R: Rows>(alloc: Global, table: &mut Walked<R>, keys: u32) -> Option<bool> {
     for key in 0..keys {
         if !succeeds(alloc, table, Integer::from(key))? {
@@ -76,7 +76,7 @@ fn all_succeed<R: Rows>(alloc: Global, table: &mut Walked<R>, keys: u32) -> Opti
     Some(true)
 }
 
-/// Whether so many processes fix the table, and release it.
+/// Returns whether a number of processes fix the table, and release it.
 fn fix_and_release<R: Rows>(table: &mut Walked<R>, processes: u32) -> bool {
     for pid in 0..processes {
         if table.fix(pid).is_err() {
@@ -92,7 +92,7 @@ fn fix_and_release<R: Rows>(table: &mut Walked<R>, processes: u32) -> bool {
     !table.is_fixed()
 }
 
-/// How many objects there are; None where memory is refused.
+/// How many objects there are; None if memory runs out.
 fn count_all<R: Rows>(table: &Walked<R>) -> Option<usize> {
     let objects = table.objects().ok()?;
     let count = objects.len();
@@ -100,7 +100,7 @@ fn count_all<R: Rows>(table: &Walked<R>) -> Option<usize> {
     Some(count)
 }
 
-/// Whether the calls on the whole table succeed.
+/// Returns whether the calls on the whole table succeed.
 fn whole_table<R: Rows>(table: &mut Walked<R>, keys: usize) -> bool {
     let all = count_all(table) == Some(keys) && table.size() == keys;
     table.delete_all();

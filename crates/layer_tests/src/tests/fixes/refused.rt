@@ -1,4 +1,4 @@
-// Want of memory. Run with each allocation refused in turn, by `.ci/refusals`: a call that was refused memory has
+// Out of memory. Run with each allocation refused in turn, by `.ci/refusals`: a call that ran out of memory has
 // changed nothing, neither keys nor their order nor fixes, and answers when it is called again as if it had been called
 // once.
 use super::*;
@@ -171,7 +171,7 @@ fn answer<R: Rows>(alloc: Global, table: &mut Walked<R>, step: Step) -> Integer 
     }
 }
 
-/// A number for a key of a walk, with its objects, behind those before.
+/// A number for a key of a walk, with its objects, after those before.
 fn mixed<R: Rows>(table: &Walked<R>, told: Integer, key: &Term) -> Integer {
     let own = number_of(key);
     let objects = table.lookup(key).len() as Integer;
@@ -201,8 +201,8 @@ fn state<R: Rows>(table: &Walked<R>) -> (Integer, usize, u32, bool) {
     )
 }
 
-/// Whether a call has its answer, at once or, where it was refused memory and has changed nothing, when it is called
-/// again.
+/// Returns whether a call has its answer, at once or, where it was refused memory and has changed nothing, when it is
+/// called again.
 fn does_again<R: Rows>(alloc: Global, table: &mut Walked<R>, step: Step, wanted: Integer) -> bool {
     let before = state(table);
     let first = answer(alloc, table, step);
@@ -283,7 +283,7 @@ fn one_bucket_again(alloc: Global, kind: Kind) -> Option<Walked<SplitRows<AllSam
     }
 }
 
-/// Whether the calls are answered so over split rows, whose buckets then double.
+/// Returns whether the calls are answered so over split rows, whose buckets then double.
 fn holds_on_split_rows(alloc: Global) -> Option<bool> {
     let mut table = one_bucket_again(alloc, Kind::Bag)?;
     let life = wrong_again(alloc, &mut table, &LIFE);

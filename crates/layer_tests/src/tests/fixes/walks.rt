@@ -6,7 +6,8 @@ fn stirred(seed: u64) -> u64 {
         .wrapping_add(1_442_695_040_888_963_407)
 }
 
-/// What the table should have beside a walk. Others put in and delete as many keys; it begins with the lower half.
+/// What the table should have next to a traversal. Others put in and delete as many keys; it begins with the lower
+/// half.
 #[derive(Drop)]
 struct Beside {
     keys: u32,
@@ -52,7 +53,7 @@ impl Beside {
         }
     }
 
-    /// Whether the walk came to a key that has values, for the first time.
+    /// Returns whether the walk came to a key that has values, for the first time.
     fn comes(&mut self, key: u32) -> bool {
         let present = self.values(key) != 0;
         match self.came.get_mut(key as usize) {
@@ -157,7 +158,7 @@ fn meddle<R: Rows>(
     }
 }
 
-/// Ten steps, and the seed behind them; None where one fails.
+/// Ten steps, and the seed after them; None where one fails.
 fn meddle_often<R: Rows>(
     alloc: Global,
     table: &mut Walked<R>,
@@ -174,7 +175,7 @@ fn meddle_often<R: Rows>(
     Some(seed)
 }
 
-/// The key behind one, or the first; None at the end.
+/// The key after one, or the first; None at the end.
 fn next<R: Rows>(table: &Walked<R>, last: Option<u32>) -> Result<Option<u32>, Badarg> {
     let found = match last {
         None => table.first(),
@@ -209,7 +210,7 @@ fn walked<R: Rows>(alloc: Global, table: &mut Walked<R>, beside: &mut Beside) ->
     None
 }
 
-/// Whether each key has as many objects as it should.
+/// Returns whether each key has as many objects as it should.
 fn agrees<R: Rows>(table: &Walked<R>, beside: &Beside) -> bool {
     for key in 0..beside.keys {
         if count_of(table, Integer::from(key)) != beside.values(key).count_ones() as usize {
@@ -219,7 +220,7 @@ fn agrees<R: Rows>(table: &Walked<R>, beside: &Beside) -> bool {
     true
 }
 
-/// Whether held slots stand until the last of two fixes goes, and then none.
+/// Returns whether held slots stand until the last of two fixes goes, and then none.
 fn is_purged<R: Rows>(table: &mut Walked<R>, present: usize) -> bool {
     let held = table.slots() > present;
     table.release(8);
@@ -237,13 +238,13 @@ fn fill<R: Rows>(alloc: Global, table: &mut Walked<R>, keys: u32) -> Option<bool
     Some(true)
 }
 
-/// Whether a walk that came to so many keys came to each that stayed, and enough of them stayed and came.
+/// Returns whether a walk that reached a number of keys came to each that stayed, and enough of them stayed and came.
 fn came_to_all(beside: &Beside, count: u32) -> bool {
     let (stayed, came) = beside.stayed();
     came == stayed && stayed >= beside.keys as usize / 20 && count >= beside.keys / 2
 }
 
-/// Whether a walk over a fixed table is whole, the keys have their objects and the held slots go in time.
+/// Returns whether a walk over a fixed table is whole, the keys have their objects and the held slots go in time.
 fn walks_whole<R: Rows>(alloc: Global, table: &mut Walked<R>, beside: &mut Beside) -> Option<bool> {
     let fixed = table.fix(7).is_ok() && table.fix(8).is_ok();
     let count = walked(alloc, table, beside)?;
@@ -255,7 +256,7 @@ fn walks_whole<R: Rows>(alloc: Global, table: &mut Walked<R>, beside: &mut Besid
     )
 }
 
-/// Whether a walk over a table of half of so many keys is whole.
+/// Returns whether a walk over a table of half of the keys is whole.
 fn is_whole<R: Rows>(alloc: Global, table: &mut Walked<R>, keys: u32) -> Option<bool> {
     let filled = fill(alloc, table, keys / 2)?;
     let mut beside = Beside::new(alloc, keys)?;
@@ -264,7 +265,7 @@ fn is_whole<R: Rows>(alloc: Global, table: &mut Walked<R>, keys: u32) -> Option<
     Some(filled && whole?)
 }
 
-/// The same of a table that has more than so many buckets at the end.
+/// The same of a table that has more than a number of buckets at the end.
 fn is_whole_growing<R: Rows>(
     alloc: Global,
     table: &mut Walked<R>,

@@ -23,7 +23,7 @@ pub fn is_number(term: &Term, number: Integer) -> bool {
     }
 }
 
-/// Whether the terms are these numbers, in this order.
+/// Returns whether the terms are these numbers, in this order.
 pub fn has(terms: &[Term], numbers: &[Integer]) -> bool {
     for (term, number) in terms.iter().zip(numbers.iter()) {
         if !is_number(term, *number) {
@@ -52,7 +52,7 @@ fn push_all(chain: &mut Chain, count: u32) -> Result<(), AllocError> {
     Ok(())
 }
 
-/// Whether the last term is this number, and is taken.
+/// Returns whether the last term is this number, and is taken.
 pub fn pops(chain: &mut Chain, number: Integer) -> bool {
     match chain.pop() {
         Some(last) => {
@@ -64,7 +64,7 @@ pub fn pops(chain: &mut Chain, number: Integer) -> bool {
     }
 }
 
-/// Whether what is pushed is popped, the last first.
+/// Returns whether what is pushed is popped, the last first.
 fn pushes_and_pops(chain: &mut Chain) -> Result<bool, AllocError> {
     push_all(chain, 5_000)?;
     Ok(chain.len() == 5_000 && pops(chain, 4_999) && pops(chain, 4_998))
@@ -82,7 +82,7 @@ fn pushed_terms_are_popped(rt: HostRuntime) {
     assert!(rt; a_chain_pushes_and_pops(rt.alloc()) == Ok(true));
 }
 
-/// Removes a number wherever it stands, and says how often it did.
+/// Removes a number in any position, and says how often it did.
 fn removed(chain: &mut Chain, number: Integer) -> usize {
     let term = Term::Int(number);
     let count = chain.remove_all(&term);
@@ -112,7 +112,7 @@ fn cuts_off(chain: &mut Chain) -> bool {
     whole && has(chain.as_slice(), &[7])
 }
 
-/// Whether changes of a chain of 1, 2, 1, 3 and 1 leave what they must.
+/// Returns whether changes of a chain of 1, 2, 1, 3 and 1 leave what they must.
 fn changes(alloc: Global) -> Result<bool, AllocError> {
     let mut chain = chain_of(alloc, &[1, 2, 1, 3, 1])?;
     let done = removes(&mut chain) && replaces(&mut chain) && cuts_off(&mut chain);
@@ -125,7 +125,7 @@ fn terms_are_removed_replaced_and_cut_off(rt: HostRuntime) {
     assert!(rt; changes(rt.alloc()) == Ok(true));
 }
 
-/// Puts the terms of a chain behind those of a list.
+/// Puts the terms of a chain after those of a list.
 fn move_behind(terms: &mut Vec<Term>, chain: Chain) -> Result<(), AllocError> {
     match terms.reserve(chain.len()) {
         Ok(()) => {

@@ -47,7 +47,7 @@ fn add_item(list: &mut NodeList, alloc: Global, key: u64, number: Integer) -> Re
     Ok(list.insert_item(head, key, Term::Int(number), chain))
 }
 
-/// Puts the dummies of the buckets 1 to 3, and an item of hash 3, behind that of bucket 0.
+/// Puts the dummies of the buckets 1 to 3, and an item of hash 3, after that of bucket 0.
 fn add_in_split_order(list: &mut NodeList, alloc: Global) -> Result<(), AllocError> {
     add_dummy(list, 4_294_967_296)?;
     add_item(list, alloc, 6_442_450_945, 3)?;
@@ -75,7 +75,7 @@ fn misread(list: &NodeList, wanted: &[(u64, u64)]) -> Option<u64> {
     None
 }
 
-/// Whether keys stand in split order.
+/// Returns whether keys stand in split order.
 fn has_split_order(
     list: &mut NodeList,
     alloc: Global,
@@ -93,12 +93,12 @@ fn add_equal(list: &mut NodeList, alloc: Global) -> Result<(At, At), AllocError>
     Ok((first, second))
 }
 
-/// The place behind the head.
+/// The place after the head.
 fn second_place(list: &NodeList) -> Option<At> {
     list.after(list.head())
 }
 
-/// Whether two items of one key stand in the order in which they came, and a search counts what it passes.
+/// Returns whether two items of one key stand in the order in which they came, and a search counts what it passes.
 fn finds_equal_keys(list: &mut NodeList, alloc: Global) -> Result<bool, AllocError> {
     let (first, second) = add_equal(list, alloc)?;
     Ok(
@@ -109,7 +109,7 @@ fn finds_equal_keys(list: &mut NodeList, alloc: Global) -> Result<bool, AllocErr
     )
 }
 
-/// Whether the node at a place is an item with this number as its term and as its chain.
+/// Returns whether the node at a place is an item with this number as its term and as its chain.
 fn is_item(list: &NodeList, at: At, number: Integer) -> bool
     requires { Stands at list.now.cells }
 {
@@ -119,27 +119,27 @@ fn is_item(list: &NodeList, at: At, number: Integer) -> bool
     }
 }
 
-/// Whether the head has the key 0 and no item.
+/// Returns whether the head has the key 0 and no item.
 fn has_head(list: &NodeList) -> bool {
     let head = list.head();
     list.key(head) == 0 && list.item(head).is_none()
 }
 
-/// Whether an item that was put is read at its place, with its key.
+/// Returns whether an item that was put is read at its place, with its key.
 fn reads_item(list: &mut NodeList, alloc: Global) -> Result<bool, AllocError> {
     let at = add_item(list, alloc, 5, 1)?;
     list.known();
     Ok(list.key(at) == 5 && is_item(list, at, 1) && has_head(list))
 }
 
-/// Whether a chain of 1 grows by two terms and gives one back.
+/// Returns whether a chain of 1 grows by two terms and gives one back.
 fn changes(chain: &mut Chain) -> Result<bool, AllocError> {
     chain.push(Term::Int(2))?;
     chain.push(Term::Int(3))?;
     Ok(pops(chain, 3) && has(chain.as_slice(), &[1, 2]))
 }
 
-/// Whether the chain of an item can be changed.
+/// Returns whether the chain of an item can be changed.
 fn changes_chain(list: &mut NodeList, alloc: Global) -> Result<bool, AllocError> {
     let at = add_item(list, alloc, 5, 1)?;
     changes(list.chain_mut(at))
@@ -157,7 +157,7 @@ fn unlinks(list: &mut NodeList, at: At, number: Integer) -> bool
     same
 }
 
-/// Whether an item is unlinked, and its place is given out again.
+/// Returns whether an item is unlinked, and its place is given out again.
 fn unlinks_item(
     list: &mut NodeList,
     alloc: Global,
@@ -199,7 +199,7 @@ const PLACES_OF_FIVE: [Option<At>; 7] = [
     None,
 ];
 
-/// Whether items are found by their places.
+/// Returns whether items are found by their places.
 fn finds_places(
     list: &mut NodeList,
     alloc: Global,
@@ -225,7 +225,7 @@ fn comes_and_goes(list: &mut NodeList, alloc: Global) -> Result<bool, AllocError
 
 const PLACE_OF_SECOND: [Option<At>; 7] = [Some(2), Some(2), Some(2), None, None, None, None];
 
-/// Whether a place that was given back has no item, until a later one gets it.
+/// Returns whether a place that was given back has no item, until a later one gets it.
 fn finds_no_unlinked(
     list: &mut NodeList,
     alloc: Global,
@@ -235,7 +235,7 @@ fn finds_no_unlinked(
     Ok(comes_and_goes(list, alloc)? && left && misfound(list, wanted) == None)
 }
 
-/// Whether dummies are no items, and want of memory changes nothing.
+/// Returns whether dummies are no items, and running out of memory changes nothing.
 fn has_dummies_alone(list: &mut NodeList) -> Result<bool, AllocError> {
     let none = list.item_from(0) == None;
     add_dummy(list, 8)?;
@@ -252,7 +252,7 @@ fn add_many(list: &mut NodeList, alloc: Global) -> Result<(), AllocError> {
     Ok(())
 }
 
-/// Whether the keys stand in order, so that each search reads one node more.
+/// Returns whether the keys stand in order, so that each search reads one node more.
 fn reads_many(list: &NodeList) -> bool {
     for key in 0..2_099 {
         if reads(list, key) != key + 2 {
@@ -262,13 +262,13 @@ fn reads_many(list: &NodeList) -> bool {
     reads(list, 2_099) == 2_100
 }
 
-/// Whether many nodes are held, in order.
+/// Returns whether many nodes are held, in order.
 fn has_many(list: &mut NodeList, alloc: Global) -> Result<bool, AllocError> {
     add_many(list, alloc)?;
     Ok(list.len() == 2_100 && reads_many(list))
 }
 
-/// Whether room for many nodes is there for the asking.
+/// Returns whether room for many nodes is there for the asking.
 fn has_much_room(list: &mut NodeList) -> Result<bool, AllocError> {
     list.reserve(5_000)?;
     list.reserve(100_000)?;
@@ -307,7 +307,7 @@ fn passes_on(list: &mut NodeList, alloc: Global, trial: Trial) -> Result<bool, A
     }
 }
 
-/// Whether a new list passes a trial.
+/// Returns whether a new list passes a trial.
 pub fn passes(alloc: Global, trial: Trial) -> Result<bool, AllocError> {
     let mut list = NodeList::new(alloc)?;
     let passed = passes_on(&mut list, alloc, trial);

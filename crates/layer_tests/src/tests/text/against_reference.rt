@@ -1,4 +1,5 @@
-//! The reader's answers beside those of the reference, on every front of good texts and on texts with one byte changed.
+//! The reader's answers compared with those of the reference, on every front of good texts and on texts with one byte
+//! changed.
 use super::gives;
 use super::reference::by_rules;
 use std::alloc::{AllocError, Global};
@@ -99,7 +100,7 @@ fn put_byte(text: &mut [u8], at: usize, b: u8) {
     }
 }
 
-/// Whether each other byte at a place is read by the rules.
+/// Returns whether each other byte at a place is read by the rules.
 fn changes_are_alike(alloc: Global, text: &mut [u8], at: usize) -> Result<bool, AllocError> {
     let kept = text.get(at).copied().unwrap_or(0);
     let mut all = true;

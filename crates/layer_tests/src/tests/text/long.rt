@@ -16,7 +16,7 @@ fn is_printed(alloc: Global, term: &Term, printed: &str) -> Result<bool, AllocEr
     Ok(same)
 }
 
-/// Whether the text is that of a term, to its last byte, which is printed so.
+/// Returns whether the text is that of a term, to its last byte, which is printed so.
 fn is_read_whole(alloc: Global, text: &str, printed: &str) -> Result<bool, AllocError> {
     match read_term(alloc, text) {
         Ok((term, taken)) => {
@@ -55,7 +55,7 @@ fn repeats(alloc: Global, parts: [&'static str; 3], count: usize) -> Result<Stri
     long_text(alloc, front, part, count, end)
 }
 
-/// Whether the text of these parts is that of a term which is printed so.
+/// Returns whether the text of these parts is that of a term which is printed so.
 fn is_printed_so(
     alloc: Global,
     parts: [&'static str; 3],
@@ -92,7 +92,7 @@ fn long_texts(rt: HostRuntime) {
     assert!(rt; is_long_at_each(rt.alloc(), TUPLE, &COUNTS) == Ok(true));
 }
 
-/// Brackets in brackets, so many deep.
+/// Brackets in brackets, to a depth.
 fn nested(alloc: Global, open: &str, close: &str, levels: usize) -> Result<String, AllocError> {
     let closing = long_text(alloc, "", close, levels, "")?;
     let text = long_text(alloc, "", open, levels, closing.as_str());
@@ -114,7 +114,7 @@ fn is_refused_as_too_deep(alloc: Global, text: &str) -> bool {
     refused
 }
 
-/// Whether brackets one level past that are refused at the last that opens.
+/// Returns whether brackets one level past that are refused at the last that opens.
 fn is_too_deep(alloc: Global, open: &str, close: &str) -> Result<bool, AllocError> {
     let text = nested(alloc, open, close, 129)?;
     let refused = is_refused_as_too_deep(alloc, text.as_str());
@@ -122,7 +122,7 @@ fn is_too_deep(alloc: Global, open: &str, close: &str) -> Result<bool, AllocErro
     Ok(refused)
 }
 
-/// Whether brackets are read and printed at every depth that a term may have, and refused at the next.
+/// Returns whether brackets are read and printed at every depth that a term may have, and refused at the next.
 fn are_nested(alloc: Global, open: &str, close: &str) -> Result<bool, AllocError> {
     for levels in 1..=MAX_DEPTH {
         if !is_nested(alloc, open, close, levels)? {

@@ -6,7 +6,7 @@ mod pieces;
 mod printed;
 mod singles;
 
-/// What stands at the front of a text, as far as it has been read.
+/// What is at the front of a text, as far as it has been read.
 #[derive(Drop)]
 struct Reader<'t> {
     alloc: Global,

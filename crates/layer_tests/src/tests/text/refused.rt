@@ -1,9 +1,9 @@
-// Want of memory. Run with each allocation refused in turn, by `.ci/refusals`: a text that is read again is read as it
+// Out of memory. Run with each allocation refused in turn, by `.ci/refusals`: a text that is read again is read as it
 // is at once, and a term that is printed again is printed so; where printing was refused, nothing has come.
 use super::*;
 use term_text::TextFault;
 
-/// What a text is read as, again where memory is refused.
+/// What a text is read as, again if memory runs out.
 pub(crate) fn read_again(alloc: Global, text: &str) -> Result<(Term, usize), TextFault> {
     let read = read_term(alloc, text);
     if !matches!(&read, Err(TextFault::Memory)) {
@@ -21,7 +21,7 @@ pub(crate) fn term_again(alloc: Global, text: &str) -> Option<Term> {
     }
 }
 
-/// What stands before a term that is printed.
+/// What is before a term that is printed.
 const FRONT: &str = "a front: ";
 
 fn front_again(alloc: Global) -> Option<String> {
@@ -31,7 +31,7 @@ fn front_again(alloc: Global) -> Option<String> {
     }
 }
 
-/// Whether a term is printed behind the front: at once, or again where memory was refused and nothing had come.
+/// Returns whether a term is printed after the front: at once, or again where memory was refused and nothing had come.
 fn prints_again(alloc: Global, term: &Term, text: &mut String) -> bool {
     match print_term(alloc, term, text) {
         Ok(()) => true,
@@ -39,7 +39,7 @@ fn prints_again(alloc: Global, term: &Term, text: &mut String) -> bool {
     }
 }
 
-/// Whether the term of a text is printed as this, the front included.
+/// Returns whether the term of a text is printed as this, the front included.
 fn is_same_again(alloc: Global, text: &str, printed: &str) -> Option<bool> {
     let term = term_again(alloc, text)?;
     let same = is_printed_again(alloc, &term, printed);

@@ -1,7 +1,7 @@
 use super::rows::{Call, wrong};
 use super::*;
 
-/// Whether operations answer this, and leave the object of the row where they are refused.
+/// Returns whether operations answer this, and leave the object of the row where they are refused.
 fn counts_in_place(alloc: Global, object: &mut Term, ops: &Ops, told: (&Term, &Term)) -> bool {
     answers(update_counter(alloc, object, ops), told.0) && *object == *told.1
 }
@@ -24,7 +24,7 @@ fn counts_both(alloc: Global, object: &Term, ops: &Ops, told: (&Term, &Term)) ->
     Some(in_place && counts_on_a_copy(alloc, object, ops, told))
 }
 
-/// Whether the operations answer and make this, in place and on a copy.
+/// Returns whether the operations answer and make this, in place and on a copy.
 pub fn counts(
     alloc: Global,
     keypos: u32,
@@ -85,7 +85,7 @@ fn refused_operations(rt: HostRuntime) {
     assert_eq!(rt; wrong(rt.alloc(), Call::Count(1), &REFUSED), Some(None));
 }
 
-/// An integer alone counts behind the key. An atom and what is no tuple have no counter.
+/// An integer alone counts after the key. An atom and what is no tuple have no counter.
 const KEY_SECOND: [&str; 3] = [
     "[{1,2,3},4,7,{1,2,7}]",
     "[{c,5},{1,1},badarg,{c,5}]",
@@ -97,7 +97,7 @@ fn operations_where_the_key_stands_second(rt: HostRuntime) {
     assert_eq!(rt; wrong(rt.alloc(), Call::Count(2), &KEY_SECOND), Some(None));
 }
 
-/// Whether a text is no operation on an object whose key stands first.
+/// Returns whether a text is no operation on an object whose key is first.
 fn is_no_update(alloc: Global, text: &str) -> Option<bool> {
     let (update, _) = read_term(alloc, text).ok()?;
     let fault = read_ops(alloc, &update, 1).err();
@@ -105,7 +105,7 @@ fn is_no_update(alloc: Global, text: &str) -> Option<bool> {
     Some(matches!(fault, Some(CounterFault::Badarg)))
 }
 
-/// The first text that is read as operations on an object whose key stands first.
+/// The first text that is read as operations on an object whose key is first.
 fn read_as_updates(alloc: Global, texts: &[&'static str]) -> Option<Option<&'static str>> {
     for text in texts {
         if !is_no_update(alloc, *text)? {

@@ -1,12 +1,12 @@
 use super::rows::{Call, wrong};
 use super::*;
 
-/// Whether what is started is told by a row: `{Answer,Made}`.
+/// Returns whether what is started is that of a row: `{Answer,Made}`.
 fn is_started(told: &Term, answer: &Term, made: &Term) -> bool {
     told.element(1) == Some(answer) && told.element(2) == Some(made)
 }
 
-/// Whether a Default makes an object of the key, as both calls have it.
+/// Returns whether a Default makes an object of the key, as both calls have it.
 fn is_object(alloc: Global, keypos: u32, default: &Term, key: &Term) -> bool {
     let made = keyed(alloc, default, keypos, key);
     let is_made = made.is_ok();
@@ -31,7 +31,7 @@ fn starts_with(alloc: Global, keypos: u32, object: (&Term, &Term), ops: &Ops, to
     }
 }
 
-/// Whether a Default with a key and the operations done gives this.
+/// Returns whether a Default with a key and the operations done gives this.
 pub fn starts(
     alloc: Global,
     keypos: u32,
@@ -49,7 +49,7 @@ pub fn starts(
     }
 }
 
-/// Whether a Default with a key and the values written is this.
+/// Returns whether a Default with a key and the values written is this.
 pub fn writes_default(
     alloc: Global,
     default: &Term,
@@ -90,7 +90,7 @@ fn values_of_a_default(rt: HostRuntime) {
     assert_eq!(rt; wrong(rt.alloc(), Call::WriteDefault, &WRITTEN), Some(None));
 }
 
-/// Whether a Default with a key of this text is an object, and whether it is none.
+/// Returns whether a Default with a key of this text is an object, and whether it is not.
 fn is_either(alloc: Global, keypos: u32, default: &Term, key: &str) -> Option<(bool, bool)> {
     let (key, _) = read_term(alloc, key).ok()?;
     let is_object = is_object(alloc, keypos, default, &key);
@@ -99,7 +99,7 @@ fn is_either(alloc: Global, keypos: u32, default: &Term, key: &str) -> Option<(b
     Some((is_object, is_none))
 }
 
-/// Whether a Default is an object with a key, or is none: as the text says.
+/// Returns whether a Default is an object with a key, or is not: as the text says.
 fn is_object_of(alloc: Global, keypos: u32, default: &str, key: &str) -> Option<bool> {
     let (default, _) = read_term(alloc, default).ok()?;
     let either = is_either(alloc, keypos, &default, key);
@@ -111,7 +111,7 @@ fn is_object_of(alloc: Global, keypos: u32, default: &str, key: &str) -> Option<
     }
 }
 
-/// What is no object with a key: where the key stands, what there is, and the key.
+/// What is no object with a key: the position of the key, what there is, and the key.
 const NO_OBJECTS: [(u32, &str, &str); 4] = [
     (2, "{x}", "h"),
     (0, "{x}", "h"),

@@ -9,7 +9,7 @@ fn push_written(alloc: Global, items: &mut Items<Term>, levels: usize) -> Option
     items.push(nested(alloc, levels)?).ok()
 }
 
-/// `{2,Value}` for a value of so many levels.
+/// `{2,Value}` for a value of a number of levels.
 fn written(alloc: Global, levels: usize) -> Option<Term> {
     let mut items = Items::new(alloc);
     Some(Term::Tuple(filled(push_written(alloc, &mut items, levels), items)?))
@@ -22,7 +22,7 @@ fn push_depths(alloc: Global, items: &mut Items<Term>, depths: &[usize]) -> Opti
     Some(())
 }
 
-/// The list of these values for the second element, in turn, each of so many levels.
+/// The list of these values for the second element, in turn, each of a number of levels.
 fn of_depths(alloc: Global, depths: &[usize]) -> Option<Term> {
     let mut items = Items::new(alloc);
     Some(Term::List(filled(push_depths(alloc, &mut items, depths), items)?))
@@ -44,7 +44,7 @@ fn push_ends(alloc: Global, ends: &mut Items<Term>) -> Option<()> {
     ends.push(read_term(alloc, "system_limit").ok()?.0).ok()
 }
 
-/// Whether these values, made for it, make this of an object.
+/// Returns whether these values, made for it, make this of an object.
 fn makes(alloc: Global, object: &Term, values: Option<Term>, made: &Term) -> Option<bool> {
     let values = values?;
     let makes = writes(alloc, object, &values, made);
@@ -65,7 +65,7 @@ fn all_end(alloc: Global, ends: &[Term], rows: &[(&'static [usize], bool)]) -> O
     makes(alloc, object, written(alloc, MAX_DEPTH), refusal)
 }
 
-/// Whether each list of values ends as its row says, and one value that is no list is refused.
+/// Returns whether each list of values ends as its row says, and one value that is no list is refused.
 fn values_end(alloc: Global) -> Option<bool> {
     let mut ends = Items::new(alloc);
     let pushed = push_ends(alloc, &mut ends);

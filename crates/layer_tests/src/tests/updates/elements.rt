@@ -1,7 +1,7 @@
 use super::rows::{Call, wrong};
 use super::*;
 
-/// Whether values make this of the object, or are refused and leave it.
+/// Returns whether values make this of the object, or are refused and leave it.
 fn writes_in_place(object: &mut Term, specs: ElementSpecs, before: &Term, made: &Term) -> bool {
     match update_elements(object, specs) {
         Ok(()) => *object == *made,
@@ -23,7 +23,7 @@ fn writes_in_own(alloc: Global, own: &mut Term, values: &Term, before: &Term, ma
     }
 }
 
-/// Whether the values make this, in place and on a copy.
+/// Returns whether the values make this, in place and on a copy.
 pub fn writes(alloc: Global, object: &Term, values: &Term, made: &Term) -> Option<bool> {
     let mut own = object.try_clone(alloc).ok()?;
     let in_place = writes_in_own(alloc, &mut own, values, object, made);
@@ -31,7 +31,7 @@ pub fn writes(alloc: Global, object: &Term, values: &Term, made: &Term) -> Optio
     Some(in_place && writes_on_a_copy(alloc, object, values, made))
 }
 
-/// Of several values for a position the last stays. A position past the tuple is refused, wherever it stands.
+/// Of several values for a position the last stays. A position past the tuple is refused, in any position.
 const WRITTEN: [&str; 11] = [
     "[{k,1,2},{2,y},{k,y,2}]",
     "[{k,1,2},[{2,y}],{k,y,2}]",
@@ -51,7 +51,7 @@ fn values_of_elements(rt: HostRuntime) {
     assert_eq!(rt; wrong(rt.alloc(), Call::Write, &WRITTEN), Some(None));
 }
 
-/// Whether a text is no value for an object whose key stands first.
+/// Returns whether a text is no value for an object whose key is first.
 fn is_no_value(alloc: Global, text: &str) -> Option<bool> {
     let (values, _) = read_term(alloc, text).ok()?;
     let fault = read_element_specs(alloc, &values, 1).err();
@@ -59,7 +59,7 @@ fn is_no_value(alloc: Global, text: &str) -> Option<bool> {
     Some(matches!(fault, Some(CounterFault::Badarg)))
 }
 
-/// The first text that is read as values for an object whose key stands first.
+/// The first text that is read as values for an object whose key is first.
 fn read_as_values(alloc: Global, texts: &[&'static str]) -> Option<Option<&'static str>> {
     for text in texts {
         if !is_no_value(alloc, *text)? {

@@ -1,4 +1,4 @@
-// Want of memory. Run with each allocation refused in turn, by `.ci/refusals`: a call that was refused memory has left
+// Out of memory. Run with each allocation refused in turn, by `.ci/refusals`: a call that ran out of memory has left
 // the object as it was, and answers when it is called again as if it had been called once.
 use super::*;
 use crate::tests::text::refused::term_again;
@@ -66,7 +66,7 @@ fn started_again(
     start_counter(alloc, default, 1, key, ops)
 }
 
-/// Whether an answer and what was made are these.
+/// Returns whether an answer and what was made are these.
 fn are_told(outcome: Result<(Term, Term), CounterFault>, told: (&Term, &Term)) -> bool {
     match outcome {
         Ok(both) => {
@@ -78,7 +78,7 @@ fn are_told(outcome: Result<(Term, Term), CounterFault>, told: (&Term, &Term)) -
     }
 }
 
-/// Whether operations answer and make this of an object.
+/// Returns whether operations answer and make this of an object.
 fn counts_in_place_again(
     alloc: Global,
     object: &Term,
@@ -118,7 +118,7 @@ fn starts_again(
     Some(are_told(started, told))
 }
 
-/// Whether values make this of an object, again where they were refused memory.
+/// Returns whether values make this of an object, again where they were refused memory.
 fn writes_again(alloc: Global, object: &Term, values: &Term, made: &Term) -> Option<bool> {
     let outcome = apply_elements(alloc, object, specs_again(alloc, values)?);
     if !is_refused_memory(&outcome) {

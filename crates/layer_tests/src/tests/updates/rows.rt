@@ -6,14 +6,14 @@ use super::*;
 /// What a row of text is about.
 #[derive(Clone, Copy)]
 pub enum Call {
-    /// Operations on an object whose key stands here: `[Object,Updates,Answer,Made]`.
+    /// Operations on an object whose key is at this position: `[Object,Updates,Answer,Made]`.
     Count(u32),
-    /// Values for an object whose key stands first: `[Object,Values,Made]`.
+    /// Values for an object whose key is first: `[Object,Values,Made]`.
     Write,
-    /// Operations on a Default whose key stands here: `[Default,Key,Updates,Answer]`, where the answer is
+    /// Operations on a Default whose key is at this position: `[Default,Key,Updates,Answer]`, where the answer is
     /// `{Answer,Made}`, or a refusal.
     Start(u32),
-    /// Values for a Default whose key stands first: `[Default,Key,Values,Made]`.
+    /// Values for a Default whose key is first: `[Default,Key,Values,Made]`.
     WriteDefault,
 }
 

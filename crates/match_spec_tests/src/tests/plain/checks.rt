@@ -5,7 +5,7 @@ use crate::tests::plain::functions::{is_kind_test, is_one_of};
 use crate::tests::plain::matching::{Binding, bound, number, push};
 use crate::tests::plain::operations::is_operation;
 
-/// Functions of any number of arguments but none, of one and of two, beside the tests of kinds and the operations.
+/// Functions of any number of arguments but none, of one and of two; the tests of kinds and the operations.
 const OF_SOME: [&str; 4] = ["and", "or", "andalso", "orelse"];
 
 const OF_ONE: [&str; 7] = ["is_number", "not", "abs", "hd", "tl", "length", "size"];
@@ -101,7 +101,7 @@ fn is_clause(alloc: Global, clause: &Term) -> bool {
     matches!(head, Term::Atom(_) | Term::Tuple(_)) && are_good(conditions, body, found.as_slice())
 }
 
-/// Whether a list of tuples with lists behind the head is a specification.
+/// Returns whether a list of tuples with lists after the head is a specification.
 pub(crate) fn is_spec(alloc: Global, spec: &Term) -> bool {
     for clause in elements(spec) {
         if !is_clause(alloc, clause) {

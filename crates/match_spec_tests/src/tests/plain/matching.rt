@@ -1,7 +1,7 @@
 // What a pattern matches and binds.
 use super::*;
 
-/// What stands for a variable.
+/// What is bound to a variable.
 #[derive(Drop)]
 pub(crate) struct Binding {
     pub(crate) number: u32,

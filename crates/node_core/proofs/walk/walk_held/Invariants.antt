@@ -4,7 +4,7 @@ use Rattle.node_core.specs.State.{State}
 use Rattle.node_core.specs.inside.Walker.{Holds, Stands, IsHeld, Weaves}
 use Rattle.node_core.proofs.walk.walk_held.Given as goal
 
--- the walk stands as the turns so far left it, and each gave a key
+-- the traversal is as the turns so far left it, and each gave a key
 abbrev pub invariant-loop-at : goal.invariant-loop-at
 invariant-loop-at g l = record {
   told : g.O.Others.keys l.others ≡ l.keys.items;

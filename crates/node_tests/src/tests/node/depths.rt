@@ -2,7 +2,7 @@ use super::Event::{Ask, Enrol};
 use super::{Row, wrong};
 use std::process::Abort;
 
-/// What is asked is at most 128 deep, and so is what is stored. No process is told before the depth, and the depth
+/// What is asked is at most 128 deep, and so is what is stored. No process is looked up before the depth, and the depth
 /// before all else.
 const DEEP: [Row; 27] = [
     (Enrol(0), "<0"),

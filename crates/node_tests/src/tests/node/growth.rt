@@ -5,7 +5,7 @@ use node_core::{Limits, Node, Step};
 use std::alloc::{AllocError, Global};
 use std::process::Abort;
 
-/// What is due, if anything: a table's growth, or that one of its buckets be made ready.
+/// The pending step, if any: to double a table, or to ready one of its buckets.
 fn due<H: KeyHash + Copy + Drop>(node: &Node<H>) -> Option<(u32, Option<u32>)> {
     let step = node.due()?;
     let work = work_of(&step);
@@ -21,7 +21,7 @@ fn work_of(step: &Step) -> Option<(u32, Option<u32>)> {
     }
 }
 
-/// A step, its reply, and what is due after it.
+/// A step, its reply, and the pending step after it.
 type DueRow = (Row, Option<(u32, Option<u32>)>);
 
 const DUE: [DueRow; 15] = [
@@ -48,7 +48,7 @@ const DUE: [DueRow; 15] = [
     ((Ask(0, "delete_all_objects(#0)"), "true"), None),
 ];
 
-/// The place of the first row that is answered otherwise, or after which another step is due.
+/// The place of the first row that is answered otherwise, or after which another step is pending.
 fn wrong_due_in<H: KeyHash + Copy + Drop>(
     alloc: Global,
     node: &mut Node<H>,

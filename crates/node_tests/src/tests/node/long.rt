@@ -1,5 +1,5 @@
-// Inputs so long that no body which gives up for want of memory at a small size passes. A text is told for each number:
-// the number stands where the text has an N.
+// Inputs so long that no body that gives up for lack of memory at a small size passes. A text is made for each number:
+// the number replaces each N of the text.
 mod growth;
 mod objects;
 mod processes;
@@ -16,7 +16,7 @@ use std::process::Abort;
 /// Past 2,048, at which what doubles is moved.
 const COUNT: u32 = 2_100;
 
-/// Puts the text behind another, the number for each N.
+/// Puts the text after another, the number for each N.
 fn push_numbered(
     alloc: Global,
     text: &mut String,
@@ -74,7 +74,7 @@ fn passes_on(alloc: Global, node: &mut Node<Fnv>, trial: Trial) -> Result<bool, 
     }
 }
 
-/// Whether a new node passes a trial.
+/// Returns whether a new node passes a trial.
 fn passes(alloc: Global, trial: Trial) -> Result<bool, AllocError> {
     let mut node = Node::new(alloc, Limits::usual(), Fnv);
     let passed = passes_on(alloc, &mut node, trial);
@@ -82,12 +82,12 @@ fn passes(alloc: Global, trial: Trial) -> Result<bool, AllocError> {
     passed
 }
 
-/// Whether both start in a node.
+/// Returns whether both start in a node.
 fn starts(alloc: Global, node: &mut Node<Fnv>) -> Result<bool, AllocError> {
     Ok(wrong_in(alloc, node, &STARTED)?.is_none())
 }
 
-/// Whether a call of process 0 is answered so.
+/// Returns whether a call of process 0 is answered so.
 fn answers(
     alloc: Global,
     node: &mut Node<Fnv>,
@@ -97,7 +97,7 @@ fn answers(
     does(alloc, node, Ask(0, call), wanted)
 }
 
-/// Whether a call is answered so, both told for a number.
+/// Returns whether a call is answered so, both told for a number.
 fn does_numbered(
     alloc: Global,
     node: &mut Node<Fnv>,
@@ -111,7 +111,7 @@ fn does_numbered(
     answered
 }
 
-/// Whether a call is answered by what is told for a number.
+/// Returns whether a call is answered by the text for a number.
 fn answers_numbered(
     alloc: Global,
     node: &mut Node<Fnv>,

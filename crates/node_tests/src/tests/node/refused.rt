@@ -1,4 +1,4 @@
-// Want of memory. Run with each allocation refused in turn: `rt try --test --fail-alloc N`. A step that was refused
+// Out of memory. Run with each allocation refused in turn: `rt try --test --fail-alloc N`. A step that was refused
 // memory has changed nothing, so it answers when it is done again as if it had been done once. Where the refused
 // allocation is one of a test's own, it is made again.
 use super::Event::{Ask, End, Enrol, Grow, Ready};
@@ -89,7 +89,7 @@ const LIFE: [Row; 27] = [
     (Ask(2, "info(#0,fixed)"), "false"),
 ];
 
-/// The place of the first row that a node answers otherwise, where each want of memory is met again.
+/// The place of the first row that a node answers otherwise, where each call that ran out of memory is made again.
 fn wrong_again_in(
     alloc: Global,
     node: &mut Node<Fnv>,

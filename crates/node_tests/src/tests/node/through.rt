@@ -1,4 +1,4 @@
-// A run that goes past want of memory: where there is memory it passes over nothing.
+// A run that goes on when memory runs out: with memory it leaves out nothing.
 use super::Event::{Ask, End, Enrol, Grow, Ready};
 use super::{Row, is, step};
 use crate::tests::kept;

@@ -1,4 +1,5 @@
-// Walks among the steps of others: what each comes to, and what then stands. The wanted values are those of the rules.
+// Walks among the steps of others: what each comes to, and the state that it leaves. The wanted values are those of the
+// rules.
 use super::Event::{Ask, Enrol};
 use super::{Event, Row, does, has_items, term, wrong_in};
 use ets_term::{AllSame, Fnv, KeyHash, Term};
@@ -76,7 +77,7 @@ fn comes_to_in<H: KeyHash + Copy + Drop>(
     }
 }
 
-/// Whether a walk in a new node comes to its end with these keys, in any order.
+/// Returns whether a walk in a new node comes to its end with these keys, in any order.
 fn comes_to<H: KeyHash + Copy + Drop>(
     alloc: Global,
     hash: H,
@@ -126,7 +127,7 @@ fn end<H: KeyHash + Copy + Drop>(
 /// The table is fixed no more.
 const FREE: Row = (Ask(0, "info(t,fixed)"), "false");
 
-/// The public table t of process 0, beside process 1.
+/// The public table t of process 0, and process 1.
 const EMPTY: [Row; 3] = [
     (Enrol(0), "<0"),
     (Enrol(1), "<1"),

@@ -15,7 +15,7 @@ fn is_in_words(alloc: Global, reason: Reason, wanted: &str) -> Result<bool, Allo
     Ok(same)
 }
 
-/// Whether the step with this reply has this reason in words, or is answered where there are no words.
+/// Returns whether the step with this reply has this reason in words, or is answered where there are no words.
 fn has_reason<H: KeyHash + Copy + Drop>(
     alloc: Global,
     node: &Node<H>,

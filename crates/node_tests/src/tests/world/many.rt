@@ -1,4 +1,4 @@
-// Worlds of hundreds of processes and tables, beside a plain model.
+// Worlds of hundreds of processes and tables; compared with a plain model.
 use super::{Tables, fix, new_table};
 use ets_term::Term;
 use ownership::{World, WorldFault};
@@ -18,7 +18,7 @@ fn make(alloc: Global, world: &mut Tables, pid: u32, heir: u32) -> Result<(), Wo
     Ok(())
 }
 
-/// Whose the table is, and whether it is fixed; GONE where there is none.
+/// Whose the table is, and whether it is fixed; GONE if it does not exist.
 fn seen(world: &Tables, id: u32) -> (u32, bool) {
     match (world.head(id), world.table(id)) {
         (Some(head), Some(table)) => (head.owner, table.is_fixed()),
@@ -59,7 +59,7 @@ fn have_gone(world: &Tables) -> bool {
     true
 }
 
-/// Whether the seventy go to their heir, in order, and with the heir.
+/// Returns whether the seventy go to their heir, in order, and with the heir.
 fn hands_seventy_on(alloc: Global, world: &mut Tables) -> Result<bool, WorldFault> {
     make_seventy(alloc, world)?;
     world.end(0)?;
@@ -103,7 +103,7 @@ fn is_ended(pid: u32, turns: u32) -> bool {
     false
 }
 
-/// Whose a table is after so many ends: it goes with its owner to its heir, or is gone where that has ended.
+/// Whose a table is after a number of exits: it goes with its owner to its heir, or is gone where that has ended.
 fn wanted(id: u32, turns: u32) -> (u32, bool) {
     let heir = heir_of(id);
     let owner = if !is_ended(id, turns) {
@@ -130,7 +130,7 @@ fn fill(alloc: Global, world: &mut Tables) -> Result<(), WorldFault> {
     Ok(())
 }
 
-/// The first table that is otherwise than wanted after so many ends.
+/// The first table that is otherwise than wanted after a number of exits.
 fn wrong_after(world: &Tables, turns: u32) -> Option<u32> {
     for id in 0..MANY {
         if seen(world, id) != wanted(id, turns) {

@@ -1,4 +1,4 @@
-// Want of memory. Run with each allocation refused in turn: `rt try --test --fail-alloc N`. A call that was refused
+// Out of memory. Run with each allocation refused in turn: `rt try --test --fail-alloc N`. A call that was refused
 // memory has changed nothing that can be seen from outside, and answers when it is called again as if it had been
 // called once. Where the refused allocation is one of the test's own, it is made again.
 use super::Event::{End, Enrol, Fix, Give, Info, New, Receive, Set};
@@ -74,7 +74,7 @@ fn note_flag(seen: &mut Vec<Term>, value: bool) -> Result<(), AllocError> {
     note(seen, Term::Int(Integer::from(value)))
 }
 
-/// Whether the process lives, and what is in its mailbox.
+/// Returns whether the process lives, and what is in its mailbox.
 fn see_process(
     alloc: Global,
     world: &Tables,
@@ -88,7 +88,7 @@ fn see_process(
     Ok(())
 }
 
-/// Whether the table is found by its identifier.
+/// Returns whether the table is found by its identifier.
 fn is_there(world: &Tables, id: u32) -> bool {
     let named = Term::Tid(id);
     let found = world.resolve(&named);
@@ -190,7 +190,7 @@ fn is_told_again(alloc: Global, value: &Term, wanted: &str) -> Result<bool, Allo
     }
 }
 
-/// Whether what was answered is told so.
+/// Returns whether the answer has this text.
 fn is_answer(
     alloc: Global,
     answered: Result<Term, WorldFault>,
@@ -213,8 +213,8 @@ fn is_unchanged(alloc: Global, world: &Tables, before: &[Term]) -> Result<bool, 
     Ok(same)
 }
 
-/// Whether a call is answered so, at once or, where it was refused memory and has changed nothing of what was seen
-/// before, when it is called again.
+/// Returns whether a call is answered so, at once or, where it was refused memory and has changed nothing of what was
+/// seen before, when it is called again.
 fn does_after(
     alloc: Global,
     world: &mut Tables,

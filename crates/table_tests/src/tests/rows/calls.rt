@@ -98,7 +98,7 @@ fn listed_done(list: &mut [Kept], key: u32, call: Call) -> Option<Kept> {
     Some(had)
 }
 
-/// Whether a call on one key answers what the list says.
+/// Returns whether a call on one key answers what the list says.
 fn agrees<R: Rows>(
     rows: &mut R,
     alloc: Global,
@@ -138,7 +138,7 @@ fn sweep<R: Rows>(rows: &mut R, list: &mut [Kept], draws: &mut Draws) {
     }
 }
 
-/// Whether each key has what the list says, and no other has a slot.
+/// Returns whether each key has what the list says, and no other has a slot.
 fn agree<R: Rows>(rows: &R, list: &[Kept]) -> bool {
     let mut slots = 0usize;
     let mut all = true;
@@ -165,7 +165,7 @@ fn first_of<R: Rows>(rows: &R) -> Option<Integer> {
     Some(number_of(key))
 }
 
-/// The key behind another, by places.
+/// The key after another, by places.
 fn behind<R: Rows>(rows: &R, key: Integer) -> Option<Integer> {
     let term = Term::Int(key);
     let found = rows.find(&term);
@@ -176,7 +176,7 @@ fn behind<R: Rows>(rows: &R, key: Integer) -> Option<Integer> {
     Some(number_of(key))
 }
 
-/// Whether the slot behind a key's own has this key.
+/// Returns whether the slot after a key's own has this key.
 fn is_behind<R: Rows>(rows: &R, key: Integer, next: Option<Integer>) -> bool {
     let term = Term::Int(key);
     let is_next = match rows.next_at(&term) {
@@ -188,7 +188,7 @@ fn is_behind<R: Rows>(rows: &R, key: Integer, next: Option<Integer>) -> bool {
     is_next
 }
 
-/// Whether a walk from the first slot on comes to each slot and ends there.
+/// Returns whether a walk from the first slot on comes to each slot and ends there.
 fn walks<R: Rows>(rows: &R) -> bool {
     let mut all = true;
     let mut at = first_of(rows);
@@ -241,7 +241,7 @@ fn rounds<R: Rows>(rows: &mut R, alloc: Global, list: &mut [Kept]) -> Result<boo
     Ok(all)
 }
 
-/// Whether some thousands of calls give what a list gives.
+/// Returns whether some thousands of calls give what a list gives.
 fn thousands<R: Rows>(rows: &mut R, alloc: Global) -> Result<bool, AllocError> {
     let mut list = listed(alloc)?;
     let all = rounds(rows, alloc, list.as_mut_slice());

@@ -1,6 +1,6 @@
 use super::*;
 
-/// Whether `ready` answers this, and the bucket is ready then where there is one.
+/// Returns whether `ready` answers this, and the bucket is ready then where there is one.
 fn readies<R: Rows>(rows: &mut R, bucket: u32, answer: Readying) -> Result<bool, AllocError> {
     let told = rows.ready(bucket)?;
     let is_bucket = answer != Readying::NotABucket;
@@ -49,7 +49,8 @@ const AT_MOST_BUCKETS: [(u32, Readying); 5] = [
     (1_048_575, Readying::Ready),
 ];
 
-/// Whether buckets are readied so after so many doublings, and bucket 1 is the least that is not ready before and after.
+/// Returns whether buckets are readied in this way after a number of doublings, and bucket 1 is the least that is not
+/// ready before and after.
 fn readies_some<R: Rows>(
     rows: &mut R,
     times: usize,

@@ -1,5 +1,5 @@
-// Want of memory. Run with each allocation refused in turn: `rt try --test --fail-alloc N`. A call that was refused memory
-// has changed nothing, and does what it should when it is called again.
+// Out of memory. Run with each allocation refused in turn: `rt try --test --fail-alloc N`. A call that ran out of
+// memory has changed nothing, and does what it should when it is called again.
 use super::several::{put_three, three};
 use super::*;
 
@@ -20,7 +20,7 @@ fn number(objects: &[Term]) -> u64 {
     }
 }
 
-/// A number for what a key has, and for the key behind it.
+/// A number for what a key has, and for the key after it.
 fn told_at<R: Rows>(rows: &R, key: Integer) -> u64 {
     let term = Term::Int(key);
     let own = match rows.get(&term) {
@@ -80,7 +80,8 @@ fn insert_again<R: Rows>(rows: &mut R, alloc: Global, key: Integer) -> Result<bo
     }
 }
 
-/// Whether rows are put, buckets doubled and readied, and a key put at its place, each again where memory is refused.
+/// Returns whether rows are put, buckets doubled and readied, and a key put at its place, each again if memory runs
+/// out.
 fn does_again<R: Rows>(rows: &mut R, alloc: Global) -> Result<bool, AllocError> {
     let mut all = true;
     for time in 0..TIMES {
@@ -98,7 +99,7 @@ fn does_again<R: Rows>(rows: &mut R, alloc: Global) -> Result<bool, AllocError> 
     Ok(all)
 }
 
-/// Whether room for more slots than there is memory is refused, and nothing is changed.
+/// Returns whether room for more slots than there is memory is refused, and nothing is changed.
 fn refuses<R: Rows>(rows: &mut R, alloc: Global) -> Result<bool, AllocError> {
     let put = put_again(rows, alloc, 0)?;
     let before = told(rows);

@@ -45,8 +45,8 @@ fn counted<H: KeyHash + Copy + Drop>(
     Ok(counts)
 }
 
-/// Whether a search finds the numbers below that of the slots alone, and looks at one node at least for them, and in a
-/// ready bucket at no more than its keys and two.
+/// Returns whether a search finds the numbers below that of the slots alone, and looks at one node at least for them,
+/// and in a ready bucket at no more than its keys and two.
 fn is_right<H: KeyHash + Copy + Drop>(
     rows: &SplitRows<H>,
     hash: H,
@@ -83,7 +83,7 @@ fn are_right<H: KeyHash + Copy + Drop>(
     all
 }
 
-/// Puts a few slots more, up to so many in all, each number after the other, and answers how many there are now.
+/// Puts a few slots more, up to a total, each number after the other, and answers how many there are now.
 fn put_some<R: Rows>(
     rows: &mut R,
     alloc: Global,
@@ -98,7 +98,7 @@ fn put_some<R: Rows>(
     Ok(now)
 }
 
-/// Whether searches of rows with so many slots are right.
+/// Returns whether searches of rows with a number of slots are right.
 fn are_right_now<H: KeyHash + Copy + Drop>(
     rows: &SplitRows<H>,
     alloc: Global,
@@ -112,7 +112,7 @@ fn are_right_now<H: KeyHash + Copy + Drop>(
     Ok(right)
 }
 
-/// Whether all searches of rows with this hash are right, at moments of growth up to so many slots.
+/// Returns whether all searches of rows with this hash are right, at moments of growth up to a number of slots.
 fn finds<H: KeyHash + Copy + Drop>(
     rows: &mut SplitRows<H>,
     alloc: Global,
@@ -183,7 +183,7 @@ fn put_process<R: Rows>(rows: &mut R, alloc: Global, number: u32) -> Result<(), 
     }
 }
 
-/// Whether searches for the keys 0 to 7 in 8 ready buckets, and for others, are short.
+/// Returns whether searches for the keys 0 to 7 in 8 ready buckets, and for others, are short.
 fn eight_in_eight(rows: &mut SplitRows<Plain>, alloc: Global) -> Result<bool, AllocError> {
     rows.grow()?;
     rows.grow()?;
@@ -210,8 +210,8 @@ fn few_steps_in_ready_buckets(rt: HostRuntime) {
     assert!(rt; new_eight_in_eight(rt.alloc()) == Ok(true));
 }
 
-/// Whether readying a bucket tells the first slots of its eighths and of its parent's: a search then looks at no node
-/// where the eighth is empty, and at one alone where the key's slot is the first.
+/// Returns whether readying a bucket tells the first slots of its eighths and of its parent's: a search then looks at
+/// no node where the eighth is empty, and at one alone where the key's slot is the first.
 fn eighths_in_eight(rows: &mut SplitRows<Plain>, alloc: Global) -> Result<bool, AllocError> {
     for number in 0..8u32 {
         put_process(rows, alloc, number)?;
@@ -241,7 +241,7 @@ fn readying_tells_the_eighths(rt: HostRuntime) {
     assert!(rt; new_eighths_in_eight(rt.alloc()) == Ok(true));
 }
 
-/// Whether searches among a thousand keys of one hash pass all of them, and no more.
+/// Returns whether searches among a thousand keys of one hash pass all of them, and no more.
 fn thousand_in_one(rows: &mut SplitRows<AllSame>, alloc: Global) -> Result<bool, AllocError> {
     for number in 0..1000u32 {
         insert(rows, alloc, Integer::from(number), 1)?;

@@ -8,8 +8,8 @@ fn one(alloc: Global, number: Integer) -> Chain {
     Chain::one(alloc, Term::Int(number))
 }
 
-/// Puts the rows of three keys at once, each with its own number, unless two are the same or one has a slot, and answers
-/// whether it did.
+/// Puts the rows of three keys at once, each with its own number, unless two are the same or one has a slot, and
+/// answers whether it did.
 pub fn put_three<R: Rows>(
     rows: &mut R,
     alloc: Global,
@@ -41,7 +41,7 @@ pub fn three(time: u32) -> (Integer, Integer, Integer) {
     (first, first.wrapping_add(1), first.wrapping_add(2))
 }
 
-/// Whether three rows at a time go in, at moments of growth, and each of them is found.
+/// Returns whether three rows at a time go in, at moments of growth, and each of them is found.
 fn puts_three_by_three<R: Rows>(rows: &mut R, alloc: Global) -> Result<bool, AllocError> {
     let mut draws = Draws::new();
     let mut all = true;

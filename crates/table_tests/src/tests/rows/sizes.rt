@@ -3,7 +3,7 @@ use super::*;
 /// Past the last power of two but one that a table of a hundred thousand slots would reach.
 const SLOTS: u32 = 70_000;
 
-/// Whether each key from none on goes in as a new one, the buckets doubled and readied as they fill.
+/// Returns whether each key from none on goes in as a new one, the buckets doubled and readied as they fill.
 fn fills<R: Rows>(rows: &mut R, alloc: Global) -> Result<bool, AllocError> {
     let mut all = true;
     for key in 0..SLOTS {
@@ -27,7 +27,7 @@ fn keep_up<R: Rows>(rows: &mut R) -> Result<(), AllocError> {
     Ok(())
 }
 
-/// Whether each key has its own number, and can be given another object.
+/// Returns whether each key has its own number, and can be given another object.
 fn changes<R: Rows>(rows: &mut R, alloc: Global) -> Result<bool, AllocError> {
     let mut all = true;
     for key in 0..SLOTS {
@@ -38,7 +38,7 @@ fn changes<R: Rows>(rows: &mut R, alloc: Global) -> Result<bool, AllocError> {
     Ok(all && kept_at(rows, Integer::from(SLOTS)) == Kept::Nothing)
 }
 
-/// Whether each key goes, the last first.
+/// Returns whether each key goes, the last first.
 fn empties<R: Rows>(rows: &mut R) -> bool {
     let mut all = true;
     for back in 0..SLOTS {
@@ -53,7 +53,7 @@ fn serves<R: Rows>(rows: &mut R, alloc: Global) -> Result<bool, AllocError> {
     Ok(fills(rows, alloc)? && changes(rows, alloc)? && empties(rows))
 }
 
-/// Whether all slots become held and are purged then, and go at once where they are not held.
+/// Returns whether all slots become held and are purged then, and go at once where they are not held.
 fn sweeps<R: Rows>(rows: &mut R, alloc: Global) -> Result<bool, AllocError> {
     let filled = fills(rows, alloc)?;
     rows.clear(true);

@@ -38,13 +38,13 @@ fn has<R: Rows>(table: &Table<R>, row: Row) -> bool {
     table.size() == size && table.slots() == slots && looked_up(table, 0) == values
 }
 
-/// Whether the list is inserted as the row says.
+/// Returns whether the list is inserted as the row says.
 fn inserts<R: Rows>(table: &mut Table<R>, list: &[Term], row: Row) -> bool {
     let (_, _, answer, _, _, _) = row;
     inserted(table, list) == answer && has(table, row)
 }
 
-/// Whether the list is inserted as new as the row says, and then not as new again.
+/// Returns whether the list is inserted as new as the row says, and then not as new again.
 fn inserts_new<R: Rows>(table: &mut Table<R>, list: &[Term], row: Row) -> bool {
     let (_, _, answer, _, _, _) = row;
     let again = if answer == 1 { 0 } else { answer };

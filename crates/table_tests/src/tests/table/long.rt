@@ -45,7 +45,7 @@ fn whole_step_at(i: u32) -> Step {
     }
 }
 
-/// Whether the tables answer alike.
+/// Returns whether the tables answer alike.
 fn agree<A: Rows, B: Rows>(
     alloc: Global,
     first: &mut Table<A>,
@@ -101,7 +101,7 @@ fn duplicate_bags_answer_alike(rt: HostRuntime) {
     assert!(rt; both_agree(rt.alloc(), Kind::DuplicateBag));
 }
 
-/// Whether a table of one more object each time has what it must, and gives it all up again.
+/// Returns whether a table of one more object each time has what it must, and gives it all up again.
 fn fills<R: Rows>(alloc: Global, table: &mut Table<R>, most: u32) -> bool {
     for i in 0..most {
         if answer(alloc, table, Step::Insert(i as Integer, 1)) != 1 {
@@ -120,7 +120,7 @@ fn fills<R: Rows>(alloc: Global, table: &mut Table<R>, most: u32) -> bool {
     answer(alloc, table, Step::DeleteBelow(2, false)) == most as Integer
 }
 
-/// Whether each call does what it must on a table of the keys up to this one, with the value 1.
+/// Returns whether each call does what it must on a table of the keys up to this one, with the value 1.
 fn has_all<R: Rows>(alloc: Global, table: &mut Table<R>, last: Integer) -> bool {
     let count = last.wrapping_add(1);
     let rows = [

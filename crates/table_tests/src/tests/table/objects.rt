@@ -1,4 +1,4 @@
-// What is an object: its key, its depth, and lists in which one is none.
+// What is an object: its key, its depth, and lists with an element that is no object.
 use super::steps::{count_of, insert, inserted, inserted_new, ops, specs};
 use super::terms::{Part, atom, tuple, tuple_of, whole};
 use super::{BADARG, LIMIT, Life, Step, plain, split, wrong};
@@ -77,13 +77,13 @@ fn at_end(alloc: Global) -> Option<Term> {
     tuple_of(alloc, &[Part::Atom("$end_of_table"), Part::Int(1)])
 }
 
-/// Whether an object whose key is `'$end_of_table'` is not inserted.
+/// Returns whether an object whose key is `'$end_of_table'` is not inserted.
 fn inserts_none<R: Rows>(table: &mut Table<R>, object: &Term) -> bool {
     inserted(table, slice::from_ref(object)) == BADARG
         && inserted_new(table, slice::from_ref(object)) == BADARG
 }
 
-/// Whether no counter of that key is counted, with the object as a Default or without.
+/// Returns whether no counter of that key is counted, with the object as a Default or without.
 fn counts_none<R: Rows>(
     alloc: Global,
     table: &mut Table<R>,
@@ -97,13 +97,13 @@ fn counts_none<R: Rows>(
     Some(alone.is_some() && with_default.is_some())
 }
 
-/// Whether no element of that key is written.
+/// Returns whether no element of that key is written.
 fn writes_none<R: Rows>(alloc: Global, table: &mut Table<R>, end: &Term) -> Option<bool> {
     let specs = specs(alloc, 5)?;
     Some(table.update_element(end, specs, None) == Ok(false))
 }
 
-/// Whether that key has nothing to take and nothing to delete.
+/// Returns whether that key has nothing to take and nothing to delete.
 fn deletes_none<R: Rows>(table: &mut Table<R>, end: &Term, object: &Term) -> bool {
     let taken = count_of(table.take(end, false).ok());
     table.delete_key(end, true);
@@ -111,13 +111,13 @@ fn deletes_none<R: Rows>(table: &mut Table<R>, end: &Term, object: &Term) -> boo
     taken == Some(0) && deleted.is_err() && table.slots() == 0
 }
 
-/// Whether that key has nothing to read.
+/// Returns whether that key has nothing to read.
 fn reads_none<R: Rows>(table: &Table<R>, end: &Term) -> bool {
     let element = table.lookup_element(end, 1).err();
     element.is_some() && table.lookup(end).is_empty() && !table.member(end)
 }
 
-/// Whether the calls answer so of `'$end_of_table'` and an object of that key.
+/// Returns whether the calls answer so of `'$end_of_table'` and an object of that key.
 fn refuses_end<R: Rows>(
     alloc: Global,
     table: &mut Table<R>,
@@ -189,7 +189,7 @@ fn push_objects(
     Some(())
 }
 
-/// Whether a list of this length with such a term at a place is not inserted.
+/// Returns whether a list of this length with such a term at a place is not inserted.
 fn refuses_at<R: Rows>(
     alloc: Global,
     table: &mut Table<R>,
@@ -206,7 +206,7 @@ fn refuses_at<R: Rows>(
     Some(first == BADARG && second == BADARG && table.size() == 1)
 }
 
-/// Whether no list of five with such a term in it is inserted, wherever it stands, nor one of it alone.
+/// Returns whether no list of five with such a term in it is inserted, in any position, nor one of it alone.
 fn refuses<R: Rows>(alloc: Global, table: &mut Table<R>, bad: &Term) -> bool {
     for place in 0..5 {
         if refuses_at(alloc, table, 5, place, bad) != Some(true) {
@@ -224,7 +224,7 @@ fn refuses_made<R: Rows>(alloc: Global, table: &mut Table<R>, made: Option<Term>
     Some(refused)
 }
 
-/// Whether no list with a term that is no object is inserted into a table of `{3,0}`.
+/// Returns whether no list with a term that is no object is inserted into a table of `{3,0}`.
 fn refuses_all<R: Rows>(alloc: Global, table: &mut Table<R>) -> Option<bool> {
     Some(
         insert(table, tuple(alloc, &[3, 0]))? == 1

@@ -1,4 +1,4 @@
-// Want of memory. Run with each allocation refused in turn: `rt try --test --fail-alloc N`. A step that was refused
+// Out of memory. Run with each allocation refused in turn: `rt try --test --fail-alloc N`. A step that was refused
 // memory has changed nothing: the table has what it had, and the step answers when it is done again as if it had been
 // done once. Where the refused allocation is one of a test's own, it is made again.
 use super::steps::every;
@@ -57,8 +57,8 @@ fn state<R: Rows>(table: &Table<R>) -> Option<(Integer, usize, usize)> {
     Some((objects, table.size(), table.slots()))
 }
 
-/// Whether a step has its answer, at once or, where it was refused memory and has changed nothing, when it is done
-/// again.
+/// Returns whether a step has its answer, at once or, where it was refused memory and has changed nothing, when it is
+/// done again.
 fn does_again<R: Rows>(alloc: Global, table: &mut Table<R>, step: Step, wanted: Integer) -> bool {
     let before = state(table);
     let first = answer(alloc, table, step);

@@ -114,7 +114,7 @@ fn deletes_all<R: Rows>(alloc: Global, table: &mut Table<R>) -> bool {
         && selected(alloc, table, &[10, 11]) == Some((2, 2, 1_994))
 }
 
-/// The pairs of the key 7, three times, and of the keys beside it.
+/// The pairs of the key 7, three times, and of its neighbours.
 const SEVEN_THRICE: [[Integer; 2]; 5] = [[6, 0], [7, 0], [7, 0], [7, 0], [8, 0]];
 
 /// Three objects under one key of a duplicate bag are three tries.

@@ -79,7 +79,7 @@ fn gone<R: Rows>(table: &mut Table<R>, made: Option<Term>, hold: bool) -> Option
     }
 }
 
-/// The update that adds an increment to the element behind the key.
+/// The update that adds an increment to the element after the key.
 pub fn ops(alloc: Global, increment: Integer, keypos: u32) -> Option<Ops> {
     let update = Term::Int(increment);
     let ops = read_ops(alloc, &update, keypos);
@@ -87,7 +87,7 @@ pub fn ops(alloc: Global, increment: Integer, keypos: u32) -> Option<Ops> {
     ops.ok()
 }
 
-/// A counter's update of the element behind the key, with a Default `{0,Start}` or without.
+/// A counter's update of the element after the key, with a Default `{0,Start}` or without.
 fn counted<R: Rows>(
     alloc: Global,
     table: &mut Table<R>,
@@ -123,7 +123,7 @@ fn counted_from<R: Rows>(
     told
 }
 
-/// The update that writes a value to the second element. It is read as for a key that stands first: a table asks again.
+/// The update that writes a value to the second element. It is read as for a key that is first: a table asks again.
 pub fn specs(alloc: Global, value: Integer) -> Option<ElementSpecs> {
     let update = tuple(alloc, &[2, value])?;
     let specs = read_element_specs(alloc, &update, 1);

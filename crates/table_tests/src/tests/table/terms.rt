@@ -145,7 +145,7 @@ fn one(alloc: Global, term: Term) -> Option<Term> {
     Some(Term::List(filled(items.push(term).ok(), items)?))
 }
 
-/// 0 in so many lists that it has this depth.
+/// 0 in as many lists as it takes to have this depth.
 pub fn nested(alloc: Global, depth: usize) -> Option<Term> {
     let mut term = Term::Int(0);
     for _ in 1..depth {

@@ -76,7 +76,7 @@ impl Reader<'_> {
         Ok(())
     }
 
-    /// Keeps a character between quotes; past so many there is this fault. Whether the next one is escaped.
+    /// Keeps a character between quotes; past a limit there is this fault. Whether the next one is escaped.
     fn character(&mut self, b: u8, most: usize, fault: TextFault) -> Result<bool, TextFault> {
         if !matches!(b, b' '..=b'~') {
             return Err(TextFault::Unexpected(self.at));
@@ -97,7 +97,7 @@ impl Reader<'_> {
         Ok(self.quoted.push(b)?)
     }
 
-    /// The characters from a quote up to the one that closes. Past so many there is this fault.
+    /// The characters from a quote up to the closing quote. Past a limit there is this fault.
     pub(super) fn quoted(
         &mut self,
         quote: u8,

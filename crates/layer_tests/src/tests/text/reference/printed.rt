@@ -29,7 +29,7 @@ fn is_plain(text: &[u8]) -> bool {
     matches!(text.first(), Some(b'a'..=b'z'))
 }
 
-/// Characters, each quote and backslash of them behind a backslash.
+/// Characters, each quote and backslash of them after a backslash.
 fn put_characters(out: &mut String, text: &[u8]) -> Result<(), AllocError> {
     for b in text {
         if *b == b'\'' || *b == b'\\' {

@@ -85,7 +85,7 @@ impl Reader<'_> {
         Ok(())
     }
 
-    /// What stands between the signs of a binary.
+    /// What is between the signs of a binary.
     fn binary_parts(&mut self) -> Result<(), TextFault> {
         self.quoted.clear();
         self.skip_blanks();

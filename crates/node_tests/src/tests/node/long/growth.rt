@@ -1,6 +1,6 @@
 use super::*;
 
-/// Does what is due first, if anything is, and says whether it was.
+/// Runs the first pending step, if any, and returns whether there was one.
 fn tend_once(node: &mut Node<Fnv>) -> Result<bool, AllocError> {
     match node.due() {
         Some(step) => {
@@ -13,7 +13,7 @@ fn tend_once(node: &mut Node<Fnv>) -> Result<bool, AllocError> {
     }
 }
 
-/// Does what is due, at most so many steps of it, and says how many that were.
+/// Runs pending steps, a number of steps at most, and returns how many it ran.
 fn tend(node: &mut Node<Fnv>, most: u32) -> Result<u32, AllocError> {
     for done in 0..most {
         if !tend_once(node)? {
@@ -30,7 +30,7 @@ fn is_tended(node: &Node<Fnv>) -> bool {
     none
 }
 
-/// The first number whose object does not enter the table, which is tended behind each.
+/// The first number whose object does not enter the table, which is tended after each.
 fn not_entered(alloc: Global, node: &mut Node<Fnv>) -> Result<Option<u32>, AllocError> {
     for number in 0..COUNT {
         if !does_numbered(alloc, node, "insert(t,{N,x})", "true", number)? {
@@ -41,7 +41,7 @@ fn not_entered(alloc: Global, node: &mut Node<Fnv>) -> Result<Option<u32>, Alloc
     Ok(None)
 }
 
-/// Calls on each number, behind which the table is tended, and their replies.
+/// Calls on each number, after which the table is tended, and their replies.
 const GROWN: [(&str, &str); 5] = [
     ("lookup(t,N)", "[{N,x}]"),
     ("insert(t,{N,y})", "true"),
@@ -50,7 +50,7 @@ const GROWN: [(&str, &str); 5] = [
     ("take(t,N)", "[{N,y}]"),
 ];
 
-/// Whether the calls on a number are answered so.
+/// Returns whether the calls on a number are answered so.
 fn does_calls(
     alloc: Global,
     node: &mut Node<Fnv>,
@@ -80,7 +80,7 @@ fn not_grown(
     Ok(None)
 }
 
-/// Whether a table of many objects, which grows meanwhile, is answered of as one that does not.
+/// Returns whether a table of many objects, which grows meanwhile, is answered of as one that does not.
 pub fn grows(alloc: Global, node: &mut Node<Fnv>) -> Result<bool, AllocError> {
     Ok(
         starts(alloc, node)?

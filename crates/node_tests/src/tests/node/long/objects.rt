@@ -10,7 +10,7 @@ const OBJECTS: [(&str, &str); 6] = [
     ("member(t,N)", "false"),
 ];
 
-/// Whether each of the calls is answered so for each number.
+/// Returns whether each of the calls is answered so for each number.
 fn answers_each(
     alloc: Global,
     node: &mut Node<Fnv>,
@@ -95,7 +95,7 @@ fn passes_behind(
     passed
 }
 
-/// Whether a new node passes a trial with these two texts.
+/// Returns whether a new node passes a trial with these two texts.
 fn passes_told(alloc: Global, trial: Told, first: Long, second: Long) -> Result<bool, AllocError> {
     let first = text_of(alloc, first)?;
     let passed = passes_behind(alloc, trial, first.as_str(), second);
@@ -103,7 +103,7 @@ fn passes_told(alloc: Global, trial: Told, first: Long, second: Long) -> Result<
     passed
 }
 
-/// Whether all are inserted by this call and listed.
+/// Returns whether all are inserted by this call and listed.
 fn inserts_and_lists(
     alloc: Global,
     node: &mut Node<Fnv>,
@@ -119,7 +119,7 @@ fn inserts_and_lists(
     )
 }
 
-/// Whether so many objects are inserted by one call, of many keys or of one.
+/// Returns whether a number of objects are inserted by one call, of many keys or of one.
 fn inserts(alloc: Global, start: &str, object: &str) -> Result<bool, AllocError> {
     let insert = Long {
         start,
@@ -144,7 +144,7 @@ fn many_objects_are_inserted_at_once(rt: HostRuntime) {
     assert!(rt; inserts_both(rt.alloc(), "insert_new(t,[") == Ok(true));
 }
 
-/// Whether what a pattern and a specification find of many objects is this.
+/// Returns whether what a pattern and a specification find of many objects is this.
 fn finds(
     alloc: Global,
     node: &mut Node<Fnv>,
@@ -178,7 +178,7 @@ fn many_objects_are_found(rt: HostRuntime) {
     assert!(rt; passes_told(rt.alloc(), Told::Finds, BOUND, RESULTS) == Ok(true));
 }
 
-/// Whether a call on a new table s is answered so.
+/// Returns whether a call on a new table s is answered so.
 fn answers_on_set(
     alloc: Global,
     node: &mut Node<Fnv>,

@@ -3,7 +3,7 @@ use super::super::{Event, term};
 use super::*;
 use ets_term::Term;
 
-/// Whether a step is answered by what is told for a number.
+/// Returns whether a step is answered by the text for a number.
 fn does_for(
     alloc: Global,
     node: &mut Node<Fnv>,
@@ -21,7 +21,7 @@ fn enters(alloc: Global, node: &mut Node<Fnv>, pid: u32) -> Result<bool, AllocEr
     does_for(alloc, node, Enrol(pid), "<N", pid)
 }
 
-/// Whether a process makes an unnamed table, which gets the identifier.
+/// Returns whether a process makes an unnamed table, which gets the identifier.
 fn makes(alloc: Global, node: &mut Node<Fnv>, pid: u32, id: u32) -> Result<bool, AllocError> {
     does_for(alloc, node, Ask(pid, "new(u,[])"), "#N", id)
 }
@@ -34,7 +34,7 @@ fn resolved(node: &Node<Fnv>, id: u32) -> Option<u32> {
     found
 }
 
-/// Whether so many processes enrol, each with a table.
+/// Returns whether a number of processes enrol, each with a table.
 fn all_enter(alloc: Global, node: &mut Node<Fnv>, count: u32) -> Result<bool, AllocError> {
     for pid in 0..count {
         if !enters(alloc, node, pid)? || !makes(alloc, node, pid, pid)? {
@@ -44,7 +44,7 @@ fn all_enter(alloc: Global, node: &mut Node<Fnv>, count: u32) -> Result<bool, Al
     Ok(true)
 }
 
-/// Whether every sixteenth of so many ends.
+/// Returns whether every sixteenth process ends.
 fn some_end(alloc: Global, node: &mut Node<Fnv>, count: u32) -> Result<bool, AllocError> {
     for pid in 0..count {
         if pid % 16 == 0 && !does(alloc, node, End(pid), "true")? {
@@ -54,7 +54,7 @@ fn some_end(alloc: Global, node: &mut Node<Fnv>, count: u32) -> Result<bool, All
     Ok(true)
 }
 
-/// Whether so many processes enrol, and the tables of those that end go.
+/// Returns whether a number of processes enrol, and the tables of those that end go.
 pub fn serves(alloc: Global, node: &mut Node<Fnv>, count: u32) -> Result<bool, AllocError> {
     if !all_enter(alloc, node, count)? || !some_end(alloc, node, count)? {
         return Ok(false);
@@ -67,7 +67,7 @@ fn a_node_has_many_processes(rt: HostRuntime) {
     assert!(rt; passes(rt.alloc(), Trial::Processes) == Ok(true));
 }
 
-/// Whether process 0 makes tables up to so many.
+/// Returns whether process 0 makes tables up to a number.
 fn makes_all(alloc: Global, node: &mut Node<Fnv>, count: u32) -> Result<bool, AllocError> {
     for id in 1..count {
         if !makes(alloc, node, 0, id)? {
@@ -77,7 +77,7 @@ fn makes_all(alloc: Global, node: &mut Node<Fnv>, count: u32) -> Result<bool, Al
     Ok(true)
 }
 
-/// Whether a process has so many tables, and all go at its end.
+/// Returns whether a process has a number of tables, and all go at its end.
 pub fn has_tables(alloc: Global, node: &mut Node<Fnv>, count: u32) -> Result<bool, AllocError> {
     if !starts(alloc, node)?
         || !makes_all(alloc, node, count)?
@@ -93,7 +93,7 @@ fn a_process_has_many_tables(rt: HostRuntime) {
     assert!(rt; passes(rt.alloc(), Trial::Tables) == Ok(true));
 }
 
-/// Whether a table is named so, and its name leads to it.
+/// Returns whether a table is named so, and its name leads to it.
 fn takes_name(
     alloc: Global,
     node: &mut Node<Fnv>,
@@ -110,7 +110,7 @@ fn makes_named(alloc: Global, node: &mut Node<Fnv>, name: &str) -> Result<bool, 
     answered
 }
 
-/// Whether a name leads to this table.
+/// Returns whether a name leads to this table.
 fn names(alloc: Global, node: &Node<Fnv>, name: &str, id: u32) -> Result<bool, AllocError> {
     let named = term(alloc, name)?;
     let found = node.resolve(&named);
@@ -133,7 +133,7 @@ fn wrong_length(
     Ok(None)
 }
 
-/// Whether tables are named by names of every length.
+/// Returns whether tables are named by names of every length.
 pub fn takes_names(alloc: Global, node: &mut Node<Fnv>) -> Result<bool, AllocError> {
     if !starts(alloc, node)? {
         return Ok(false);

@@ -2,7 +2,7 @@ use super::super::{ask, is, step};
 use super::*;
 use node_core::{Reply, Step};
 
-/// A process, its table, and so many times an object and a lookup of it.
+/// A process, its table, and a number of times an object and a lookup of it.
 fn life(alloc: Global, count: u32) -> Result<Vec<Step>, AllocError> {
     let mut steps = Vec::new(alloc);
     kept(push_life(alloc, &mut steps, count), steps)
@@ -29,7 +29,7 @@ fn insertion(alloc: Global, number: u32) -> Result<Step, AllocError> {
     step
 }
 
-/// Whether it is what was stored last.
+/// Returns whether it is what was stored last.
 fn is_last(alloc: Global, reply: Option<&Reply>) -> Result<bool, AllocError> {
     match reply {
         Some(reply) => is(alloc, reply, "[{a,2099}]"),
@@ -37,7 +37,7 @@ fn is_last(alloc: Global, reply: Option<&Reply>) -> Result<bool, AllocError> {
     }
 }
 
-/// Whether a run gives a reply to each step, and the last is what was stored last.
+/// Returns whether a run gives a reply to each step, and the last is what was stored last.
 fn replies_to_each(
     alloc: Global,
     node: &mut Node<Fnv>,

@@ -1,4 +1,4 @@
-// Misuses of each kind, and steps past a limit, behind what they need, each with its reason in words.
+// Misuses of each kind, and steps past a limit, after what they need, each with its reason in words.
 use super::Event::{Ask, End, Enrol, Grow, Ready};
 use super::Row;
 
