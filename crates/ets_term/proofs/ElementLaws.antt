@@ -9,7 +9,7 @@ use Rattle.ets_term.specs.Depth.{elements, element_at}
 elements_of : (ts : List Term) → elements (Tuple ts) ≡ ts
 elements_of ts = search (rules, the_lemmas)
 
--- past its end a tuple has none
+-- past its end a tuple has no element
 pub element_past : (n : ℕ) (t : Term) (ts : List Term) → t ≡ Tuple ts → length ts < n → None ≡ element_at n t
 element_past zero t ts is past = refl
 element_past (suc i) t ts is past =

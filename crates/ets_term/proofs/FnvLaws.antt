@@ -1,4 +1,4 @@
--- FNV-1a over the zero bytes in front of a small number: one product in the place of one for each byte.
+-- FNV-1a over the leading zero bytes of a small number: one product in place of one for each byte.
 use Rattle.std.proofs.Common.{rules, pos, ◌≡◌, ◌<◌, ◌≤◌, ◌+◌, ◌*◌, ◌^◌, ◌%◌, ◌∙◌, arith, refl, sym, ap, ℕ, zero, suc, fold}
 use Rattle.std.specs.Int.{cast_unsigned, byte_at, bytes_high_first, to_be_bytes, w32, w64, w128}
 use Rattle.std.specs.Int.Bits.{xor_zero_r}
@@ -39,7 +39,7 @@ zeros-first (suc k) (suc i) j n h is some small below =
     ∙ ap (λ s. fold fnv_step s (bytes_high_first j n)) (raised h k)
 
 module _ (low start : ℕ) (below : start < 2 ^ 32) where
-  -- the bytes of a small integer are its low bytes behind zeros
+  -- the bytes of a small integer are zeros, then its low bytes
   in-bytes : low < 2 ^ 64 → cast_unsigned w128 (pos low) ≡ low
   in-bytes small = search rules
 

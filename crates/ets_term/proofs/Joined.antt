@@ -1,4 +1,4 @@
--- What a term writes to a hasher is its encoding, byte by byte.
+-- A term writes the bytes of its encoding to a hasher.
 use Rattle.std.specs.Prelude.{◌≡◌, ℕ, List, [], ◌∷◌, ◌++◌, map, refl}
 use Rattle.std.proofs.Common.{sym, ap, ◌∙◌, subst, append_assoc, append-nil, length}
 use Rattle.std.proofs.lemmas.List.{length-map}

@@ -1,4 +1,4 @@
--- Two rows are alike where they are as long as each other and alike at each place.
+-- Two rows are equal if they have equal lengths and equal elements.
 use Rattle.std.proofs.Common.{rules, ◌≡◌, ℕ, zero, suc, ◌<◌, ◌≤◌, ◌-◌, Bool, true, false, ◌&&◌, List, [], ◌∷◌, map, length, take, get_or, refl, sym, ap, ◌∙◌, arith, Ordering, Less, Equal, Greater, nat_cmp}
 use native.Mathlib.Numerals.{unary_clauses}
 use Rattle.std.proofs.lemmas.Bool.Decides.{nat_tests}
@@ -12,7 +12,7 @@ use Rattle.ets_term.specs.Data.{atom, binary, row_of, data_of}
 use Rattle.ets_term.specs.Order.{row_order, order, same}
 use Rattle.ets_term.proofs.Rows.{tuples}
 
--- whether two rows are alike
+-- whether two rows are equal
 abbrev pub rows_alike : List Term → List Term → Bool
 rows_alike xs ys = is_eq (row_order (row_of (map data_of xs)) (row_of (map data_of ys)))
 
@@ -82,14 +82,14 @@ atoms_alike x y a b is_a is_b = rw (is_a, is_b, data_of-Atom x, data_of-Atom y) 
 pub binaries_alike : (x y : List ℕ) (a b : Term) → a ≡ Binary x → b ≡ Binary y → same a b ≡ bytes_eq x y
 binaries_alike x y a b is_a is_b = rw (is_a, is_b, data_of-Binary x, data_of-Binary y) (is_eq-slice_cmp x y)
 
--- where the last of some terms differ, so do the rows
+-- if the last of the first `at` terms differ, the rows differ
 pub differ_here : (xs ys : List Term) (at : ℕ) (x y : Term) → 0 < at → at ≤ length xs → length xs ≡ length ys → x ≡ get_or xs (at - 1) x → y ≡ get_or ys (at - 1) y
     → same x y ≡ false → rows_alike (take at xs) (take at ys) ≡ rows_alike xs ys → rows_alike xs ys ≡ false
 differ_here xs ys zero x y more within sizes is_x is_y differ known = absurd (omega (arith, more))
 differ_here xs ys (suc n) x y more within sizes is_x is_y differ known =
     sym known ∙ last_too xs ys n x y x y (omega (arith, within)) (omega (arith, within, sizes)) (simp unary_clauses at is_x) (simp unary_clauses at is_y) ∙ either_false _ _ differ
 
--- where the last of some terms are alike, those before them tell
+-- if the last of the first `at` terms are equal, the terms before them decide
 pub alike_here : (xs ys : List Term) (at : ℕ) (x y : Term) → 0 < at → at ≤ length xs → length xs ≡ length ys → x ≡ get_or xs (at - 1) x → y ≡ get_or ys (at - 1) y
     → same x y ≡ true → rows_alike (take at xs) (take at ys) ≡ rows_alike xs ys → rows_alike (take (at - 1) xs) (take (at - 1) ys) ≡ rows_alike xs ys
 alike_here xs ys zero x y more within sizes is_x is_y equal known = absurd (omega (arith, more))

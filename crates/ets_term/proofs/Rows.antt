@@ -24,7 +24,7 @@ tuples x y a b is_a is_b = rw (is_a, is_b, data_of-Tuple x, data_of-Tuple y, row
 nat_cmp-suc : (m n : ℕ) → nat_cmp (suc m) (suc n) ≡ nat_cmp m n
 nat_cmp-suc m n = grind (arith, nat_tests)
 
--- past the shorter of two rows, the longer is the greater
+-- past the end of the shorter of two rows, the longer is greater
 pub by_length : (xs ys : List Term) (i : ℕ) → i ≡ min (length xs) (length ys)
     → row_order (row_of (map data_of (drop i xs))) (row_of (map data_of (drop i ys))) ≡ nat_cmp (length xs) (length ys)
 by_length [] [] zero e = refl

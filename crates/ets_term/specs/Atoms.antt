@@ -1,16 +1,13 @@
 -- Atoms among terms.
-use Rattle.std.specs.Prelude.{ℕ, Bool, false, List, Option, Some, None}
+use Rattle.std.specs.Prelude.{ℕ, Bool, false, List, Option}
 use Rattle.std.specs.Str.{bytes_eq}
 use Rattle.ets_term.specs.declared.term.Term.{Term, out-Term}
 use Rattle.ets_term.specs.declared.term.Term.TheOpen.{Term-F}
-
-abbrev pub text_form : Term-F Term → Option (List ℕ)
-text_form (Term-F.Atom text) = Some text
-text_form _ = None
+use Rattle.ets_term.specs.Views.{as_atom}
 
 -- the text of an atom; no other term has one
 abbrev pub text_of : Term → Option (List ℕ)
-text_of term = text_form (out-Term term)
+text_of = as_atom
 
 abbrev pub is_atom_form : List ℕ → Term-F Term → Bool
 is_atom_form text (Term-F.Atom own) = bytes_eq own text

@@ -1,4 +1,4 @@
--- A term as a tree, for definitions that go through two terms at once.
+-- A term as a tree, for definitions by recursion over two terms.
 use Rattle.std.specs.Prelude.{ℕ, ℤ, List, [], ◌∷◌}
 use Rattle.ets_term.specs.declared.term.Term.{Term, fold-Term}
 use Rattle.ets_term.specs.declared.term.Term.TheOpen.{Term-F}
@@ -21,7 +21,7 @@ abbrev pub row_of : List Data → Row
 row_of [] = no_terms
 row_of (d ∷ ds) = term d (row_of ds)
 
--- one level, with each term inside already seen as its tree
+-- one level, with the trees of the terms inside
 abbrev pub data_form : Term-F Data → Data
 data_form (Term-F.Int n) = int n
 data_form (Term-F.Atom a) = atom a

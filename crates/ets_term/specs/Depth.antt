@@ -1,14 +1,14 @@
--- How deep a term is, and the elements of a tuple.
+-- The depth of a term, and the elements of a tuple.
 use Rattle.std.specs.Prelude.{ℕ, Bool, nat_lt, ◌+◌, ◌-◌, ◌==◌, if◌then◌else◌, max, List, [], ◌∷◌, Option, None, slice_get}
 use Rattle.ets_term.specs.declared.term.Term.{Term, fold-Term, out-Term}
 use Rattle.ets_term.specs.declared.term.Term.TheOpen.{Term-F}
 
--- the largest of some numbers, 0 of none
+-- the largest of some numbers, or 0 for no numbers
 abbrev pub largest : List ℕ → ℕ
 largest [] = 0
 largest (n ∷ ns) = max n (largest ns)
 
--- 1 for what holds no terms, `{}` and `[]` too, else one more than the depth of the deepest element
+-- 1 for a term that holds no terms, `{}` and `[]` too, else one more than the depth of the deepest element
 abbrev pub depth_form : Term-F ℕ → ℕ
 depth_form (Term-F.Tuple ds) = largest ds + 1
 depth_form (Term-F.List ds) = largest ds + 1
@@ -21,11 +21,11 @@ depth = fold-Term ℕ depth_form
 abbrev pub max_depth : ℕ
 max_depth = 128
 
--- whether a term is deeper than that
+-- whether a term is deeper than `max_depth`
 abbrev pub is_too_deep : Term → Bool
 is_too_deep term = nat_lt max_depth (depth term)
 
--- the elements of a tuple; any other term has none
+-- the elements of a tuple, or no elements for any other term
 abbrev pub elements_form : Term-F Term → List Term
 elements_form (Term-F.Tuple ts) = ts
 elements_form _ = []

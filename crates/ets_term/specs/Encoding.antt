@@ -1,4 +1,4 @@
--- The bytes of a term, and the hash of them.
+-- The bytes of a term, and their FNV-1a hash.
 use Rattle.std.specs.Prelude.{ℕ, ◌*◌, ◌%◌, ◌^◌, List, [], ◌∷◌, ◌++◌, length, fold, bit_xor}
 use Rattle.std.specs.Int.{to_be_bytes, w32, w64}
 use Rattle.ets_term.specs.declared.term.Term.{Term, fold-Term}

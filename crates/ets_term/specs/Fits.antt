@@ -1,4 +1,4 @@
--- The ranges of what terms hold.
+-- The ranges of the values in terms.
 use Rattle.std.specs.Prelude.{◌<◌, ◌^◌, ◌≤ℤ◌}
 use Rattle.std.specs.List.{AllByRecursion}
 use Rattle.ets_term.specs.declared.term.Term.{Term}

@@ -8,10 +8,10 @@ least = negsuc (2 ^ 127 - 1)
 abbrev pub greatest : ℤ
 greatest = pos (2 ^ 127 - 1)
 
--- None where a term's integer cannot hold it
+-- None if an integer is out of range
 abbrev pub in_range : ℤ → Option ℤ
 in_range n = if int_le least n && int_le n greatest then Some n else None
 
--- its bytes in two's complement, the high byte first
+-- the bytes of an integer in two's complement, the high byte first
 unfoldable pub integer_bytes : ℤ → List ℕ
 integer_bytes n = to_be_bytes w128 (cast_unsigned w128 n)

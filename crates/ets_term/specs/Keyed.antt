@@ -1,11 +1,11 @@
--- The words of a term, and the hash of them by a seed.
+-- The words of a term, and their hash with a seed.
 use Rattle.std.specs.Prelude.{ℕ, ℤ, ◌*◌, ◌/◌, ◌%◌, ◌^◌, List, [], ◌∷◌, length, fold, bit_xor, bit_or}
 use Rattle.std.specs.Int.{cast_unsigned, w128}
 use Rattle.ets_term.specs.declared.term.Term.{Term, fold-Term}
 use Rattle.ets_term.specs.declared.term.Term.TheOpen.{Term-F}
 use Rattle.ets_term.specs.Encoding.{joined}
 
--- an integer in two's complement: its high word, and its low one
+-- the words of an integer in two's complement, the high word first
 abbrev pub integer_words : ℤ → List ℕ
 integer_words n = cast_unsigned w128 n / 2 ^ 64 ∷ cast_unsigned w128 n % 2 ^ 64 ∷ []
 
@@ -22,18 +22,18 @@ words_form (Term-F.Binary s) = 7 ∷ length s ∷ s
 abbrev pub words : Term → List ℕ
 words = fold-Term (List ℕ) words_form
 
--- a product of 128 bits, folded: its halves by exclusive or
+-- the exclusive or of the halves of a product of 128 bits
 abbrev pub folded : ℕ → ℕ → ℕ
 folded a b = bit_xor ((a * b) % 2 ^ 64) ((a * b) / 2 ^ 64)
 
--- what a seed multiplies by
+-- the factor of a seed
 abbrev pub factor : ℕ → ℕ
 factor seed = bit_or (folded (bit_xor seed 11400714819323198485) 15111065706836454659) 1
 
--- exclusive or with the word, then a product, folded
+-- exclusive or with the word, then a folded product
 abbrev pub keyed_step : ℕ → ℕ → ℕ → ℕ
 keyed_step by h word = folded (bit_xor h word) by
 
--- all words from the factor on, and one product more, of which 32 bits stay
+-- starts with the factor, takes all words, and keeps the low 32 bits of one more folded product
 abbrev pub keyed : ℕ → List ℕ → ℕ
 keyed seed ws = folded (fold (keyed_step (factor seed)) (factor seed) ws) (factor seed) % 2 ^ 32

@@ -7,6 +7,7 @@ pub mod Fits
 pub mod Integers
 pub mod Keyed
 pub mod Order
+pub mod Views
 pub mod Writes
 pub mod formers
 pub mod inside

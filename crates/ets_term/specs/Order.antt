@@ -44,6 +44,6 @@ abbrev mutual
 abbrev pub order : Term → Term → Ordering
 order = on data_of data_order
 
--- whether two terms are built alike
+-- whether two terms are equal: built alike
 abbrev pub same : Term → Term → Bool
 same = eq_by_cmp order

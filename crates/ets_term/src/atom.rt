@@ -1,40 +1,40 @@
 ghost use Rattle.std.specs.Prelude.{◌≡◌, ◌<◌, ◌≤◌, ◌↔◌, length, IfOk, IsOk, IsErrOf};
 ghost use Rattle.std.specs.List.{list_all};
-ghost use Rattle.ets_term.specs.Character.{is_character, max_characters, IsAtomText};
+ghost use Rattle.ets_term.specs.Character.{is_character, max_characters, max_inline, IsAtomText};
 
-use crate::stored::{MAX_IN_PLACE, Stored};
+use crate::atom_text::AtomText;
 use std::alloc::{AllocError, Global};
 use std::marker::Model;
 
-/// The most characters that an atom has.
+/// The greatest number of characters in an atom.
 pub const MAX_CHARACTERS: usize = 255;
 
 /// An atom: at most `MAX_CHARACTERS` characters, each printable ASCII, from the space to the tilde.
 #[derive(Drop)]
 pub struct Atom {
-    stored: Stored,
+    text: AtomText,
 }
 
 impl Model for Atom {
     ghost use Rattle.std.specs.Prelude.{List, ℕ};
     ghost use Rattle.ets_term.specs.Character.{IsAtomText};
-    ghost use Rattle.ets_term.specs.inside.Stored.{characters, EndsInPlace};
+    ghost use Rattle.ets_term.specs.inside.AtomTexts.{characters, EndsInline};
 
     ghost Value = { List ℕ };
 
-    ghost view = { λ a. characters a.stored };
+    ghost view = { λ a. characters a.text };
 
-    ghost invariant = { λ a. IsAtomText (characters a.stored) × EndsInPlace a.stored };
+    ghost invariant = { λ a. IsAtomText (characters a.text) × EndsInline a.text };
 }
 
-/// Why a text is no atom.
+/// Why a text is not an atom.
 #[derive(Debug, Drop)]
 pub enum AtomFault {
-    /// It has more than `MAX_CHARACTERS` characters.
+    /// The text has more than `MAX_CHARACTERS` characters.
     TooLong,
-    /// One of its characters is not printable ASCII.
+    /// A character of the text is not printable ASCII.
     BadCharacter,
-    /// There was no memory for it.
+    /// An allocation failed.
     Memory,
 }
 
@@ -51,14 +51,16 @@ impl From<AllocError> for AtomFault {
 
 #[tactic(auto, using(crate::proofs::Texts::atom_is_utf8))]
 impl Atom {
-    /// The atom with this text, which may be empty. A text of up to 22 characters takes no memory.
+    /// Returns the atom with a text, which may be empty. A text of up to 22 characters takes no memory.
+    ///
+    /// Returns `TooLong` for any text of more than 255 characters, whatever they are.
     pub fn new(alloc: Global, text: &str) -> Result<Atom, AtomFault>
         ensures made { IfOk result (λ a. a ≡ text.now) }
         ensures fits { IfOk result (λ _. IsAtomText text.now) }
         ensures long { IsErrOf result AtomFault.TooLong ↔ max_characters < length text.now }
         ensures bad { IsErrOf result AtomFault.BadCharacter
             ↔ (length text.now ≤ max_characters) × ¬ IsAtomText text.now }
-        ensures short { length text.now ≤ MAX_IN_PLACE → ¬ IsErrOf result AtomFault.Memory }
+        ensures short { length text.now ≤ max_inline → ¬ IsErrOf result AtomFault.Memory }
     {
         if text.len() > MAX_CHARACTERS {
             return Err(AtomFault::TooLong);
@@ -67,41 +69,43 @@ impl Atom {
             return Err(AtomFault::BadCharacter);
         }
         Ok(Atom {
-            stored: Stored::of_text(alloc, text)?,
+            text: AtomText::of_text(alloc, text)?,
         })
     }
 
-    /// The atom with these characters, which are known to be an atom's. Up to 22 of them take no memory.
+    /// Returns the atom with these characters, without a check that they are an atom's text. Up to 22 characters take
+    /// no memory.
     pub fn of_bytes(alloc: Global, bytes: &[u8]) -> Result<Atom, AllocError>
         requires { IsAtomText bytes.now }
         ensures same { IfOk result (λ a. a ≡ bytes.now) }
-        ensures short { length bytes.now ≤ MAX_IN_PLACE → IsOk result }
+        ensures short { length bytes.now ≤ max_inline → IsOk result }
     {
         let text = unsafe { str::from_utf8_unchecked(bytes) };
         Ok(Atom {
-            stored: Stored::of_text(alloc, text)?,
+            text: AtomText::of_text(alloc, text)?,
         })
     }
 
-    /// Its characters.
+    /// Returns the characters.
     pub fn text(&self) -> &str
         ensures text { result.now ≡ self.now }
         ensures fits { IsAtomText self.now }
     {
-        self.stored.as_str()
+        self.text.as_str()
     }
 
-    /// The same atom again. One of up to 22 characters takes no memory.
+    /// Returns an equal atom. An atom of up to 22 characters takes no memory.
     pub fn try_clone(&self, alloc: Global) -> Result<Atom, AllocError>
         ensures same { IfOk result (λ a. a ≡ self.now) }
-        ensures short { length self.now ≤ MAX_IN_PLACE → IsOk result }
+        ensures short { length self.now ≤ max_inline → IsOk result }
     {
         Ok(Atom {
-            stored: Stored::of_text(alloc, self.text())?,
+            text: AtomText::of_text(alloc, self.text())?,
         })
     }
 }
 
+/// Returns whether all bytes are printable ASCII.
 fn is_printable(bytes: &[u8]) -> bool
     ensures { result ≡ list_all is_character bytes.now }
 {

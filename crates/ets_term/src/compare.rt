@@ -1,4 +1,4 @@
-//! The comparisons of terms.
+//! The order of terms.
 ghost use Rattle.std.proofs.Common.{rules};
 ghost use Rattle.std.specs.Prelude.{◌≡◌, ◌↔◌, map};
 ghost use Rattle.std.specs.Ordering.{as_partial_cmp};
@@ -7,18 +7,20 @@ ghost use Rattle.ets_term.specs.Data.{row_of, data_of};
 ghost use Rattle.ets_term.specs.Order.{order, same, row_order, rank};
 ghost use Rattle.ets_term.specs.laws.Ordered.{order_total};
 
-use crate::alike::alike;
+use crate::equal::equal_terms;
 use crate::term::Term;
 use std::cmp::Ordering;
 
 impl Term {
-    /// How the term compares with another: integer < atom < table identifier < pid < tuple < list < binary (Erlang
-    /// Reference Manual, Expressions, Term Comparisons); tuples by size first, then element by element; else part by
-    /// part, a proper prefix below the longer. Identifiers and pids go by their numbers, which is this project's
-    /// choice.
+    /// Compares the term with another. Returns `Equal` exactly if they are built alike.
+    ///
+    /// The kinds are in the order integer < atom < table identifier < pid < tuple < list < binary (Erlang Reference
+    /// Manual, Expressions, Term Comparisons). Tuples compare by size first, then element by element. Other terms of one
+    /// kind compare part by part, and a proper prefix is less. Identifiers and pids compare by their numbers, which is
+    /// this project's choice.
     pub fn cmp_terms(&self, other: &Term) -> Ordering
         ensures order { result ≡ order self.now other.now }
-        ensures alike { result ≡ Ordering.Equal ↔ self.now ≡ other.now }
+        ensures equal { result ≡ Ordering.Equal ↔ self.now ≡ other.now }
     {
         self.cmp(other)
     }
@@ -29,8 +31,12 @@ impl PartialEq for Term {
 
     ghost laws = { Prim.search (comparing, order_total, rules) };
 
+    #[inline(always)]
     fn eq(&self, other: &Term) -> bool {
-        alike(self, other)
+        match (self, other) {
+            (Term::Int(x), Term::Int(y)) => x == y,
+            _ => equal_terms(self, other),
+        }
     }
 }
 
@@ -62,6 +68,7 @@ impl Ord for Term {
     }
 }
 
+/// Compares two terms.
 #[cycle(compare)]
 #[tactic(auto, using(crate::proofs::Rows::row_len_of, crate::proofs::Rows::decided))]
 fn compare(a: &Term, b: &Term) -> Ordering
@@ -82,6 +89,7 @@ fn compare(a: &Term, b: &Term) -> Ordering
     }
 }
 
+/// Compares two lists of terms, element by element.
 #[cycle(compare)]
 fn compare_items(xs: &[Term], ys: &[Term]) -> Ordering
     ensures { result ≡ row_order (row_of (map data_of xs.now)) (row_of (map data_of ys.now)) }
@@ -96,6 +104,7 @@ fn compare_items(xs: &[Term], ys: &[Term]) -> Ordering
     xs.len().cmp(&ys.len())
 }
 
+/// Returns the rank of the term's kind in the order.
 fn kind(term: &Term) -> u8
     ensures { result ≡ rank (data_of term.now) }
 {

@@ -1,4 +1,4 @@
-//! The ranges of what terms hold.
+//! The ranges of the values in terms.
 ghost use Rattle.std.specs.Prelude.{◌<◌, map};
 ghost use Rattle.std.specs.List.{AllByRecursion};
 ghost use Rattle.ets_term.specs.Data.{row_of, data_of};
@@ -7,8 +7,8 @@ ghost use Rattle.ets_term.specs.Fits.{Fits, RowFits};
 use crate::term::Term;
 
 impl Term {
-    /// Answers nothing, and promises that the term fits: its integers, pids, identifiers and bytes are in their ranges,
-    /// and each of its atoms has at most `MAX_CHARACTERS` characters, all printable ASCII.
+    /// Returns nothing; its contract promises that the term is in range. Integers, pids, identifiers and bytes are in
+    /// their ranges, and each atom has at most `MAX_CHARACTERS` characters, all printable ASCII.
     pub fn fits(&self)
         ensures { Fits self.now }
     {
@@ -16,6 +16,7 @@ impl Term {
     }
 }
 
+/// Promises that a term is in range.
 #[cycle(fits)]
 fn fits_term(term: &Term)
     ensures { Fits term.now }
@@ -39,10 +40,12 @@ fn fits_term(term: &Term)
     }
 }
 
+/// Promises that each byte is below 256.
 fn fits_bytes(bytes: &[u8])
     ensures { AllByRecursion (λ b. b < 256) bytes.now }
 {}
 
+/// Promises that each item is in range.
 #[cycle(fits)]
 fn fits_items(items: &[Term])
     ensures { RowFits (row_of (map data_of items.now)) }

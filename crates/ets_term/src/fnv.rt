@@ -1,4 +1,4 @@
-//! FNV-1a of terms.
+//! The hasher FNV-1a.
 ghost use Rattle.std.specs.Prelude.{◌≡◌, ◌∷◌, fold, map};
 ghost use Rattle.std.specs.Int.{to_be_bytes, w64};
 ghost use Rattle.ets_term.specs.Encoding.{encoding, joined, fnv_step};
@@ -8,14 +8,15 @@ use crate::integer::{Integer, integer_bytes};
 use crate::key_hash::KeyHash;
 use crate::term::Term;
 
-/// The prime of FNV-1a raised to the twelfth and to the eighth power, modulo 2^32: what so many zero bytes multiply by.
+/// The prime of FNV-1a to the twelfth power, modulo 2^32: the factor of twelve zero bytes.
 const TWELVE_ZEROS: u32 = 3549196337;
 
+/// The same to the eighth power: the factor of eight zero bytes.
 const EIGHT_ZEROS: u32 = 1566662433;
 
-/// The hash FNV-1a of 32 bits over the encoding of the term: a byte for the kind (integer 1, atom 2, pid 3, table
-/// identifier 4, tuple 5, list 6, binary 7); then 16 bytes of an integer, 8 of a count, 1 byte of an atom's length, or
-/// 4 bytes of a pid's or an identifier's number, each with the high byte first; then the characters, elements or bytes.
+/// The hasher FNV-1a of 32 bits over the encoding of a term. The encoding starts with a byte for the kind: integer 1,
+/// atom 2, pid 3, table identifier 4, tuple 5, list 6, binary 7. Then come 16 bytes of an integer, 8 of a count, 1 of an
+/// atom's length, or 4 of a number, each with the high byte first. Characters, elements or bytes end it.
 #[derive(Clone, Copy)]
 pub struct Fnv;
 
@@ -23,15 +24,20 @@ impl KeyHash for Fnv {
     ghost use Rattle.ets_term.specs.Encoding.{fnv};
     ghost use Rattle.ets_term.specs.laws.Hashed.{fnv-below};
 
-    ghost number = { λ _ term. fnv (encoding term) };
+    ghost hash = { λ _ term. fnv (encoding term) };
 
     ghost below = { λ _ term. fnv-below (encoding term) };
 
+    #[inline(always)]
     fn hash32(&self, term: &Term) -> u32 {
-        fnv_term(2166136261, term)
+        match term {
+            Term::Int(n) => fnv_integer(fnv_bytes(2166136261, &[1]), *n),
+            _ => fnv_term(2166136261, term),
+        }
     }
 }
 
+/// Continues a hash over the encoding of a term.
 #[cycle(fnv)]
 fn fnv_term(start: u32, term: &Term) -> u32
     ensures { result ≡ fold fnv_step start (encoding term.now) }
@@ -50,6 +56,7 @@ fn fnv_term(start: u32, term: &Term) -> u32
     }
 }
 
+/// Continues a hash over the encodings of some terms.
 #[cycle(fnv)]
 fn fnv_items(start: u32, items: &[Term]) -> u32
     ensures { result ≡ fold fnv_step start (joined (map encoding items.now)) }
@@ -61,7 +68,7 @@ fn fnv_items(start: u32, items: &[Term]) -> u32
     hash
 }
 
-/// Over the bytes of an integer: the zeros in front of a small one are one product.
+/// Continues a hash over the bytes of an integer. The leading zeros of a small integer take one product.
 fn fnv_integer(start: u32, n: Integer) -> u32
     ensures { result ≡ fold fnv_step start (bytes_of n) }
 {
@@ -74,12 +81,14 @@ fn fnv_integer(start: u32, n: Integer) -> u32
     fnv_bytes(start, &integer_bytes(n))
 }
 
+/// Continues a hash over a kind and a count.
 fn fnv_count(start: u32, kind: u8, count: usize) -> u32
     ensures { result ≡ fold fnv_step start (kind ∷ to_be_bytes w64 count) }
 {
     fnv_bytes(fnv_bytes(start, &[kind]), &(count as u64).to_be_bytes())
 }
 
+/// Continues a hash over bytes.
 fn fnv_bytes(start: u32, bytes: &[u8]) -> u32
     ensures { result ≡ fold fnv_step start bytes.now }
 {

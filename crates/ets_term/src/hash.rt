@@ -1,20 +1,13 @@
-//! The bytes of terms, as any hasher takes them.
+//! What a term writes to any hasher.
 ghost use Rattle.std.specs.Prelude.{◌≡◌, [], ◌∷◌, fold, map};
 ghost use Rattle.std.specs.Int.{to_be_bytes, w64};
-ghost use Rattle.ets_term.specs.Encoding.{encoding, joined};
+ghost use Rattle.ets_term.specs.Encoding.{joined};
 ghost use Rattle.ets_term.specs.Writes.{writes};
 ghost use Rattle.ets_term.specs.laws.Hashed.{writes-same};
 
 use crate::integer::integer_bytes;
 use crate::term::Term;
 use std::hash::{Hash, Hasher};
-
-impl Term {
-    /// Answers nothing, and promises that the bytes which the term writes to a hasher are, joined, its encoding.
-    pub fn hashes_its_encoding(&self)
-        ensures { joined (writes self.now) ≡ encoding self.now }
-    {}
-}
 
 impl Hash for Term {
     ghost hash_input = { writes };
@@ -26,6 +19,7 @@ impl Hash for Term {
     }
 }
 
+/// Writes a term to a hasher.
 #[cycle(feed)]
 fn feed<H: Hasher>(term: &Term, state: &mut H)
     ensures { state.new ≡ fold H.write state.old (writes term.now) }
@@ -63,6 +57,7 @@ fn feed<H: Hasher>(term: &Term, state: &mut H)
     }
 }
 
+/// Writes some terms to a hasher, one after another.
 #[cycle(feed)]
 fn feed_items<H: Hasher>(items: &[Term], state: &mut H)
     ensures { state.new ≡ fold H.write state.old (joined (map writes items.now)) }
@@ -72,6 +67,7 @@ fn feed_items<H: Hasher>(items: &[Term], state: &mut H)
     }
 }
 
+/// Writes a kind and a count to a hasher.
 fn feed_count<H: Hasher>(kind: u8, count: usize, state: &mut H)
     ensures { state.new ≡ fold H.write state.old ((kind ∷ []) ∷ to_be_bytes w64 count ∷ []) }
 {

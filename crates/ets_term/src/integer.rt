@@ -2,16 +2,16 @@
 ghost use Rattle.std.specs.Prelude.{◌≡◌};
 ghost use Rattle.ets_term.specs.Integers.{integer_bytes as bytes_of};
 
-/// The integers of terms: 128 bits, from -2^127 to 2^127-1.
+/// An integer of a term: 128 bits, from -2^127 to 2^127-1.
 pub type Integer = i128;
 
-/// A position in a tuple, counted from 1, as a caller may name it: no tuple is as long as some of them.
+/// A position in a tuple, counted from 1. It may be past the end of every tuple.
 pub type Position = u128;
 
-/// How many bytes an integer has.
+/// The number of bytes in an integer.
 pub(crate) const INTEGER_BYTES: usize = 16;
 
-/// Its bytes in two's complement, the high byte first.
+/// Returns the bytes in two's complement, the high byte first.
 pub(crate) fn integer_bytes(n: Integer) -> [u8; INTEGER_BYTES]
     ensures { result ≡ bytes_of n }
 {

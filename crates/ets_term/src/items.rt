@@ -8,8 +8,8 @@ use std::marker::Model;
 use std::ops::DerefSlice;
 use std::{mem, slice};
 
-/// A `Vec` that contracts see as the list of its elements, so that a copy equals what it copies. Made from a `Vec` and
-/// given back as one without taking memory.
+/// A `Vec` that contracts see as the list of its elements, so that a copy is equal to its original. Conversions from
+/// and to a `Vec` take no memory.
 #[derive(Debug, Drop)]
 pub struct Items<T> {
     items: Vec<T>,
@@ -27,7 +27,7 @@ impl<T> Model for Items<T> {
 }
 
 impl<T> Items<T> {
-    /// No items.
+    /// Returns no items. Takes no memory.
     pub fn new(alloc: Global) -> Items<T>
         ensures { result ≡ [] }
     {
@@ -36,14 +36,14 @@ impl<T> Items<T> {
         }
     }
 
-    /// The items of the `Vec`, which is kept as it is.
+    /// Returns the items of a `Vec`, and keeps its memory.
     pub fn from_vec(items: Vec<T>) -> Items<T>
         ensures { result ≡ items.items }
     {
         Self { items }
     }
 
-    /// The items as a `Vec` again.
+    /// Returns the items as a `Vec`, with its memory.
     pub fn into_vec(self) -> Vec<T>
         ensures { result.items ≡ self }
     {
@@ -51,35 +51,35 @@ impl<T> Items<T> {
         items
     }
 
-    /// The items in their order.
+    /// Returns the items in their order.
     pub fn as_slice(&self) -> &[T]
         ensures { result.now ≡ self.now }
     {
         self.items.as_slice()
     }
 
-    /// How many there are.
+    /// Returns the number of items.
     pub fn len(&self) -> usize
         ensures { result ≡ length self.now }
     {
         self.items.len()
     }
 
-    /// Whether there are none.
+    /// Returns whether the number of items is 0.
     pub fn is_empty(&self) -> bool
         ensures { result ≡ (length self.now == 0) }
     {
         self.items.is_empty()
     }
 
-    /// The item at the place, counted from 0; None past the end.
+    /// Returns the item at an index, counted from 0, or None past the end.
     pub fn get(&self, at: usize) -> Option<&T>
         ensures { option_copied result ≡ slice_get self.now at }
     {
         self.items.get(at)
     }
 
-    /// Puts another item at the place, counted from 0, and hands the old one back. The others stay, and none is copied.
+    /// Replaces the item at an index, counted from 0, and returns the old item. Other items stay.
     pub fn replace(&mut self, at: usize, item: T) -> T
         requires { at < length self.old }
         ensures new { self.new ≡ slice_set self.old at item }
@@ -88,7 +88,7 @@ impl<T> Items<T> {
         mem::replace(&mut self.items[at], item)
     }
 
-    /// Takes the last item off; None where there is none.
+    /// Removes the last item and returns it, or returns None if the number of items is 0.
     pub fn pop(&mut self) -> Option<T>
         ensures { MatchOption result ((self.old ≡ []) × (self.new ≡ [])) (λ last. self.old ≡ self.new ++ last ∷ []) }
     {
@@ -97,7 +97,7 @@ impl<T> Items<T> {
 }
 
 impl<T: Drop> Items<T> {
-    /// Puts an item at the end. Want of memory changes nothing.
+    /// Appends an item. If memory is refused, nothing changes.
     pub fn push(&mut self, item: T) -> Result<(), AllocError>
         ensures ok { OnOk result (self.new ≡ self.old ++ item ∷ []) }
         ensures err { OnErr result (self.new ≡ self.old) }

@@ -1,28 +1,28 @@
-//! Hashes of terms, as tables take them.
+//! Hashers of terms, for tables.
 ghost use Rattle.std.specs.Prelude.{◌≡◌, ℕ, ◌<◌, ◌^◌};
 ghost use Rattle.ets_term.specs.declared.term.Term as declared;
 
 use crate::term::Term;
 
-/// A hash of terms. Its number is a function of the term alone, so equal terms get equal numbers, all below 2^32.
+/// A hasher of terms. It gives equal terms equal hashes, all below 2^32.
 pub trait KeyHash {
-    ghost number: { Self → declared.Term → ℕ };
+    ghost hash: { Self → declared.Term → ℕ };
 
-    /// The number of the term.
+    /// Returns the hash of a term, a number of 32 bits.
     fn hash32(&self, term: &Term) -> u32
-        ensures { result ≡ number self.now term.now };
+        ensures { result ≡ hash self.now term.now };
 
-    ghost below: { (hash : Self) (term : declared.Term) → number hash term < 2 ^ 32 };
+    ghost below: { (hasher : Self) (term : declared.Term) → hash hasher term < 2 ^ 32 };
 }
 
-/// The hash that gives each term the number 0, so that every key stands in one bucket.
+/// The hasher that gives each term the hash 0, so that every key is in one bucket.
 #[derive(Clone, Copy)]
 pub struct AllSame;
 
 impl KeyHash for AllSame {
     ghost use Rattle.std.proofs.Common.{arith};
 
-    ghost number = { λ _ _. 0 };
+    ghost hash = { λ _ _. 0 };
 
     ghost below = { λ _ _. Prim.omega arith };
 

@@ -1,4 +1,4 @@
-//! A hash of terms with a seed.
+//! A hasher of terms with a seed.
 ghost use Rattle.std.specs.Prelude.{◌≡◌, ◌∷◌, fold, map};
 ghost use Rattle.ets_term.specs.Encoding.{joined};
 ghost use Rattle.ets_term.specs.Keyed.{words, integer_words, folded, factor, keyed_step};
@@ -7,10 +7,10 @@ use crate::integer::Integer;
 use crate::key_hash::KeyHash;
 use crate::term::Term;
 
-/// The hash with this seed: words of 64 bits, each mixed in by an exclusive or and a product of 128 bits, whose halves
-/// are folded. The words of a term are one for its kind, as in `Fnv`; then the two of an integer, the high one first,
-/// or a number, or the count and then the characters, elements or bytes. What is multiplied by comes of the seed, so
-/// that keys of one bucket are hard to find for whoever does not know it.
+/// The hasher with this seed. It mixes in words of 64 bits: by an exclusive or, then a product of 128 bits whose halves
+/// it folds. The first word of a term is its kind, as in `Fnv`. The others are the two words of an integer, the high one
+/// first; or a number; or the count, then the characters, elements or bytes. The factor depends on the seed, so that
+/// keys of one bucket are hard to choose without the seed.
 #[derive(Clone, Copy)]
 pub struct Keyed(pub u64);
 
@@ -18,9 +18,9 @@ impl KeyHash for Keyed {
     ghost use Rattle.ets_term.specs.Keyed.{keyed, words};
     ghost use Rattle.ets_term.specs.laws.Hashed.{keyed-below};
 
-    ghost number = { λ hash term. keyed hash.0 (words term) };
+    ghost hash = { λ hasher term. keyed hasher.0 (words term) };
 
-    ghost below = { λ hash term. keyed-below hash.0 (words term) };
+    ghost below = { λ hasher term. keyed-below hasher.0 (words term) };
 
     fn hash32(&self, term: &Term) -> u32 {
         let factor = factor_of(self.0);
@@ -29,13 +29,14 @@ impl KeyHash for Keyed {
     }
 }
 
-/// What the seed multiplies by: an odd number, far from the seed.
+/// Returns the factor of a seed, an odd number.
 fn factor_of(seed: u64) -> u64
     ensures { result ≡ factor seed }
 {
     fold_product(seed ^ 11400714819323198485, 15111065706836454659) | 1
 }
 
+/// Mixes in the words of a term.
 #[cycle(mix)]
 fn mix_term(factor: u64, start: u64, term: &Term) -> u64
     ensures { result ≡ fold (keyed_step factor) start (words term.now) }
@@ -67,6 +68,7 @@ fn mix_term(factor: u64, start: u64, term: &Term) -> u64
     }
 }
 
+/// Mixes in the words of some terms, one term after another.
 #[cycle(mix)]
 fn mix_items(factor: u64, start: u64, items: &[Term]) -> u64
     ensures { result ≡ fold (keyed_step factor) start (joined (map words items.now)) }
@@ -78,6 +80,7 @@ fn mix_items(factor: u64, start: u64, items: &[Term]) -> u64
     hash
 }
 
+/// Mixes in a word for each byte.
 fn mix_bytes(factor: u64, start: u64, bytes: &[u8]) -> u64
     ensures { result ≡ fold (keyed_step factor) start bytes.now }
 {
@@ -105,13 +108,14 @@ fn mix_number(factor: u64, start: u64, kind: u64, number: u64) -> u64
     mix(factor, mix(factor, start, kind), number)
 }
 
+/// Mixes in one word.
 fn mix(factor: u64, hash: u64, word: u64) -> u64
     ensures { result ≡ keyed_step factor hash word }
 {
     fold_product(hash ^ word, factor)
 }
 
-/// The halves of the product, by exclusive or.
+/// Multiplies, and returns the exclusive or of the product's halves.
 fn fold_product(a: u64, b: u64) -> u64
     ensures { result ≡ folded a b }
 {

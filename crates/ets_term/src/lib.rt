@@ -1,13 +1,22 @@
-//! Terms: equal exactly when built alike, in one total order, with hashes that equal terms share.
+//! Two terms are equal exactly if they are built alike, they have one total order, and equal terms have equal hashes.
 //!
-//! Contracts see a term as the enum `Term` itself, with lists in place of `Items` and of the characters of an `Atom`,
-//! so `≡` says that two terms are built alike. Every term fits: its numbers are in their ranges and its atoms are
-//! atoms. How deep a term may be is for the callers to say.
+//! *Guarantee.* Contracts see a term as the enum `Term` itself, with lists in place of `Items` and of the characters of
+//! an `Atom`. So `≡` says that two terms are built alike. Every term is in range: its numbers fit their types, and its
+//! atoms have valid text.
+//!
+//! *Weakness.* Each level of a term takes stack when it is copied, compared, hashed or dropped. A copy copies all parts
+//! and shares none.
+//!
+//! *Mechanism.* A term owns its parts. An atom keeps up to 22 characters inline and allocates memory for more.
+//!
+//! *Limits.* Integers have 128 bits, and atoms at most 255 characters. This crate sets no limit of depth;
+//! `Term::is_too_deep` tests for more than 128 levels.
 #![tactic(auto)]
 
-mod alike;
 mod atom;
+mod atom_text;
 mod compare;
+mod equal;
 mod fits;
 mod fnv;
 mod hash;
@@ -15,7 +24,7 @@ mod integer;
 mod items;
 mod key_hash;
 mod keyed;
-mod stored;
+pub mod laws;
 mod term;
 
 pub use atom::{Atom, AtomFault, MAX_CHARACTERS};

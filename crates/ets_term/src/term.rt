@@ -10,8 +10,8 @@ use std::alloc::{AllocError, Global};
 /// The greatest depth of an argument and of a stored object.
 pub const MAX_DEPTH: usize = 128;
 
-/// A term of Erlang (Erlang Reference Manual, Data Types), one of seven kinds. Two terms are equal when they are built
-/// alike.
+/// A term of Erlang (Erlang Reference Manual, Data Types), of one of seven kinds. Two terms are equal exactly if they
+/// are built alike.
 #[derive(Drop)]
 pub enum Term {
     Int(Integer),
@@ -40,29 +40,29 @@ impl Default for Term {
 }
 
 impl Term {
-    /// The same term again.
+    /// Returns an equal term. Takes memory for all its parts, and frees it again if any of it is refused.
     pub fn try_clone(&self, alloc: Global) -> Result<Term, AllocError>
         ensures { IfOk result (λ t. t ≡ self.now) }
     {
         copy(alloc, self)
     }
 
-    /// How deep the term is, or `usize::MAX` where it is deeper: 1 for what holds no terms, `{}` and `[]` too, else one
-    /// more than the depth of its deepest element.
+    /// Returns the depth of the term, or `usize::MAX` if the term is deeper. A term that holds no terms has depth 1,
+    /// `{}` and `[]` too. Other terms have one more than the depth of their deepest element.
     pub fn depth(&self) -> usize
         ensures { result ≡ min (depth self.now) usize.MAX }
     {
         depth_of(self)
     }
 
-    /// Whether the term is deeper than `MAX_DEPTH`. No more of it is looked at than one level further.
+    /// Returns whether the term is deeper than `MAX_DEPTH`. Reads at most one level further.
     pub fn is_too_deep(&self) -> bool
         ensures { result ≡ is_too_deep self.now }
     {
         is_deeper(MAX_DEPTH, self)
     }
 
-    /// Whether the term is the atom with this text.
+    /// Returns whether the term is the atom with this text.
     pub fn is_atom(&self, text: &str) -> bool
         ensures { result ≡ is_atom text.now self.now }
     {
@@ -72,7 +72,7 @@ impl Term {
         }
     }
 
-    /// Element n of a tuple, counted from 1; None where the term is no tuple or has no such element.
+    /// Returns element `n` of a tuple, counted from 1, or None if the term is no tuple or has no such element.
     pub fn element(&self, n: Position) -> Option<&Term>
         ensures { option_copied result ≡ element_at n self.now }
     {
@@ -89,6 +89,7 @@ impl Term {
     }
 }
 
+/// Copies a term.
 #[cycle(copy)]
 fn copy(alloc: Global, term: &Term) -> Result<Term, AllocError>
     ensures { IfOk result (λ t. t ≡ term.now) }
@@ -104,29 +105,26 @@ fn copy(alloc: Global, term: &Term) -> Result<Term, AllocError>
     }
 }
 
-/// A copy of a part; an integer is copied where it stands, which takes no call.
-#[cycle(copy)]
-#[inline(always)]
-fn copy_part(alloc: Global, part: &Term) -> Result<Term, AllocError>
-    ensures { IfOk result (λ t. t ≡ part.now) }
-{
-    match part {
-        Term::Int(n) => Ok(Term::Int(*n)),
-        _ => copy(alloc, part),
-    }
-}
-
+/// Copies the items one after another. Integers and tuples have arms of their own, so a flat tuple takes no call per
+/// element.
 #[cycle(copy)]
 fn copy_items(alloc: Global, items: &[Term]) -> Result<Items<Term>, AllocError>
     ensures { IfOk result (λ v. v ≡ items.now) }
 {
     let mut copies = Vec::with_capacity(alloc, items.len())?;
     for item in items {
-        copies.push_reserved(copy_part(alloc, item)?);
+        match item {
+            Term::Int(n) => copies.push_reserved(Term::Int(*n)),
+            Term::Tuple(parts) => {
+                copies.push_reserved(Term::Tuple(copy_items(alloc, parts.as_slice())?))
+            }
+            _ => copies.push_reserved(copy(alloc, item)?),
+        }
     }
     Ok(Items::from_vec(copies))
 }
 
+/// Returns the depth of a term, at most `usize::MAX`.
 #[cycle(depth)]
 #[inline(always)]
 fn depth_of(term: &Term) -> usize
@@ -139,6 +137,7 @@ fn depth_of(term: &Term) -> usize
     }
 }
 
+/// Returns the depth of the deepest item, at most `usize::MAX`, and 0 for no items.
 #[cycle(depth)]
 fn deepest(items: &[Term]) -> usize
     ensures { result ≡ min (largest (map depth items.now)) usize.MAX }
@@ -150,22 +149,22 @@ fn deepest(items: &[Term]) -> usize
     most
 }
 
-/// Whether the term has more levels than these.
+/// Returns whether a term has more than `levels` levels.
 #[cycle(deeper)]
 #[inline(always)]
 fn is_deeper(levels: usize, term: &Term) -> bool
     ensures { result ≡ nat_lt levels (depth term.now) }
 {
     match term {
-        Term::Tuple(items) => reaches_past(levels, items.as_slice()),
-        Term::List(items) => reaches_past(levels, items.as_slice()),
+        Term::Tuple(items) => any_deeper(levels, items.as_slice()),
+        Term::List(items) => any_deeper(levels, items.as_slice()),
         _ => levels == 0,
     }
 }
 
-/// Whether what holds these items has more levels than these.
+/// Returns whether a tuple or list of these items has more than `levels` levels.
 #[cycle(deeper)]
-fn reaches_past(levels: usize, items: &[Term]) -> bool
+fn any_deeper(levels: usize, items: &[Term]) -> bool
     ensures { result ≡ nat_le levels (largest (map depth items.now)) }
 {
     if levels == 0 {

@@ -8,7 +8,7 @@ use Rattle.split_key.specs.Keys.{rev, key_of_item, key_of_dummy, IsInBucket}
 use Rattle.split_key.proofs.Revs.{pow-suc}
 use Rattle.split_key.proofs.Intervals.{in-interval, from-interval, rev-doubled}
 
--- an exponent whose power is below another's is below it
+-- a smaller power has a smaller exponent
 pub exponent-lt : (j w : ℕ) → 2 ^ j < 2 ^ w → j < w
 exponent-lt j w h =
     elim (cases_lt j w) [
@@ -20,7 +20,7 @@ exponent-lt j w h =
           ]
     ]
 
--- the share of one of `2 ^ j` parts
+-- the size of one of `2 ^ j` parts
 pub share : (j k : ℕ) → 2 ^ (j + k) / 2 ^ j ≡ 2 ^ k
 share j k =
     let p : 0 < 2 ^ j = pow_pos j in
@@ -86,7 +86,7 @@ digit-low (suc zero) n r h b s rn bn e (inl f) = absurd (omega (arith, e, f))
 digit-low (suc zero) n r h b s rn bn e (inr f) = omega (arith, e, f)
 digit-low (suc (suc s)) n r h b t rn bn e f = absurd (omega arith)
 
--- the items of a bucket go to it or to the new one
+-- the items of a bucket stay in it or move to the new one
 pub mod-split : (h n b : ℕ) → b < n → (h % n ≡ b) ↔ ((h % (2 * n) ≡ b) ⊎ (h % (2 * n) ≡ b + n))
 mod-split h n b below =
     let some : 0 < n = omega arith in

@@ -12,7 +12,7 @@ unfolding rev
 rev-zero zero = refl
 rev-zero (suc k) = let ih : rev k 0 ≡ 0 = rev-zero k in omega arith
 
--- a reversed hash: the reversed bucket in front, and the rest behind it
+-- a reversed hash: the reversed bucket, then the rest
 pub rev-hash : (j k h : ℕ) → rev (j + k) h ≡ rev j (h % 2 ^ j) * 2 ^ k + rev k (h / 2 ^ j)
 rev-hash j k h =
     ap (rev (j + k)) (sym (div-add-mod' h (2 ^ j))) ∙ rev-split j k (h / 2 ^ j) (h % 2 ^ j) (mod_below h (2 ^ j) (pow_pos j))
@@ -34,7 +34,7 @@ same-block a b p y low high h =
           ]
     ]
 
--- in the interval that begins at the dummy of a bucket stand the items of that bucket, and no others
+-- the interval that begins at the dummy of a bucket has exactly the items of that bucket
 pub in-interval : (j k h b : ℕ) → b < 2 ^ j → h % 2 ^ j ≡ b
     → (2 * rev (j + k) b ≤ 2 * rev (j + k) h + 1) × (2 * rev (j + k) h + 1 < 2 * rev (j + k) b + 2 * 2 ^ k)
 in-interval j k h b below e =

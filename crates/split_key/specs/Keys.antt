@@ -6,18 +6,18 @@ unfoldable pub rev : ℕ → ℕ → ℕ
 rev zero n = 0
 rev (suc k) n = (n % 2) * 2 ^ k + rev k (n / 2)
 
--- the key of an item with this hash: an odd number
+-- the split key of an item with this hash: an odd number
 abbrev pub key_of_item : ℕ → ℕ
 key_of_item hash = 2 * rev 32 hash + 1
 
--- the key of the dummy of this bucket: an even number
+-- the split key of a bucket's dummy: an even number
 abbrev pub key_of_dummy : ℕ → ℕ
 key_of_dummy bucket = 2 * rev 32 bucket
 
 abbrev pub IsPowerOfTwo : ℕ → Type 0
 IsPowerOfTwo n = (j : ℕ) × (n ≡ 2 ^ j)
 
--- the keys from a bucket's dummy on, as many as its part of all keys: one of `size` equal parts
+-- the interval of a bucket: it begins at the key of its dummy, and is one of `size` equal parts of all keys
 abbrev pub IsInBucket : ℕ → ℕ → ℕ → Type 0
 IsInBucket key bucket size = (key_of_dummy bucket ≤ key) × (key < key_of_dummy bucket + 2 ^ 33 / size)
 

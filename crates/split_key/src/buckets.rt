@@ -1,7 +1,7 @@
 ghost use Rattle.std.specs.Prelude.{◌≡◌, ◌%◌, ◌<◌};
 ghost use Rattle.split_key.specs.Keys.{IsPowerOfTwo, IsWithoutTopBit};
 
-/// The bucket of this hash, of `size` buckets.
+/// Returns the bucket of a hash among `size` buckets.
 pub fn bucket_of(hash: u32, size: u32) -> u32
     requires { IsPowerOfTwo size }
     ensures { result ≡ hash % size }
@@ -9,8 +9,8 @@ pub fn bucket_of(hash: u32, size: u32) -> u32
     hash & (size - 1)
 }
 
-/// The bucket that this one was a part of before the doubling that made it: its highest set bit is off.
-/// Bucket 0 has none.
+/// Returns the parent of a bucket: the bucket that it was a part of before the doubling that made it. Its number is
+/// `bucket` without the highest set bit. Bucket 0 has no parent.
 pub fn parent(bucket: u32) -> u32
     requires { 0 < bucket }
     ensures below { result < bucket }

@@ -1,21 +1,21 @@
 ghost use Rattle.std.specs.Prelude.{◌≡◌};
 ghost use Rattle.split_key.specs.Keys.{rev, key_of_item, key_of_dummy};
 
-/// The 32 bits of `number` in reverse order.
+/// Returns the 32 bits of `number` in reverse order.
 pub fn rev32(number: u32) -> u32
     ensures { result ≡ rev 32 number }
 {
     number.reverse_bits()
 }
 
-/// The key of an item with this hash, an odd number below 2^33.
+/// Returns the split key of an item with this hash, an odd number below 2^33.
 pub fn item_key(hash: u32) -> u64
     ensures { result ≡ key_of_item hash }
 {
     2 * u64::from(rev32(hash)) + 1
 }
 
-/// The key of the dummy of this bucket, an even number below 2^33.
+/// Returns the split key of a bucket's dummy, an even number below 2^33.
 pub fn dummy_key(bucket: u32) -> u64
     ensures { result ≡ key_of_dummy bucket }
 {

@@ -8,7 +8,7 @@ pub fn reversal_undoes_itself(number: u32)
     ensures { rev 32 (rev 32 number) ≡ number }
 {}
 
-/// The items of a bucket are those whose keys stand in one interval, which begins at the dummy's key.
+/// The items of a bucket are those whose split keys are in one interval, which begins at the dummy's key.
 pub fn bucket_is_interval(hash: u32, bucket: u32, size: u32)
     requires size { IsPowerOfTwo size }
     requires bucket { bucket < size }
@@ -24,13 +24,13 @@ pub fn doubling_cuts_in_two(bucket: u32, size: u32)
     ensures middle { key_of_dummy (bucket + size) ≡ key_of_dummy bucket + 2 ^ 33 / (2 * size) }
 {}
 
-/// Doubling moves no item but to the new bucket of its own.
+/// Doubling leaves each item in its bucket or moves it to that bucket's new half.
 pub fn doubling_splits_bucket(hash: u32, bucket: u32, size: u32)
     requires { bucket < size }
     ensures { (hash % size ≡ bucket) ↔ ((hash % (2 * size) ≡ bucket) ⊎ (hash % (2 * size) ≡ bucket + size)) }
 {}
 
-/// A bucket's parent has a lesser number, and its dummy stands in front.
+/// A bucket's parent has a smaller number, and its dummy comes first.
 pub fn parent_stands_before(bucket: u32, parent: u32)
     requires { IsWithoutTopBit bucket parent }
     ensures below { parent < bucket }

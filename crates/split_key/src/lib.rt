@@ -2,14 +2,14 @@
 //! the buckets cuts that interval in two.
 //!
 //! *Guarantee.* One list sorted by these keys serves 2, 4, 8 .. buckets at once: each bucket of each
-//! size is a stretch of it, and no node moves when the number of buckets is doubled.
+//! size is an interval of it, and no node moves when the number of buckets is doubled.
 //!
-//! *Weakness.* Items of one hash have one key, so a search goes on by comparing terms there. The order
-//! of the list means nothing to a reader, and a bad hash makes a bucket long at every size.
+//! *Weakness.* Items of one hash have one key, so a search must also compare terms there. The order
+//! of the list has no meaning for a reader, and a bad hasher makes a bucket long at every size.
 //!
 //! *Mechanism.* A hash belongs to bucket `hash mod size`: to its low bits. A key is the hash with its
 //! bits reversed, so the bucket's bits come first and the order of keys is the order of buckets. One
-//! further bit at the end is 1 for an item and 0 for the dummy that stands in front of its bucket.
+//! further bit at the end is 1 for an item and 0 for the dummy in front of its bucket.
 //! With 8 buckets, in the order of their keys:
 //!
 //! ```text

@@ -1,4 +1,4 @@
--- A term is what its tree says.
+-- A term is the term of its tree.
 use Rattle.std.specs.Prelude.{◌≡◌, List, [], ◌∷◌, map, refl}
 use Rattle.std.proofs.Common.{sym, ap, ◌∙◌, rules, subst}
 use Rattle.ets_term.specs.declared.term.Term.{Term, ind-Term, fold-roll-Term, the_lemmas}
@@ -8,7 +8,7 @@ use Rattle.ets_term.specs.declared.term.Term.TheOpen.{Term-F}
 use Rattle.ets_term.specs.declared.term.Term.TheVariants.{Int, Atom, Pid, Tid, Tuple, List as Lst, Binary, rolls-Int, rolls-Atom, rolls-Pid, rolls-Tid, rolls-Tuple, rolls-List, rolls-Binary}
 use Rattle.ets_term.specs.Data.{Data, int, atom, pid, tid, tuple, list, binary, Row, no_terms, term, row_of, data_form, data_of}
 
--- the term that a tree is of
+-- the term of a tree
 abbrev mutual
   pub term_of : Data → Term
   term_of (int n) = Int n

@@ -1,5 +1,5 @@
--- Equal terms write the same, and the hashes stay below 2^32.
-use Rattle.std.specs.Prelude.{◌≡◌, ℕ, ◌<◌, ◌^◌, List, [], ◌∷◌, fold, true}
+-- Equal terms write equal bytes, hashes are below 2^32, and FNV-1a gives its published hashes.
+use Rattle.std.specs.Prelude.{◌≡◌, ℕ, ◌<◌, ◌^◌, List, [], ◌∷◌, fold, true, codes, refl}
 use Rattle.std.proofs.Common.{ap, arith}
 use Rattle.ets_term.specs.declared.term.Term.{Term}
 use Rattle.ets_term.specs.Encoding.{fnv_step, fnv}
@@ -20,3 +20,13 @@ fnv-below bytes = stays_below bytes 2166136261 (omega arith)
 
 pub keyed-below : (seed : ℕ) (ws : List ℕ) → keyed seed ws < 2 ^ 32
 keyed-below seed ws = omega arith
+
+-- the published hashes of no bytes, `a` and `foobar`
+pub fnv-of-none : fnv [] ≡ 2166136261
+fnv-of-none = refl
+
+pub fnv-of-a : fnv (codes "a") ≡ 3826002220
+fnv-of-a = refl
+
+pub fnv-of-foobar : fnv (codes "foobar") ≡ 3214735720
+fnv-of-foobar = refl

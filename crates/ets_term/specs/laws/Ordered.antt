@@ -1,4 +1,4 @@
--- The order of terms is total, and tells any two apart.
+-- The order of terms is total, and only a term and itself compare as equal.
 use Rattle.std.proofs.Common.{◌≡◌, ℕ, ℤ, pos, negsuc, List, [], ◌∷◌, ◌++◌, refl, sym, ap, ◌∙◌, append_assoc, append-nil, arith, Ordering, Less, Equal, Greater, nat_cmp}
 use Rattle.std.specs.Ordering.{int_cmp, ordering_then, is_eq}
 use Rattle.std.proofs.lemmas.Bool.Decides.{nat_tests, Decides-int_eq}
@@ -10,12 +10,12 @@ use Rattle.std.specs.Cmp.Lexicographic.{slice_cmp, lists_total}
 use Rattle.ets_term.specs.Data.{Data, int, atom, pid, tid, tuple, list, binary, Row, no_terms, term}
 use Rattle.ets_term.specs.Order.{data_order, row_order, row_len}
 
--- a text in a code: its characters, and then an end that is below each
+-- the code of a text: its characters, and then an end that is less than each
 abbrev text_code : List ℕ → List ℤ
 text_code [] = negsuc 0 ∷ []
 text_code (b ∷ bs) = pos b ∷ text_code bs
 
--- a code of a term, such that terms are ordered as their codes are
+-- the code of a term; terms have the order of their codes
 abbrev mutual
   code : Data → List ℤ
   code (int n) = pos 0 ∷ n ∷ []
@@ -117,7 +117,7 @@ both_equal Equal b h = (refl, h)
 both_equal Greater b h = cc
 
 mutual
-  -- terms that compare alike are one
+  -- terms that compare as equal are one term
   pub order_exact : (d e : Data) → data_order d e ≡ Equal → d ≡ e
   order_exact (int m) (int n) h = ap int (int_exact m n h)
   order_exact (atom s) (atom t) h = ap atom (texts_exact s t h)

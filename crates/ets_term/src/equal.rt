@@ -1,4 +1,4 @@
-//! Whether two terms are alike, with no word on which is the greater.
+//! The equality of terms, without their order.
 ghost use Rattle.std.specs.Prelude.{◌≡◌, true, false, map};
 ghost use Rattle.std.specs.Ordering.{is_eq};
 ghost use Rattle.ets_term.specs.Data.{row_of, data_of};
@@ -6,10 +6,10 @@ ghost use Rattle.ets_term.specs.Order.{same, row_order};
 
 use crate::term::Term;
 
-/// Whether the terms are built alike.
-#[cycle(alike)]
+/// Returns whether two terms are built alike.
+#[cycle(equal)]
 #[tactic(auto)]
-pub fn alike(a: &Term, b: &Term) -> bool
+pub fn equal_terms(a: &Term, b: &Term) -> bool
     ensures { result ≡ same a.now b.now }
 {
     match (a, b) {
@@ -17,17 +17,18 @@ pub fn alike(a: &Term, b: &Term) -> bool
         (Term::Atom(x), Term::Atom(y)) => x.text() == y.text(),
         (Term::Pid(x), Term::Pid(y)) => x == y,
         (Term::Tid(x), Term::Tid(y)) => x == y,
-        (Term::Tuple(x), Term::Tuple(y)) => are_alike(x.as_slice(), y.as_slice()),
-        (Term::List(x), Term::List(y)) => are_alike(x.as_slice(), y.as_slice()),
+        (Term::Tuple(x), Term::Tuple(y)) => equal_items(x.as_slice(), y.as_slice()),
+        (Term::List(x), Term::List(y)) => equal_items(x.as_slice(), y.as_slice()),
         (Term::Binary(x), Term::Binary(y)) => x.as_slice() == y.as_slice(),
         _ => false,
     }
 }
 
-/// Whether two rows are alike: from their ends on, since objects of one key differ behind it.
-#[cycle(alike)]
+/// Returns whether two lists of terms are built alike. Compares from the end, because objects with one key differ after
+/// it.
+#[cycle(equal)]
 #[tactic(auto, using(crate::proofs::RowLaws::last_differs))]
-fn are_alike(xs: &[Term], ys: &[Term]) -> bool
+fn equal_items(xs: &[Term], ys: &[Term]) -> bool
     ensures { result ≡ is_eq (row_order (row_of (map data_of xs.now)) (row_of (map data_of ys.now))) }
 {
     if xs.len() != ys.len() {
@@ -38,14 +39,14 @@ fn are_alike(xs: &[Term], ys: &[Term]) -> bool
         return false;
     }
     for at in (0..len).rev() {
-        if !alike(&xs[at], &ys[at]) {
+        if !equal_terms(&xs[at], &ys[at]) {
             return false;
         }
     }
     true
 }
 
-/// Whether the terms are integers that differ, which takes no call.
+/// Returns whether two terms are different integers, without a call.
 fn integers_differ(a: &Term, b: &Term) -> bool
     ensures { result ≡ true → same a.now b.now ≡ false }
 {

@@ -1,0 +1,59 @@
+//! The characters of an atom: a few inline, more in memory of their own.
+ghost use Rattle.std.specs.Prelude.{◌≡◌, ◌≤◌, length, IfOk, IsOk};
+ghost use Rattle.std.specs.Str.{IsUtf8};
+ghost use Rattle.ets_term.specs.Character.{max_inline};
+ghost use Rattle.ets_term.specs.inside.AtomTexts.{characters, EndsInline};
+
+use std::alloc::{AllocError, Global};
+
+/// The greatest number of characters that are kept inline.
+pub(crate) const MAX_INLINE: usize = 22;
+
+/// The characters of an atom. With its tag a value takes 24 bytes, no more than a `String`.
+#[derive(Drop)]
+pub(crate) enum AtomText {
+    Inline { len: u8, bytes: [u8; MAX_INLINE] },
+    Allocated(Box<String>),
+}
+
+impl AtomText {
+    /// Copies the characters of a text.
+    pub(crate) fn of_text(alloc: Global, text: &str) -> Result<AtomText, AllocError>
+        ensures same { IfOk result (λ s. characters s ≡ text.now) }
+        ensures fits { IfOk result (λ s. EndsInline s) }
+        ensures short { length text.now ≤ max_inline → IsOk result }
+    {
+        if text.len() <= MAX_INLINE {
+            return Ok(inline_text(text.as_bytes()));
+        }
+        Ok(AtomText::Allocated(Box::new(alloc, String::from_str(alloc, text)?)?))
+    }
+
+    /// Returns the characters.
+    pub(crate) fn as_str(&self) -> &str
+        requires fits { EndsInline self.now }
+        requires text { IsUtf8 (characters self.now) }
+        ensures { result.now ≡ characters self.now }
+    {
+        match self {
+            AtomText::Inline { len, bytes } => unsafe {
+                str::from_utf8_unchecked(&bytes[..*len as usize])
+            },
+            AtomText::Allocated(text) => text.as_str(),
+        }
+    }
+}
+
+/// Copies a short text inline.
+fn inline_text(text: &[u8]) -> AtomText
+    requires { length text.now ≤ max_inline }
+    ensures same { characters result ≡ text.now }
+    ensures fits { EndsInline result }
+{
+    let mut bytes = [0; MAX_INLINE];
+    bytes[..text.len()].copy_from_slice(text);
+    AtomText::Inline {
+        len: text.len() as u8,
+        bytes,
+    }
+}
