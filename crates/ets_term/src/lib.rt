@@ -25,6 +25,7 @@ mod items;
 mod key_hash;
 mod keyed;
 pub mod laws;
+mod reuse;
 mod term;
 
 pub use atom::{Atom, AtomFault, MAX_CHARACTERS};
