@@ -6,30 +6,30 @@ use Rattle.std.proofs.lemmas.List.Sums.{sum_by-cons}
 use Rattle.ets_term.specs.declared.term.Term.{Term}
 use Rattle.node_list.specs.declared.node.Item.{Item}
 use Rattle.node_list.specs.Cells.{Cell, Sorted, StartsWithDummy, new_cell}
-use Rattle.node_list.specs.Places.{IsFresh, Stands, StandsUpTo, HasItem, from, behind, all_but_first, first_place}
+use Rattle.node_list.specs.Places.{IsFresh, IsPlaceOf, HasKeyAtMost, HasItem, from, cells_after, all_but_first, first_place}
 use Rattle.node_list.specs.Search.{is_it, place_of, passed}
 use Rattle.node_list.specs.Changes.{put_cell, without}
 use Rattle.node_list.proofs.CellLaws.{put-past, put-on, from-here, from-on, without-here, without-on, at-most-from, search-past, search-on}
 use Rattle.node_list.proofs.PlaceLaws.{from-has, fresh-other}
 
 -- the head stands before every key
-pub head-stands : (at key : ℕ) (cs : List Cell) → first_place cs ≡ Some at → StartsWithDummy cs → StandsUpTo key at cs
-head-stands at key [] e d = absurd d
-head-stands at key (c ∷ cs) e d =
+pub head-has_key_at_most : (at key : ℕ) (cs : List Cell) → first_place cs ≡ Some at → StartsWithDummy cs → HasKeyAtMost key at cs
+head-has_key_at_most at key [] e d = absurd d
+head-has_key_at_most at key (c ∷ cs) e d =
     let same : c.at ≡ at = cc in
     let zero : c.key ≡ 0 = d.0 in
     record { cell = c; later = cs; is = from-here at c cs same; up_to = omega arith }
 
-pub head-is : (at : ℕ) (cs : List Cell) → first_place cs ≡ Some at → StartsWithDummy cs → Stands at cs
-head-is at cs e d = let s = head-stands at 0 cs e d in record { cell = s.cell; later = s.later; is = s.is }
+pub head-is_place : (at : ℕ) (cs : List Cell) → first_place cs ≡ Some at → StartsWithDummy cs → IsPlaceOf at cs
+head-is_place at cs e d = let s = head-has_key_at_most at 0 cs e d in record { cell = s.cell; later = s.later; is = s.is }
 
-pub item-stands : (at : ℕ) (cs : List Cell) → HasItem at cs → Stands at cs
-item-stands at cs h = record { cell = h.cell; later = h.later; is = h.is }
+pub item-is_place : (at : ℕ) (cs : List Cell) → HasItem at cs → IsPlaceOf at cs
+item-is_place at cs h = record { cell = h.cell; later = h.later; is = h.is }
 
 -- every item stands behind the head
-pub item-behind : (head at : ℕ) (cs : List Cell) → first_place cs ≡ Some head → StartsWithDummy cs → HasItem at cs → HasItem at (behind head cs)
-item-behind head at [] e d h = absurd d
-item-behind head at (c ∷ cs) e d h =
+pub item-after_head : (head at : ℕ) (cs : List Cell) → first_place cs ≡ Some head → StartsWithDummy cs → HasItem at cs → HasItem at (cells_after head cs)
+item-after_head head at [] e d h = absurd d
+item-after_head head at (c ∷ cs) e d h =
     let first : c.at ≡ head = cc in
     let P : List Cell → Type 0 = λ zs. HasItem at (all_but_first zs) in
     elim (cases_eq c.at at) [
@@ -44,26 +44,26 @@ item-behind head at (c ∷ cs) e d h =
 
 -- ---- after an insertion
 
-pub put-stands : (x : Cell) (cs : List Cell) → IsFresh x.at cs → (later : List Cell) × (from x.at (put_cell x cs) ≡ x ∷ later)
-put-stands x [] f = ([], from-here x.at x [] refl)
-put-stands x (c ∷ cs) f =
+pub put-from_new : (x : Cell) (cs : List Cell) → IsFresh x.at cs → (later : List Cell) × (from x.at (put_cell x cs) ≡ x ∷ later)
+put-from_new x [] f = ([], from-here x.at x [] refl)
+put-from_new x (c ∷ cs) f =
     let P : List Cell → Type 0 = λ zs. (later : List Cell) × (from x.at zs ≡ x ∷ later) in
     elim (cases_lt x.key c.key) [
       | inl past ↦ subst P (sym (put-past x c cs past)) (c ∷ cs, from-here x.at x (c ∷ cs) refl)
       | inr on ↦
-          let later = put-stands x cs f.1 in
+          let later = put-from_new x cs f.1 in
           subst P (sym (put-on x c cs on)) (later.0, from-on x.at c (put_cell x cs) f.0 ∙ later.1)
     ]
 
-pub item-placed : (at key : ℕ) (item : Item) (old new : List Cell) → new ≡ put_cell (new_cell at key (Some item)) old → IsFresh at old → HasItem at new
-item-placed at key item old new e f =
+pub put-has_item : (at key : ℕ) (item : Item) (old new : List Cell) → new ≡ put_cell (new_cell at key (Some item)) old → IsFresh at old → HasItem at new
+put-has_item at key item old new e f =
     let P : List Cell → Type 0 = λ zs. HasItem at zs in
-    let s = put-stands (new_cell at key (Some item)) old f in
+    let s = put-from_new (new_cell at key (Some item)) old f in
     subst P (sym e) (record { cell = new_cell at key (Some item); later = s.0; item = item; is = s.1; has = refl })
 
-pub put-keeps : (x : Cell) (cs : List Cell) (at : ℕ) (d : Cell) (ds : List Cell) → x.at ≢ at → from at cs ≡ d ∷ ds → (later : List Cell) × (from at (put_cell x cs) ≡ d ∷ later)
-put-keeps x [] at d ds n e = absurd (cc)
-put-keeps x (c ∷ cs) at d ds n e =
+pub put-from_other : (x : Cell) (cs : List Cell) (at : ℕ) (d : Cell) (ds : List Cell) → x.at ≢ at → from at cs ≡ d ∷ ds → (later : List Cell) × (from at (put_cell x cs) ≡ d ∷ later)
+put-from_other x [] at d ds n e = absurd (cc)
+put-from_other x (c ∷ cs) at d ds n e =
     let P : List Cell → Type 0 = λ zs. (later : List Cell) × (from at zs ≡ d ∷ later) in
     elim (cases_lt x.key c.key) [
       | inl past ↦ subst P (sym (put-past x c cs past)) (ds, from-on at x (c ∷ cs) n ∙ e)
@@ -74,16 +74,16 @@ put-keeps x (c ∷ cs) at d ds n e =
                 let same : c ≡ d = cc (sym (from-here at c cs here) ∙ e) in
                 (put_cell x cs, from-here at c (put_cell x cs) here ∙ ap (λ (z : Cell). z ∷ put_cell x cs) same)
             | inr other ↦
-                let later = put-keeps x cs at d ds n (sym (from-on at c cs other) ∙ e) in
+                let later = put-from_other x cs at d ds n (sym (from-on at c cs other) ∙ e) in
                 (later.0, from-on at c (put_cell x cs) other ∙ later.1)
           ])
     ]
 
 -- an item stays where it stands
-pub item-stays : (at : ℕ) (x : Cell) (old new : List Cell) → new ≡ put_cell x old → IsFresh x.at old → HasItem at old → HasItem at new
-item-stays at x old new e f h =
+pub put-keeps_item : (at : ℕ) (x : Cell) (old new : List Cell) → new ≡ put_cell x old → IsFresh x.at old → HasItem at old → HasItem at new
+put-keeps_item at x old new e f h =
     let P : List Cell → Type 0 = λ zs. HasItem at zs in
-    let s = put-keeps x old at h.cell h.later (fresh-other at x.at old (from-has at old h.cell h.later h.is) f) h.is in
+    let s = put-from_other x old at h.cell h.later (fresh-other at x.at old (from-has at old h.cell h.later h.is) f) h.is in
     subst P (sym e) (record { cell = h.cell; later = s.0; item = h.item; is = s.1; has = h.has })
 
 pub put-fresh : (x : Cell) (cs : List Cell) (at : ℕ) → x.at ≢ at → IsFresh at cs → IsFresh at (put_cell x cs)
@@ -97,9 +97,9 @@ put-fresh x (c ∷ cs) at n f =
 
 -- ---- after a removal
 
-pub without-keeps : (gone : ℕ) (cs : List Cell) (at : ℕ) (d : Cell) (ds : List Cell) → gone ≢ at → from at cs ≡ d ∷ ds → (later : List Cell) × (from at (without gone cs) ≡ d ∷ later)
-without-keeps gone [] at d ds n e = absurd (cc)
-without-keeps gone (c ∷ cs) at d ds n e =
+pub without-from_other : (gone : ℕ) (cs : List Cell) (at : ℕ) (d : Cell) (ds : List Cell) → gone ≢ at → from at cs ≡ d ∷ ds → (later : List Cell) × (from at (without gone cs) ≡ d ∷ later)
+without-from_other gone [] at d ds n e = absurd (cc)
+without-from_other gone (c ∷ cs) at d ds n e =
     let P : List Cell → Type 0 = λ zs. (later : List Cell) × (from at zs ≡ d ∷ later) in
     elim (cases_eq c.at gone) [
       | inl here ↦
@@ -112,7 +112,7 @@ without-keeps gone (c ∷ cs) at d ds n e =
                 let same : c ≡ d = cc (sym (from-here at c cs here) ∙ e) in
                 (without gone cs, from-here at c (without gone cs) here ∙ ap (λ (z : Cell). z ∷ without gone cs) same)
             | inr other ↦
-                let later = without-keeps gone cs at d ds n (sym (from-on at c cs other) ∙ e) in
+                let later = without-from_other gone cs at d ds n (sym (from-on at c cs other) ∙ e) in
                 (later.0, from-on at c (without gone cs) other ∙ later.1)
           ])
     ]
@@ -140,9 +140,9 @@ abbrev pub is_item_below : ℕ → Cell → Bool
 is_item_below high c = nat_lt c.key high && is_some c.item
 
 -- below a key stand items alone
-abbrev pub ItemsBelow : ℕ → List Cell → Type 0
-ItemsBelow high [] = Unit {0}
-ItemsBelow high (c ∷ cs) = (c.key < high → is_some c.item ≡ true) × ItemsBelow high cs
+abbrev pub HasOnlyItemsBelow : ℕ → List Cell → Type 0
+HasOnlyItemsBelow high [] = Unit {0}
+HasOnlyItemsBelow high (c ∷ cs) = (c.key < high → is_some c.item ≡ true) × HasOnlyItemsBelow high cs
 
 one-more-at-most : (key : ℕ) (term : Term) (c : Cell) (cs : List Cell) (b : Bool) → (nat_lt key c.key || is_it key term c) ≡ b → length (passed key term (c ∷ cs)) ≤ length (passed key term cs) + 1
 one-more-at-most key term c cs true e = let P : Bool → Type 0 = λ b. length (cond b (c ∷ []) (c ∷ passed key term cs)) ≤ length (passed key term cs) + 1 in subst P (sym e) (omega arith)
@@ -155,7 +155,7 @@ is_item_below-yes : (high : ℕ) (c : Cell) → c.key < high → is_some c.item 
 is_item_below-yes high c h e = grind (arith, nat_tests)
 
 -- a search for a key below `high` passes the items below `high`, and one more node
-pub length-passed : (key : ℕ) (term : Term) (high : ℕ) (cs : List Cell) → Sorted cs → key < high → ItemsBelow high cs → length (passed key term cs) ≤ count_by (is_item_below high) cs + 1
+pub length-passed : (key : ℕ) (term : Term) (high : ℕ) (cs : List Cell) → Sorted cs → key < high → HasOnlyItemsBelow high cs → length (passed key term cs) ≤ count_by (is_item_below high) cs + 1
 length-passed key term high [] o h b = omega arith
 length-passed key term high (c ∷ cs) o h b =
     elim (cases_lt c.key high) [

@@ -8,14 +8,14 @@ use Rattle.node_list.specs.Cells.{Cell, Sorted, StartsFrom}
 use Rattle.node_list.specs.Places.{from}
 use Rattle.node_list.specs.Search.{is_it, holds, place_of, passed}
 use Rattle.node_list.specs.Changes.{put_cell, without}
-use Rattle.node_list.specs.inside.Walks.{last_up_to_in, HasPlace}
+use Rattle.node_list.specs.inside.Walks.{last_not_above_in, HasPlace}
 
 -- ---- one step of each word
-pub last_up_to_in-past : (key last : ℕ) (c : Cell) (cs : List Cell) → key < c.key → last_up_to_in key last (c ∷ cs) ≡ last
-last_up_to_in-past key last c cs h = grind (arith, nat_tests)
+pub last_not_above_in-past : (key last : ℕ) (c : Cell) (cs : List Cell) → key < c.key → last_not_above_in key last (c ∷ cs) ≡ last
+last_not_above_in-past key last c cs h = grind (arith, nat_tests)
 
-pub last_up_to_in-on : (key last : ℕ) (c : Cell) (cs : List Cell) → c.key ≤ key → last_up_to_in key last (c ∷ cs) ≡ last_up_to_in key c.at cs
-last_up_to_in-on key last c cs h = grind (arith, nat_tests)
+pub last_not_above_in-on : (key last : ℕ) (c : Cell) (cs : List Cell) → c.key ≤ key → last_not_above_in key last (c ∷ cs) ≡ last_not_above_in key c.at cs
+last_not_above_in-on key last c cs h = grind (arith, nat_tests)
 
 pub put-past : (x c : Cell) (cs : List Cell) → x.key < c.key → put_cell x (c ∷ cs) ≡ x ∷ c ∷ cs
 put-past x c cs h = grind (arith, nat_tests)

@@ -5,9 +5,9 @@ use Rattle.std.proofs.lemmas.Bool.Decides.{nat_tests}
 use Rattle.slab.specs.Slab.{Slab, get, slab_len, with_value}
 use Rattle.slab.proofs.SlabLemmas.{Updates-with_value}
 use Rattle.ets_term.specs.declared.term.Term.{Term}
-use Rattle.node_list.specs.declared.node.Node.{Node}
+use Rattle.node_list.specs.declared.node.ListNode.{ListNode}
 use Rattle.node_list.specs.Cells.{Cell, Sorted, StartsFrom, StartsWithDummy}
-use Rattle.node_list.specs.inside.Walks.{Links, rest, node_of, IsList}
+use Rattle.node_list.specs.inside.Walks.{Links, cells_from, node_of, ListInvariant}
 use Rattle.node_list.specs.inside.NodeLending.{node_with, nodes_with}
 use Rattle.node_list.specs.Changes.{item_with, cells_with}
 use Rattle.node_list.proofs.WalkLaws.{walk-is, walk-length}
@@ -29,7 +29,7 @@ pub length-with : (at : ℕ) (w : List Term) (cs : List Cell) → length (cells_
 length-with at w [] = refl
 length-with at w (c ∷ cs) = ap suc (length-with at w cs)
 
-links-with : (g h : ℕ → Option Node) (at : ℕ) (w : List Term) (n : Node) → g at ≡ Some n → h at ≡ Some (node_with n w) → ((k : ℕ) → k ≢ at → h k ≡ g k)
+links-with : (g h : ℕ → Option ListNode) (at : ℕ) (w : List Term) (n : ListNode) → g at ≡ Some n → h at ≡ Some (node_with n w) → ((k : ℕ) → k ≢ at → h k ≡ g k)
     → (link : Option ℕ) (cs : List Cell) → Links g link cs → Links h link (cells_with at w cs)
 links-with g h at w n was now others link [] l = l
 links-with g h at w n was now others link (c ∷ cs) l =
@@ -38,7 +38,7 @@ links-with g h at w n was now others link (c ∷ cs) l =
     elim (cases_eq c.at at) [
       | inl same ↦
           let e : n ≡ node_of c l.1.0 = cc (was, l.1.1, same) in
-          let now' : h c.at ≡ Some (node_with (node_of c l.1.0) w) = ap h same ∙ (now ∙ ap (λ (z : Node). Some (node_with z w)) e) in
+          let now' : h c.at ≡ Some (node_with (node_of c l.1.0) w) = ap h same ∙ (now ∙ ap (λ (z : ListNode). Some (node_with z w)) e) in
           subst P (sym (cell-same at w c same)) (l.0, (l.1.0, now', tail))
       | inr other ↦ subst P (sym (cell-other at w c other)) (l.0, (l.1.0, others c.at other ∙ l.1.1, tail))
     ]
@@ -61,36 +61,36 @@ starts-dummy-with at w (c ∷ cs) d =
       | inr other ↦ subst P (sym (cell-other at w c other)) d
     ]
 
-pub record Lent (s t : Slab Node) (at : ℕ) (w : List Term) : Type 0 where
-  pub list : IsList t
-  pub cells : rest t (Some 0) ≡ cells_with at w (rest s (Some 0))
+pub record Lent (s t : Slab ListNode) (at : ℕ) (w : List Term) : Type 0 where
+  pub list : ListInvariant t
+  pub cells : cells_from t (Some 0) ≡ cells_with at w (cells_from s (Some 0))
 
-pub lent : (s : Slab Node) (at : ℕ) (w : List Term) (n : Node) → IsList s → get s at ≡ Some n → Lent s (with_value s at (node_with n w)) at w
+pub lent : (s : Slab ListNode) (at : ℕ) (w : List Term) (n : ListNode) → ListInvariant s → get s at ≡ Some n → Lent s (with_value s at (node_with n w)) at w
 lent s at w n l was =
-    let P : Option Node → Type 0 = λ o. IsSome o in
+    let P : Option ListNode → Type 0 = λ o. IsSome o in
     let u = Updates-with_value s at (node_with n w) (subst P (sym was) refl) in
     let len : slab_len (with_value s at (node_with n w)) ≡ slab_len s = with_value-len s at n (node_with n w) was in
-    let links : Links (get (with_value s at (node_with n w))) (Some 0) (cells_with at w (rest s (Some 0))) =
-    links-with (get s) (get (with_value s at (node_with n w))) at w n was u.changed u.others (Some 0) (rest s (Some 0)) l.linked.links in
-    let short : length (cells_with at w (rest s (Some 0))) ≤ slab_len (with_value s at (node_with n w)) = omega (arith, length-with at w (rest s (Some 0)), walk-length (slab_len s) (get s) (Some 0)) in
-    let is : rest (with_value s at (node_with n w)) (Some 0) ≡ cells_with at w (rest s (Some 0)) =
-    walk-is (slab_len (with_value s at (node_with n w))) (get (with_value s at (node_with n w))) (Some 0) (cells_with at w (rest s (Some 0))) links short in
+    let links : Links (get (with_value s at (node_with n w))) (Some 0) (cells_with at w (cells_from s (Some 0))) =
+    links-with (get s) (get (with_value s at (node_with n w))) at w n was u.changed u.others (Some 0) (cells_from s (Some 0)) l.linked.links in
+    let short : length (cells_with at w (cells_from s (Some 0))) ≤ slab_len (with_value s at (node_with n w)) = omega (arith, length-with at w (cells_from s (Some 0)), walk-length (slab_len s) (get s) (Some 0)) in
+    let is : cells_from (with_value s at (node_with n w)) (Some 0) ≡ cells_with at w (cells_from s (Some 0)) =
+    walk-is (slab_len (with_value s at (node_with n w))) (get (with_value s at (node_with n w))) (Some 0) (cells_with at w (cells_from s (Some 0))) links short in
     let Q : List Cell → Type 0 = λ zs. Links (get (with_value s at (node_with n w))) (Some 0) zs in
     let R : List Cell → Type 0 = λ zs. Sorted zs in
     let D : List Cell → Type 0 = λ zs. StartsWithDummy zs in
     record {
       list = record {
         linked = record { links = subst Q (sym is) links };
-        sorted = subst R (sym is) (sorted-with at w (rest s (Some 0)) l.sorted);
-        first = subst D (sym is) (starts-dummy-with at w (rest s (Some 0)) l.first);
-        counted = len ∙ (l.counted ∙ (sym (length-with at w (rest s (Some 0))) ∙ ap length (sym is)));
+        sorted = subst R (sym is) (sorted-with at w (cells_from s (Some 0)) l.sorted);
+        first = subst D (sym is) (starts-dummy-with at w (cells_from s (Some 0)) l.first);
+        counted = len ∙ (l.counted ∙ (sym (length-with at w (cells_from s (Some 0))) ∙ ap length (sym is)));
       };
       cells = is;
     }
 
 -- the same, as the nodes lend it
-pub lent-in : (s : Slab Node) (at : ℕ) (w : List Term) (n : Node) → IsList s → get s at ≡ Some n → Lent s (nodes_with at w s) at w
+pub lent-in : (s : Slab ListNode) (at : ℕ) (w : List Term) (n : ListNode) → ListInvariant s → get s at ≡ Some n → Lent s (nodes_with at w s) at w
 lent-in s at w n l was =
-    let P : Slab Node → Type 0 = λ t. Lent s t at w in
-    let is : nodes_with at w s ≡ with_value s at (node_with n w) = ap (λ (o : Option Node). let z : Slab Node = record s { slots = slice_set s.slots at (option_map (λ (m : Node). node_with m w) o) } in z) was in
+    let P : Slab ListNode → Type 0 = λ t. Lent s t at w in
+    let is : nodes_with at w s ≡ with_value s at (node_with n w) = ap (λ (o : Option ListNode). let z : Slab ListNode = record s { slots = slice_set s.slots at (option_map (λ (m : ListNode). node_with m w) o) } in z) was in
     subst P (sym is) (lent s at w n l was)

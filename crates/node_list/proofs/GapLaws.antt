@@ -4,15 +4,15 @@ use Rattle.std.specs.List.{AppendsResults}
 use Rattle.std.specs.Result.{is_err}
 use Rattle.std.proofs.lemmas.List.{take_all}
 use Rattle.node_list.specs.declared.node.Item.{Item}
-use Rattle.node_list.specs.inside.Slots.{slot_at, PutsSlot}
+use Rattle.node_list.specs.inside.Slots.{slot_at, WritesItem}
 
 -- each place that had a slot has it yet
 abbrev pub SameSlots : List Item → List Item → Type 0
 SameSlots old new = (k : ℕ) → k < length old → slot_at new k ≡ slot_at old k
 
-pub went-well : {T E P : Type 0} (r : Result T E) → is_err r ≡ false → OnOk r P → P
-went-well (Ok x) e h = h
-went-well (Err x) e h = absurd (cc)
+pub succeeds-ok : {T E P : Type 0} (r : Result T E) → is_err r ≡ false → OnOk r P → P
+succeeds-ok (Ok x) e h = h
+succeeds-ok (Err x) e h = absurd (cc)
 
 same-longer : (ss ys : List Item) → SameSlots ss (ss ++ ys)
 same-longer [] ys k h = absurd (omega (arith, h))
@@ -30,9 +30,9 @@ pushed-here [] s = refl
 pushed-here (t ∷ ss) s = pushed-here ss s
 
 -- a slot at the end, once the gap is filled
-pub pushed : (old full new : List Item) (at : ℕ) (s : Item) → SameSlots old full → length old ≤ at → length full ≡ at → new ≡ full ++ s ∷ [] → PutsSlot old new at s
+pub pushed : (old full new : List Item) (at : ℕ) (s : Item) → SameSlots old full → length old ≤ at → length full ≡ at → new ≡ full ++ s ∷ [] → WritesItem old new at s
 pushed old full new at s same h len is =
-    let P : List Item → Type 0 = λ zs. PutsSlot old zs at s in
+    let P : List Item → Type 0 = λ zs. WritesItem old zs at s in
     let N : ℕ → Type 0 = λ k. slice_get (full ++ s ∷ []) k ≡ Some s in
     subst P (sym is)
     (record {

@@ -3,14 +3,14 @@ use Rattle.std.proofs.Common.{◌≡◌, ◌≢◌, ℕ, suc, ◌+◌, ◌<◌, 
 use Rattle.std.proofs.lemmas.Bool.{cases_lt, cases_eq}
 use Rattle.slab.specs.Slab.{Slab, get, slab_len, Updates, with_value}
 use Rattle.slab.proofs.SlabLemmas.{Updates-with_value}
-use Rattle.node_list.specs.declared.node.Node.{Node}
+use Rattle.node_list.specs.declared.node.ListNode.{ListNode}
 use Rattle.node_list.specs.Cells.{Cell, Sorted}
-use Rattle.node_list.specs.Places.{from, StandsUpTo, IsFresh}
+use Rattle.node_list.specs.Places.{from, HasKeyAtMost, IsFresh}
 use Rattle.node_list.specs.Changes.{put_cell}
-use Rattle.node_list.specs.inside.Walks.{Links, Linked, rest, cell_of, node_of, IsKeyUpTo, last_up_to_in}
-use Rattle.node_list.proofs.WalkLaws.{walk-is, walk-length, walk-none, rest-step_at}
-use Rattle.node_list.proofs.CellLaws.{last_up_to_in-past, last_up_to_in-on, put-past, put-on, from-here, from-on, length-put, length-from, at-most-from}
-use Rattle.node_list.proofs.PlaceLaws.{away, apart-vacant, links-frame, links-from}
+use Rattle.node_list.specs.inside.Walks.{Links, IsLinked, cells_from, cell_of, node_of, NodeHasKeyAtMost, last_not_above_in}
+use Rattle.node_list.proofs.WalkLaws.{walk-is, walk-length, walk-none, cells_from-step_at}
+use Rattle.node_list.proofs.CellLaws.{last_not_above_in-past, last_not_above_in-on, put-past, put-on, from-here, from-on, length-put, length-from, at-most-from}
+use Rattle.node_list.proofs.PlaceLaws.{away, apart-free_head, links-frame, links-from}
 
 abbrev pub Past : ℕ → List Cell → Type 0
 Past key [] = Unit {0}
@@ -27,10 +27,10 @@ spot-apart key last p (c ∷ cs) h a =
     elim h.1 [ inl here ↦ (λ e. a.0 (here.0 ∙ e)) | inr later ↦ spot-apart key last p cs later a.1 ]
 
 -- a node is spliced in behind `last`
-pub record Spliced (g h : ℕ → Option Node) (last : ℕ) (x : Cell) : Type 0 where
-  pub node : Node
+pub record Spliced (g h : ℕ → Option ListNode) (last : ℕ) (x : Cell) : Type 0 where
+  pub node : ListNode
   pub was : g last ≡ Some node
-  pub vacant : g x.at ≡ None
+  pub free_head : g x.at ≡ None
   pub before : h last ≡ Some (record node { next = Some x.at })
   pub put : h x.at ≡ Some (node_of x node.next)
   pub others : (k : ℕ) → k ≢ last → k ≢ x.at → h k ≡ g k
@@ -39,14 +39,14 @@ put-past_all : (x : Cell) (cs : List Cell) → Past x.key cs → put_cell x cs �
 put-past_all x [] h = refl
 put-past_all x (c ∷ cs) h = put-past x c cs h
 
-node-next : (n m : Node) → n ≡ m → n.next ≡ m.next
-node-next n m e = ap (λ (k : Node). k.next) e
+node-next : (n m : ListNode) → n ≡ m → n.next ≡ m.next
+node-next n m e = ap (λ (k : ListNode). k.next) e
 
-splice : (g h : ℕ → Option Node) (last : ℕ) (x : Cell) → Spliced g h last x
+splice : (g h : ℕ → Option ListNode) (last : ℕ) (x : Cell) → Spliced g h last x
     → (link : Option ℕ) (cs : List Cell) → Links g link cs → Spot x.key last cs → Links h link (put_cell x cs)
 splice g h last x s link [] l spot = absurd spot
 splice g h last x s link (c ∷ cs) l spot =
-    let apart : IsFresh x.at (c ∷ cs) = apart-vacant g x.at s.vacant link (c ∷ cs) l in
+    let apart : IsFresh x.at (c ∷ cs) = apart-free_head g x.at s.free_head link (c ∷ cs) l in
     rw (put-on x c cs spot.0)
     (elim spot.1 [
       | inl here ↦
@@ -54,11 +54,11 @@ splice g h last x s link (c ∷ cs) l spot =
           let once : IsFresh c.at cs = away g c cs full l.1.0 cs l.1.2 (omega arith) in
           let once' : IsFresh last cs = rw here.0 at once in
           let node : s.node ≡ node_of c l.1.0 = cc (s.was, l.1.1, here.0) in
-          let P : Node → Type 0 = λ n. (h last ≡ Some (record n { next = Some x.at })) × (h x.at ≡ Some (node_of x n.next)) in
+          let P : ListNode → Type 0 = λ n. (h last ≡ Some (record n { next = Some x.at })) × (h x.at ≡ Some (node_of x n.next)) in
           let now : P (node_of c l.1.0) = subst P node (s.before, s.put) in
-          let front : h c.at ≡ Some (node_of c (Some x.at)) = ap h here.0 ∙ now.0 in
+          let header : h c.at ≡ Some (node_of c (Some x.at)) = ap h here.0 ∙ now.0 in
           let tail : Links h l.1.0 cs = links-frame g h last x.at s.others l.1.0 cs l.1.2 once' apart.1 in
-          rw (put-past_all x cs here.1) (l.0, (Some x.at, front, (refl, (l.1.0, now.1, tail))))
+          rw (put-past_all x cs here.1) (l.0, (Some x.at, header, (refl, (l.1.0, now.1, tail))))
       | inr later ↦
           let full : Links g (Some c.at) (c ∷ cs) = (refl, l.1) in
           let once : IsFresh c.at cs = away g c cs full l.1.0 cs l.1.2 (omega arith) in
@@ -67,21 +67,21 @@ splice g h last x s link (c ∷ cs) l spot =
     ])
 
 -- ---- where `last_up_to_in` stands
-spot-last : (key : ℕ) (c : Cell) (cs : List Cell) → c.key ≤ key → Spot key (last_up_to_in key c.at cs) (c ∷ cs)
+spot-last : (key : ℕ) (c : Cell) (cs : List Cell) → c.key ≤ key → Spot key (last_not_above_in key c.at cs) (c ∷ cs)
 spot-last key c [] h = (h, inl (refl, tt))
 spot-last key c (d ∷ ds) h =
     elim (cases_lt key d.key) [
-      | inl past ↦ let P : ℕ → Type 0 = λ z. Spot key z (c ∷ d ∷ ds) in subst P (sym (last_up_to_in-past key c.at d ds past)) (h, inl (refl, past))
-      | inr on ↦ let P : ℕ → Type 0 = λ z. Spot key z (c ∷ d ∷ ds) in subst P (sym (last_up_to_in-on key c.at d ds on)) (h, inr (spot-last key d ds on))
+      | inl past ↦ let P : ℕ → Type 0 = λ z. Spot key z (c ∷ d ∷ ds) in subst P (sym (last_not_above_in-past key c.at d ds past)) (h, inl (refl, past))
+      | inr on ↦ let P : ℕ → Type 0 = λ z. Spot key z (c ∷ d ∷ ds) in subst P (sym (last_not_above_in-on key c.at d ds on)) (h, inr (spot-last key d ds on))
     ]
 
-pub spot-from : (key start : ℕ) (cs : List Cell) (d : Cell) (ds : List Cell) → Sorted cs → from start cs ≡ d ∷ ds → d.key ≤ key → Spot key (last_up_to_in key d.at ds) cs
+pub spot-from : (key start : ℕ) (cs : List Cell) (d : Cell) (ds : List Cell) → Sorted cs → from start cs ≡ d ∷ ds → d.key ≤ key → Spot key (last_not_above_in key d.at ds) cs
 spot-from key start [] d ds o e h = absurd (cc)
 spot-from key start (c ∷ cs) d ds o e h =
     elim (cases_eq c.at start) [
       | inl here ↦
           let same : c ∷ cs ≡ d ∷ ds = sym (from-here start c cs here) ∙ e in
-          let P : List Cell → Type 0 = λ zs. Spot key (last_up_to_in key d.at ds) zs in
+          let P : List Cell → Type 0 = λ zs. Spot key (last_not_above_in key d.at ds) zs in
           subst P (sym same) (spot-last key d ds h)
       | inr other ↦
           let later : from start cs ≡ d ∷ ds = sym (from-on start c cs other) ∙ e in
@@ -90,27 +90,27 @@ spot-from key start (c ∷ cs) d ds o e h =
     ]
 
 -- what a start gives
-pub record Begun (s : Slab Node) (key start : ℕ) : Type 0 where
-  pub linked : Linked s (Some start)
-  pub up_to : IsKeyUpTo s start key
-  pub spot : Spot key (last_up_to_in key start (rest s (Some start))) (rest s (Some 0))
+pub record Begun (s : Slab ListNode) (key start : ℕ) : Type 0 where
+  pub linked : IsLinked s (Some start)
+  pub up_to : NodeHasKeyAtMost s start key
+  pub spot : Spot key (last_not_above_in key start (cells_from s (Some start))) (cells_from s (Some 0))
 
-pub begun : (s : Slab Node) (key start : ℕ) → Linked s (Some 0) → Sorted (rest s (Some 0)) → StandsUpTo key start (rest s (Some 0)) → Begun s key start
+pub begun : (s : Slab ListNode) (key start : ℕ) → IsLinked s (Some 0) → Sorted (cells_from s (Some 0)) → HasKeyAtMost key start (cells_from s (Some 0)) → Begun s key start
 begun s key start l o h =
-    let f = links-from (get s) start (Some 0) (rest s (Some 0)) h.cell h.later l.links h.is in
-    let short : length (h.cell ∷ h.later) ≤ slab_len s = omega (arith, ap length h.is, length-from start (rest s (Some 0)), walk-length (slab_len s) (get s) (Some 0)) in
-    let is : rest s (Some start) ≡ h.cell ∷ h.later = walk-is (slab_len s) (get s) (Some start) (h.cell ∷ h.later) f.1 short in
+    let f = links-from (get s) start (Some 0) (cells_from s (Some 0)) h.cell h.later l.links h.is in
+    let short : length (h.cell ∷ h.later) ≤ slab_len s = omega (arith, ap length h.is, length-from start (cells_from s (Some 0)), walk-length (slab_len s) (get s) (Some 0)) in
+    let is : cells_from s (Some start) ≡ h.cell ∷ h.later = walk-is (slab_len s) (get s) (Some start) (h.cell ∷ h.later) f.1 short in
     let g : get s start ≡ Some (node_of h.cell f.1.1.0) = ap (get s) (sym f.0) ∙ f.1.1.1 in
     record {
       linked = record { links = let P : List Cell → Type 0 = λ zs. Links (get s) (Some start) zs in subst P (sym is) f.1 };
       up_to = record { node = node_of h.cell f.1.1.0; is = g; up_to = h.up_to };
       spot =
-          let P : ℕ → Type 0 = λ z. Spot key z (rest s (Some 0)) in
-          subst P (sym (ap (last_up_to_in key start) is ∙ last_up_to_in-on key start h.cell h.later h.up_to)) (spot-from key start (rest s (Some 0)) h.cell h.later o h.is h.up_to);
+          let P : ℕ → Type 0 = λ z. Spot key z (cells_from s (Some 0)) in
+          subst P (sym (ap (last_not_above_in key start) is ∙ last_not_above_in-on key start h.cell h.later h.up_to)) (spot-from key start (cells_from s (Some 0)) h.cell h.later o h.is h.up_to);
     }
 
 -- the last place of a spot has a node
-pub spot-node : (g : ℕ → Option Node) (key last : ℕ) (link : Option ℕ) (cs : List Cell) → Links g link cs → Spot key last cs → (node : Node) × (g last ≡ Some node)
+pub spot-node : (g : ℕ → Option ListNode) (key last : ℕ) (link : Option ℕ) (cs : List Cell) → Links g link cs → Spot key last cs → (node : ListNode) × (g last ≡ Some node)
 spot-node g key last link [] l h = absurd h
 spot-node g key last link (c ∷ cs) l h =
     elim h.1 [
@@ -118,74 +118,74 @@ spot-node g key last link (c ∷ cs) l h =
       | inr later ↦ spot-node g key last l.1.0 cs l.1.2 later
     ]
 
-pub spliced-rest : (s t : Slab Node) (last : ℕ) (x : Cell) → Linked s (Some 0) → Spliced (get s) (get t) last x → Spot x.key last (rest s (Some 0)) → slab_len t ≡ slab_len s + 1
-    → (Linked t (Some 0)) × (rest t (Some 0) ≡ put_cell x (rest s (Some 0)))
-spliced-rest s t last x l p h n =
-    let links : Links (get t) (Some 0) (put_cell x (rest s (Some 0))) = splice (get s) (get t) last x p (Some 0) (rest s (Some 0)) l.links h in
-    let short : length (put_cell x (rest s (Some 0))) ≤ slab_len t = omega (arith, length-put x (rest s (Some 0)), walk-length (slab_len s) (get s) (Some 0)) in
-    let is : rest t (Some 0) ≡ put_cell x (rest s (Some 0)) = walk-is (slab_len t) (get t) (Some 0) (put_cell x (rest s (Some 0))) links short in
+pub spliced-cells_from : (s t : Slab ListNode) (last : ℕ) (x : Cell) → IsLinked s (Some 0) → Spliced (get s) (get t) last x → Spot x.key last (cells_from s (Some 0)) → slab_len t ≡ slab_len s + 1
+    → (IsLinked t (Some 0)) × (cells_from t (Some 0) ≡ put_cell x (cells_from s (Some 0)))
+spliced-cells_from s t last x l p h n =
+    let links : Links (get t) (Some 0) (put_cell x (cells_from s (Some 0))) = splice (get s) (get t) last x p (Some 0) (cells_from s (Some 0)) l.links h in
+    let short : length (put_cell x (cells_from s (Some 0))) ≤ slab_len t = omega (arith, length-put x (cells_from s (Some 0)), walk-length (slab_len s) (get s) (Some 0)) in
+    let is : cells_from t (Some 0) ≡ put_cell x (cells_from s (Some 0)) = walk-is (slab_len t) (get t) (Some 0) (put_cell x (cells_from s (Some 0))) links short in
     (record { links = rw is links }, is)
 
 -- ---- one step of the way to the last place
-pub record Hop (s : Slab Node) (key last place : ℕ) (m : Node) : Type 0 where
-  pub past : key < m.key → last_up_to_in key last (rest s (Some last)) ≡ last
-  pub on : m.key ≤ key → last_up_to_in key place (rest s (Some place)) ≡ last_up_to_in key last (rest s (Some last))
-  pub linked : Linked s (Some place)
-  pub smaller : length (rest s (Some place)) < length (rest s (Some last))
+pub record Hop (s : Slab ListNode) (key last place : ℕ) (m : ListNode) : Type 0 where
+  pub past : key < m.key → last_not_above_in key last (cells_from s (Some last)) ≡ last
+  pub on : m.key ≤ key → last_not_above_in key place (cells_from s (Some place)) ≡ last_not_above_in key last (cells_from s (Some last))
+  pub linked : IsLinked s (Some place)
+  pub smaller : length (cells_from s (Some place)) < length (cells_from s (Some last))
 
-last_up_to_in-head : (s : Slab Node) (key last : ℕ) (n : Node) → Linked s (Some last) → IsKeyUpTo s last key → get s last ≡ Some n → last_up_to_in key last (rest s (Some last)) ≡ last_up_to_in key last (rest s n.next)
-last_up_to_in-head s key last n l u e =
-    let st = rest-step_at s last n l e in
+last_not_above_in-head : (s : Slab ListNode) (key last : ℕ) (n : ListNode) → IsLinked s (Some last) → NodeHasKeyAtMost s last key → get s last ≡ Some n → last_not_above_in key last (cells_from s (Some last)) ≡ last_not_above_in key last (cells_from s n.next)
+last_not_above_in-head s key last n l u e =
+    let st = cells_from-step_at s last n l e in
     let same : u.node ≡ n = cc (u.is, e) in
     let low : n.key ≤ key = rw same at u.up_to in
-    ap (last_up_to_in key last) st.is ∙ last_up_to_in-on key last (cell_of last n) (rest s n.next) low
+    ap (last_not_above_in key last) st.is ∙ last_not_above_in-on key last (cell_of last n) (cells_from s n.next) low
 
-pub last_up_to_in-end : (s : Slab Node) (key last : ℕ) (n : Node) → Linked s (Some last) → IsKeyUpTo s last key → get s last ≡ Some n → n.next ≡ None → last_up_to_in key last (rest s (Some last)) ≡ last
-last_up_to_in-end s key last n l u e none =
-    last_up_to_in-head s key last n l u e ∙ (ap (λ (z : Option ℕ). last_up_to_in key last (rest s z)) none ∙ ap (last_up_to_in key last) (walk-none (slab_len s) (get s)))
+pub last_not_above_in-end : (s : Slab ListNode) (key last : ℕ) (n : ListNode) → IsLinked s (Some last) → NodeHasKeyAtMost s last key → get s last ≡ Some n → n.next ≡ None → last_not_above_in key last (cells_from s (Some last)) ≡ last
+last_not_above_in-end s key last n l u e none =
+    last_not_above_in-head s key last n l u e ∙ (ap (λ (z : Option ℕ). last_not_above_in key last (cells_from s z)) none ∙ ap (last_not_above_in key last) (walk-none (slab_len s) (get s)))
 
-pub hop : (s : Slab Node) (key last place : ℕ) (n m : Node) → Linked s (Some last) → IsKeyUpTo s last key → get s last ≡ Some n → n.next ≡ Some place → get s place ≡ Some m → Hop s key last place m
+pub hop : (s : Slab ListNode) (key last place : ℕ) (n m : ListNode) → IsLinked s (Some last) → NodeHasKeyAtMost s last key → get s last ≡ Some n → n.next ≡ Some place → get s place ≡ Some m → Hop s key last place m
 hop s key last place n m l u e next f =
-    let st = rest-step_at s last n l e in
+    let st = cells_from-step_at s last n l e in
     let on = rw next at st.onward in
-    let st' = rest-step_at s place m on f in
-    let head : last_up_to_in key last (rest s (Some last)) ≡ last_up_to_in key last (cell_of place m ∷ rest s m.next) =
-    last_up_to_in-head s key last n l u e ∙ (ap (λ (z : Option ℕ). last_up_to_in key last (rest s z)) next ∙ ap (last_up_to_in key last) st'.is) in
+    let st' = cells_from-step_at s place m on f in
+    let head : last_not_above_in key last (cells_from s (Some last)) ≡ last_not_above_in key last (cell_of place m ∷ cells_from s m.next) =
+    last_not_above_in-head s key last n l u e ∙ (ap (λ (z : Option ℕ). last_not_above_in key last (cells_from s z)) next ∙ ap (last_not_above_in key last) st'.is) in
     record {
-      past = λ h. head ∙ last_up_to_in-past key last (cell_of place m) (rest s m.next) h;
-      on = λ h. ap (last_up_to_in key place) st'.is ∙ (last_up_to_in-on key place (cell_of place m) (rest s m.next) h ∙ sym (head ∙ last_up_to_in-on key last (cell_of place m) (rest s m.next) h));
+      past = λ h. head ∙ last_not_above_in-past key last (cell_of place m) (cells_from s m.next) h;
+      on = λ h. ap (last_not_above_in key place) st'.is ∙ (last_not_above_in-on key place (cell_of place m) (cells_from s m.next) h ∙ sym (head ∙ last_not_above_in-on key last (cell_of place m) (cells_from s m.next) h));
       linked = on;
-      smaller = let a : length (rest s (Some last)) ≡ suc (length (rest s n.next)) = ap length st.is in
-          let b : length (rest s n.next) ≡ length (rest s (Some place)) = ap (λ (z : Option ℕ). length (rest s z)) next in omega arith;
+      smaller = let a : length (cells_from s (Some last)) ≡ suc (length (cells_from s n.next)) = ap length st.is in
+          let b : length (cells_from s n.next) ≡ length (cells_from s (Some place)) = ap (λ (z : Option ℕ). length (cells_from s z)) next in omega arith;
     }
 
-pub record Inserted (s t : Slab Node) (x : Cell) : Type 0 where
-  pub linked : Linked t (Some 0)
-  pub cells : rest t (Some 0) ≡ put_cell x (rest s (Some 0))
+pub record Inserted (s t : Slab ListNode) (x : Cell) : Type 0 where
+  pub linked : IsLinked t (Some 0)
+  pub cells : cells_from t (Some 0) ≡ put_cell x (cells_from s (Some 0))
 
 -- a value put at a vacant place, and then the link to it
-pub inserted : (s m : Slab Node) (x : Cell) (start last : ℕ) (n n' : Node)
-    → Begun s x.key start → Linked s (Some 0) → last ≡ last_up_to_in x.key start (rest s (Some start))
+pub inserted : (s m : Slab ListNode) (x : Cell) (start last : ℕ) (n n' : ListNode)
+    → Begun s x.key start → IsLinked s (Some 0) → last ≡ last_not_above_in x.key start (cells_from s (Some start))
     → get s last ≡ Some n → get s x.at ≡ None → Updates s m x.at (Some (node_of x n.next)) → slab_len m ≡ slab_len s + 1
     → get m last ≡ Some n' → slab_len (with_value m last (record n' { next = Some x.at })) ≡ slab_len s + 1
     → Inserted s (with_value m last (record n' { next = Some x.at })) x
-inserted s m x start last n n' b l e was vacant u len now len' =
+inserted s m x start last n n' b l e was free_head u len now len' =
     let t = with_value m last (record n' { next = Some x.at }) in
-    let apart : last ≢ x.at = λ same. let f : get s last ≡ None = ap (get s) same ∙ vacant in absurd (cc (f, was)) in
+    let apart : last ≢ x.at = λ same. let f : get s last ≡ None = ap (get s) same ∙ free_head in absurd (cc (f, was)) in
     let same : n ≡ n' = cc (was, now, u.others last apart) in
-    let w = Updates-with_value m last (record n' { next = Some x.at }) (let P : Option Node → Type 0 = λ o. IsSome o in subst P (sym now) refl) in
-    let spot : Spot x.key last (rest s (Some 0)) = let P : ℕ → Type 0 = λ z. Spot x.key z (rest s (Some 0)) in subst P (sym e) b.spot in
+    let w = Updates-with_value m last (record n' { next = Some x.at }) (let P : Option ListNode → Type 0 = λ o. IsSome o in subst P (sym now) refl) in
+    let spot : Spot x.key last (cells_from s (Some 0)) = let P : ℕ → Type 0 = λ z. Spot x.key z (cells_from s (Some 0)) in subst P (sym e) b.spot in
     let before : get (with_value m last (record n' { next = Some x.at })) last ≡ Some (record n { next = Some x.at }) =
-    w.changed ∙ ap (λ (z : Node). Some (record z { next = Some x.at })) (sym same) in
+    w.changed ∙ ap (λ (z : ListNode). Some (record z { next = Some x.at })) (sym same) in
     let put : get (with_value m last (record n' { next = Some x.at })) x.at ≡ Some (node_of x n.next) =
     w.others x.at (λ k. apart (sym k)) ∙ u.changed in
     let p : Spliced (get s) (get (with_value m last (record n' { next = Some x.at }))) last x = record {
       node = n;
       was = was;
-      vacant = vacant;
+      free_head = free_head;
       before = before;
       put = put;
       others = λ k a c. w.others k a ∙ u.others k c;
     } in
-    let r = spliced-rest s (with_value m last (record n' { next = Some x.at })) last x l p spot len' in
+    let r = spliced-cells_from s (with_value m last (record n' { next = Some x.at })) last x l p spot len' in
     record { linked = r.0; cells = r.1 }

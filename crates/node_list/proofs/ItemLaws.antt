@@ -3,43 +3,43 @@ use Rattle.std.proofs.Common.{◌≡◌, ℕ, ◌<◌, ◌≤◌, inl, inr, List
 use Rattle.std.proofs.lemmas.Bool.{cases_lt}
 use Rattle.slab.specs.Slab.{Slab, get}
 use Rattle.node_list.specs.declared.node.Item.{Item}
-use Rattle.node_list.specs.declared.node.Node.{Node}
-use Rattle.node_list.specs.declared.packed.Packed.{Packed}
-use Rattle.node_list.specs.inside.Slots.{slot_at, item_if, node_in, nodes_of, whole, marks_item, HasItemIn, IsLeastItemIn}
-use Rattle.node_list.proofs.SlotLaws.{get-nodes, has-front}
+use Rattle.node_list.specs.declared.node.ListNode.{ListNode}
+use Rattle.node_list.specs.declared.packed.PackedHeader.{PackedHeader}
+use Rattle.node_list.specs.inside.Slots.{slot_at, item_if, node_at, nodes_of, unpacked_node, has_item_at, HasItemIn, IsLeastItemIn}
+use Rattle.node_list.proofs.SlotLaws.{get-nodes, has-header}
 
 -- the nodes of a slab and what stands beside it
-pub record Beside (n : Slab Packed) (ss : List Item) (s : Slab Node) : Type 0 where
+pub record Beside (n : Slab PackedHeader) (ss : List Item) (s : Slab ListNode) : Type 0 where
   pub are : nodes_of n.slots ss ≡ s.slots
   pub within : (k : ℕ) → IsSome (get n k) → k < length ss
 
-node-beside : (n : Slab Packed) (ss : List Item) (s : Slab Node) (k : ℕ) → Beside n ss s → get s k ≡ node_in (get n k) (slot_at ss k)
-node-beside n ss s k b =
-    let N : List (Option Node) → Type 0 = λ zs. slice_index_or zs k None ≡ node_in (get n k) (slot_at ss k) in
+node-in_array : (n : Slab PackedHeader) (ss : List Item) (s : Slab ListNode) (k : ℕ) → Beside n ss s → get s k ≡ node_at (get n k) (slot_at ss k)
+node-in_array n ss s k b =
+    let N : List (Option ListNode) → Type 0 = λ zs. slice_index_or zs k None ≡ node_at (get n k) (slot_at ss k) in
     subst N b.are (get-nodes n.slots ss k)
 
-item-by : (s : Slab Node) (k : ℕ) (o : Option Packed) (slot : Item) → get s k ≡ node_in o slot → marks_item o ≡ true → HasItemIn s k
+item-by : (s : Slab ListNode) (k : ℕ) (o : Option PackedHeader) (slot : Item) → get s k ≡ node_at o slot → has_item_at o ≡ true → HasItemIn s k
 item-by s k None slot e marked = absurd (cc)
 item-by s k (Some f) slot e marked =
     let P : Bool → Type 0 = λ b. IsSome (item_if b slot) in
-    record { node = whole f slot; is = e; has = subst P (sym marked) refl }
+    record { node = unpacked_node f slot; is = e; has = subst P (sym marked) refl }
 
-marked-item : (n : Slab Packed) (ss : List Item) (s : Slab Node) (k : ℕ) → Beside n ss s → marks_item (get n k) ≡ true → HasItemIn s k
-marked-item n ss s k b marked = item-by s k (get n k) (slot_at ss k) (node-beside n ss s k b) marked
+marked-item : (n : Slab PackedHeader) (ss : List Item) (s : Slab ListNode) (k : ℕ) → Beside n ss s → has_item_at (get n k) ≡ true → HasItemIn s k
+marked-item n ss s k b marked = item-by s k (get n k) (slot_at ss k) (node-in_array n ss s k b) marked
 
-dummy-by : (o : Option Packed) (slot : Item) (m : Node) → node_in o slot ≡ Some m → marks_item o ≡ false → IsSome m.item → ⊥
+dummy-by : (o : Option PackedHeader) (slot : Item) (m : ListNode) → node_at o slot ≡ Some m → has_item_at o ≡ false → IsSome m.item → ⊥
 dummy-by None slot m e unmarked h = absurd (cc)
 dummy-by (Some f) slot m e unmarked h =
-    let same : m ≡ whole f slot = cc in
-    let none : m.item ≡ None = ap (λ (z : Node). z.item) same ∙ ap (λ (b : Bool). item_if b slot) unmarked in
+    let same : m ≡ unpacked_node f slot = cc in
+    let none : m.item ≡ None = ap (λ (z : ListNode). z.item) same ∙ ap (λ (b : Bool). item_if b slot) unmarked in
     absurd (cc (none, h))
 
-no-item : (n : Slab Packed) (ss : List Item) (s : Slab Node) (k : ℕ) → Beside n ss s → marks_item (get n k) ≡ false → HasItemIn s k → ⊥
-no-item n ss s k b unmarked h = dummy-by (get n k) (slot_at ss k) h.node (sym (node-beside n ss s k b) ∙ h.is) unmarked h.has
+no-item : (n : Slab PackedHeader) (ss : List Item) (s : Slab ListNode) (k : ℕ) → Beside n ss s → has_item_at (get n k) ≡ false → HasItemIn s k → ⊥
+no-item n ss s k b unmarked h = dummy-by (get n k) (slot_at ss k) h.node (sym (node-in_array n ss s k b) ∙ h.is) unmarked h.has
 
 -- no items from a place up to one that has an item, or to the end
-pub least-item : (n : Slab Packed) (ss : List Item) (s : Slab Node) (start at : ℕ) → Beside n ss s → ((k : ℕ) → start ≤ k → k < at → marks_item (get n k) ≡ false)
-    → start ≤ at → marks_item (get n at) ≡ true → IsLeastItemIn start at s
+pub least-item : (n : Slab PackedHeader) (ss : List Item) (s : Slab ListNode) (start at : ℕ) → Beside n ss s → ((k : ℕ) → start ≤ k → k < at → has_item_at (get n k) ≡ false)
+    → start ≤ at → has_item_at (get n at) ≡ true → IsLeastItemIn start at s
 least-item n ss s start at b seen h marked =
     record {
       has = marked-item n ss s at b marked;
@@ -48,16 +48,16 @@ least-item n ss s start at b seen h marked =
           elim (cases_lt other at) [ inl before ↦ absurd (no-item n ss s other b (seen other after before) has) | inr there ↦ there ];
     }
 
-pub no-item_left : (n : Slab Packed) (ss : List Item) (s : Slab Node) (start end : ℕ) → Beside n ss s → ((k : ℕ) → start ≤ k → k < end → marks_item (get n k) ≡ false)
+pub no-item_left : (n : Slab PackedHeader) (ss : List Item) (s : Slab ListNode) (start end : ℕ) → Beside n ss s → ((k : ℕ) → start ≤ k → k < end → has_item_at (get n k) ≡ false)
     → length ss ≤ end → (other : ℕ) → HasItemIn s other → other < start
 no-item_left n ss s start end b seen h other has =
-    let N : List (Option Node) → Type 0 = λ zs. IsSome (slice_index_or zs other None) in
-    let O : Option Node → Type 0 = λ o. IsSome o in
+    let N : List (Option ListNode) → Type 0 = λ zs. IsSome (slice_index_or zs other None) in
+    let O : Option ListNode → Type 0 = λ o. IsSome o in
     let node : IsSome (slice_index_or (nodes_of n.slots ss) other None) = subst N (sym b.are) (subst O (sym has.is) refl) in
     elim (cases_lt other start) [
       | inl before ↦ before
       | inr after ↦ elim (cases_lt other end) [
         | inl within ↦ absurd (no-item n ss s other b (seen other after within) has)
-        | inr past ↦ absurd (omega (arith, past, h, b.within other (has-front n ss other node)))
+        | inr past ↦ absurd (omega (arith, past, h, b.within other (has-header n ss other node)))
       ]
     ]

@@ -12,6 +12,6 @@ pub mod UnlinkLaws
 pub mod ListLaws
 pub mod CountLaws
 pub mod CallerLaws
-pub mod SpareLaws
-pub mod SpareChainLaws
+pub mod FreePlaceLaws
+pub mod FreeListLaws
 pub mod PartLaws

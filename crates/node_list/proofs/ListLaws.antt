@@ -3,13 +3,13 @@ use Rattle.std.proofs.Common.{◌≡◌, ℕ, ◌+◌, inl, inr, List, [], ◌�
 use Rattle.std.proofs.lemmas.Bool.{cases_eq}
 use Rattle.slab.specs.Slab.{Slab, slab_len, SameValues}
 use Rattle.node_list.specs.declared.node.Item.{Item}
-use Rattle.node_list.specs.declared.node.Node.{Node}
+use Rattle.node_list.specs.declared.node.ListNode.{ListNode}
 use Rattle.node_list.specs.Cells.{Cell, Sorted, StartsWithDummy}
 use Rattle.node_list.specs.Places.{from}
 use Rattle.node_list.specs.Changes.{put_cell, without}
-use Rattle.node_list.specs.inside.Walks.{rest, Linked, IsList}
+use Rattle.node_list.specs.inside.Walks.{cells_from, IsLinked, ListInvariant}
 use Rattle.node_list.proofs.CellLaws.{put-on, from-here, without-on, sorted-put, length-put, sorted-without, length-without}
-use Rattle.node_list.proofs.WalkLaws.{same-rest}
+use Rattle.node_list.proofs.WalkLaws.{same-cells_from}
 use Rattle.node_list.proofs.PlaceLaws.{from-has}
 
 starts-put : (x : Cell) (cs : List Cell) → StartsWithDummy cs → StartsWithDummy (put_cell x cs)
@@ -32,36 +32,36 @@ starts-without at (c ∷ cs) d ds item s e h =
       | inr other ↦ subst P (sym (without-on at c cs other)) s
     ]
 
-pub put-list : (s t : Slab Node) (x : Cell) → IsList s → Linked t (Some 0) → rest t (Some 0) ≡ put_cell x (rest s (Some 0)) → slab_len t ≡ slab_len s + 1 → IsList t
+pub put-list : (s t : Slab ListNode) (x : Cell) → ListInvariant s → IsLinked t (Some 0) → cells_from t (Some 0) ≡ put_cell x (cells_from s (Some 0)) → slab_len t ≡ slab_len s + 1 → ListInvariant t
 put-list s t x l linked is len =
     let P : List Cell → Type 0 = λ zs. Sorted zs in
     let D : List Cell → Type 0 = λ zs. StartsWithDummy zs in
     record {
       linked = linked;
-      sorted = subst P (sym is) (sorted-put x (rest s (Some 0)) l.sorted);
-      first = subst D (sym is) (starts-put x (rest s (Some 0)) l.first);
-      counted = len ∙ (ap (λ (n : ℕ). n + 1) l.counted ∙ (sym (length-put x (rest s (Some 0))) ∙ ap length (sym is)));
+      sorted = subst P (sym is) (sorted-put x (cells_from s (Some 0)) l.sorted);
+      first = subst D (sym is) (starts-put x (cells_from s (Some 0)) l.first);
+      counted = len ∙ (ap (λ (n : ℕ). n + 1) l.counted ∙ (sym (length-put x (cells_from s (Some 0))) ∙ ap length (sym is)));
     }
 
 one-less : (n m k l : ℕ) → n + 1 ≡ m → m ≡ k → l + 1 ≡ k → n ≡ l
 one-less n m k l a b c = omega (arith, a, b, c)
 
-pub without-list : (s t : Slab Node) (at : ℕ) (d : Cell) (ds : List Cell) (item : Item) → IsList s → from at (rest s (Some 0)) ≡ d ∷ ds → d.item ≡ Some item → Linked t (Some 0) → rest t (Some 0) ≡ without at (rest s (Some 0)) → slab_len t + 1 ≡ slab_len s → IsList t
+pub without-list : (s t : Slab ListNode) (at : ℕ) (d : Cell) (ds : List Cell) (item : Item) → ListInvariant s → from at (cells_from s (Some 0)) ≡ d ∷ ds → d.item ≡ Some item → IsLinked t (Some 0) → cells_from t (Some 0) ≡ without at (cells_from s (Some 0)) → slab_len t + 1 ≡ slab_len s → ListInvariant t
 without-list s t at d ds item l e h linked is len =
     let P : List Cell → Type 0 = λ zs. Sorted zs in
     let D : List Cell → Type 0 = λ zs. StartsWithDummy zs in
-    let n : slab_len t ≡ length (without at (rest s (Some 0))) =
-    one-less (slab_len t) (slab_len s) (length (rest s (Some 0))) (length (without at (rest s (Some 0)))) len l.counted (length-without at (rest s (Some 0)) (from-has at (rest s (Some 0)) d ds e)) in
+    let n : slab_len t ≡ length (without at (cells_from s (Some 0))) =
+    one-less (slab_len t) (slab_len s) (length (cells_from s (Some 0))) (length (without at (cells_from s (Some 0)))) len l.counted (length-without at (cells_from s (Some 0)) (from-has at (cells_from s (Some 0)) d ds e)) in
     record {
       linked = linked;
-      sorted = subst P (sym is) (sorted-without at (rest s (Some 0)) l.sorted);
-      first = subst D (sym is) (starts-without at (rest s (Some 0)) d ds item l.first e h);
+      sorted = subst P (sym is) (sorted-without at (cells_from s (Some 0)) l.sorted);
+      first = subst D (sym is) (starts-without at (cells_from s (Some 0)) d ds item l.first e h);
       counted = n ∙ ap length (sym is);
     }
 
-pub same-list : (s t : Slab Node) → SameValues s t → slab_len t ≡ slab_len s → IsList s → IsList t
+pub same-list : (s t : Slab ListNode) → SameValues s t → slab_len t ≡ slab_len s → ListInvariant s → ListInvariant t
 same-list s t same len l =
-    let r = same-rest s t same len l.linked in
+    let r = same-cells_from s t same len l.linked in
     let P : List Cell → Type 0 = λ zs. Sorted zs in
     let D : List Cell → Type 0 = λ zs. StartsWithDummy zs in
     record {

@@ -5,77 +5,77 @@ use Rattle.std.proofs.lemmas.Bool.{cases_eq}
 use Rattle.slab.specs.Slab.{Slab, get, slab_len, with_value, Updates}
 use Rattle.slab.proofs.SlabLemmas.{Updates-with_value}
 use Rattle.node_list.specs.declared.node.Item.{Item}
-use Rattle.node_list.specs.declared.packed.Packed.{Packed}
-use Rattle.node_list.specs.inside.Packed.{is_item, is_spare, next_in}
-use Rattle.node_list.specs.inside.Slots.{marks_item, AreNodes}
-use Rattle.node_list.specs.inside.Spares.{live, fronts, spare_in}
+use Rattle.node_list.specs.declared.packed.PackedHeader.{PackedHeader}
+use Rattle.node_list.specs.inside.PackedHeader.{is_item, is_free, next_in}
+use Rattle.node_list.specs.inside.Slots.{has_item_at, NodesInvariant}
+use Rattle.node_list.specs.inside.FreeList.{live, headers, free_in}
 use Rattle.node_list.specs.inside.Walks.{Links}
-use Rattle.node_list.proofs.SpareLaws.{live-at, drawn, no-spare_at, updates-fronts, len-written, len-changed, all-drawn, drawn-same, same-count}
-use Rattle.node_list.proofs.SpareChainLaws.{changed, given}
+use Rattle.node_list.proofs.FreePlaceLaws.{live-at, allocated, not-free_at, updates-headers, len-written, len-changed, all-allocated, allocated-same, same-count}
+use Rattle.node_list.proofs.FreeListLaws.{changed, given}
 
 -- a node changes, and is an item where it was one
-pub kept : {A : Type 0} (n : Slab Packed) (items : Vec Item A) (at : ℕ) (p q : Packed) (low : ℕ) (vacant : Option ℕ) (len : ℕ) → IsSome (get (fronts n) at) → get n at ≡ Some p → is_spare q ≡ false → is_item q ≡ is_item p
-    → AreNodes n items low vacant len → AreNodes (with_value n at q) items low vacant len
-kept n items at p q low vacant len some is live item a =
+pub kept : {A : Type 0} (n : Slab PackedHeader) (items : Vec Item A) (at : ℕ) (p q : PackedHeader) (first_item_bound : ℕ) (free_head : Option ℕ) (len : ℕ) → IsSome (get (headers n) at) → get n at ≡ Some p → is_free q ≡ false → is_item q ≡ is_item p
+    → NodesInvariant n items first_item_bound free_head len → NodesInvariant (with_value n at q) items first_item_bound free_head len
+kept n items at p q first_item_bound free_head len some is live item a =
     let l = live-at n at some in
-    let O : Option Packed → Type 0 = λ o. IsSome o in
-    let there = drawn n at some in
+    let O : Option PackedHeader → Type 0 = λ o. IsSome o in
+    let there = allocated n at some in
     let u = Updates-with_value n at q there in
-    let v = updates-fronts n (with_value n at q) at (Some q) u in
+    let v = updates-headers n (with_value n at q) at (Some q) u in
     let m = with_value n at q in
     record {
-      room = all-drawn n (with_value n at q) at _ (Some q) u (a.room at there) a.room;
-      few = all-drawn n (with_value n at q) at _ (Some q) u (a.few at there) a.few;
+      room = all-allocated n (with_value n at q) at _ (Some q) u (a.room at there) a.room;
+      few = all-allocated n (with_value n at q) at _ (Some q) u (a.few at there) a.few;
       within = λ k has. elim (cases_eq k at) [
         | inl same ↦ omega (arith, same, a.within at some)
         | inr other ↦ a.within k (subst O (v.others k other) has)
       ];
       below = λ k h. elim (cases_eq k at) [
-        | inl same ↦ ap (λ j. marks_item (get (with_value n at q) j)) same ∙ (ap marks_item u.changed ∙ (item ∙ (sym (ap marks_item is) ∙ (ap (λ j. marks_item (get n j)) (sym same) ∙ a.below k h))))
-        | inr other ↦ ap marks_item (u.others k other) ∙ a.below k h
+        | inl same ↦ ap (λ j. has_item_at (get (with_value n at q) j)) same ∙ (ap has_item_at u.changed ∙ (item ∙ (sym (ap has_item_at is) ∙ (ap (λ j. has_item_at (get n j)) (sym same) ∙ a.below k h))))
+        | inr other ↦ ap has_item_at (u.others k other) ∙ a.below k h
       ];
       counted = len-changed n at l.0 q l.1.0 l.1.1 live ∙ a.counted;
-      spares = changed n (with_value n at q) vacant at len q a.spares (no-spare_at n at some) u (len-written n at q there);
+      free_list = changed n (with_value n at q) free_head at len q a.free_list (not-free_at n at some) u (len-written n at q there);
     }
 
 -- both arrays have more room
-pub roomier : {A : Type 0} (n m : Slab Packed) (items wider : Vec Item A) (low : ℕ) (vacant : Option ℕ) (len : ℕ) → m.slots ≡ n.slots → vec_items wider ≡ vec_items items → vec_capacity items ≤ vec_capacity wider
-    → AreNodes n items low vacant len → AreNodes m wider low vacant len
-roomier n m items wider low vacant len slots same more a =
-    let C : List (Option Packed) → Type 0 = λ zs. Links (λ k. spare_in (get_or zs k None)) vacant a.spares.cells in
+pub roomier : {A : Type 0} (n m : Slab PackedHeader) (items wider : Vec Item A) (first_item_bound : ℕ) (free_head : Option ℕ) (len : ℕ) → m.slots ≡ n.slots → vec_items wider ≡ vec_items items → vec_capacity items ≤ vec_capacity wider
+    → NodesInvariant n items first_item_bound free_head len → NodesInvariant m wider first_item_bound free_head len
+roomier n m items wider first_item_bound free_head len slots same more a =
+    let C : List (Option PackedHeader) → Type 0 = λ zs. Links (λ k. free_in (get_or zs k None)) free_head a.free_list.cells in
     record {
       room = λ k some.
-          let P : List (Option Packed) → Type 0 = λ zs. IsSome (get_or zs k None) in
+          let P : List (Option PackedHeader) → Type 0 = λ zs. IsSome (get_or zs k None) in
           omega (arith, a.room k (subst P slots some), more);
       few = λ k some.
-          let P : List (Option Packed) → Type 0 = λ zs. IsSome (get_or zs k None) in
+          let P : List (Option PackedHeader) → Type 0 = λ zs. IsSome (get_or zs k None) in
           a.few k (subst P slots some);
       within = λ k some.
-          let P : List (Option Packed) → Type 0 = λ zs. IsSome (get_or (map live zs) k None) in
+          let P : List (Option PackedHeader) → Type 0 = λ zs. IsSome (get_or (map live zs) k None) in
           let L : List Item → Type 0 = λ zs. k < length zs in
           subst L (sym same) (a.within k (subst P slots some));
-      below = λ k h. ap (λ (zs : List (Option Packed)). marks_item (get_or zs k None)) slots ∙ a.below k h;
-      counted = ap (λ (zs : List (Option Packed)). count_by is_some (map live zs)) slots ∙ a.counted;
-      spares = record {
-        cells = a.spares.cells;
-        links = subst C (sym slots) a.spares.links;
-        count = a.spares.count ∙ ap (λ (zs : List (Option Packed)). count_by is_some zs) (sym slots);
+      below = λ k h. ap (λ (zs : List (Option PackedHeader)). has_item_at (get_or zs k None)) slots ∙ a.below k h;
+      counted = ap (λ (zs : List (Option PackedHeader)). count_by is_some (map live zs)) slots ∙ a.counted;
+      free_list = record {
+        cells = a.free_list.cells;
+        links = subst C (sym slots) a.free_list.links;
+        count = a.free_list.count ∙ ap (λ (zs : List (Option PackedHeader)). count_by is_some zs) (sym slots);
       };
     }
 
 -- one more place is drawn, and is spare
-pub one-drawn : {A : Type 0} (n m : Slab Packed) (items : Vec Item A) (at : ℕ) (q : Packed) (low : ℕ) (vacant : Option ℕ) (len : ℕ) → get n at ≡ None → at < vec_capacity items → at < 2 ^ 62 - 1 → Updates n m at (Some q) → slab_len m ≡ slab_len n + 1
-    → is_spare q ≡ true → is_item q ≡ false → next_in q ≡ vacant → AreNodes n items low vacant len → AreNodes m items low (Some at) len
-one-drawn n m items at q low vacant len none here fits u more spare item next a =
-    let O : Option Packed → Type 0 = λ o. IsSome o in
+pub one-allocated : {A : Type 0} (n m : Slab PackedHeader) (items : Vec Item A) (at : ℕ) (q : PackedHeader) (first_item_bound : ℕ) (free_head : Option ℕ) (len : ℕ) → get n at ≡ None → at < vec_capacity items → at < 2 ^ 62 - 1 → Updates n m at (Some q) → slab_len m ≡ slab_len n + 1
+    → is_free q ≡ true → is_item q ≡ false → next_in q ≡ free_head → NodesInvariant n items first_item_bound free_head len → NodesInvariant m items first_item_bound (Some at) len
+one-allocated n m items at q first_item_bound free_head len none here fits u more free item next a =
+    let O : Option PackedHeader → Type 0 = λ o. IsSome o in
     record {
-      room = all-drawn n m at _ (Some q) u here a.room;
-      few = all-drawn n m at _ (Some q) u fits a.few;
-      within = λ k has. a.within k (subst O (drawn-same n m at q none u spare k) has);
+      room = all-allocated n m at _ (Some q) u here a.room;
+      few = all-allocated n m at _ (Some q) u fits a.few;
+      within = λ k has. a.within k (subst O (allocated-same n m at q none u free k) has);
       below = λ k h. elim (cases_eq k at) [
-        | inl same ↦ ap (λ j. marks_item (get m j)) same ∙ (ap marks_item u.changed ∙ item)
-        | inr other ↦ ap marks_item (u.others k other) ∙ a.below k h
+        | inl same ↦ ap (λ j. has_item_at (get m j)) same ∙ (ap has_item_at u.changed ∙ item)
+        | inr other ↦ ap has_item_at (u.others k other) ∙ a.below k h
       ];
-      counted = same-count (fronts m).slots (fronts n).slots (drawn-same n m at q none u spare) ∙ a.counted;
-      spares = given n m vacant at len len q a.spares (ap spare_in none) u spare next (omega (arith, more));
+      counted = same-count (headers m).slots (headers n).slots (allocated-same n m at q none u free) ∙ a.counted;
+      free_list = given n m free_head at len len q a.free_list (ap free_in none) u free next (omega (arith, more));
     }

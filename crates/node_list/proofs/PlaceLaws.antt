@@ -3,19 +3,19 @@ use Rattle.std.proofs.Common.{◌≡◌, ◌≢◌, ℕ, ◌+◌, ◌≤◌, inl
 use Rattle.std.proofs.lemmas.Bool.{cases_eq}
 use Rattle.std.proofs.lemmas.Grind.{common_steps}
 use Rattle.slab.specs.Slab.{Slab, get, slab_len, with_value}
-use Rattle.node_list.specs.declared.node.Node.{Node}
+use Rattle.node_list.specs.declared.node.ListNode.{ListNode}
 use Rattle.node_list.specs.Cells.{Cell}
-use Rattle.node_list.specs.Places.{from, behind, all_but_first, first_place, IsFresh, AreApart}
-use Rattle.node_list.specs.inside.Walks.{Links, Linked, rest, node_of, HasPlace}
+use Rattle.node_list.specs.Places.{from, cells_after, all_but_first, first_place, IsFresh, HasDistinctPlaces}
+use Rattle.node_list.specs.inside.Walks.{Links, IsLinked, cells_from, node_of, HasPlace}
 use Rattle.node_list.proofs.WalkLaws.{walk-is, walk-length}
 use Rattle.node_list.proofs.CellLaws.{from-here, from-on, length-from}
 
-pub links-unique : (g : ℕ → Option Node) (link : Option ℕ) (xs ys : List Cell) → Links g link xs → Links g link ys → xs ≡ ys
+pub links-unique : (g : ℕ → Option ListNode) (link : Option ℕ) (xs ys : List Cell) → Links g link xs → Links g link ys → xs ≡ ys
 links-unique g link xs ys l m =
     sym (walk-is (length xs + length ys) g link xs l (omega arith)) ∙ walk-is (length xs + length ys) g link ys m (omega arith)
 
 -- a list does not come back to its first place
-pub away : (g : ℕ → Option Node) (c : Cell) (cs : List Cell) → Links g (Some c.at) (c ∷ cs)
+pub away : (g : ℕ → Option ListNode) (c : Cell) (cs : List Cell) → Links g (Some c.at) (c ∷ cs)
     → (link : Option ℕ) (ds : List Cell) → Links g link ds → length ds ≤ length cs → IsFresh c.at ds
 away g c cs full link [] l h = tt
 away g c cs full link (d ∷ ds) l h = (
@@ -25,21 +25,21 @@ away g c cs full link (d ∷ ds) l h = (
   away g c cs full l.1.0 ds l.1.2 (omega arith),
 )
 
-pub apart-vacant : (g : ℕ → Option Node) (p : ℕ) → g p ≡ None → (link : Option ℕ) (cs : List Cell) → Links g link cs → IsFresh p cs
-apart-vacant g p e link [] l = tt
-apart-vacant g p e link (c ∷ cs) l = (
+pub apart-free_head : (g : ℕ → Option ListNode) (p : ℕ) → g p ≡ None → (link : Option ℕ) (cs : List Cell) → Links g link cs → IsFresh p cs
+apart-free_head g p e link [] l = tt
+apart-free_head g p e link (c ∷ cs) l = (
   λ same. let f : g p ≡ Some (node_of c l.1.0) = ap g (sym same) ∙ l.1.1 in absurd (cc),
-  apart-vacant g p e l.1.0 cs l.1.2,
+  apart-free_head g p e l.1.0 cs l.1.2,
 )
 
-pub links-frame : (g h : ℕ → Option Node) (p q : ℕ) → ((k : ℕ) → k ≢ p → k ≢ q → h k ≡ g k)
+pub links-frame : (g h : ℕ → Option ListNode) (p q : ℕ) → ((k : ℕ) → k ≢ p → k ≢ q → h k ≡ g k)
     → (link : Option ℕ) (cs : List Cell) → Links g link cs → IsFresh p cs → IsFresh q cs → Links h link cs
 links-frame g h p q same link [] l a b = l
 links-frame g h p q same link (c ∷ cs) l a b =
     (l.0, (l.1.0, same c.at a.0 b.0 ∙ l.1.1, links-frame g h p q same l.1.0 cs l.1.2 a.1 b.1))
 
 -- the list from a place on is what is met from there
-pub links-from : (g : ℕ → Option Node) (start : ℕ) (link : Option ℕ) (cs : List Cell) (d : Cell) (ds : List Cell) → Links g link cs → from start cs ≡ d ∷ ds → (d.at ≡ start) × Links g (Some start) (d ∷ ds)
+pub links-from : (g : ℕ → Option ListNode) (start : ℕ) (link : Option ℕ) (cs : List Cell) (d : Cell) (ds : List Cell) → Links g link cs → from start cs ≡ d ∷ ds → (d.at ≡ start) × Links g (Some start) (d ∷ ds)
 links-from g start link [] d ds l e = absurd (cc)
 links-from g start link (c ∷ cs) d ds l e =
     elim (cases_eq c.at start) [
@@ -53,30 +53,30 @@ links-from g start link (c ∷ cs) d ds l e =
     ]
 
 -- what is met from a place is the list from it on
-pub rest-from : (s : Slab Node) (start : ℕ) (d : Cell) (ds : List Cell) → Linked s (Some 0) → from start (rest s (Some 0)) ≡ d ∷ ds → (Linked s (Some start)) × (rest s (Some start) ≡ from start (rest s (Some 0)))
-rest-from s start d ds l e =
-    let f = links-from (get s) start (Some 0) (rest s (Some 0)) d ds l.links e in
-    let short : length (d ∷ ds) ≤ slab_len s = omega (arith, ap length e, length-from start (rest s (Some 0)), walk-length (slab_len s) (get s) (Some 0)) in
-    let is : rest s (Some start) ≡ d ∷ ds = walk-is (slab_len s) (get s) (Some start) (d ∷ ds) f.1 short in
+pub cells_from-from : (s : Slab ListNode) (start : ℕ) (d : Cell) (ds : List Cell) → IsLinked s (Some 0) → from start (cells_from s (Some 0)) ≡ d ∷ ds → (IsLinked s (Some start)) × (cells_from s (Some start) ≡ from start (cells_from s (Some 0)))
+cells_from-from s start d ds l e =
+    let f = links-from (get s) start (Some 0) (cells_from s (Some 0)) d ds l.links e in
+    let short : length (d ∷ ds) ≤ slab_len s = omega (arith, ap length e, length-from start (cells_from s (Some 0)), walk-length (slab_len s) (get s) (Some 0)) in
+    let is : cells_from s (Some start) ≡ d ∷ ds = walk-is (slab_len s) (get s) (Some start) (d ∷ ds) f.1 short in
     let P : List Cell → Type 0 = λ zs. Links (get s) (Some start) zs in
     (record { links = subst P (sym is) f.1 }, is ∙ sym e)
 
 -- a link leads to the first node met from it
-links-first : (g : ℕ → Option Node) (link : Option ℕ) (cs : List Cell) → Links g link cs → link ≡ first_place cs
+links-first : (g : ℕ → Option ListNode) (link : Option ℕ) (cs : List Cell) → Links g link cs → link ≡ first_place cs
 links-first g link [] l = l
 links-first g link (c ∷ cs) l = l.0
 
 -- the node at a place that the list has
-pub record PlaceNode (s : Slab Node) (at : ℕ) (d : Cell) (ds : List Cell) : Type 0 where
-  pub node : Node
+pub record PlaceNode (s : Slab ListNode) (at : ℕ) (d : Cell) (ds : List Cell) : Type 0 where
+  pub node : ListNode
   pub is : get s at ≡ Some node
   pub key : node.key ≡ d.key
   pub item : node.item ≡ d.item
   pub next : node.next ≡ first_place ds
 
-pub place-node : (s : Slab Node) (at : ℕ) (d : Cell) (ds : List Cell) → Linked s (Some 0) → from at (rest s (Some 0)) ≡ d ∷ ds → PlaceNode s at d ds
+pub place-node : (s : Slab ListNode) (at : ℕ) (d : Cell) (ds : List Cell) → IsLinked s (Some 0) → from at (cells_from s (Some 0)) ≡ d ∷ ds → PlaceNode s at d ds
 place-node s at d ds l e =
-    let f = links-from (get s) at (Some 0) (rest s (Some 0)) d ds l.links e in
+    let f = links-from (get s) at (Some 0) (cells_from s (Some 0)) d ds l.links e in
     record {
       node = node_of d f.1.1.0;
       is = ap (get s) (sym f.0) ∙ f.1.1.1;
@@ -100,25 +100,25 @@ fresh-other at p (c ∷ cs) h f =
     elim h [ inl here ↦ (λ e. f.0 (here ∙ sym e)) | inr later ↦ fresh-other at p cs later f.1 ]
 
 -- what stands behind a place stands in the list
-pub from-behind : (start at : ℕ) (cs : List Cell) (d : Cell) (ds : List Cell) → AreApart cs → from at (behind start cs) ≡ d ∷ ds → from at cs ≡ d ∷ ds
-from-behind start at [] d ds a e = e
-from-behind start at (c ∷ cs) d ds a e =
+pub from-cells_after : (start at : ℕ) (cs : List Cell) (d : Cell) (ds : List Cell) → HasDistinctPlaces cs → from at (cells_after start cs) ≡ d ∷ ds → from at cs ≡ d ∷ ds
+from-cells_after start at [] d ds a e = e
+from-cells_after start at (c ∷ cs) d ds a e =
     let P : List Cell → Type 0 = λ zs. from at (all_but_first zs) ≡ d ∷ ds in
     elim (cases_eq c.at start) [
       | inl here ↦
           let later : from at cs ≡ d ∷ ds = subst P (from-here start c cs here) e in
           from-on at c cs (fresh-other at c.at cs (from-has at cs d ds later) a.0) ∙ later
       | inr other ↦
-          let later : from at cs ≡ d ∷ ds = from-behind start at cs d ds a.1 (subst P (from-on start c cs other) e) in
+          let later : from at cs ≡ d ∷ ds = from-cells_after start at cs d ds a.1 (subst P (from-on start c cs other) e) in
           from-on at c cs (fresh-other at c.at cs (from-has at cs d ds later) a.0) ∙ later
     ]
 
-pub with_value-len : (m : Slab Node) (k : ℕ) (n v : Node) → get m k ≡ Some n → slab_len (with_value m k v) ≡ slab_len m
+pub with_value-len : (m : Slab ListNode) (k : ℕ) (n v : ListNode) → get m k ≡ Some n → slab_len (with_value m k v) ≡ slab_len m
 with_value-len m k n v e =
     grind (arith, common_steps)
 
 -- no place is in a list twice
-pub apart-links : (g : ℕ → Option Node) (link : Option ℕ) (cs : List Cell) → Links g link cs → AreApart cs
+pub apart-links : (g : ℕ → Option ListNode) (link : Option ℕ) (cs : List Cell) → Links g link cs → HasDistinctPlaces cs
 apart-links g link [] l = tt
 apart-links g link (c ∷ cs) l =
     let full : Links g (Some c.at) (c ∷ cs) = (refl, l.1) in

@@ -3,21 +3,21 @@ use Rattle.std.proofs.Common.{◌≡◌, ◌≢◌, ℕ, suc, ◌+◌, ◌<◌, 
 use Rattle.std.proofs.lemmas.Bool.{cases_eq}
 use Rattle.slab.specs.Slab.{Slab, get, slab_len, Updates, with_value}
 use Rattle.slab.proofs.SlabLemmas.{Updates-with_value}
-use Rattle.node_list.specs.declared.node.Node.{Node}
+use Rattle.node_list.specs.declared.node.ListNode.{ListNode}
 use Rattle.node_list.specs.Cells.{Cell}
-use Rattle.node_list.specs.Places.{from, behind, all_but_first, Stands, IsFresh}
+use Rattle.node_list.specs.Places.{from, cells_after, all_but_first, IsPlaceOf, IsFresh}
 use Rattle.node_list.specs.Changes.{without}
-use Rattle.node_list.specs.inside.Walks.{Links, Linked, rest, cell_of, node_of, HasPlace, StartsAt, StandsBefore}
-use Rattle.node_list.proofs.WalkLaws.{walk-is, walk-length, walk-none, rest-step_at}
+use Rattle.node_list.specs.inside.Walks.{Links, IsLinked, cells_from, cell_of, node_of, HasPlace, FirstIsAt, IsPredecessor}
+use Rattle.node_list.proofs.WalkLaws.{walk-is, walk-length, walk-none, cells_from-step_at}
 use Rattle.node_list.proofs.CellLaws.{without-here, without-on, from-here, from-on, length-without}
 use Rattle.node_list.proofs.PlaceLaws.{away, links-frame}
 
 -- ---- where the two nodes stand
-starts-apart : (at p : ℕ) (cs : List Cell) → StartsAt at cs → IsFresh p cs → at ≢ p
+starts-apart : (at p : ℕ) (cs : List Cell) → FirstIsAt at cs → IsFresh p cs → at ≢ p
 starts-apart at p [] s a = absurd s
 starts-apart at p (c ∷ cs) s a = λ e. a.0 (s ∙ e)
 
-before-apart : (before at p : ℕ) (cs : List Cell) → StandsBefore before at cs → IsFresh p cs → (before ≢ p) × (at ≢ p)
+before-apart : (before at p : ℕ) (cs : List Cell) → IsPredecessor before at cs → IsFresh p cs → (before ≢ p) × (at ≢ p)
 before-apart before at p [] b a = absurd b
 before-apart before at p (c ∷ cs) b a =
     elim b [
@@ -25,16 +25,16 @@ before-apart before at p (c ∷ cs) b a =
       | inr later ↦ before-apart before at p cs later a.1
     ]
 
-starts-has : (at : ℕ) (cs : List Cell) → StartsAt at cs → HasPlace at cs
+starts-has : (at : ℕ) (cs : List Cell) → FirstIsAt at cs → HasPlace at cs
 starts-has at [] s = absurd s
 starts-has at (c ∷ cs) s = inl s
 
-pub before-has : (before at : ℕ) (cs : List Cell) → StandsBefore before at cs → HasPlace at cs
+pub before-has : (before at : ℕ) (cs : List Cell) → IsPredecessor before at cs → HasPlace at cs
 before-has before at [] b = absurd b
 before-has before at (c ∷ cs) b =
     elim b [ inl here ↦ inr (starts-has at cs here.1) | inr later ↦ inr (before-has before at cs later) ]
 
-pub before-differs : (g : ℕ → Option Node) (before at : ℕ) (link : Option ℕ) (cs : List Cell) → Links g link cs → StandsBefore before at cs → before ≢ at
+pub before-differs : (g : ℕ → Option ListNode) (before at : ℕ) (link : Option ℕ) (cs : List Cell) → Links g link cs → IsPredecessor before at cs → before ≢ at
 before-differs g before at link [] l b = absurd b
 before-differs g before at link (c ∷ cs) l b =
     elim b [
@@ -46,7 +46,7 @@ before-differs g before at link (c ∷ cs) l b =
       | inr later ↦ before-differs g before at l.1.0 cs l.1.2 later
     ]
 
-pub before-node : (g : ℕ → Option Node) (before at : ℕ) (link : Option ℕ) (cs : List Cell) → Links g link cs → StandsBefore before at cs → (node : Node) × (g before ≡ Some node)
+pub before-node : (g : ℕ → Option ListNode) (before at : ℕ) (link : Option ℕ) (cs : List Cell) → Links g link cs → IsPredecessor before at cs → (node : ListNode) × (g before ≡ Some node)
 before-node g before at link [] l b = absurd b
 before-node g before at link (c ∷ cs) l b =
     elim b [
@@ -54,7 +54,7 @@ before-node g before at link (c ∷ cs) l b =
       | inr later ↦ before-node g before at l.1.0 cs l.1.2 later
     ]
 
-pub has-node : (g : ℕ → Option Node) (at : ℕ) (link : Option ℕ) (cs : List Cell) → Links g link cs → HasPlace at cs → (node : Node) × (g at ≡ Some node)
+pub has-node : (g : ℕ → Option ListNode) (at : ℕ) (link : Option ℕ) (cs : List Cell) → Links g link cs → HasPlace at cs → (node : ListNode) × (g at ≡ Some node)
 has-node g at link [] l h = absurd h
 has-node g at link (c ∷ cs) l h =
     elim h [
@@ -62,76 +62,76 @@ has-node g at link (c ∷ cs) l h =
       | inr later ↦ has-node g at l.1.0 cs l.1.2 later
     ]
 
-pub before-whole : (before at start : ℕ) (cs : List Cell) → StandsBefore before at (from start cs) → StandsBefore before at cs
-before-whole before at start [] b = b
-before-whole before at start (c ∷ cs) b =
-    let P : List Cell → Type 0 = λ zs. StandsBefore before at zs in
+pub before-unpacked_node : (before at start : ℕ) (cs : List Cell) → IsPredecessor before at (from start cs) → IsPredecessor before at cs
+before-unpacked_node before at start [] b = b
+before-unpacked_node before at start (c ∷ cs) b =
+    let P : List Cell → Type 0 = λ zs. IsPredecessor before at zs in
     elim (cases_eq c.at start) [
       | inl here ↦ subst P (from-here start c cs here) b
-      | inr other ↦ inr (before-whole before at start cs (subst P (from-on start c cs other) b))
+      | inr other ↦ inr (before-unpacked_node before at start cs (subst P (from-on start c cs other) b))
     ]
 
-starts-behind : (start at : ℕ) (cs zs : List Cell) → from start cs ≡ zs → HasPlace at (all_but_first zs) → Stands start cs
-starts-behind start at cs [] e h = absurd h
-starts-behind start at cs (c ∷ ds) e h = record { cell = c; later = ds; is = e }
+starts-after : (start at : ℕ) (cs zs : List Cell) → from start cs ≡ zs → HasPlace at (all_but_first zs) → IsPlaceOf start cs
+starts-after start at cs [] e h = absurd h
+starts-after start at cs (c ∷ ds) e h = record { cell = c; later = ds; is = e }
 
-pub stands-behind : (start at : ℕ) (cs : List Cell) → HasPlace at (behind start cs) → Stands start cs
-stands-behind start at cs h = starts-behind start at cs (from start cs) refl h
+pub is_place-after : (start at : ℕ) (cs : List Cell) → HasPlace at (cells_after start cs) → IsPlaceOf start cs
+is_place-after start at cs h = starts-after start at cs (from start cs) refl h
 
 -- ---- one step of the way to the node before
-pub record Way (s : Slab Node) (before place at : ℕ) : Type 0 where
-  pub here : place ≡ at → StandsBefore before at (rest s (Some before))
-  pub linked : Linked s (Some place)
-  pub ahead : place ≢ at → HasPlace at (all_but_first (rest s (Some place)))
-  pub up_to : (x : ℕ) → StandsBefore x at (rest s (Some place)) → StandsBefore x at (rest s (Some before))
-  pub smaller : length (rest s (Some place)) < length (rest s (Some before))
+pub record Way (s : Slab ListNode) (before place at : ℕ) : Type 0 where
+  pub here : place ≡ at → IsPredecessor before at (cells_from s (Some before))
+  pub linked : IsLinked s (Some place)
+  pub ahead : place ≢ at → HasPlace at (all_but_first (cells_from s (Some place)))
+  pub up_to : (x : ℕ) → IsPredecessor x at (cells_from s (Some place)) → IsPredecessor x at (cells_from s (Some before))
+  pub smaller : length (cells_from s (Some place)) < length (cells_from s (Some before))
 
 has-later : (at : ℕ) (c : Cell) (cs : List Cell) → HasPlace at (c ∷ cs) → c.at ≢ at → HasPlace at cs
 has-later at c cs h other = elim h [ inl here ↦ absurd (other here) | inr later ↦ later ]
 
-pub way : (s : Slab Node) (before place at : ℕ) (n m : Node) → Linked s (Some before) → HasPlace at (all_but_first (rest s (Some before)))
+pub way : (s : Slab ListNode) (before place at : ℕ) (n m : ListNode) → IsLinked s (Some before) → HasPlace at (all_but_first (cells_from s (Some before)))
     → get s before ≡ Some n → n.next ≡ Some place → get s place ≡ Some m → Way s before place at
 way s before place at n m l h e next f =
-    let st = rest-step_at s before n l e in
-    let onward : Linked s (Some place) = rw next at st.onward in
-    let st' = rest-step_at s place m onward f in
-    let tail : rest s n.next ≡ rest s (Some place) = ap (λ (z : Option ℕ). rest s z) next in
-    let two : rest s (Some before) ≡ cell_of before n ∷ rest s (Some place) = st.is ∙ ap (λ (zs : List Cell). cell_of before n ∷ zs) tail in
+    let st = cells_from-step_at s before n l e in
+    let onward : IsLinked s (Some place) = rw next at st.onward in
+    let st' = cells_from-step_at s place m onward f in
+    let tail : cells_from s n.next ≡ cells_from s (Some place) = ap (λ (z : Option ℕ). cells_from s z) next in
+    let two : cells_from s (Some before) ≡ cell_of before n ∷ cells_from s (Some place) = st.is ∙ ap (λ (zs : List Cell). cell_of before n ∷ zs) tail in
     let P : List Cell → Type 0 = λ zs. HasPlace at (all_but_first zs) in
     let Q : List Cell → Type 0 = λ zs. HasPlace at zs in
-    let behind_it : HasPlace at (rest s (Some place)) = subst P two h in
-    let split : HasPlace at (cell_of place m ∷ rest s m.next) = subst Q st'.is behind_it in
-    let B : ℕ → List Cell → Type 0 = λ x zs. StandsBefore x at zs in
-    let S : List Cell → Type 0 = λ zs. StartsAt at zs in
+    let behind_it : HasPlace at (cells_from s (Some place)) = subst P two h in
+    let split : HasPlace at (cell_of place m ∷ cells_from s m.next) = subst Q st'.is behind_it in
+    let B : ℕ → List Cell → Type 0 = λ x zs. IsPredecessor x at zs in
+    let S : List Cell → Type 0 = λ zs. FirstIsAt at zs in
     record {
       here = λ same. subst (B before) (sym two) (inl (refl, subst S (sym st'.is) same));
       linked = onward;
-      ahead = λ other. subst P (sym st'.is) (has-later at (cell_of place m) (rest s m.next) split other);
+      ahead = λ other. subst P (sym st'.is) (has-later at (cell_of place m) (cells_from s m.next) split other);
       up_to = λ x b. subst (B x) (sym two) (inr b);
-      smaller = let a : length (rest s (Some before)) ≡ suc (length (rest s (Some place))) = ap length two in omega arith;
+      smaller = let a : length (cells_from s (Some before)) ≡ suc (length (cells_from s (Some place))) = ap length two in omega arith;
     }
 
 -- behind the last node there is none
-pub nothing-behind : (s : Slab Node) (before at : ℕ) (n : Node) → Linked s (Some before) → HasPlace at (all_but_first (rest s (Some before)))
+pub last-has_no_next : (s : Slab ListNode) (before at : ℕ) (n : ListNode) → IsLinked s (Some before) → HasPlace at (all_but_first (cells_from s (Some before)))
     → get s before ≡ Some n → n.next ≡ None → ⊥
-nothing-behind s before at n l h e none =
-    let st = rest-step_at s before n l e in
-    let empty : rest s n.next ≡ [] = ap (λ (z : Option ℕ). rest s z) none ∙ walk-none (slab_len s) (get s) in
+last-has_no_next s before at n l h e none =
+    let st = cells_from-step_at s before n l e in
+    let empty : cells_from s n.next ≡ [] = ap (λ (z : Option ℕ). cells_from s z) none ∙ walk-none (slab_len s) (get s) in
     let P : List Cell → Type 0 = λ zs. HasPlace at (all_but_first zs) in
     let Q : List Cell → Type 0 = λ zs. HasPlace at zs in
     subst Q empty (subst P st.is h)
 
 -- ---- a node is taken out from behind `before`
-pub record Unspliced (g h : ℕ → Option Node) (before at : ℕ) : Type 0 where
-  pub node : Node
-  pub gone : Node
+pub record Unspliced (g h : ℕ → Option ListNode) (before at : ℕ) : Type 0 where
+  pub node : ListNode
+  pub gone : ListNode
   pub was : g before ≡ Some node
   pub out : g at ≡ Some gone
   pub now : h before ≡ Some (record node { next = gone.next })
   pub others : (k : ℕ) → k ≢ before → k ≢ at → h k ≡ g k
 
-unsplice-here : (g h : ℕ → Option Node) (before at : ℕ) → Unspliced g h before at
-    → (link : Option ℕ) (c : Cell) (cs : List Cell) → Links g link (c ∷ cs) → c.at ≡ before → StartsAt at cs → Links h link (without at (c ∷ cs))
+unsplice-here : (g h : ℕ → Option ListNode) (before at : ℕ) → Unspliced g h before at
+    → (link : Option ℕ) (c : Cell) (cs : List Cell) → Links g link (c ∷ cs) → c.at ≡ before → FirstIsAt at cs → Links h link (without at (c ∷ cs))
 unsplice-here g h before at u link c [] l e s = absurd s
 unsplice-here g h before at u link c (d ∷ ds) l e s =
     let full : Links g (Some c.at) (c ∷ d ∷ ds) = (refl, l.1) in
@@ -141,18 +141,18 @@ unsplice-here g h before at u link c (d ∷ ds) l e s =
     let other : c.at ≢ at = λ same. once.0 (s ∙ sym same) in
     let node : u.node ≡ node_of c l.1.0 = cc (u.was, l.1.1, e) in
     let gone : u.gone ≡ node_of d l.1.2.1.0 = cc (u.out, l.1.2.1.1, s) in
-    let N : Node → Node → Type 0 = λ n m. h before ≡ Some (record n { next = m.next }) in
-    let first : N (node_of c l.1.0) u.gone = (let M : Node → Type 0 = λ n. N n u.gone in subst M node u.now) in
-    let second : N (node_of c l.1.0) (node_of d l.1.2.1.0) = (let M : Node → Type 0 = λ m. N (node_of c l.1.0) m in subst M gone first) in
-    let front : h c.at ≡ Some (node_of c l.1.2.1.0) = ap h e ∙ second in
+    let N : ListNode → ListNode → Type 0 = λ n m. h before ≡ Some (record n { next = m.next }) in
+    let first : N (node_of c l.1.0) u.gone = (let M : ListNode → Type 0 = λ n. N n u.gone in subst M node u.now) in
+    let second : N (node_of c l.1.0) (node_of d l.1.2.1.0) = (let M : ListNode → Type 0 = λ m. N (node_of c l.1.0) m in subst M gone first) in
+    let header : h c.at ≡ Some (node_of c l.1.2.1.0) = ap h e ∙ second in
     let F : ℕ → Type 0 = λ p. IsFresh p ds in
     let tail : Links h l.1.2.1.0 ds = links-frame g h before at u.others l.1.2.1.0 ds l.1.2.1.2 (subst F e once.1) (subst F s once') in
     let L : List Cell → Type 0 = λ zs. Links h link zs in
     let is : without at (c ∷ d ∷ ds) ≡ c ∷ ds = without-on at c (d ∷ ds) other ∙ ap (λ (zs : List Cell). c ∷ zs) (without-here at d ds s) in
-    subst L (sym is) (l.0, (l.1.2.1.0, front, tail))
+    subst L (sym is) (l.0, (l.1.2.1.0, header, tail))
 
-unsplice : (g h : ℕ → Option Node) (before at : ℕ) → Unspliced g h before at
-    → (link : Option ℕ) (cs : List Cell) → Links g link cs → StandsBefore before at cs → Links h link (without at cs)
+unsplice : (g h : ℕ → Option ListNode) (before at : ℕ) → Unspliced g h before at
+    → (link : Option ℕ) (cs : List Cell) → Links g link cs → IsPredecessor before at cs → Links h link (without at cs)
 unsplice g h before at u link [] l b = absurd b
 unsplice g h before at u link (c ∷ cs) l b =
     elim b [
@@ -167,29 +167,29 @@ unsplice g h before at u link (c ∷ cs) l b =
           (l.0, (l.1.0, u.others c.at (λ e. apart.0 (sym e)) other ∙ l.1.1, unsplice g h before at u l.1.0 cs l.1.2 later))
     ]
 
-pub record Unlinked (s t : Slab Node) (at : ℕ) : Type 0 where
-  pub linked : Linked t (Some 0)
-  pub cells : rest t (Some 0) ≡ without at (rest s (Some 0))
+pub record Unlinked (s t : Slab ListNode) (at : ℕ) : Type 0 where
+  pub linked : IsLinked t (Some 0)
+  pub cells : cells_from t (Some 0) ≡ without at (cells_from s (Some 0))
 
-unspliced-rest : (s t : Slab Node) (before at : ℕ) → Linked s (Some 0) → Unspliced (get s) (get t) before at → StandsBefore before at (rest s (Some 0)) → slab_len t + 1 ≡ slab_len s → Unlinked s t at
-unspliced-rest s t before at l u b len =
-    let links : Links (get t) (Some 0) (without at (rest s (Some 0))) = unsplice (get s) (get t) before at u (Some 0) (rest s (Some 0)) l.links b in
-    let short : length (without at (rest s (Some 0))) ≤ slab_len t =
-    omega (arith, len, length-without at (rest s (Some 0)) (before-has before at (rest s (Some 0)) b), walk-length (slab_len s) (get s) (Some 0)) in
-    let is : rest t (Some 0) ≡ without at (rest s (Some 0)) = walk-is (slab_len t) (get t) (Some 0) (without at (rest s (Some 0))) links short in
+unspliced-cells_from : (s t : Slab ListNode) (before at : ℕ) → IsLinked s (Some 0) → Unspliced (get s) (get t) before at → IsPredecessor before at (cells_from s (Some 0)) → slab_len t + 1 ≡ slab_len s → Unlinked s t at
+unspliced-cells_from s t before at l u b len =
+    let links : Links (get t) (Some 0) (without at (cells_from s (Some 0))) = unsplice (get s) (get t) before at u (Some 0) (cells_from s (Some 0)) l.links b in
+    let short : length (without at (cells_from s (Some 0))) ≤ slab_len t =
+    omega (arith, len, length-without at (cells_from s (Some 0)) (before-has before at (cells_from s (Some 0)) b), walk-length (slab_len s) (get s) (Some 0)) in
+    let is : cells_from t (Some 0) ≡ without at (cells_from s (Some 0)) = walk-is (slab_len t) (get t) (Some 0) (without at (cells_from s (Some 0))) links short in
     let L : List Cell → Type 0 = λ zs. Links (get t) (Some 0) zs in
     record { linked = record { links = subst L (sym is) links }; cells = is }
 
 -- a place is given back, and then the link leads past it
-pub unlinked : (s m : Slab Node) (before at : ℕ) (n' gone : Node)
-    → Linked s (Some 0) → StandsBefore before at (rest s (Some 0))
+pub unlinked : (s m : Slab ListNode) (before at : ℕ) (n' gone : ListNode)
+    → IsLinked s (Some 0) → IsPredecessor before at (cells_from s (Some 0))
     → get s at ≡ Some gone → Updates s m at None → slab_len m + 1 ≡ slab_len s
     → get m before ≡ Some n' → slab_len (with_value m before (record n' { next = gone.next })) ≡ slab_len m
     → Unlinked s (with_value m before (record n' { next = gone.next })) at
 unlinked s m before at n' gone l b out u len now len' =
     let t = with_value m before (record n' { next = gone.next }) in
-    let other : before ≢ at = before-differs (get s) before at (Some 0) (rest s (Some 0)) l.links b in
-    let O : Option Node → Type 0 = λ o. IsSome o in
+    let other : before ≢ at = before-differs (get s) before at (Some 0) (cells_from s (Some 0)) l.links b in
+    let O : Option ListNode → Type 0 = λ o. IsSome o in
     let w = Updates-with_value m before (record n' { next = gone.next }) (subst O (sym now) refl) in
     let p : Unspliced (get s) (get (with_value m before (record n' { next = gone.next }))) before at = record {
       node = n';
@@ -199,4 +199,4 @@ unlinked s m before at n' gone l b out u len now len' =
       now = w.changed;
       others = λ k a c. w.others k a ∙ u.others k c;
     } in
-    unspliced-rest s (with_value m before (record n' { next = gone.next })) before at l p b (omega (arith, len, len'))
+    unspliced-cells_from s (with_value m before (record n' { next = gone.next })) before at l p b (omega (arith, len, len'))

@@ -2,7 +2,7 @@ pub mod Cells
 pub mod Chains
 pub mod Changes
 pub mod Lending
-pub mod Listed
+pub mod ListState
 pub mod Places
 pub mod Search
 pub mod Ticks

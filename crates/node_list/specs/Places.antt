@@ -9,9 +9,9 @@ IsFresh at [] = Unit {0}
 IsFresh at (c ∷ cs) = (c.at ≢ at) × IsFresh at cs
 
 -- no two nodes have one place
-abbrev pub AreApart : List Cell → Type 0
-AreApart [] = Unit {0}
-AreApart (c ∷ cs) = IsFresh c.at cs × AreApart cs
+abbrev pub HasDistinctPlaces : List Cell → Type 0
+HasDistinctPlaces [] = Unit {0}
+HasDistinctPlaces (c ∷ cs) = IsFresh c.at cs × HasDistinctPlaces cs
 
 -- the nodes from the one at a place on
 abbrev pub from : ℕ → List Cell → List Cell
@@ -19,13 +19,13 @@ from at [] = []
 from at (c ∷ cs) = if nat_eq c.at at then c ∷ cs else from at cs
 
 -- a node stands at this place
-pub record Stands (at : ℕ) (cells : List Cell) : Type 0 where
+pub record IsPlaceOf (at : ℕ) (cells : List Cell) : Type 0 where
   pub cell : Cell
   pub later : List Cell
   pub is : from at cells ≡ cell ∷ later
 
 -- a node stands at this place, and its key is at most this one
-pub record StandsUpTo (key at : ℕ) (cells : List Cell) : Type 0 where
+pub record HasKeyAtMost (key at : ℕ) (cells : List Cell) : Type 0 where
   pub cell : Cell
   pub later : List Cell
   pub is : from at cells ≡ cell ∷ later
@@ -46,24 +46,24 @@ pub record IsLeastItem (start at : ℕ) (cells : List Cell) : Type 0 where
   pub least : (other : ℕ) → HasItem other cells → start ≤ other → at ≤ other
 
 -- the least place from this one on at which an item stands, None where there is none
-abbrev pub IsItemFrom : ℕ → Option ℕ → List Cell → Type 0
-IsItemFrom start None cells = (other : ℕ) → HasItem other cells → other < start
-IsItemFrom start (Some at) cells = IsLeastItem start at cells
+abbrev pub IsNextItem : ℕ → Option ℕ → List Cell → Type 0
+IsNextItem start None cells = (other : ℕ) → HasItem other cells → other < start
+IsNextItem start (Some at) cells = IsLeastItem start at cells
 
 abbrev pub all_but_first : List Cell → List Cell
 all_but_first [] = []
 all_but_first (c ∷ cs) = cs
 
 -- the nodes behind the one at a place
-abbrev pub behind : ℕ → List Cell → List Cell
-behind at cells = all_but_first (from at cells)
+abbrev pub cells_after : ℕ → List Cell → List Cell
+cells_after at cells = all_but_first (from at cells)
 
 abbrev pub first_place : List Cell → Option ℕ
 first_place [] = None
 first_place (c ∷ cs) = Some c.at
 
 abbrev pub place_after : ℕ → List Cell → Option ℕ
-place_after at cells = first_place (behind at cells)
+place_after at cells = first_place (cells_after at cells)
 
 abbrev pub first_item : List Cell → Option Item
 first_item [] = None

@@ -1,7 +1,7 @@
 pub mod NodeLending
-pub mod Packed
-pub mod Seen
+pub mod PackedHeader
+pub mod NodeRef
 pub mod Slots
-pub mod Spares
+pub mod FreeList
 pub mod Walks
 pub mod Words

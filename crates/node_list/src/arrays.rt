@@ -1,27 +1,27 @@
 ghost use Rattle.std.specs.Prelude.{◌≡◌, ◌<◌, ◌≤◌, ◌-◌, ◌^◌, Some, OnOk, vec_capacity};
 ghost use Rattle.slab.specs.Slab.{get, with_value, ContainsKey, HasRoomFor};
-ghost use Rattle.node_list.specs.inside.Slots.{PutsSlot};
+ghost use Rattle.node_list.specs.inside.Slots.{WritesItem};
 
 use crate::node::Item;
-use crate::packed::{NO_PLACE, Packed};
+use crate::packed::{NO_PLACE, PackedHeader};
 use slab::Slab;
 use std::alloc::AllocError;
 use std::mem;
 
 /// How many nodes room is made for at first.
-const FIRST_ROOM: usize = 4;
+const MIN_EXTRA_CAPACITY: usize = 4;
 
 /// For how many nodes more room is made: as many as there are, so that growth costs each node a constant.
-fn growth(len: usize, additional: usize) -> usize
+fn extra_capacity(len: usize, additional: usize) -> usize
     ensures { additional ≤ result }
 {
-    additional.max(len).max(FIRST_ROOM)
+    additional.max(len).max(MIN_EXTRA_CAPACITY)
 }
 
 /// Makes room for one more place in both arrays. A full one grows where it stands, the slab by room for so many at
 /// least. Where the second is refused memory, the first has room to spare: so far no place is drawn.
-pub fn make_room(
-    nodes: &mut Slab<Packed>,
+pub fn reserve_both(
+    nodes: &mut Slab<PackedHeader>,
     items: &mut Vec<Item>,
     more: usize,
 ) -> Result<(), AllocError>
@@ -35,7 +35,7 @@ pub fn make_room(
 {
     let len = nodes.len();
     if nodes.capacity() - len < more {
-        nodes.reserve_exact(growth(len, more))?;
+        nodes.reserve_exact(extra_capacity(len, more))?;
     }
     let at = nodes.vacant_key();
     if at >= NO_PLACE {
@@ -50,19 +50,19 @@ pub fn make_room(
 
 /// Puts a front in the place of another, and hands that one back.
 #[inline(always)]
-pub fn exchange(nodes: &mut Slab<Packed>, at: usize, front: Packed) -> Packed
+pub fn replace_at(nodes: &mut Slab<PackedHeader>, at: usize, header: PackedHeader) -> PackedHeader
     requires { ContainsKey nodes.old at }
     ensures value { get nodes.old at ≡ Some result }
-    ensures now { nodes.new ≡ with_value nodes.old at front }
+    ensures now { nodes.new ≡ with_value nodes.old at header }
 {
-    mem::replace(&mut nodes[at], front)
+    mem::replace(&mut nodes[at], header)
 }
 
 /// Puts a slot at a place. The slab gives its places out in turn, but does not promise it, so there may be a gap.
 #[inline(always)]
-pub fn put_slot(items: &mut Vec<Item>, at: usize, slot: Item)
+pub fn write_item(items: &mut Vec<Item>, at: usize, slot: Item)
     requires { at < vec_capacity items.old }
-    ensures puts { PutsSlot items.old.items items.new.items at slot }
+    ensures puts { WritesItem items.old.items items.new.items at slot }
     ensures capacity { vec_capacity items.old ≤ vec_capacity items.new }
 {
     if at < items.len() {
@@ -70,7 +70,7 @@ pub fn put_slot(items: &mut Vec<Item>, at: usize, slot: Item)
         return;
     }
     let alloc = *items.allocator();
-    if items.len() < at && items.resize_with(at, || Item::stand_in(alloc)).is_err() {
+    if items.len() < at && items.resize_with(at, || Item::placeholder(alloc)).is_err() {
         unreachable!();
     }
     items.push_reserved(slot);

@@ -1,23 +1,23 @@
 ghost use Rattle.std.specs.Prelude.{◌≡◌, ◌+◌, ◌-◌, ◌^◌, ◌<◌, Some};
 ghost use Rattle.slab.specs.Slab.{get, slab_len, HasRoomFor};
 ghost use Rattle.node_list.specs.Cells.{Sorted, new_cell};
-ghost use Rattle.node_list.specs.Places.{StandsUpTo, IsFresh};
+ghost use Rattle.node_list.specs.Places.{HasKeyAtMost, IsFresh};
 ghost use Rattle.node_list.specs.Changes.{put_cell};
-ghost use Rattle.node_list.specs.inside.Walks.{rest, Linked, IsKeyUpTo, last_up_to_in};
+ghost use Rattle.node_list.specs.inside.Walks.{cells_from, IsLinked, NodeHasKeyAtMost, last_not_above_in};
 
 use crate::link::Link;
-use crate::node::{Item, Node};
+use crate::node::{Item, ListNode};
 use crate::nodes::Nodes;
 
 /// The last node from `start` on whose key is at most `key`.
-fn last_up_to(nodes: &Nodes, start: usize, key: u64) -> usize
-    requires linked { Linked nodes.now (Some start) }
-    requires up_to { IsKeyUpTo nodes.now start key }
-    ensures { result ≡ last_up_to_in key start (rest nodes.now (Some start)) }
+fn last_not_above(nodes: &Nodes, start: usize, key: u64) -> usize
+    requires linked { IsLinked nodes.now (Some start) }
+    requires up_to { NodeHasKeyAtMost nodes.now start key }
+    ensures { result ≡ last_not_above_in key start (cells_from nodes.now (Some start)) }
 {
     let mut last = start;
-    while let Some(place) = nodes.front(last).next.get() {
-        if key < nodes.front(place).key {
+    while let Some(place) = nodes.header(last).next.get() {
+        if key < nodes.header(place).key {
             return last;
         }
         last = place;
@@ -29,19 +29,19 @@ fn last_up_to(nodes: &Nodes, start: usize, key: u64) -> usize
 #[inline(always)]
 pub fn insert_from(nodes: &mut Nodes, start: usize, key: u64, item: Option<Item>) -> usize
     requires room { HasRoomFor nodes.old 1 }
-    requires linked { Linked nodes.old (Some 0) }
-    requires sorted { Sorted (rest nodes.old (Some 0)) }
-    requires stands { StandsUpTo key start (rest nodes.old (Some 0)) }
-    ensures linked { Linked nodes.new (Some 0) }
-    ensures cells { rest nodes.new (Some 0) ≡ put_cell (new_cell result key item) (rest nodes.old (Some 0)) }
+    requires linked { IsLinked nodes.old (Some 0) }
+    requires sorted { Sorted (cells_from nodes.old (Some 0)) }
+    requires start { HasKeyAtMost key start (cells_from nodes.old (Some 0)) }
+    ensures linked { IsLinked nodes.new (Some 0) }
+    ensures cells { cells_from nodes.new (Some 0) ≡ put_cell (new_cell result key item) (cells_from nodes.old (Some 0)) }
     ensures place { result < 2 ^ 64 - 1 }
-    ensures fresh { IsFresh result (rest nodes.old (Some 0)) }
+    ensures fresh { IsFresh result (cells_from nodes.old (Some 0)) }
     ensures capacity { nodes.new.capacity ≡ nodes.old.capacity }
     ensures len { slab_len nodes.new ≡ slab_len nodes.old + 1 }
 {
-    let last = last_up_to(nodes, start, key);
-    let next = nodes.front(last).next;
-    let place = nodes.insert_reserved(Node { key, next, item });
+    let last = last_not_above(nodes, start, key);
+    let next = nodes.header(last).next;
+    let place = nodes.insert_reserved(ListNode { key, next, item });
     nodes.set_next(last, Link::to(place));
     place
 }

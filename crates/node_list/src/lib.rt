@@ -28,16 +28,16 @@
 mod arrays;
 mod chain;
 mod find;
-mod front;
+mod first_item;
+mod header;
 mod insert;
 mod link;
 mod list;
-mod low;
 mod node;
+mod node_ref;
 mod nodes;
 mod packed;
 mod reader;
-mod seen;
 mod steps;
 mod unlink;
 

@@ -5,9 +5,9 @@ use crate::chain::Chain;
 use crate::find::find_from;
 use crate::insert::insert_from;
 use crate::link::Link;
-use crate::node::{Item, Node};
+use crate::node::{Item, ListNode};
 use crate::nodes::Nodes;
-use crate::reader::Reader;
+use crate::reader::CountingReader;
 use crate::steps::Steps;
 use crate::unlink::unlink_from;
 use ets_term::Term;
@@ -29,25 +29,25 @@ pub struct NodeList {
 
 impl Model for NodeList {
     ghost use Rattle.std.specs.Prelude.{Some};
-    ghost use Rattle.node_list.specs.Listed.{Listed, listed_code};
+    ghost use Rattle.node_list.specs.ListState.{ListState, list_state_code};
 
-    ghost Value = { Listed };
+    ghost Value = { ListState };
 
-    ghost coded = { listed_code };
+    ghost coded = { list_state_code };
 
-    ghost use Rattle.node_list.specs.inside.Walks.{rest, IsList};
+    ghost use Rattle.node_list.specs.inside.Walks.{cells_from, ListInvariant};
 
-    ghost view = { λ s. record { cells = rest s.nodes (Some 0); capacity = s.nodes.capacity } };
+    ghost view = { λ s. record { cells = cells_from s.nodes (Some 0); capacity = s.nodes.capacity } };
 
-    ghost invariant = { λ s. IsList s.nodes };
+    ghost invariant = { λ s. ListInvariant s.nodes };
 }
 
 impl NodeList {
     ghost use Rattle.node_list.specs.Cells.{new_cell, new_item, Sorted, StartsWithDummy};
-    ghost use Rattle.node_list.specs.Places.{first_place, AreApart, from, behind, item_at, key_at, place_after, IsFresh, Stands, StandsUpTo, HasItem, IsItemFrom};
+    ghost use Rattle.node_list.specs.Places.{first_place, HasDistinctPlaces, from, cells_after, item_at, key_at, place_after, IsFresh, IsPlaceOf, HasKeyAtMost, HasItem, IsNextItem};
     ghost use Rattle.node_list.specs.Search.{place_of, passed};
     ghost use Rattle.node_list.specs.Changes.{put_cell, without};
-    ghost use Rattle.node_list.specs.Listed.{HasRoom};
+    ghost use Rattle.node_list.specs.ListState.{HasRoom};
     ghost use Rattle.node_list.specs.Lending.{LendsChainAt};
     ghost use Rattle.node_list.specs.Ticks.{ticks};
 
@@ -56,8 +56,8 @@ impl NodeList {
         ensures { IfOk result (λ l. l.cells ≡ new_cell 0 0 None ∷ []) }
     {
         let mut nodes = Nodes::new(alloc);
-        nodes.draw(1)?;
-        nodes.insert_reserved(Node {
+        nodes.add_free_place(1)?;
+        nodes.insert_reserved(ListNode {
             key: 0,
             next: Link::none(),
             item: None,
@@ -72,7 +72,7 @@ impl NodeList {
         ensures place { result < 2 ^ 64 - 1 }
         ensures dummy { StartsWithDummy self.now.cells }
         ensures sorted { Sorted self.now.cells }
-        ensures apart { AreApart self.now.cells }
+        ensures apart { HasDistinctPlaces self.now.cells }
     {
         let _nodes = &self.nodes;
         HEAD
@@ -80,16 +80,16 @@ impl NodeList {
 
     /// What holds of every list, for a caller's proof: it does nothing.
     #[inline]
-    pub fn known(&self)
+    pub fn reveal_invariant(&self)
         ensures dummy { StartsWithDummy self.now.cells }
         ensures sorted { Sorted self.now.cells }
-        ensures apart { AreApart self.now.cells }
+        ensures apart { HasDistinctPlaces self.now.cells }
         ensures few { length self.now.cells < 2 ^ 64 - 1 }
-        ensures places { (at : ℕ) → Stands at self.now.cells → at < 2 ^ 64 - 1 }
+        ensures places { (at : ℕ) → IsPlaceOf at self.now.cells → at < 2 ^ 64 - 1 }
     {
         let _head = self.head();
         let _len = self.len();
-        self.nodes.known();
+        self.nodes.reveal_invariant();
     }
 
     /// How many nodes there are, dummies and items.
@@ -115,7 +115,7 @@ impl NodeList {
     #[inline(always)]
     pub fn insert_dummy(&mut self, start: At, key: u64) -> At
         requires room { HasRoom self.old 1 }
-        requires stands { StandsUpTo key start self.old.cells }
+        requires start { HasKeyAtMost key start self.old.cells }
         ensures cells { self.new.cells ≡ put_cell (new_cell result key None) self.old.cells }
         ensures fresh { IsFresh result self.old.cells }
         ensures place { result < 2 ^ 64 - 1 }
@@ -129,7 +129,7 @@ impl NodeList {
     #[inline(always)]
     pub fn insert_item(&mut self, start: At, key: u64, term: Term, chain: Chain) -> At
         requires room { HasRoom self.old 1 }
-        requires stands { StandsUpTo key start self.old.cells }
+        requires start { HasKeyAtMost key start self.old.cells }
         ensures cells { self.new.cells ≡ put_cell (new_cell result key (Some (new_item term chain))) self.old.cells }
         ensures fresh { IsFresh result self.old.cells }
         ensures place { result < 2 ^ 64 - 1 }
@@ -142,22 +142,22 @@ impl NodeList {
     /// The place of the item with this key and term, among the nodes from `start` on. It counts each node that it
     /// looks at: those up to and with the item, or the first of a greater key, or else all.
     pub fn find(&self, start: At, key: u64, term: &Term, steps: &mut Steps) -> Option<At>
-        requires { Stands start self.now.cells }
+        requires { IsPlaceOf start self.now.cells }
         ensures found { result ≡ place_of key term.now (from start self.now.cells) }
         ensures ticks { steps.new ≡ ticks (length (passed key term.now (from start self.now.cells))) steps.old }
     {
-        find_from(Reader::new(&self.nodes), start, key, term, steps)
+        find_from(CountingReader::new(&self.nodes), start, key, term, steps)
     }
 
     /// Takes an item out. `start` stands before it.
     pub fn unlink(&mut self, start: At, at: At) -> (Term, Chain)
-        requires { HasItem at (behind start self.old.cells) }
+        requires { HasItem at (cells_after start self.old.cells) }
         ensures item { item_at at self.old.cells ≡ Some (new_item result.0 result.1) }
         ensures cells { self.new.cells ≡ without at self.old.cells }
         ensures len { length self.new.cells + 1 ≡ length self.old.cells }
         ensures capacity { self.new.capacity ≡ self.old.capacity }
     {
-        let Node {
+        let ListNode {
             key: _,
             next: _,
             item,
@@ -170,24 +170,24 @@ impl NodeList {
 
     /// The place of the node behind this one, if there is one.
     pub fn after(&self, at: At) -> Option<At>
-        requires { Stands at self.now.cells }
+        requires { IsPlaceOf at self.now.cells }
         ensures { result ≡ place_after at self.now.cells }
     {
-        self.nodes.front(at).next.get()
+        self.nodes.header(at).next.get()
     }
 
     /// The key of the node at this place.
     pub fn key(&self, at: At) -> u64
-        requires { Stands at self.now.cells }
+        requires { IsPlaceOf at self.now.cells }
         ensures { key_at at self.now.cells ≡ Some result }
     {
-        self.nodes.front(at).key
+        self.nodes.header(at).key
     }
 
     /// The term and the chain of an item, or `None` for a dummy.
     #[inline]
     pub fn item(&self, at: At) -> Option<(&Term, &Chain)>
-        requires { Stands at self.now.cells }
+        requires { IsPlaceOf at self.now.cells }
         ensures { MatchOption result (item_at at self.now.cells ≡ None)
             (λ found. item_at at self.now.cells ≡ Some (new_item found.0.now found.1.now)) }
     {
@@ -199,10 +199,10 @@ impl NodeList {
 
     /// The first place from `start` on that has an item, in the order of the places: not that of the keys.
     #[inline]
-    pub fn item_from(&self, start: At) -> Option<At>
-        ensures { IsItemFrom start result self.now.cells }
+    pub fn next_item_at(&self, start: At) -> Option<At>
+        ensures { IsNextItem start result self.now.cells }
     {
-        self.nodes.item_from(start)
+        self.nodes.next_item_at(start)
     }
 
     /// The chain of an item, for a change of it alone.

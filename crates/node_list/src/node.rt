@@ -1,5 +1,5 @@
 ghost use Rattle.std.specs.Prelude.{◌≡◌, is_some};
-ghost use Rattle.node_list.specs.inside.Slots.{stand_in, item_if};
+ghost use Rattle.node_list.specs.inside.Slots.{placeholder, item_if};
 
 use crate::chain::Chain;
 use crate::link::Link;
@@ -15,8 +15,8 @@ pub struct Item {
 
 impl Item {
     /// What stands at a place with no item.
-    pub fn stand_in(alloc: Global) -> Item
-        ensures { result ≡ stand_in }
+    pub fn placeholder(alloc: Global) -> Item
+        ensures { result ≡ placeholder }
     {
         Item {
             term: Term::Int(0),
@@ -26,19 +26,19 @@ impl Item {
 
     /// What stands at the place of a node: its item, or a stand-in.
     #[inline(always)]
-    pub fn or_stand_in(item: Option<Item>, alloc: Global) -> Item
+    pub fn or_placeholder(item: Option<Item>, alloc: Global) -> Item
         ensures { item_if (is_some item) result ≡ item }
     {
         match item {
             Some(item) => item,
-            None => Item::stand_in(alloc),
+            None => Item::placeholder(alloc),
         }
     }
 }
 
 /// A node as it is put in and taken out: an item, or a dummy that marks where a bucket begins.
 #[derive(Drop)]
-pub struct Node {
+pub struct ListNode {
     pub key: u64,
     pub next: Link,
     pub item: Option<Item>,

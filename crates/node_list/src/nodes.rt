@@ -1,19 +1,19 @@
 ghost use Rattle.std.specs.Prelude.{◌≡◌, ℕ, ◌+◌, ◌<◌, ◌≤◌, ◌-◌, ◌^◌, [], Some, None, IsOk, OnOk, OnErr, option_copied};
 ghost use Rattle.std.specs.Borrow.{sem};
 ghost use Rattle.slab.specs.Slab.{get, slab_len, ContainsKey, HasRoomFor, SameValues, Updates};
-ghost use Rattle.node_list.specs.inside.Slots.{ShowsFront, ShowsChain, ShowsItem, Relinks, HasItemIn, IsItemFromIn};
-ghost use Rattle.node_list.specs.inside.Packed.{Fits};
-ghost use Rattle.node_list.specs.inside.Seen.{seen_node};
+ghost use Rattle.node_list.specs.inside.Slots.{HasHeader, HasChain, HasItemOrNone, ChangesLink, HasItemIn, IsNextItemIn};
+ghost use Rattle.node_list.specs.inside.PackedHeader.{Fits};
+ghost use Rattle.node_list.specs.inside.NodeRef.{node_of_ref};
 ghost use Rattle.node_list.specs.inside.NodeLending.{LendsChainIn};
 
-use crate::arrays::{exchange, make_room, put_slot};
+use crate::arrays::{replace_at, reserve_both, write_item};
 use crate::chain::Chain;
-use crate::front::Front;
+use crate::first_item::{bound_after_insert, bound_after_remove, has_item};
+use crate::header::NodeHeader;
 use crate::link::Link;
-use crate::low::{has_item, lowered, raised};
-use crate::node::{Item, Node};
-use crate::packed::Packed;
-use crate::seen::Seen;
+use crate::node::{Item, ListNode};
+use crate::node_ref::NodeRef;
+use crate::packed::PackedHeader;
 use slab::Slab;
 use std::alloc::{AllocError, Global};
 use std::marker::Model;
@@ -24,36 +24,36 @@ use std::mem;
 /// item, and never given back: with no node it is spare, and its front leads to the next spare one.
 #[derive(Drop)]
 pub struct Nodes {
-    nodes: Slab<Packed>,
+    nodes: Slab<PackedHeader>,
     /// With room for one at each drawn place. A place with no item has a stand-in, or lies past their end.
     items: Vec<Item>,
     /// Below this place there is no item.
-    low: usize,
+    first_item_bound: usize,
     /// The first spare place: each leads to the next.
-    vacant: Link,
+    free_head: Link,
     /// How many nodes there are.
     len: usize,
 }
 
 impl Model for Nodes {
     ghost use Rattle.slab.specs.Slab.{Slab as Slots, slab_code, slab_len};
-    ghost use Rattle.node_list.specs.declared.node.Node.{Node};
-    ghost use Rattle.node_list.specs.contracts.node.Node as node;
+    ghost use Rattle.node_list.specs.declared.node.ListNode.{ListNode};
+    ghost use Rattle.node_list.specs.contracts.node.ListNode as node;
 
-    ghost Value = { Slots Node };
+    ghost Value = { Slots ListNode };
 
     ghost coded = { slab_code node.the_row.coded };
 
-    ghost use Rattle.node_list.specs.inside.Slots.{nodes_of, AreNodes};
-    ghost use Rattle.node_list.specs.inside.Spares.{fronts, first_vacant};
+    ghost use Rattle.node_list.specs.inside.Slots.{nodes_of, NodesInvariant};
+    ghost use Rattle.node_list.specs.inside.FreeList.{headers, first_free};
 
     ghost view = { λ s. record {
-      slots = nodes_of (fronts s.nodes).slots s.items.items;
-      vacant_key = first_vacant s.vacant s.nodes.vacant_key;
+      slots = nodes_of (headers s.nodes).slots s.items.items;
+      vacant_key = first_free s.free_head s.nodes.vacant_key;
       capacity = slab_len s.nodes;
     } };
 
-    ghost invariant = { λ s. AreNodes s.nodes s.items s.low s.vacant s.len };
+    ghost invariant = { λ s. NodesInvariant s.nodes s.items s.first_item_bound s.free_head s.len };
 }
 
 impl Nodes {
@@ -65,8 +65,8 @@ impl Nodes {
         Nodes {
             nodes: Slab::new(alloc),
             items: Vec::new(alloc),
-            low: 0,
-            vacant: Link::none(),
+            first_item_bound: 0,
+            free_head: Link::none(),
             len: 0,
         }
     }
@@ -79,22 +79,22 @@ impl Nodes {
         ensures values { SameValues self.old self.new }
         ensures len { slab_len self.new ≡ slab_len self.old }
     {
-        while self.spares() < additional {
-            self.draw(additional - self.spares())?;
+        while self.free_len() < additional {
+            self.add_free_place(additional - self.free_len())?;
         }
         Ok(())
     }
 
     /// How many places are spare.
     #[inline]
-    fn spares(&self) -> usize
+    fn free_len(&self) -> usize
         ensures { slab_len self.now + result ≡ self.now.capacity }
     {
         self.nodes.len() - self.len
     }
 
     /// Draws one more place, which is spare then. Where the arrays are full they grow, by so many places at least.
-    pub fn draw(&mut self, more: usize) -> Result<(), AllocError>
+    pub fn add_free_place(&mut self, more: usize) -> Result<(), AllocError>
         requires { 0 < more }
         ensures room { OnOk result (self.new.capacity ≡ self.old.capacity + 1) }
         ensures err { OnErr result (self.new.capacity ≡ self.old.capacity) }
@@ -102,15 +102,17 @@ impl Nodes {
         ensures values { SameValues self.old self.new }
         ensures len { slab_len self.new ≡ slab_len self.old }
     {
-        make_room(&mut self.nodes, &mut self.items, more)?;
-        let at = self.nodes.insert_reserved(Packed::spare(self.vacant));
-        self.vacant = Link::to(at);
+        reserve_both(&mut self.nodes, &mut self.items, more)?;
+        let at = self
+            .nodes
+            .insert_reserved(PackedHeader::free(self.free_head));
+        self.free_head = Link::to(at);
         Ok(())
     }
 
     /// Puts a node at the first spare place.
     #[inline(always)]
-    pub fn insert_reserved(&mut self, node: Node) -> usize
+    pub fn insert_reserved(&mut self, node: ListNode) -> usize
         requires room { HasRoomFor self.old 1 }
         requires fits { Fits node.next }
         ensures key { result ≡ self.old.vacant_key }
@@ -120,23 +122,23 @@ impl Nodes {
         ensures in_range { result < 2 ^ 62 - 1 }
         ensures capacity { self.new.capacity ≡ self.old.capacity }
     {
-        let Node { key, next, item } = node;
+        let ListNode { key, next, item } = node;
         let is_item = item.is_some();
-        let slot = Item::or_stand_in(item, *self.items.allocator());
-        let Some(at) = self.vacant.get() else {
+        let slot = Item::or_placeholder(item, *self.items.allocator());
+        let Some(at) = self.free_head.get() else {
             unreachable!()
         };
-        let front = Packed::new(Front { key, next }, is_item);
-        let spare = exchange(&mut self.nodes, at, front);
-        self.vacant = spare.next();
+        let header = PackedHeader::new(NodeHeader { key, next }, is_item);
+        let free = replace_at(&mut self.nodes, at, header);
+        self.free_head = free.next();
         self.len += 1;
-        self.low = lowered(self.low, at, is_item);
-        put_slot(&mut self.items, at, slot);
+        self.first_item_bound = bound_after_insert(self.first_item_bound, at, is_item);
+        write_item(&mut self.items, at, slot);
         at
     }
 
     /// Takes the node at a place out, and the place is spare again.
-    pub fn remove(&mut self, at: usize) -> Node
+    pub fn remove(&mut self, at: usize) -> ListNode
         requires { ContainsKey self.old at }
         ensures value { get self.old at ≡ Some result }
         ensures fits { Fits result.next }
@@ -144,35 +146,39 @@ impl Nodes {
         ensures len { slab_len self.new + 1 ≡ slab_len self.old }
         ensures capacity { self.new.capacity ≡ self.old.capacity }
     {
-        let packed = exchange(&mut self.nodes, at, Packed::spare(self.vacant));
-        self.vacant = Link::to(at);
+        let packed = replace_at(&mut self.nodes, at, PackedHeader::free(self.free_head));
+        self.free_head = Link::to(at);
         self.len -= 1;
-        let stand_in = Item::stand_in(*self.items.allocator());
-        let slot = mem::replace(&mut self.items[at], stand_in);
-        self.low = raised(&self.nodes, self.low, self.items.len());
-        let Front { key, next } = packed.front();
-        Node {
+        let placeholder = Item::placeholder(*self.items.allocator());
+        let slot = mem::replace(&mut self.items[at], placeholder);
+        self.first_item_bound = bound_after_remove(
+            &self.nodes,
+            self.first_item_bound,
+            self.items.len(),
+        );
+        let NodeHeader { key, next } = packed.header();
+        ListNode {
             key,
             next,
             item: packed.item_of(slot),
         }
     }
 
-    pub fn front(&self, at: usize) -> Front
+    pub fn header(&self, at: usize) -> NodeHeader
         requires { ContainsKey self.now at }
-        ensures { ShowsFront self.now at result }
+        ensures { HasHeader self.now at result }
     {
-        self.nodes[at].front()
+        self.nodes[at].header()
     }
 
     /// A node for a search, which looks at the item where it has to.
-    pub fn see(&self, at: usize) -> Seen<'_>
+    pub fn node_ref(&self, at: usize) -> NodeRef<'_>
         requires { ContainsKey self.now at }
-        ensures { get self.now at ≡ Some (seen_node result) }
+        ensures { get self.now at ≡ Some (node_of_ref result) }
     {
         let packed = self.nodes[at];
-        Seen {
-            front: packed.front(),
+        NodeRef {
+            header: packed.header(),
             has_item: packed.is_item(),
             slot: &self.items[at],
         }
@@ -182,7 +188,7 @@ impl Nodes {
     #[inline]
     pub fn item(&self, at: usize) -> Option<&Item>
         requires { ContainsKey self.now at }
-        ensures { ShowsItem self.now at (option_copied result) }
+        ensures { HasItemOrNone self.now at (option_copied result) }
     {
         if self.nodes[at].is_item() {
             Some(&self.items[at])
@@ -194,10 +200,10 @@ impl Nodes {
     /// The first place from `start` on that has an item: a read of the fronts alone, in the order of their places. It
     /// begins at `low` where `start` is before it.
     #[inline]
-    pub fn item_from(&self, start: usize) -> Option<usize>
-        ensures { IsItemFromIn start result self.now }
+    pub fn next_item_at(&self, start: usize) -> Option<usize>
+        ensures { IsNextItemIn start result self.now }
     {
-        for at in start.max(self.low)..self.items.len() {
+        for at in start.max(self.first_item_bound)..self.items.len() {
             if has_item(&self.nodes, at) {
                 return Some(at);
             }
@@ -215,7 +221,7 @@ impl Nodes {
 
     /// What holds of all nodes, for a caller's proof: it does nothing.
     #[inline]
-    pub fn known(&self)
+    pub fn reveal_invariant(&self)
         ensures { (at : ℕ) → ContainsKey self.now at → at < 2 ^ 64 - 1 }
     {
         let _places = self.items.len();
@@ -225,7 +231,7 @@ impl Nodes {
     pub fn set_next(&mut self, at: usize, next: Link)
         requires has { ContainsKey self.old at }
         requires fits { Fits next }
-        ensures { Relinks self.old self.new at next }
+        ensures { ChangesLink self.old self.new at next }
     {
         let packed = &mut self.nodes[at];
         *packed = packed.with_next(next);
@@ -234,7 +240,7 @@ impl Nodes {
     pub fn chain_mut(&mut self, at: usize) -> &mut Chain
         requires { HasItemIn self.old at }
         ensures* lends { sem 𝓛 (LendsChainIn at self.entry result) }
-        ensures value { ShowsChain self.old at result.now }
+        ensures value { HasChain self.old at result.now }
     {
         &mut self.items[at].chain
     }

@@ -1,8 +1,8 @@
 ghost use Rattle.std.specs.Prelude.{◌≡◌, ◌<◌, ◌%◌, true, false};
-ghost use Rattle.node_list.specs.inside.Packed.{next_in, is_item, is_spare, Fits};
+ghost use Rattle.node_list.specs.inside.PackedHeader.{next_in, is_item, is_free, Fits};
 ghost use Rattle.node_list.specs.inside.Slots.{item_if};
 
-use crate::front::Front;
+use crate::header::NodeHeader;
 use crate::link::Link;
 use crate::node::Item;
 
@@ -12,37 +12,37 @@ pub const NO_PLACE: usize = usize::MAX / 4;
 /// A front as it is kept: one word has the place of the next node, times four, and one more where the node is an
 /// item, or two more where the place is spare.
 #[derive(Clone, Copy)]
-pub struct Packed {
+pub struct PackedHeader {
     key: u64,
     word: usize,
 }
 
-impl Packed {
+impl PackedHeader {
     /// A front, and whether its node is an item.
     #[inline(always)]
-    pub fn new(front: Front, has_item: bool) -> Packed
-        requires { Fits front.next }
-        ensures key { result.key ≡ front.key }
-        ensures next { next_in result ≡ front.next }
+    pub fn new(header: NodeHeader, has_item: bool) -> PackedHeader
+        requires { Fits header.next }
+        ensures key { result.key ≡ header.key }
+        ensures next { next_in result ≡ header.next }
         ensures item { is_item result ≡ has_item }
-        ensures live { is_spare result ≡ false }
+        ensures live { is_free result ≡ false }
     {
-        Packed::tagged(front.key, front.next, usize::from(has_item))
+        PackedHeader::with_tag(header.key, header.next, usize::from(has_item))
     }
 
     /// What stands at a spare place: the link to the next one.
     #[inline(always)]
-    pub fn spare(next: Link) -> Packed
+    pub fn free(next: Link) -> PackedHeader
         requires { Fits next }
         ensures next { next_in result ≡ next }
-        ensures spare { is_spare result ≡ true }
+        ensures free { is_free result ≡ true }
         ensures item { is_item result ≡ false }
     {
-        Packed::tagged(0, next, 2)
+        PackedHeader::with_tag(0, next, 2)
     }
 
     #[inline(always)]
-    fn tagged(key: u64, next: Link, tag: usize) -> Packed
+    fn with_tag(key: u64, next: Link, tag: usize) -> PackedHeader
         requires fits { Fits next }
         requires small { tag < 4 }
         ensures key { result.key ≡ key }
@@ -53,7 +53,7 @@ impl Packed {
             Some(place) => place,
             None => NO_PLACE,
         };
-        Packed {
+        PackedHeader {
             key,
             word: place * 4 + tag,
         }
@@ -61,12 +61,12 @@ impl Packed {
 
     /// The key and the link.
     #[inline(always)]
-    pub fn front(self) -> Front
+    pub fn header(self) -> NodeHeader
         ensures key { result.key ≡ self.key }
         ensures next { result.next ≡ next_in self }
         ensures fits { Fits result.next }
     {
-        Front {
+        NodeHeader {
             key: self.key,
             next: self.next(),
         }
@@ -95,15 +95,15 @@ impl Packed {
     }
 
     /// The same with another link.
-    pub fn with_next(self, next: Link) -> Packed
+    pub fn with_next(self, next: Link) -> PackedHeader
         requires { Fits next }
         ensures key { result.key ≡ self.key }
         ensures next { next_in result ≡ next }
         ensures item { is_item result ≡ is_item self }
-        ensures live { is_spare result ≡ false }
+        ensures live { is_free result ≡ false }
     {
-        Packed::new(
-            Front {
+        PackedHeader::new(
+            NodeHeader {
                 key: self.key,
                 next,
             },

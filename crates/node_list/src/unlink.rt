@@ -1,20 +1,20 @@
 ghost use Rattle.std.specs.Prelude.{◌≡◌, ◌+◌, Some};
 ghost use Rattle.slab.specs.Slab.{get, slab_len};
-ghost use Rattle.node_list.specs.Places.{all_but_first, behind};
+ghost use Rattle.node_list.specs.Places.{all_but_first, cells_after};
 ghost use Rattle.node_list.specs.Changes.{without};
-ghost use Rattle.node_list.specs.inside.Walks.{rest, Linked, HasPlace, StandsBefore};
+ghost use Rattle.node_list.specs.inside.Walks.{cells_from, IsLinked, HasPlace, IsPredecessor};
 
-use crate::node::Node;
+use crate::node::ListNode;
 use crate::nodes::Nodes;
 
 /// The node from `start` on whose link leads to `at`.
-fn last_before(nodes: &Nodes, start: usize, at: usize) -> usize
-    requires linked { Linked nodes.now (Some start) }
-    requires behind { HasPlace at (all_but_first (rest nodes.now (Some start))) }
-    ensures { StandsBefore result at (rest nodes.now (Some start)) }
+fn predecessor(nodes: &Nodes, start: usize, at: usize) -> usize
+    requires linked { IsLinked nodes.now (Some start) }
+    requires after { HasPlace at (all_but_first (cells_from nodes.now (Some start))) }
+    ensures { IsPredecessor result at (cells_from nodes.now (Some start)) }
 {
     let mut before = start;
-    while let Some(place) = nodes.front(before).next.get() {
+    while let Some(place) = nodes.header(before).next.get() {
         if place == at {
             return before;
         }
@@ -24,16 +24,16 @@ fn last_before(nodes: &Nodes, start: usize, at: usize) -> usize
 }
 
 /// Takes a node out.
-pub fn unlink_from(nodes: &mut Nodes, start: usize, at: usize) -> Node
-    requires linked { Linked nodes.old (Some 0) }
-    requires behind { HasPlace at (behind start (rest nodes.old (Some 0))) }
+pub fn unlink_from(nodes: &mut Nodes, start: usize, at: usize) -> ListNode
+    requires linked { IsLinked nodes.old (Some 0) }
+    requires after { HasPlace at (cells_after start (cells_from nodes.old (Some 0))) }
     ensures node { get nodes.old at ≡ Some result }
-    ensures linked { Linked nodes.new (Some 0) }
-    ensures cells { rest nodes.new (Some 0) ≡ without at (rest nodes.old (Some 0)) }
+    ensures linked { IsLinked nodes.new (Some 0) }
+    ensures cells { cells_from nodes.new (Some 0) ≡ without at (cells_from nodes.old (Some 0)) }
     ensures capacity { nodes.new.capacity ≡ nodes.old.capacity }
     ensures len { slab_len nodes.new + 1 ≡ slab_len nodes.old }
 {
-    let before = last_before(nodes, start, at);
+    let before = predecessor(nodes, start, at);
     let node = nodes.remove(at);
     nodes.set_next(before, node.next);
     node

@@ -4,16 +4,16 @@ use Rattle.std.specs.Borrow.{Lends, MutBor, Fml}
 use Rattle.slab.specs.Slab.{Slab, get}
 use Rattle.ets_term.specs.declared.term.Term.{Term}
 use Rattle.node_list.specs.Changes.{item_with}
-use Rattle.node_list.specs.declared.node.Node.{Node}
+use Rattle.node_list.specs.declared.node.ListNode.{ListNode}
 use Rattle.node_list.specs.contracts.nodes.Nodes.{the_row}
 use Rattle.node_list.specs.contracts.chain.Chain as chain
 
-abbrev pub node_with : Node → List Term → Node
+abbrev pub node_with : ListNode → List Term → ListNode
 node_with n w = record n { item = item_with n.item w }
 
 -- the nodes with this chain in the item at a place
-abbrev pub nodes_with : ℕ → List Term → Slab Node → Slab Node
+abbrev pub nodes_with : ℕ → List Term → Slab ListNode → Slab ListNode
 nodes_with at w s = record s { slots = slice_set s.slots at (option_map (λ n. node_with n w) (get s at)) }
 
-abbrev pub LendsChainIn : ℕ → MutBor (Slab Node) → MutBor (List Term) → Fml
+abbrev pub LendsChainIn : ℕ → MutBor (Slab ListNode) → MutBor (List Term) → Fml
 LendsChainIn at s r = Lends the_row chain.the_row s r (λ w. nodes_with at w s.now)

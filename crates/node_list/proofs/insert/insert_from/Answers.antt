@@ -1,25 +1,25 @@
 use Rattle.std.proofs.Common.{◌≡◌, ◌≢◌, ℕ, Some, Option, IsSome, subst, refl, sym, ◌∙◌, ap}
 use Rattle.slab.specs.Slab.{Slab, get, slab_len, with_value, Updates}
 use Rattle.node_list.specs.Cells.{new_cell}
-use Rattle.node_list.specs.inside.Walks.{rest, node_of, last_up_to_in}
-use Rattle.node_list.specs.declared.node.Node.{Node}
+use Rattle.node_list.specs.inside.Walks.{cells_from, node_of, last_not_above_in}
+use Rattle.node_list.specs.declared.node.ListNode.{ListNode}
 use Rattle.node_list.proofs.InsertLaws.{Inserted, begun, inserted, spot-node}
-use Rattle.node_list.proofs.PlaceLaws.{with_value-len, apart-vacant}
+use Rattle.node_list.proofs.PlaceLaws.{with_value-len, apart-free_head}
 use Rattle.node_list.proofs.insert.insert_from.Goals as goal
 use Rattle.node_list.proofs.insert.insert_from.Goals.{After-set_next}
 
-pub last_up_to-last-requires-clause-linked : goal.last_up_to-last-requires-clause-linked
-last_up_to-last-requires-clause-linked c = (begun c.args.nodes.now c.args.key c.args.start c.requires.linked c.requires.sorted c.requires.stands).linked
+pub last_not_above-last-requires-clause-linked : goal.last_not_above-last-requires-clause-linked
+last_not_above-last-requires-clause-linked c = (begun c.args.nodes.now c.args.key c.args.start c.requires.linked c.requires.sorted c.requires.start).linked
 
-pub last_up_to-last-requires-clause-up_to : goal.last_up_to-last-requires-clause-up_to
-last_up_to-last-requires-clause-up_to c = (begun c.args.nodes.now c.args.key c.args.start c.requires.linked c.requires.sorted c.requires.stands).up_to
+pub last_not_above-last-requires-clause-up_to : goal.last_not_above-last-requires-clause-up_to
+last_not_above-last-requires-clause-up_to c = (begun c.args.nodes.now c.args.key c.args.start c.requires.linked c.requires.sorted c.requires.start).up_to
 
-pub front-next-requires : goal.front-next-requires
-front-next-requires c =
-    let spot = (begun c.args.nodes.now c.args.key c.args.start c.requires.linked c.requires.sorted c.requires.stands).spot in
-    let found = spot-node (get c.args.nodes.now) c.args.key (last_up_to_in c.args.key c.args.start (rest c.args.nodes.now (Some c.args.start))) (Some 0) (rest c.args.nodes.now (Some 0)) c.requires.linked.links spot in
-    let P : Option Node → Type 0 = λ o. IsSome o in
-    subst P (sym (ap (get c.args.nodes.now) c.last_up_to-last.ensures ∙ found.1)) refl
+pub header-next-requires : goal.header-next-requires
+header-next-requires c =
+    let spot = (begun c.args.nodes.now c.args.key c.args.start c.requires.linked c.requires.sorted c.requires.start).spot in
+    let found = spot-node (get c.args.nodes.now) c.args.key (last_not_above_in c.args.key c.args.start (cells_from c.args.nodes.now (Some c.args.start))) (Some 0) (cells_from c.args.nodes.now (Some 0)) c.requires.linked.links spot in
+    let P : Option ListNode → Type 0 = λ o. IsSome o in
+    subst P (sym (ap (get c.args.nodes.now) c.last_not_above-last.ensures ∙ found.1)) refl
 
 -- the list once the link leads to the new node
 done : (c : After-set_next) → Inserted c.args.nodes.now c.set_next.new.self (new_cell c.insert_reserved-place.result c.args.key c.args.item)
@@ -27,16 +27,16 @@ done c =
     let old = c.args.nodes.now in
     let m = c.insert_reserved-place.new.self in
     let at = c.insert_reserved-place.result in
-    let last = c.last_up_to-last.result in
+    let last = c.last_not_above-last.result in
     let n = c.set_next.ensures.node in
     let x = new_cell at c.args.key c.args.item in
     let U : Option ℕ → Type 0 = λ o. Updates old m at (Some (node_of x o)) in
     let I : Option ℕ → Type 0 = λ o. Inserted old (with_value m last (record n { next = o })) x in
-    let V : Slab Node → Type 0 = λ v. Inserted old v x in
+    let V : Slab ListNode → Type 0 = λ v. Inserted old v x in
     let len = with_value-len m last n (record n { next = Some at }) c.set_next.ensures.was in
     subst V (sym c.set_next.ensures.now) (subst I (sym c.to.ensures)
-    (inserted old m x c.args.start last c.front-next.ensures.node n (begun old c.args.key c.args.start c.requires.linked c.requires.sorted c.requires.stands)
-    c.requires.linked c.last_up_to-last.ensures c.front-next.ensures.is c.insert_reserved-place.ensures.was_vacant (subst U (sym c.front-next.ensures.next) c.insert_reserved-place.ensures.updates)
+    (inserted old m x c.args.start last c.header-next.ensures.node n (begun old c.args.key c.args.start c.requires.linked c.requires.sorted c.requires.start)
+    c.requires.linked c.last_not_above-last.ensures c.header-next.ensures.is c.insert_reserved-place.ensures.was_vacant (subst U (sym c.header-next.ensures.next) c.insert_reserved-place.ensures.updates)
     c.insert_reserved-place.ensures.len c.set_next.ensures.was (len ∙ c.insert_reserved-place.ensures.len)))
 
 pub returns-clause-linked : goal.returns-clause-linked
@@ -47,19 +47,19 @@ returns-clause-cells c = (done (goal.at.returns-clause-cells c).After-set_next).
 
 pub returns-clause-fresh : goal.returns-clause-fresh
 returns-clause-fresh c =
-    apart-vacant (get c.args.nodes.now) c.insert_reserved-place.result c.insert_reserved-place.ensures.was_vacant (Some 0) (rest c.args.nodes.now (Some 0)) c.requires.linked.links
+    apart-free_head (get c.args.nodes.now) c.insert_reserved-place.result c.insert_reserved-place.ensures.was_vacant (Some 0) (cells_from c.args.nodes.now (Some 0)) c.requires.linked.links
 
 pub set_next-requires-clause-has : goal.set_next-requires-clause-has
 set_next-requires-clause-has c =
-    let was : get c.args.nodes.now c.last_up_to-last.result ≡ Some c.front-next.ensures.node = c.front-next.ensures.is in
-    let apart : c.last_up_to-last.result ≢ c.insert_reserved-place.result = λ same. let f = ap (get c.args.nodes.now) same ∙ c.insert_reserved-place.ensures.was_vacant in absurd (cc (f, was)) in
-    let O : Option Node → Type 0 = λ o. IsSome o in
-    subst O (sym (c.insert_reserved-place.ensures.updates.others c.last_up_to-last.result apart ∙ was)) refl
+    let was : get c.args.nodes.now c.last_not_above-last.result ≡ Some c.header-next.ensures.node = c.header-next.ensures.is in
+    let apart : c.last_not_above-last.result ≢ c.insert_reserved-place.result = λ same. let f = ap (get c.args.nodes.now) same ∙ c.insert_reserved-place.ensures.was_vacant in absurd (cc (f, was)) in
+    let O : Option ListNode → Type 0 = λ o. IsSome o in
+    subst O (sym (c.insert_reserved-place.ensures.updates.others c.last_not_above-last.result apart ∙ was)) refl
 
 pub returns-clause-capacity : goal.returns-clause-capacity
-returns-clause-capacity c = ap (λ (v : Slab Node). v.capacity) c.set_next.ensures.now ∙ c.insert_reserved-place.ensures.capacity
+returns-clause-capacity c = ap (λ (v : Slab ListNode). v.capacity) c.set_next.ensures.now ∙ c.insert_reserved-place.ensures.capacity
 
 pub returns-clause-len : goal.returns-clause-len
 returns-clause-len c =
-    ap (λ (v : Slab Node). slab_len v) c.set_next.ensures.now
-    ∙ (with_value-len c.insert_reserved-place.new.self c.last_up_to-last.result c.set_next.ensures.node (record c.set_next.ensures.node { next = c.to.result }) c.set_next.ensures.was ∙ c.insert_reserved-place.ensures.len)
+    ap (λ (v : Slab ListNode). slab_len v) c.set_next.ensures.now
+    ∙ (with_value-len c.insert_reserved-place.new.self c.last_not_above-last.result c.set_next.ensures.node (record c.set_next.ensures.node { next = c.to.result }) c.set_next.ensures.was ∙ c.insert_reserved-place.ensures.len)

@@ -1,7 +1,7 @@
 use Rattle.std.proofs.Common.{◌+◌, Some, length, ◌∙◌, ap}
 use Rattle.node_list.specs.Cells.{new_cell, new_item}
-use Rattle.node_list.specs.inside.Walks.{rest}
-use Rattle.node_list.specs.Listed.{Listed}
+use Rattle.node_list.specs.inside.Walks.{cells_from}
+use Rattle.node_list.specs.ListState.{ListState}
 use Rattle.node_list.proofs.CellLaws.{length-put}
 use Rattle.node_list.proofs.ListLaws.{put-list}
 use Rattle.node_list.proofs.list.NodeList.insert_item.Goals as goal
@@ -14,4 +14,4 @@ invariant_of-self c =
 pub returns-clause-len : goal.returns-clause-len
 returns-clause-len c =
     ap length c.insert_from.ensures.cells
-    ∙ (length-put (new_cell c.insert_from.result c.args.key (Some (new_item c.args.term c.args.chain))) (rest c.self.inside.nodes (Some 0)) ∙ ap (λ (v : Listed). length v.cells + 1) c.self.view_is)
+    ∙ (length-put (new_cell c.insert_from.result c.args.key (Some (new_item c.args.term c.args.chain))) (cells_from c.self.inside.nodes (Some 0)) ∙ ap (λ (v : ListState). length v.cells + 1) c.self.view_is)

@@ -1,6 +1,6 @@
 use Rattle.std.proofs.Common.{◌∙◌, ap}
-use Rattle.node_list.specs.Listed.{Listed}
-use Rattle.node_list.proofs.WalkLaws.{same-rest}
+use Rattle.node_list.specs.ListState.{ListState}
+use Rattle.node_list.proofs.WalkLaws.{same-cells_from}
 use Rattle.node_list.proofs.ListLaws.{same-list}
 use Rattle.node_list.proofs.list.NodeList.reserve.Goals as goal
 
@@ -9,4 +9,4 @@ invariant_of-self c = same-list c.self.inside.nodes c.reserve.new.self c.reserve
 
 pub returns-clause-cells : goal.returns-clause-cells
 returns-clause-cells c =
-    (same-rest c.self.inside.nodes c.reserve.new.self c.reserve.ensures.values c.reserve.ensures.len c.self.invariant.linked).1 ∙ ap (λ (v : Listed). v.cells) c.self.view_is
+    (same-cells_from c.self.inside.nodes c.reserve.new.self c.reserve.ensures.values c.reserve.ensures.len c.self.invariant.linked).1 ∙ ap (λ (v : ListState). v.cells) c.self.view_is

@@ -1,15 +1,15 @@
 use Rattle.std.proofs.Common.{sym, ◌∙◌, ap, arith}
-use Rattle.node_list.specs.declared.node.Node.{Node}
+use Rattle.node_list.specs.declared.node.ListNode.{ListNode}
 use Rattle.slab.specs.Slab.{Slab, slab_len}
-use Rattle.node_list.specs.inside.Spares.{fronts}
+use Rattle.node_list.specs.inside.FreeList.{headers}
 use Rattle.node_list.proofs.SlotLaws.{count-nodes}
-use Rattle.node_list.proofs.SpareLaws.{few-drawn}
+use Rattle.node_list.proofs.FreePlaceLaws.{few-allocated}
 use Rattle.node_list.proofs.nodes.Nodes.len.Goals as goal
 
 pub returns-clause-value : goal.returns-clause-value
 returns-clause-value c =
-    sym c.self.invariant.counted ∙ (sym (count-nodes (fronts c.self.inside.nodes).slots c.self.inside.items.items) ∙ ap (λ (v : Slab Node). slab_len v) c.self.view_is)
+    sym c.self.invariant.counted ∙ (sym (count-nodes (headers c.self.inside.nodes).slots c.self.inside.items.items) ∙ ap (λ (v : Slab ListNode). slab_len v) c.self.view_is)
 
 pub returns-clause-few : goal.returns-clause-few
 returns-clause-few c =
-    omega (arith, c.self.invariant.spares.count, few-drawn c.self.inside.nodes _ c.self.invariant.few)
+    omega (arith, c.self.invariant.free_list.count, few-allocated c.self.inside.nodes _ c.self.invariant.few)
