@@ -1,4 +1,4 @@
--- What callers of a `NodeList` need: what stands where after a change, and how long a search is.
+-- What callers of a `NodeList` need: the nodes after a change, and the length of a search.
 use Rattle.std.proofs.Common.{◌≡◌, ◌≢◌, ℕ, ◌+◌, ◌<◌, ◌≤◌, inl, inr, List, [], ◌∷◌, length, Some, None, is_some, Bool, true, false, cond, nat_lt, count_by, ◌&&◌, ◌||◌, refl, sym, ◌∙◌, ap, subst, arith}
 use Rattle.std.proofs.lemmas.Bool.{cases_lt, cases_eq}
 use Rattle.std.proofs.lemmas.Bool.Decides.{nat_tests}
@@ -12,7 +12,7 @@ use Rattle.node_list.specs.Changes.{put_cell, without}
 use Rattle.node_list.proofs.CellLaws.{put-past, put-on, from-here, from-on, without-here, without-on, at-most-from, search-past, search-on}
 use Rattle.node_list.proofs.PlaceLaws.{from-has, fresh-other}
 
--- the head stands before every key
+-- the key of the head is at most every key
 pub head-has_key_at_most : (at key : ℕ) (cs : List Cell) → first_place cs ≡ Some at → StartsWithDummy cs → HasKeyAtMost key at cs
 head-has_key_at_most at key [] e d = absurd d
 head-has_key_at_most at key (c ∷ cs) e d =
@@ -26,7 +26,7 @@ head-is_place at cs e d = let s = head-has_key_at_most at 0 cs e d in record { c
 pub item-is_place : (at : ℕ) (cs : List Cell) → HasItem at cs → IsPlaceOf at cs
 item-is_place at cs h = record { cell = h.cell; later = h.later; is = h.is }
 
--- every item stands behind the head
+-- every item is after the head
 pub item-after_head : (head at : ℕ) (cs : List Cell) → first_place cs ≡ Some head → StartsWithDummy cs → HasItem at cs → HasItem at (cells_after head cs)
 item-after_head head at [] e d h = absurd d
 item-after_head head at (c ∷ cs) e d h =
@@ -79,7 +79,7 @@ put-from_other x (c ∷ cs) at d ds n e =
           ])
     ]
 
--- an item stays where it stands
+-- an insertion keeps an item at its place
 pub put-keeps_item : (at : ℕ) (x : Cell) (old new : List Cell) → new ≡ put_cell x old → IsFresh x.at old → HasItem at old → HasItem at new
 put-keeps_item at x old new e f h =
     let P : List Cell → Type 0 = λ zs. HasItem at zs in
@@ -122,7 +122,7 @@ without-from_other gone (c ∷ cs) at d ds n e =
 not_it-lower : (key : ℕ) (term : Term) (c : Cell) → c.key < key → is_it key term c ≡ false
 not_it-lower key term c h = grind (arith, nat_tests)
 
--- a search from a node of a lower key finds what the whole list has
+-- a search from a node of a lower key finds what a search of the whole list finds
 pub place_of-from : (key : ℕ) (term : Term) (start : ℕ) (cs : List Cell) (d : Cell) (ds : List Cell) → Sorted cs → from start cs ≡ d ∷ ds → d.key < key → place_of key term cs ≡ place_of key term (d ∷ ds)
 place_of-from key term start [] d ds o e h = absurd (cc)
 place_of-from key term start (c ∷ cs) d ds o e h =
@@ -139,7 +139,7 @@ place_of-from key term start (c ∷ cs) d ds o e h =
 abbrev pub is_item_below : ℕ → Cell → Bool
 is_item_below high c = nat_lt c.key high && is_some c.item
 
--- below a key stand items alone
+-- below this key there are only items
 abbrev pub HasOnlyItemsBelow : ℕ → List Cell → Type 0
 HasOnlyItemsBelow high [] = Unit {0}
 HasOnlyItemsBelow high (c ∷ cs) = (c.key < high → is_some c.item ≡ true) × HasOnlyItemsBelow high cs

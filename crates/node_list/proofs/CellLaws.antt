@@ -1,4 +1,4 @@
--- Laws of the words on lists of cells.
+-- Laws of lists of cells.
 use Rattle.std.proofs.Common.{◌≡◌, ◌≢◌, ℕ, ◌+◌, ◌<◌, ◌≤◌, inl, inr, List, [], ◌∷◌, length, Option, Some, None, Bool, true, false, nat_lt, ◌||◌, if◌then◌else◌, refl, sym, ◌∙◌, ap, subst, arith}
 use Rattle.std.proofs.lemmas.Bool.{cases_lt, cases_eq}
 use Rattle.std.proofs.lemmas.Bool.Decides.{nat_tests}
@@ -10,7 +10,7 @@ use Rattle.node_list.specs.Search.{is_it, holds, place_of, passed}
 use Rattle.node_list.specs.Changes.{put_cell, without}
 use Rattle.node_list.specs.inside.Walks.{last_not_above_in, HasPlace}
 
--- ---- one step of each word
+-- ---- one step of each function
 pub last_not_above_in-past : (key last : ℕ) (c : Cell) (cs : List Cell) → key < c.key → last_not_above_in key last (c ∷ cs) ≡ last
 last_not_above_in-past key last c cs h = grind (arith, nat_tests)
 
@@ -95,7 +95,7 @@ starts-without bound at (c ∷ cs) o s =
       | inr other ↦ subst P (sym (without-on at c cs other)) s
     ]
 
--- so does taking a node out
+-- a removal keeps the order
 pub sorted-without : (at : ℕ) (cs : List Cell) → Sorted cs → Sorted (without at cs)
 sorted-without at [] o = o
 sorted-without at (c ∷ cs) o =
@@ -140,7 +140,7 @@ place_of-beyond key bound term (c ∷ cs) h s o =
     let past : key < c.key = omega (arith, h, s) in
     place_of-on key term c cs (not_it-past key term c past) ∙ place_of-beyond key c.key term cs past o.0 o.1
 
--- what a search finds and passes where the first node ends it, or does not
+-- what a search finds and passes, if the first node ends it and if not
 pub record Ends (key : ℕ) (term : Term) (c : Cell) (cs : List Cell) (answer : Option ℕ) : Type 0 where
   pub found : place_of key term (c ∷ cs) ≡ answer
   pub passed : length (passed key term (c ∷ cs)) ≡ 1

@@ -1,4 +1,4 @@
--- What a lent list of objects does to the list.
+-- The list after the borrow of a chain.
 use Rattle.std.proofs.Common.{◌≡◌, ◌≢◌, ℕ, suc, ◌≤◌, inl, inr, List, [], ◌∷◌, length, Option, Some, None, IsSome, true, false, nat_eq, refl, sym, ◌∙◌, ap, subst, arith, if◌then◌else◌, slice_set, option_map}
 use Rattle.std.proofs.lemmas.Bool.{cases_eq}
 use Rattle.std.proofs.lemmas.Bool.Decides.{nat_tests}
@@ -88,7 +88,7 @@ lent s at w n l was =
       cells = is;
     }
 
--- the same, as the nodes lend it
+-- the same for the nodes
 pub lent-in : (s : Slab ListNode) (at : ℕ) (w : List Term) (n : ListNode) → ListInvariant s → get s at ≡ Some n → Lent s (nodes_with at w s) at w
 lent-in s at w n l was =
     let P : Slab ListNode → Type 0 = λ t. Lent s t at w in

@@ -1,4 +1,4 @@
--- A list with as many nodes as its slab has every one of them.
+-- A list with as many nodes as its slab has all of them.
 use Rattle.std.proofs.Common.{◌≡◌, ℕ, ◌+◌, ◌<◌, inl, inr, List, [], ◌∷◌, length, get_or, set, Option, Some, None, IsSome, is_some, count_by, cond, Bool, refl, sym, ◌∙◌, ap, subst, arith}
 use Rattle.std.proofs.lemmas.Bool.{cases_eq}
 use Rattle.std.proofs.lemmas.List.{get_or-set_other, get_or_past}
@@ -13,7 +13,7 @@ use Rattle.node_list.specs.inside.Walks.{Links, cells_from, HasPlace, ListInvari
 use Rattle.node_list.proofs.CellLaws.{from-here, from-on}
 use Rattle.node_list.proofs.PlaceLaws.{apart-links, place-node}
 
--- every cell's place has a node
+-- the place of each cell has a node
 abbrev HaveNodes : List (Option ListNode) → List Cell → Type 0
 HaveNodes os [] = Unit {0}
 HaveNodes os (c ∷ cs) = IsSome (get_or os c.at None) × HaveNodes os cs

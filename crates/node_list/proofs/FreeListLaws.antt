@@ -1,4 +1,4 @@
--- Laws of the chain of spare places.
+-- Laws of the free list.
 use Rattle.std.proofs.Common.{◌≡◌, ℕ, ◌+◌, ◌<◌, ◌^◌, ◌-◌, List, [], ◌∷◌, length, Option, Some, None, IsSome, true, false, refl, sym, ◌∙◌, ap, subst, arith}
 use Rattle.slab.specs.Slab.{Slab, get, slab_len, Updates}
 use Rattle.node_list.specs.declared.node.ListNode.{ListNode}
@@ -11,7 +11,7 @@ use Rattle.node_list.specs.inside.Walks.{Links, node_of}
 use Rattle.node_list.proofs.PlaceLaws.{away, apart-free_head, links-frame}
 use Rattle.node_list.proofs.FreePlaceLaws.{free-by, free-is}
 
--- the first spare place
+-- the first free place
 pub record First (s : Slab PackedHeader) (free_head : Option ℕ) (at : ℕ) : Type 0 where
   pub header : PackedHeader
   pub is : get s at ≡ Some header
@@ -58,7 +58,7 @@ fits-by s free_head (c ∷ cs) l h =
 pub free_head-fits : (s : Slab PackedHeader) (free_head : Option ℕ) (len : ℕ) → IsFreeList s free_head len → ((k : ℕ) → IsSome (get s k) → k < 2 ^ 62 - 1) → Fits free_head
 free_head-fits s free_head len a h = fits-by s free_head a.cells a.links h
 
--- the first one is taken
+-- an insertion takes the first free place
 taken-by : (s t : Slab PackedHeader) (free_head : Option ℕ) (at len : ℕ) (p q : PackedHeader) (cells : List Cell) → Links (λ k. free_in (get s k)) free_head cells → length cells + len ≡ slab_len s → free_head ≡ Some at
     → get s at ≡ Some p → Updates s t at (Some q) → is_free q ≡ false → slab_len t ≡ slab_len s → IsFreeList t (next_in p) (len + 1)
 taken-by s t free_head at len p q [] l n e was u live same = absurd (cc (l, e))
@@ -84,7 +84,7 @@ pub taken : (s t : Slab PackedHeader) (free_head : Option ℕ) (at len : ℕ) (p
     → get s at ≡ Some p → Updates s t at (Some q) → is_free q ≡ false → slab_len t ≡ slab_len s → IsFreeList t (next_in p) (len + 1)
 taken s t free_head at len p q a e was u live same = taken-by s t free_head at len p q a.cells a.links a.count e was u live same
 
--- one more comes in front
+-- a removal puts a place at the front
 pub given : (s t : Slab PackedHeader) (free_head : Option ℕ) (at len left : ℕ) (q : PackedHeader) → IsFreeList s free_head len → free_in (get s at) ≡ None → Updates s t at (Some q)
     → is_free q ≡ true → next_in q ≡ free_head → slab_len s + left + 1 ≡ len + slab_len t → IsFreeList t (Some at) left
 given s t free_head at len left q a none u free next n =
@@ -99,7 +99,7 @@ given s t free_head at len left q a none u free next n =
       count = omega (arith, a.count, n);
     }
 
--- a node changes
+-- a change of a node keeps the free list
 pub changed : (s t : Slab PackedHeader) (free_head : Option ℕ) (at len : ℕ) (q : PackedHeader) → IsFreeList s free_head len → free_in (get s at) ≡ None → Updates s t at (Some q) → slab_len t ≡ slab_len s → IsFreeList t free_head len
 changed s t free_head at len q a none u same =
     let g : ℕ → Option ListNode = λ k. free_in (get s k) in

@@ -1,4 +1,4 @@
--- Laws of the places that are drawn: which have a node, and how many.
+-- Laws of the places of the slab: which have a node, and how many do.
 use Rattle.std.proofs.Common.{◌≡◌, inl, inr, ℕ, zero, suc, ◌+◌, ◌<◌, ◌≤◌, ◌%◌, nat_eq, List, [], ◌∷◌, length, map, get_or, set, Option, Some, None, IsSome, is_some, count_by, Bool, true, false, cond, refl, sym, ◌∙◌, ap, subst, arith}
 use Rattle.std.proofs.lemmas.Bool.{cases_eq, eqb-true}
 use Rattle.std.proofs.lemmas.List.{get_or_past}
@@ -29,7 +29,7 @@ not-free : (f : PackedHeader) (b : Bool) → IsSome (cond b None (Some f)) → b
 not-free f true h = absurd (cc)
 not-free f false h = refl
 
--- the front of a place with a node
+-- the header of a place with a node
 pub live-by : (o : Option PackedHeader) → IsSome (live o) → (f : PackedHeader) × ((o ≡ Some f) × (is_free f ≡ false))
 live-by None h = absurd (cc)
 live-by (Some f) h = (f, (refl, not-free f (is_free f) h))
@@ -38,7 +38,7 @@ free-shows : (f : PackedHeader) (b : Bool) (m : ListNode) → is_free f ≡ b �
 free-shows f true m e h = (e, let k : m ≡ free_node f = cc in k)
 free-shows f false m e h = absurd (cc)
 
--- the front of a spare place
+-- the header of a free place
 pub free-by : (o : Option PackedHeader) (m : ListNode) → free_in o ≡ Some m → (f : PackedHeader) × ((o ≡ Some f) × ((is_free f ≡ true) × (m ≡ free_node f)))
 free-by None m h = absurd (cc)
 free-by (Some f) m h = (f, (refl, free-shows f (is_free f) m refl h))
@@ -136,7 +136,7 @@ counts-live f e = ap {B = ℕ} (λ (o : Option PackedHeader). cond (is_some o) 1
 counts-free : (f : PackedHeader) → is_free f ≡ true → ◌≡◌ {A = ℕ} (cond (is_some (live (Some f))) 1 0) 0
 counts-free f e = ap {B = ℕ} (λ (o : Option PackedHeader). cond (is_some o) 1 0) (live-none f e)
 
--- a spare place gets a node, a node goes, or another one comes in its place
+-- a free place gets a node, a place becomes free, or a node is replaced
 pub len-taken : (n : Slab PackedHeader) (k : ℕ) (p q : PackedHeader) → get n k ≡ Some p → is_free p ≡ true → is_free q ≡ false → slab_len (headers (with_value n k q)) ≡ slab_len (headers n) + 1
 len-taken n k p q e a b = omega (arith, len-headers n k p q e, counts-free p a, counts-live q b)
 
@@ -146,7 +146,7 @@ len-given n k p q e a b = omega (arith, len-headers n k p q e, counts-live p a, 
 pub len-changed : (n : Slab PackedHeader) (k : ℕ) (p q : PackedHeader) → get n k ≡ Some p → is_free p ≡ false → is_free q ≡ false → slab_len (headers (with_value n k q)) ≡ slab_len (headers n)
 len-changed n k p q e a b = omega (arith, len-headers n k p q e, counts-live p a, counts-live q b)
 
--- slots that tell the same hold as many
+-- slots with equal contents have equal counts
 none-one : (o : Option PackedHeader) → o ≡ None → ◌≡◌ {A = ℕ} (cond (is_some o) 1 0) 0
 none-one o e = ap {B = ℕ} (λ (z : Option PackedHeader). cond (is_some z) 1 0) e
 
@@ -162,7 +162,7 @@ same-count (x ∷ xs) (y ∷ ys) h =
     let two : Option PackedHeader → ℕ = λ z. cond (is_some z) 1 0 in
     omega (arith, same-count xs ys (λ k. h (suc k)), sum_by-cons two x xs, sum_by-cons two y ys, ap two (h zero))
 
--- a drawn place changes no node
+-- a new place changes no node
 pub allocated-same : (n m : Slab PackedHeader) (k : ℕ) (q : PackedHeader) → get n k ≡ None → Updates n m k (Some q) → is_free q ≡ true → (j : ℕ) → get (headers m) j ≡ get (headers n) j
 allocated-same n m k q none u free j =
     let v = updates-headers n m k (Some q) u in
@@ -171,7 +171,7 @@ allocated-same n m k q none u free j =
       | inr other ↦ v.others j other
     ]
 
--- fewer places than there is room for
+-- there are at most as many places as the capacity
 at-most_one : (o : Option PackedHeader) → cond (is_some o) 1 0 ≤ 1
 at-most_one None = omega arith
 at-most_one (Some f) = omega arith
@@ -189,7 +189,7 @@ fewer (o ∷ os) (suc room) h =
 pub few-allocated : (n : Slab PackedHeader) (room : ℕ) → ((k : ℕ) → IsSome (get n k) → k < room) → slab_len n ≤ room
 few-allocated n room h = fewer n.slots room h
 
--- a write of one place keeps what holds of every place
+-- a write of one place keeps a property of all places
 pub all-allocated : (s t : Slab PackedHeader) (at room : ℕ) (o : Option PackedHeader) → Updates s t at o → at < room → ((k : ℕ) → IsSome (get s k) → k < room) → (k : ℕ) → IsSome (get t k) → k < room
 all-allocated s t at room o u here h k some =
     let O : Option PackedHeader → Type 0 = λ z. IsSome z in

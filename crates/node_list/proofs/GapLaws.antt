@@ -1,4 +1,4 @@
--- Laws of a list of slots that gets longer: a gap is filled.
+-- Laws of the array of slots when it grows over a gap.
 use Rattle.std.proofs.Common.{◌≡◌, ℕ, zero, suc, ◌<◌, ◌≤◌, List, [], ◌∷◌, ◌++◌, length, take, slice_get, Some, false, OnOk, Result, Ok, Err, refl, sym, ◌∙◌, ap, subst, arith, length-append}
 use Rattle.std.specs.List.{AppendsResults}
 use Rattle.std.specs.Result.{is_err}
@@ -6,7 +6,7 @@ use Rattle.std.proofs.lemmas.List.{take_all}
 use Rattle.node_list.specs.declared.node.Item.{Item}
 use Rattle.node_list.specs.inside.Slots.{slot_at, WritesItem}
 
--- each place that had a slot has it yet
+-- each place that had a slot has the same one
 abbrev pub SameSlots : List Item → List Item → Type 0
 SameSlots old new = (k : ℕ) → k < length old → slot_at new k ≡ slot_at old k
 
@@ -19,7 +19,7 @@ same-longer [] ys k h = absurd (omega (arith, h))
 same-longer (s ∷ ss) ys zero h = refl
 same-longer (s ∷ ss) ys (suc k) h = same-longer ss ys k (omega (arith, h))
 
--- slots up to a place past the end
+-- the slots up to a place past the end
 pub filled : {F : Type 0} (step : F → Item → F → Type 0) (old new : List Item) (at : ℕ) (f : F) → length old ≤ at → AppendsResults step (take at old) new f → SameSlots old new
 filled step old new at f h a =
     let P : List Item → Type 0 = λ zs. SameSlots old zs in
@@ -29,7 +29,7 @@ pushed-here : (ss : List Item) (s : Item) → slice_get (ss ++ s ∷ []) (length
 pushed-here [] s = refl
 pushed-here (t ∷ ss) s = pushed-here ss s
 
--- a slot at the end, once the gap is filled
+-- a slot at the end, after the gap is filled
 pub pushed : (old full new : List Item) (at : ℕ) (s : Item) → SameSlots old full → length old ≤ at → length full ≡ at → new ≡ full ++ s ∷ [] → WritesItem old new at s
 pushed old full new at s same h len is =
     let P : List Item → Type 0 = λ zs. WritesItem old zs at s in

@@ -1,4 +1,4 @@
--- What an insertion does to the list.
+-- The list after an insertion.
 use Rattle.std.proofs.Common.{◌≡◌, ◌≢◌, ℕ, suc, ◌+◌, ◌<◌, ◌≤◌, ◌⊎◌, inl, inr, List, [], ◌∷◌, length, Option, Some, None, IsSome, refl, sym, ◌∙◌, ap, subst, arith}
 use Rattle.std.proofs.lemmas.Bool.{cases_lt, cases_eq}
 use Rattle.slab.specs.Slab.{Slab, get, slab_len, Updates, with_value}
@@ -16,7 +16,7 @@ abbrev pub Past : ℕ → List Cell → Type 0
 Past key [] = Unit {0}
 Past key (c ∷ cs) = key < c.key
 
--- the place where the list's last key up to `key` stands
+-- the place of the last node whose key is at most `key`
 abbrev pub Spot : ℕ → ℕ → List Cell → Type 0
 Spot key last [] = ⊥
 Spot key last (c ∷ cs) = (c.key ≤ key) × (((c.at ≡ last) × Past key cs) ⊎ Spot key last cs)
@@ -26,7 +26,7 @@ spot-apart key last p [] h a = absurd h
 spot-apart key last p (c ∷ cs) h a =
     elim h.1 [ inl here ↦ (λ e. a.0 (here.0 ∙ e)) | inr later ↦ spot-apart key last p cs later a.1 ]
 
--- a node is spliced in behind `last`
+-- a node is linked in after `last`
 pub record Spliced (g h : ℕ → Option ListNode) (last : ℕ) (x : Cell) : Type 0 where
   pub node : ListNode
   pub was : g last ≡ Some node
@@ -66,7 +66,7 @@ splice g h last x s link (c ∷ cs) l spot =
           (l.0, (l.1.0, s.others c.at other apart.0 ∙ l.1.1, splice g h last x s l.1.0 cs l.1.2 later))
     ])
 
--- ---- where `last_up_to_in` stands
+-- ---- the node at `last_not_above_in`
 spot-last : (key : ℕ) (c : Cell) (cs : List Cell) → c.key ≤ key → Spot key (last_not_above_in key c.at cs) (c ∷ cs)
 spot-last key c [] h = (h, inl (refl, tt))
 spot-last key c (d ∷ ds) h =
@@ -89,7 +89,7 @@ spot-from key start (c ∷ cs) d ds o e h =
           (omega arith, inr (spot-from key start cs d ds o.1 later h))
     ]
 
--- what a start gives
+-- what the node at the start gives
 pub record Begun (s : Slab ListNode) (key start : ℕ) : Type 0 where
   pub linked : IsLinked s (Some start)
   pub up_to : NodeHasKeyAtMost s start key
@@ -163,7 +163,7 @@ pub record Inserted (s t : Slab ListNode) (x : Cell) : Type 0 where
   pub linked : IsLinked t (Some 0)
   pub cells : cells_from t (Some 0) ≡ put_cell x (cells_from s (Some 0))
 
--- a value put at a vacant place, and then the link to it
+-- a node is written at a free place, and then the link to it
 pub inserted : (s m : Slab ListNode) (x : Cell) (start last : ℕ) (n n' : ListNode)
     → Begun s x.key start → IsLinked s (Some 0) → last ≡ last_not_above_in x.key start (cells_from s (Some start))
     → get s last ≡ Some n → get s x.at ≡ None → Updates s m x.at (Some (node_of x n.next)) → slab_len m ≡ slab_len s + 1

@@ -1,4 +1,4 @@
--- Where the items stand: where a front says so.
+-- The places of items: those whose header says so.
 use Rattle.std.proofs.Common.{◌≡◌, ℕ, ◌<◌, ◌≤◌, inl, inr, List, length, Option, slice_index_or, Some, None, IsSome, Bool, true, false, refl, sym, ◌∙◌, ap, subst, arith}
 use Rattle.std.proofs.lemmas.Bool.{cases_lt}
 use Rattle.slab.specs.Slab.{Slab, get}
@@ -8,7 +8,7 @@ use Rattle.node_list.specs.declared.packed.PackedHeader.{PackedHeader}
 use Rattle.node_list.specs.inside.Slots.{slot_at, item_if, node_at, nodes_of, unpacked_node, has_item_at, HasItemIn, IsLeastItemIn}
 use Rattle.node_list.proofs.SlotLaws.{get-nodes, has-header}
 
--- the nodes of a slab and what stands beside it
+-- the nodes of a slab and its slots
 pub record Beside (n : Slab PackedHeader) (ss : List Item) (s : Slab ListNode) : Type 0 where
   pub are : nodes_of n.slots ss ≡ s.slots
   pub within : (k : ℕ) → IsSome (get n k) → k < length ss
@@ -37,7 +37,7 @@ dummy-by (Some f) slot m e unmarked h =
 no-item : (n : Slab PackedHeader) (ss : List Item) (s : Slab ListNode) (k : ℕ) → Beside n ss s → has_item_at (get n k) ≡ false → HasItemIn s k → ⊥
 no-item n ss s k b unmarked h = dummy-by (get n k) (slot_at ss k) h.node (sym (node-in_array n ss s k b) ∙ h.is) unmarked h.has
 
--- no items from a place up to one that has an item, or to the end
+-- no items from a place up to the first with an item, or to the end
 pub least-item : (n : Slab PackedHeader) (ss : List Item) (s : Slab ListNode) (start at : ℕ) → Beside n ss s → ((k : ℕ) → start ≤ k → k < at → has_item_at (get n k) ≡ false)
     → start ≤ at → has_item_at (get n at) ≡ true → IsLeastItemIn start at s
 least-item n ss s start at b seen h marked =

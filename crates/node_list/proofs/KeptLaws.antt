@@ -1,4 +1,4 @@
--- What stays of a chain when terms are taken out.
+-- The terms that remain in a chain after `remove_all`.
 use Rattle.std.proofs.Common.{◌≡◌, Bool, cond, not, List, [], ◌∷◌, ◌∙◌, subst}
 use Rattle.std.specs.List.Retain.{RetainsInTurn}
 use Rattle.ets_term.specs.declared.term.Term.{Term}

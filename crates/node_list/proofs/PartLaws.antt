@@ -13,7 +13,7 @@ use Rattle.node_list.specs.inside.Walks.{Links}
 use Rattle.node_list.proofs.FreePlaceLaws.{live-at, allocated, not-free_at, updates-headers, len-written, len-changed, all-allocated, allocated-same, same-count}
 use Rattle.node_list.proofs.FreeListLaws.{changed, given}
 
--- a node changes, and is an item where it was one
+-- a node changes, and its tag stays
 pub kept : {A : Type 0} (n : Slab PackedHeader) (items : Vec Item A) (at : ℕ) (p q : PackedHeader) (first_item_bound : ℕ) (free_head : Option ℕ) (len : ℕ) → IsSome (get (headers n) at) → get n at ≡ Some p → is_free q ≡ false → is_item q ≡ is_item p
     → NodesInvariant n items first_item_bound free_head len → NodesInvariant (with_value n at q) items first_item_bound free_head len
 kept n items at p q first_item_bound free_head len some is live item a =
@@ -38,7 +38,7 @@ kept n items at p q first_item_bound free_head len some is live item a =
       free_list = changed n (with_value n at q) free_head at len q a.free_list (not-free_at n at some) u (len-written n at q there);
     }
 
--- both arrays have more room
+-- both arrays have more capacity
 pub roomier : {A : Type 0} (n m : Slab PackedHeader) (items wider : Vec Item A) (first_item_bound : ℕ) (free_head : Option ℕ) (len : ℕ) → m.slots ≡ n.slots → vec_items wider ≡ vec_items items → vec_capacity items ≤ vec_capacity wider
     → NodesInvariant n items first_item_bound free_head len → NodesInvariant m wider first_item_bound free_head len
 roomier n m items wider first_item_bound free_head len slots same more a =
@@ -63,7 +63,7 @@ roomier n m items wider first_item_bound free_head len slots same more a =
       };
     }
 
--- one more place is drawn, and is spare
+-- one more place, which is free
 pub one-allocated : {A : Type 0} (n m : Slab PackedHeader) (items : Vec Item A) (at : ℕ) (q : PackedHeader) (first_item_bound : ℕ) (free_head : Option ℕ) (len : ℕ) → get n at ≡ None → at < vec_capacity items → at < 2 ^ 62 - 1 → Updates n m at (Some q) → slab_len m ≡ slab_len n + 1
     → is_free q ≡ true → is_item q ≡ false → next_in q ≡ free_head → NodesInvariant n items first_item_bound free_head len → NodesInvariant m items first_item_bound (Some at) len
 one-allocated n m items at q first_item_bound free_head len none here fits u more free item next a =

@@ -1,4 +1,4 @@
--- Laws of places: where the nodes of a list stand.
+-- Laws of the places of the nodes of a list.
 use Rattle.std.proofs.Common.{◌≡◌, ◌≢◌, ℕ, ◌+◌, ◌≤◌, inl, inr, List, [], ◌∷◌, length, Option, Some, None, refl, sym, ◌∙◌, ap, subst, arith}
 use Rattle.std.proofs.lemmas.Bool.{cases_eq}
 use Rattle.std.proofs.lemmas.Grind.{common_steps}
@@ -38,7 +38,7 @@ links-frame g h p q same link [] l a b = l
 links-frame g h p q same link (c ∷ cs) l a b =
     (l.0, (l.1.0, same c.at a.0 b.0 ∙ l.1.1, links-frame g h p q same l.1.0 cs l.1.2 a.1 b.1))
 
--- the list from a place on is what is met from there
+-- the list from a place on is what its links lead to
 pub links-from : (g : ℕ → Option ListNode) (start : ℕ) (link : Option ℕ) (cs : List Cell) (d : Cell) (ds : List Cell) → Links g link cs → from start cs ≡ d ∷ ds → (d.at ≡ start) × Links g (Some start) (d ∷ ds)
 links-from g start link [] d ds l e = absurd (cc)
 links-from g start link (c ∷ cs) d ds l e =
@@ -52,7 +52,7 @@ links-from g start link (c ∷ cs) d ds l e =
       | inr other ↦ links-from g start l.1.0 cs d ds l.1.2 (sym (from-on start c cs other) ∙ e)
     ]
 
--- what is met from a place is the list from it on
+-- what the links from a place lead to is the list from it on
 pub cells_from-from : (s : Slab ListNode) (start : ℕ) (d : Cell) (ds : List Cell) → IsLinked s (Some 0) → from start (cells_from s (Some 0)) ≡ d ∷ ds → (IsLinked s (Some start)) × (cells_from s (Some start) ≡ from start (cells_from s (Some 0)))
 cells_from-from s start d ds l e =
     let f = links-from (get s) start (Some 0) (cells_from s (Some 0)) d ds l.links e in
@@ -61,12 +61,12 @@ cells_from-from s start d ds l e =
     let P : List Cell → Type 0 = λ zs. Links (get s) (Some start) zs in
     (record { links = subst P (sym is) f.1 }, is ∙ sym e)
 
--- a link leads to the first node met from it
+-- a link leads to the first node of the list from it
 links-first : (g : ℕ → Option ListNode) (link : Option ℕ) (cs : List Cell) → Links g link cs → link ≡ first_place cs
 links-first g link [] l = l
 links-first g link (c ∷ cs) l = l.0
 
--- the node at a place that the list has
+-- the node at a place of the list
 pub record PlaceNode (s : Slab ListNode) (at : ℕ) (d : Cell) (ds : List Cell) : Type 0 where
   pub node : ListNode
   pub is : get s at ≡ Some node
@@ -85,7 +85,7 @@ place-node s at d ds l e =
       next = links-first (get s) f.1.1.0 ds f.1.1.2;
     }
 
--- ---- places behind a place
+-- ---- places after a place
 pub from-has : (at : ℕ) (cs : List Cell) (d : Cell) (ds : List Cell) → from at cs ≡ d ∷ ds → HasPlace at cs
 from-has at [] d ds e = absurd (cc)
 from-has at (c ∷ cs) d ds e =
@@ -99,7 +99,7 @@ fresh-other at p [] h f = absurd h
 fresh-other at p (c ∷ cs) h f =
     elim h [ inl here ↦ (λ e. f.0 (here ∙ sym e)) | inr later ↦ fresh-other at p cs later f.1 ]
 
--- what stands behind a place stands in the list
+-- a node after a place is in the list
 pub from-cells_after : (start at : ℕ) (cs : List Cell) (d : Cell) (ds : List Cell) → HasDistinctPlaces cs → from at (cells_after start cs) ≡ d ∷ ds → from at cs ≡ d ∷ ds
 from-cells_after start at [] d ds a e = e
 from-cells_after start at (c ∷ cs) d ds a e =

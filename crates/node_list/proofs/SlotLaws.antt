@@ -1,4 +1,4 @@
--- Laws of a slab of fronts with what stands beside them.
+-- Laws of a slab of headers with an array of slots.
 use Rattle.std.proofs.Common.{◌≡◌, ◌≢◌, inl, inr, ℕ, zero, suc, ◌<◌, ◌≤◌, List, [], ◌∷◌, length, get_or, set, slice_get, Option, Some, None, IsSome, is_some, option_map, count_by, Bool, true, false, cond, refl, sym, ◌∙◌, ap, subst, arith}
 use Rattle.std.proofs.lemmas.Bool.{cases_eq, cases_lt}
 use Rattle.std.proofs.lemmas.List.{get_or-set_same, get_or-set_other, length-set}
@@ -67,7 +67,7 @@ has-header n ss k h = let P : Option PackedHeader → Type 0 = λ o. IsSome o in
 pub node-is : (n : Slab PackedHeader) (ss : List Item) (k : ℕ) (f : PackedHeader) (s : Item) → get n k ≡ Some f → s ≡ get_or ss k placeholder → get_or (nodes_of n.slots ss) k None ≡ Some (unpacked_node f s)
 node-is n ss k f s a b = get-nodes n.slots ss k ∙ (ap (λ (o : Option PackedHeader). node_at o (get_or ss k placeholder)) a ∙ ap (λ (z : Item). Some (unpacked_node f z)) (sym b))
 
--- ---- a place is written in both arrays
+-- ---- a write of one place in both arrays
 pub puts-set : (ss : List Item) (k : ℕ) (s : Item) → k < length ss → WritesItem ss (set ss k s) k s
 puts-set ss k s h =
     record {
@@ -76,7 +76,7 @@ puts-set ss k s h =
       length = omega (arith, length-set ss k s);
     }
 
--- a place with no node shows none, whatever stands there
+-- a place without a node shows none, whatever its slot is
 node-same : (o : Option PackedHeader) (s t : Item) → (IsSome o → s ≡ t) → node_at o s ≡ node_at o t
 node-same None s t h = refl
 node-same (Some f) s t h = ap (λ (z : Item). Some (unpacked_node f z)) (h refl)
@@ -99,7 +99,7 @@ within-after old new ss ts k o s u p was j some =
       | inr other ↦ omega (arith, p.length, was j (subst P (u.others j other) some))
     ]
 
--- below the lesser place there is no item yet
+-- below the lower bound there is no item
 unmarked : (b : Bool) (k lower j : ℕ) → (b ≡ true → lower ≤ k) → j ≡ k → j < lower → b ≡ false
 unmarked true k lower j item same h = absurd (omega (arith, item refl, same, h))
 unmarked false k lower j item same h = refl
@@ -112,7 +112,7 @@ below-after old new k f first_item_bound lower u less item was j h =
       | inr other ↦ ap has_item_at (u.others j other) ∙ was j (omega (arith, h, less))
     ]
 
--- a removal passes places with no item
+-- a removal passes places without an item
 pub below-bound_after_remove : (old new : Slab PackedHeader) (k : ℕ) (o : Option PackedHeader) (first_item_bound higher : ℕ) → Updates old new k o → has_item_at o ≡ false → HasNoItemBetween first_item_bound higher new → ((j : ℕ) → j < first_item_bound → has_item_at (get old j) ≡ false)
     → (j : ℕ) → j < higher → has_item_at (get new j) ≡ false
 below-bound_after_remove old new k o first_item_bound higher u none passed was j h =
@@ -124,21 +124,21 @@ below-bound_after_remove old new k o first_item_bound higher u none passed was j
       | inr above ↦ passed j above h
     ]
 
--- what a read of the second array tells
+-- what a read of the second array shows
 pub read : (ss : List Item) (k : ℕ) (s : Item) → k < length ss → s ≡ get_or ss k s → s ≡ get_or ss k placeholder
 read ss k s h e =
     let a : slice_get ss k ≡ Some s = slice_get-get_or ss k s h ∙ ap Some (sym e) in
     let b : slice_get ss k ≡ Some (get_or ss k placeholder) = slice_get-get_or ss k placeholder h in
     cc (a, b)
 
--- a node is put, or gets another link
+-- a node is written, or gets another link
 pub packed-node : (p : PackedHeader) (s : Item) (m : ListNode) → p.key ≡ m.key → next_in p ≡ m.next → item_if (is_item p) s ≡ m.item → unpacked_node p s ≡ m
 packed-node p s m k n i = λ t. let z : ListNode = record { key = k t; next = n t; item = i t } in z
 
 pub relinked : (p q : PackedHeader) (s : Item) (next : Option ℕ) → q.key ≡ p.key → next_in q ≡ next → is_item q ≡ is_item p → unpacked_node q s ≡ record (unpacked_node p s) { next = next }
 relinked p q s next k n i = λ t. let z : ListNode = record { key = k t; next = n t; item = item_if (i t) s } in z
 
--- what a search sees is the node
+-- a node reference shows the node
 pub node_ref-unpacked_node : (p : PackedHeader) (s : Item) (f : NodeHeader) (b : Bool) → f.key ≡ p.key → f.next ≡ next_in p → b ≡ is_item p → Some (unpacked_node p s) ≡ Some (let m : ListNode = record { key = f.key; next = f.next; item = item_if b s } in m)
 node_ref-unpacked_node p s f b k n i = λ t. Some (let m : ListNode = record { key = sym k t; next = sym n t; item = item_if (sym i t) s } in m)
 

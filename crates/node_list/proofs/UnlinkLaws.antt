@@ -1,4 +1,4 @@
--- What taking a node out does to the list.
+-- The list after a removal.
 use Rattle.std.proofs.Common.{◌≡◌, ◌≢◌, ℕ, suc, ◌+◌, ◌<◌, ◌≤◌, inl, inr, List, [], ◌∷◌, length, Option, Some, None, IsSome, refl, sym, ◌∙◌, ap, subst, arith}
 use Rattle.std.proofs.lemmas.Bool.{cases_eq}
 use Rattle.slab.specs.Slab.{Slab, get, slab_len, Updates, with_value}
@@ -12,7 +12,7 @@ use Rattle.node_list.proofs.WalkLaws.{walk-is, walk-length, walk-none, cells_fro
 use Rattle.node_list.proofs.CellLaws.{without-here, without-on, from-here, from-on, length-without}
 use Rattle.node_list.proofs.PlaceLaws.{away, links-frame}
 
--- ---- where the two nodes stand
+-- ---- the places of the two nodes
 starts-apart : (at p : ℕ) (cs : List Cell) → FirstIsAt at cs → IsFresh p cs → at ≢ p
 starts-apart at p [] s a = absurd s
 starts-apart at p (c ∷ cs) s a = λ e. a.0 (s ∙ e)
@@ -78,7 +78,7 @@ starts-after start at cs (c ∷ ds) e h = record { cell = c; later = ds; is = e 
 pub is_place-after : (start at : ℕ) (cs : List Cell) → HasPlace at (cells_after start cs) → IsPlaceOf start cs
 is_place-after start at cs h = starts-after start at cs (from start cs) refl h
 
--- ---- one step of the way to the node before
+-- ---- one step of the way to the predecessor
 pub record Way (s : Slab ListNode) (before place at : ℕ) : Type 0 where
   pub here : place ≡ at → IsPredecessor before at (cells_from s (Some before))
   pub linked : IsLinked s (Some place)
@@ -111,7 +111,7 @@ way s before place at n m l h e next f =
       smaller = let a : length (cells_from s (Some before)) ≡ suc (length (cells_from s (Some place))) = ap length two in omega arith;
     }
 
--- behind the last node there is none
+-- the last node has no next one
 pub last-has_no_next : (s : Slab ListNode) (before at : ℕ) (n : ListNode) → IsLinked s (Some before) → HasPlace at (all_but_first (cells_from s (Some before)))
     → get s before ≡ Some n → n.next ≡ None → ⊥
 last-has_no_next s before at n l h e none =
@@ -121,7 +121,7 @@ last-has_no_next s before at n l h e none =
     let Q : List Cell → Type 0 = λ zs. HasPlace at zs in
     subst Q empty (subst P st.is h)
 
--- ---- a node is taken out from behind `before`
+-- ---- a node is unlinked after `before`
 pub record Unspliced (g h : ℕ → Option ListNode) (before at : ℕ) : Type 0 where
   pub node : ListNode
   pub gone : ListNode
@@ -180,7 +180,7 @@ unspliced-cells_from s t before at l u b len =
     let L : List Cell → Type 0 = λ zs. Links (get t) (Some 0) zs in
     record { linked = record { links = subst L (sym is) links }; cells = is }
 
--- a place is given back, and then the link leads past it
+-- a place becomes free, and then the link leads past it
 pub unlinked : (s m : Slab ListNode) (before at : ℕ) (n' gone : ListNode)
     → IsLinked s (Some 0) → IsPredecessor before at (cells_from s (Some 0))
     → get s at ≡ Some gone → Updates s m at None → slab_len m + 1 ≡ slab_len s

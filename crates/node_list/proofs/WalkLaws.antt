@@ -59,7 +59,7 @@ cells_from-step_at s p node h e =
     let same : found.0 ≡ node = cc (found.1.at, e) in
     let P : ListNode → Type 0 = λ n. Step s p n in subst P same found.1
 
--- a slab of one node, which links to nothing
+-- a slab of one node with an empty link
 pub only-node : (s : Slab ListNode) (node : ListNode) → get s 0 ≡ Some node → node.next ≡ None → slab_len s ≡ 1 → cells_from s (Some 0) ≡ cell_of 0 node ∷ []
 only-node s node e none n =
     let l : Links (get s) (Some 0) (cell_of 0 node ∷ []) = (refl, (None, e ∙ ap (λ (z : Option ℕ). Some (record node { next = z })) none, refl)) in

@@ -3,7 +3,7 @@ use Rattle.std.specs.Prelude.{◌≡◌, ℕ, ◌≤◌, List, [], ◌∷◌, Op
 use Rattle.ets_term.specs.declared.term.Term.{Term}
 use Rattle.node_list.specs.declared.node.Item.{Item}
 
--- a node: its place, its split key, and its item, if it is no dummy
+-- a node: its place, its split key, and its item (None for a dummy)
 pub record Cell : Type 0 where
   pub at : ℕ
   pub key : ℕ

@@ -1,10 +1,10 @@
--- What an insertion, a removal and a written chain make of a list.
+-- The list after an insertion, a removal or a change of a chain.
 use Rattle.std.specs.Prelude.{ℕ, nat_lt, nat_eq, if◌then◌else◌, List, [], ◌∷◌, Option, None, Some}
 use Rattle.ets_term.specs.declared.term.Term.{Term}
 use Rattle.node_list.specs.declared.node.Item.{Item}
 use Rattle.node_list.specs.Cells.{Cell}
 
--- one node more, behind those whose keys are at most its own
+-- the list with a new node after all nodes whose keys are at most its own
 abbrev pub put_cell : Cell → List Cell → List Cell
 put_cell x [] = x ∷ []
 put_cell x (c ∷ cs) = if nat_lt x.key c.key then x ∷ c ∷ cs else c ∷ put_cell x cs

@@ -1,11 +1,11 @@
--- What a contract sees of a `NodeList`.
+-- The model state of a `NodeList`.
 use Rattle.std.specs.Prelude.{ℕ, ◌+◌, ◌≤◌, List, length, Option, refl}
 use Rattle.std.specs.Coded.{Coded, code_by, coded×, coded_ℕ, coded_list, coded_option}
 use Rattle.node_list.specs.Cells.{Cell}
 use Rattle.node_list.specs.declared.node.Item.{Item}
 use Rattle.node_list.specs.contracts.node.Item as item
 
--- the nodes in their order, and how many fit with no allocation
+-- the nodes in order, and how many fit without allocation
 pub record ListState : Type 0 where
   pub cells : List Cell
   pub capacity : ℕ
@@ -14,7 +14,7 @@ pub record ListState : Type 0 where
 abbrev pub HasRoom : ListState → ℕ → Type 0
 HasRoom l more = length l.cells + more ≤ l.capacity
 
--- a node is stored as the tuple of its fields, and so is a list
+-- the codes of a node and of a list, as tuples of their fields
 abbrev pub cell_code : Coded Cell
 cell_code =
     code_by

@@ -1,4 +1,4 @@
--- Where the nodes of a list stand.
+-- The places of the nodes of a list.
 use Rattle.std.specs.Prelude.{◌≡◌, ◌≢◌, ℕ, ◌<◌, ◌≤◌, nat_eq, if◌then◌else◌, List, [], ◌∷◌, Option, Some, None}
 use Rattle.node_list.specs.declared.node.Item.{Item}
 use Rattle.node_list.specs.Cells.{Cell}
@@ -8,30 +8,30 @@ abbrev pub IsFresh : ℕ → List Cell → Type 0
 IsFresh at [] = Unit {0}
 IsFresh at (c ∷ cs) = (c.at ≢ at) × IsFresh at cs
 
--- no two nodes have one place
+-- no two nodes have the same place
 abbrev pub HasDistinctPlaces : List Cell → Type 0
 HasDistinctPlaces [] = Unit {0}
 HasDistinctPlaces (c ∷ cs) = IsFresh c.at cs × HasDistinctPlaces cs
 
--- the nodes from the one at a place on
+-- the nodes from the node at a place on
 abbrev pub from : ℕ → List Cell → List Cell
 from at [] = []
 from at (c ∷ cs) = if nat_eq c.at at then c ∷ cs else from at cs
 
--- a node stands at this place
+-- a node has this place
 pub record IsPlaceOf (at : ℕ) (cells : List Cell) : Type 0 where
   pub cell : Cell
   pub later : List Cell
   pub is : from at cells ≡ cell ∷ later
 
--- a node stands at this place, and its key is at most this one
+-- the node at this place has at most this key
 pub record HasKeyAtMost (key at : ℕ) (cells : List Cell) : Type 0 where
   pub cell : Cell
   pub later : List Cell
   pub is : from at cells ≡ cell ∷ later
   pub up_to : cell.key ≤ key
 
--- an item stands at this place
+-- an item has this place
 pub record HasItem (at : ℕ) (cells : List Cell) : Type 0 where
   pub cell : Cell
   pub later : List Cell
@@ -39,13 +39,13 @@ pub record HasItem (at : ℕ) (cells : List Cell) : Type 0 where
   pub is : from at cells ≡ cell ∷ later
   pub has : cell.item ≡ Some item
 
--- an item stands at this place, and at no place from `start` on before it
+-- an item has this place, and no place from `start` up to it has one
 pub record IsLeastItem (start at : ℕ) (cells : List Cell) : Type 0 where
   pub has : HasItem at cells
   pub from : start ≤ at
   pub least : (other : ℕ) → HasItem other cells → start ≤ other → at ≤ other
 
--- the least place from this one on at which an item stands, None where there is none
+-- the first place from `start` on that has an item, None if there is none
 abbrev pub IsNextItem : ℕ → Option ℕ → List Cell → Type 0
 IsNextItem start None cells = (other : ℕ) → HasItem other cells → other < start
 IsNextItem start (Some at) cells = IsLeastItem start at cells
@@ -54,7 +54,7 @@ abbrev pub all_but_first : List Cell → List Cell
 all_but_first [] = []
 all_but_first (c ∷ cs) = cs
 
--- the nodes behind the one at a place
+-- the nodes after the node at a place
 abbrev pub cells_after : ℕ → List Cell → List Cell
 cells_after at cells = all_but_first (from at cells)
 
@@ -77,6 +77,6 @@ first_key (c ∷ cs) = Some c.key
 abbrev pub key_at : ℕ → List Cell → Option ℕ
 key_at at cells = first_key (from at cells)
 
--- the item at a place, if there is a node and it is no dummy
+-- the item at a place, None for a dummy or if no node has the place
 abbrev pub item_at : ℕ → List Cell → Option Item
 item_at at cells = first_item (from at cells)

@@ -1,11 +1,11 @@
--- What a search finds, and what it looks at.
+-- What a search finds, and which nodes it reads.
 use Rattle.std.specs.Prelude.{ℕ, Bool, false, nat_lt, nat_eq, ◌&&◌, ◌||◌, if◌then◌else◌, List, [], ◌∷◌, Option, Some, None}
 use Rattle.ets_term.specs.declared.term.Term.{Term}
 use Rattle.ets_term.specs.Order.{same}
 use Rattle.node_list.specs.declared.node.Item.{Item}
 use Rattle.node_list.specs.Cells.{Cell}
 
--- the item is one of this term
+-- the item has this term
 abbrev pub holds : Term → Option Item → Bool
 holds term None = false
 holds term (Some item) = same item.term term
@@ -19,7 +19,7 @@ abbrev pub place_of : ℕ → Term → List Cell → Option ℕ
 place_of key term [] = None
 place_of key term (c ∷ cs) = if is_it key term c then Some c.at else place_of key term cs
 
--- the nodes up to and with the first that has this key and this term, or a greater key; all if there is none
+-- the nodes up to the first with this key and term or with a greater key, including it; all if there is none
 abbrev pub passed : ℕ → Term → List Cell → List Cell
 passed key term [] = []
 passed key term (c ∷ cs) = if nat_lt key c.key || is_it key term c then c ∷ [] else c ∷ passed key term cs

@@ -1,10 +1,10 @@
--- Counting, up to the greatest number of 64 bits.
+-- Counting up to the greatest number of 64 bits.
 use Rattle.std.specs.Prelude.{ℕ, ◌+◌, ◌-◌, ◌^◌, min}
 
--- one more, if there is a greater number
+-- one more, unless the number is the greatest
 abbrev pub tick : ℕ → ℕ
 tick n = min (n + 1) (2 ^ 64 - 1)
 
--- `more` of them: the lesser of the sum and the greatest number
+-- `more` ticks: the sum, at most the greatest number
 abbrev pub ticks : ℕ → ℕ → ℕ
 ticks more n = min (n + more) (2 ^ 64 - 1)

@@ -8,18 +8,19 @@ use slab::Slab;
 use std::alloc::AllocError;
 use std::mem;
 
-/// How many nodes room is made for at first.
+/// The least number of nodes by which the slab grows.
 const MIN_EXTRA_CAPACITY: usize = 4;
 
-/// For how many nodes more room is made: as many as there are, so that growth costs each node a constant.
+/// Returns the number of nodes by which to grow: at least `additional`, and at least as many as there are. So growth
+/// costs a constant per node.
 fn extra_capacity(len: usize, additional: usize) -> usize
     ensures { additional ≤ result }
 {
     additional.max(len).max(MIN_EXTRA_CAPACITY)
 }
 
-/// Makes room for one more place in both arrays. A full one grows where it stands, the slab by room for so many at
-/// least. Where the second is refused memory, the first has room to spare: so far no place is drawn.
+/// Reserves capacity for one more place in both arrays. A full array grows in place, the slab by at least `more`
+/// nodes. If the second array is refused memory, the first keeps its new capacity, but no place is added.
 pub fn reserve_both(
     nodes: &mut Slab<PackedHeader>,
     items: &mut Vec<Item>,
@@ -48,7 +49,7 @@ pub fn reserve_both(
     Ok(())
 }
 
-/// Puts a front in the place of another, and hands that one back.
+/// Replaces the header at a place and returns the old one.
 #[inline(always)]
 pub fn replace_at(nodes: &mut Slab<PackedHeader>, at: usize, header: PackedHeader) -> PackedHeader
     requires { ContainsKey nodes.old at }
@@ -58,7 +59,8 @@ pub fn replace_at(nodes: &mut Slab<PackedHeader>, at: usize, header: PackedHeade
     mem::replace(&mut nodes[at], header)
 }
 
-/// Puts a slot at a place. The slab gives its places out in turn, but does not promise it, so there may be a gap.
+/// Writes a slot at a place. The slab gives out consecutive places but does not promise it, so placeholders fill a
+/// gap.
 #[inline(always)]
 pub fn write_item(items: &mut Vec<Item>, at: usize, slot: Item)
     requires { at < vec_capacity items.old }

@@ -7,8 +7,8 @@ use std::alloc::{AllocError, Global};
 use std::marker::Model;
 use std::mem;
 
-/// The terms of one item, in their order. The first of them has its place in the value itself, so that a chain of
-/// one term takes no memory of its own.
+/// The terms of one item, in order: the objects of one key. The first term is stored inline, so a chain of one term
+/// allocates nothing.
 #[derive(Drop)]
 pub struct Chain {
     terms: SmallVec<Term, 1>,
@@ -28,7 +28,7 @@ impl Model for Chain {
 }
 
 impl Chain {
-    /// No terms.
+    /// Returns a chain without terms.
     pub fn new(alloc: Global) -> Chain
         ensures { result ≡ [] }
     {
@@ -37,7 +37,7 @@ impl Chain {
         }
     }
 
-    /// One term, for which no memory is taken.
+    /// Returns a chain of one term. This takes no memory.
     pub fn one(alloc: Global, term: Term) -> Chain
         ensures { result ≡ term ∷ [] }
     {
@@ -46,21 +46,21 @@ impl Chain {
         Chain { terms }
     }
 
-    /// The terms, in their order.
+    /// Returns the terms, in order.
     pub fn as_slice(&self) -> &[Term]
         ensures { result.now ≡ self.now }
     {
         self.terms.as_slice()
     }
 
-    /// How many terms there are.
+    /// Returns the number of terms.
     pub fn len(&self) -> usize
         ensures { result ≡ length self.now }
     {
         self.terms.len()
     }
 
-    /// Appends a term; where memory is wanting the term is dropped. An empty chain has room for one.
+    /// Appends a term. If memory is refused, the term is dropped. An empty chain has capacity for one.
     pub fn push(&mut self, term: Term) -> Result<(), AllocError>
         ensures ok { OnOk result (self.new ≡ self.old ++ term ∷ []) }
         ensures err { OnErr result (self.new ≡ self.old) }
@@ -71,7 +71,7 @@ impl Chain {
         Ok(())
     }
 
-    /// Puts a term in the place of another, and hands that one back.
+    /// Replaces the term at `index` and returns the old one.
     pub fn replace(&mut self, index: usize, term: Term) -> Term
         requires { index < length self.old }
         ensures old { slice_get self.old index ≡ Some result }
@@ -80,7 +80,7 @@ impl Chain {
         mem::replace(&mut self.terms.as_mut_slice()[index], term)
     }
 
-    /// Takes the last term off.
+    /// Removes the last term and returns it, or returns `None` if the chain is empty.
     pub fn pop(&mut self) -> Option<Term>
         ensures { MatchOption result ((self.old ≡ []) × (self.new ≡ [])) (λ last. self.old ≡ self.new ++ last ∷ []) }
     {
@@ -94,7 +94,7 @@ impl Chain {
         self.terms.truncate(len);
     }
 
-    /// Takes out every term that equals this one, and tells how many. The others keep their order.
+    /// Removes every term that equals `term` and returns their number. The others keep their order.
     pub fn remove_all(&mut self, term: &Term) -> usize
         ensures rest { self.new ≡ all_but term.now self.old }
         ensures count { length self.new + result ≡ length self.old }
@@ -104,7 +104,7 @@ impl Chain {
         had - self.len()
     }
 
-    /// Moves the terms to the end of a list that has room for them.
+    /// Moves the terms to the end of `list`, which must have capacity for them.
     pub fn move_into(self, list: &mut Vec<Term>)
         requires { vec_len list.old + length self ≤ vec_capacity list.old }
         ensures items { list.new.items ≡ list.old.items ++ self }

@@ -8,7 +8,7 @@ use crate::reader::CountingReader;
 use crate::steps::Steps;
 use ets_term::Term;
 
-/// The place of the first node from `start` on with this key and term.
+/// Returns the place of the first node from `start` on with this key and term. Counts each node that it reads.
 pub fn find_from(
     nodes: CountingReader<'_>,
     start: usize,

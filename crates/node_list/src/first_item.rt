@@ -5,10 +5,10 @@ ghost use Rattle.node_list.specs.inside.Slots.{HasNoItemBetween, has_item_at};
 use crate::packed::PackedHeader;
 use slab::Slab;
 
-/// How many places with no item a removal passes at most, so that no single one takes long.
+/// The greatest number of places that one removal scans, so that none takes long.
 const MAX_SCAN: usize = 64;
 
-/// The place below which there is no item, once a node is put at a place.
+/// Returns the first-item bound after a node is inserted at `at`. Below this place there is no item.
 pub fn bound_after_insert(first_item_bound: usize, at: usize, is_item: bool) -> usize
     ensures below { result ≤ first_item_bound }
     ensures item { is_item ≡ true → result ≤ at }
@@ -20,7 +20,8 @@ pub fn bound_after_insert(first_item_bound: usize, at: usize, is_item: bool) -> 
     }
 }
 
-/// A place up to which there is no item from `low` on: that of the first item, if it is not far.
+/// Returns the first-item bound after a removal: the first place with an item at or after `first_item_bound`. The
+/// scan ends after `MAX_SCAN` places or at `end`, and the bound is then the place where it ends.
 pub fn bound_after_remove(nodes: &Slab<PackedHeader>, first_item_bound: usize, end: usize) -> usize
     ensures { HasNoItemBetween first_item_bound result nodes.now }
 {
@@ -33,7 +34,7 @@ pub fn bound_after_remove(nodes: &Slab<PackedHeader>, first_item_bound: usize, e
     end
 }
 
-/// Whether there is an item at a place.
+/// Checks whether the place has an item.
 pub fn has_item(nodes: &Slab<PackedHeader>, at: usize) -> bool
     ensures { result ≡ has_item_at (get nodes.now at) }
 {

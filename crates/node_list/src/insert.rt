@@ -9,7 +9,7 @@ use crate::link::Link;
 use crate::node::{Item, ListNode};
 use crate::nodes::Nodes;
 
-/// The last node from `start` on whose key is at most `key`.
+/// Returns the last node from `start` on whose key is at most `key`.
 fn last_not_above(nodes: &Nodes, start: usize, key: u64) -> usize
     requires linked { IsLinked nodes.now (Some start) }
     requires up_to { NodeHasKeyAtMost nodes.now start key }
@@ -25,7 +25,7 @@ fn last_not_above(nodes: &Nodes, start: usize, key: u64) -> usize
     last
 }
 
-/// Puts a node to its sorted place, after nodes with an equal key.
+/// Inserts a node at its sorted place, after all nodes with an equal key, and returns its place.
 #[inline(always)]
 pub fn insert_from(nodes: &mut Nodes, start: usize, key: u64, item: Option<Item>) -> usize
     requires room { HasRoomFor nodes.old 1 }

@@ -2,7 +2,7 @@ ghost use Rattle.std.specs.Prelude.{◌≡◌, ◌<◌, ◌-◌, ◌^◌, Some, 
 
 use std::marker::Model;
 
-/// A place, or none, in one word: an `Option<usize>` takes two. A contract sees it as an option.
+/// The place of the next node, or none, in one word; an `Option<usize>` takes two. A contract sees an option.
 #[derive(Clone, Copy)]
 pub struct Link {
     place: usize,
@@ -25,14 +25,14 @@ impl Model for Link {
 }
 
 impl Link {
-    /// No place.
+    /// Returns a link to no place.
     pub fn none() -> Link
         ensures { result ≡ None }
     {
         Link { place: usize::MAX }
     }
 
-    /// A place. The greatest number stands for none, so it is no place.
+    /// Returns a link to `place`. The greatest `usize` encodes no place, so it is not allowed.
     pub fn to(place: usize) -> Link
         requires { place < 2 ^ 64 - 1 }
         ensures { result ≡ Some place }
@@ -40,7 +40,7 @@ impl Link {
         Link { place }
     }
 
-    /// The place, if there is one.
+    /// Returns the place, or `None`.
     pub fn get(self) -> Option<usize>
         ensures { result ≡ self }
     {

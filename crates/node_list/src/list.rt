@@ -14,14 +14,14 @@ use ets_term::Term;
 use std::alloc::{AllocError, Global};
 use std::marker::Model;
 
-/// The place of a node, which stays its own until the node is unlinked.
+/// The place of a node. It belongs to the node until the node is unlinked.
 pub type At = usize;
 
 /// The place of the first node of every list.
 const HEAD: At = 0;
 
-/// One sorted list of nodes. A contract sees its `cells`, from the first to the last, and its `capacity`: how many
-/// nodes fit with no allocation.
+/// A sorted list of nodes. A contract sees its `cells`, from first to last, and its `capacity`: how many nodes fit
+/// without allocation.
 #[derive(Drop)]
 pub struct NodeList {
     nodes: Nodes,
@@ -51,7 +51,7 @@ impl NodeList {
     ghost use Rattle.node_list.specs.Lending.{LendsChainAt};
     ghost use Rattle.node_list.specs.Ticks.{ticks};
 
-    /// A list of one node, the dummy of key 0.
+    /// Creates a list of one node, the dummy of key 0.
     pub fn new(alloc: Global) -> Result<NodeList, AllocError>
         ensures { IfOk result (λ l. l.cells ≡ new_cell 0 0 None ∷ []) }
     {
@@ -65,7 +65,8 @@ impl NodeList {
         Ok(NodeList { nodes })
     }
 
-    /// The place of the first node, a dummy of key 0. The list is sorted, and no place is in it twice.
+    /// Returns the place of the first node, a dummy of key 0. The contract also says that the list is sorted and that
+    /// no place occurs twice.
     #[inline]
     pub fn head(&self) -> At
         ensures first { first_place self.now.cells ≡ Some result }
@@ -78,7 +79,7 @@ impl NodeList {
         HEAD
     }
 
-    /// What holds of every list, for a caller's proof: it does nothing.
+    /// Gives a proof the invariant of every list. It does nothing at run time.
     #[inline]
     pub fn reveal_invariant(&self)
         ensures dummy { StartsWithDummy self.now.cells }
@@ -92,7 +93,7 @@ impl NodeList {
         self.nodes.reveal_invariant();
     }
 
-    /// How many nodes there are, dummies and items.
+    /// Returns the number of nodes, dummies and items.
     #[inline]
     pub fn len(&self) -> usize
         ensures value { result ≡ length self.now.cells }
@@ -101,7 +102,7 @@ impl NodeList {
         self.nodes.len()
     }
 
-    /// Makes room for `additional` insertions, which then take no memory.
+    /// Reserves capacity for `additional` insertions, which then take no memory.
     pub fn reserve(&mut self, additional: usize) -> Result<(), AllocError>
         ensures room { OnOk result (HasRoom self.new additional) }
         ensures cells { self.new.cells ≡ self.old.cells }
@@ -111,7 +112,8 @@ impl NodeList {
         self.nodes.reserve(additional)
     }
 
-    /// Puts a dummy to its sorted place, after nodes with an equal key. `start` stands before that place.
+    /// Inserts a dummy at its sorted place, after all nodes with an equal key, and returns its place. `start` must be
+    /// the place of a node whose key is at most `key`.
     #[inline(always)]
     pub fn insert_dummy(&mut self, start: At, key: u64) -> At
         requires room { HasRoom self.old 1 }
@@ -125,7 +127,8 @@ impl NodeList {
         insert_from(&mut self.nodes, start, key, None)
     }
 
-    /// Puts an item to its sorted place, after nodes with an equal key. `start` stands before that place.
+    /// Inserts an item at its sorted place, after all nodes with an equal key, and returns its place. `start` must be
+    /// the place of a node whose key is at most `key`.
     #[inline(always)]
     pub fn insert_item(&mut self, start: At, key: u64, term: Term, chain: Chain) -> At
         requires room { HasRoom self.old 1 }
@@ -139,8 +142,8 @@ impl NodeList {
         insert_from(&mut self.nodes, start, key, Some(Item { term, chain }))
     }
 
-    /// The place of the item with this key and term, among the nodes from `start` on. It counts each node that it
-    /// looks at: those up to and with the item, or the first of a greater key, or else all.
+    /// Returns the place of the first item from `start` on with this key and term. Adds the number of nodes that it
+    /// reads to `steps`. It reads up to the item found or the first node with a greater key, or else to the end.
     pub fn find(&self, start: At, key: u64, term: &Term, steps: &mut Steps) -> Option<At>
         requires { IsPlaceOf start self.now.cells }
         ensures found { result ≡ place_of key term.now (from start self.now.cells) }
@@ -149,7 +152,7 @@ impl NodeList {
         find_from(CountingReader::new(&self.nodes), start, key, term, steps)
     }
 
-    /// Takes an item out. `start` stands before it.
+    /// Removes an item and returns its term and chain. `start` must be a node before it.
     pub fn unlink(&mut self, start: At, at: At) -> (Term, Chain)
         requires { HasItem at (cells_after start self.old.cells) }
         ensures item { item_at at self.old.cells ≡ Some (new_item result.0 result.1) }
@@ -168,7 +171,7 @@ impl NodeList {
         }
     }
 
-    /// The place of the node behind this one, if there is one.
+    /// Returns the place of the next node, or `None` for the last.
     pub fn after(&self, at: At) -> Option<At>
         requires { IsPlaceOf at self.now.cells }
         ensures { result ≡ place_after at self.now.cells }
@@ -176,7 +179,7 @@ impl NodeList {
         self.nodes.header(at).next.get()
     }
 
-    /// The key of the node at this place.
+    /// Returns the split key of the node at a place.
     pub fn key(&self, at: At) -> u64
         requires { IsPlaceOf at self.now.cells }
         ensures { key_at at self.now.cells ≡ Some result }
@@ -184,7 +187,7 @@ impl NodeList {
         self.nodes.header(at).key
     }
 
-    /// The term and the chain of an item, or `None` for a dummy.
+    /// Returns the term and the chain of an item, or `None` for a dummy.
     #[inline]
     pub fn item(&self, at: At) -> Option<(&Term, &Chain)>
         requires { IsPlaceOf at self.now.cells }
@@ -197,7 +200,7 @@ impl NodeList {
         }
     }
 
-    /// The first place from `start` on that has an item, in the order of the places: not that of the keys.
+    /// Returns the first place at or after `start` that has an item. The order is that of places, not of keys.
     #[inline]
     pub fn next_item_at(&self, start: At) -> Option<At>
         ensures { IsNextItem start result self.now.cells }
@@ -205,7 +208,7 @@ impl NodeList {
         self.nodes.next_item_at(start)
     }
 
-    /// The chain of an item, for a change of it alone.
+    /// Borrows the chain of an item for a change.
     pub fn chain_mut(&mut self, at: At) -> &mut Chain
         requires { HasItem at self.old.cells }
         ensures* lends { sem 𝓛 (LendsChainAt at self.entry result) }

@@ -6,7 +6,7 @@ use crate::link::Link;
 use ets_term::Term;
 use std::alloc::Global;
 
-/// A term and its chain.
+/// A term and its chain: a key and its objects.
 #[derive(Drop)]
 pub struct Item {
     pub term: Term,
@@ -14,7 +14,7 @@ pub struct Item {
 }
 
 impl Item {
-    /// What stands at a place with no item.
+    /// Returns the placeholder, which fills the slot of a place without an item.
     pub fn placeholder(alloc: Global) -> Item
         ensures { result ≡ placeholder }
     {
@@ -24,7 +24,7 @@ impl Item {
         }
     }
 
-    /// What stands at the place of a node: its item, or a stand-in.
+    /// Returns the slot of a node: its item, or a placeholder for a dummy.
     #[inline(always)]
     pub fn or_placeholder(item: Option<Item>, alloc: Global) -> Item
         ensures { item_if (is_some item) result ≡ item }
@@ -36,7 +36,7 @@ impl Item {
     }
 }
 
-/// A node as it is put in and taken out: an item, or a dummy that marks where a bucket begins.
+/// A list node as it is inserted and removed: an item, or a dummy that marks the start of a bucket.
 #[derive(Drop)]
 pub struct ListNode {
     pub key: u64,

@@ -6,17 +6,17 @@ use crate::header::NodeHeader;
 use crate::node::Item;
 use ets_term::Term;
 
-/// A node as a search sees it.
+/// A node as a search sees it: its header, and a reference to its slot.
 #[derive(Clone, Copy)]
 pub struct NodeRef<'a> {
     pub header: NodeHeader,
     pub has_item: bool,
-    /// What stands at the node's place: the item, if it has one.
+    /// The item if `has_item`, else a placeholder.
     pub slot: &'a Item,
 }
 
 impl<'a> NodeRef<'a> {
-    /// Whether this is the item of a term.
+    /// Checks whether the node is the item of this term.
     pub fn holds(&self, term: &Term) -> bool
         ensures { result ≡ holds term.now (node_of_ref self.now).item }
     {

@@ -19,19 +19,20 @@ use std::alloc::{AllocError, Global};
 use std::marker::Model;
 use std::mem;
 
-/// Nodes by place, in a slab of fronts with the items beside it: a search that passes a node touches its front alone.
-/// A contract sees them as a slab of whole nodes. A place is drawn from the slab ahead, once there is room for its
-/// item, and never given back: with no node it is spare, and its front leads to the next spare one.
+/// Nodes by place: a slab of headers and an array of items. A search that passes a node reads its header alone. A
+/// contract sees one slab of nodes. A place is added to the slab only after there is capacity for its item, and never
+/// goes back. Places without a node form the *free list*: each leads to the next.
 #[derive(Drop)]
 pub struct Nodes {
     nodes: Slab<PackedHeader>,
-    /// With room for one at each drawn place. A place with no item has a stand-in, or lies past their end.
+    /// The slots, with capacity for one at each place of the slab. A place without an item has a placeholder, or is
+    /// past their end.
     items: Vec<Item>,
-    /// Below this place there is no item.
+    /// The first-item bound: below this place there is no item.
     first_item_bound: usize,
-    /// The first spare place: each leads to the next.
+    /// The first free place; each free place leads to the next.
     free_head: Link,
-    /// How many nodes there are.
+    /// The number of nodes.
     len: usize,
 }
 
@@ -71,7 +72,7 @@ impl Nodes {
         }
     }
 
-    /// Makes room for `additional` more nodes.
+    /// Reserves capacity for `additional` more nodes.
     pub fn reserve(&mut self, additional: usize) -> Result<(), AllocError>
         ensures room { OnOk result (HasRoomFor self.new additional) }
         ensures succeeds { HasRoomFor self.old additional → IsOk result }
@@ -85,7 +86,7 @@ impl Nodes {
         Ok(())
     }
 
-    /// How many places are spare.
+    /// Returns the number of free places.
     #[inline]
     fn free_len(&self) -> usize
         ensures { slab_len self.now + result ≡ self.now.capacity }
@@ -93,7 +94,8 @@ impl Nodes {
         self.nodes.len() - self.len
     }
 
-    /// Draws one more place, which is spare then. Where the arrays are full they grow, by so many places at least.
+    /// Adds a place to the slab and to the front of the free list. If an array is full, it grows; the slab then by at
+    /// least `more` nodes.
     pub fn add_free_place(&mut self, more: usize) -> Result<(), AllocError>
         requires { 0 < more }
         ensures room { OnOk result (self.new.capacity ≡ self.old.capacity + 1) }
@@ -110,7 +112,7 @@ impl Nodes {
         Ok(())
     }
 
-    /// Puts a node at the first spare place.
+    /// Inserts a node at the first free place and returns that place.
     #[inline(always)]
     pub fn insert_reserved(&mut self, node: ListNode) -> usize
         requires room { HasRoomFor self.old 1 }
@@ -137,7 +139,7 @@ impl Nodes {
         at
     }
 
-    /// Takes the node at a place out, and the place is spare again.
+    /// Removes the node at a place and returns it. The place becomes the first free one.
     pub fn remove(&mut self, at: usize) -> ListNode
         requires { ContainsKey self.old at }
         ensures value { get self.old at ≡ Some result }
@@ -171,7 +173,7 @@ impl Nodes {
         self.nodes[at].header()
     }
 
-    /// A node for a search, which looks at the item where it has to.
+    /// Returns a reference for a search, which reads the item only if it must.
     pub fn node_ref(&self, at: usize) -> NodeRef<'_>
         requires { ContainsKey self.now at }
         ensures { get self.now at ≡ Some (node_of_ref result) }
@@ -184,7 +186,7 @@ impl Nodes {
         }
     }
 
-    /// The item at a place, or `None` for a dummy, of which the front alone is read.
+    /// Returns the item at a place, or `None` for a dummy. For a dummy it reads the header alone.
     #[inline]
     pub fn item(&self, at: usize) -> Option<&Item>
         requires { ContainsKey self.now at }
@@ -197,8 +199,8 @@ impl Nodes {
         }
     }
 
-    /// The first place from `start` on that has an item: a read of the fronts alone, in the order of their places. It
-    /// begins at `low` where `start` is before it.
+    /// Returns the first place at or after `start` that has an item. It reads the headers in order of places, from
+    /// the first-item bound if `start` is below it.
     #[inline]
     pub fn next_item_at(&self, start: usize) -> Option<usize>
         ensures { IsNextItemIn start result self.now }
@@ -219,7 +221,7 @@ impl Nodes {
         self.len
     }
 
-    /// What holds of all nodes, for a caller's proof: it does nothing.
+    /// Gives a proof the invariant of all nodes. It does nothing at run time.
     #[inline]
     pub fn reveal_invariant(&self)
         ensures { (at : ℕ) → ContainsKey self.now at → at < 2 ^ 64 - 1 }

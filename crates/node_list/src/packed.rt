@@ -6,11 +6,11 @@ use crate::header::NodeHeader;
 use crate::link::Link;
 use crate::node::Item;
 
-/// The number that stands for no place.
+/// The place number that encodes no place.
 pub const NO_PLACE: usize = usize::MAX / 4;
 
-/// A front as it is kept: one word has the place of the next node, times four, and one more where the node is an
-/// item, or two more where the place is spare.
+/// A header as it is stored. One word is four times the place of the next node, plus a tag. The tag is 1 for an item,
+/// 2 for a free place and 0 for a dummy.
 #[derive(Clone, Copy)]
 pub struct PackedHeader {
     key: u64,
@@ -18,7 +18,7 @@ pub struct PackedHeader {
 }
 
 impl PackedHeader {
-    /// A front, and whether its node is an item.
+    /// Packs a header, with the tag that says whether the node is an item.
     #[inline(always)]
     pub fn new(header: NodeHeader, has_item: bool) -> PackedHeader
         requires { Fits header.next }
@@ -30,7 +30,7 @@ impl PackedHeader {
         PackedHeader::with_tag(header.key, header.next, usize::from(has_item))
     }
 
-    /// What stands at a spare place: the link to the next one.
+    /// Packs a free place, with the link to the next free place.
     #[inline(always)]
     pub fn free(next: Link) -> PackedHeader
         requires { Fits next }
@@ -59,7 +59,7 @@ impl PackedHeader {
         }
     }
 
-    /// The key and the link.
+    /// Returns the split key and the link.
     #[inline(always)]
     pub fn header(self) -> NodeHeader
         ensures key { result.key ≡ self.key }
@@ -72,7 +72,7 @@ impl PackedHeader {
         }
     }
 
-    /// The link alone.
+    /// Returns the link.
     #[inline(always)]
     pub fn next(self) -> Link
         ensures next { result ≡ next_in self }
@@ -86,7 +86,7 @@ impl PackedHeader {
         }
     }
 
-    /// Whether the node is an item, and no dummy.
+    /// Checks whether the node is an item.
     #[inline(always)]
     pub fn is_item(self) -> bool
         ensures { result ≡ is_item self }
@@ -94,7 +94,7 @@ impl PackedHeader {
         self.word % 4 == 1
     }
 
-    /// The same with another link.
+    /// Returns the same header with another link.
     pub fn with_next(self, next: Link) -> PackedHeader
         requires { Fits next }
         ensures key { result.key ≡ self.key }
@@ -111,7 +111,7 @@ impl PackedHeader {
         )
     }
 
-    /// The item of the node, if it has one, from what stands at its place.
+    /// Returns the item of the node, if it has one, from the slot at its place.
     pub fn item_of(self, slot: Item) -> Option<Item>
         ensures { result ≡ item_if (is_item self) slot }
     {

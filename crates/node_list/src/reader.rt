@@ -7,7 +7,7 @@ use crate::node_ref::NodeRef;
 use crate::nodes::Nodes;
 use crate::steps::Steps;
 
-/// The nodes of a list, for a search: they can be read by one call alone, and it counts.
+/// The nodes of a list for a search. Its only call reads one node and counts it.
 #[derive(Clone, Copy)]
 pub struct CountingReader<'a> {
     nodes: &'a Nodes,

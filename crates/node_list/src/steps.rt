@@ -3,7 +3,7 @@ ghost use Rattle.node_list.specs.Ticks.{tick};
 
 use std::marker::Model;
 
-/// How many nodes were looked at. It only rises, by one, and stays at the greatest `u64`.
+/// A counter of visited nodes. It only rises, one at a time, and stays at the greatest `u64`.
 #[derive(Drop)]
 pub struct Steps {
     count: u64,
@@ -21,21 +21,21 @@ impl Model for Steps {
 }
 
 impl Steps {
-    /// None yet.
+    /// Returns a counter at 0.
     pub fn new() -> Steps
         ensures { result ≡ 0 }
     {
         Steps { count: 0 }
     }
 
-    /// How many were counted, up to the greatest `u64`.
+    /// Returns the count, at most the greatest `u64`.
     pub fn count(&self) -> u64
         ensures { result ≡ self.now }
     {
         self.count
     }
 
-    /// Counts one more, if there is a greater `u64`.
+    /// Adds 1, unless the count is the greatest `u64`.
     pub fn tick(&mut self)
         ensures { self.new ≡ tick self.old }
     {

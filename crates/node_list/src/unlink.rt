@@ -7,7 +7,7 @@ ghost use Rattle.node_list.specs.inside.Walks.{cells_from, IsLinked, HasPlace, I
 use crate::node::ListNode;
 use crate::nodes::Nodes;
 
-/// The node from `start` on whose link leads to `at`.
+/// Returns the node from `start` on whose link leads to `at`.
 fn predecessor(nodes: &Nodes, start: usize, at: usize) -> usize
     requires linked { IsLinked nodes.now (Some start) }
     requires after { HasPlace at (all_but_first (cells_from nodes.now (Some start))) }
@@ -23,7 +23,7 @@ fn predecessor(nodes: &Nodes, start: usize, at: usize) -> usize
     unreachable!()
 }
 
-/// Takes a node out.
+/// Removes the node at `at`, which must be after `start`, and returns it.
 pub fn unlink_from(nodes: &mut Nodes, start: usize, at: usize) -> ListNode
     requires linked { IsLinked nodes.old (Some 0) }
     requires after { HasPlace at (cells_after start (cells_from nodes.old (Some 0))) }

@@ -1,4 +1,4 @@
--- What a lent chain leaves behind among all nodes.
+-- The nodes after the borrow of a chain.
 use Rattle.std.specs.Prelude.{ℕ, List, option_map, slice_set}
 use Rattle.std.specs.Borrow.{Lends, MutBor, Fml}
 use Rattle.slab.specs.Slab.{Slab, get}

@@ -1,5 +1,5 @@
--- What a packed front tells: its word is four times the place of the next node, and one more where the node is an
--- item, or two more where the place is spare. The greatest place stands for none.
+-- The packed header: its word is four times the place of the next node, plus 1 for an item or 2 for a free place. The
+-- greatest place encodes none.
 use Rattle.std.specs.Prelude.{ℕ, ◌<◌, ◌^◌, ◌-◌, ◌/◌, ◌%◌, nat_eq, if◌then◌else◌, Bool, Option, Some, None}
 use Rattle.node_list.specs.declared.packed.PackedHeader.{PackedHeader}
 
@@ -15,7 +15,7 @@ is_item p = nat_eq (p.word % 4) 1
 abbrev pub is_free : PackedHeader → Bool
 is_free p = nat_eq (p.word % 4) 2
 
--- a word has room for this link
+-- the word has bits for this link
 abbrev pub Fits : Option ℕ → Type 0
 Fits None = Unit {0}
 Fits (Some place) = place < 2 ^ 62 - 1

@@ -1,5 +1,5 @@
--- How nodes lie in two arrays: their fronts in a slab, and beside it a slot for each, which is its item, or at a
--- dummy anything.
+-- Nodes in two arrays: headers in a slab, and a slot for each. The slot of an item is the item; the slot of a dummy
+-- is arbitrary.
 use Rattle.std.specs.Prelude.{◌≡◌, ◌^◌, ◌-◌, ◌≤◌, ◌<◌, ◌≢◌, ℕ, pos, Bool, true, false, List, [], ◌∷◌, length, slice_get, slice_index_or, Option, Some, None, IsSome, option_map, Vec, vec_capacity, vec_items}
 use Rattle.slab.specs.Slab.{Slab, get, slab_len, with_value}
 use Rattle.ets_term.specs.declared.term.Term.{Term}
@@ -11,45 +11,45 @@ use Rattle.node_list.specs.declared.packed.PackedHeader.{PackedHeader}
 use Rattle.node_list.specs.inside.PackedHeader.{next_in, is_item, Fits}
 use Rattle.node_list.specs.inside.FreeList.{headers, IsFreeList}
 
--- what stands past the end
+-- the slot of a place past the end
 abbrev pub placeholder : Item
 placeholder = record { term = Int (pos 0); chain = [] }
 
--- the item that a slot is, if it is one
+-- the item in a slot, if the slot has one
 abbrev pub item_if : Bool → Item → Option Item
 item_if true slot = Some slot
 item_if false slot = None
 
--- the node of a front and what stands beside it
+-- the node of a header and a slot
 abbrev pub unpacked_node : PackedHeader → Item → ListNode
 unpacked_node p slot = record { key = p.key; next = next_in p; item = item_if (is_item p) slot }
 
--- a place has a node where the slab has a front
+-- the node at a place, None if the place has no header
 abbrev pub node_at : Option PackedHeader → Item → Option ListNode
 node_at None slot = None
 node_at (Some p) slot = Some (unpacked_node p slot)
 
--- the slab's places with what stands beside them
+-- the nodes of all places
 abbrev pub nodes_of : List (Option PackedHeader) → List Item → List (Option ListNode)
 nodes_of [] slots = []
 nodes_of (o ∷ os) [] = node_at o placeholder ∷ nodes_of os []
 nodes_of (o ∷ os) (s ∷ slots) = node_at o s ∷ nodes_of os slots
 
--- what stands at a place
+-- the slot at a place
 abbrev pub slot_at : List Item → ℕ → Item
 slot_at slots k = slice_index_or slots k placeholder
 
--- a place has the front of an item
+-- the header at a place is that of an item
 abbrev pub has_item_at : Option PackedHeader → Bool
 has_item_at None = false
 has_item_at (Some p) = is_item p
 
--- no place from the first up to the second has an item
+-- no place from `from` up to `to` has an item
 abbrev pub HasNoItemBetween : ℕ → ℕ → Slab PackedHeader → Type 0
 HasNoItemBetween from to nodes = (k : ℕ) → from ≤ k → k < to → has_item_at (get nodes k) ≡ false
 
--- every drawn place has room for a slot and fits a link, and every place with a node has a slot; below `low` there is
--- no item
+-- Each place of the slab has capacity for a slot and fits a link. Each place with a node has a slot. Below
+-- `first_item_bound` there is no item.
 pub record NodesInvariant {A : Type 0} (nodes : Slab PackedHeader) (items : Vec Item A) (first_item_bound : ℕ) (free_head : Option ℕ) (len : ℕ)
     : Type 0 where
   pub room : (k : ℕ) → IsSome (get nodes k) → k < vec_capacity items
@@ -59,7 +59,7 @@ pub record NodesInvariant {A : Type 0} (nodes : Slab PackedHeader) (items : Vec 
   pub counted : slab_len (headers nodes) ≡ len
   pub free_list : IsFreeList nodes free_head len
 
--- a place has this slot now, and every other that had one has it yet
+-- the place has this slot now, and every other place that had a slot has the same one
 pub record WritesItem (old new : List Item) (at : ℕ) (slot : Item) : Type 0 where
   pub here : slice_get new at ≡ Some slot
   pub others : (k : ℕ) → k ≢ at → k < length old → slot_at new k ≡ slot_at old k
@@ -85,19 +85,19 @@ pub record HasItemIn (s : Slab ListNode) (at : ℕ) : Type 0 where
   pub is : get s at ≡ Some node
   pub has : IsSome node.item
 
--- the node at a place has this item, or is a dummy
+-- the node at a place has this item, None for a dummy
 pub record HasItemOrNone (s : Slab ListNode) (at : ℕ) (item : Option Item) : Type 0 where
   pub node : ListNode
   pub is : get s at ≡ Some node
   pub shows : node.item ≡ item
 
--- the node at this place is an item, and none at a place from `start` on before it
+-- the node at this place is an item, and no place from `start` up to it has one
 pub record IsLeastItemIn (start at : ℕ) (s : Slab ListNode) : Type 0 where
   pub has : HasItemIn s at
   pub from : start ≤ at
   pub least : (other : ℕ) → HasItemIn s other → start ≤ other → at ≤ other
 
--- the least place from this one on where the node is an item, None where there is none
+-- the first place from `start` on whose node is an item, None if there is none
 abbrev pub IsNextItemIn : ℕ → Option ℕ → Slab ListNode → Type 0
 IsNextItemIn start None s = (other : ℕ) → HasItemIn s other → other < start
 IsNextItemIn start (Some at) s = IsLeastItemIn start at s

@@ -1,4 +1,4 @@
--- The list that the links of a slab's nodes make: what ties the code to `Cells`.
+-- The list that the links of a slab make. It ties the code to `Cells`.
 use Rattle.std.specs.Prelude.{◌≡◌, ℕ, zero, suc, ◌≤◌, ◌⊎◌, nat_lt, if◌then◌else◌, List, [], ◌∷◌, length, Option, Some, None}
 use Rattle.slab.specs.Slab.{Slab, get, slab_len}
 use Rattle.node_list.specs.declared.node.ListNode.{ListNode}
@@ -10,7 +10,7 @@ cell_of at node = record { at = at; key = node.key; item = node.item }
 abbrev pub node_of : Cell → Option ℕ → ListNode
 node_of c next = record { key = c.key; next = next; item = c.item }
 
--- the nodes met from a link on; the number bounds how many
+-- the nodes from a link on, at most `n`
 unfoldable pub walk : ℕ → (ℕ → Option ListNode) → Option ℕ → List Cell
 walk zero at_place link = []
 walk (suc n) at_place None = []
@@ -27,11 +27,11 @@ Links at_place link (c ∷ cs) =
 abbrev pub cells_from : Slab ListNode → Option ℕ → List Cell
 cells_from s link = walk (slab_len s) (get s) link
 
--- from this link on the nodes come to an end
+-- the nodes from this link on come to an end
 pub record IsLinked (s : Slab ListNode) (link : Option ℕ) : Type 0 where
   pub links : Links (get s) link (cells_from s link)
 
--- what holds of a list's slab: its head is place 0, and it has no other nodes than the list's
+-- the invariant of a list's slab: the head is at place 0, and all its nodes are in the list
 pub record ListInvariant (s : Slab ListNode) : Type 0 where
   pub linked : IsLinked s (Some 0)
   pub sorted : Sorted (cells_from s (Some 0))
@@ -44,7 +44,7 @@ pub record NodeHasKeyAtMost (s : Slab ListNode) (at key : ℕ) : Type 0 where
   pub is : get s at ≡ Some node
   pub up_to : node.key ≤ key
 
--- the place of the last cell in a row whose keys are at most this one, or else `last`
+-- the place of the last cell before the first with a greater key, or else `last`
 abbrev pub last_not_above_in : ℕ → ℕ → List Cell → ℕ
 last_not_above_in key last [] = last
 last_not_above_in key last (c ∷ cs) = if nat_lt key c.key then last else last_not_above_in key c.at cs
@@ -58,7 +58,7 @@ abbrev pub FirstIsAt : ℕ → List Cell → Type 0
 FirstIsAt at [] = ⊥
 FirstIsAt at (c ∷ cs) = c.at ≡ at
 
--- the node at the first place stands in the list, with the second place right behind it
+-- the node at the first place is followed by the node at the second
 abbrev pub IsPredecessor : ℕ → ℕ → List Cell → Type 0
 IsPredecessor before at [] = ⊥
 IsPredecessor before at (c ∷ cs) = ((c.at ≡ before) × FirstIsAt at cs) ⊎ IsPredecessor before at cs

@@ -1,4 +1,4 @@
--- A link in one word: the greatest number stands for none.
+-- A link in one word: the greatest number encodes none.
 use Rattle.std.specs.Prelude.{ℕ, ◌^◌, ◌-◌, nat_eq, if◌then◌else◌, Option, Some, None}
 
 abbrev pub link_in : ℕ → Option ℕ

@@ -1,4 +1,4 @@
--- A word is the word of the link in it.
+-- A word is the word of its own link.
 use Rattle.std.specs.Prelude.{◌≡◌, ℕ, ◌<◌, ◌^◌, ◌-◌, Bool, true, false, nat_eq, if◌then◌else◌, None, Some, refl}
 use Rattle.std.proofs.lemmas.Bool.{eqb-true}
 use Rattle.std.proofs.Common.{sym, ap}

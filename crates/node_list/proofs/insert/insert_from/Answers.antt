@@ -21,7 +21,7 @@ header-next-requires c =
     let P : Option ListNode → Type 0 = λ o. IsSome o in
     subst P (sym (ap (get c.args.nodes.now) c.last_not_above-last.ensures ∙ found.1)) refl
 
--- the list once the link leads to the new node
+-- the list after the link leads to the new node
 done : (c : After-set_next) → Inserted c.args.nodes.now c.set_next.new.self (new_cell c.insert_reserved-place.result c.args.key c.args.item)
 done c =
     let old = c.args.nodes.now in

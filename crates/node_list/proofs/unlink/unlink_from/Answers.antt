@@ -20,7 +20,7 @@ predecessor-before-requires-clause-after c =
     let P : List Cell → Type 0 = λ zs. HasPlace c.args.at (all_but_first zs) in
     subst P (sym (cells_from-from c.args.nodes.now c.args.start s.cell s.later c.requires.linked s.is).1) c.requires.after
 
--- the place that was found stands before this one in the whole list
+-- the predecessor in the list from `start` on is the predecessor in the whole list
 stands : (c : After-predecessor-before) → IsPredecessor c.predecessor-before.result c.args.at (cells_from c.args.nodes.now (Some 0))
 stands c =
     let cells = cells_from c.args.nodes.now (Some 0) in
@@ -28,7 +28,7 @@ stands c =
     let P : List Cell → Type 0 = λ zs. IsPredecessor c.predecessor-before.result c.args.at zs in
     before-unpacked_node c.predecessor-before.result c.args.at c.args.start cells (subst P (cells_from-from c.args.nodes.now c.args.start s.cell s.later c.requires.linked s.is).1 c.predecessor-before.ensures)
 
--- the list once the link leads past the node
+-- the list after the link leads past the node
 done : (c : After-set_next) → IsPredecessor c.predecessor-before.result c.args.at (cells_from c.args.nodes.now (Some 0)) → Unlinked c.args.nodes.now c.set_next.new.self c.args.at
 done c b =
     let m = c.remove-node.new.self in

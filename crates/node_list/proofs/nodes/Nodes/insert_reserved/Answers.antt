@@ -32,7 +32,7 @@ overflow_add-self c =
       few-allocated c.self.inside.nodes _ c.self.invariant.few,
     )
 
--- what the first spare place had, and what the slab is now
+-- the first free place before, and the slab after
 record Taken (c : After-write_item) : Type 0 where
   pub first : First c.self.inside.nodes c.self.inside.free_head c.in-Some.at
   pub some : IsSome (get c.self.inside.nodes c.in-Some.at)

@@ -21,7 +21,7 @@ replace_at-packed-requires c =
     let P : Slab ListNode → Type 0 = λ v. IsSome (get v c.args.at) in
     has-live c.self.inside.nodes c.self.inside.items.items c.args.at (subst P (sym c.self.view_is) c.requires)
 
--- what stood at the place, and what the slab is now
+-- the node before, and the slab after
 record Given (c : After-replace_at-packed) : Type 0 where
   pub some : IsSome (get (headers c.self.inside.nodes) c.args.at)
   pub inside : c.args.at < length c.self.inside.items.items
