@@ -11,7 +11,7 @@ use Rattle.node_list.specs.Places.{IsPlaceOf, HasItem, IsFresh, HasDistinctPlace
 use Rattle.node_list.specs.inside.Slots.{HasItemIn, IsNextItemIn}
 use Rattle.node_list.specs.inside.Walks.{Links, cells_from, HasPlace, ListInvariant}
 use Rattle.node_list.proofs.CellLaws.{from-here, from-on}
-use Rattle.node_list.proofs.PlaceLaws.{apart-links, place-node}
+use Rattle.node_list.proofs.PlaceLaws.{links-distinct, place-node}
 
 -- the place of each cell has a node
 abbrev HaveNodes : List (Option ListNode) → List Cell → Type 0
@@ -63,7 +63,7 @@ is_place-there at (c ∷ cs) h =
 pub node-is_place : (s : Slab ListNode) (at : ℕ) → ListInvariant s → IsSome (get s at) → IsPlaceOf at (cells_from s (Some 0))
 node-is_place s at l h =
     let cells = cells_from s (Some 0) in
-    is_place-there at cells (has-all cells s.slots (apart-links (get s) (Some 0) cells l.linked.links) (links-nodes s.slots (Some 0) cells l.linked.links) l.counted at h)
+    is_place-there at cells (has-all cells s.slots (links-distinct (get s) (Some 0) cells l.linked.links) (links-nodes s.slots (Some 0) cells l.linked.links) l.counted at h)
 
 -- ---- items
 some-item : (o : Option Item) → IsSome o → (item : Item) × (o ≡ Some item)

@@ -8,7 +8,7 @@ use Rattle.node_list.specs.Places.{IsFresh}
 use Rattle.node_list.specs.inside.PackedHeader.{next_in, is_free, Fits}
 use Rattle.node_list.specs.inside.FreeList.{live, free_in, IsFreeList}
 use Rattle.node_list.specs.inside.Walks.{Links, node_of}
-use Rattle.node_list.proofs.PlaceLaws.{away, apart-free_head, links-frame}
+use Rattle.node_list.proofs.PlaceLaws.{links-head_fresh, links-fresh, links-frame}
 use Rattle.node_list.proofs.FreePlaceLaws.{free-by, free-is}
 
 -- the first free place
@@ -59,15 +59,15 @@ pub free_head-fits : (s : Slab PackedHeader) (free_head : Option ℕ) (len : ℕ
 free_head-fits s free_head len a h = fits-by s free_head a.cells a.links h
 
 -- an insertion takes the first free place
-taken-by : (s t : Slab PackedHeader) (free_head : Option ℕ) (at len : ℕ) (p q : PackedHeader) (cells : List Cell) → Links (λ k. free_in (get s k)) free_head cells → length cells + len ≡ slab_len s → free_head ≡ Some at
+insert-free_list_by : (s t : Slab PackedHeader) (free_head : Option ℕ) (at len : ℕ) (p q : PackedHeader) (cells : List Cell) → Links (λ k. free_in (get s k)) free_head cells → length cells + len ≡ slab_len s → free_head ≡ Some at
     → get s at ≡ Some p → Updates s t at (Some q) → is_free q ≡ false → slab_len t ≡ slab_len s → IsFreeList t (next_in p) (len + 1)
-taken-by s t free_head at len p q [] l n e was u live same = absurd (cc (l, e))
-taken-by s t free_head at len p q (c ∷ cs) l n e was u live same =
+insert-free_list_by s t free_head at len p q [] l n e was u live same = absurd (cc (l, e))
+insert-free_list_by s t free_head at len p q (c ∷ cs) l n e was u live same =
     let here : c.at ≡ at = cc (l.0, e) in
     let g : ℕ → Option ListNode = λ k. free_in (get s k) in
     let h : ℕ → Option ListNode = λ k. free_in (get t k) in
     let full : Links g (Some c.at) (c ∷ cs) = (refl, l.1) in
-    let once : IsFresh c.at cs = away g c cs full l.1.0 cs l.1.2 (omega arith) in
+    let once : IsFresh c.at cs = links-head_fresh g c cs full l.1.0 cs l.1.2 (omega arith) in
     let f = free-by (get s c.at) (node_of c l.1.0) l.1.1 in
     let header : f.0 ≡ p = cc (f.1.0, was, here) in
     let next : l.1.0 ≡ next_in p = ap (λ (m : ListNode). m.next) f.1.1.1 ∙ ap (λ (z : PackedHeader). next_in z) header in
@@ -80,17 +80,17 @@ taken-by s t free_head at len p q (c ∷ cs) l n e was u live same =
       count = omega (arith, n, same);
     }
 
-pub taken : (s t : Slab PackedHeader) (free_head : Option ℕ) (at len : ℕ) (p q : PackedHeader) → IsFreeList s free_head len → free_head ≡ Some at
+pub insert-free_list : (s t : Slab PackedHeader) (free_head : Option ℕ) (at len : ℕ) (p q : PackedHeader) → IsFreeList s free_head len → free_head ≡ Some at
     → get s at ≡ Some p → Updates s t at (Some q) → is_free q ≡ false → slab_len t ≡ slab_len s → IsFreeList t (next_in p) (len + 1)
-taken s t free_head at len p q a e was u live same = taken-by s t free_head at len p q a.cells a.links a.count e was u live same
+insert-free_list s t free_head at len p q a e was u live same = insert-free_list_by s t free_head at len p q a.cells a.links a.count e was u live same
 
 -- a removal puts a place at the front
-pub given : (s t : Slab PackedHeader) (free_head : Option ℕ) (at len left : ℕ) (q : PackedHeader) → IsFreeList s free_head len → free_in (get s at) ≡ None → Updates s t at (Some q)
+pub remove-free_list : (s t : Slab PackedHeader) (free_head : Option ℕ) (at len left : ℕ) (q : PackedHeader) → IsFreeList s free_head len → free_in (get s at) ≡ None → Updates s t at (Some q)
     → is_free q ≡ true → next_in q ≡ free_head → slab_len s + left + 1 ≡ len + slab_len t → IsFreeList t (Some at) left
-given s t free_head at len left q a none u free next n =
+remove-free_list s t free_head at len left q a none u free next n =
     let g : ℕ → Option ListNode = λ k. free_in (get s k) in
     let h : ℕ → Option ListNode = λ k. free_in (get t k) in
-    let fresh : IsFresh at a.cells = apart-free_head g at none free_head a.cells a.links in
+    let fresh : IsFresh at a.cells = links-fresh g at none free_head a.cells a.links in
     let c : Cell = record { at = at; key = q.key; item = None } in
     let shown : h at ≡ Some (node_of c free_head) = ap free_in u.changed ∙ (free-is q free ∙ ap (λ (o : Option ℕ). let m : ListNode = record { key = q.key; next = o; item = None } in Some m) next) in
     record {
@@ -100,11 +100,11 @@ given s t free_head at len left q a none u free next n =
     }
 
 -- a change of a node keeps the free list
-pub changed : (s t : Slab PackedHeader) (free_head : Option ℕ) (at len : ℕ) (q : PackedHeader) → IsFreeList s free_head len → free_in (get s at) ≡ None → Updates s t at (Some q) → slab_len t ≡ slab_len s → IsFreeList t free_head len
-changed s t free_head at len q a none u same =
+pub set_next-free_list : (s t : Slab PackedHeader) (free_head : Option ℕ) (at len : ℕ) (q : PackedHeader) → IsFreeList s free_head len → free_in (get s at) ≡ None → Updates s t at (Some q) → slab_len t ≡ slab_len s → IsFreeList t free_head len
+set_next-free_list s t free_head at len q a none u same =
     let g : ℕ → Option ListNode = λ k. free_in (get s k) in
     let h : ℕ → Option ListNode = λ k. free_in (get t k) in
-    let fresh : IsFresh at a.cells = apart-free_head g at none free_head a.cells a.links in
+    let fresh : IsFresh at a.cells = links-fresh g at none free_head a.cells a.links in
     record {
       cells = a.cells;
       links = links-frame g h at at (λ k x y. ap free_in (u.others k x)) free_head a.cells a.links fresh fresh;

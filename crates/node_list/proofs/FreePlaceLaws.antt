@@ -70,8 +70,8 @@ marks-headers n k = ap has_item_at (get-live n.slots k) ∙ marks-live (get n k)
 pub live-at : (n : Slab PackedHeader) (k : ℕ) → IsSome (get (headers n) k) → (f : PackedHeader) × ((get n k ≡ Some f) × (is_free f ≡ false))
 live-at n k h = let P : Option PackedHeader → Type 0 = λ o. IsSome o in live-by (get n k) (subst P (get-live n.slots k) h)
 
-pub allocated : (n : Slab PackedHeader) (k : ℕ) → IsSome (get (headers n) k) → IsSome (get n k)
-allocated n k h = let P : Option PackedHeader → Type 0 = λ o. IsSome o in subst P (sym (live-at n k h).1.0) refl
+pub has_header-allocated : (n : Slab PackedHeader) (k : ℕ) → IsSome (get (headers n) k) → IsSome (get n k)
+has_header-allocated n k h = let P : Option PackedHeader → Type 0 = λ o. IsSome o in subst P (sym (live-at n k h).1.0) refl
 
 pub not-free_at : (n : Slab PackedHeader) (k : ℕ) → IsSome (get (headers n) k) → free_in (get n k) ≡ None
 not-free_at n k h = let P : Option PackedHeader → Type 0 = λ o. IsSome o in live-not_free (get n k) (subst P (get-live n.slots k) h)
@@ -85,7 +85,7 @@ updates-headers n m k o u =
 
 -- what a read of a place with a node shows
 pub has-live : (n : Slab PackedHeader) (ss : List Item) (k : ℕ) → IsSome (get_or (nodes_of (headers n).slots ss) k None) → IsSome (get n k)
-has-live n ss k h = allocated n k (has-header (headers n) ss k h)
+has-live n ss k h = has_header-allocated n k (has-header (headers n) ss k h)
 
 pub live-node : (n : Slab PackedHeader) (ss : List Item) (k : ℕ) (f : PackedHeader) (s : Item) → IsSome (get_or (nodes_of (headers n).slots ss) k None) → get n k ≡ Some f → s ≡ get_or ss k placeholder
     → get_or (nodes_of (headers n).slots ss) k None ≡ Some (unpacked_node f s)
@@ -137,14 +137,14 @@ counts-free : (f : PackedHeader) → is_free f ≡ true → ◌≡◌ {A = ℕ} 
 counts-free f e = ap {B = ℕ} (λ (o : Option PackedHeader). cond (is_some o) 1 0) (live-none f e)
 
 -- a free place gets a node, a place becomes free, or a node is replaced
-pub len-taken : (n : Slab PackedHeader) (k : ℕ) (p q : PackedHeader) → get n k ≡ Some p → is_free p ≡ true → is_free q ≡ false → slab_len (headers (with_value n k q)) ≡ slab_len (headers n) + 1
-len-taken n k p q e a b = omega (arith, len-headers n k p q e, counts-free p a, counts-live q b)
+pub len-insert : (n : Slab PackedHeader) (k : ℕ) (p q : PackedHeader) → get n k ≡ Some p → is_free p ≡ true → is_free q ≡ false → slab_len (headers (with_value n k q)) ≡ slab_len (headers n) + 1
+len-insert n k p q e a b = omega (arith, len-headers n k p q e, counts-free p a, counts-live q b)
 
-pub len-given : (n : Slab PackedHeader) (k : ℕ) (p q : PackedHeader) → get n k ≡ Some p → is_free p ≡ false → is_free q ≡ true → slab_len (headers (with_value n k q)) + 1 ≡ slab_len (headers n)
-len-given n k p q e a b = omega (arith, len-headers n k p q e, counts-live p a, counts-free q b)
+pub len-remove : (n : Slab PackedHeader) (k : ℕ) (p q : PackedHeader) → get n k ≡ Some p → is_free p ≡ false → is_free q ≡ true → slab_len (headers (with_value n k q)) + 1 ≡ slab_len (headers n)
+len-remove n k p q e a b = omega (arith, len-headers n k p q e, counts-live p a, counts-free q b)
 
-pub len-changed : (n : Slab PackedHeader) (k : ℕ) (p q : PackedHeader) → get n k ≡ Some p → is_free p ≡ false → is_free q ≡ false → slab_len (headers (with_value n k q)) ≡ slab_len (headers n)
-len-changed n k p q e a b = omega (arith, len-headers n k p q e, counts-live p a, counts-live q b)
+pub len-replace : (n : Slab PackedHeader) (k : ℕ) (p q : PackedHeader) → get n k ≡ Some p → is_free p ≡ false → is_free q ≡ false → slab_len (headers (with_value n k q)) ≡ slab_len (headers n)
+len-replace n k p q e a b = omega (arith, len-headers n k p q e, counts-live p a, counts-live q b)
 
 -- slots with equal contents have equal counts
 none-one : (o : Option PackedHeader) → o ≡ None → ◌≡◌ {A = ℕ} (cond (is_some o) 1 0) 0
@@ -163,8 +163,8 @@ same-count (x ∷ xs) (y ∷ ys) h =
     omega (arith, same-count xs ys (λ k. h (suc k)), sum_by-cons two x xs, sum_by-cons two y ys, ap two (h zero))
 
 -- a new place changes no node
-pub allocated-same : (n m : Slab PackedHeader) (k : ℕ) (q : PackedHeader) → get n k ≡ None → Updates n m k (Some q) → is_free q ≡ true → (j : ℕ) → get (headers m) j ≡ get (headers n) j
-allocated-same n m k q none u free j =
+pub add_free_place-headers_same : (n m : Slab PackedHeader) (k : ℕ) (q : PackedHeader) → get n k ≡ None → Updates n m k (Some q) → is_free q ≡ true → (j : ℕ) → get (headers m) j ≡ get (headers n) j
+add_free_place-headers_same n m k q none u free j =
     let v = updates-headers n m k (Some q) u in
     elim (cases_eq j k) [
       | inl same ↦ ap (get (headers m)) same ∙ (v.changed ∙ (live-none q free ∙ (sym (get-live n.slots k ∙ ap live none) ∙ ap (get (headers n)) (sym same))))
@@ -186,12 +186,12 @@ fewer (o ∷ os) (suc room) h =
     let two : Option PackedHeader → ℕ = λ z. cond (is_some z) 1 0 in
     omega (arith, fewer os room (λ k some. omega (arith, h (suc k) some)), sum_by-cons two o os, at-most_one o)
 
-pub few-allocated : (n : Slab PackedHeader) (room : ℕ) → ((k : ℕ) → IsSome (get n k) → k < room) → slab_len n ≤ room
-few-allocated n room h = fewer n.slots room h
+pub slab_len-at_most : (n : Slab PackedHeader) (room : ℕ) → ((k : ℕ) → IsSome (get n k) → k < room) → slab_len n ≤ room
+slab_len-at_most n room h = fewer n.slots room h
 
 -- a write of one place keeps a property of all places
-pub all-allocated : (s t : Slab PackedHeader) (at room : ℕ) (o : Option PackedHeader) → Updates s t at o → at < room → ((k : ℕ) → IsSome (get s k) → k < room) → (k : ℕ) → IsSome (get t k) → k < room
-all-allocated s t at room o u here h k some =
+pub write-keeps_bound : (s t : Slab PackedHeader) (at room : ℕ) (o : Option PackedHeader) → Updates s t at o → at < room → ((k : ℕ) → IsSome (get s k) → k < room) → (k : ℕ) → IsSome (get t k) → k < room
+write-keeps_bound s t at room o u here h k some =
     let O : Option PackedHeader → Type 0 = λ z. IsSome z in
     elim (cases_eq k at) [
       | inl same ↦ omega (arith, same, here)

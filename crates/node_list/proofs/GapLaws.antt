@@ -20,23 +20,23 @@ same-longer (s ∷ ss) ys zero h = refl
 same-longer (s ∷ ss) ys (suc k) h = same-longer ss ys k (omega (arith, h))
 
 -- the slots up to a place past the end
-pub filled : {F : Type 0} (step : F → Item → F → Type 0) (old new : List Item) (at : ℕ) (f : F) → length old ≤ at → AppendsResults step (take at old) new f → SameSlots old new
-filled step old new at f h a =
+pub write-fills_gap : {F : Type 0} (step : F → Item → F → Type 0) (old new : List Item) (at : ℕ) (f : F) → length old ≤ at → AppendsResults step (take at old) new f → SameSlots old new
+write-fills_gap step old new at f h a =
     let P : List Item → Type 0 = λ zs. SameSlots old zs in
     subst P (sym (a.2 ∙ ap (λ (zs : List Item). zs ++ a.0) (take_all at old h))) (same-longer old a.0)
 
-pushed-here : (ss : List Item) (s : Item) → slice_get (ss ++ s ∷ []) (length ss) ≡ Some s
-pushed-here [] s = refl
-pushed-here (t ∷ ss) s = pushed-here ss s
+write-pushes_here : (ss : List Item) (s : Item) → slice_get (ss ++ s ∷ []) (length ss) ≡ Some s
+write-pushes_here [] s = refl
+write-pushes_here (t ∷ ss) s = write-pushes_here ss s
 
 -- a slot at the end, after the gap is filled
-pub pushed : (old full new : List Item) (at : ℕ) (s : Item) → SameSlots old full → length old ≤ at → length full ≡ at → new ≡ full ++ s ∷ [] → WritesItem old new at s
-pushed old full new at s same h len is =
+pub write-pushes : (old full new : List Item) (at : ℕ) (s : Item) → SameSlots old full → length old ≤ at → length full ≡ at → new ≡ full ++ s ∷ [] → WritesItem old new at s
+write-pushes old full new at s same h len is =
     let P : List Item → Type 0 = λ zs. WritesItem old zs at s in
     let N : ℕ → Type 0 = λ k. slice_get (full ++ s ∷ []) k ≡ Some s in
     subst P (sym is)
     (record {
-      here = subst N len (pushed-here full s);
+      here = subst N len (write-pushes_here full s);
       others = λ k other was. same-longer full (s ∷ []) k (omega (arith, was, h, len)) ∙ same k was;
       length = omega (arith, h, len, length-append full (s ∷ []));
     })

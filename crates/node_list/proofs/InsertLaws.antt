@@ -10,7 +10,7 @@ use Rattle.node_list.specs.Changes.{put_cell}
 use Rattle.node_list.specs.inside.Walks.{Links, IsLinked, cells_from, cell_of, node_of, NodeHasKeyAtMost, last_not_above_in}
 use Rattle.node_list.proofs.WalkLaws.{walk-is, walk-length, walk-none, cells_from-step_at}
 use Rattle.node_list.proofs.CellLaws.{last_not_above_in-past, last_not_above_in-on, put-past, put-on, from-here, from-on, length-put, length-from, at-most-from}
-use Rattle.node_list.proofs.PlaceLaws.{away, apart-free_head, links-frame, links-from}
+use Rattle.node_list.proofs.PlaceLaws.{links-head_fresh, links-fresh, links-frame, links-from}
 
 abbrev pub Past : ℕ → List Cell → Type 0
 Past key [] = Unit {0}
@@ -46,12 +46,12 @@ splice : (g h : ℕ → Option ListNode) (last : ℕ) (x : Cell) → Spliced g h
     → (link : Option ℕ) (cs : List Cell) → Links g link cs → Spot x.key last cs → Links h link (put_cell x cs)
 splice g h last x s link [] l spot = absurd spot
 splice g h last x s link (c ∷ cs) l spot =
-    let apart : IsFresh x.at (c ∷ cs) = apart-free_head g x.at s.free_head link (c ∷ cs) l in
+    let apart : IsFresh x.at (c ∷ cs) = links-fresh g x.at s.free_head link (c ∷ cs) l in
     rw (put-on x c cs spot.0)
     (elim spot.1 [
       | inl here ↦
           let full : Links g (Some c.at) (c ∷ cs) = (refl, l.1) in
-          let once : IsFresh c.at cs = away g c cs full l.1.0 cs l.1.2 (omega arith) in
+          let once : IsFresh c.at cs = links-head_fresh g c cs full l.1.0 cs l.1.2 (omega arith) in
           let once' : IsFresh last cs = rw here.0 at once in
           let node : s.node ≡ node_of c l.1.0 = cc (s.was, l.1.1, here.0) in
           let P : ListNode → Type 0 = λ n. (h last ≡ Some (record n { next = Some x.at })) × (h x.at ≡ Some (node_of x n.next)) in
@@ -61,7 +61,7 @@ splice g h last x s link (c ∷ cs) l spot =
           rw (put-past_all x cs here.1) (l.0, (Some x.at, header, (refl, (l.1.0, now.1, tail))))
       | inr later ↦
           let full : Links g (Some c.at) (c ∷ cs) = (refl, l.1) in
-          let once : IsFresh c.at cs = away g c cs full l.1.0 cs l.1.2 (omega arith) in
+          let once : IsFresh c.at cs = links-head_fresh g c cs full l.1.0 cs l.1.2 (omega arith) in
           let other : c.at ≢ last = λ e. spot-apart x.key last c.at cs later once (sym e) in
           (l.0, (l.1.0, s.others c.at other apart.0 ∙ l.1.1, splice g h last x s l.1.0 cs l.1.2 later))
     ])
@@ -95,8 +95,8 @@ pub record Begun (s : Slab ListNode) (key start : ℕ) : Type 0 where
   pub up_to : NodeHasKeyAtMost s start key
   pub spot : Spot key (last_not_above_in key start (cells_from s (Some start))) (cells_from s (Some 0))
 
-pub begun : (s : Slab ListNode) (key start : ℕ) → IsLinked s (Some 0) → Sorted (cells_from s (Some 0)) → HasKeyAtMost key start (cells_from s (Some 0)) → Begun s key start
-begun s key start l o h =
+pub start-spot : (s : Slab ListNode) (key start : ℕ) → IsLinked s (Some 0) → Sorted (cells_from s (Some 0)) → HasKeyAtMost key start (cells_from s (Some 0)) → Begun s key start
+start-spot s key start l o h =
     let f = links-from (get s) start (Some 0) (cells_from s (Some 0)) h.cell h.later l.links h.is in
     let short : length (h.cell ∷ h.later) ≤ slab_len s = omega (arith, ap length h.is, length-from start (cells_from s (Some 0)), walk-length (slab_len s) (get s) (Some 0)) in
     let is : cells_from s (Some start) ≡ h.cell ∷ h.later = walk-is (slab_len s) (get s) (Some start) (h.cell ∷ h.later) f.1 short in
@@ -140,12 +140,12 @@ last_not_above_in-head s key last n l u e =
     let low : n.key ≤ key = rw same at u.up_to in
     ap (last_not_above_in key last) st.is ∙ last_not_above_in-on key last (cell_of last n) (cells_from s n.next) low
 
-pub last_not_above_in-end : (s : Slab ListNode) (key last : ℕ) (n : ListNode) → IsLinked s (Some last) → NodeHasKeyAtMost s last key → get s last ≡ Some n → n.next ≡ None → last_not_above_in key last (cells_from s (Some last)) ≡ last
-last_not_above_in-end s key last n l u e none =
+pub last_not_above-end : (s : Slab ListNode) (key last : ℕ) (n : ListNode) → IsLinked s (Some last) → NodeHasKeyAtMost s last key → get s last ≡ Some n → n.next ≡ None → last_not_above_in key last (cells_from s (Some last)) ≡ last
+last_not_above-end s key last n l u e none =
     last_not_above_in-head s key last n l u e ∙ (ap (λ (z : Option ℕ). last_not_above_in key last (cells_from s z)) none ∙ ap (last_not_above_in key last) (walk-none (slab_len s) (get s)))
 
-pub hop : (s : Slab ListNode) (key last place : ℕ) (n m : ListNode) → IsLinked s (Some last) → NodeHasKeyAtMost s last key → get s last ≡ Some n → n.next ≡ Some place → get s place ≡ Some m → Hop s key last place m
-hop s key last place n m l u e next f =
+pub last_not_above-step : (s : Slab ListNode) (key last place : ℕ) (n m : ListNode) → IsLinked s (Some last) → NodeHasKeyAtMost s last key → get s last ≡ Some n → n.next ≡ Some place → get s place ≡ Some m → Hop s key last place m
+last_not_above-step s key last place n m l u e next f =
     let st = cells_from-step_at s last n l e in
     let on = rw next at st.onward in
     let st' = cells_from-step_at s place m on f in
@@ -164,12 +164,12 @@ pub record Inserted (s t : Slab ListNode) (x : Cell) : Type 0 where
   pub cells : cells_from t (Some 0) ≡ put_cell x (cells_from s (Some 0))
 
 -- a node is written at a free place, and then the link to it
-pub inserted : (s m : Slab ListNode) (x : Cell) (start last : ℕ) (n n' : ListNode)
+pub insert-list : (s m : Slab ListNode) (x : Cell) (start last : ℕ) (n n' : ListNode)
     → Begun s x.key start → IsLinked s (Some 0) → last ≡ last_not_above_in x.key start (cells_from s (Some start))
     → get s last ≡ Some n → get s x.at ≡ None → Updates s m x.at (Some (node_of x n.next)) → slab_len m ≡ slab_len s + 1
     → get m last ≡ Some n' → slab_len (with_value m last (record n' { next = Some x.at })) ≡ slab_len s + 1
     → Inserted s (with_value m last (record n' { next = Some x.at })) x
-inserted s m x start last n n' b l e was free_head u len now len' =
+insert-list s m x start last n n' b l e was free_head u len now len' =
     let t = with_value m last (record n' { next = Some x.at }) in
     let apart : last ≢ x.at = λ same. let f : get s last ≡ None = ap (get s) same ∙ free_head in absurd (cc (f, was)) in
     let same : n ≡ n' = cc (was, now, u.others last apart) in

@@ -15,21 +15,21 @@ links-unique g link xs ys l m =
     sym (walk-is (length xs + length ys) g link xs l (omega arith)) ∙ walk-is (length xs + length ys) g link ys m (omega arith)
 
 -- a list does not come back to its first place
-pub away : (g : ℕ → Option ListNode) (c : Cell) (cs : List Cell) → Links g (Some c.at) (c ∷ cs)
+pub links-head_fresh : (g : ℕ → Option ListNode) (c : Cell) (cs : List Cell) → Links g (Some c.at) (c ∷ cs)
     → (link : Option ℕ) (ds : List Cell) → Links g link ds → length ds ≤ length cs → IsFresh c.at ds
-away g c cs full link [] l h = tt
-away g c cs full link (d ∷ ds) l h = (
+links-head_fresh g c cs full link [] l h = tt
+links-head_fresh g c cs full link (d ∷ ds) l h = (
   λ e. let again : Links g (Some c.at) (d ∷ ds) = (ap Some (sym e), l.1) in
       let same : length (d ∷ ds) ≡ length (c ∷ cs) = ap length (links-unique g (Some c.at) (d ∷ ds) (c ∷ cs) again full) in
       absurd (omega arith),
-  away g c cs full l.1.0 ds l.1.2 (omega arith),
+  links-head_fresh g c cs full l.1.0 ds l.1.2 (omega arith),
 )
 
-pub apart-free_head : (g : ℕ → Option ListNode) (p : ℕ) → g p ≡ None → (link : Option ℕ) (cs : List Cell) → Links g link cs → IsFresh p cs
-apart-free_head g p e link [] l = tt
-apart-free_head g p e link (c ∷ cs) l = (
+pub links-fresh : (g : ℕ → Option ListNode) (p : ℕ) → g p ≡ None → (link : Option ℕ) (cs : List Cell) → Links g link cs → IsFresh p cs
+links-fresh g p e link [] l = tt
+links-fresh g p e link (c ∷ cs) l = (
   λ same. let f : g p ≡ Some (node_of c l.1.0) = ap g (sym same) ∙ l.1.1 in absurd (cc),
-  apart-free_head g p e l.1.0 cs l.1.2,
+  links-fresh g p e l.1.0 cs l.1.2,
 )
 
 pub links-frame : (g h : ℕ → Option ListNode) (p q : ℕ) → ((k : ℕ) → k ≢ p → k ≢ q → h k ≡ g k)
@@ -53,8 +53,8 @@ links-from g start link (c ∷ cs) d ds l e =
     ]
 
 -- what the links from a place lead to is the list from it on
-pub cells_from-from : (s : Slab ListNode) (start : ℕ) (d : Cell) (ds : List Cell) → IsLinked s (Some 0) → from start (cells_from s (Some 0)) ≡ d ∷ ds → (IsLinked s (Some start)) × (cells_from s (Some start) ≡ from start (cells_from s (Some 0)))
-cells_from-from s start d ds l e =
+pub cells_from-suffix : (s : Slab ListNode) (start : ℕ) (d : Cell) (ds : List Cell) → IsLinked s (Some 0) → from start (cells_from s (Some 0)) ≡ d ∷ ds → (IsLinked s (Some start)) × (cells_from s (Some start) ≡ from start (cells_from s (Some 0)))
+cells_from-suffix s start d ds l e =
     let f = links-from (get s) start (Some 0) (cells_from s (Some 0)) d ds l.links e in
     let short : length (d ∷ ds) ≤ slab_len s = omega (arith, ap length e, length-from start (cells_from s (Some 0)), walk-length (slab_len s) (get s) (Some 0)) in
     let is : cells_from s (Some start) ≡ d ∷ ds = walk-is (slab_len s) (get s) (Some start) (d ∷ ds) f.1 short in
@@ -118,8 +118,8 @@ with_value-len m k n v e =
     grind (arith, common_steps)
 
 -- no place is in a list twice
-pub apart-links : (g : ℕ → Option ListNode) (link : Option ℕ) (cs : List Cell) → Links g link cs → HasDistinctPlaces cs
-apart-links g link [] l = tt
-apart-links g link (c ∷ cs) l =
+pub links-distinct : (g : ℕ → Option ListNode) (link : Option ℕ) (cs : List Cell) → Links g link cs → HasDistinctPlaces cs
+links-distinct g link [] l = tt
+links-distinct g link (c ∷ cs) l =
     let full : Links g (Some c.at) (c ∷ cs) = (refl, l.1) in
-    (away g c cs full l.1.0 cs l.1.2 (omega arith), apart-links g l.1.0 cs l.1.2)
+    (links-head_fresh g c cs full l.1.0 cs l.1.2 (omega arith), links-distinct g l.1.0 cs l.1.2)

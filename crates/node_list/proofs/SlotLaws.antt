@@ -81,18 +81,18 @@ node-same : (o : Option PackedHeader) (s t : Item) → (IsSome o → s ≡ t) �
 node-same None s t h = refl
 node-same (Some f) s t h = ap (λ (z : Item). Some (unpacked_node f z)) (h refl)
 
-pub writes : (old new : Slab PackedHeader) (ss ts : List Item) (k : ℕ) (o : Option PackedHeader) (s : Item) → Updates old new k o → WritesItem ss ts k s → ((j : ℕ) → IsSome (get old j) → j < length ss)
+pub write-both : (old new : Slab PackedHeader) (ss ts : List Item) (k : ℕ) (o : Option PackedHeader) (s : Item) → Updates old new k o → WritesItem ss ts k s → ((j : ℕ) → IsSome (get old j) → j < length ss)
     → (get_or (nodes_of new.slots ts) k None ≡ node_at o s) × ((j : ℕ) → j ≢ k → get_or (nodes_of new.slots ts) j None ≡ get_or (nodes_of old.slots ss) j None)
-writes old new ss ts k o s u p was = (
+write-both old new ss ts k o s u p was = (
   get-nodes new.slots ts k ∙ (ap (λ (z : Option PackedHeader). node_at z (get_or ts k placeholder)) u.changed ∙ ap (node_at o) (get_or_from_slice_get ts k s placeholder p.here)),
   λ j other. get-nodes new.slots ts j
       ∙ (ap (λ (z : Option PackedHeader). node_at z (get_or ts j placeholder)) (u.others j other) ∙ (node-same (get old j) (get_or ts j placeholder) (get_or ss j placeholder) (λ some. p.others j other (was j some)) ∙ sym (get-nodes old.slots ss j))),
 )
 
 -- a place with a node has a slot again
-pub within-after : (old new : Slab PackedHeader) (ss ts : List Item) (k : ℕ) (o : Option PackedHeader) (s : Item) → Updates old new k o → WritesItem ss ts k s
+pub write-within : (old new : Slab PackedHeader) (ss ts : List Item) (k : ℕ) (o : Option PackedHeader) (s : Item) → Updates old new k o → WritesItem ss ts k s
     → ((j : ℕ) → IsSome (get old j) → j < length ss) → (j : ℕ) → IsSome (get new j) → j < length ts
-within-after old new ss ts k o s u p was j some =
+write-within old new ss ts k o s u p was j some =
     let P : Option PackedHeader → Type 0 = λ z. IsSome z in
     elim (cases_eq j k) [
       | inl same ↦ omega (arith, same, slice_get_within ts k s p.here)
@@ -104,18 +104,18 @@ unmarked : (b : Bool) (k lower j : ℕ) → (b ≡ true → lower ≤ k) → j �
 unmarked true k lower j item same h = absurd (omega (arith, item refl, same, h))
 unmarked false k lower j item same h = refl
 
-pub below-after : (old new : Slab PackedHeader) (k : ℕ) (f : PackedHeader) (first_item_bound lower : ℕ) → Updates old new k (Some f) → lower ≤ first_item_bound → (is_item f ≡ true → lower ≤ k) → ((j : ℕ) → j < first_item_bound → has_item_at (get old j) ≡ false)
+pub insert-below : (old new : Slab PackedHeader) (k : ℕ) (f : PackedHeader) (first_item_bound lower : ℕ) → Updates old new k (Some f) → lower ≤ first_item_bound → (is_item f ≡ true → lower ≤ k) → ((j : ℕ) → j < first_item_bound → has_item_at (get old j) ≡ false)
     → (j : ℕ) → j < lower → has_item_at (get new j) ≡ false
-below-after old new k f first_item_bound lower u less item was j h =
+insert-below old new k f first_item_bound lower u less item was j h =
     elim (cases_eq j k) [
       | inl same ↦ ap (λ n. has_item_at (get new n)) same ∙ (ap has_item_at u.changed ∙ unmarked (is_item f) k lower j item same h)
       | inr other ↦ ap has_item_at (u.others j other) ∙ was j (omega (arith, h, less))
     ]
 
 -- a removal passes places without an item
-pub below-bound_after_remove : (old new : Slab PackedHeader) (k : ℕ) (o : Option PackedHeader) (first_item_bound higher : ℕ) → Updates old new k o → has_item_at o ≡ false → HasNoItemBetween first_item_bound higher new → ((j : ℕ) → j < first_item_bound → has_item_at (get old j) ≡ false)
+pub remove-below : (old new : Slab PackedHeader) (k : ℕ) (o : Option PackedHeader) (first_item_bound higher : ℕ) → Updates old new k o → has_item_at o ≡ false → HasNoItemBetween first_item_bound higher new → ((j : ℕ) → j < first_item_bound → has_item_at (get old j) ≡ false)
     → (j : ℕ) → j < higher → has_item_at (get new j) ≡ false
-below-bound_after_remove old new k o first_item_bound higher u none passed was j h =
+remove-below old new k o first_item_bound higher u none passed was j h =
     elim (cases_lt j first_item_bound) [
       | inl below ↦ elim (cases_eq j k) [
         | inl same ↦ ap (λ n. has_item_at (get new n)) same ∙ (ap has_item_at u.changed ∙ none)
@@ -125,8 +125,8 @@ below-bound_after_remove old new k o first_item_bound higher u none passed was j
     ]
 
 -- what a read of the second array shows
-pub read : (ss : List Item) (k : ℕ) (s : Item) → k < length ss → s ≡ get_or ss k s → s ≡ get_or ss k placeholder
-read ss k s h e =
+pub read-slot : (ss : List Item) (k : ℕ) (s : Item) → k < length ss → s ≡ get_or ss k s → s ≡ get_or ss k placeholder
+read-slot ss k s h e =
     let a : slice_get ss k ≡ Some s = slice_get-get_or ss k s h ∙ ap Some (sym e) in
     let b : slice_get ss k ≡ Some (get_or ss k placeholder) = slice_get-get_or ss k placeholder h in
     cc (a, b)
@@ -135,8 +135,8 @@ read ss k s h e =
 pub packed-node : (p : PackedHeader) (s : Item) (m : ListNode) → p.key ≡ m.key → next_in p ≡ m.next → item_if (is_item p) s ≡ m.item → unpacked_node p s ≡ m
 packed-node p s m k n i = λ t. let z : ListNode = record { key = k t; next = n t; item = i t } in z
 
-pub relinked : (p q : PackedHeader) (s : Item) (next : Option ℕ) → q.key ≡ p.key → next_in q ≡ next → is_item q ≡ is_item p → unpacked_node q s ≡ record (unpacked_node p s) { next = next }
-relinked p q s next k n i = λ t. let z : ListNode = record { key = k t; next = n t; item = item_if (i t) s } in z
+pub set_next-node : (p q : PackedHeader) (s : Item) (next : Option ℕ) → q.key ≡ p.key → next_in q ≡ next → is_item q ≡ is_item p → unpacked_node q s ≡ record (unpacked_node p s) { next = next }
+set_next-node p q s next k n i = λ t. let z : ListNode = record { key = k t; next = n t; item = item_if (i t) s } in z
 
 -- a node reference shows the node
 pub node_ref-unpacked_node : (p : PackedHeader) (s : Item) (f : NodeHeader) (b : Bool) → f.key ≡ p.key → f.next ≡ next_in p → b ≡ is_item p → Some (unpacked_node p s) ≡ Some (let m : ListNode = record { key = f.key; next = f.next; item = item_if b s } in m)

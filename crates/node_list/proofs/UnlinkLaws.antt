@@ -10,48 +10,48 @@ use Rattle.node_list.specs.Changes.{without}
 use Rattle.node_list.specs.inside.Walks.{Links, IsLinked, cells_from, cell_of, node_of, HasPlace, FirstIsAt, IsPredecessor}
 use Rattle.node_list.proofs.WalkLaws.{walk-is, walk-length, walk-none, cells_from-step_at}
 use Rattle.node_list.proofs.CellLaws.{without-here, without-on, from-here, from-on, length-without}
-use Rattle.node_list.proofs.PlaceLaws.{away, links-frame}
+use Rattle.node_list.proofs.PlaceLaws.{links-head_fresh, links-frame}
 
 -- ---- the places of the two nodes
 starts-apart : (at p : ℕ) (cs : List Cell) → FirstIsAt at cs → IsFresh p cs → at ≢ p
 starts-apart at p [] s a = absurd s
 starts-apart at p (c ∷ cs) s a = λ e. a.0 (s ∙ e)
 
-before-apart : (before at p : ℕ) (cs : List Cell) → IsPredecessor before at cs → IsFresh p cs → (before ≢ p) × (at ≢ p)
-before-apart before at p [] b a = absurd b
-before-apart before at p (c ∷ cs) b a =
+predecessor-apart : (before at p : ℕ) (cs : List Cell) → IsPredecessor before at cs → IsFresh p cs → (before ≢ p) × (at ≢ p)
+predecessor-apart before at p [] b a = absurd b
+predecessor-apart before at p (c ∷ cs) b a =
     elim b [
       | inl here ↦ (λ e. a.0 (here.0 ∙ e), starts-apart at p cs here.1 a.1)
-      | inr later ↦ before-apart before at p cs later a.1
+      | inr later ↦ predecessor-apart before at p cs later a.1
     ]
 
 starts-has : (at : ℕ) (cs : List Cell) → FirstIsAt at cs → HasPlace at cs
 starts-has at [] s = absurd s
 starts-has at (c ∷ cs) s = inl s
 
-pub before-has : (before at : ℕ) (cs : List Cell) → IsPredecessor before at cs → HasPlace at cs
-before-has before at [] b = absurd b
-before-has before at (c ∷ cs) b =
-    elim b [ inl here ↦ inr (starts-has at cs here.1) | inr later ↦ inr (before-has before at cs later) ]
+pub predecessor-has_place : (before at : ℕ) (cs : List Cell) → IsPredecessor before at cs → HasPlace at cs
+predecessor-has_place before at [] b = absurd b
+predecessor-has_place before at (c ∷ cs) b =
+    elim b [ inl here ↦ inr (starts-has at cs here.1) | inr later ↦ inr (predecessor-has_place before at cs later) ]
 
-pub before-differs : (g : ℕ → Option ListNode) (before at : ℕ) (link : Option ℕ) (cs : List Cell) → Links g link cs → IsPredecessor before at cs → before ≢ at
-before-differs g before at link [] l b = absurd b
-before-differs g before at link (c ∷ cs) l b =
+pub predecessor-differs : (g : ℕ → Option ListNode) (before at : ℕ) (link : Option ℕ) (cs : List Cell) → Links g link cs → IsPredecessor before at cs → before ≢ at
+predecessor-differs g before at link [] l b = absurd b
+predecessor-differs g before at link (c ∷ cs) l b =
     elim b [
       | inl here ↦
           let full : Links g (Some c.at) (c ∷ cs) = (refl, l.1) in
-          let once : IsFresh c.at cs = away g c cs full l.1.0 cs l.1.2 (omega arith) in
+          let once : IsFresh c.at cs = links-head_fresh g c cs full l.1.0 cs l.1.2 (omega arith) in
           let other : at ≢ c.at = starts-apart at c.at cs here.1 once in
           λ e. other (sym e ∙ sym here.0)
-      | inr later ↦ before-differs g before at l.1.0 cs l.1.2 later
+      | inr later ↦ predecessor-differs g before at l.1.0 cs l.1.2 later
     ]
 
-pub before-node : (g : ℕ → Option ListNode) (before at : ℕ) (link : Option ℕ) (cs : List Cell) → Links g link cs → IsPredecessor before at cs → (node : ListNode) × (g before ≡ Some node)
-before-node g before at link [] l b = absurd b
-before-node g before at link (c ∷ cs) l b =
+pub predecessor-node : (g : ℕ → Option ListNode) (before at : ℕ) (link : Option ℕ) (cs : List Cell) → Links g link cs → IsPredecessor before at cs → (node : ListNode) × (g before ≡ Some node)
+predecessor-node g before at link [] l b = absurd b
+predecessor-node g before at link (c ∷ cs) l b =
     elim b [
       | inl here ↦ (node_of c l.1.0, ap g (sym here.0) ∙ l.1.1)
-      | inr later ↦ before-node g before at l.1.0 cs l.1.2 later
+      | inr later ↦ predecessor-node g before at l.1.0 cs l.1.2 later
     ]
 
 pub has-node : (g : ℕ → Option ListNode) (at : ℕ) (link : Option ℕ) (cs : List Cell) → Links g link cs → HasPlace at cs → (node : ListNode) × (g at ≡ Some node)
@@ -62,13 +62,13 @@ has-node g at link (c ∷ cs) l h =
       | inr later ↦ has-node g at l.1.0 cs l.1.2 later
     ]
 
-pub before-unpacked_node : (before at start : ℕ) (cs : List Cell) → IsPredecessor before at (from start cs) → IsPredecessor before at cs
-before-unpacked_node before at start [] b = b
-before-unpacked_node before at start (c ∷ cs) b =
+pub predecessor-whole_list : (before at start : ℕ) (cs : List Cell) → IsPredecessor before at (from start cs) → IsPredecessor before at cs
+predecessor-whole_list before at start [] b = b
+predecessor-whole_list before at start (c ∷ cs) b =
     let P : List Cell → Type 0 = λ zs. IsPredecessor before at zs in
     elim (cases_eq c.at start) [
       | inl here ↦ subst P (from-here start c cs here) b
-      | inr other ↦ inr (before-unpacked_node before at start cs (subst P (from-on start c cs other) b))
+      | inr other ↦ inr (predecessor-whole_list before at start cs (subst P (from-on start c cs other) b))
     ]
 
 starts-after : (start at : ℕ) (cs zs : List Cell) → from start cs ≡ zs → HasPlace at (all_but_first zs) → IsPlaceOf start cs
@@ -89,9 +89,9 @@ pub record Way (s : Slab ListNode) (before place at : ℕ) : Type 0 where
 has-later : (at : ℕ) (c : Cell) (cs : List Cell) → HasPlace at (c ∷ cs) → c.at ≢ at → HasPlace at cs
 has-later at c cs h other = elim h [ inl here ↦ absurd (other here) | inr later ↦ later ]
 
-pub way : (s : Slab ListNode) (before place at : ℕ) (n m : ListNode) → IsLinked s (Some before) → HasPlace at (all_but_first (cells_from s (Some before)))
+pub predecessor-step : (s : Slab ListNode) (before place at : ℕ) (n m : ListNode) → IsLinked s (Some before) → HasPlace at (all_but_first (cells_from s (Some before)))
     → get s before ≡ Some n → n.next ≡ Some place → get s place ≡ Some m → Way s before place at
-way s before place at n m l h e next f =
+predecessor-step s before place at n m l h e next f =
     let st = cells_from-step_at s before n l e in
     let onward : IsLinked s (Some place) = rw next at st.onward in
     let st' = cells_from-step_at s place m onward f in
@@ -135,9 +135,9 @@ unsplice-here : (g h : ℕ → Option ListNode) (before at : ℕ) → Unspliced 
 unsplice-here g h before at u link c [] l e s = absurd s
 unsplice-here g h before at u link c (d ∷ ds) l e s =
     let full : Links g (Some c.at) (c ∷ d ∷ ds) = (refl, l.1) in
-    let once : IsFresh c.at (d ∷ ds) = away g c (d ∷ ds) full l.1.0 (d ∷ ds) l.1.2 (omega arith) in
+    let once : IsFresh c.at (d ∷ ds) = links-head_fresh g c (d ∷ ds) full l.1.0 (d ∷ ds) l.1.2 (omega arith) in
     let full' : Links g (Some d.at) (d ∷ ds) = (refl, l.1.2.1) in
-    let once' : IsFresh d.at ds = away g d ds full' l.1.2.1.0 ds l.1.2.1.2 (omega arith) in
+    let once' : IsFresh d.at ds = links-head_fresh g d ds full' l.1.2.1.0 ds l.1.2.1.2 (omega arith) in
     let other : c.at ≢ at = λ same. once.0 (s ∙ sym same) in
     let node : u.node ≡ node_of c l.1.0 = cc (u.was, l.1.1, e) in
     let gone : u.gone ≡ node_of d l.1.2.1.0 = cc (u.out, l.1.2.1.1, s) in
@@ -159,8 +159,8 @@ unsplice g h before at u link (c ∷ cs) l b =
       | inl here ↦ unsplice-here g h before at u link c cs l here.0 here.1
       | inr later ↦
           let full : Links g (Some c.at) (c ∷ cs) = (refl, l.1) in
-          let once : IsFresh c.at cs = away g c cs full l.1.0 cs l.1.2 (omega arith) in
-          let apart = before-apart before at c.at cs later once in
+          let once : IsFresh c.at cs = links-head_fresh g c cs full l.1.0 cs l.1.2 (omega arith) in
+          let apart = predecessor-apart before at c.at cs later once in
           let other : c.at ≢ at = λ e. apart.1 (sym e) in
           let L : List Cell → Type 0 = λ zs. Links h link zs in
           subst L (sym (without-on at c cs other))
@@ -175,20 +175,20 @@ unspliced-cells_from : (s t : Slab ListNode) (before at : ℕ) → IsLinked s (S
 unspliced-cells_from s t before at l u b len =
     let links : Links (get t) (Some 0) (without at (cells_from s (Some 0))) = unsplice (get s) (get t) before at u (Some 0) (cells_from s (Some 0)) l.links b in
     let short : length (without at (cells_from s (Some 0))) ≤ slab_len t =
-    omega (arith, len, length-without at (cells_from s (Some 0)) (before-has before at (cells_from s (Some 0)) b), walk-length (slab_len s) (get s) (Some 0)) in
+    omega (arith, len, length-without at (cells_from s (Some 0)) (predecessor-has_place before at (cells_from s (Some 0)) b), walk-length (slab_len s) (get s) (Some 0)) in
     let is : cells_from t (Some 0) ≡ without at (cells_from s (Some 0)) = walk-is (slab_len t) (get t) (Some 0) (without at (cells_from s (Some 0))) links short in
     let L : List Cell → Type 0 = λ zs. Links (get t) (Some 0) zs in
     record { linked = record { links = subst L (sym is) links }; cells = is }
 
 -- a place becomes free, and then the link leads past it
-pub unlinked : (s m : Slab ListNode) (before at : ℕ) (n' gone : ListNode)
+pub unlink-list : (s m : Slab ListNode) (before at : ℕ) (n' gone : ListNode)
     → IsLinked s (Some 0) → IsPredecessor before at (cells_from s (Some 0))
     → get s at ≡ Some gone → Updates s m at None → slab_len m + 1 ≡ slab_len s
     → get m before ≡ Some n' → slab_len (with_value m before (record n' { next = gone.next })) ≡ slab_len m
     → Unlinked s (with_value m before (record n' { next = gone.next })) at
-unlinked s m before at n' gone l b out u len now len' =
+unlink-list s m before at n' gone l b out u len now len' =
     let t = with_value m before (record n' { next = gone.next }) in
-    let other : before ≢ at = before-differs (get s) before at (Some 0) (cells_from s (Some 0)) l.links b in
+    let other : before ≢ at = predecessor-differs (get s) before at (Some 0) (cells_from s (Some 0)) l.links b in
     let O : Option ListNode → Type 0 = λ o. IsSome o in
     let w = Updates-with_value m before (record n' { next = gone.next }) (subst O (sym now) refl) in
     let p : Unspliced (get s) (get (with_value m before (record n' { next = gone.next }))) before at = record {

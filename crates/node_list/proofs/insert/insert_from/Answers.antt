@@ -3,20 +3,20 @@ use Rattle.slab.specs.Slab.{Slab, get, slab_len, with_value, Updates}
 use Rattle.node_list.specs.Cells.{new_cell}
 use Rattle.node_list.specs.inside.Walks.{cells_from, node_of, last_not_above_in}
 use Rattle.node_list.specs.declared.node.ListNode.{ListNode}
-use Rattle.node_list.proofs.InsertLaws.{Inserted, begun, inserted, spot-node}
-use Rattle.node_list.proofs.PlaceLaws.{with_value-len, apart-free_head}
+use Rattle.node_list.proofs.InsertLaws.{Inserted, start-spot, insert-list, spot-node}
+use Rattle.node_list.proofs.PlaceLaws.{with_value-len, links-fresh}
 use Rattle.node_list.proofs.insert.insert_from.Goals as goal
 use Rattle.node_list.proofs.insert.insert_from.Goals.{After-set_next}
 
 pub last_not_above-last-requires-clause-linked : goal.last_not_above-last-requires-clause-linked
-last_not_above-last-requires-clause-linked c = (begun c.args.nodes.now c.args.key c.args.start c.requires.linked c.requires.sorted c.requires.start).linked
+last_not_above-last-requires-clause-linked c = (start-spot c.args.nodes.now c.args.key c.args.start c.requires.linked c.requires.sorted c.requires.start).linked
 
 pub last_not_above-last-requires-clause-up_to : goal.last_not_above-last-requires-clause-up_to
-last_not_above-last-requires-clause-up_to c = (begun c.args.nodes.now c.args.key c.args.start c.requires.linked c.requires.sorted c.requires.start).up_to
+last_not_above-last-requires-clause-up_to c = (start-spot c.args.nodes.now c.args.key c.args.start c.requires.linked c.requires.sorted c.requires.start).up_to
 
 pub header-next-requires : goal.header-next-requires
 header-next-requires c =
-    let spot = (begun c.args.nodes.now c.args.key c.args.start c.requires.linked c.requires.sorted c.requires.start).spot in
+    let spot = (start-spot c.args.nodes.now c.args.key c.args.start c.requires.linked c.requires.sorted c.requires.start).spot in
     let found = spot-node (get c.args.nodes.now) c.args.key (last_not_above_in c.args.key c.args.start (cells_from c.args.nodes.now (Some c.args.start))) (Some 0) (cells_from c.args.nodes.now (Some 0)) c.requires.linked.links spot in
     let P : Option ListNode → Type 0 = λ o. IsSome o in
     subst P (sym (ap (get c.args.nodes.now) c.last_not_above-last.ensures ∙ found.1)) refl
@@ -35,7 +35,7 @@ done c =
     let V : Slab ListNode → Type 0 = λ v. Inserted old v x in
     let len = with_value-len m last n (record n { next = Some at }) c.set_next.ensures.was in
     subst V (sym c.set_next.ensures.now) (subst I (sym c.to.ensures)
-    (inserted old m x c.args.start last c.header-next.ensures.node n (begun old c.args.key c.args.start c.requires.linked c.requires.sorted c.requires.start)
+    (insert-list old m x c.args.start last c.header-next.ensures.node n (start-spot old c.args.key c.args.start c.requires.linked c.requires.sorted c.requires.start)
     c.requires.linked c.last_not_above-last.ensures c.header-next.ensures.is c.insert_reserved-place.ensures.was_vacant (subst U (sym c.header-next.ensures.next) c.insert_reserved-place.ensures.updates)
     c.insert_reserved-place.ensures.len c.set_next.ensures.was (len ∙ c.insert_reserved-place.ensures.len)))
 
@@ -47,7 +47,7 @@ returns-clause-cells c = (done (goal.at.returns-clause-cells c).After-set_next).
 
 pub returns-clause-fresh : goal.returns-clause-fresh
 returns-clause-fresh c =
-    apart-free_head (get c.args.nodes.now) c.insert_reserved-place.result c.insert_reserved-place.ensures.was_vacant (Some 0) (cells_from c.args.nodes.now (Some 0)) c.requires.linked.links
+    links-fresh (get c.args.nodes.now) c.insert_reserved-place.result c.insert_reserved-place.ensures.was_vacant (Some 0) (cells_from c.args.nodes.now (Some 0)) c.requires.linked.links
 
 pub set_next-requires-clause-has : goal.set_next-requires-clause-has
 set_next-requires-clause-has c =

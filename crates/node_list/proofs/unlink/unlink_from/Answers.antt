@@ -4,21 +4,21 @@ use Rattle.node_list.specs.Cells.{Cell}
 use Rattle.node_list.specs.Places.{all_but_first}
 use Rattle.node_list.specs.inside.Walks.{cells_from, HasPlace, IsPredecessor}
 use Rattle.node_list.specs.declared.node.ListNode.{ListNode}
-use Rattle.node_list.proofs.PlaceLaws.{cells_from-from, with_value-len}
-use Rattle.node_list.proofs.UnlinkLaws.{is_place-after, before-unpacked_node, before-has, before-node, before-differs, has-node, Unlinked, unlinked}
+use Rattle.node_list.proofs.PlaceLaws.{cells_from-suffix, with_value-len}
+use Rattle.node_list.proofs.UnlinkLaws.{is_place-after, predecessor-whole_list, predecessor-has_place, predecessor-node, predecessor-differs, has-node, Unlinked, unlink-list}
 use Rattle.node_list.proofs.unlink.unlink_from.Goals as goal
 use Rattle.node_list.proofs.unlink.unlink_from.Goals.{After-predecessor-before, After-set_next}
 
 pub predecessor-before-requires-clause-linked : goal.predecessor-before-requires-clause-linked
 predecessor-before-requires-clause-linked c =
     let s = is_place-after c.args.start c.args.at (cells_from c.args.nodes.now (Some 0)) c.requires.after in
-    (cells_from-from c.args.nodes.now c.args.start s.cell s.later c.requires.linked s.is).0
+    (cells_from-suffix c.args.nodes.now c.args.start s.cell s.later c.requires.linked s.is).0
 
 pub predecessor-before-requires-clause-after : goal.predecessor-before-requires-clause-after
 predecessor-before-requires-clause-after c =
     let s = is_place-after c.args.start c.args.at (cells_from c.args.nodes.now (Some 0)) c.requires.after in
     let P : List Cell → Type 0 = λ zs. HasPlace c.args.at (all_but_first zs) in
-    subst P (sym (cells_from-from c.args.nodes.now c.args.start s.cell s.later c.requires.linked s.is).1) c.requires.after
+    subst P (sym (cells_from-suffix c.args.nodes.now c.args.start s.cell s.later c.requires.linked s.is).1) c.requires.after
 
 -- the predecessor in the list from `start` on is the predecessor in the whole list
 stands : (c : After-predecessor-before) → IsPredecessor c.predecessor-before.result c.args.at (cells_from c.args.nodes.now (Some 0))
@@ -26,7 +26,7 @@ stands c =
     let cells = cells_from c.args.nodes.now (Some 0) in
     let s = is_place-after c.args.start c.args.at cells c.requires.after in
     let P : List Cell → Type 0 = λ zs. IsPredecessor c.predecessor-before.result c.args.at zs in
-    before-unpacked_node c.predecessor-before.result c.args.at c.args.start cells (subst P (cells_from-from c.args.nodes.now c.args.start s.cell s.later c.requires.linked s.is).1 c.predecessor-before.ensures)
+    predecessor-whole_list c.predecessor-before.result c.args.at c.args.start cells (subst P (cells_from-suffix c.args.nodes.now c.args.start s.cell s.later c.requires.linked s.is).1 c.predecessor-before.ensures)
 
 -- the list after the link leads past the node
 done : (c : After-set_next) → IsPredecessor c.predecessor-before.result c.args.at (cells_from c.args.nodes.now (Some 0)) → Unlinked c.args.nodes.now c.set_next.new.self c.args.at
@@ -36,22 +36,22 @@ done c b =
     let n = c.set_next.ensures.node in
     let V : Slab ListNode → Type 0 = λ v. Unlinked c.args.nodes.now v c.args.at in
     subst V (sym c.set_next.ensures.now)
-    (unlinked c.args.nodes.now m before c.args.at n c.remove-node.result c.requires.linked b
+    (unlink-list c.args.nodes.now m before c.args.at n c.remove-node.result c.requires.linked b
     c.remove-node.ensures.value c.remove-node.ensures.updates c.remove-node.ensures.len c.set_next.ensures.was
     (with_value-len m before n (record n { next = c.remove-node.result.next }) c.set_next.ensures.was))
 
 pub remove-node-requires : goal.remove-node-requires
 remove-node-requires c =
     let b = stands (goal.at.remove-node-requires c).After-predecessor-before in
-    let n = has-node (get c.args.nodes.now) c.args.at (Some 0) (cells_from c.args.nodes.now (Some 0)) c.requires.linked.links (before-has c.predecessor-before.result c.args.at (cells_from c.args.nodes.now (Some 0)) b) in
+    let n = has-node (get c.args.nodes.now) c.args.at (Some 0) (cells_from c.args.nodes.now (Some 0)) c.requires.linked.links (predecessor-has_place c.predecessor-before.result c.args.at (cells_from c.args.nodes.now (Some 0)) b) in
     let O : Option ListNode → Type 0 = λ o. IsSome o in
     subst O (sym n.1) refl
 
 pub set_next-requires-clause-has : goal.set_next-requires-clause-has
 set_next-requires-clause-has c =
     let b = stands (goal.at.set_next-requires-clause-has c).After-predecessor-before in
-    let n = before-node (get c.args.nodes.now) c.predecessor-before.result c.args.at (Some 0) (cells_from c.args.nodes.now (Some 0)) c.requires.linked.links b in
-    let other = before-differs (get c.args.nodes.now) c.predecessor-before.result c.args.at (Some 0) (cells_from c.args.nodes.now (Some 0)) c.requires.linked.links b in
+    let n = predecessor-node (get c.args.nodes.now) c.predecessor-before.result c.args.at (Some 0) (cells_from c.args.nodes.now (Some 0)) c.requires.linked.links b in
+    let other = predecessor-differs (get c.args.nodes.now) c.predecessor-before.result c.args.at (Some 0) (cells_from c.args.nodes.now (Some 0)) c.requires.linked.links b in
     let O : Option ListNode → Type 0 = λ o. IsSome o in
     subst O (sym (c.remove-node.ensures.updates.others c.predecessor-before.result other ∙ n.1)) refl
 

@@ -6,7 +6,7 @@ use Rattle.node_list.specs.Changes.{cells_with}
 use Rattle.node_list.specs.declared.node.ListNode.{ListNode}
 use Rattle.node_list.specs.declared.node.Item.{Item}
 use Rattle.node_list.proofs.PlaceLaws.{place-node}
-use Rattle.node_list.proofs.ChainLaws.{lent-in}
+use Rattle.node_list.proofs.ChainLaws.{chain_mut-nodes}
 use Rattle.node_list.proofs.list.NodeList.chain_mut.Goals as goal
 
 pub chain_mut-requires : goal.chain_mut-requires
@@ -17,7 +17,7 @@ chain_mut-requires c =
     record { node = f.node; is = f.is; has = subst P (sym (f.item ∙ c.requires.has)) refl }
 
 pub invariant_of-self-lent : goal.invariant_of-self-lent
-invariant_of-self-lent c = λ w. (lent-in c.self.inside.nodes c.args.at w c.chain_mut.ensures.value.node c.self.invariant c.chain_mut.ensures.value.is).list
+invariant_of-self-lent c = λ w. (chain_mut-nodes c.self.inside.nodes c.args.at w c.chain_mut.ensures.value.node c.self.invariant c.chain_mut.ensures.value.is).list
 
 pub returns : goal.returns
 returns c =
@@ -29,7 +29,7 @@ returns c =
         refl,
         λ w.
             ap (λ (zs : List Cell). record { cells = zs; capacity = c.self.inside.nodes.capacity })
-            (lent-in c.self.inside.nodes c.args.at w c.chain_mut.ensures.value.node c.self.invariant c.chain_mut.ensures.value.is).cells
+            (chain_mut-nodes c.self.inside.nodes c.args.at w c.chain_mut.ensures.value.node c.self.invariant c.chain_mut.ensures.value.is).cells
             ∙ ap (λ (v : ListState). record v { cells = cells_with c.args.at w v.cells }) c.self.view_is,
       ),
       record { lends = tt; value = ap (λ (o : Option Item). option_map (λ (i : Item). i.chain) o) item ∙ c.chain_mut.ensures.value.chain },

@@ -5,7 +5,7 @@ use Rattle.node_list.specs.Places.{from, cells_after, first_item}
 use Rattle.node_list.specs.declared.node.ListNode.{ListNode}
 use Rattle.node_list.specs.inside.Walks.{cells_from}
 use Rattle.node_list.specs.ListState.{ListState}
-use Rattle.node_list.proofs.PlaceLaws.{place-node, apart-links, from-has, from-cells_after}
+use Rattle.node_list.proofs.PlaceLaws.{place-node, links-distinct, from-has, from-cells_after}
 use Rattle.node_list.proofs.CellLaws.{length-without}
 use Rattle.node_list.proofs.ListLaws.{without-list}
 use Rattle.node_list.proofs.list.NodeList.unlink.Goals as goal
@@ -19,7 +19,7 @@ pub unreachable-requires : goal.unreachable-requires
 unreachable-requires c =
     let cells = cells_from c.self.inside.nodes (Some 0) in
     let e = ap (λ (v : ListState). from c.args.at (cells_after c.args.start v.cells)) c.self.view_is ∙ c.requires.is in
-    let apart = apart-links (get c.self.inside.nodes) (Some 0) cells c.self.invariant.linked.links in
+    let apart = links-distinct (get c.self.inside.nodes) (Some 0) cells c.self.invariant.linked.links in
     let unpacked_node = from-cells_after c.args.start c.args.at cells c.requires.cell c.requires.later apart e in
     let f = place-node c.self.inside.nodes c.args.at c.requires.cell c.requires.later c.self.invariant.linked unpacked_node in
     let same : f.node ≡ c.unlink_from-item.result = cc (f.is, c.unlink_from-item.ensures.node) in
@@ -30,7 +30,7 @@ pub invariant_of-self : goal.invariant_of-self
 invariant_of-self c =
     let cells = cells_from c.self.inside.nodes (Some 0) in
     let e = ap (λ (v : ListState). from c.args.at (cells_after c.args.start v.cells)) c.self.view_is ∙ c.requires.is in
-    let apart = apart-links (get c.self.inside.nodes) (Some 0) cells c.self.invariant.linked.links in
+    let apart = links-distinct (get c.self.inside.nodes) (Some 0) cells c.self.invariant.linked.links in
     let unpacked_node = from-cells_after c.args.start c.args.at cells c.requires.cell c.requires.later apart e in
     without-list c.self.inside.nodes c.unlink_from-item.new.nodes c.args.at c.requires.cell c.requires.later c.requires.item c.self.invariant unpacked_node c.requires.has
     c.unlink_from-item.ensures.linked c.unlink_from-item.ensures.cells c.unlink_from-item.ensures.len
@@ -39,7 +39,7 @@ pub returns-clause-item : goal.returns-clause-item
 returns-clause-item c =
     let cells = cells_from c.self.inside.nodes (Some 0) in
     let e = ap (λ (v : ListState). from c.args.at (cells_after c.args.start v.cells)) c.self.view_is ∙ c.requires.is in
-    let apart = apart-links (get c.self.inside.nodes) (Some 0) cells c.self.invariant.linked.links in
+    let apart = links-distinct (get c.self.inside.nodes) (Some 0) cells c.self.invariant.linked.links in
     let unpacked_node = from-cells_after c.args.start c.args.at cells c.requires.cell c.requires.later apart e in
     let f = place-node c.self.inside.nodes c.args.at c.requires.cell c.requires.later c.self.invariant.linked unpacked_node in
     let same : f.node ≡ c.unlink_from-item.result = cc (f.is, c.unlink_from-item.ensures.node) in
@@ -50,7 +50,7 @@ pub returns-clause-len : goal.returns-clause-len
 returns-clause-len c =
     let cells = cells_from c.self.inside.nodes (Some 0) in
     let e = ap (λ (v : ListState). from c.args.at (cells_after c.args.start v.cells)) c.self.view_is ∙ c.requires.is in
-    let apart = apart-links (get c.self.inside.nodes) (Some 0) cells c.self.invariant.linked.links in
+    let apart = links-distinct (get c.self.inside.nodes) (Some 0) cells c.self.invariant.linked.links in
     let unpacked_node = from-cells_after c.args.start c.args.at cells c.requires.cell c.requires.later apart e in
     ap (λ (zs : List Cell). length zs + 1) c.unlink_from-item.ensures.cells
     ∙ (length-without c.args.at cells (from-has c.args.at cells c.requires.cell c.requires.later unpacked_node) ∙ ap (λ (v : ListState). length v.cells) c.self.view_is)

@@ -6,9 +6,9 @@ use Rattle.slab.specs.Slab.{Slab, get, slab_len}
 use Rattle.node_list.specs.inside.Slots.{placeholder, node_at, NodesInvariant}
 use Rattle.node_list.specs.inside.FreeList.{live, headers, first_free}
 use Rattle.node_list.proofs.SlotLaws.{count-nodes, get-nodes}
-use Rattle.node_list.proofs.FreePlaceLaws.{allocated-same, same-count}
+use Rattle.node_list.proofs.FreePlaceLaws.{add_free_place-headers_same, same-count}
 use Rattle.node_list.proofs.FreeListLaws.{free_head-fits, no-first}
-use Rattle.node_list.proofs.PartLaws.{roomier, one-allocated}
+use Rattle.node_list.proofs.PartLaws.{reserve-invariant, add_free_place-invariant}
 use Rattle.node_list.proofs.nodes.Nodes.add_free_place.Goals as goal
 use Rattle.node_list.proofs.nodes.Nodes.add_free_place.Goals.{After-to-self-inside}
 
@@ -17,18 +17,18 @@ free-requires c = free_head-fits c.self.inside.nodes c.self.inside.free_head c.s
 
 pub invariant_of-self : goal.invariant_of-self
 invariant_of-self c =
-    roomier c.self.inside.nodes c.reserve_both.new.nodes c.self.inside.items c.reserve_both.new.items c.self.inside.first_item_bound c.self.inside.free_head c.self.inside.len
+    reserve-invariant c.self.inside.nodes c.reserve_both.new.nodes c.self.inside.items c.reserve_both.new.items c.self.inside.first_item_bound c.self.inside.free_head c.self.inside.len
     (ap (λ (s : Slab PackedHeader). s.slots) c.reserve_both.ensures.nodes) c.reserve_both.ensures.items c.reserve_both.ensures.wider c.self.invariant
 
 pub invariant_of-self-2 : goal.invariant_of-self-2
 invariant_of-self-2 c =
     let n = c.reserve_both.new.nodes in
     let at = c.insert_reserved-at.result in
-    let wide = roomier c.self.inside.nodes n c.self.inside.items c.reserve_both.new.items c.self.inside.first_item_bound c.self.inside.free_head c.self.inside.len
+    let wide = reserve-invariant c.self.inside.nodes n c.self.inside.items c.reserve_both.new.items c.self.inside.first_item_bound c.self.inside.free_head c.self.inside.len
     (ap (λ (s : Slab PackedHeader). s.slots) c.reserve_both.ensures.nodes) c.reserve_both.ensures.items c.reserve_both.ensures.wider c.self.invariant in
     let A : Option ℕ → Type 0 = λ o. NodesInvariant c.insert_reserved-at.new.self c.reserve_both.new.items c.self.inside.first_item_bound o c.self.inside.len in
     subst A (sym c.to-self-inside.ensures)
-    (one-allocated n c.insert_reserved-at.new.self c.reserve_both.new.items at c.free.result c.self.inside.first_item_bound c.self.inside.free_head c.self.inside.len
+    (add_free_place-invariant n c.insert_reserved-at.new.self c.reserve_both.new.items at c.free.result c.self.inside.first_item_bound c.self.inside.free_head c.self.inside.len
     c.insert_reserved-at.ensures.was_vacant (omega (arith, c.insert_reserved-at.ensures.key, c.in_ok-reserve_both.ensures.place)) (omega (arith, c.insert_reserved-at.ensures.key, c.in_ok-reserve_both.ensures.fits)) c.insert_reserved-at.ensures.updates c.insert_reserved-at.ensures.len
     c.free.ensures.free c.free.ensures.item c.free.ensures.next wide)
 
@@ -46,7 +46,7 @@ returns-clause-key c = λ full.
 same : (c : After-to-self-inside) → (j : ℕ) → get (headers c.insert_reserved-at.new.self) j ≡ get (headers c.self.inside.nodes) j
 same c j =
     let slots : c.reserve_both.new.nodes.slots ≡ c.self.inside.nodes.slots = ap (λ (s : Slab PackedHeader). s.slots) c.reserve_both.ensures.nodes in
-    allocated-same c.reserve_both.new.nodes c.insert_reserved-at.new.self c.insert_reserved-at.result c.free.result c.insert_reserved-at.ensures.was_vacant c.insert_reserved-at.ensures.updates c.free.ensures.free j
+    add_free_place-headers_same c.reserve_both.new.nodes c.insert_reserved-at.new.self c.insert_reserved-at.result c.free.result c.insert_reserved-at.ensures.was_vacant c.insert_reserved-at.ensures.updates c.free.ensures.free j
     ∙ ap (λ (zs : List (Option PackedHeader)). get_or (map live zs) j None) slots
 
 pub returns-clause-values : goal.returns-clause-values

@@ -6,7 +6,7 @@ use Rattle.slab.specs.Slab.{Slab, get, slab_len}
 use Rattle.node_list.specs.inside.Slots.{unpacked_node, node_at, nodes_of}
 use Rattle.node_list.specs.inside.NodeLending.{node_with, nodes_with}
 use Rattle.node_list.specs.inside.FreeList.{headers, first_free}
-use Rattle.node_list.proofs.SlotLaws.{has-header, header-at, node-is, read, nodes-slot, unpacked_node-with, has-chain}
+use Rattle.node_list.proofs.SlotLaws.{has-header, header-at, node-is, read-slot, nodes-slot, unpacked_node-with, has-chain}
 use Rattle.node_list.proofs.nodes.Nodes.chain_mut.Goals as goal
 
 pub index_mut-requires : goal.index_mut-requires
@@ -34,7 +34,7 @@ returns c =
     let some = subst O (sym get_is) refl in
     let f = header-at (headers c.self.inside.nodes) c.self.inside.items.items c.args.at some in
     let inside : c.args.at < length c.self.inside.items.items = c.self.invariant.within c.args.at (has-header (headers c.self.inside.nodes) c.self.inside.items.items c.args.at some) in
-    let p = node-is (headers c.self.inside.nodes) c.self.inside.items.items c.args.at f.0 c.index_mut.result.now f.1 (read c.self.inside.items.items c.args.at c.index_mut.result.now inside c.index_mut.ensures.value) in (
+    let p = node-is (headers c.self.inside.nodes) c.self.inside.items.items c.args.at f.0 c.index_mut.result.now f.1 (read-slot c.self.inside.items.items c.args.at c.index_mut.result.now inside c.index_mut.ensures.value) in (
       (
         refl,
         λ w.

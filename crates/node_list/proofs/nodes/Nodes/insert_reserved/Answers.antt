@@ -6,9 +6,9 @@ use Rattle.slab.proofs.SlabLemmas.{Updates-with_value}
 use Rattle.node_list.specs.inside.PackedHeader.{is_item, next_in}
 use Rattle.node_list.specs.inside.Slots.{placeholder, item_if, node_at}
 use Rattle.node_list.specs.inside.FreeList.{live, headers, first_free, IsFreeList}
-use Rattle.node_list.proofs.SlotLaws.{get-nodes, writes, within-after, below-after, count-nodes, packed-node}
-use Rattle.node_list.proofs.FreePlaceLaws.{get-live, live-is, live-none, few-allocated, len-written, len-taken, updates-headers, all-allocated}
-use Rattle.node_list.proofs.FreeListLaws.{First, first-free, some-free, no-free, taken}
+use Rattle.node_list.proofs.SlotLaws.{get-nodes, write-both, write-within, insert-below, count-nodes, packed-node}
+use Rattle.node_list.proofs.FreePlaceLaws.{get-live, live-is, live-none, slab_len-at_most, len-written, len-insert, updates-headers, write-keeps_bound}
+use Rattle.node_list.proofs.FreeListLaws.{First, first-free, some-free, no-free, insert-free_list}
 use Rattle.node_list.proofs.nodes.Nodes.insert_reserved.Goals as goal
 use Rattle.node_list.proofs.nodes.Nodes.insert_reserved.Goals.{After-write_item}
 
@@ -29,7 +29,7 @@ overflow_add-self c =
     omega (
       arith,
       some-free c.self.inside.nodes c.self.inside.free_head c.self.inside.len c.in-Some.at c.self.invariant.free_list (sym c.get.ensures ∙ c.in-Some.is),
-      few-allocated c.self.inside.nodes _ c.self.invariant.few,
+      slab_len-at_most c.self.inside.nodes _ c.self.invariant.few,
     )
 
 -- the first free place before, and the slab after
@@ -60,7 +60,7 @@ took c =
       updates = u;
       seen = subst V (live-is q c.new-header.ensures.live) (updates-headers n c.replace_at-free.new.nodes at (Some q) u);
       allocated = subst L (sym c.replace_at-free.ensures.now) (len-written n at q some);
-      len = subst F (sym c.replace_at-free.ensures.now) (len-taken n at f.header q f.is f.free c.new-header.ensures.live);
+      len = subst F (sym c.replace_at-free.ensures.now) (len-insert n at f.header q f.is f.free c.new-header.ensures.live);
     }
 
 pub returns-clause-key : goal.returns-clause-key
@@ -78,7 +78,7 @@ returns-clause-updates c =
     let t = took (goal.at.returns-clause-updates c).After-write_item in
     let packed = c.new-header.result in
     let slot = c.or_placeholder-slot.result in
-    let u = writes (headers c.self.inside.nodes) (headers c.replace_at-free.new.nodes) c.self.inside.items.items c.write_item.new.items.items c.in-Some.at (Some packed) slot t.seen c.write_item.ensures.puts c.self.invariant.within in
+    let u = write-both (headers c.self.inside.nodes) (headers c.replace_at-free.new.nodes) c.self.inside.items.items c.write_item.new.items.items c.in-Some.at (Some packed) slot t.seen c.write_item.ensures.puts c.self.invariant.within in
     let item : item_if (is_item packed) slot ≡ c.args.node.item = ap (λ (b : Bool). item_if b slot) (c.new-header.ensures.item ∙ c.is_some-is_item.ensures) ∙ c.or_placeholder-slot.ensures in
     record {
       changed = u.0 ∙ ap Some (packed-node packed slot c.args.node c.new-header.ensures.key c.new-header.ensures.next item);
@@ -113,16 +113,16 @@ invariant_of-self c =
     let same : t.first.header ≡ c.replace_at-free.result = cc (t.first.is, c.replace_at-free.ensures.value) in
     let S : Option ℕ → Type 0 = λ o. IsFreeList c.replace_at-free.new.nodes o (c.self.inside.len + 1) in
     record {
-      room = λ k some. omega (arith, c.write_item.ensures.capacity, all-allocated c.self.inside.nodes c.replace_at-free.new.nodes c.in-Some.at _ (Some c.new-header.result) t.updates (c.self.invariant.room c.in-Some.at t.some) c.self.invariant.room k some);
-      few = all-allocated c.self.inside.nodes c.replace_at-free.new.nodes c.in-Some.at _ (Some c.new-header.result) t.updates (c.self.invariant.few c.in-Some.at t.some) c.self.invariant.few;
+      room = λ k some. omega (arith, c.write_item.ensures.capacity, write-keeps_bound c.self.inside.nodes c.replace_at-free.new.nodes c.in-Some.at _ (Some c.new-header.result) t.updates (c.self.invariant.room c.in-Some.at t.some) c.self.invariant.room k some);
+      few = write-keeps_bound c.self.inside.nodes c.replace_at-free.new.nodes c.in-Some.at _ (Some c.new-header.result) t.updates (c.self.invariant.few c.in-Some.at t.some) c.self.invariant.few;
       within =
-          within-after (headers c.self.inside.nodes) (headers c.replace_at-free.new.nodes) c.self.inside.items.items c.write_item.new.items.items c.in-Some.at (Some c.new-header.result) c.or_placeholder-slot.result
+          write-within (headers c.self.inside.nodes) (headers c.replace_at-free.new.nodes) c.self.inside.items.items c.write_item.new.items.items c.in-Some.at (Some c.new-header.result) c.or_placeholder-slot.result
           t.seen c.write_item.ensures.puts c.self.invariant.within;
       below =
-          below-after c.self.inside.nodes c.replace_at-free.new.nodes c.in-Some.at c.new-header.result c.self.inside.first_item_bound c.bound_after_insert-self-inside.result
+          insert-below c.self.inside.nodes c.replace_at-free.new.nodes c.in-Some.at c.new-header.result c.self.inside.first_item_bound c.bound_after_insert-self-inside.result
           t.updates c.bound_after_insert-self-inside.ensures.below (λ marked. c.bound_after_insert-self-inside.ensures.item (sym c.new-header.ensures.item ∙ marked)) c.self.invariant.below;
       counted = t.len ∙ ap (λ k. k + 1) c.self.invariant.counted;
       free_list = subst S (ap (λ (z : PackedHeader). next_in z) same ∙ sym c.next-self-inside.ensures.next)
-          (taken c.self.inside.nodes c.replace_at-free.new.nodes c.self.inside.free_head c.in-Some.at c.self.inside.len t.first.header c.new-header.result c.self.invariant.free_list (sym c.get.ensures ∙ c.in-Some.is)
+          (insert-free_list c.self.inside.nodes c.replace_at-free.new.nodes c.self.inside.free_head c.in-Some.at c.self.inside.len t.first.header c.new-header.result c.self.invariant.free_list (sym c.get.ensures ∙ c.in-Some.is)
           t.first.is t.updates c.new-header.ensures.live t.allocated);
     }

@@ -3,7 +3,7 @@ use Rattle.node_list.specs.declared.node.ListNode.{ListNode}
 use Rattle.node_list.specs.inside.Slots.{placeholder, item_if, unpacked_node}
 use Rattle.slab.specs.Slab.{Slab, get}
 use Rattle.node_list.specs.inside.FreeList.{headers}
-use Rattle.node_list.proofs.SlotLaws.{has-header, read}
+use Rattle.node_list.proofs.SlotLaws.{has-header, read-slot}
 use Rattle.node_list.proofs.FreePlaceLaws.{has-live, live-node}
 use Rattle.node_list.proofs.nodes.Nodes.item.Goals as goal
 
@@ -25,7 +25,7 @@ returns-then-is_item c =
     record {
       node = unpacked_node c.index.result.now slot;
       is = sym (ap (λ (v : Slab ListNode). get v c.args.at) c.self.view_is)
-          ∙ live-node c.self.inside.nodes c.self.inside.items.items c.args.at c.index.result.now slot (subst P (sym c.self.view_is) c.requires) c.index.ensures (read c.self.inside.items.items c.args.at slot inside c.index-then-is_item.ensures);
+          ∙ live-node c.self.inside.nodes c.self.inside.items.items c.args.at c.index.result.now slot (subst P (sym c.self.view_is) c.requires) c.index.ensures (read-slot c.self.inside.items.items c.args.at slot inside c.index-then-is_item.ensures);
       shows = ap (λ (b : Bool). item_if b slot) (sym c.is_item.ensures ∙ c.if-is_item.true);
     }
 

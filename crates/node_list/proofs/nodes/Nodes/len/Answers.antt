@@ -3,7 +3,7 @@ use Rattle.node_list.specs.declared.node.ListNode.{ListNode}
 use Rattle.slab.specs.Slab.{Slab, slab_len}
 use Rattle.node_list.specs.inside.FreeList.{headers}
 use Rattle.node_list.proofs.SlotLaws.{count-nodes}
-use Rattle.node_list.proofs.FreePlaceLaws.{few-allocated}
+use Rattle.node_list.proofs.FreePlaceLaws.{slab_len-at_most}
 use Rattle.node_list.proofs.nodes.Nodes.len.Goals as goal
 
 pub returns-clause-value : goal.returns-clause-value
@@ -12,4 +12,4 @@ returns-clause-value c =
 
 pub returns-clause-few : goal.returns-clause-few
 returns-clause-few c =
-    omega (arith, c.self.invariant.free_list.count, few-allocated c.self.inside.nodes _ c.self.invariant.few)
+    omega (arith, c.self.invariant.free_list.count, slab_len-at_most c.self.inside.nodes _ c.self.invariant.few)

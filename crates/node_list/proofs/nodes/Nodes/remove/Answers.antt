@@ -7,9 +7,9 @@ use Rattle.slab.proofs.SlabLemmas.{Updates-with_value}
 use Rattle.node_list.specs.inside.PackedHeader.{is_item}
 use Rattle.node_list.specs.inside.Slots.{item_if}
 use Rattle.node_list.specs.inside.FreeList.{headers, IsFreeList}
-use Rattle.node_list.proofs.SlotLaws.{has-header, read, writes, within-after, below-bound_after_remove, puts-set, count-nodes, packed-node}
-use Rattle.node_list.proofs.FreePlaceLaws.{has-live, live-node, live-at, live-none, allocated, not-free_at, len-written, len-given, updates-headers, all-allocated}
-use Rattle.node_list.proofs.FreeListLaws.{free_head-fits, given}
+use Rattle.node_list.proofs.SlotLaws.{has-header, read-slot, write-both, write-within, remove-below, puts-set, count-nodes, packed-node}
+use Rattle.node_list.proofs.FreePlaceLaws.{has-live, live-node, live-at, live-none, has_header-allocated, not-free_at, len-written, len-remove, updates-headers, write-keeps_bound}
+use Rattle.node_list.proofs.FreeListLaws.{free_head-fits, remove-free_list}
 use Rattle.node_list.proofs.nodes.Nodes.remove.Goals as goal
 use Rattle.node_list.proofs.nodes.Nodes.remove.Goals.{After-replace_at-packed}
 
@@ -41,21 +41,21 @@ gave c =
     let U : Slab PackedHeader → Type 0 = λ m. Updates n m at (Some q) in
     let L : Slab PackedHeader → Type 0 = λ m. slab_len m ≡ slab_len n in
     let F : Slab PackedHeader → Type 0 = λ m. slab_len (headers m) + 1 ≡ slab_len (headers n) in
-    let u = subst U (sym c.replace_at-packed.ensures.now) (Updates-with_value n at q (allocated n at some)) in
+    let u = subst U (sym c.replace_at-packed.ensures.now) (Updates-with_value n at q (has_header-allocated n at some)) in
     let V : Option PackedHeader → Type 0 = λ o. Updates (headers n) (headers c.replace_at-packed.new.nodes) at o in
     record {
       some = some;
       inside = c.self.invariant.within at some;
       updates = u;
       seen = subst V (live-none q c.free.ensures.free) (updates-headers n c.replace_at-packed.new.nodes at (Some q) u);
-      allocated = subst L (sym c.replace_at-packed.ensures.now) (len-written n at q (allocated n at some));
-      len = subst F (sym c.replace_at-packed.ensures.now) (len-given n at l.0 q l.1.0 l.1.1 c.free.ensures.free);
+      allocated = subst L (sym c.replace_at-packed.ensures.now) (len-written n at q (has_header-allocated n at some));
+      len = subst F (sym c.replace_at-packed.ensures.now) (len-remove n at l.0 q l.1.0 l.1.1 c.free.ensures.free);
     }
 
 pub to-self-inside-requires : goal.to-self-inside-requires
 to-self-inside-requires c =
     let g = gave (goal.at.to-self-inside-requires c).After-replace_at-packed in
-    omega (arith, c.self.invariant.few c.args.at (allocated c.self.inside.nodes c.args.at g.some))
+    omega (arith, c.self.invariant.few c.args.at (has_header-allocated c.self.inside.nodes c.args.at g.some))
 
 pub overflow_sub-self : goal.overflow_sub-self
 overflow_sub-self c =
@@ -76,14 +76,14 @@ returns-clause-value c =
     let item : item_if (is_item packed) slot ≡ c.item_of.result = ap (λ (z : Item). item_if (is_item packed) z) (sym c.replace-slot.ensures.value) ∙ sym c.item_of.ensures in
     let node : ListNode = record { key = c.header-key.result.key; next = c.header-key.result.next; item = c.item_of.result } in
     sym (ap (λ (v : Slab ListNode). get v c.args.at) c.self.view_is)
-    ∙ (live-node c.self.inside.nodes c.self.inside.items.items c.args.at packed slot (subst P (sym c.self.view_is) c.requires) c.replace_at-packed.ensures.value (read c.self.inside.items.items c.args.at slot g.inside c.index_mut.ensures.value)
+    ∙ (live-node c.self.inside.nodes c.self.inside.items.items c.args.at packed slot (subst P (sym c.self.view_is) c.requires) c.replace_at-packed.ensures.value (read-slot c.self.inside.items.items c.args.at slot g.inside c.index_mut.ensures.value)
     ∙ ap Some (packed-node packed slot node (sym c.header-key.ensures.key) (sym c.header-key.ensures.next) item))
 
 pub returns-clause-updates : goal.returns-clause-updates
 returns-clause-updates c =
     let g = gave (goal.at.returns-clause-updates c).After-replace_at-packed in
     let slots = c.self.inside.items.items in
-    let u = writes (headers c.self.inside.nodes) (headers c.replace_at-packed.new.nodes) slots (set slots c.args.at c.replace-slot.new.dest) c.args.at None c.replace-slot.new.dest g.seen (puts-set slots c.args.at c.replace-slot.new.dest g.inside) c.self.invariant.within in
+    let u = write-both (headers c.self.inside.nodes) (headers c.replace_at-packed.new.nodes) slots (set slots c.args.at c.replace-slot.new.dest) c.args.at None c.replace-slot.new.dest g.seen (puts-set slots c.args.at c.replace-slot.new.dest g.inside) c.self.invariant.within in
     record { changed = u.0; others = λ k other. u.1 k other ∙ ap (λ (v : Slab ListNode). get v k) c.self.view_is }
 
 pub returns-clause-len : goal.returns-clause-len
@@ -106,12 +106,12 @@ invariant_of-self c =
     let left : slab_len (headers m) ≡ c.self.inside.len - 1 = omega (arith, g.len, c.self.invariant.counted) in
     let S : Option ℕ → Type 0 = λ o. IsFreeList m o (c.self.inside.len - 1) in
     record {
-      room = all-allocated n m c.args.at _ (Some c.free.result) g.updates (c.self.invariant.room c.args.at (allocated n c.args.at g.some)) c.self.invariant.room;
-      few = all-allocated n m c.args.at _ (Some c.free.result) g.updates (c.self.invariant.few c.args.at (allocated n c.args.at g.some)) c.self.invariant.few;
-      within = within-after (headers n) (headers m) slots (set slots c.args.at c.replace-slot.new.dest) c.args.at None c.replace-slot.new.dest g.seen (puts-set slots c.args.at c.replace-slot.new.dest g.inside) c.self.invariant.within;
-      below = below-bound_after_remove n m c.args.at (Some c.free.result) c.self.inside.first_item_bound c.bound_after_remove-self-inside.result g.updates c.free.ensures.item c.bound_after_remove-self-inside.ensures c.self.invariant.below;
+      room = write-keeps_bound n m c.args.at _ (Some c.free.result) g.updates (c.self.invariant.room c.args.at (has_header-allocated n c.args.at g.some)) c.self.invariant.room;
+      few = write-keeps_bound n m c.args.at _ (Some c.free.result) g.updates (c.self.invariant.few c.args.at (has_header-allocated n c.args.at g.some)) c.self.invariant.few;
+      within = write-within (headers n) (headers m) slots (set slots c.args.at c.replace-slot.new.dest) c.args.at None c.replace-slot.new.dest g.seen (puts-set slots c.args.at c.replace-slot.new.dest g.inside) c.self.invariant.within;
+      below = remove-below n m c.args.at (Some c.free.result) c.self.inside.first_item_bound c.bound_after_remove-self-inside.result g.updates c.free.ensures.item c.bound_after_remove-self-inside.ensures c.self.invariant.below;
       counted = left;
       free_list = subst S (sym c.to-self-inside.ensures)
-          (given n m c.self.inside.free_head c.args.at c.self.inside.len (c.self.inside.len - 1) c.free.result c.self.invariant.free_list (not-free_at n c.args.at g.some) g.updates
+          (remove-free_list n m c.self.inside.free_head c.args.at c.self.inside.len (c.self.inside.len - 1) c.free.result c.self.invariant.free_list (not-free_at n c.args.at g.some) g.updates
           c.free.ensures.free c.free.ensures.next (omega (arith, g.len, g.allocated, c.self.invariant.counted)));
     }

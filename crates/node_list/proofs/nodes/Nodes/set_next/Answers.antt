@@ -4,9 +4,9 @@ use Rattle.node_list.specs.declared.packed.PackedHeader.{PackedHeader}
 use Rattle.slab.specs.Slab.{Slab, get, slab_len, with_value}
 use Rattle.node_list.specs.inside.Slots.{placeholder, unpacked_node, nodes_of}
 use Rattle.node_list.specs.inside.FreeList.{headers, first_free}
-use Rattle.node_list.proofs.SlotLaws.{has-header, nodes-header, relinked}
+use Rattle.node_list.proofs.SlotLaws.{has-header, nodes-header, set_next-node}
 use Rattle.node_list.proofs.FreePlaceLaws.{has-live, live-node, headers-set, len-written}
-use Rattle.node_list.proofs.PartLaws.{kept}
+use Rattle.node_list.proofs.PartLaws.{replace-invariant}
 use Rattle.node_list.proofs.nodes.Nodes.set_next.Goals as goal
 
 pub index_mut-packed-requires : goal.index_mut-packed-requires
@@ -31,12 +31,12 @@ returns c =
       now = ap (λ (zs : List (Option ListNode)). let z : Slab ListNode = record { slots = zs; vacant_key = first_free c.self.inside.free_head c.self.inside.nodes.vacant_key; capacity = slab_len (with_value c.self.inside.nodes c.args.at new) } in z) slots
           ∙ (ap (λ k. let z : Slab ListNode = record { slots = set (nodes_of (headers c.self.inside.nodes).slots c.self.inside.items.items) c.args.at (Some (unpacked_node new slot)); vacant_key = first_free c.self.inside.free_head c.self.inside.nodes.vacant_key; capacity = k } in z) allocated
           ∙ (ap (λ (v : Slab ListNode). with_value v c.args.at (unpacked_node new slot)) c.self.view_is
-          ∙ ap (λ (m : ListNode). with_value c.args.self.now c.args.at m) (relinked old new slot c.args.next c.with_next.ensures.key c.with_next.ensures.next c.with_next.ensures.item)));
+          ∙ ap (λ (m : ListNode). with_value c.args.self.now c.args.at m) (set_next-node old new slot c.args.next c.with_next.ensures.key c.with_next.ensures.next c.with_next.ensures.item)));
     }
 
 pub invariant_of-self : goal.invariant_of-self
 invariant_of-self c =
     let P : Slab ListNode → Type 0 = λ v. IsSome (get v c.args.at) in
     let some = has-header (headers c.self.inside.nodes) c.self.inside.items.items c.args.at (subst P (sym c.self.view_is) c.requires.has) in
-    kept c.self.inside.nodes c.self.inside.items c.args.at c.index_mut-packed.result.now c.with_next.result c.self.inside.first_item_bound c.self.inside.free_head c.self.inside.len some
+    replace-invariant c.self.inside.nodes c.self.inside.items c.args.at c.index_mut-packed.result.now c.with_next.result c.self.inside.first_item_bound c.self.inside.free_head c.self.inside.len some
     c.index_mut-packed.ensures.value c.with_next.ensures.live c.with_next.ensures.item c.self.invariant
