@@ -94,6 +94,7 @@ def unproved(logs):
         Part("the tables of calls", [f"{TOP}/.ci/names"], ends_all=True),
         Part("the pages and comments", [f"{TOP}/.ci/prose"], ends_all=True),
         Part("the check of pages itself", [f"{TOP}/.ci/prose", "--self"], ends_all=True),
+        Part("the list of definitions", [f"{TOP}/.ci/definitions"], ends_all=True),
         Part("the scripts", ["rt", "try", "--seconds", "300", "--cases", f"{logs}/scripts"], PROGRAM, ends_all=True),
     ]
 
