@@ -1,12 +1,13 @@
--- Values that are over deep make an object that is too deep, and no others do.
-use Rattle.std.proofs.Common.{◌≡◌, ◌∙◌, ℕ, zero, suc, ◌+◌, ◌-◌, ◌<◌, ◌≤◌, ◌==◌, Bool, true, false, not, ◌&&◌, ◌||◌, List, [], ◌∷◌, map, max, length, slice_set, refl, sym, ap, arith, rules}
+-- Values make an object too deep exactly if one that stays is as deep as a whole object may be.
+use Rattle.std.proofs.Common.{◌≡◌, ◌∙◌, ℕ, zero, suc, pos, ◌+◌, ◌-◌, ◌<◌, ◌≤◌, ◌==◌, Bool, true, false, not, ◌&&◌, ◌||◌, List, [], ◌∷◌, map, max, length, slice_set, refl, sym, ap, arith, rules}
 use Rattle.std.specs.Prelude.{nat_lt, nat_le}
 use Rattle.std.specs.List.{list_any}
 use Rattle.std.proofs.lemmas.Bool.Decides.{nat_tests}
 use Rattle.ets_term.specs.declared.term.Term.{Term, the_lemmas}
-use Rattle.ets_term.specs.declared.term.Term.TheVariants.{Tuple}
+use Rattle.ets_term.specs.declared.term.Term.TheVariants.{Tuple, Int}
 use Rattle.ets_term.specs.Depth.{depth, largest, max_depth, is_too_deep}
-use Rattle.counters.specs.Elements.{has_all, is_over_deep, written}
+use Rattle.counters.specs.Elements.{has_all, with_values_from, with_values, make_too_deep}
+use Rattle.counters.specs.inside.Values.{too_deep_as_element, write_each}
 use Rattle.counters.specs.declared.elements.ElementSpec.{ElementSpec}
 use Rattle.counters.specs.laws.Depths.{MakesTooDeep}
 
@@ -14,11 +15,11 @@ use Rattle.counters.specs.laws.Depths.{MakesTooDeep}
 abbrev is_deep : Term → Bool
 is_deep value = nat_le max_depth (depth value)
 
--- whether some value goes to a position
+-- whether a value is given for a position
 abbrev names : List ElementSpec → ℕ → Bool
 names specs position = list_any (λ later. later.position == position) specs
 
--- whether an element is deep to which no value goes; the first stands behind `i` others
+-- whether an element is deep and gets no value; `i` elements precede the first
 abbrev stays_deep : ℕ → List ElementSpec → List Term → Bool
 stays_deep i specs [] = false
 stays_deep i specs (e ∷ es) = (is_deep e && not (names specs (suc i))) || stays_deep (suc i) specs es
@@ -46,14 +47,14 @@ or-false : (a b : Bool) → (a || b) ≡ false → (a ≡ false) × (b ≡ false
 or-false true b h = cc
 or-false false b h = (refl, h)
 
--- a value in front of an element does not concern it
+-- a value for an earlier element changes nothing
 past : (i : ℕ) (s : ElementSpec) (ss : List ElementSpec) (es : List Term) → s.position ≤ i → stays_deep i (s ∷ ss) es ≡ stays_deep i ss es
 past i s ss [] h = refl
 past i s ss (e ∷ es) h =
     let other : (s.position == suc i) ≡ false = grind (arith, nat_tests, h) in
     rw (other, past (suc i) s ss es (omega (arith, h))) refl
 
--- one value is written
+-- one value is write_each
 put : (i k : ℕ) (s : ElementSpec) (ss : List ElementSpec) (es : List Term) → s.position ≡ suc (i + k) → k < length es
     → stays_deep i ss (slice_set es k s.value) ≡ ((is_deep s.value && not (names ss s.position)) || stays_deep i (s ∷ ss) es)
 put i k s ss [] at h = absurd (omega (arith, h))
@@ -67,33 +68,33 @@ put i (suc k) s ss (e ∷ es) at h =
     ∙ or-swap (is_deep e && not (names ss (suc i))) (is_deep s.value && not (names ss s.position)) (stays_deep (suc i) (s ∷ ss) es)
     ∙ rw other refl
 
-none_stays : (i : ℕ) (es : List Term) → list_any is_deep es ≡ stays_deep i [] es
-none_stays i [] = refl
-none_stays i (e ∷ es) = rw (and-true (is_deep e), none_stays (suc i) es) refl
+stays_deep-no_values : (i : ℕ) (es : List Term) → list_any is_deep es ≡ stays_deep i [] es
+stays_deep-no_values i [] = refl
+stays_deep-no_values i (e ∷ es) = rw (and-true (is_deep e), stays_deep-no_values (suc i) es) refl
 
-none_was : (i : ℕ) (ss : List ElementSpec) (es : List Term) → list_any is_deep es ≡ false → stays_deep i ss es ≡ false
-none_was i ss [] h = refl
-none_was i ss (e ∷ es) h = let both = or-false (is_deep e) (list_any is_deep es) h in rw (both.0, none_was (suc i) ss es both.1) refl
+stays_deep-shallow : (i : ℕ) (ss : List ElementSpec) (es : List Term) → list_any is_deep es ≡ false → stays_deep i ss es ≡ false
+stays_deep-shallow i ss [] h = refl
+stays_deep-shallow i ss (e ∷ es) h = let both = or-false (is_deep e) (list_any is_deep es) h in rw (both.0, stays_deep-shallow (suc i) ss es both.1) refl
 
 has-first : (a b c : Bool) → ((a && b) && c) ≡ true → (a ≡ true) × ((b ≡ true) × (c ≡ true))
 has-first true true c h = (refl, (refl, h))
 has-first true false c h = cc
 has-first false b c h = cc
 
-set-length : (es : List Term) (k : ℕ) (v : Term) → length (slice_set es k v) ≡ length es
-set-length [] k v = refl
-set-length (e ∷ es) zero v = refl
-set-length (e ∷ es) (suc k) v = ap suc (set-length es k v)
+length-slice_set : (es : List Term) (k : ℕ) (v : Term) → length (slice_set es k v) ≡ length es
+length-slice_set [] k v = refl
+length-slice_set (e ∷ es) zero v = refl
+length-slice_set (e ∷ es) (suc k) v = ap suc (length-slice_set es k v)
 
-all_written : (ss : List ElementSpec) (es : List Term) → has_all (length es) ss ≡ true → list_any is_deep (written ss es) ≡ (is_over_deep ss || stays_deep 0 ss es)
-all_written [] es h = none_stays 0 es
-all_written (s ∷ ss) es h =
+write_each-deep : (ss : List ElementSpec) (es : List Term) → has_all (length es) ss ≡ true → list_any is_deep (write_each ss es) ≡ (too_deep_as_element ss || stays_deep 0 ss es)
+write_each-deep [] es h = stays_deep-no_values 0 es
+write_each-deep (s ∷ ss) es h =
     let parts = has-first (nat_lt 0 s.position) (nat_le s.position (length es)) (has_all (length es) ss) h in
     let some : 0 < s.position = grind (arith, nat_tests, parts.0) in
     let few : s.position ≤ length es = grind (arith, nat_tests, parts.1.0) in
-    all_written ss (slice_set es (s.position - 1) s.value) (ap (λ n. has_all n ss) (set-length es (s.position - 1) s.value) ∙ parts.1.1)
-    ∙ ap (λ b. is_over_deep ss || b) (put 0 (s.position - 1) s ss es (omega (arith, some)) (omega (arith, some, few)))
-    ∙ or-moved (is_over_deep ss) (is_deep s.value && not (names ss s.position)) (stays_deep 0 (s ∷ ss) es)
+    write_each-deep ss (slice_set es (s.position - 1) s.value) (ap (λ n. has_all n ss) (length-slice_set es (s.position - 1) s.value) ∙ parts.1.1)
+    ∙ ap (λ b. too_deep_as_element ss || b) (put 0 (s.position - 1) s ss es (omega (arith, some)) (omega (arith, some, few)))
+    ∙ or-moved (too_deep_as_element ss) (is_deep s.value && not (names ss s.position)) (stays_deep 0 (s ∷ ss) es)
 
 depth-Tuple : (es : List Term) → depth (Tuple es) ≡ largest (map depth es) + 1
 depth-Tuple es = search (rules, the_lemmas)
@@ -112,7 +113,62 @@ or-none : (a : Bool) → (a || false) ≡ a
 or-none true = refl
 or-none false = refl
 
-pub over_deep : (specs : List ElementSpec) (elements : List Term) → MakesTooDeep specs elements
-over_deep ss es shallow h =
-    let none : stays_deep 0 ss es ≡ false = none_was 0 ss es (sym (deep-Tuple es) ∙ shallow) in
-    sym (deep-Tuple (written ss es) ∙ all_written ss es h ∙ ap (λ b. is_over_deep ss || b) none ∙ or-none (is_over_deep ss))
+write_each-too_deep : (specs : List ElementSpec) (elements : List Term) → is_too_deep (Tuple elements) ≡ false → has_all (length elements) specs ≡ true → too_deep_as_element specs ≡ is_too_deep (Tuple (write_each specs elements))
+write_each-too_deep ss es shallow h =
+    let none : stays_deep 0 ss es ≡ false = stays_deep-shallow 0 ss es (sym (deep-Tuple es) ∙ shallow) in
+    sym (deep-Tuple (write_each ss es) ∙ write_each-deep ss es h ∙ ap (λ b. too_deep_as_element ss || b) none ∙ or-none (too_deep_as_element ss))
+
+-- ---- each value in its turn, and the last value for each position
+
+-- a value for a position before these elements is for none of them
+value-before : (i : ℕ) (s : ElementSpec) (ss : List ElementSpec) (es : List Term) → s.position < i → with_values_from i (s ∷ ss) es ≡ with_values_from i ss es
+value-before i s ss [] h = refl
+value-before i s ss (e ∷ es) h =
+    let other : (s.position == i) ≡ false = grind (arith, nat_tests, h) in
+    rw (other, value-before (i + 1) s ss es (omega (arith, h))) refl
+
+value-set : (i k : ℕ) (s : ElementSpec) (ss : List ElementSpec) (es : List Term) → s.position ≡ i + k → k < length es → with_values_from i (s ∷ ss) es ≡ with_values_from i ss (slice_set es k s.value)
+value-set i k s ss [] at h = absurd (omega (arith, h))
+value-set i zero s ss (e ∷ es) at h =
+    let same : (s.position == i) ≡ true = grind (arith, nat_tests, at) in
+    rw (same, value-before (i + 1) s ss es (omega (arith, at))) refl
+value-set i (suc k) s ss (e ∷ es) at h =
+    let other : (s.position == i) ≡ false = grind (arith, nat_tests, at) in
+    rw (other, value-set (i + 1) k s ss es (omega (arith, at)) (omega (arith, h))) refl
+
+no-values : (i : ℕ) (es : List Term) → with_values_from i [] es ≡ es
+no-values i [] = refl
+no-values i (e ∷ es) = ap (λ ts. e ∷ ts) (no-values (i + 1) es)
+
+pub each-with_values : (ss : List ElementSpec) (es : List Term) → has_all (length es) ss ≡ true → write_each ss es ≡ with_values ss es
+each-with_values [] es h = sym (no-values 1 es)
+each-with_values (s ∷ ss) es h =
+    let parts = has-first (nat_lt 0 s.position) (nat_le s.position (length es)) (has_all (length es) ss) h in
+    let some : 0 < s.position = grind (arith, nat_tests, parts.0) in
+    let few : s.position ≤ length es = grind (arith, nat_tests, parts.1.0) in
+    each-with_values ss (slice_set es (s.position - 1) s.value) (ap (λ n. has_all n ss) (length-slice_set es (s.position - 1) s.value) ∙ parts.1.1)
+    ∙ sym (value-set 1 (s.position - 1) s ss es (omega (arith, some)) (omega (arith, some, few)))
+
+-- ---- elements of depth 1
+abbrev leaves : List Term → List Term
+leaves es = map (λ e. Int (pos 0)) es
+
+leaves-length : (es : List Term) → length (leaves es) ≡ length es
+leaves-length [] = refl
+leaves-length (e ∷ es) = ap suc (leaves-length es)
+
+leaf-flat : is_deep (Int (pos 0)) ≡ false
+leaf-flat = search (rules, the_lemmas)
+
+leaves-flat : (es : List Term) → list_any is_deep (leaves es) ≡ false
+leaves-flat [] = refl
+leaves-flat (e ∷ es) = rw (leaf-flat, leaves-flat es) refl
+
+pub deep-leaves : (ss : List ElementSpec) (es : List Term) → has_all (length es) ss ≡ true → too_deep_as_element ss ≡ make_too_deep ss es
+deep-leaves ss es h =
+    let here : has_all (length (leaves es)) ss ≡ true = ap (λ n. has_all n ss) (leaves-length es) ∙ h in
+    write_each-too_deep ss (leaves es) (deep-Tuple (leaves es) ∙ leaves-flat es) here ∙ ap (λ ts. is_too_deep (Tuple ts)) (each-with_values ss (leaves es) here)
+
+pub make_too_deep-object : (specs : List ElementSpec) (elements : List Term) → MakesTooDeep specs elements
+make_too_deep-object ss es shallow h =
+    sym (deep-leaves ss es h) ∙ write_each-too_deep ss es shallow h ∙ ap (λ ts. is_too_deep (Tuple ts)) (each-with_values ss es h)

@@ -1,4 +1,4 @@
--- What a Default makes (stdlib manual, module ets, update_counter/4): the object for a key that has none.
+-- The object that a Default makes for a missing key (stdlib manual, module ets, update_counter/4).
 use Rattle.std.specs.Prelude.{ℕ, ◌-◌, ◌&&◌, not, nat_lt, nat_le, if◌then◌else◌, Option, Some, None, Result, Ok, Err, length, slice_set, codes}
 use Rattle.ets_term.specs.declared.term.Term.{Term, out-Term}
 use Rattle.ets_term.specs.declared.term.Term.TheOpen.{Term-F}
@@ -12,32 +12,32 @@ use Rattle.counters.specs.declared.fault.CounterFault.{CounterFault}
 use Rattle.counters.specs.declared.fault.CounterFault.TheVariants.{Badarg, SystemLimit}
 use Rattle.counters.specs.declared.ops.Ops.{Ops}
 
-abbrev pub keyed_form : ℕ → Term → Term-F Term → Option Term
-keyed_form keypos key (Term-F.Tuple ts) =
+abbrev pub with_key_form : ℕ → Term → Term-F Term → Option Term
+with_key_form keypos key (Term-F.Tuple ts) =
     if nat_lt 0 keypos && nat_le keypos (length ts) && not (is_atom (codes "$end_of_table") key)
     then Some (term.Tuple (slice_set ts (keypos - 1) key))
     else None
-keyed_form keypos key _ = None
+with_key_form keypos key _ = None
 
--- Default with the key at keypos; None where that is no object
-abbrev pub keyed : ℕ → Term → Term → Option Term
-keyed keypos key default = keyed_form keypos key (out-Term default)
+-- the Default with the key at keypos; None if that is not an object
+abbrev pub with_key : ℕ → Term → Term → Option Term
+with_key keypos key default = with_key_form keypos key (out-Term default)
 
--- what is stored is at most max_depth deep
-abbrev pub shallow_counted : Result (Term × Term) CounterFault → Result (Term × Term) CounterFault
-shallow_counted (Ok r) = if is_too_deep r.0 then Err SystemLimit else Ok r
-shallow_counted (Err fault) = Err fault
+-- an object deeper than max_depth is not stored
+abbrev pub refuse_deep_pair : Result (Term × Term) CounterFault → Result (Term × Term) CounterFault
+refuse_deep_pair (Ok r) = if is_too_deep r.0 then Err SystemLimit else Ok r
+refuse_deep_pair (Err fault) = Err fault
 
-abbrev pub shallow : Result Term CounterFault → Result Term CounterFault
-shallow (Ok object) = if is_too_deep object then Err SystemLimit else Ok object
-shallow (Err fault) = Err fault
+abbrev pub refuse_deep : Result Term CounterFault → Result Term CounterFault
+refuse_deep (Ok object) = if is_too_deep object then Err SystemLimit else Ok object
+refuse_deep (Err fault) = Err fault
 
--- the object and the answer of an update of the Default; the badarg tests of the update go before the limit of depth
-abbrev pub counted_from : Ops → Option Term → Result (Term × Term) CounterFault
-counted_from ops None = Err Badarg
-counted_from ops (Some object) = shallow_counted (counters.updated_counters ops object)
+-- the Default with its counters updated, and the answer; every test for badarg precedes the limit of depth
+abbrev pub start_counter : Ops → Option Term → Result (Term × Term) CounterFault
+start_counter ops None = Err Badarg
+start_counter ops (Some object) = refuse_deep_pair (counters.apply_ops ops object)
 
--- the object of an update of the Default's elements
-abbrev pub written_from : ElementSpecs → Option Term → Result Term CounterFault
-written_from specs None = Err Badarg
-written_from specs (Some object) = shallow (elements.updated_elements specs object)
+-- the Default with its elements written
+abbrev pub start_elements : ElementSpecs → Option Term → Result Term CounterFault
+start_elements specs None = Err Badarg
+start_elements specs (Some object) = refuse_deep (elements.apply_elements specs object)

@@ -1,35 +1,35 @@
--- The operations that a term asks of a counter (stdlib manual, module ets, update_counter/3): `Incr`, `{Pos,Incr}`,
+-- The operations that a term describes (stdlib manual, module ets, update_counter/3): `Incr`, `{Pos,Incr}`,
 -- `{Pos,Incr,Threshold,SetValue}`, or a list of the tuple forms.
 use Rattle.std.specs.Prelude.{ℕ, ◌+◌, Bool, true, false, Option, Some, None, List, [], ◌∷◌, option_map}
 use Rattle.std.specs.Option.{option_and_then}
 use Rattle.ets_term.specs.declared.term.Term.{Term, out-Term}
 use Rattle.ets_term.specs.declared.term.Term.TheOpen.{Term-F}
 use Rattle.ets_term.specs.Depth.{elements}
-use Rattle.counters.specs.Positions.{integer_of, open_position}
+use Rattle.counters.specs.Positions.{integer_of, updatable_position}
 use Rattle.counters.specs.declared.ops.Op.{Op}
-use Rattle.counters.specs.declared.ops.Bound.{Bound}
+use Rattle.counters.specs.declared.ops.Threshold.{Threshold}
 use Rattle.counters.specs.declared.ops.Ops.{Ops}
 use Rattle.counters.specs.declared.ops.Ops.TheVariants.{One, Many}
 
-abbrev pub bound_of : Term → Term → Option Bound
-bound_of threshold set_value =
+abbrev pub threshold_of : Term → Term → Option Threshold
+threshold_of threshold set_value =
     option_and_then
-    (λ t. option_map (λ v. record { threshold = t; set_value = v }) (integer_of set_value))
+    (λ t. option_map (λ v. record { value = t; set_value = v }) (integer_of set_value))
     (integer_of threshold)
 
-abbrev pub op_from : ℕ → Term → Term → Option Bound → Option Op
-op_from keypos position increment bound =
+abbrev pub op_from : ℕ → Term → Term → Option Threshold → Option Op
+op_from keypos position increment threshold =
     option_and_then
-    (λ p. option_map (λ i. record { position = p; increment = i; bound = bound }) (integer_of increment))
-    (open_position keypos position)
+    (λ p. option_map (λ i. record { position = p; increment = i; threshold = threshold }) (integer_of increment))
+    (updatable_position keypos position)
 
 abbrev pub op_of_parts : ℕ → List Term → Option Op
 op_of_parts keypos (position ∷ increment ∷ []) = op_from keypos position increment None
 op_of_parts keypos (position ∷ increment ∷ threshold ∷ set_value ∷ []) =
-    option_and_then (λ b. op_from keypos position increment (Some b)) (bound_of threshold set_value)
+    option_and_then (λ b. op_from keypos position increment (Some b)) (threshold_of threshold set_value)
 op_of_parts keypos _ = None
 
--- the operation of a tuple; None where the term is none
+-- the operation that a tuple describes; None for any other term
 abbrev pub op_of : ℕ → Term → Option Op
 op_of keypos term = op_of_parts keypos (elements term)
 
@@ -39,12 +39,12 @@ all_ops keypos (term ∷ terms) =
     option_and_then (λ op. option_map (λ ops. op ∷ ops) (all_ops keypos terms)) (op_of keypos term)
 
 abbrev pub ops_form : ℕ → Term-F Term → Option Ops
-ops_form keypos (Term-F.Int n) = Some (One (record { position = keypos + 1; increment = n; bound = None }))
+ops_form keypos (Term-F.Int n) = Some (One (record { position = keypos + 1; increment = n; threshold = None }))
 ops_form keypos (Term-F.Tuple terms) = option_map One (op_of_parts keypos terms)
 ops_form keypos (Term-F.List terms) = option_map Many (all_ops keypos terms)
 ops_form keypos _ = None
 
--- None where the term has a wrong form
+-- the operations that a term describes; None if it has a wrong form
 abbrev pub ops_of : ℕ → Term → Option Ops
 ops_of keypos term = ops_form keypos (out-Term term)
 
@@ -52,10 +52,11 @@ abbrev pub is_list_form : Term-F Term → Bool
 is_list_form (Term-F.List terms) = true
 is_list_form _ = false
 
+-- whether a term is a list
 abbrev pub is_list : Term → Bool
 is_list term = is_list_form (out-Term term)
 
--- whether it is a single operation
+-- whether an update is a single operation outside a list
 abbrev pub is_one : Ops → Bool
 is_one (One op) = true
 is_one (Many ops) = false

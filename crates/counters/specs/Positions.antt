@@ -12,11 +12,11 @@ integer_form _ = None
 abbrev pub integer_of : Term → Option ℤ
 integer_of term = integer_form (out-Term term)
 
--- positions count from 1, and the key's is none
+-- the position that an integer is, from 1; None for the key's position
 abbrev pub position_at : ℕ → ℤ → Option ℕ
 position_at keypos (pos n) = if n == 0 || n == keypos then None else Some n
 position_at keypos (negsuc n) = None
 
--- the position that a term names for an update, if it names one
-abbrev pub open_position : ℕ → Term → Option ℕ
-open_position keypos term = option_and_then (position_at keypos) (integer_of term)
+-- the position that a term names, if an update may name it
+abbrev pub updatable_position : ℕ → Term → Option ℕ
+updatable_position keypos term = option_and_then (position_at keypos) (integer_of term)

@@ -1,23 +1,23 @@
 //! Counters of one object, changed in place.
 ghost use Rattle.std.specs.Prelude.{◌≡◌, ◌<◌, ◌-◌, length, Some, None, Ok, Err, IfOk, OnErr, IsErrOf, slice_get, OnSome, IfSome, IfErr, true};
-ghost use Rattle.counters.specs.Counters.{integer_at, count_one, counted_elements, updated_counters};
+ghost use Rattle.counters.specs.Counters.{integer_at, apply_one, apply_to_elements, apply_ops};
 ghost use Rattle.counters.specs.declared.ops.Ops.TheVariants.{One};
 ghost use Rattle.counters.specs.Ops.{is_one};
 ghost use Rattle.counters.specs.Outcomes.{AnswersAs, FailsOnlyAs, FailsJustAs};
 ghost use Rattle.ets_term.specs.declared.term.Term.TheVariants.{Int, Tuple};
 
 use crate::fault::CounterFault;
-use crate::list::count_many;
+use crate::list::apply_many;
 use crate::ops::{Op, Ops};
 use crate::position::integer_of;
 use crate::sum::new_value;
 use ets_term::{Integer, Items, Position, Term};
 use std::alloc::Global;
 
-/// The integer at a position, counted from 1; None where there is none.
+/// Returns the integer at a position, from 1; None if there is none.
 pub fn integer_at(elements: &[Term], position: Position) -> Option<Integer>
     ensures value { result ≡ integer_at position elements.now }
-    ensures place { IfSome result (λ n. slice_get elements.now (position - 1) ≡ Some (Int n)) }
+    ensures element { IfSome result (λ n. slice_get elements.now (position - 1) ≡ Some (Int n)) }
     ensures within { OnSome result (position - 1 < length elements.now) }
 {
     if position == 0 || position > elements.len() as Position {
@@ -26,10 +26,10 @@ pub fn integer_at(elements: &[Term], position: Position) -> Option<Integer>
     integer_of(elements.get((position - 1) as usize)?)
 }
 
-/// Does one operation in place, without memory, and answers the new value.
-fn count_one(elements: &mut Items<Term>, op: Op) -> Result<Term, CounterFault>
-    ensures done { AnswersAs result (counted_elements (One op) elements.old) (Tuple elements.new) }
-    ensures err { IfErr result (λ fault. counted_elements (One op) elements.old ≡ Err fault) }
+/// Does one operation in place and returns the new value; it takes no memory.
+fn apply_one(elements: &mut Items<Term>, op: Op) -> Result<Term, CounterFault>
+    ensures done { AnswersAs result (apply_to_elements (One op) elements.old) (Tuple elements.new) }
+    ensures err { IfErr result (λ fault. apply_to_elements (One op) elements.old ≡ Err fault) }
     ensures kept { OnErr result (elements.new ≡ elements.old) }
     ensures room { ¬ IsErrOf result CounterFault.Memory }
 {
@@ -43,14 +43,14 @@ fn count_one(elements: &mut Items<Term>, op: Op) -> Result<Term, CounterFault>
     Ok(Term::Int(next))
 }
 
-/// Updates the counters of an object in place (stdlib manual, module ets, update_counter/3) and answers the new value,
-/// or for a list the list of new values. Every refusal leaves the object as it was: Badarg where it is no tuple or has
-/// no integer at one of the positions, SystemLimit where a new value is past the integers. One operation alone takes no
-/// memory, and nothing but its element is written.
+/// Updates the counters of an object in place (stdlib manual, module ets, update_counter/3). Returns the new value, or
+/// the list of new values if the operations are a list. All operations are done or none: Badarg if the object is not a
+/// tuple or has no integer at one of the positions; SystemLimit if a new value is out of range. A single operation
+/// takes no memory and writes only its element.
 pub fn update_counter(alloc: Global, object: &mut Term, ops: &Ops) -> Result<Term, CounterFault>
-    ensures done { AnswersAs result (updated_counters ops.now object.old) object.new }
-    ensures badarg { FailsJustAs result CounterFault.Badarg (updated_counters ops.now object.old) }
-    ensures limit { FailsOnlyAs result CounterFault.SystemLimit (updated_counters ops.now object.old) }
+    ensures done { AnswersAs result (apply_ops ops.now object.old) object.new }
+    ensures badarg { FailsJustAs result CounterFault.Badarg (apply_ops ops.now object.old) }
+    ensures limit { FailsOnlyAs result CounterFault.SystemLimit (apply_ops ops.now object.old) }
     ensures kept { OnErr result (object.new ≡ object.old) }
     ensures room { is_one ops.now ≡ true → ¬ IsErrOf result CounterFault.Memory }
 {
@@ -58,16 +58,16 @@ pub fn update_counter(alloc: Global, object: &mut Term, ops: &Ops) -> Result<Ter
         return Err(CounterFault::Badarg);
     };
     match ops {
-        Ops::One(op) => count_one(elements, *op),
-        Ops::Many(ops) => count_many(alloc, elements, ops.as_slice()),
+        Ops::One(op) => apply_one(elements, *op),
+        Ops::Many(ops) => apply_many(alloc, elements, ops.as_slice()),
     }
 }
 
-/// The object with its counters updated, and the answer, as `update_counter` has them.
+/// Returns a copy of an object with its counters updated, and the answer, as `update_counter` makes them.
 pub fn apply_ops(alloc: Global, object: &Term, ops: &Ops) -> Result<(Term, Term), CounterFault>
-    ensures done { IfOk result (λ r. updated_counters ops.now object.now ≡ Ok r) }
-    ensures badarg { FailsOnlyAs result CounterFault.Badarg (updated_counters ops.now object.now) }
-    ensures limit { FailsOnlyAs result CounterFault.SystemLimit (updated_counters ops.now object.now) }
+    ensures done { IfOk result (λ r. apply_ops ops.now object.now ≡ Ok r) }
+    ensures badarg { FailsOnlyAs result CounterFault.Badarg (apply_ops ops.now object.now) }
+    ensures limit { FailsOnlyAs result CounterFault.SystemLimit (apply_ops ops.now object.now) }
 {
     let mut updated = object.try_clone(alloc)?;
     let answer = update_counter(alloc, &mut updated, ops)?;

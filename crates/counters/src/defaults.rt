@@ -1,37 +1,44 @@
-//! The object that a Default makes for a key that has none.
+//! Objects made from a Default for a missing key.
 ghost use Rattle.std.specs.Prelude.{◌≡◌, ◌↔◌, ◌&&◌, nat_lt, nat_le, is_some, Some, None, Ok, Err, IfOk, IsErrOf};
-ghost use Rattle.counters.specs.Defaults.{keyed, counted_from, written_from};
+ghost use Rattle.counters.specs.Defaults.{with_key, start_counter, start_elements};
 ghost use Rattle.counters.specs.Outcomes.{FailsOnlyAs};
 
 use crate::counter::update_counter;
-use crate::elements::{ElementSpecs, update_elements};
+use crate::elements::ElementSpecs;
 use crate::fault::CounterFault;
 use crate::ops::Ops;
+use crate::write::{update_elements, write_elements};
 use ets_term::Term;
 use std::alloc::Global;
 
-/// Whether the Default with the key at keypos, counted from 1, is an object: a tuple that has that element, and the key
-/// is not `'$end_of_table'`.
+/// Returns whether the Default with the key at keypos, from 1, is an object: the Default is a tuple with that element,
+/// and the key is not `'$end_of_table'`.
 pub fn is_default(default: &Term, keypos: u32, key: &Term) -> bool
-    ensures { result ≡ is_some (keyed keypos key.now default.now) }
+    ensures { result ≡ is_some (with_key keypos key.now default.now) }
 {
     match default {
-        Term::Tuple(elements) => is_place(elements.len(), keypos) && !key.is_atom("$end_of_table"),
+        Term::Tuple(elements) => is_position(elements.len(), keypos)
+            && !key.is_atom("$end_of_table"),
         _ => false,
     }
 }
 
-/// Whether a tuple of `count` elements has the key's position.
-fn is_place(count: usize, keypos: u32) -> bool
+/// Returns whether a tuple of `count` elements has the key's position.
+fn is_position(count: usize, keypos: u32) -> bool
     ensures { result ≡ (nat_lt 0 keypos && nat_le keypos count) }
 {
     0 < keypos && keypos as usize <= count
 }
 
-/// The Default with the key at keypos; Badarg where `is_default` is false.
-pub fn keyed(alloc: Global, default: &Term, keypos: u32, key: &Term) -> Result<Term, CounterFault>
-    ensures made { IfOk result (λ object. keyed keypos key.now default.now ≡ Some object) }
-    ensures badarg { IsErrOf result CounterFault.Badarg ↔ (keyed keypos key.now default.now ≡ None) }
+/// Returns a copy of the Default with the key at keypos; Badarg if `is_default` is false.
+pub fn with_key(
+    alloc: Global,
+    default: &Term,
+    keypos: u32,
+    key: &Term,
+) -> Result<Term, CounterFault>
+    ensures made { IfOk result (λ object. with_key keypos key.now default.now ≡ Some object) }
+    ensures badarg { IsErrOf result CounterFault.Badarg ↔ (with_key keypos key.now default.now ≡ None) }
     ensures limit { ¬ IsErrOf result CounterFault.SystemLimit }
 {
     if !is_default(default, keypos, key) {
@@ -48,9 +55,9 @@ pub fn keyed(alloc: Global, default: &Term, keypos: u32, key: &Term) -> Result<T
     Ok(object)
 }
 
-/// The object to be stored where a key has none, made of the Default with the key at keypos and the counters updated,
-/// and the answer (stdlib manual, module ets, update_counter/4). Badarg where that is no object, or as in
-/// `update_counter`; then SystemLimit, also for an object of more than `MAX_DEPTH` levels.
+/// Returns the object to store for a missing key, and the answer (stdlib manual, module ets, update_counter/4): the
+/// Default with the key at keypos and its counters updated. Badarg if `is_default` is false, or as in `update_counter`.
+/// Then SystemLimit, also if the object has more than `MAX_DEPTH` levels.
 pub fn start_counter(
     alloc: Global,
     default: &Term,
@@ -58,12 +65,13 @@ pub fn start_counter(
     key: &Term,
     ops: &Ops,
 ) -> Result<(Term, Term), CounterFault>
-    ensures done { IfOk result (λ r. counted_from ops.now (keyed keypos key.now default.now) ≡ Ok r) }
-    ensures badarg { FailsOnlyAs result CounterFault.Badarg (counted_from ops.now (keyed keypos key.now default.now)) }
+    ensures done { IfOk result (λ r. start_counter ops.now (with_key keypos key.now default.now) ≡ Ok r) }
+    ensures badarg { FailsOnlyAs result CounterFault.Badarg
+        (start_counter ops.now (with_key keypos key.now default.now)) }
     ensures limit { FailsOnlyAs result CounterFault.SystemLimit
-        (counted_from ops.now (keyed keypos key.now default.now)) }
+        (start_counter ops.now (with_key keypos key.now default.now)) }
 {
-    let mut object = keyed(alloc, default, keypos, key)?;
+    let mut object = with_key(alloc, default, keypos, key)?;
     let answer = update_counter(alloc, &mut object, ops)?;
     if object.is_too_deep() {
         return Err(CounterFault::SystemLimit);
@@ -71,9 +79,31 @@ pub fn start_counter(
     Ok((object, answer))
 }
 
-/// The object to be stored where a key has none, made of the Default with the key at keypos and those elements written.
-/// Badarg where that is no object, or as in `update_elements`; then SystemLimit, also for an object of more than
-/// `MAX_DEPTH` levels.
+/// Returns the object to store for a missing key: the Default with the key at keypos and with values written as by
+/// `write_elements`. Badarg if `is_default` is false, or as in `write_elements`. Then SystemLimit, also if the object
+/// has more than `MAX_DEPTH` levels.
+pub fn start_with_elements(
+    alloc: Global,
+    default: &Term,
+    keypos: u32,
+    key: &Term,
+    specs: &ElementSpecs,
+) -> Result<Term, CounterFault>
+    ensures done { IfOk result (λ object. start_elements specs.now (with_key keypos key.now default.now) ≡ Ok object) }
+    ensures badarg { FailsOnlyAs result CounterFault.Badarg
+        (start_elements specs.now (with_key keypos key.now default.now)) }
+    ensures limit { FailsOnlyAs result CounterFault.SystemLimit
+        (start_elements specs.now (with_key keypos key.now default.now)) }
+{
+    let mut object = with_key(alloc, default, keypos, key)?;
+    write_elements(alloc, &mut object, specs)?;
+    if object.is_too_deep() {
+        return Err(CounterFault::SystemLimit);
+    }
+    Ok(object)
+}
+
+/// Does the same as `start_with_elements` but moves the values into the object.
 pub fn start_elements(
     alloc: Global,
     default: &Term,
@@ -81,12 +111,13 @@ pub fn start_elements(
     key: &Term,
     specs: ElementSpecs,
 ) -> Result<Term, CounterFault>
-    ensures done { IfOk result (λ object. written_from specs (keyed keypos key.now default.now) ≡ Ok object) }
-    ensures badarg { FailsOnlyAs result CounterFault.Badarg (written_from specs (keyed keypos key.now default.now)) }
+    ensures done { IfOk result (λ object. start_elements specs (with_key keypos key.now default.now) ≡ Ok object) }
+    ensures badarg { FailsOnlyAs result CounterFault.Badarg
+        (start_elements specs (with_key keypos key.now default.now)) }
     ensures limit { FailsOnlyAs result CounterFault.SystemLimit
-        (written_from specs (keyed keypos key.now default.now)) }
+        (start_elements specs (with_key keypos key.now default.now)) }
 {
-    let mut object = keyed(alloc, default, keypos, key)?;
+    let mut object = with_key(alloc, default, keypos, key)?;
     update_elements(&mut object, specs)?;
     if object.is_too_deep() {
         return Err(CounterFault::SystemLimit);

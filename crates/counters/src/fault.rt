@@ -1,13 +1,13 @@
 use std::alloc::AllocError;
 
-/// Why an update is not done. Nothing has then changed.
+/// Why an update is refused. A refused update changes nothing.
 #[derive(Debug, Drop)]
 pub enum CounterFault {
     /// The update or the object has a wrong form.
     Badarg,
-    /// A new value is past the integers, or an object would be too deep.
+    /// A new value is out of range, or an object would be too deep.
     SystemLimit,
-    /// There was no memory for it.
+    /// An allocation failed.
     Memory,
 }
 

@@ -1,18 +1,23 @@
-//! Counters and element updates: an object is changed by the whole list of updates, with exact sums, or not at all.
+//! Applies a list of updates to the counters or elements of an object, all or none, with exact sums.
 //!
-//! An update is read once (`read_ops`, `read_element_specs`) and then done on an object: in place (`update_counter`,
-//! `update_elements`) or on a copy (`apply_ops`, `apply_elements`). Each call is its definition: `specs/Counters.antt`,
-//! `specs/Elements.antt`, and `specs/Defaults.antt` for the object that a Default makes.
+//! An update is read once from a term (`read_ops`, `read_element_specs`) and then done on an object: in place
+//! (`update_counter`, `write_elements`) or on a copy (`apply_ops`, `apply_elements`). If a key has no object, a Default
+//! makes one (`start_counter`, `start_with_elements`). Each call is equal to its definition in `specs/Counters.antt`,
+//! `specs/Elements.antt` and `specs/Defaults.antt`.
 //!
-//! Guarantee: sums are exact, and each new value is an integer of terms or the update is refused. All tests of
-//! positions and elements look at the object as it was, before the first operation, and go before any limit. A refusal
-//! changes nothing.
-//! Mechanism: one operation alone writes one element and takes no memory. A list notes each integer that it overwrites
-//! and writes them back where a later operation is refused. Values move into the object and are not copied again.
-//! Weakness: a value of `MAX_DEPTH` levels is compared with the positions after it, so thousands of such values, each
-//! overwritten by a later one, cost the square of their number.
-//! Limits: a value of `MAX_DEPTH` levels is refused, since the object round it would be deeper; the elements that stay
-//! are not looked at, having passed this when they were stored. Integers are those of `ets_term::Integer`.
+//! *Guarantee.* Sums are exact. An update is refused if a new value is out of range, and a refused update changes
+//! nothing. All tests of positions and elements use the object from before the first operation, and they precede every
+//! limit.
+//!
+//! *Mechanism.* A single operation writes one element and takes no memory. A list keeps an undo log of the integers
+//! that it replaces, and writes them back if a later operation is refused. All values are tested before the first one
+//! is written.
+//!
+//! *Weakness.* A value of `MAX_DEPTH` levels is compared with the positions after it. Thousands of such values in one
+//! list, each replaced by a later one, take time quadratic in their number.
+//!
+//! *Limits.* A value of `MAX_DEPTH` levels is refused because the object around it would be deeper. Elements that stay
+//! are not tested again: they were tested when their object was stored. Integers are those of `ets_term::Integer`.
 #![tactic(auto)]
 
 mod counter;
@@ -24,11 +29,11 @@ mod list;
 mod ops;
 mod position;
 mod sum;
+mod write;
 
 pub use counter::{apply_ops, update_counter};
-pub use defaults::{is_default, keyed, start_counter, start_elements};
-pub use elements::{
-    ElementSpec, ElementSpecs, apply_elements, read_element_specs, update_elements,
-};
+pub use defaults::{is_default, start_counter, start_elements, start_with_elements, with_key};
+pub use elements::{ElementSpec, ElementSpecs, read_element_specs};
 pub use fault::CounterFault;
-pub use ops::{Bound, Op, Ops, read_ops};
+pub use ops::{Op, Ops, Threshold, read_ops};
+pub use write::{apply_elements, update_elements, write_elements};

@@ -1,68 +1,82 @@
-//! Operations on counters, as a caller asks for them.
+//! Operations on counters, and how they are read from a term.
 ghost use Rattle.std.specs.Prelude.{◌≡◌, false, Some, None, IfOk, IsErrOf};
-ghost use Rattle.counters.specs.Ops.{bound_of, op_from, op_of_parts, op_of, all_ops, ops_of, is_list};
+ghost use Rattle.counters.specs.Ops.{threshold_of, op_from, op_of_parts, op_of, all_ops, ops_of, is_list};
 
 use crate::fault::CounterFault;
-use crate::position::{integer_of, open_position};
+use crate::position::{integer_of, updatable_position};
 use ets_term::{Integer, Items, Position, Term};
 use std::alloc::Global;
 
-/// What is added to one element, and what stands for sums past a bound.
+/// One operation: what is added to which element, and what replaces a sum past a threshold.
 #[derive(Clone, Copy, Debug)]
 pub struct Op {
+    /// The position of the element, from 1.
     pub position: Position,
+    /// What is added; negative to count down.
     pub increment: Integer,
-    pub bound: Option<Bound>,
+    /// The threshold, if the operation has one.
+    pub threshold: Option<Threshold>,
 }
 
-/// What an element becomes where the sum is past the threshold.
+/// A threshold: a sum over it, or under it when counting down, is replaced.
 #[derive(Clone, Copy, Debug)]
-pub struct Bound {
-    pub threshold: Integer,
+pub struct Threshold {
+    /// The threshold itself; a sum equal to it stays.
+    pub value: Integer,
+    /// What replaces the sum.
     pub set_value: Integer,
 }
 
 /// The operations of one update.
 #[derive(Debug, Drop)]
 pub enum Ops {
-    /// One that is not in a list; its answer is a number. It takes no memory.
+    /// An operation that is not in a list. Its answer is an integer, and it takes no memory.
     One(Op),
-    /// A list, whose answer is a list.
+    /// A list of operations. Its answer is a list of integers.
     Many(Items<Op>),
 }
 
-fn bound_of(threshold: &Term, set_value: &Term) -> Option<Bound>
-    ensures { result ≡ bound_of threshold.now set_value.now }
+/// Reads a threshold and the value that replaces a sum.
+fn threshold_of(threshold: &Term, set_value: &Term) -> Option<Threshold>
+    ensures { result ≡ threshold_of threshold.now set_value.now }
 {
-    Some(Bound {
-        threshold: integer_of(threshold)?,
+    Some(Threshold {
+        value: integer_of(threshold)?,
         set_value: integer_of(set_value)?,
     })
 }
 
-fn op_from(keypos: u32, position: &Term, increment: &Term, bound: Option<Bound>) -> Option<Op>
-    ensures { result ≡ op_from keypos position.now increment.now bound }
+/// Reads a position and an increment.
+fn op_from(
+    keypos: u32,
+    position: &Term,
+    increment: &Term,
+    threshold: Option<Threshold>,
+) -> Option<Op>
+    ensures { result ≡ op_from keypos position.now increment.now threshold }
 {
     Some(Op {
-        position: open_position(keypos, position)?,
+        position: updatable_position(keypos, position)?,
         increment: integer_of(increment)?,
-        bound,
+        threshold,
     })
 }
 
+/// Reads an operation from the elements of a tuple.
 fn op_of_parts(keypos: u32, parts: &[Term]) -> Option<Op>
     ensures { result ≡ op_of_parts keypos parts.now }
 {
     match parts {
         [position, increment] => op_from(keypos, position, increment, None),
         [position, increment, threshold, set_value] => {
-            let bound = bound_of(threshold, set_value)?;
-            op_from(keypos, position, increment, Some(bound))
+            let threshold = threshold_of(threshold, set_value)?;
+            op_from(keypos, position, increment, Some(threshold))
         }
         _ => None,
     }
 }
 
+/// Reads an operation from a tuple.
 fn op_of(keypos: u32, term: &Term) -> Option<Op>
     ensures { result ≡ op_of keypos term.now }
 {
@@ -72,6 +86,7 @@ fn op_of(keypos: u32, term: &Term) -> Option<Op>
     }
 }
 
+/// Reads a list of operations.
 fn all_ops(alloc: Global, keypos: u32, terms: &[Term]) -> Result<Items<Op>, CounterFault>
     ensures read { IfOk result (λ ops. all_ops keypos terms.now ≡ Some ops) }
     ensures badarg { IsErrOf result CounterFault.Badarg → all_ops keypos terms.now ≡ None }
@@ -87,9 +102,9 @@ fn all_ops(alloc: Global, keypos: u32, terms: &[Term]) -> Result<Items<Op>, Coun
     Ok(ops)
 }
 
-/// Reads the operations on an object whose key stands at keypos: `Incr`, which is `{keypos+1,Incr}`, or `{Pos,Incr}`,
-/// or `{Pos,Incr,Threshold,SetValue}`, or a list of the tuple forms. Badarg for every other form, an operand that is no
-/// integer, a position under 1 and the key's.
+/// Reads the operations on an object with this keypos: `Incr`, which is `{keypos+1,Incr}`, or `{Pos,Incr}`, or
+/// `{Pos,Incr,Threshold,SetValue}`, or a list of the tuple forms. Badarg for every other form, and if an operand is not
+/// an integer or a position is under 1 or is keypos.
 pub fn read_ops(alloc: Global, term: &Term, keypos: u32) -> Result<Ops, CounterFault>
     ensures read { IfOk result (λ ops. ops_of keypos term.now ≡ Some ops) }
     ensures badarg { IsErrOf result CounterFault.Badarg → ops_of keypos term.now ≡ None }
@@ -100,7 +115,7 @@ pub fn read_ops(alloc: Global, term: &Term, keypos: u32) -> Result<Ops, CounterF
         Term::Int(n) => Ok(Ops::One(Op {
             position: keypos as Position + 1,
             increment: *n,
-            bound: None,
+            threshold: None,
         })),
         Term::Tuple(parts) => match op_of_parts(keypos, parts.as_slice()) {
             Some(op) => Ok(Ops::One(op)),

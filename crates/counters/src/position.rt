@@ -1,11 +1,11 @@
-//! Integers and positions in what a caller asks.
+//! Integers and positions read from terms.
 ghost use Rattle.std.specs.Prelude.{◌≡◌, IfSome};
 ghost use Rattle.ets_term.specs.declared.term.Term.TheVariants.{Int};
-ghost use Rattle.counters.specs.Positions.{integer_of, position_at, open_position};
+ghost use Rattle.counters.specs.Positions.{integer_of, position_at, updatable_position};
 
 use ets_term::{Integer, Position, Term};
 
-/// The integer that a term is; None where it is none.
+/// Returns the integer that a term is; None for any other term.
 pub fn integer_of(term: &Term) -> Option<Integer>
     ensures value { result ≡ integer_of term.now }
     ensures is { IfSome result (λ n. term.now ≡ Int n) }
@@ -16,13 +16,14 @@ pub fn integer_of(term: &Term) -> Option<Integer>
     }
 }
 
-/// The position that a term names, of at least 1 and not the key's; None where it names none.
-pub fn open_position(keypos: u32, term: &Term) -> Option<Position>
-    ensures { result ≡ open_position keypos term.now }
+/// Returns the position that a term names if an update may name it: at least 1 and not keypos.
+pub fn updatable_position(keypos: u32, term: &Term) -> Option<Position>
+    ensures { result ≡ updatable_position keypos term.now }
 {
     position_at(keypos, integer_of(term)?)
 }
 
+/// Returns an integer as a position, with the test of `updatable_position`.
 fn position_at(keypos: u32, n: Integer) -> Option<Position>
     ensures { result ≡ position_at keypos n }
 {

@@ -1,4 +1,4 @@
-//! The one addition that may leave the integers.
+//! The addition of a counter, which may leave the range of integers.
 ghost use Rattle.std.specs.Prelude.{◌≡◌};
 ghost use Rattle.ets_term.specs.Integers.{in_range};
 ghost use Rattle.counters.specs.Sums.{is_past, new_value};
@@ -6,6 +6,7 @@ ghost use Rattle.counters.specs.Sums.{is_past, new_value};
 use crate::ops::Op;
 use ets_term::Integer;
 
+/// Returns whether a sum is over a threshold when counting up, or under it when counting down.
 fn is_past(increment: Integer, threshold: Integer, sum: Integer) -> bool
     ensures { result ≡ is_past increment threshold sum }
 {
@@ -16,18 +17,17 @@ fn is_past(increment: Integer, threshold: Integer, sum: Integer) -> bool
     }
 }
 
-/// The new value of an element; None where the integers do not have it. A sum past the integers is past every
-/// threshold.
+/// Returns the new value of an element; None if it is out of range. A sum that is out of range is past every threshold.
 pub fn new_value(op: Op, value: Integer) -> Option<Integer>
     ensures { result ≡ in_range (new_value op value) }
 {
     let sum = value.checked_add(op.increment);
-    match op.bound {
+    match op.threshold {
         None => sum,
-        Some(bound) => match sum {
-            Some(sum) if is_past(op.increment, bound.threshold, sum) => Some(bound.set_value),
+        Some(threshold) => match sum {
+            Some(sum) if is_past(op.increment, threshold.value, sum) => Some(threshold.set_value),
             Some(sum) => Some(sum),
-            None => Some(bound.set_value),
+            None => Some(threshold.set_value),
         },
     }
 }

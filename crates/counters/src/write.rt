@@ -1,0 +1,209 @@
+//! Values written into elements of one object.
+ghost use Rattle.std.specs.Prelude.{◌≡◌, ◌-◌, ◌==◌, ◌∷◌, [], slice_set, Ok, Err, IfOk, OnOk, OnErr, IfErr};
+ghost use Rattle.std.specs.List.{list_any};
+ghost use Rattle.counters.specs.Elements.{has_all, write_values, apply_elements};
+ghost use Rattle.counters.specs.inside.Values.{too_deep_as_element, write_each};
+ghost use Rattle.counters.specs.Outcomes.{FailsOnlyAs, FailsJustAs};
+
+use crate::elements::{ElementSpec, ElementSpecs};
+use crate::fault::CounterFault;
+use ets_term::{Items, MAX_DEPTH, Position, Term};
+use std::alloc::{AllocError, Global};
+
+/// Returns a copy of an object with values written as by `write_elements`.
+pub fn apply_elements(
+    alloc: Global,
+    object: &Term,
+    specs: &ElementSpecs,
+) -> Result<Term, CounterFault>
+    ensures done { IfOk result (λ object'. apply_elements specs.now object.now ≡ Ok object') }
+    ensures badarg { FailsOnlyAs result CounterFault.Badarg (apply_elements specs.now object.now) }
+    ensures limit { FailsOnlyAs result CounterFault.SystemLimit (apply_elements specs.now object.now) }
+{
+    let mut updated = object.try_clone(alloc)?;
+    write_elements(alloc, &mut updated, specs)?;
+    Ok(updated)
+}
+
+/// Writes copies of values into elements of an object in place (stdlib manual, module ets, update_element/3). Of
+/// several values for a position, the last one is written. All values are written or none: Badarg if the object is not
+/// a tuple or does not have each position; then SystemLimit if a value to be written has `MAX_DEPTH` levels or more.
+pub fn write_elements(
+    alloc: Global,
+    object: &mut Term,
+    specs: &ElementSpecs,
+) -> Result<(), CounterFault>
+    ensures done { OnOk result (apply_elements specs.now object.old ≡ Ok object.new) }
+    ensures badarg { FailsJustAs result CounterFault.Badarg (apply_elements specs.now object.old) }
+    ensures limit { FailsJustAs result CounterFault.SystemLimit (apply_elements specs.now object.old) }
+    ensures kept { OnErr result (object.new ≡ object.old) }
+{
+    let Term::Tuple(elements) = object else {
+        return Err(CounterFault::Badarg);
+    };
+    match specs {
+        ElementSpecs::One(spec) => copy_one(alloc, elements, spec),
+        ElementSpecs::Many(specs) => copy_list(alloc, elements, specs.as_slice()),
+    }
+}
+
+/// Does the same as `write_elements` but moves the values into the object, and so takes no memory.
+pub fn update_elements(object: &mut Term, specs: ElementSpecs) -> Result<(), CounterFault>
+    ensures done { OnOk result (apply_elements specs object.old ≡ Ok object.new) }
+    ensures refused { IfErr result (λ fault. apply_elements specs object.old ≡ Err fault) }
+    ensures kept { OnErr result (object.new ≡ object.old) }
+{
+    let Term::Tuple(elements) = object else {
+        return Err(CounterFault::Badarg);
+    };
+    match specs {
+        ElementSpecs::One(spec) => move_one(elements, spec),
+        ElementSpecs::Many(specs) => move_list(elements, specs),
+    }
+}
+
+/// Writes a copy of one value, without a list.
+fn copy_one(
+    alloc: Global,
+    elements: &mut Items<Term>,
+    spec: &ElementSpec,
+) -> Result<(), CounterFault>
+    ensures done { OnOk result (write_values (spec.now ∷ []) elements.old ≡ Ok elements.new) }
+    ensures badarg { FailsJustAs result CounterFault.Badarg (write_values (spec.now ∷ []) elements.old) }
+    ensures limit { FailsJustAs result CounterFault.SystemLimit (write_values (spec.now ∷ []) elements.old) }
+    ensures kept { OnErr result (elements.new ≡ elements.old) }
+{
+    check_one(elements.as_slice(), spec)?;
+    let value = spec.value.try_clone(alloc)?;
+    write(elements, spec.position, value);
+    Ok(())
+}
+
+/// Writes copies of a list of values.
+fn copy_list(
+    alloc: Global,
+    elements: &mut Items<Term>,
+    specs: &[ElementSpec],
+) -> Result<(), CounterFault>
+    ensures done { OnOk result (write_values specs.now elements.old ≡ Ok elements.new) }
+    ensures badarg { FailsJustAs result CounterFault.Badarg (write_values specs.now elements.old) }
+    ensures limit { FailsJustAs result CounterFault.SystemLimit (write_values specs.now elements.old) }
+    ensures kept { OnErr result (elements.new ≡ elements.old) }
+{
+    check_list(elements.as_slice(), specs)?;
+    let copies = copy_specs(alloc, specs)?;
+    write_all(elements, copies);
+    Ok(())
+}
+
+fn copy_specs(alloc: Global, specs: &[ElementSpec]) -> Result<Vec<ElementSpec>, AllocError>
+    ensures { IfOk result (λ copies. copies.items ≡ specs.now) }
+{
+    let mut copies = Vec::with_capacity(alloc, specs.len())?;
+    for spec in specs {
+        copies.push(ElementSpec {
+            position: spec.position,
+            value: spec.value.try_clone(alloc)?,
+        })?;
+    }
+    Ok(copies)
+}
+
+/// Moves one value into its element, without a list.
+fn move_one(elements: &mut Items<Term>, spec: ElementSpec) -> Result<(), CounterFault>
+    ensures done { OnOk result (write_values (spec ∷ []) elements.old ≡ Ok elements.new) }
+    ensures refused { IfErr result (λ fault. write_values (spec ∷ []) elements.old ≡ Err fault) }
+    ensures kept { OnErr result (elements.new ≡ elements.old) }
+{
+    check_one(elements.as_slice(), &spec)?;
+    write(elements, spec.position, spec.value);
+    Ok(())
+}
+
+/// Moves a list of values into their elements.
+fn move_list(elements: &mut Items<Term>, specs: Items<ElementSpec>) -> Result<(), CounterFault>
+    ensures done { OnOk result (write_values specs elements.old ≡ Ok elements.new) }
+    ensures refused { IfErr result (λ fault. write_values specs elements.old ≡ Err fault) }
+    ensures kept { OnErr result (elements.new ≡ elements.old) }
+{
+    check_list(elements.as_slice(), specs.as_slice())?;
+    write_all(elements, specs.into_vec());
+    Ok(())
+}
+
+/// Tests whether one value may be written: Badarg if the tuple does not have the position, then SystemLimit if the
+/// value is too deep.
+fn check_one(elements: &[Term], spec: &ElementSpec) -> Result<(), CounterFault>
+    ensures ok { OnOk result (write_values (spec.now ∷ []) elements.now
+        ≡ Ok (slice_set elements.now (spec.now.position - 1) spec.now.value)) }
+    ensures err { IfErr result (λ fault. write_values (spec.now ∷ []) elements.now ≡ Err fault) }
+{
+    if spec.position == 0 || spec.position > elements.len() as Position {
+        return Err(CounterFault::Badarg);
+    }
+    if spec.value.depth() >= MAX_DEPTH {
+        return Err(CounterFault::SystemLimit);
+    }
+    Ok(())
+}
+
+/// Tests whether a list of values may be written, with the refusals of `check_one`.
+fn check_list(elements: &[Term], specs: &[ElementSpec]) -> Result<(), CounterFault>
+    ensures ok { OnOk result (write_values specs.now elements.now ≡ Ok (write_each specs.now elements.now)) }
+    ensures err { IfErr result (λ fault. write_values specs.now elements.now ≡ Err fault) }
+{
+    if !has_all(elements.len(), specs) {
+        return Err(CounterFault::Badarg);
+    }
+    if too_deep_as_element(specs) {
+        return Err(CounterFault::SystemLimit);
+    }
+    Ok(())
+}
+
+/// Returns whether a tuple of `count` elements has each position.
+fn has_all(count: usize, specs: &[ElementSpec]) -> bool
+    ensures { result ≡ has_all count specs.now }
+{
+    specs.iter().all(|spec| 0 < spec.position && spec.position <= count as Position)
+}
+
+/// Returns whether a value is too deep for an element and is the last one for its position.
+fn too_deep_as_element(specs: &[ElementSpec]) -> bool
+    ensures { result ≡ too_deep_as_element specs.now }
+{
+    for i in 0..specs.len() {
+        let spec = &specs[i];
+        if spec.value.depth() >= MAX_DEPTH && !gives_value(&specs[i + 1..], spec.position) {
+            return true;
+        }
+    }
+    false
+}
+
+/// Returns whether a value is given for a position.
+fn gives_value(specs: &[ElementSpec], position: Position) -> bool
+    ensures { result ≡ list_any (λ later. later.position == position) specs.now }
+{
+    specs.iter().any(|later| later.position == position)
+}
+
+/// Writes values from the left, so that the last one for a position stays.
+fn write_all(elements: &mut Items<Term>, mut specs: Vec<ElementSpec>)
+    ensures { elements.new ≡ write_each specs.items elements.old }
+{
+    specs.as_mut_slice().reverse();
+    while let Some(first) = specs.pop() {
+        write(elements, first.position, first.value);
+    }
+}
+
+/// Writes one element, if the tuple has it.
+fn write(elements: &mut Items<Term>, position: Position, value: Term)
+    ensures { elements.new ≡ slice_set elements.old (position - 1) value }
+{
+    let at = position.saturating_sub(1);
+    if at < elements.len() as Position {
+        let _old = elements.replace(at as usize, value);
+    }
+}
