@@ -1,4 +1,4 @@
--- What staying, one change after another, and giving a key other objects keep of the slots, every call keeps that inserts or updates.
+-- A relation of slots that is reflexive, transitive and kept by new objects of a key: insertions and updates keep it.
 use Rattle.std.proofs.Common.{◌≡◌, ℕ, Bool, true, false, cond, List, [], ◌∷◌, ◌++◌, Option, None, Some, option_and_then, refl, sym, subst, codes, length}
 use Rattle.std.specs.Prelude.{◌&&◌, not, nat_lt, nat_le, MatchOption, Ok, Err, Result}
 use Rattle.std.specs.Bool.{MatchBool}
@@ -28,7 +28,7 @@ use Rattle.table_ops.specs.Outcomes.{gives}
 abbrev pub is_end : Term → Bool
 is_end key = is_atom (codes "$end_of_table") key
 
--- what a change keeps; the key '$end_of_table' never enters
+-- a relation that such changes keep; the key '$end_of_table' never enters
 pub record Keeping (Q : List Slot → List Slot → Type 0) : Type 0 where
   pub staying : (slots : List Slot) → Q slots slots
   pub further : (slots next last : List Slot) → Q slots next → Q next last → Q slots last
@@ -49,7 +49,7 @@ add-some Set os o = refl
 add-some Bag os o = bag_at (list_any (same o) os) os o refl
 add-some DuplicateBag os o = pushed os o
 
--- ---- the key that an object is put under
+-- ---- the key of an inserted object
 key-at : (b : Bool) (k key : Term) → is_end k ≡ b → cond b None (Some k) ≡ Some key → is_end key ≡ false
 key-at true k key e h = cc
 key-at false k key e h = let is : k ≡ key = cc in subst (λ (t : Term). is_end t ≡ false) is e
@@ -180,7 +180,7 @@ module _ (Q : List Slot → List Slot → Type 0) (keeping : Keeping Q) where
   pub element-keeps : (key : Term) (specs : ElementSpecs) (default : Option Term) (old new : Content) (r : Result Bool Refusal) → UpdatesElement key specs default old r new → Q old.slots new.slots
   element-keeps key specs default old new r c = specs_at (is_set old.kind && (specs_open old.keypos specs && is_good old.keypos key default)) key specs default old new r c
 
-  -- want of memory changes nothing
+  -- out of memory, nothing changes
   pub comes-keep : {X : Type 0} (change : Content → Result X Refusal → Content → Type 0) → ((old new : Content) (r : Result X Refusal) → change old r new → Q old.slots new.slots)
       → (old new : Content) (r : Result X Refusal) → Comes (change old) old r new → Q old.slots new.slots
   comes-keep change keeps old new (Ok x) c = keeps old new (Ok x) c

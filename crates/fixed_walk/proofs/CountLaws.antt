@@ -1,4 +1,4 @@
--- Counts by process, kept as entries in any order.
+-- The number of fixes by process, from entries in any order.
 use Rattle.std.proofs.Common.{◌≡◌, ◌≢◌, ℕ, ◌+◌, ◌-◌, ◌<◌, nat_eq, zero, suc, Bool, true, false, cond, unwrap_or, List, [], ◌∷◌, Option, None, Some, refl, sym, ap, subst, true≢false, ◌∙◌, length, arith, add-one}
 use Rattle.std.specs.Prelude.{nat_lt}
 use Rattle.std.proofs.lemmas.Bool.Decides.{nat_tests}
@@ -30,7 +30,7 @@ pub removed : (es new : List (ℕ × ℕ)) (k : ℕ) → ((q : ℕ) → lookup (
 removed es new k h =
     same_map nat_cmp_total nat_cmp-IsAntisymmetric _ _ (λ q. get-lookup new q ∙ h q ∙ sym (get-remove nat_cmp_total (from_entries {R = nat_cmp} es) k q ∙ rw (eq_cmp q k, get-lookup es q, eq_symm q k) refl))
 
--- a map with an entry has a length
+-- a map with an entry is not empty
 len-some : (m : FinMap nat_cmp ℕ) (k v : ℕ) → get m k ≡ Some v → 0 < len m
 len-some m k v e = by (len m) refl
   where
@@ -86,7 +86,7 @@ first-none (x ∷ es) h = cc
 
 pub ruleset first_entries = (first-some, first-none)
 
--- where nobody has a fix, none goes
+-- without fixes, a release changes nothing
 none-fixed : (m : FixCounts) → is_fixed m ≡ false → m ≡ empty
 none-fixed m h = empty_of_len m (zero-of (len m) h)
   where
@@ -109,7 +109,7 @@ free-cleared m p h = let none = none-fixed m h in ap (λ m. with_count m p 0) no
 pub free-released : (m : FixCounts) (p : ℕ) → is_fixed m ≡ false → with_count m p (fix_count m p - 1) ≡ m
 free-released m p h = let none = none-fixed m h in ap (λ m. with_count m p (fix_count m p - 1)) none ∙ (none-released p ∙ sym none)
 
--- ---- no process is among them without a fix
+-- ---- no entry is zero
 counted-at : (b : Bool) (v : ℕ) (rest : Option ℕ) → 0 < v → rest ≢ Some 0 → cond b (Some v) rest ≢ Some 0
 counted-at true v rest h r e = let zero_is : v ≡ 0 = cc in absurd (omega (arith, h, zero_is))
 counted-at false v rest h r e = r e
@@ -154,6 +154,6 @@ count-some m p (Some v) e h = positive (len m) (len-some m p v e)
     positive : (n : ℕ) → 0 < n → nat_lt 0 n ≡ true
     positive n h = grind (arith, nat_tests)
 
--- a table is fixed where the count of some process is above zero
+-- a table is fixed exactly if the number of a process is above zero
 pub fixed-by-some : (m : FixCounts) → AreCounted m → IsFixedBySome m
 fixed-by-some m a = (λ h. some-entry m (entries m) refl a h, λ c. count-some m c.0 (get m c.0) refl c.1)

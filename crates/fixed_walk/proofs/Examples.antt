@@ -1,4 +1,4 @@
--- Worked rows, which hold of the definitions by computing.
+-- Examples of steps, each true by computing the definitions.
 use Rattle.std.specs.Prelude.{◌≡◌, pos, List, [], ◌∷◌, Some, None, refl}
 use Rattle.ets_term.specs.declared.term.Term.{Term}
 use Rattle.ets_term.specs.declared.term.Term.TheVariants.{Int}
@@ -11,7 +11,7 @@ one = Int (pos 1)
 abbrev two : Term
 two = Int (pos 2)
 
--- 1 was deleted while the table is fixed, and 2 has an object
+-- key 1 was deleted while the table is fixed, and key 2 has an object
 abbrev slots : List Slot
 slots = (one, []) ∷ (two, two ∷ []) ∷ []
 

@@ -1,4 +1,4 @@
--- The slots from one on, a step of a walk at a time.
+-- The slots from one on, by the steps of a traversal.
 use Rattle.std.proofs.Common.{◌≡◌, inl, inr, ℕ, ◌≤◌, Bool, true, false, ◌==◌, cond, List, [], ◌∷◌, Option, None, Some, option_map, IsSome, length, refl, sym, subst, ap, ◌∙◌, arith}
 use Rattle.std.specs.List.{IsDistinct}
 use Rattle.std.specs.Map.{keys_of, lookup}
@@ -13,7 +13,7 @@ use Rattle.bucket_table.proofs.ContentLaws.{behind-absent}
 use Rattle.table_ops.proofs.KeptLaws.{turned}
 use Rattle.fixed_walk.specs.Walk.{first_key, next_key, first_slot, next_slot}
 use Rattle.fixed_walk.specs.laws.Kept.{IsSubsequence}
-use Rattle.fixed_walk.specs.inside.From.{from_key, from_key_told, slots_from, StandsAt}
+use Rattle.fixed_walk.specs.inside.From.{from_key, from_key_if_any, slots_from, HasSlotAt}
 use Rattle.fixed_walk.proofs.Subsequences.{behind-apart}
 
 from-here : (s : Slot) (ss : List Slot) (k : Term) → same k s.0 ≡ true → from_key (s ∷ ss) k ≡ s ∷ ss
@@ -37,7 +37,7 @@ objects-on s ss k h = ap (λ (b : Bool). cond b (Some s.1) (lookup (same k) ss))
 from-own : (s : Slot) (ss : List Slot) → from_key (s ∷ ss) s.0 ≡ s ∷ ss
 from-own s ss = from-here s ss s.0 (same-refl s.0)
 
--- the slot of a key, and those behind it
+-- the slot of a key, and all after it
 from-split : (ss rest : List Slot) (k : Term) (objects : List Term) → slots_behind ss k ≡ Some rest → objects_of ss k ≡ Some objects → from_key ss k ≡ (k, objects) ∷ rest
 from-split [] rest k objects b o = cc
 from-split (s ∷ ss) rest k objects b o =
@@ -63,7 +63,7 @@ behind-in (s ∷ ss) k next rest b =
       | inr miss ↦ inr (behind-in ss k next rest (sym (behind-on s ss k miss) ∙ b))
     ]
 
--- the slots behind a key are those from the next one on
+-- the slots after a key are those from the next key on
 from-behind : (ss : List Slot) (k : Term) (next : Slot) (rest : List Slot) → HasDistinctKeys ss → slots_behind ss k ≡ Some (next ∷ rest) → from_key ss next.0 ≡ next ∷ rest
 unfolding IsDistinct
 from-behind [] k next rest d b = cc
@@ -83,9 +83,9 @@ module _ (key_at : ℕ → Option Term) where
   -- from the first slot on
   pub from-first : (ss : List Slot) (o : Option ℕ) → IsFirstPlace key_at ss o → slots_from key_at ss o ≡ ss
   from-first ss None f = sym f
-  from-first ss (Some p) f = ap (from_key_told ss) f.key ∙ (ap (λ (zs : List Slot). from_key zs f.slot.0) f.is ∙ (from-own f.slot f.rest ∙ sym f.is))
+  from-first ss (Some p) f = ap (from_key_if_any ss) f.key ∙ (ap (λ (zs : List Slot). from_key zs f.slot.0) f.is ∙ (from-own f.slot f.rest ∙ sym f.is))
 
-  pub stands-first : (ss : List Slot) (o : Option ℕ) → IsFirstPlace key_at ss o → StandsAt key_at o
+  pub stands-first : (ss : List Slot) (o : Option ℕ) → IsFirstPlace key_at ss o → HasSlotAt key_at o
   stands-first ss None f = tt
   stands-first ss (Some p) f = subst (λ (k : Option Term). IsSome k) (sym f.key) refl
 
@@ -93,24 +93,24 @@ module _ (key_at : ℕ → Option Term) where
   next-at ss rest k None d b f = sym f
   next-at ss rest k (Some p) d b f =
       let at : slots_behind ss k ≡ Some (f.slot ∷ f.rest) = b ∙ ap Some f.is in
-      ap (from_key_told ss) f.key ∙ (from-behind ss k f.slot f.rest d at ∙ sym f.is)
+      ap (from_key_if_any ss) f.key ∙ (from-behind ss k f.slot f.rest d at ∙ sym f.is)
 
-  -- from the slot behind that of a key on
+  -- from the slot after that of a key on
   pub from-next : (ss : List Slot) (k : Term) (here : Option Term) (o : Option ℕ) → HasDistinctKeys ss → here ≡ Some k → IsNextPlace key_at ss here o → slots_behind ss k ≡ Some (slots_from key_at ss o)
   from-next ss k here o d e n =
       let at : slots_behind ss k ≡ Some n.rest = sym (ap (behind_in ss) e) ∙ n.is in
       at ∙ ap Some (sym (next-at ss n.rest k o d at n.first))
 
-  pub stands-next : (ss : List Slot) (here : Option Term) (o : Option ℕ) → IsNextPlace key_at ss here o → StandsAt key_at o
+  pub stands-next : (ss : List Slot) (here : Option Term) (o : Option ℕ) → IsNextPlace key_at ss here o → HasSlotAt key_at o
   stands-next ss here o n = stands-first n.rest o n.first
 
-  -- a step of the walk
+  -- one step
   pub from-step : (ss : List Slot) (p : ℕ) (k : Term) (objects : List Term) (o : Option ℕ) → HasDistinctKeys ss → key_at p ≡ Some k → objects_of ss k ≡ Some objects → IsNextPlace key_at ss (key_at p) o
       → slots_from key_at ss (Some p) ≡ (k, objects) ∷ slots_from key_at ss o
-  from-step ss p k objects o d e h n = ap (from_key_told ss) e ∙ from-split ss (slots_from key_at ss o) k objects (from-next ss k (key_at p) o d e n) h
+  from-step ss p k objects o d e h n = ap (from_key_if_any ss) e ∙ from-split ss (slots_from key_at ss o) k objects (from-next ss k (key_at p) o d e n) h
 
   pub from-here-first : (ss : List Slot) (p : ℕ) (k : Term) (objects : List Term) → key_at p ≡ Some k → objects_of ss k ≡ Some objects → has_objects objects ≡ true → first_slot (slots_from key_at ss (Some p)) ≡ Some (k, objects)
-  from-here-first ss p k objects e h some = ap (λ (o : Option Term). first_slot (from_key_told ss o)) e ∙ go ss h
+  from-here-first ss p k objects e h some = ap (λ (o : Option Term). first_slot (from_key_if_any ss o)) e ∙ go ss h
     where
       go : (ss : List Slot) → objects_of ss k ≡ Some objects → first_slot (from_key ss k) ≡ Some (k, objects)
       go [] h = cc
@@ -132,16 +132,16 @@ from-short (s ∷ ss) k =
       | inr miss ↦ let e = ap length (from-on s ss k miss) in let rest = from-short ss k in omega (arith, e, rest)
     ]
 
-told-short : (ss : List Slot) (k : Option Term) → length (from_key_told ss k) ≤ length ss
+told-short : (ss : List Slot) (k : Option Term) → length (from_key_if_any ss k) ≤ length ss
 told-short ss None = omega arith
 told-short ss (Some k) = from-short ss k
 
--- they are no more than the slots
+-- they are not more than all slots
 pub slots-short : (key_at : ℕ → Option Term) (ss : List Slot) (o : Option ℕ) → length (slots_from key_at ss o) ≤ length ss
 slots-short key_at ss None = omega arith
 slots-short key_at ss (Some p) = told-short ss (key_at p)
 
--- the code's test for no objects
+-- the code's test for a tombstone
 pub none-left : (objects : List Term) → (length objects == 0) ≡ true → has_objects objects ≡ false
 none-left [] h = refl
 none-left (o ∷ os) h = let none : length (o ∷ os) ≡ 0 = grind (arith, nat_tests) in absurd (omega (arith, none))
@@ -159,7 +159,7 @@ next-told key_at ss k here o d e n = ap (option_map first_slot) (from-next key_a
 pub next-absent : (ss : List Slot) (k : Term) → objects_of ss k ≡ None → next_slot ss k ≡ None
 next-absent ss k h = ap (option_map first_slot) (behind-absent k ss h)
 
--- ---- the key of the slot that is told
+-- ---- the key of the slot that a step returns
 abbrev pub key_in : Option Slot → Option Term
 key_in o = option_map (λ (slot : Slot). slot.0) o
 
@@ -178,7 +178,7 @@ next-key ss k = at (slots_behind ss k)
     at None = refl
     at (Some rest) = ap Some (first-key rest)
 
--- what is told of the slot behind a key tells the key
+-- the slot after a key determines the key after it
 pub next-key-is : (ss : List Slot) (k : Term) (found : Option Slot) → next_slot ss k ≡ Some found → next_key ss k ≡ Some (key_in found)
 next-key-is ss k found e = sym (next-key ss k) ∙ ap (option_map key_in) e
 

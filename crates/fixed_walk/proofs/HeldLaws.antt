@@ -1,4 +1,4 @@
--- What keeps held slots to tables that are fixed.
+-- Why only fixed tables have tombstones.
 use Rattle.std.proofs.Common.{◌≡◌, ℕ, Bool, true, false, cond, List, [], ◌∷◌, ◌++◌, Option, None, Some, refl, sym, subst, ◌∙◌, ap, true≢false}
 use Rattle.std.specs.Prelude.{MatchOption, not, ◌||◌, Ok, Err, Result}
 use Rattle.std.specs.Map.{set_value}
@@ -16,89 +16,89 @@ use Rattle.counters.specs.declared.elements.ElementSpecs.{ElementSpecs}
 use Rattle.counters.specs.declared.ops.Ops.{Ops}
 use Rattle.table_ops.specs.Outcomes.{gives}
 use Rattle.fixed_walk.specs.Fixes.{is_fixed}
-use Rattle.fixed_walk.specs.Fixed.{Fixed, NoneHeld, HeldWhileFixed, released, all_released}
+use Rattle.fixed_walk.specs.TableState.{TableState, HasNoTombstones, TombstonesOnlyWhileFixed, after_release, after_release_all}
 use Rattle.fixed_walk.proofs.ChangeLaws.{Keeping, is_end, comes-keep, inserts-keep, news-keep, counter-keeps, element-keeps}
 use Rattle.fixed_walk.proofs.CountLaws.{free-released, free-cleared}
 
 module _ (k : Term → Bool) where
-  set_at : (b : Bool) (s : Slot) (ss : List Slot) (w : List Term) → has_objects w ≡ true → (has_objects s.1 ≡ true) × NoneHeld ss → NoneHeld (set_value k ss w) → NoneHeld (cond b ((s.0, w) ∷ ss) (s ∷ set_value k ss w))
+  set_at : (b : Bool) (s : Slot) (ss : List Slot) (w : List Term) → has_objects w ≡ true → (has_objects s.1 ≡ true) × HasNoTombstones ss → HasNoTombstones (set_value k ss w) → HasNoTombstones (cond b ((s.0, w) ∷ ss) (s ∷ set_value k ss w))
   set_at true s ss w h n ih = (h, n.1)
   set_at false s ss w h n ih = (n.0, ih)
 
-  pub set-none : (ss : List Slot) (w : List Term) → has_objects w ≡ true → NoneHeld ss → NoneHeld (set_value k ss w)
+  pub set-none : (ss : List Slot) (w : List Term) → has_objects w ≡ true → HasNoTombstones ss → HasNoTombstones (set_value k ss w)
   set-none [] w h n = tt
   set-none (s ∷ ss) w h n = set_at (k s.0) s ss w h n (set-none ss w h n.1)
 
-purge_at : (b : Bool) (s : Slot) (ss : List Slot) → has_objects s.1 ≡ b → NoneHeld (purged ss) → NoneHeld (cond b (s ∷ purged ss) (purged ss))
+purge_at : (b : Bool) (s : Slot) (ss : List Slot) → has_objects s.1 ≡ b → HasNoTombstones (purged ss) → HasNoTombstones (cond b (s ∷ purged ss) (purged ss))
 purge_at true s ss e n = (e, n)
 purge_at false s ss e n = n
 
-pub purged-none : (ss : List Slot) → NoneHeld (purged ss)
+pub purged-none : (ss : List Slot) → HasNoTombstones (purged ss)
 purged-none [] = tt
 purged-none (s ∷ ss) = purge_at (has_objects s.1) s ss refl (purged-none ss)
 
--- slots none of which is held are as many after a purge
-pub purged-same : (ss : List Slot) → NoneHeld ss → purged ss ≡ ss
+-- a purge removes nothing if there are no tombstones
+pub purged-same : (ss : List Slot) → HasNoTombstones ss → purged ss ≡ ss
 purged-same [] n = refl
 purged-same (s ∷ ss) n = ap (λ (b : Bool). cond b (s ∷ purged ss) (purged ss)) n.0 ∙ ap (λ (zs : List Slot). s ∷ zs) (purged-same ss n.1)
 
-pub between-none : (front back : List Slot) (s : Slot) → has_objects s.1 ≡ true → NoneHeld (front ++ back) → NoneHeld (front ++ s ∷ back)
+pub between-none : (front back : List Slot) (s : Slot) → has_objects s.1 ≡ true → HasNoTombstones (front ++ back) → HasNoTombstones (front ++ s ∷ back)
 between-none [] back s h n = (h, n)
 between-none (f ∷ front) back s h n = (n.0, between-none front back s h n.1)
 
-enters-none : (old new : List Slot) (key : Term) (os : List Term) → is_end key ≡ false → has_objects os ≡ true → objects_of old key ≡ None → Enters old key os new → NoneHeld old → NoneHeld new
-enters-none old new key os own h absent w n = subst NoneHeld (sym w.after) (between-none w.front w.back (key, os) h (subst NoneHeld w.before n))
+enters-none : (old new : List Slot) (key : Term) (os : List Term) → is_end key ≡ false → has_objects os ≡ true → objects_of old key ≡ None → Enters old key os new → HasNoTombstones old → HasNoTombstones new
+enters-none old new key os own h absent w n = subst HasNoTombstones (sym w.after) (between-none w.front w.back (key, os) h (subst HasNoTombstones w.before n))
 
-keeping : Keeping (λ old new. NoneHeld old → NoneHeld new)
+keeping : Keeping (λ old new. HasNoTombstones old → HasNoTombstones new)
 keeping = record { staying = λ slots n. n; further = λ slots next last p q n. q (p n); enters = enters-none; filled = λ old key os h n. set-none (same key) old os h n }
 
--- an insertion leaves no slot held where none was
-pub inserts-none : (objects : List Term) (old new : Content) (r : Result (Unit {0}) Refusal) → Comes (Inserts objects old) old r new → NoneHeld old.slots → NoneHeld new.slots
+-- an insertion makes no tombstone
+pub inserts-none : (objects : List Term) (old new : Content) (r : Result (Unit {0}) Refusal) → Comes (Inserts objects old) old r new → HasNoTombstones old.slots → HasNoTombstones new.slots
 inserts-none objects old new r c n = comes-keep _ keeping (Inserts objects) (inserts-keep _ keeping objects) old new r c n
 
-pub news-none : (objects : List Term) (old new : Content) (r : Result Bool Refusal) → Comes (InsertsNew objects old) old r new → NoneHeld old.slots → NoneHeld new.slots
+pub news-none : (objects : List Term) (old new : Content) (r : Result Bool Refusal) → Comes (InsertsNew objects old) old r new → HasNoTombstones old.slots → HasNoTombstones new.slots
 news-none objects old new r c n = comes-keep _ keeping (InsertsNew objects) (news-keep _ keeping objects) old new r c n
 
-pub counter-none : (key : Term) (ops : Ops) (default : Option Term) (old new : Content) (r : Result Term Refusal) → Comes (UpdatesCounter key ops default old) old r new → NoneHeld old.slots → NoneHeld new.slots
+pub counter-none : (key : Term) (ops : Ops) (default : Option Term) (old new : Content) (r : Result Term Refusal) → Comes (UpdatesCounter key ops default old) old r new → HasNoTombstones old.slots → HasNoTombstones new.slots
 counter-none key ops default old new r c n = comes-keep _ keeping (UpdatesCounter key ops default) (counter-keeps _ keeping key ops default) old new r c n
 
-pub element-none : (key : Term) (specs : ElementSpecs) (default : Option Term) (old new : Content) (r : Result Bool Refusal) → Comes (UpdatesElement key specs default old) old r new → NoneHeld old.slots → NoneHeld new.slots
+pub element-none : (key : Term) (specs : ElementSpecs) (default : Option Term) (old new : Content) (r : Result Bool Refusal) → Comes (UpdatesElement key specs default old) old r new → HasNoTombstones old.slots → HasNoTombstones new.slots
 element-none key specs default old new r c n = comes-keep _ keeping (UpdatesElement key specs default) (element-keeps _ keeping key specs default) old new r c n
 
-dropped_at : (which : Which) (s : Slot) (ss : List Slot) (b : Bool) → has_objects (left which s) ≡ b → has_objects s.1 ≡ true → NoneHeld (dropped false which ss)
-    → NoneHeld (cond (b || not (has_objects s.1)) ((s.0, left which s) ∷ dropped false which ss) (dropped false which ss))
+dropped_at : (which : Which) (s : Slot) (ss : List Slot) (b : Bool) → has_objects (left which s) ≡ b → has_objects s.1 ≡ true → HasNoTombstones (dropped false which ss)
+    → HasNoTombstones (cond (b || not (has_objects s.1)) ((s.0, left which s) ∷ dropped false which ss) (dropped false which ss))
 dropped_at which s ss true e h n = (e, n)
-dropped_at which s ss false e h n = subst (λ (b : Bool). NoneHeld (cond (not b) ((s.0, left which s) ∷ dropped false which ss) (dropped false which ss))) (sym h) n
+dropped_at which s ss false e h n = subst (λ (b : Bool). HasNoTombstones (cond (not b) ((s.0, left which s) ∷ dropped false which ss) (dropped false which ss))) (sym h) n
 
-pub dropped-free : (which : Which) (slots : List Slot) → NoneHeld slots → NoneHeld (dropped false which slots)
+pub dropped-free : (which : Which) (slots : List Slot) → HasNoTombstones slots → HasNoTombstones (dropped false which slots)
 dropped-free which [] n = tt
 dropped-free which (s ∷ ss) n = dropped_at which s ss (has_objects (left which s)) refl n.0 (dropped-free which ss n.1)
 
--- a deletion that holds no slots leaves none held
-pub dropped-none : (hold : Bool) (which : Which) (slots : List Slot) → hold ≡ false → NoneHeld slots → NoneHeld (dropped hold which slots)
+-- a deletion that leaves no tombstones makes none
+pub dropped-none : (hold : Bool) (which : Which) (slots : List Slot) → hold ≡ false → HasNoTombstones slots → HasNoTombstones (dropped hold which slots)
 dropped-none true which slots e n = absurd (true≢false e)
 dropped-none false which slots e n = dropped-free which slots n
 
 object_at : (hold : Bool) (o : Option Term) (object : Term) (old new : Content) (r : Result (Unit {0}) Refusal) → hold ≡ false
-    → MatchOption o (gives (Err Badarg) old r new) (λ _. gives (Ok tt) (without_those hold (equal_to object) old) r new) → NoneHeld old.slots → NoneHeld new.slots
-object_at hold None object old new r e c n = subst (λ (t : Content). NoneHeld t.slots) (sym c.1) n
-object_at hold (Some key) object old new r e c n = subst (λ (t : Content). NoneHeld t.slots) (sym c.1) (dropped-none hold (equal_to object) old.slots e n)
+    → MatchOption o (gives (Err Badarg) old r new) (λ _. gives (Ok tt) (without_those hold (equal_to object) old) r new) → HasNoTombstones old.slots → HasNoTombstones new.slots
+object_at hold None object old new r e c n = subst (λ (t : Content). HasNoTombstones t.slots) (sym c.1) n
+object_at hold (Some key) object old new r e c n = subst (λ (t : Content). HasNoTombstones t.slots) (sym c.1) (dropped-none hold (equal_to object) old.slots e n)
 
-pub object-none : (hold : Bool) (object : Term) (old new : Content) (r : Result (Unit {0}) Refusal) → hold ≡ false → DeletesObject hold object old r new → NoneHeld old.slots → NoneHeld new.slots
+pub object-none : (hold : Bool) (object : Term) (old new : Content) (r : Result (Unit {0}) Refusal) → hold ≡ false → DeletesObject hold object old r new → HasNoTombstones old.slots → HasNoTombstones new.slots
 object-none hold object old new r e c n = object_at hold (key_of old.keypos object) object old new r e c n
 
 pub ruleset held = (inserts-none, news-none, counter-none, element-none, dropped-none, object-none, purged-none, purged-same)
 
--- of a table that nobody fixes a release leaves all as it is
-settled_at : (table : Fixed) (fixes : _) → fixes ≡ table.fixes → is_fixed table.fixes ≡ false → HeldWhileFixed table
+-- a release of a table that no process fixes changes nothing
+settled_at : (table : TableState) (fixes : _) → fixes ≡ table.fixes → is_fixed table.fixes ≡ false → TombstonesOnlyWhileFixed table
     → table ≡ cond (is_fixed fixes) (record table { fixes = fixes }) (record table { content = record table.content { slots = purged table.content.slots }; fixes = fixes })
 settled_at table fixes e free held =
     sym (ap (λ f. cond (is_fixed f) (record table { fixes = f }) (record table { content = record table.content { slots = purged table.content.slots }; fixes = f })) e
     ∙ ap (λ (b : Bool). cond b table (record table { content = record table.content { slots = purged table.content.slots } })) free
     ∙ ap (λ slots. record table { content = record table.content { slots = slots } }) (purged-same table.content.slots (held free)))
 
-pub free-release : (pid : ℕ) (table : Fixed) → is_fixed table.fixes ≡ false → HeldWhileFixed table → table ≡ released pid table
+pub free-release : (pid : ℕ) (table : TableState) → is_fixed table.fixes ≡ false → TombstonesOnlyWhileFixed table → table ≡ after_release pid table
 free-release pid table free held = settled_at table _ (free-released table.fixes pid free) free held
 
-pub free-release_all : (pid : ℕ) (table : Fixed) → is_fixed table.fixes ≡ false → HeldWhileFixed table → table ≡ all_released pid table
+pub free-release_all : (pid : ℕ) (table : TableState) → is_fixed table.fixes ≡ false → TombstonesOnlyWhileFixed table → table ≡ after_release_all pid table
 free-release_all pid table free held = settled_at table _ (free-cleared table.fixes pid free) free held

@@ -1,4 +1,4 @@
--- Calls keep keys apart, and the keys of a fixed table in their order.
+-- Calls keep keys distinct, and the keys of a fixed table in order.
 use Rattle.std.proofs.Common.{◌≡◌, inl, ℕ, ◌-◌, Bool, true, false, ◌||◌, not, cond, List, [], ◌∷◌, ◌++◌, Option, None, Some, refl, sym, subst, ap, ◌∙◌, true≢false}
 use Rattle.std.specs.Prelude.{MatchOption, Ok, Err, Result}
 use Rattle.std.specs.List.{IsDistinct}
@@ -21,12 +21,12 @@ use Rattle.table_ops.specs.Outcomes.{gives}
 use Rattle.fixed_walk.specs.declared.fault.FixFault.{FixFault}
 use Rattle.fixed_walk.specs.declared.fault.FixFault.TheVariants.{SystemLimit as FixLimit, Memory as FixMemory}
 use Rattle.fixed_walk.specs.Fixes.{FixCounts, is_fixed, with_count, fix_count}
-use Rattle.fixed_walk.specs.Fixed.{Fixed, on_content, FixesOnce, released, all_released}
-use Rattle.fixed_walk.specs.laws.Kept.{IsSubsequence, KeepsKeys, AlwaysKeeps}
+use Rattle.fixed_walk.specs.TableState.{TableState, on_content, IncrementsFix, after_release, after_release_all}
+use Rattle.fixed_walk.specs.laws.Kept.{IsSubsequence, KeepsKeys, AlwaysKeepsKeys}
 use Rattle.fixed_walk.proofs.Subsequences.{sub-same, sub-on, sub-further, sub-distinct}
 use Rattle.fixed_walk.proofs.ChangeLaws.{Keeping, is_end, unchanged, inserts-keep, news-keep, counter-keeps, element-keeps}
 
--- these slots are there still, in the same order
+-- the old slots are among the new ones, in the same order
 abbrev pub KeysStay : List Slot → List Slot → Type 0
 KeysStay old new = IsSubsequence (keys_of old) (keys_of new)
 
@@ -48,7 +48,7 @@ keeping = record {
   filled = λ old key os h. equal-keys old (with_objects old key os) (keys-set_value (same key) old os);
 }
 
--- where slots are held, a deletion leaves each key its slot
+-- a deletion that leaves tombstones keeps the slot of each key
 pub held-keys : (which : Which) (slots : List Slot) → keys_of (dropped true which slots) ≡ keys_of slots
 held-keys which [] = refl
 held-keys which (s ∷ ss) = ap (λ (ks : List Term). s.0 ∷ ks) (held-keys which ss)
@@ -87,38 +87,38 @@ dropped-apart hold which slots d = sub-distinct (keys_of (dropped hold which slo
 purged-apart : (slots : List Slot) → StayApart slots (purged slots)
 purged-apart slots d = sub-distinct (keys_of (purged slots)) (keys_of slots) (purged-among slots) d
 
--- ---- a table with its fixes
-same-content : (old new : Fixed) → new.content ≡ old.content → KeepsKeys old new
+-- ---- the state of a table
+same-content : (old new : TableState) → new.content ≡ old.content → KeepsKeys old new
 same-content old new e = record {
   distinct = subst (λ (t : Content). StayApart old.content.slots t.slots) (sym e) (λ d. d);
   order = λ fixed still. subst (λ (t : Content). KeysStay old.content.slots t.slots) (sym e) (sub-same (keys_of old.content.slots));
 }
 
--- a change of the content that keeps keys apart, and stays where slots are held
+-- a change of the content that keeps keys distinct, and keeps slots if it leaves tombstones
 on-content : {X : Type 0} (change : Bool → Content → Change X Content) → ((old new : Content) (r : Result X Refusal) → change true old r new → KeysStay old.slots new.slots)
-    → ((hold : Bool) (old new : Content) (r : Result X Refusal) → change hold old r new → StayApart old.slots new.slots) → (old new : Fixed) (r : Result X Refusal) → on_content (change (is_fixed old.fixes)) old r new → KeepsKeys old new
+    → ((hold : Bool) (old new : Content) (r : Result X Refusal) → change hold old r new → StayApart old.slots new.slots) → (old new : TableState) (r : Result X Refusal) → on_content (change (is_fixed old.fixes)) old r new → KeepsKeys old new
 on-content change stays parts old new r c = record {
   distinct = parts (is_fixed old.fixes) old.content new.content r c.0;
   order = λ fixed still. stays old.content new.content r (subst (λ (b : Bool). change b old.content r new.content) fixed c.0);
 }
 
 pub changes-keep : {X : Type 0} (change : Bool → Content → Change X Content) → ((old new : Content) (r : Result X Refusal) → change true old r new → KeysStay old.slots new.slots)
-    → ((hold : Bool) (old new : Content) (r : Result X Refusal) → change hold old r new → StayApart old.slots new.slots) → AlwaysKeeps change
+    → ((hold : Bool) (old new : Content) (r : Result X Refusal) → change hold old r new → StayApart old.slots new.slots) → AlwaysKeepsKeys change
 changes-keep change stays parts old new (Ok x) c = on-content change stays parts old new (Ok x) c
 changes-keep change stays parts old new (Err Badarg) c = on-content change stays parts old new (Err Badarg) c
 changes-keep change stays parts old new (Err SystemLimit) c = on-content change stays parts old new (Err SystemLimit) c
-changes-keep change stays parts old new (Err Memory) c = same-content old new (ap (λ (t : Fixed). t.content) c)
+changes-keep change stays parts old new (Err Memory) c = same-content old new (ap (λ (t : TableState). t.content) c)
 
-pub insert-keeps : (objects : List Term) → AlwaysKeeps (λ hold. Inserts objects)
+pub insert-keeps : (objects : List Term) → AlwaysKeepsKeys (λ hold. Inserts objects)
 insert-keeps objects = changes-keep (λ hold. Inserts objects) (inserts-keep KeysStay keeping objects) (λ hold. inserts-keep StayApart apart objects)
 
-pub insert_new-keeps : (objects : List Term) → AlwaysKeeps (λ hold. InsertsNew objects)
+pub insert_new-keeps : (objects : List Term) → AlwaysKeepsKeys (λ hold. InsertsNew objects)
 insert_new-keeps objects = changes-keep (λ hold. InsertsNew objects) (news-keep KeysStay keeping objects) (λ hold. news-keep StayApart apart objects)
 
-pub update_counter-keeps : (key : Term) (ops : Ops) (default : Option Term) → AlwaysKeeps (λ hold. UpdatesCounter key ops default)
+pub update_counter-keeps : (key : Term) (ops : Ops) (default : Option Term) → AlwaysKeepsKeys (λ hold. UpdatesCounter key ops default)
 update_counter-keeps key ops default = changes-keep (λ hold. UpdatesCounter key ops default) (counter-keeps KeysStay keeping key ops default) (λ hold. counter-keeps StayApart apart key ops default)
 
-pub update_element-keeps : (key : Term) (specs : ElementSpecs) (default : Option Term) → AlwaysKeeps (λ hold. UpdatesElement key specs default)
+pub update_element-keeps : (key : Term) (specs : ElementSpecs) (default : Option Term) → AlwaysKeepsKeys (λ hold. UpdatesElement key specs default)
 update_element-keeps key specs default = changes-keep (λ hold. UpdatesElement key specs default) (element-keeps KeysStay keeping key specs default) (λ hold. element-keeps StayApart apart key specs default)
 
 module _ (Q : List Slot → List Slot → Type 0) (keeps : Keeping Q) where
@@ -127,32 +127,32 @@ module _ (Q : List Slot → List Slot → Type 0) (keeps : Keeping Q) where
   object_at hold None object old new r q c = unchanged Q keeps old new c.1
   object_at hold (Some key) object old new r q c = subst (λ (t : Content). Q old.slots t.slots) (sym c.1) q
 
-pub delete_object-keeps : (object : Term) (old new : Fixed) (r : Result (Unit {0}) Refusal) → on_content (DeletesObject (is_fixed old.fixes) object) old r new → KeepsKeys old new
+pub delete_object-keeps : (object : Term) (old new : TableState) (r : Result (Unit {0}) Refusal) → on_content (DeletesObject (is_fixed old.fixes) object) old r new → KeepsKeys old new
 delete_object-keeps object =
     on-content (λ hold. DeletesObject hold object)
     (λ old new r c. object_at KeysStay keeping true (key_of old.keypos object) object old new r (dropped-stay true (equal_to object) old.slots refl) c)
     (λ hold old new r c. object_at StayApart apart hold (key_of old.keypos object) object old new r (dropped-apart hold (equal_to object) old.slots) c)
 
-pub delete-keeps : (which : Which) (old : Fixed) → KeepsKeys old (record old { content = without_those (is_fixed old.fixes) which old.content })
+pub delete-keeps : (which : Which) (old : TableState) → KeepsKeys old (record old { content = without_those (is_fixed old.fixes) which old.content })
 delete-keeps which old = record {
   distinct = dropped-apart (is_fixed old.fixes) which old.content.slots;
   order = λ fixed still. dropped-stay (is_fixed old.fixes) which old.content.slots fixed;
 }
 
-pub fix-keeps : (pid : ℕ) (old new : Fixed) (r : Result (Unit {0}) FixFault) → FixesOnce pid old r new → KeepsKeys old new
-fix-keeps pid old new (Ok x) c = same-content old new (ap (λ (t : Fixed). t.content) c.1)
-fix-keeps pid old new (Err FixLimit) c = same-content old new (ap (λ (t : Fixed). t.content) c.1)
-fix-keeps pid old new (Err FixMemory) c = same-content old new (ap (λ (t : Fixed). t.content) c.1)
+pub fix-keeps : (pid : ℕ) (old new : TableState) (r : Result (Unit {0}) FixFault) → IncrementsFix pid old r new → KeepsKeys old new
+fix-keeps pid old new (Ok x) c = same-content old new (ap (λ (t : TableState). t.content) c.1)
+fix-keeps pid old new (Err FixLimit) c = same-content old new (ap (λ (t : TableState). t.content) c.1)
+fix-keeps pid old new (Err FixMemory) c = same-content old new (ap (λ (t : TableState). t.content) c.1)
 
-settled-keeps : (old : Fixed) (fixes : FixCounts) (b : Bool) → is_fixed fixes ≡ b → KeepsKeys old (cond b (record old { fixes = fixes }) (record old { content = record old.content { slots = purged old.content.slots }; fixes = fixes }))
+settled-keeps : (old : TableState) (fixes : FixCounts) (b : Bool) → is_fixed fixes ≡ b → KeepsKeys old (cond b (record old { fixes = fixes }) (record old { content = record old.content { slots = purged old.content.slots }; fixes = fixes }))
 settled-keeps old fixes true e = record { distinct = λ d. d; order = λ fixed still. sub-same (keys_of old.content.slots) }
 settled-keeps old fixes false e = record { distinct = purged-apart old.content.slots; order = λ fixed still. absurd (true≢false (sym still ∙ e)) }
 
-pub release-keeps : (pid : ℕ) (old : Fixed) → KeepsKeys old (released pid old)
+pub release-keeps : (pid : ℕ) (old : TableState) → KeepsKeys old (after_release pid old)
 release-keeps pid old = settled-keeps old (with_count old.fixes pid (fix_count old.fixes pid - 1)) (is_fixed (with_count old.fixes pid (fix_count old.fixes pid - 1))) refl
 
-pub release_all-keeps : (pid : ℕ) (old : Fixed) → KeepsKeys old (all_released pid old)
+pub release_all-keeps : (pid : ℕ) (old : TableState) → KeepsKeys old (after_release_all pid old)
 release_all-keeps pid old = settled-keeps old (with_count old.fixes pid 0) (is_fixed (with_count old.fixes pid 0)) refl
 
-pub rows-keep : (old new : Fixed) → new.content ≡ old.content → KeepsKeys old new
+pub rows-keep : (old new : TableState) → new.content ≡ old.content → KeepsKeys old new
 rows-keep old new e = same-content old new e

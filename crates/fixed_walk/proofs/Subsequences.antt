@@ -40,7 +40,7 @@ sub-distinct (x ∷ xs) [] s d = absurd s
 sub-distinct (x ∷ xs) (y ∷ ys) (inl s) d = (sub-all (λ z. same x z ≡ false) xs ys s.1 (subst (λ (t : Term). AllByRecursion (λ z. same t z ≡ false) ys) (sym s.0) d.0), sub-distinct xs ys s.1 d.1)
 sub-distinct (x ∷ xs) (y ∷ ys) (inr s) d = sub-distinct (x ∷ xs) ys s d.1
 
--- what stands behind another in a distinct list differs from it
+-- a later key of a distinct list differs from an earlier one
 pub behind-apart : (y x : Term) (xs ys : List Term) → IsDistinct same (y ∷ ys) → IsSubsequence (x ∷ xs) ys → same y x ≡ false
 unfolding IsDistinct
 behind-apart y x xs ys d s = (sub-all (λ z. same y z ≡ false) (x ∷ xs) ys s d.0).0
@@ -48,7 +48,7 @@ behind-apart y x xs ys d s = (sub-all (λ z. same y z ≡ false) (x ∷ xs) ys s
 not-itself : (x y : Term) → x ≡ y → same y x ≡ false → ⊥
 not-itself x y e h = true≢false (sym (same-refl y) ∙ (ap (same y) (sym e) ∙ h))
 
--- two that overlap in one key are one
+-- two subsequences that meet in one key join
 pub sub-join : (ys : List Term) (x k : Term) (ks : List Term) → IsDistinct same ys → IsSubsequence (x ∷ k ∷ []) ys → IsSubsequence (k ∷ ks) ys → IsSubsequence (x ∷ k ∷ ks) ys
 unfolding IsDistinct
 sub-join [] x k ks d s t = absurd s

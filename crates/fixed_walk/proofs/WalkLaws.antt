@@ -1,4 +1,4 @@
--- Walks over a table that keeps its keys are whole.
+-- Traversals of a table that keeps its keys are exact.
 use Rattle.std.proofs.Common.{◌≡◌, ◌⊎◌, inl, inr, suc, Bool, true, false, cond, List, [], ◌∷◌, Option, None, Some, option_map, unwrap_or, refl, sym, subst, ap, ◌∙◌, true≢false, arith}
 use Rattle.std.specs.List.{AllByRecursion, IsDistinct, Contains}
 use Rattle.std.specs.Map.{keys_of, lookup}
@@ -11,7 +11,7 @@ use Rattle.table_ops.specs.Content.{is_present}
 use Rattle.table_ops.proofs.KeptLaws.{turned}
 use Rattle.fixed_walk.specs.Walk.{first_key, next_key}
 use Rattle.fixed_walk.specs.laws.Kept.{IsSubsequence}
-use Rattle.fixed_walk.specs.laws.Walks.{KeepKeys, key_told, IsWalk, WalksAreWhole}
+use Rattle.fixed_walk.specs.laws.Walks.{MomentsKeepKeys, walk_answer, IsWalk, WalksAreWhole}
 use Rattle.fixed_walk.proofs.Subsequences.{sub-on, sub-same, sub-tail, sub-further, sub-distinct, behind-apart, sub-join}
 
 -- ---- one moment
@@ -41,7 +41,7 @@ present-in (s ∷ ss) x p =
       | inr miss ↦ inr (present-in ss x (sym (found-on s ss x miss) ∙ p))
     ]
 
--- where a key has objects, the first key is that key or stands before it
+-- if a key has objects, the first key is that key or an earlier one
 record Before (ss : List Slot) (x : Term) : Type 0 where
   key : Term
   first : first_key ss ≡ Some key
@@ -69,7 +69,7 @@ before (s ∷ ss) x p =
     later k (inl e) = inl e
     later k (inr o) = inr (inr o)
 
--- a key with objects that stands behind another
+-- a key with objects after another key
 record Behind (ss : List Slot) (k x : Term) : Type 0 where
   slots : List Slot
   is : slots_behind ss k ≡ Some slots
@@ -89,7 +89,7 @@ behind (s ∷ ss) k x d (inr o) p =
     let rest = behind ss k x d.1 o (sym (found-on s ss x miss) ∙ p) in
     record { slots = rest.slots; is = behind-on s ss k other ∙ rest.is; present = rest.present; within = sub-on (keys_of rest.slots) (keys_of ss) s.0 rest.within }
 
--- what first and next answer stands in the table
+-- the key that first or next returns is in the table
 first-in : (ss : List Slot) (k : Term) → first_key ss ≡ Some k → IsSubsequence (k ∷ []) (keys_of ss)
 first-in [] k e = cc
 first-in (s ∷ ss) k e =
@@ -122,22 +122,22 @@ latest : List Slot → List (List Slot) → List Slot
 latest now [] = now
 latest now (next ∷ later) = latest next later
 
-last-distinct : (now : List Slot) (later : List (List Slot)) → KeepKeys (now ∷ later) → HasDistinctKeys (latest now later)
+last-distinct : (now : List Slot) (later : List (List Slot)) → MomentsKeepKeys (now ∷ later) → HasDistinctKeys (latest now later)
 unfolding latest
 last-distinct now [] kept = kept
 last-distinct now (next ∷ later) kept = last-distinct next later kept.2
 
-last-keeps : (now : List Slot) (later : List (List Slot)) → KeepKeys (now ∷ later) → IsSubsequence (keys_of now) (keys_of (latest now later))
+last-keeps : (now : List Slot) (later : List (List Slot)) → MomentsKeepKeys (now ∷ later) → IsSubsequence (keys_of now) (keys_of (latest now later))
 unfolding latest
 last-keeps now [] kept = sub-same (keys_of now)
 last-keeps now (next ∷ later) kept = sub-further (keys_of now) (keys_of next) (keys_of (latest next later)) kept.1 (last-keeps next later kept.2)
 
-now-distinct : (now : List Slot) (later : List (List Slot)) → KeepKeys (now ∷ later) → HasDistinctKeys now
+now-distinct : (now : List Slot) (later : List (List Slot)) → MomentsKeepKeys (now ∷ later) → HasDistinctKeys now
 now-distinct now [] kept = kept
 now-distinct now (next ∷ later) kept = kept.0
 
--- the keys of a walk are among the keys of its last moment, in the same order
-walked-last : (now : List Slot) (later : List (List Slot)) (k : Term) (keys : List Term) → KeepKeys (now ∷ later) → IsWalk (Some k) (now ∷ later) keys → IsSubsequence (k ∷ keys) (keys_of (latest now later))
+-- the keys of a traversal are among those of its last moment, in the same order
+walked-last : (now : List Slot) (later : List (List Slot)) (k : Term) (keys : List Term) → MomentsKeepKeys (now ∷ later) → IsWalk (Some k) (now ∷ later) keys → IsSubsequence (k ∷ keys) (keys_of (latest now later))
 unfolding latest
 walked-last now [] k [] kept w = next-in now k None w.0
 walked-last now (next ∷ later) k [] kept w = cc
@@ -153,8 +153,8 @@ here key x keys e = (0, omega arith, e)
 further : (key x : Term) (keys : List Term) → Contains keys x → Contains (key ∷ keys) x
 further key x keys c = (suc c.0, omega (arith, c.1), c.2)
 
--- a key with objects at every moment, behind the one that was answered last, comes
-comes : (now : List Slot) (later : List (List Slot)) (k x : Term) (keys : List Term) → KeepKeys (now ∷ later) → IsWalk (Some k) (now ∷ later) keys
+-- a key comes if it has objects at every moment and is after the last key that came
+comes : (now : List Slot) (later : List (List Slot)) (k x : Term) (keys : List Term) → MomentsKeepKeys (now ∷ later) → IsWalk (Some k) (now ∷ later) keys
     → AllByRecursion (λ slots. is_present slots x ≡ true) (now ∷ later) → IsSubsequence (k ∷ x ∷ []) (keys_of now) → Contains keys x
 comes now later k x [] kept w p o =
     let rest = behind now k x (now-distinct now later kept) o p.0 in
@@ -178,16 +178,16 @@ comes now (next ∷ later) k x (key ∷ keys) kept w p o =
         let at_next = sub-further (first ∷ x ∷ []) (keys_of now) (keys_of next) (sub-further (first ∷ x ∷ []) (keys_of slots) (keys_of now) q within) kept.1 in
         further key x keys (on (subst (λ (t : Term). IsSubsequence (t ∷ x ∷ []) (keys_of next)) is at_next))
 
--- ---- the whole walk
-first-told : (now : List Slot) (key : Term) → key_told None now ≡ Some (Some key) → first_key now ≡ Some key
+-- ---- the whole traversal
+first-told : (now : List Slot) (key : Term) → walk_answer None now ≡ Some (Some key) → first_key now ≡ Some key
 first-told now key e = cc
 
-once-at : (now : List Slot) (later : List (List Slot)) (key : Term) (keys : List Term) → KeepKeys (now ∷ later) → IsWalk None (now ∷ later) (key ∷ keys) → IsDistinct same (key ∷ keys)
+once-at : (now : List Slot) (later : List (List Slot)) (key : Term) (keys : List Term) → MomentsKeepKeys (now ∷ later) → IsWalk None (now ∷ later) (key ∷ keys) → IsDistinct same (key ∷ keys)
 once-at now [] key keys kept w = absurd w.1
 once-at now (next ∷ later) key keys kept w =
     sub-distinct (key ∷ keys) (keys_of (latest next later)) (walked-last next later key keys kept.2 w.1) (last-distinct next later kept.2)
 
-all-at : (now : List Slot) (later : List (List Slot)) (keys : List Term) → KeepKeys (now ∷ later) → IsWalk None (now ∷ later) keys
+all-at : (now : List Slot) (later : List (List Slot)) (keys : List Term) → MomentsKeepKeys (now ∷ later) → IsWalk None (now ∷ later) keys
     → (x : Term) → AllByRecursion (λ slots. is_present slots x ≡ true) (now ∷ later) → Contains keys x
 all-at now later [] kept w x p =
     let first = before now x p.0 in

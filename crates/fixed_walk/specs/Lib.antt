@@ -1,5 +1,5 @@
-pub mod Fixed
 pub mod Fixes
+pub mod TableState
 pub mod Walk
 pub mod inside
 pub mod laws

@@ -1,11 +1,11 @@
 use std::alloc::AllocError;
 
-/// Why a table is not fixed once more; nothing has changed.
+/// Why a fix is refused. A refused fix changes nothing.
 #[derive(Debug, Drop, PartialEq, Eq)]
 pub enum FixFault {
-    /// The process has 4,294,967,295 fixes of it.
+    /// The process has 4,294,967,295 fixes of the table.
     SystemLimit,
-    /// There was no memory for it.
+    /// An allocation failed.
     Memory,
 }
 
@@ -20,6 +20,6 @@ impl From<AllocError> for FixFault {
     }
 }
 
-/// The key of a step in a walk has no slot.
+/// The key given to a step of a traversal has no slot.
 #[derive(Debug, Clone, Copy, PartialEq, Eq)]
 pub struct Badarg;

@@ -1,12 +1,12 @@
 ghost use Rattle.std.specs.Prelude.{◌≡◌, ◌+◌, ◌-◌, ◌<◌, OnOk, OnErr};
 ghost use Rattle.std.specs.FinMap as map;
-ghost use Rattle.fixed_walk.specs.Fixes.{most_fixes, fix_count, is_fixed, with_count, IsFixedBySome};
+ghost use Rattle.fixed_walk.specs.Fixes.{max_fixes, fix_count, is_fixed, with_count, IsFixedBySome};
 
 use indexmap::IndexMap;
 use std::alloc::{AllocError, Global};
 use std::marker::Model;
 
-/// How many fixes each process has. A process without fixes is not among them.
+/// The number of fixes of each process. A process without fixes has no entry.
 #[derive(Drop)]
 pub struct Fixes {
     counts: IndexMap<u32, u32>,
@@ -27,6 +27,7 @@ impl Model for Fixes {
 }
 
 impl Fixes {
+    /// Returns counts without a fix.
     pub fn new(alloc: Global) -> Fixes
         ensures { result ≡ map.empty }
     {
@@ -35,15 +36,16 @@ impl Fixes {
         }
     }
 
+    /// Returns the number of fixes of a process.
     pub fn count(&self, pid: u32) -> u32
         ensures { result ≡ fix_count self.now pid }
     {
         self.counts.get(&pid).copied().unwrap_or(0)
     }
 
-    /// Whether some process has a fix.
+    /// Returns whether a process has a fix.
     #[tactic(auto, using(crate::proofs::CountLaws::first_entries))]
-    pub fn any(&self) -> bool
+    pub fn is_fixed(&self) -> bool
         ensures { result ≡ is_fixed self.now }
     {
         match self.counts.get_index(0) {
@@ -52,16 +54,16 @@ impl Fixes {
         }
     }
 
-    /// Tells a proof what a fixed table is; it does nothing when it runs.
-    pub fn known(&self)
+    /// Gives a proof the invariant: a table is fixed exactly if the count of a process is above zero. Does nothing.
+    pub fn reveal_invariant(&self)
         ensures { IsFixedBySome self.now }
     {
         let _ = self.counts.len();
     }
 
-    /// One fix more.
-    pub fn add(&mut self, pid: u32) -> Result<(), AllocError>
-        requires { fix_count self.old pid < most_fixes }
+    /// Adds one fix of a process.
+    pub fn increment(&mut self, pid: u32) -> Result<(), AllocError>
+        requires { fix_count self.old pid < max_fixes }
         ensures ok { OnOk result (self.new ≡ with_count self.old pid (fix_count self.old pid + 1)) }
         ensures err { OnErr result (self.new ≡ self.old) }
     {
@@ -69,7 +71,7 @@ impl Fixes {
         self.set(pid, count + 1)
     }
 
-    /// A process has so many fixes.
+    /// Sets the number of fixes of a process, at least 1.
     pub fn set(&mut self, pid: u32, count: u32) -> Result<(), AllocError>
         requires { 0 < count }
         ensures ok { OnOk result (self.new ≡ with_count self.old pid count) }
@@ -79,15 +81,15 @@ impl Fixes {
         Ok(())
     }
 
-    /// The fixes of a process go.
+    /// Removes all fixes of a process.
     pub fn clear(&mut self, pid: u32)
         ensures { self.new ≡ with_count self.old pid 0 }
     {
         let _ = self.counts.swap_remove(&pid);
     }
 
-    /// One fix less, or none where there was none.
-    pub fn take(&mut self, pid: u32)
+    /// Removes one fix of a process, if it has one.
+    pub fn decrement(&mut self, pid: u32)
         ensures { self.new ≡ with_count self.old pid (fix_count self.old pid - 1) }
     {
         let count = self.count(pid);

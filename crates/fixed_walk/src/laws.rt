@@ -1,4 +1,4 @@
-//! Why walks are whole, each law the contract of a function that does nothing.
+//! Why traversals are exact. Each law is the contract of a function that does nothing.
 
 ghost use Rattle.std.specs.Prelude.{◌≡◌, ℕ, List, Option, Result};
 ghost use Rattle.ets_term.specs.declared.term.Term.{Term};
@@ -10,31 +10,31 @@ ghost use Rattle.table_ops.specs.Put.{Inserts, InsertsNew};
 ghost use Rattle.table_ops.specs.Update.{UpdatesCounter, UpdatesElement};
 ghost use Rattle.fixed_walk.specs.declared.fault.FixFault.{FixFault};
 ghost use Rattle.fixed_walk.specs.Fixes.{is_fixed};
-ghost use Rattle.fixed_walk.specs.Fixed.{Fixed, on_content, FixesOnce, released, all_released, without};
-ghost use Rattle.fixed_walk.specs.laws.Kept.{KeepsKeys, AlwaysKeeps};
+ghost use Rattle.fixed_walk.specs.TableState.{TableState, on_content, IncrementsFix, after_release, after_release_all, after_delete};
+ghost use Rattle.fixed_walk.specs.laws.Kept.{KeepsKeys, AlwaysKeepsKeys};
 ghost use Rattle.fixed_walk.specs.laws.Walks.{WalksAreWhole};
 
-/// No call gives a key two slots; and where a table is fixed before and after it, the keys of its slots before are
-/// among those after, in the same order.
+/// No call gives a key two slots. If the table is fixed before and after a call, the keys of its slots before are among
+/// those after, in the same order.
 pub fn calls_keep_keys()
-    ensures insert { (objects : List Term) → AlwaysKeeps (λ hold. Inserts objects) }
-    ensures insert_new { (objects : List Term) → AlwaysKeeps (λ hold. InsertsNew objects) }
+    ensures insert { (objects : List Term) → AlwaysKeepsKeys (λ hold. Inserts objects) }
+    ensures insert_new { (objects : List Term) → AlwaysKeepsKeys (λ hold. InsertsNew objects) }
     ensures update_counter { (key : Term) (ops : Ops) (default : Option Term)
-        → AlwaysKeeps (λ hold. UpdatesCounter key ops default) }
+        → AlwaysKeepsKeys (λ hold. UpdatesCounter key ops default) }
     ensures update_element { (key : Term) (specs : ElementSpecs) (default : Option Term)
-        → AlwaysKeeps (λ hold. UpdatesElement key specs default) }
-    ensures delete { (which : Which) (old : Fixed) → KeepsKeys old (without which old) }
-    ensures delete_object { (object : Term) (old new : Fixed) (r : Result (Unit {0}) Refusal)
+        → AlwaysKeepsKeys (λ hold. UpdatesElement key specs default) }
+    ensures delete { (which : Which) (old : TableState) → KeepsKeys old (after_delete which old) }
+    ensures delete_object { (object : Term) (old new : TableState) (r : Result (Unit {0}) Refusal)
         → on_content (DeletesObject (is_fixed old.fixes) object) old r new → KeepsKeys old new }
-    ensures fix { (pid : ℕ) (old new : Fixed) (r : Result (Unit {0}) FixFault)
-        → FixesOnce pid old r new → KeepsKeys old new }
-    ensures release { (pid : ℕ) (old : Fixed) → KeepsKeys old (released pid old) }
-    ensures release_all { (pid : ℕ) (old : Fixed) → KeepsKeys old (all_released pid old) }
-    ensures rows { (old new : Fixed) → new.content ≡ old.content → KeepsKeys old new }
+    ensures fix { (pid : ℕ) (old new : TableState) (r : Result (Unit {0}) FixFault)
+        → IncrementsFix pid old r new → KeepsKeys old new }
+    ensures release { (pid : ℕ) (old : TableState) → KeepsKeys old (after_release pid old) }
+    ensures release_all { (pid : ℕ) (old : TableState) → KeepsKeys old (after_release_all pid old) }
+    ensures rows { (old new : TableState) → new.content ≡ old.content → KeepsKeys old new }
 {}
 
-/// A walk over moments each of which keeps the keys of the one before gives no key twice, and each key that has objects
-/// at all of them.
+/// If each moment of a traversal keeps the keys of the moment before, the traversal returns no key twice, and each key
+/// that has objects at all moments.
 pub fn walks_are_whole()
     ensures { WalksAreWhole }
 {}

@@ -4,7 +4,7 @@ ghost use Rattle.bucket_table.specs.Buckets.{IsGrown, IsReadied};
 ghost use Rattle.bucket_table.specs.Slots.{object_count};
 ghost use Rattle.table_ops.specs.Content.{IsContent};
 ghost use Rattle.fixed_walk.specs.Fixes.{IsFixedBySome};
-ghost use Rattle.fixed_walk.specs.Fixed.{NoneHeld, HeldWhileFixed, with_fixes};
+ghost use Rattle.fixed_walk.specs.TableState.{HasNoTombstones, TombstonesOnlyWhileFixed, with_fixes};
 
 use crate::fixes::Fixes;
 use bucket_table::{Growth, Readying, Rows};
@@ -17,8 +17,9 @@ mod fix;
 mod queries;
 mod walk;
 
-/// A table and its fixes (stdlib manual, module ets, safe_fixtable/2). A contract sees the `content` of the table, the
-/// readiness of its `buckets`, and how many `fixes` each process has. Held slots stand in it only while it is fixed.
+/// A table and its fixes (stdlib manual, module ets, safe_fixtable/2). A contract sees the `content` of the table, for
+/// each of its `buckets` whether it is ready, and the number of `fixes` of each process. There are tombstones only
+/// while the table is fixed.
 #[derive(Drop)]
 pub struct Walked<R: Rows> {
     table: Table<R>,
@@ -26,36 +27,36 @@ pub struct Walked<R: Rows> {
 }
 
 impl<R: Rows> Model for Walked<R> {
-    ghost use Rattle.fixed_walk.specs.Fixed.{Fixed, HeldWhileFixed, with_fixes};
-    ghost use Rattle.fixed_walk.specs.inside.Codes.{fixed_code};
+    ghost use Rattle.fixed_walk.specs.TableState.{TableState, TombstonesOnlyWhileFixed, with_fixes};
+    ghost use Rattle.fixed_walk.specs.inside.Codes.{state_code};
 
-    ghost Value = { Fixed };
+    ghost Value = { TableState };
 
-    ghost coded = { fixed_code };
+    ghost coded = { state_code };
 
     ghost view = { λ w. with_fixes w.table w.fixes };
 
-    ghost invariant = { λ w. HeldWhileFixed (with_fixes w.table w.fixes) };
+    ghost invariant = { λ w. TombstonesOnlyWhileFixed (with_fixes w.table w.fixes) };
 }
 
 impl<R: Rows> Walked<R> {
-    /// A table without held slots, which nobody fixes.
+    /// Makes a table that no process fixes from one without tombstones.
     pub fn new(alloc: Global, table: Table<R>) -> Self
-        requires { NoneHeld table.content.slots }
+        requires { HasNoTombstones table.content.slots }
         ensures { result ≡ with_fixes table map.empty }
     {
-        Walked::over(table, Fixes::new(alloc))
+        Walked::from_parts(table, Fixes::new(alloc))
     }
 
-    /// A table without held slots, with these fixes.
-    pub(crate) fn over(table: Table<R>, fixes: Fixes) -> Self
-        requires { NoneHeld table.content.slots }
+    /// Makes a table with these fixes from one without tombstones.
+    pub(crate) fn from_parts(table: Table<R>, fixes: Fixes) -> Self
+        requires { HasNoTombstones table.content.slots }
         ensures { result ≡ with_fixes table fixes }
     {
         Walked { table, fixes }
     }
 
-    /// The rows, for what they tell beside the calls of the table.
+    /// Returns the rows, to read what the calls of the table do not show.
     pub fn rows(&self) -> &R
         ensures slots { R.content result.now ≡ self.now.content.slots }
         ensures buckets { R.readiness result.now ≡ self.now.buckets }
@@ -63,21 +64,21 @@ impl<R: Rows> Walked<R> {
         self.table.rows()
     }
 
-    /// How many objects the table keeps of one key.
+    /// Returns the kind of the table: which objects with one key it keeps.
     pub fn kind(&self) -> Kind
         ensures { result ≡ self.now.content.kind }
     {
         self.table.kind()
     }
 
-    /// The position of the key in each object.
+    /// Returns the position of the key in each object, from 1.
     pub fn keypos(&self) -> u32
         ensures { result ≡ self.now.content.keypos }
     {
         self.table.keypos()
     }
 
-    /// How many objects there are, fewer than 4,294,967,296.
+    /// Returns the number of objects, at most 4,294,967,295.
     pub fn size(&self) -> usize
         ensures count { result ≡ object_count self.now.content.slots }
         ensures few { result < 2 ^ 32 }
@@ -85,28 +86,28 @@ impl<R: Rows> Walked<R> {
         self.table.size()
     }
 
-    /// How many slots there are, held ones too.
+    /// Returns the number of slots, tombstones included.
     pub fn slots(&self) -> usize
         ensures { result ≡ length self.now.content.slots }
     {
         self.table.slots()
     }
 
-    /// How many buckets the rows have.
+    /// Returns the number of buckets of the rows.
     pub fn buckets(&self) -> u32
         ensures { result ≡ length self.now.buckets }
     {
         self.table.buckets()
     }
 
-    /// The least bucket that is not ready.
+    /// Returns the lowest bucket that is not ready; None if all are ready.
     pub fn least(&self) -> Option<u32>
         ensures { result ≡ position not self.now.buckets }
     {
         self.table.least()
     }
 
-    /// Doubles the buckets of the rows. A walk goes on as before.
+    /// Doubles the number of buckets of the rows. It changes no traversal.
     pub fn grow(&mut self) -> Result<Growth, AllocError>
         ensures content { self.new ≡ record self.old { buckets = self.new.buckets } }
         ensures ok { IfOk result (λ growth.
@@ -116,7 +117,7 @@ impl<R: Rows> Walked<R> {
         self.table.grow()
     }
 
-    /// Makes a bucket of the rows ready. A walk goes on as before.
+    /// Makes a bucket of the rows ready. It changes no traversal.
     pub fn ready(&mut self, bucket: u32) -> Result<Readying, AllocError>
         ensures content { self.new ≡ record self.old { buckets = self.new.buckets } }
         ensures ok { IfOk result (λ readying.
@@ -126,13 +127,13 @@ impl<R: Rows> Walked<R> {
         self.table.ready(bucket)
     }
 
-    /// Tells a proof what holds of each table; it does nothing when it runs.
-    pub fn known(&self)
+    /// Gives a proof the invariants of a table. Does nothing.
+    pub fn reveal_invariant(&self)
         ensures content { IsContent self.now.content }
         ensures fixed { IsFixedBySome self.now.fixes }
-        ensures held { HeldWhileFixed self.now }
+        ensures held { TombstonesOnlyWhileFixed self.now }
     {
         self.table.known();
-        self.fixes.known();
+        self.fixes.reveal_invariant();
     }
 }

@@ -1,14 +1,14 @@
--- The code of a table with its fixes.
+-- How the state of a table is coded.
 use Rattle.std.specs.Prelude.{Bool, List, refl}
 use Rattle.std.specs.Coded.{Coded, code_by, coded×, coded_ℕ, coded_list, coded_bool}
 use Rattle.std.specs.FinMap as map
 use Rattle.table_ops.specs.Content.{Content}
 use Rattle.table_ops.specs.inside.Codes.{content_code}
 use Rattle.fixed_walk.specs.Fixes.{FixCounts}
-use Rattle.fixed_walk.specs.Fixed.{Fixed}
+use Rattle.fixed_walk.specs.TableState.{TableState}
 
-abbrev pub fixed_code : Coded Fixed
-fixed_code =
+abbrev pub state_code : Coded TableState
+state_code =
     code_by
     (Content × (List Bool × FixCounts))
     (coded× content_code (coded× (coded_list coded_bool) (map.code coded_ℕ coded_ℕ)))

@@ -7,24 +7,24 @@ use Rattle.table_ops.specs.declared.refusal.Refusal.{Refusal}
 use Rattle.table_ops.specs.Content.{Content}
 use Rattle.table_ops.specs.Refusals.{Change, Comes}
 use Rattle.fixed_walk.specs.Fixes.{is_fixed}
-use Rattle.fixed_walk.specs.Fixed.{Fixed, on_content}
+use Rattle.fixed_walk.specs.TableState.{TableState, on_content}
 
--- these are among those, in the same order
+-- the first keys are among the second, in the same order
 abbrev pub IsSubsequence : List Term → List Term → Type 0
 IsSubsequence [] others = Unit {0}
 IsSubsequence (key ∷ keys) [] = ⊥
 IsSubsequence (key ∷ keys) (other ∷ others) =
     ((key ≡ other) × IsSubsequence keys others) ⊎ IsSubsequence (key ∷ keys) others
 
--- no key has two slots after where none had before; and where the table is fixed before and after, the keys of its
--- slots before are among those after, in the same order
-pub record KeepsKeys (old new : Fixed) : Type 0 where
+-- if no key has two slots before, none has after; if the table is fixed before and after, the keys of its slots before
+-- are among those after, in the same order
+pub record KeepsKeys (old new : TableState) : Type 0 where
   pub distinct : HasDistinctKeys old.content.slots → HasDistinctKeys new.content.slots
   pub order : is_fixed old.fixes ≡ true → is_fixed new.fixes ≡ true
       → IsSubsequence (keys_of old.content.slots) (keys_of new.content.slots)
 
--- so does each outcome of a change of the content, which is told whether slots are held
-abbrev pub AlwaysKeeps : {X : Type 0} → (Bool → Content → Change X Content) → Type 0
-AlwaysKeeps {X} change =
-    (old new : Fixed) (r : Result X Refusal)
+-- each outcome of a change of the content keeps the keys; the change gets whether it leaves tombstones
+abbrev pub AlwaysKeepsKeys : {X : Type 0} → (Bool → Content → Change X Content) → Type 0
+AlwaysKeepsKeys {X} change =
+    (old new : TableState) (r : Result X Refusal)
     → Comes (on_content (change (is_fixed old.fixes)) old) old r new → KeepsKeys old new

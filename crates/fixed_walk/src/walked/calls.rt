@@ -7,7 +7,7 @@ ghost use Rattle.table_ops.specs.Read.{all_objects, element_told, element_or};
 ghost use Rattle.table_ops.specs.Refusals.{Comes, Tells};
 ghost use Rattle.table_ops.specs.Update.{UpdatesCounter, UpdatesElement};
 ghost use Rattle.fixed_walk.specs.Fixes.{is_fixed};
-ghost use Rattle.fixed_walk.specs.Fixed.{on_content, without};
+ghost use Rattle.fixed_walk.specs.TableState.{on_content, after_delete};
 
 use super::Walked;
 use bucket_table::Rows;
@@ -16,25 +16,26 @@ use ets_term::{Items, Position, Term};
 use std::alloc::AllocError;
 use table_ops::Refusal;
 
-/// The calls on objects, each as `Table` has it; a slot that loses its last object stays, held, while the table is
-/// fixed.
+/// The calls on objects, each with the meaning of the same call of `Table`. A slot that loses its last object stays as
+/// a tombstone while the table is fixed.
 impl<R: Rows> Walked<R> {
-    /// The objects of a key, oldest first (stdlib manual, ets:lookup/2).
+    /// Returns the objects of a key, oldest first (stdlib manual, ets:lookup/2).
     pub fn lookup(&self, key: &Term) -> &[Term]
         ensures { result.now ≡ objects_under self.now.content.slots key.now }
     {
         self.table.lookup(key)
     }
 
-    /// Whether a key has an object (stdlib manual, ets:member/2).
+    /// Returns whether a key has an object (stdlib manual, ets:member/2).
     pub fn member(&self, key: &Term) -> bool
         ensures { result ≡ is_present self.now.content.slots key.now }
     {
         self.table.member(key)
     }
 
-    /// The element at a position of a key's object, or in a bag the list of these of all its objects, copied. `Badarg`
-    /// where the key has no object, or one of them no such element (stdlib manual, ets:lookup_element/3).
+    /// Returns a copy of the element at `position`, from 1, of the key's object; in a bag, the list of these elements
+    /// of all its objects. Refuses with `Badarg` if the key has no object, or one of its objects has no such element
+    /// (stdlib manual, ets:lookup_element/3).
     pub fn lookup_element(&self, key: &Term, position: Position) -> Result<Term, Refusal>
         ensures { Tells (element_told self.now.content.kind position
             (objects_under self.now.content.slots key.now)) result }
@@ -42,8 +43,8 @@ impl<R: Rows> Walked<R> {
         self.table.lookup_element(key, position)
     }
 
-    /// As `lookup_element`, but the default where the key has no object; `Badarg` for the position 0 then too (stdlib
-    /// manual, ets:lookup_element/4).
+    /// Returns what `lookup_element` does, but a copy of `default` if the key has no object. Refuses position 0 with
+    /// `Badarg` then too (stdlib manual, ets:lookup_element/4).
     pub fn lookup_element_or(
         &self,
         key: &Term,
@@ -56,16 +57,16 @@ impl<R: Rows> Walked<R> {
         self.table.lookup_element_or(key, position, default)
     }
 
-    /// All objects, copied, in the order of the slots (stdlib manual, ets:tab2list/1).
+    /// Returns copies of all objects, in the order of the slots (stdlib manual, ets:tab2list/1).
     pub fn objects(&self) -> Result<Items<Term>, AllocError>
         ensures { AnswersWith result (all_objects self.now.content.slots) }
     {
         self.table.objects()
     }
 
-    /// Inserts objects one after another, or none of them where one is refused (stdlib manual, ets:insert/2). `Badarg`
-    /// where one is no object; `SystemLimit` where one is too deep, or where the table would have more objects than
-    /// it may. A key that was deleted while the table is fixed comes back at its place.
+    /// Inserts objects one after another, or none of them if one is refused (stdlib manual, ets:insert/2). Refuses with
+    /// `Badarg` if one is no object, and with `SystemLimit` if one is too deep or the table would pass its limit. A key
+    /// that was deleted while the table is fixed comes back at its place.
     #[tactic(auto, using(crate::proofs::HeldLaws::held))]
     pub fn insert(&mut self, objects: &[Term]) -> Result<(), Refusal>
         ensures { Comes (on_content (Inserts objects.now) self.old) self.old result self.new }
@@ -73,8 +74,8 @@ impl<R: Rows> Walked<R> {
         self.table.insert(objects)
     }
 
-    /// Inserts objects if none of their keys has an object; answers whether it did (stdlib manual, ets:insert_new/2).
-    /// It refuses what `insert` does, a limit only where it would insert.
+    /// Inserts objects if none of their keys has an object, and returns whether it did (stdlib manual,
+    /// ets:insert_new/2). Refuses what `insert` refuses, but `SystemLimit` only if no key has an object.
     #[tactic(auto, using(crate::proofs::HeldLaws::held))]
     pub fn insert_new(&mut self, objects: &[Term]) -> Result<bool, Refusal>
         ensures { Comes (on_content (InsertsNew objects.now) self.old) self.old result self.new }
@@ -82,13 +83,18 @@ impl<R: Rows> Walked<R> {
         self.table.insert_new(objects)
     }
 
-    /// Updates the counters of a key's object in its place and answers the new value, or for a list of operations the
-    /// list of new values (stdlib manual, ets:update_counter/3 and /4). Where the key has no object, the Default with
-    /// the key in it is updated and stored; a key that was deleted while the table is fixed comes back at its place.
-    /// `Badarg` for a bag; where an operation names the key's element, or a position that has no integer; where the
-    /// Default is no object, also if it is not needed; and where the key has no object and there is no Default. Then
-    /// `SystemLimit` where a new value is past the integers, or the new object too deep or one more than the table may
-    /// have.
+    /// Updates the counters of a key's object in place and returns the new value, or the list of new values for a list
+    /// of operations (stdlib manual, ets:update_counter/3 and /4). If the key has no object, it updates the Default
+    /// with that key and inserts it; a key that was deleted while the table is fixed comes back at its place.
+    ///
+    /// Refuses with `Badarg`
+    /// - a bag,
+    /// - an operation on the key's element or on a position without an integer,
+    /// - a Default that is no object, even if it is not needed,
+    /// - a key without object if there is no Default.
+    ///
+    /// Refuses with `SystemLimit` a new value that is out of range, and a new object that is too deep or past the
+    /// limit.
     #[tactic(auto, using(crate::proofs::HeldLaws::held))]
     pub fn update_counter(
         &mut self,
@@ -103,12 +109,17 @@ impl<R: Rows> Walked<R> {
         self.table.update_counter(key, ops, default)
     }
 
-    /// Writes elements of a key's object in its place and answers `true` (stdlib manual, ets:update_element/3 and /4).
-    /// Where the key has no object, they are written into the Default with the key in it, which is stored, also for no
-    /// values; a key that was deleted while the table is fixed comes back at its place. Without a Default it answers
-    /// `false`. `Badarg` for a bag; where a value is for the key's element; where the Default is no object, also if it
-    /// is not needed; and where the object that is written has not all the positions. Then `SystemLimit` where it would
-    /// be too deep, or one more than the table may have.
+    /// Writes elements of a key's object in place and returns `true` (stdlib manual, ets:update_element/3 and /4). If
+    /// the key has no object, it writes them into the Default with that key and inserts it, also for no values; a key
+    /// that was deleted while the table is fixed comes back at its place. Without a Default it returns `false`.
+    ///
+    /// Refuses with `Badarg`
+    /// - a bag,
+    /// - a value for the key's element,
+    /// - a Default that is no object, even if it is not needed,
+    /// - a position that the object does not have.
+    ///
+    /// Refuses with `SystemLimit` an object that would be too deep or past the limit.
     #[tactic(auto, using(crate::proofs::HeldLaws::held))]
     pub fn update_element(
         &mut self,
@@ -126,39 +137,40 @@ impl<R: Rows> Walked<R> {
     /// Deletes the objects of a key (stdlib manual, ets:delete/2).
     #[tactic(auto, using(crate::proofs::HeldLaws::held))]
     pub fn delete_key(&mut self, key: &Term)
-        ensures { self.new ≡ without (of_key key.now) self.old }
+        ensures { self.new ≡ after_delete (of_key key.now) self.old }
     {
-        let hold = self.fixes.any();
+        let hold = self.fixes.is_fixed();
         self.table.delete_key(key, hold);
     }
 
-    /// Takes the objects of a key out, oldest first (stdlib manual, ets:take/2).
+    /// Removes and returns the objects of a key, oldest first (stdlib manual, ets:take/2).
     #[tactic(auto, using(crate::proofs::HeldLaws::held))]
     pub fn take(&mut self, key: &Term) -> Result<Items<Term>, AllocError>
         ensures taken { AnswersWith result (objects_under self.old.content.slots key.now) }
-        ensures ok { OnOk result (self.new ≡ without (of_key key.now) self.old) }
+        ensures ok { OnOk result (self.new ≡ after_delete (of_key key.now) self.old) }
         ensures err { OnErr result (self.new ≡ self.old) }
     {
-        let hold = self.fixes.any();
+        let hold = self.fixes.is_fixed();
         self.table.take(key, hold)
     }
 
-    /// Deletes every instance of an object (stdlib manual, ets:delete_object/2). `Badarg` where the term is no object.
+    /// Deletes every instance of an object (stdlib manual, ets:delete_object/2). Refuses with `Badarg` if the term is
+    /// no object.
     #[tactic(auto, using(crate::proofs::HeldLaws::held))]
     pub fn delete_object(&mut self, object: &Term) -> Result<(), Refusal>
         ensures { on_content (DeletesObject (is_fixed self.old.fixes) object.now)
             self.old result self.new }
     {
-        let hold = self.fixes.any();
+        let hold = self.fixes.is_fixed();
         self.table.delete_object(object, hold)
     }
 
     /// Deletes all objects (stdlib manual, ets:delete_all_objects/1).
     #[tactic(auto, using(crate::proofs::HeldLaws::held))]
     pub fn delete_all(&mut self)
-        ensures { self.new ≡ without each self.old }
+        ensures { self.new ≡ after_delete each self.old }
     {
-        let hold = self.fixes.any();
+        let hold = self.fixes.is_fixed();
         self.table.delete_all(hold);
     }
 }

@@ -3,7 +3,7 @@ use Rattle.std.specs.Prelude.{option_map}
 use Rattle.std.specs.Map.Iter.{deref_pair}
 use Rattle.bucket_table.specs.Slots.{Slot}
 use Rattle.fixed_walk.specs.Walk.{next_slot}
-use Rattle.fixed_walk.specs.Fixed.{Fixed}
+use Rattle.fixed_walk.specs.TableState.{TableState}
 use Rattle.fixed_walk.proofs.FromLaws.{next-told, next-absent}
 use Rattle.fixed_walk.proofs.walked.Walked.next_lookup.Goals as goal
 
@@ -13,11 +13,11 @@ returns-clause-ok g c =
     let key_at = g.R.Rows.key_at rows in
     let slots = g.R.Rows.content rows in
     let key = c.args.key.now in
-    let is : slots ≡ c.args.self.now.content.slots = c.rows-rows.ensures.slots ∙ ap (λ (t : Fixed). t.content.slots) c.self.view_is in
+    let is : slots ≡ c.args.self.now.content.slots = c.rows-rows.ensures.slots ∙ ap (λ (t : TableState). t.content.slots) c.self.view_is in
     let told = next-told key_at slots key (key_at c.in-Some.place) c.place_behind.result c.known.ensures c.in-Some.ensures.0 c.place_behind.ensures in
-    subst (λ (zs : List Slot). next_slot zs key ≡ Some (option_map deref_pair c.first_present.result)) is (told ∙ ap Some (sym c.first_present.ensures))
+    subst (λ (zs : List Slot). next_slot zs key ≡ Some (option_map deref_pair c.first_nonempty.result)) is (told ∙ ap Some (sym c.first_nonempty.ensures))
 
 pub returns-in_default-clause-err : goal.returns-in_default-clause-err
 returns-in_default-clause-err g c =
-    let is = c.rows-rows.ensures.slots ∙ ap (λ (t : Fixed). t.content.slots) c.self.view_is in
+    let is = c.rows-rows.ensures.slots ∙ ap (λ (t : TableState). t.content.slots) c.self.view_is in
     subst (λ (zs : List Slot). next_slot zs c.args.key.now ≡ None) is (next-absent (g.R.Rows.content c.rows-rows.result.now) c.args.key.now c.in_default.ensures)

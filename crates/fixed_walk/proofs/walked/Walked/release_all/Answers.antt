@@ -1,10 +1,10 @@
 use Rattle.std.proofs.Common.{◌≡◌, false, sym, subst, ◌∙◌}
 use Rattle.fixed_walk.specs.Fixes.{is_fixed}
-use Rattle.fixed_walk.specs.Fixed.{Fixed, HeldWhileFixed}
+use Rattle.fixed_walk.specs.TableState.{TableState, TombstonesOnlyWhileFixed}
 use Rattle.fixed_walk.proofs.HeldLaws.{free-release_all}
 use Rattle.fixed_walk.proofs.walked.Walked.release_all.Goals as goal
 
-pub returns-then-not-any : goal.returns-then-not-any
-returns-then-not-any g c =
-    let free : is_fixed c.self.inside.fixes ≡ false = sym c.any.ensures ∙ c.if-not-any.true in
-    free-release_all c.args.pid c.args.self.now (subst (λ (t : Fixed). is_fixed t.fixes ≡ false) c.self.view_is free) (subst HeldWhileFixed c.self.view_is c.self.invariant)
+pub returns-then-not-is_fixed : goal.returns-then-not-is_fixed
+returns-then-not-is_fixed g c =
+    let free : is_fixed c.self.inside.fixes ≡ false = sym c.is_fixed.ensures ∙ c.if-not-is_fixed.true in
+    free-release_all c.args.pid c.args.self.now (subst (λ (t : TableState). is_fixed t.fixes ≡ false) c.self.view_is free) (subst TombstonesOnlyWhileFixed c.self.view_is c.self.invariant)

@@ -2,7 +2,7 @@ use Rattle.std.proofs.Common.{◌≡◌, ◌∷◌, refl, sym, ap, ◌∙◌, le
 use Rattle.fixed_walk.specs.Walk.{first_slot}
 use Rattle.fixed_walk.specs.inside.From.{slots_from}
 use Rattle.fixed_walk.proofs.FromLaws.{from-step, from-here-first, slots-short, stands-next, none-left, some-left, first-of}
-use Rattle.fixed_walk.proofs.walked.walk.first_present.Goals as goal
+use Rattle.fixed_walk.proofs.walked.walk.first_nonempty.Goals as goal
 
 pub loop-init : goal.loop-init
 loop-init g c =

@@ -2,7 +2,7 @@ use Rattle.std.proofs.Common.{◌≡◌, ◌-◌, sym, ap, ◌∙◌, unwrap_or,
 use Rattle.std.specs.FinMap as map
 use Rattle.fixed_walk.specs.Fixes.{with_count, fix_count}
 use Rattle.fixed_walk.proofs.CountLaws.{inserted, inserted-counted, removed, removed-counted, with_some, with_none, get-lookup}
-use Rattle.fixed_walk.proofs.fixes.Fixes.take.Goals as goal
+use Rattle.fixed_walk.proofs.fixes.Fixes.decrement.Goals as goal
 
 pub returns-in-Some : goal.returns-in-Some
 returns-in-Some c =

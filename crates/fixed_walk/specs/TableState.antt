@@ -1,0 +1,62 @@
+-- A table with its fixes, and what fixing and releasing it do (stdlib manual, module ets, safe_fixtable/2).
+use Rattle.std.specs.Prelude.{◌≡◌, ℕ, ◌+◌, ◌-◌, ◌<◌, Bool, false, true, if◌then◌else◌, List, Result, Ok, Err}
+use Rattle.std.specs.List.{AllByRecursion}
+use Rattle.bucket_table.specs.Slots.{Slot, has_objects}
+use Rattle.table_ops.specs.Content.{Content, Tabled}
+use Rattle.table_ops.specs.Drop.{Which, without_those, without_held}
+use Rattle.table_ops.specs.Refusals.{Change}
+use Rattle.fixed_walk.specs.declared.fault.FixFault.{FixFault}
+use Rattle.fixed_walk.specs.declared.fault.FixFault.TheVariants.{SystemLimit, Memory}
+use Rattle.fixed_walk.specs.Fixes.{FixCounts, max_fixes, fix_count, is_fixed, with_count}
+
+-- what a contract sees of a table: its content, for each bucket whether it is ready, and the fixes of each process
+pub record TableState : Type 0 where
+  pub content : Content
+  pub buckets : List Bool
+  pub fixes : FixCounts
+
+-- a table with these fixes
+abbrev pub with_fixes : Tabled → FixCounts → TableState
+with_fixes table fixes =
+    record { content = table.content; buckets = table.buckets; fixes = fixes }
+
+-- a change of the content that changes nothing else
+abbrev pub on_content : {X : Type 0} → (Content → Change X Content) → TableState → Change X TableState
+on_content change old r new =
+    change old.content r new.content × (new ≡ record old { content = new.content })
+
+-- the table without these objects; a slot that loses its last one stays as a tombstone if the table is fixed
+abbrev pub after_delete : Which → TableState → TableState
+after_delete which table =
+    record table { content = without_those (is_fixed table.fixes) which table.content }
+
+-- each slot has objects
+abbrev pub HasNoTombstones : List Slot → Type 0
+HasNoTombstones slots = AllByRecursion (λ slot. has_objects slot.1 ≡ true) slots
+
+-- there are tombstones only while the table is fixed
+abbrev pub TombstonesOnlyWhileFixed : TableState → Type 0
+TombstonesOnlyWhileFixed table = is_fixed table.fixes ≡ false → HasNoTombstones table.content.slots
+
+-- one more fix of a process, unless it has the greatest number of fixes
+abbrev pub IncrementsFix : ℕ → TableState → Result (Unit {0}) FixFault → TableState → Type 0
+IncrementsFix pid old (Ok done) new =
+    (fix_count old.fixes pid < max_fixes)
+    × (new ≡ record old { fixes = with_count old.fixes pid (fix_count old.fixes pid + 1) })
+IncrementsFix pid old (Err SystemLimit) new = (fix_count old.fixes pid ≡ max_fixes) × (new ≡ old)
+IncrementsFix pid old (Err Memory) new = (fix_count old.fixes pid < max_fixes) × (new ≡ old)
+
+-- the table without its tombstones, unless it is fixed
+abbrev pub without_tombstones_if_unfixed : TableState → TableState
+without_tombstones_if_unfixed table =
+    if is_fixed table.fixes then table
+    else record table { content = without_held table.content }
+
+-- the table with one fix fewer of a process, if the process has one
+abbrev pub after_release : ℕ → TableState → TableState
+after_release pid table =
+    without_tombstones_if_unfixed (record table { fixes = with_count table.fixes pid (fix_count table.fixes pid - 1) })
+
+-- the table without fixes of a process, as when it exits
+abbrev pub after_release_all : ℕ → TableState → TableState
+after_release_all pid table = without_tombstones_if_unfixed (record table { fixes = with_count table.fixes pid 0 })
