@@ -1,19 +1,20 @@
-ghost use Rattle.std.specs.Prelude.{◌≡◌, ◌∷◌, [], true, false, IfOk, length};
+ghost use Rattle.std.specs.Prelude.{◌≡◌, ◌∷◌, [], true, false, IfOk, option_copied};
+ghost use Rattle.bucket_table.specs.Slots.{objects_of};
+ghost use Rattle.bucket_table.specs.Buckets.{HasLooked};
 
-mod buckets;
 mod changes;
 mod dummies;
 mod held;
 mod hint;
 mod hints;
 mod layout;
-mod places;
 mod rows;
 mod sweep;
 
 use self::held::Held;
 use self::layout::Layout;
-use ets_term::KeyHash;
+use ets_term::{KeyHash, Term};
+use node_list::Steps;
 use std::alloc::{AllocError, Global};
 use std::marker::Model;
 
@@ -53,5 +54,17 @@ impl<H: KeyHash + Copy + Drop> SplitRows<H> {
             least: 1,
             held: Held::new(alloc),
         })
+    }
+
+    /// The objects of the key's slot. It counts the nodes that it looks at.
+    pub fn get_counted(&self, key: &Term, steps: &mut Steps) -> Option<&[Term]>
+        ensures value { option_copied result ≡ objects_of self.now.slots key.now }
+        ensures looked { HasLooked (H.number self.now.hash) self.now.slots self.now.ready key.now steps.old steps.new }
+    {
+        self.layout.list.known();
+        let number = self.layout.hash.hash32(key);
+        let at = self.layout.find(number, key, steps)?;
+        let (_key, chain) = self.layout.list.item(at)?;
+        Some(chain.as_slice())
     }
 }

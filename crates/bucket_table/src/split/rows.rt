@@ -1,14 +1,16 @@
-ghost use Rattle.bucket_table.specs.declared.growth.TheConstants.{MAX_BUCKETS};
 ghost use Rattle.bucket_table.specs.Split.{key_of_place};
 
 use super::SplitRows;
+use super::layout::hash_of;
 use super::sweep::Sweep;
 use crate::entry::{Entry, Place};
-use crate::growth::{Growth, Readying};
+use crate::growth::{Growth, MAX_BUCKETS, Readying};
 use crate::rows::Rows;
 use ets_term::{KeyHash, Term};
 use node_list::{Chain, Steps};
+use split_key::dummy_key;
 use std::alloc::AllocError;
+use std::mem;
 
 impl<H: KeyHash + Copy + Drop> Rows for SplitRows<H> {
     ghost content = { λ s. s.slots };
@@ -21,7 +23,7 @@ impl<H: KeyHash + Copy + Drop> Rows for SplitRows<H> {
 
     ghost readiness = { λ s. s.ready };
 
-    ghost most_buckets = { MAX_BUCKETS };
+    ghost most_buckets = { 1048576 };
 
     fn get(&self, key: &Term) -> Option<&[Term]> {
         let mut steps = Steps::new();
@@ -29,19 +31,22 @@ impl<H: KeyHash + Copy + Drop> Rows for SplitRows<H> {
     }
 
     fn put(&mut self, rows: Vec<(Term, Chain)>) -> Result<(), AllocError> {
-        self.put_rows(rows)
+        self.reserve_slots(rows.len())?;
+        for (key, objects) in rows {
+            let number = self.layout.hash.hash32(&key);
+            self.insert_slot(number, key, objects);
+        }
+        Ok(())
     }
 
     fn replace(&mut self, key: &Term, objects: Chain) -> Option<Chain> {
-        let number = self.layout.hash.hash32(key);
-        let place = self.place_of(number, key)?;
-        Some(self.replace_objects(place, objects))
+        let place = self.find(key)?;
+        Some(self.replace_at(place, objects))
     }
 
     fn remove(&mut self, key: &Term) -> Option<Chain> {
-        let number = self.layout.hash.hash32(key);
-        let place = self.place_of(number, key)?;
-        let (_key, objects) = self.remove_slot(place);
+        let place = self.find(key)?;
+        let (_key, objects) = self.remove_at(place);
         Some(objects)
     }
 
@@ -50,15 +55,23 @@ impl<H: KeyHash + Copy + Drop> Rows for SplitRows<H> {
     }
 
     fn purge(&mut self) {
-        self.purge_notes();
+        if self.held.is_lost {
+            self.sweep_slots(Sweep::Purge);
+            return;
+        }
+        self.layout.list.known();
+        let before = self.layout.list.len();
+        self.layout.purge_noted(&mut self.held.hashes);
+        self.slots -= before - self.layout.list.len();
     }
 
     fn len(&self) -> usize {
-        self.count()
+        self.layout.list.known();
+        self.slots
     }
 
     fn known(&self) {
-        self.has_distinct_keys();
+        self.layout.list.known();
     }
 
     fn first_at(&self) -> Option<(&Term, &[Term])> {
@@ -76,73 +89,120 @@ impl<H: KeyHash + Copy + Drop> Rows for SplitRows<H> {
     }
 
     fn find(&self, key: &Term) -> Option<Place> {
+        self.layout.list.known();
         let number = self.layout.hash.hash32(key);
-        self.place_of(number, key)
+        let mut steps = Steps::new();
+        self.layout.find(number, key, &mut steps)
     }
 
     fn entry(&self, key: &Term) -> Entry {
+        self.layout.list.known();
         let number = self.layout.hash.hash32(key);
-        match self.place_of(number, key) {
+        let mut steps = Steps::new();
+        match self.layout.find(number, key, &mut steps) {
             Some(place) => Entry::Occupied(place),
             None => Entry::Vacant(number),
         }
     }
 
     fn first_place(&self) -> Option<Place> {
-        self.place_of_first()
+        self.layout.list.item_from(0)
     }
 
     fn place_behind(&self, place: Place) -> Option<Place> {
-        self.place_of_next(place)
+        self.layout.list.known();
+        self.layout.list.item_from(place + 1)
     }
 
     fn slot_at(&self, place: Place) -> (&Term, &[Term]) {
-        self.slot_of_place(place)
+        self.layout.list.known();
+        match self.layout.list.item(place) {
+            Some((key, chain)) => (key, chain.as_slice()),
+            None => unreachable!(),
+        }
     }
 
     fn objects_at(&self, place: Place) -> &[Term] {
-        self.objects_of_place(place)
+        self.layout.list.known();
+        match self.layout.list.item(place) {
+            Some((_key, chain)) => chain.as_slice(),
+            None => unreachable!(),
+        }
     }
 
     fn replace_at(&mut self, place: Place, objects: Chain) -> Chain {
-        self.replace_objects(place, objects)
+        self.layout.list.known();
+        let number = hash_of(self.layout.list.key(place));
+        self.held.mark(objects.len() == 0, number);
+        let chain = self.layout.list.chain_mut(place);
+        mem::replace(chain, objects)
     }
 
     fn replace_one_at(&mut self, place: Place, object: Term) -> Term {
-        self.replace_only(place, object)
+        self.layout.list.known();
+        self.layout.list.chain_mut(place).replace(0, object)
     }
 
     fn remove_at(&mut self, place: Place) -> (Term, Chain) {
-        self.remove_slot(place)
+        self.layout.list.known();
+        let slot = self.layout.remove(place);
+        self.slots -= 1;
+        slot
     }
 
     fn reserve(&mut self, additional: usize) -> Result<(), AllocError> {
-        self.make_room(additional)
+        self.reserve_slots(additional)
     }
 
     fn put_at(&mut self, hash: u32, key: Term, objects: Chain) -> Result<(), AllocError> {
-        self.make_room(1)?;
+        self.reserve_slots(1)?;
         self.insert_slot(hash, key, objects);
         Ok(())
     }
 
     fn grow(&mut self) -> Result<Growth, AllocError> {
-        self.double()
+        let buckets = self.layout.dummies.len();
+        if buckets >= MAX_BUCKETS {
+            return Ok(Growth::AtMost);
+        }
+        self.layout.hints.clear_older(16 * buckets)?;
+        self.layout.dummies.double()?;
+        mem::swap(&mut self.layout.hints.firsts, &mut self.layout.hints.older);
+        self.layout.hints.shift -= 1;
+        self.layout.hints.turn = 0;
+        Ok(Growth::Grown)
     }
 
     fn ready(&mut self, bucket: u32) -> Result<Readying, AllocError> {
-        self.make_ready(bucket)
+        let index = bucket as usize;
+        if index >= self.layout.dummies.len() {
+            return Ok(Readying::NotABucket);
+        }
+        if self.layout.dummies.get(index).is_some() {
+            return Ok(Readying::AlreadyReady);
+        }
+        let start = self.layout.start_of_dummy(bucket);
+        self.layout.list.reserve(1)?;
+        let at = self.layout.list.insert_dummy(start, dummy_key(bucket));
+        self.layout.dummies.set(index, at);
+        self.layout.survey_both(bucket);
+        self.least = self.layout.next_unready(self.least);
+        Ok(Readying::Ready)
     }
 
     fn buckets(&self) -> u32 {
-        self.size()
+        self.layout.dummies.len() as u32
     }
 
     fn is_ready(&self, bucket: u32) -> bool {
-        self.has_ready(bucket)
+        self.layout.dummies.get(bucket as usize).is_some()
     }
 
     fn least(&self) -> Option<u32> {
-        self.least_unready()
+        if self.least < self.layout.dummies.len() {
+            Some(self.least as u32)
+        } else {
+            None
+        }
     }
 }
