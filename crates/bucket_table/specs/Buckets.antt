@@ -1,4 +1,4 @@
--- The buckets of rows, each of them ready or not, and how many nodes a search in one of them looks at.
+-- The buckets of rows, each of them ready or not, and the number of nodes that a search in one visits.
 use Rattle.std.specs.Prelude.{◌≡◌, ℕ, ◌+◌, ◌%◌, ◌≤◌, ◌<◌, Bool, true, false, List, ◌++◌, None, IsSome, length, replicate, get_or, set, count_by, nat_eq}
 use Rattle.ets_term.specs.declared.term.Term.{Term}
 use Rattle.node_list.specs.Ticks.{ticks}
@@ -8,32 +8,33 @@ use Rattle.bucket_table.specs.declared.growth.Readying.{Readying}
 use Rattle.bucket_table.specs.declared.growth.Readying.TheVariants.{Ready, AlreadyReady, NotABucket}
 use Rattle.bucket_table.specs.Slots.{Slot, objects_of}
 
--- twice as many buckets, the old ones as ready as before and the new ones not; or no more, at the greatest number
+-- Growth: the buckets are doubled, the old ones as ready as before and the new ones not; or they have their greatest
+-- number.
 abbrev pub IsGrown : ℕ → List Bool → Growth → List Bool → Type 0
 IsGrown most old Grown new = new ≡ old ++ replicate (length old) false
 IsGrown most old AtMost new = (new ≡ old) × (length old ≡ most)
 
--- one bucket is ready that was not; or none has changed
+-- Readying: the bucket was not ready and is now; or it was ready; or no bucket has this number.
 abbrev pub IsReadied : ℕ → List Bool → Readying → List Bool → Type 0
 IsReadied bucket old Ready new = (bucket < length old) × (get_or old bucket true ≡ false) × (new ≡ set old bucket true)
 IsReadied bucket old AlreadyReady new = (get_or old bucket false ≡ true) × (new ≡ old)
 IsReadied bucket old NotABucket new = (length old ≤ bucket) × (new ≡ old)
 
--- how many keys of slots have this hash
+-- The number of keys of slots with this hash.
 abbrev pub hash_keys : (Term → ℕ) → ℕ → List Slot → ℕ
-hash_keys number hash slots = count_by (λ slot. nat_eq (number slot.0) hash) slots
+hash_keys hash_of hash slots = count_by (λ slot. nat_eq (hash_of slot.0) hash) slots
 
--- how many keys of slots belong to bucket `bucket` of `size`
+-- The number of keys of slots in bucket `bucket` of `size`.
 abbrev pub bucket_keys : (Term → ℕ) → ℕ → ℕ → List Slot → ℕ
-bucket_keys number size bucket slots = count_by (λ slot. nat_eq (number slot.0 % size) bucket) slots
+bucket_keys hash_of size bucket slots = count_by (λ slot. nat_eq (hash_of slot.0 % size) bucket) slots
 
--- a search for a key has looked at so many nodes: at least one where the key has a slot, else one for each key of its
--- hash at least; and at most those of its bucket and two more, where that is ready
-pub record HasLooked (number : Term → ℕ) (slots : List Slot) (ready : List Bool)
+-- The nodes that a search for a key visits. If the key has a slot, at least one; if not, at least one for each key of
+-- its hash. If its bucket is ready, at most the keys of the bucket and two.
+pub record HasLooked (hash_of : Term → ℕ) (slots : List Slot) (ready : List Bool)
     (key : Term) (old new : ℕ) : Type 0 where
   pub nodes : ℕ
   pub ticked : new ≡ ticks nodes old
   pub present : IsSome (objects_of slots key) → 1 ≤ nodes
-  pub absent : objects_of slots key ≡ None → hash_keys number (number key) slots ≤ nodes
-  pub bound : get_or ready (number key % length ready) false ≡ true
-      → nodes ≤ bucket_keys number (length ready) (number key % length ready) slots + 2
+  pub absent : objects_of slots key ≡ None → hash_keys hash_of (hash_of key) slots ≤ nodes
+  pub bound : get_or ready (hash_of key % length ready) false ≡ true
+      → nodes ≤ bucket_keys hash_of (length ready) (hash_of key % length ready) slots + 2

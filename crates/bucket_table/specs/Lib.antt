@@ -2,5 +2,5 @@ pub mod Slots
 pub mod Entries
 pub mod Walks
 pub mod Buckets
-pub mod Split
+pub mod SplitRowsState
 pub mod inside

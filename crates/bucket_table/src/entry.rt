@@ -1,9 +1,9 @@
-/// The place of a slot: it stays its own until a slot is put or taken away.
+/// The index of a slot. It is valid until a slot is inserted or removed.
 pub type Place = usize;
 
-/// What a search found: the place of the key's slot, or, where it has none, the key's hash, for a new one.
+/// The result of a search for an insertion: the place of the key's slot, or the hash of a key without a slot.
 #[derive(Clone, Copy)]
-pub enum Entry {
+pub enum SlotEntry {
     Occupied(Place),
     Vacant(u32),
 }

@@ -1,14 +1,14 @@
-/// A table has no more buckets.
+/// The greatest number of buckets of a table.
 pub const MAX_BUCKETS: usize = 1_048_576;
 
-/// What `grow` did: it doubled the buckets, or they are the most that the rows can have.
+/// The result of `Rows::grow`: the buckets were doubled, or the rows have their greatest number of buckets.
 #[derive(Clone, Copy, PartialEq, Eq)]
 pub enum Growth {
     Grown,
     AtMost,
 }
 
-/// What `ready` did: the bucket is ready now, or was before, or there is none of this number.
+/// The result of `Rows::ready`: the bucket is ready now, it was ready before, or no bucket has this number.
 #[derive(Clone, Copy, PartialEq, Eq)]
 pub enum Readying {
     Ready,

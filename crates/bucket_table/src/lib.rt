@@ -1,22 +1,26 @@
-//! The rows of a table: slots with distinct keys, in two kept forms with one content.
+//! Rows: slots with distinct keys, in hash buckets or in insertion order; each call has its exact effect on them.
 //!
-//! *Guarantee.* No call changes the order of the slots that stay, each call has its exact effect on the list of slots,
-//! growth leaves it as it is, and a refusal of memory changes nothing. A search in a ready bucket looks at no more
-//! nodes than the bucket has keys, and two.
+//! *Guarantee.* No call reorders the slots that remain, and growth changes no slot. A call that runs out of memory
+//! changes no slot. In a ready bucket of n keys, tombstones included, a search visits at most n + 2 nodes.
 //!
-//! *Weakness.* Keys of one hash stand in one bucket at every size, so a bad hash makes searches long. A `clear`
-//! walks over all nodes, and so does a `purge` after more slots became held than there was room to note. A walk looks
-//! at free places too, and at those of dummies.
+//! *Weakness.* Keys of equal hashes share a bucket at every size, so a bad hasher makes searches long. `clear` visits
+//! all nodes. `purge` also does if more slots became tombstones than the log had room for. A traversal also reads
+//! free places and those of dummies.
 //!
-//! *Mechanism.* The nodes stand in one list, in the order of their split keys; a bucket is a stretch of it, behind its
-//! dummy. For each eighth of a bucket the place of its first item is known, or that it has none, or nothing: a search
-//! begins there, or else at the first item of the nearest lower eighth that is known, or at the dummy of the nearest
-//! ready bucket. An insertion makes what is not known of its eighth known. Where the buckets double, what is known
-//! of the former eighths stays beside, and each insertion tells the halves of two of them. A doubling writes next to
-//! nothing: the directory of dummies is written as its buckets become ready, and what is not known of the new eighths
-//! as items are put in. The slots come in the order of their places, and a walk reads these forward.
+//! *Mechanism.* `SplitRows` is a split-ordered list (Shalev and Shavit): one list of nodes, sorted by split keys. A
+//! bucket is an interval of the list that starts at a sentinel, its dummy. The directory has the place of each dummy.
+//! The hints are a cache: for each eighth of a bucket, an *interval*, they give the place of its first item. They may
+//! also say that the interval is empty, or that nothing is known. A search starts at a hint, or without one at the
+//! dummy of the nearest ready bucket. An insertion refreshes the hint of its interval if that is unknown.
 //!
-//! *Limits.* Buckets are 2 to 1,048,576. A place that was given back is given out again.
+//! A doubling moves no node. It keeps the old hints as previous ones, and each insertion rehashes two of them. The
+//! directory is written when buckets become ready. The slots come in the order of their places, and a traversal reads
+//! these forward. `PlainRows` keeps the slots in insertion order, in one bucket.
+//!
+//! A *tombstone* is a slot without objects: its key was deleted while the table is fixed. Public names call it
+//! *held*.
+//!
+//! *Limits.* `SplitRows` has 2 to 1,048,576 buckets. A place that becomes free is used again.
 #![tactic(auto)]
 
 mod entry;
@@ -25,7 +29,7 @@ mod plain;
 mod rows;
 mod split;
 
-pub use entry::{Entry, Place};
+pub use entry::{Place, SlotEntry};
 pub use growth::{Growth, MAX_BUCKETS, Readying};
 pub use plain::PlainRows;
 pub use rows::Rows;

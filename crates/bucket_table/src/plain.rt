@@ -2,7 +2,7 @@ ghost use Rattle.std.specs.Prelude.{◌≡◌, ◌<◌, ◌≤◌, ◌+◌, true
 ghost use Rattle.indexmap.specs.IndexMap.{spare};
 ghost use Rattle.bucket_table.specs.Slots.{has_objects, objects_of};
 
-use crate::entry::{Entry, Place};
+use crate::entry::{Place, SlotEntry};
 use crate::growth::{Growth, Readying};
 use crate::rows::Rows;
 use ets_term::Term;
@@ -11,15 +11,15 @@ use node_list::Chain;
 use std::alloc::{AllocError, Global};
 use std::mem;
 
-/// Rows in the order in which their keys came, in one bucket that is always ready: a new key goes last. Taking a slot
-/// away moves those behind it, so that it costs the slots.
+/// Rows in insertion order, in one bucket that is always ready. A removal moves the later slots, so its time grows
+/// with their number.
 #[derive(Drop)]
 pub struct PlainRows {
     slots: IndexMap<Term, Chain>,
 }
 
 impl PlainRows {
-    /// Rows without slots.
+    /// Creates rows without slots.
     pub fn new(alloc: Global) -> PlainRows
         ensures { ⟦<PlainRows as Rows>⟧.content result ≡ [] }
     {
@@ -28,6 +28,7 @@ impl PlainRows {
         }
     }
 
+    /// Appends a slot for a key that has none.
     fn push(&mut self, key: Term, objects: Chain) -> Result<(), AllocError>
         requires { objects_of self.old.slots.entries key ≡ None }
         ensures ok { OnOk result (self.new.slots.entries ≡ self.old.slots.entries ++ (key, objects) ∷ []) }
@@ -47,7 +48,7 @@ impl Rows for PlainRows {
 
     ghost room = { λ s. spare s.slots };
 
-    ghost number = { λ s key. 0 };
+    ghost hash_of = { λ s key. 0 };
 
     ghost readiness = { λ s. true ∷ [] };
 
@@ -107,7 +108,7 @@ impl Rows for PlainRows {
         self.slots.len()
     }
 
-    fn known(&self) {
+    fn reveal_invariant(&self) {
         let _ = self.slots.len();
     }
 
@@ -133,10 +134,10 @@ impl Rows for PlainRows {
         }
     }
 
-    fn entry(&self, key: &Term) -> Entry {
+    fn entry(&self, key: &Term) -> SlotEntry {
         match self.slots.get_index_of(key) {
-            Some(place) => Entry::Occupied(place),
-            None => Entry::Vacant(0),
+            Some(place) => SlotEntry::Occupied(place),
+            None => SlotEntry::Vacant(0),
         }
     }
 
@@ -144,14 +145,14 @@ impl Rows for PlainRows {
         if self.slots.len() > 0 { Some(0) } else { None }
     }
 
-    fn place_behind(&self, place: Place) -> Option<Place> {
+    fn next_place(&self, place: Place) -> Option<Place> {
         let slots = self.slots.len();
         let next = place + 1;
         if next < slots { Some(next) } else { None }
     }
 
     fn slot_at(&self, place: Place) -> (&Term, &[Term]) {
-        self.known();
+        self.reveal_invariant();
         match self.slots.get_index(place) {
             Some((key, objects)) => (key, objects.as_slice()),
             None => unreachable!(),
@@ -180,7 +181,7 @@ impl Rows for PlainRows {
     }
 
     fn remove_at(&mut self, place: Place) -> (Term, Chain) {
-        self.known();
+        self.reveal_invariant();
         match self.slots.shift_remove_index(place) {
             Some(slot) => slot,
             None => unreachable!(),
@@ -215,7 +216,7 @@ impl Rows for PlainRows {
         bucket == 0
     }
 
-    fn least(&self) -> Option<u32> {
+    fn first_unready(&self) -> Option<u32> {
         None
     }
 }

@@ -3,123 +3,125 @@ ghost use Rattle.std.specs.Map.Iter.{deref_pair};
 ghost use Rattle.ets_term.specs.declared.term.Term.{Term};
 ghost use Rattle.bucket_table.specs.Slots.{Slot, HasDistinctKeys, objects_of, with_objects, without, Enters, EnterAll, AreNew, purged, cleared, slots_behind};
 ghost use Rattle.bucket_table.specs.Entries.{IsEntry, HasOne, objects_in, with_objects_in};
-ghost use Rattle.bucket_table.specs.Walks.{IsFirstPlace, IsNextPlace, StandsBefore};
+ghost use Rattle.bucket_table.specs.Walks.{IsFirstPlace, IsNextPlace, ComesBefore};
 ghost use Rattle.bucket_table.specs.Buckets.{IsGrown, IsReadied};
 
-use crate::entry::{Entry, Place};
+use crate::entry::{Place, SlotEntry};
 use crate::growth::{Growth, Readying};
 use ets_term::Term;
 use node_list::Chain;
 use std::alloc::AllocError;
 
-/// A list of slots with distinct keys. No call changes the order of the slots that stay, none panics, and a call
-/// that answers want of memory has changed nothing.
+/// A list of slots with distinct keys. No call reorders the slots that remain. A call that runs out of memory changes
+/// no slot.
 pub trait Rows: Drop {
     /// The slots, in their order.
     ghost content: { Self → List Slot };
 
-    /// The key of the slot that stands at a place.
+    /// The key of the slot at a place.
     ghost key_at: { Self → ℕ → Option Term };
 
-    /// How many slots can be put without memory.
+    /// The number of slots that can be inserted without an allocation.
     ghost room: { Self → ℕ };
 
     /// The hash of each key.
-    ghost number: { Self → Term → ℕ };
+    ghost hash_of: { Self → Term → ℕ };
 
-    /// For each bucket whether it is ready.
+    /// Whether each bucket is ready.
     ghost readiness: { Self → List Bool };
 
     /// The greatest number of buckets.
     ghost most_buckets: { ℕ };
 
-    /// The objects of the key's slot.
+    /// Returns the objects of the key's slot, if it has one.
     fn get(&self, key: &Term) -> Option<&[Term]>
         ensures { option_copied result ≡ objects_of (content self.now) key.now };
 
-    /// Gives each of these keys, which differ and have no slot, one. After want of memory the rows are dropped.
+    /// Inserts a slot for each row. The keys must be distinct and without slots. If memory runs out, no slot is
+    /// inserted and the rows are dropped.
     fn put(&mut self, rows: Vec<(Term, Chain)>) -> Result<(), AllocError>
         requires distinct { HasDistinctKeys rows.items }
         requires new { AreNew (content self.old) rows.items }
         ensures ok { OnOk result (EnterAll (content self.old) rows.items (content self.new)) }
         ensures err { OnErr result (content self.new ≡ content self.old) }
-        ensures hash { number self.new ≡ number self.old }
+        ensures hash { hash_of self.new ≡ hash_of self.old }
         ensures buckets { readiness self.new ≡ readiness self.old };
 
-    /// Other objects for a slot, the old ones handed back.
+    /// Replaces the objects of the key's slot and returns the old ones. Returns `None` if the key has no slot.
     fn replace(&mut self, key: &Term, objects: Chain) -> Option<Chain>
         ensures was { result ≡ objects_of (content self.old) key.now }
         ensures now { content self.new ≡ with_objects (content self.old) key.now objects }
-        ensures hash { number self.new ≡ number self.old }
+        ensures hash { hash_of self.new ≡ hash_of self.old }
         ensures buckets { readiness self.new ≡ readiness self.old };
 
-    /// Takes the key's slot away.
+    /// Removes the key's slot and returns its objects. Returns `None` if the key has no slot.
     fn remove(&mut self, key: &Term) -> Option<Chain>
         ensures was { result ≡ objects_of (content self.old) key.now }
         ensures now { content self.new ≡ without (content self.old) key.now }
-        ensures hash { number self.new ≡ number self.old }
+        ensures hash { hash_of self.new ≡ hash_of self.old }
         ensures buckets { readiness self.new ≡ readiness self.old };
 
-    /// Takes all objects away. Each slot stays as a held one if slots are held, else those that had objects go.
+    /// Removes all objects. If `hold` is set, each slot remains as a tombstone. Otherwise slots with objects are
+    /// removed, and tombstones remain.
     fn clear(&mut self, hold: bool)
         ensures now { content self.new ≡ cleared hold (content self.old) }
-        ensures hash { number self.new ≡ number self.old }
+        ensures hash { hash_of self.new ≡ hash_of self.old }
         ensures buckets { readiness self.new ≡ readiness self.old };
 
-    /// Takes the held slots away. Split rows look for those that became held since the last purge, by their hashes,
-    /// and walk over all where they were more than a sixteenth of the nodes, or after a `clear`.
+    /// Removes all tombstones. `SplitRows` searches for the logged ones by their hashes. It scans all slots after a
+    /// `clear`, or if the log has no room for a hash: it keeps one for each sixteen nodes, if memory allows.
     fn purge(&mut self)
         ensures now { content self.new ≡ purged (content self.old) }
-        ensures hash { number self.new ≡ number self.old }
+        ensures hash { hash_of self.new ≡ hash_of self.old }
         ensures buckets { readiness self.new ≡ readiness self.old };
 
-    /// How many slots there are, held ones too.
+    /// Returns the number of slots, tombstones included.
     fn len(&self) -> usize
         ensures { result ≡ length (content self.now) };
 
-    /// Tells a proof that no key has two slots; it does nothing when it runs.
-    fn known(&self)
+    /// Tells a proof that the keys are distinct. It does nothing at run time.
+    fn reveal_invariant(&self)
         ensures { HasDistinctKeys (content self.now) };
 
-    /// The first slot.
+    /// Returns the first slot, if there is one.
     fn first_at(&self) -> Option<(&Term, &[Term])>
         ensures { option_map deref_pair result ≡ slice_get (content self.now) 0 };
 
-    /// The slot behind that of the key; the outer `None` says that the key has none.
+    /// Returns the slot after that of the key. The outer `None` means that the key has no slot.
     fn next_at(&self, key: &Term) -> Option<Option<(&Term, &[Term])>>
         ensures { option_map (option_map deref_pair) result
             ≡ option_map (λ slots. slice_get slots 0) (slots_behind (content self.now) key.now) };
 
-    /// Finds the place of the key's slot.
+    /// Returns the place of the key's slot, if it has one.
     fn find(&self, key: &Term) -> Option<Place>
         ensures { MatchOption result (objects_of (content self.now) key.now ≡ None)
             (λ place. (key_at self.now place ≡ Some key.now) × IsSome (objects_of (content self.now) key.now)) };
 
-    /// Finds the place of the key's slot, or says what `put_at` takes for a new one.
-    fn entry(&self, key: &Term) -> Entry
-        ensures { IsEntry (content self.now) (number self.now) (key_at self.now) key.now result };
+    /// Returns the place of the key's slot. If it has none, returns the key's hash, for `put_at`.
+    fn entry(&self, key: &Term) -> SlotEntry
+        ensures { IsEntry (content self.now) (hash_of self.now) (key_at self.now) key.now result };
 
-    /// The place of the first slot.
+    /// Returns the place of the first slot, if there is one.
     fn first_place(&self) -> Option<Place>
         ensures { IsFirstPlace (key_at self.now) (content self.now) result };
 
-    /// The place of the slot behind the one at a place. Split rows look at each place between.
-    fn place_behind(&self, place: Place) -> Option<Place>
+    /// Returns the place of the next slot, if there is one. `SplitRows` reads each place up to it.
+    fn next_place(&self, place: Place) -> Option<Place>
         requires { IsSome (key_at self.now place) }
         ensures { IsNextPlace (key_at self.now) (content self.now) (key_at self.now place) result };
 
-    /// The slot at a place.
+    /// Returns the key and the objects of the slot at a place.
     fn slot_at(&self, place: Place) -> (&Term, &[Term])
         requires { IsSome (key_at self.now place) }
         ensures key { key_at self.now place ≡ Some result.0.now }
         ensures objects { objects_of (content self.now) result.0.now ≡ Some result.1.now };
 
-    /// The objects of the slot at a place.
+    /// Returns the objects of the slot at a place.
     fn objects_at(&self, place: Place) -> &[Term]
         requires { IsSome (key_at self.now place) }
         ensures { objects_in (content self.now) (key_at self.now place) ≡ Some result.now };
 
-    /// Other objects for the slot at a place, the old ones handed back.
+    /// Replaces the objects of the slot at a place and returns the old ones.
     fn replace_at(&mut self, place: Place, objects: Chain) -> Chain
         requires { IsSome (key_at self.old place) }
         ensures was { objects_in (content self.old) (key_at self.old place) ≡ Some result }
@@ -127,72 +129,73 @@ pub trait Rows: Drop {
         ensures place { key_at self.new place ≡ key_at self.old place }
         ensures places { (other : ℕ) → key_at self.new other ≡ key_at self.old other }
         ensures room { room self.old ≤ room self.new }
-        ensures hash { number self.new ≡ number self.old }
+        ensures hash { hash_of self.new ≡ hash_of self.old }
         ensures buckets { readiness self.new ≡ readiness self.old };
 
-    /// Another object for the only one of the slot at a place, which is handed back.
+    /// Replaces the only object of the slot at a place and returns the old one.
     fn replace_one_at(&mut self, place: Place, object: Term) -> Term
         requires { HasOne (content self.old) (key_at self.old place) }
         ensures was { objects_in (content self.old) (key_at self.old place) ≡ Some (result ∷ []) }
         ensures now { content self.new ≡ with_objects_in (content self.old) (key_at self.old place) (object ∷ []) }
         ensures places { (other : ℕ) → key_at self.new other ≡ key_at self.old other }
         ensures room { room self.old ≤ room self.new }
-        ensures hash { number self.new ≡ number self.old }
+        ensures hash { hash_of self.new ≡ hash_of self.old }
         ensures buckets { readiness self.new ≡ readiness self.old };
 
-    /// Takes the slot at a place away. The slots before it stay at their places.
+    /// Removes the slot at a place and returns it. The slots before it keep their places.
     fn remove_at(&mut self, place: Place) -> (Term, Chain)
         requires { IsSome (key_at self.old place) }
         ensures key { key_at self.old place ≡ Some result.0 }
         ensures was { objects_of (content self.old) result.0 ≡ Some result.1 }
         ensures now { content self.new ≡ without (content self.old) result.0 }
         ensures before { (other : ℕ) (key : Term) → key_at self.old other ≡ Some key
-            → StandsBefore (content self.old) key result.0
+            → ComesBefore (content self.old) key result.0
             → key_at self.new other ≡ Some key }
-        ensures hash { number self.new ≡ number self.old }
+        ensures hash { hash_of self.new ≡ hash_of self.old }
         ensures buckets { readiness self.new ≡ readiness self.old };
 
-    /// Makes room for so many slots more, which are then put without memory.
+    /// Reserves memory for `additional` slots, which `put_at` can then insert without an allocation.
     fn reserve(&mut self, additional: usize) -> Result<(), AllocError>
         ensures room { OnOk result (additional ≤ room self.new) }
         ensures now { content self.new ≡ content self.old }
         ensures places { (place : ℕ) → key_at self.new place ≡ key_at self.old place }
-        ensures hash { number self.new ≡ number self.old }
+        ensures hash { hash_of self.new ≡ hash_of self.old }
         ensures buckets { readiness self.new ≡ readiness self.old };
 
-    /// Gives a key that has no slot one. The hash is the key's, as `entry` answered it.
+    /// Inserts a slot for a key that has none. `hash` is the key's hash, as `entry` returned it.
     fn put_at(&mut self, hash: u32, key: Term, objects: Chain) -> Result<(), AllocError>
         requires new { objects_of (content self.old) key ≡ None }
-        requires hash { hash ≡ number self.old key }
+        requires hash { hash ≡ hash_of self.old key }
         ensures ok { OnOk result (Enters (content self.old) key objects (content self.new)) }
         ensures err { OnErr result (content self.new ≡ content self.old) }
         ensures succeeds { 1 ≤ room self.old → IsOk result }
         ensures room { room self.old ≤ room self.new + 1 }
-        ensures hash { number self.new ≡ number self.old }
+        ensures hash { hash_of self.new ≡ hash_of self.old }
         ensures buckets { readiness self.new ≡ readiness self.old };
 
-    /// Doubles the buckets.
+    /// Doubles the number of buckets, unless it is the greatest.
     fn grow(&mut self) -> Result<Growth, AllocError>
         ensures content { content self.new ≡ content self.old }
-        ensures hash { number self.new ≡ number self.old }
+        ensures hash { hash_of self.new ≡ hash_of self.old }
         ensures ok { IfOk result (λ growth. IsGrown most_buckets (readiness self.old) growth (readiness self.new)) }
         ensures err { OnErr result (readiness self.new ≡ readiness self.old) };
 
     /// Makes a bucket ready.
     fn ready(&mut self, bucket: u32) -> Result<Readying, AllocError>
         ensures content { content self.new ≡ content self.old }
-        ensures hash { number self.new ≡ number self.old }
+        ensures hash { hash_of self.new ≡ hash_of self.old }
         ensures ok { IfOk result (λ readying. IsReadied bucket (readiness self.old) readying (readiness self.new)) }
         ensures err { OnErr result (readiness self.new ≡ readiness self.old) };
 
-    /// How many buckets there are.
+    /// Returns the number of buckets.
     fn buckets(&self) -> u32
         ensures { result ≡ length (readiness self.now) };
 
+    /// Returns whether a bucket is ready. It is `false` if no bucket has this number.
     fn is_ready(&self, bucket: u32) -> bool
         ensures { result ≡ get_or (readiness self.now) bucket false };
 
-    /// The least bucket that is not ready.
-    fn least(&self) -> Option<u32>
+    /// Returns the lowest bucket that is not ready, if there is one.
+    fn first_unready(&self) -> Option<u32>
         ensures { result ≡ position not (readiness self.now) };
 }

@@ -3,68 +3,69 @@ ghost use Rattle.bucket_table.specs.Slots.{objects_of};
 ghost use Rattle.bucket_table.specs.Buckets.{HasLooked};
 
 mod changes;
-mod dummies;
-mod held;
+mod directory;
 mod hint;
 mod hints;
-mod layout;
+mod index;
 mod rows;
 mod sweep;
+mod tombstone_log;
 
-use self::held::Held;
-use self::layout::Layout;
+use self::index::SplitIndex;
+use self::tombstone_log::TombstoneLog;
 use ets_term::{KeyHash, Term};
 use node_list::Steps;
 use std::alloc::{AllocError, Global};
 use std::marker::Model;
 
-/// Rows in one list sorted by split keys, with a directory of its buckets. The slots come in the order of their places.
+/// Rows in one list sorted by split keys, with a directory of buckets. The slots come in the order of their places.
 #[derive(Drop)]
 pub struct SplitRows<H: KeyHash + Copy + Drop> {
-    layout: Layout<H>,
+    index: SplitIndex<H>,
     slots: usize,
-    least: usize,
-    held: Held,
+    first_unready: usize,
+    log: TombstoneLog,
 }
 
 impl<H: KeyHash + Copy + Drop> Model for SplitRows<H> {
-    ghost use Rattle.bucket_table.specs.Split.{Split, split_code};
-    ghost use Rattle.bucket_table.specs.inside.Layout.{IsTable, split_of};
+    ghost use Rattle.bucket_table.specs.SplitRowsState.{SplitRowsState, state_code};
+    ghost use Rattle.bucket_table.specs.inside.SplitIndex.{TableInvariant, state_of};
 
-    ghost Value = { Split H };
+    ghost Value = { SplitRowsState H };
 
-    ghost coded = { split_code H.code };
+    ghost coded = { state_code H.code };
 
-    ghost view = { λ s. split_of s.layout };
+    ghost view = { λ s. state_of s.index };
 
-    ghost invariant = { λ s. IsTable H.number s.layout s.slots s.least s.held };
+    ghost invariant = { λ s. TableInvariant H.number s.index s.slots s.first_unready s.log };
 }
 
 impl<H: KeyHash + Copy + Drop> SplitRows<H> {
-    /// Two buckets, the first of them ready, and no slots.
-    pub fn new(alloc: Global, hash: H) -> Result<SplitRows<H>, AllocError>
+    /// Creates rows without slots and with two buckets, of which the first is ready. `hasher` hashes the keys.
+    pub fn new(alloc: Global, hasher: H) -> Result<SplitRows<H>, AllocError>
         ensures slots { IfOk result (λ rows. rows.slots ≡ []) }
         ensures buckets { IfOk result (λ rows. rows.ready ≡ true ∷ false ∷ []) }
-        ensures hash { IfOk result (λ rows. rows.hash ≡ hash) }
+        ensures hasher { IfOk result (λ rows. rows.hasher ≡ hasher) }
     {
-        let layout = Layout::new(alloc, hash)?;
+        let index = SplitIndex::new(alloc, hasher)?;
         Ok(SplitRows {
-            layout,
+            index,
             slots: 0,
-            least: 1,
-            held: Held::new(alloc),
+            first_unready: 1,
+            log: TombstoneLog::new(alloc),
         })
     }
 
-    /// The objects of the key's slot. It counts the nodes that it looks at.
+    /// Returns the objects of the key's slot, if it has one. Adds the number of visited nodes to `steps`.
     pub fn get_counted(&self, key: &Term, steps: &mut Steps) -> Option<&[Term]>
         ensures value { option_copied result ≡ objects_of self.now.slots key.now }
-        ensures looked { HasLooked (H.number self.now.hash) self.now.slots self.now.ready key.now steps.old steps.new }
+        ensures looked { HasLooked (H.number self.now.hasher) self.now.slots self.now.ready
+            key.now steps.old steps.new }
     {
-        self.layout.list.known();
-        let number = self.layout.hash.hash32(key);
-        let at = self.layout.find(number, key, steps)?;
-        let (_key, chain) = self.layout.list.item(at)?;
+        self.index.list.known();
+        let hash = self.index.hasher.hash32(key);
+        let at = self.index.find(hash, key, steps)?;
+        let (_key, chain) = self.index.list.item(at)?;
         Some(chain.as_slice())
     }
 }

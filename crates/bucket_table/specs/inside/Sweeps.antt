@@ -1,53 +1,54 @@
--- A walk over all slots, node by node.
+-- A sweep of all slots, node by node.
 use Rattle.std.specs.Prelude.{◌≡◌, ℕ, ◌+◌, ◌<◌, ◌≤◌, true, false, if◌then◌else◌, nat_eq, List, [], ◌∷◌, ◌++◌, length}
 use Rattle.node_list.specs.Cells.{Cell}
 use Rattle.node_list.specs.Places.{Stands, HasItem, behind, all_but_first, item_at}
-use Rattle.bucket_table.specs.declared.split.sweep.Sweep.{Sweep}
-use Rattle.bucket_table.specs.declared.split.sweep.Sweep.TheVariants.{Purge, Drop, Hold}
-use Rattle.bucket_table.specs.declared.split.sweep.Fate.{Fate}
-use Rattle.bucket_table.specs.declared.split.sweep.Fate.TheVariants.{Stays, Goes, IsEmptied}
+use Rattle.bucket_table.specs.declared.split.sweep.SweepMode.{SweepMode}
+use Rattle.bucket_table.specs.declared.split.sweep.SweepMode.TheVariants.{RemoveTombstones, RemoveFilled, EmptyAll}
+use Rattle.bucket_table.specs.declared.split.sweep.NodeAction.{NodeAction}
+use Rattle.bucket_table.specs.declared.split.sweep.NodeAction.TheVariants.{Keep, Remove, Empty}
 use Rattle.bucket_table.specs.Slots.{Slot, purged, cleared}
 use Rattle.bucket_table.specs.inside.Nodes.{slots_of, with_slot}
 
--- what a whole walk makes of the slots
-abbrev pub swept : Sweep → List Slot → List Slot
-swept Purge slots = purged slots
-swept Drop slots = cleared false slots
-swept Hold slots = cleared true slots
+-- The slots after a whole sweep.
+abbrev pub swept : SweepMode → List Slot → List Slot
+swept RemoveTombstones slots = purged slots
+swept RemoveFilled slots = cleared false slots
+swept EmptyAll slots = cleared true slots
 
--- the slot of the item at a place, if there is one
+-- The slot of the item at a place, if there is one.
 abbrev pub slot_at : ℕ → List Cell → List Slot
 slot_at at cs = with_slot (item_at at cs) []
 
--- a sweep of either list leaves the same at each place
-abbrev pub AreSweptAlike : Sweep → List Cell → List Cell → Type 0
-AreSweptAlike how old new = (at : ℕ) → swept how (slot_at at new) ≡ swept how (slot_at at old)
+-- Both lists have the same slots after a sweep, at each place.
+abbrev pub HaveSameSweep : SweepMode → List Cell → List Cell → Type 0
+HaveSameSweep mode old new = (at : ℕ) → swept mode (slot_at at new) ≡ swept mode (slot_at at old)
 
--- a sweep of some nodes: the other ones stay, and what goes is slots
-pub record Sweeps (how : Sweep) (old new : List Cell) : Type 0 where
-  pub alike : AreSweptAlike how old new
+-- A sweep of some nodes: it removes items only, and the other nodes remain.
+pub record Sweeps (mode : SweepMode) (old new : List Cell) : Type 0 where
+  pub alike : HaveSameSweep mode old new
   pub len : length new + length (slots_of old) ≡ length old + length (slots_of new)
   pub fewer : length new ≤ length old
 
--- the nodes up to the one at a place
+-- The nodes up to the one at a place.
 abbrev pub up_to : ℕ → List Cell → List Cell
 up_to at [] = []
 up_to at (c ∷ cs) = c ∷ (if nat_eq c.at at then [] else up_to at cs)
 
--- the slots once the nodes behind a place are swept
-abbrev pub slots_then : Sweep → ℕ → List Cell → List Slot
-slots_then how at cs = slots_of (up_to at cs) ++ swept how (slots_of (behind at cs))
+-- The slots after a sweep of the nodes after a place.
+abbrev pub slots_after_sweep : SweepMode → ℕ → List Cell → List Slot
+slots_after_sweep mode at cs = slots_of (up_to at cs) ++ swept mode (slots_of (behind at cs))
 
--- one node more is swept
-pub record IsSweptOn (how : Sweep) (at : ℕ) (old : List Cell) (last : ℕ) (new : List Cell) : Type 0 where
+-- One more node is swept.
+pub record SweepsNext (mode : SweepMode) (at : ℕ) (old : List Cell) (last : ℕ) (new : List Cell) : Type 0 where
   pub stands : Stands last new
-  pub same_end : slots_then how last new ≡ slots_then how at old
+  pub same_end : slots_after_sweep mode last new ≡ slots_after_sweep mode at old
   pub rest : behind last new ≡ all_but_first (behind at old)
   pub shorter : length (behind last new) < length (behind at old)
 
--- what becomes of the node at a place: a dummy stays
-abbrev pub IsFateOf : Sweep → ℕ → List Cell → Fate → Type 0
-IsFateOf how at cs Stays =
-    (ss : List Slot) → swept how (with_slot (item_at at cs) ss) ≡ with_slot (item_at at cs) (swept how ss)
-IsFateOf how at cs Goes = HasItem at cs × ((ss : List Slot) → swept how (with_slot (item_at at cs) ss) ≡ swept how ss)
-IsFateOf how at cs IsEmptied = HasItem at cs × (how ≡ Hold)
+-- What a sweep does to the node at a place. A dummy is kept.
+abbrev pub IsActionFor : SweepMode → ℕ → List Cell → NodeAction → Type 0
+IsActionFor mode at cs Keep =
+    (ss : List Slot) → swept mode (with_slot (item_at at cs) ss) ≡ with_slot (item_at at cs) (swept mode ss)
+IsActionFor mode at cs Remove =
+    HasItem at cs × ((ss : List Slot) → swept mode (with_slot (item_at at cs) ss) ≡ swept mode ss)
+IsActionFor mode at cs Empty = HasItem at cs × (mode ≡ EmptyAll)

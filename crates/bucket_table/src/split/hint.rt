@@ -2,7 +2,7 @@ ghost use Rattle.std.specs.Prelude.{◌≡◌, ◌⊎◌, Some, None, length, ge
 
 use std::marker::Model;
 
-/// What is known of the first item of an interval of keys, in one word: nothing, that there is none, or its place.
+/// A hint about the first item of an interval, in one word: unknown, empty, or the place of the item.
 #[derive(Clone, Copy)]
 pub struct Hint {
     word: u32,
@@ -13,7 +13,7 @@ impl Model for Hint {
 
     ghost Value = { Option (Option ℕ) };
 
-    ghost use Rattle.bucket_table.specs.inside.Hints.{hint_of, word_of, hint_back};
+    ghost use Rattle.bucket_table.specs.inside.HintWord.{hint_of, word_of, hint_back};
 
     ghost view = { λ h. hint_of h.word };
 
@@ -25,20 +25,22 @@ impl Model for Hint {
 }
 
 impl Hint {
+    /// Returns the unknown hint.
     pub fn unknown() -> Hint
         ensures { result ≡ None }
     {
         Hint { word: u32::MAX }
     }
 
+    /// Returns the hint of an empty interval.
     pub fn empty() -> Hint
         ensures { result ≡ Some None }
     {
         Hint { word: u32::MAX - 1 }
     }
 
-    /// The place, or nothing where it is too great for the word.
-    pub fn to(place: usize) -> Hint
+    /// Returns the hint of a place. If the place does not fit in the word, returns the unknown hint.
+    pub fn at(place: usize) -> Hint
         ensures { (result ≡ None) ⊎ (result ≡ Some (Some place)) }
     {
         if place < 4294967294 {
@@ -48,18 +50,19 @@ impl Hint {
         }
     }
 
-    /// A first item where there was none, and else what was known.
-    pub fn or_first(self, place: usize) -> Hint
+    /// Returns the hint of a place if this hint is empty, and else this hint.
+    pub fn or_place(self, place: usize) -> Hint
         ensures empty { self ≡ Some None → (result ≡ None) ⊎ (result ≡ Some (Some place)) }
         ensures other { (self ≡ Some None) ⊎ (result ≡ self) }
     {
         if self.word == u32::MAX - 1 {
-            Hint::to(place)
+            Hint::at(place)
         } else {
             self
         }
     }
 
+    /// Returns the hint as an option: `None` is unknown, and `Some(None)` is empty.
     pub fn get(self) -> Option<Option<usize>>
         ensures { result ≡ self }
     {
@@ -73,12 +76,12 @@ impl Hint {
     }
 }
 
-/// The hint at an index, unknown past the end.
-pub fn hint_at(firsts: &[Hint], index: usize) -> Option<Option<usize>>
-    ensures { result ≡ get_or firsts.now index None }
+/// Returns the hint of an interval. Past the end of the list hints are unknown.
+pub fn hint_at(current: &[Hint], interval: usize) -> Option<Option<usize>>
+    ensures { result ≡ get_or current.now interval None }
 {
-    if index < firsts.len() {
-        firsts[index].get()
+    if interval < current.len() {
+        current[interval].get()
     } else {
         None
     }

@@ -1,60 +1,66 @@
 ghost use Rattle.std.specs.Prelude.{◌≡◌, ◌⊎◌, ◌/◌, [], Some, None, IfOk, IfSome, replicate};
-ghost use Rattle.bucket_table.specs.inside.Firsts.{IsFirstBelow};
+ghost use Rattle.bucket_table.specs.inside.Intervals.{IsNearestBelow};
 
-mod firsts;
-mod learn;
-mod room;
-mod settle;
+mod first;
+mod generation;
+mod refresh;
+mod rehash;
 
-pub use self::firsts::{note, succeed};
+pub use self::first::{replace_first, set_first};
 use super::hint::{Hint, hint_at};
 use node_list::At;
 use std::alloc::{AllocError, Global};
 
-/// So many intervals are looked at for a known first item, so that a search passes few hints where hardly one is known.
-const MOST_LOOKED_AT: usize = 64;
+/// A bucket has this many intervals.
+pub const INTERVALS_PER_BUCKET: usize = 8;
 
-/// What is known of the first items of intervals of keys, and what was known before the last doubling of those twice as
-/// wide, where it was not told yet. A key belongs to the interval that its upper bits say, all but so many. Past the
-/// end of either list nothing is known.
+/// A split key has this many bits.
+const SPLIT_KEY_BITS: u32 = 33;
+
+/// A search for the nearest known hint reads the hints of at most this many intervals.
+const MAX_INTERVALS_SCANNED: usize = 64;
+
+/// A cache of the first item of each interval of split keys, and the cache from before the last doubling. The
+/// interval of a split key is `split_key >> interval_bits`. Past the end of either list all hints are unknown.
 #[derive(Drop)]
 pub struct Hints {
-    pub firsts: Vec<Hint>,
-    pub older: Vec<Hint>,
-    pub turn: usize,
-    pub shift: u32,
+    pub current: Vec<Hint>,
+    pub previous: Vec<Hint>,
+    pub rehash_index: usize,
+    pub interval_bits: u32,
 }
 
 impl Hints {
-    /// Two buckets without an item.
+    /// Creates the hints of two buckets without items.
     pub fn new(alloc: Global) -> Result<Hints, AllocError>
-        ensures firsts { IfOk result (λ hints. hints.firsts.items ≡ replicate 16 (Some None)) }
-        ensures older { IfOk result (λ hints. hints.older.items ≡ []) }
-        ensures shift { IfOk result (λ hints. hints.shift ≡ 29) }
+        ensures current { IfOk result (λ hints. hints.current.items ≡ replicate 16 (Some None)) }
+        ensures previous { IfOk result (λ hints. hints.previous.items ≡ []) }
+        ensures interval_bits { IfOk result (λ hints. hints.interval_bits ≡ 29) }
     {
-        let mut firsts = Vec::new(alloc);
-        firsts.resize(16, Hint::empty())?;
+        let mut current = Vec::new(alloc);
+        current.resize(2 * INTERVALS_PER_BUCKET, Hint::empty())?;
         Ok(Hints {
-            firsts,
-            older: Vec::new(alloc),
-            turn: 0,
-            shift: 29,
+            current,
+            previous: Vec::new(alloc),
+            rehash_index: 0,
+            interval_bits: SPLIT_KEY_BITS - 4,
         })
     }
 
-    /// The nearest first item that is known of the intervals below one, down to a floor, or of older intervals there.
-    pub fn first_below(&self, floor: usize, index: usize) -> Option<At>
-        ensures { IfSome result (λ at. IsFirstBelow floor index at self.now.firsts.items
-            ⊎ IsFirstBelow (floor / 2) (index / 2) at self.now.older.items) }
+    /// Returns the first item of the nearest lower interval whose hint has one, down to the interval `floor`. It
+    /// reads current and previous hints.
+    pub fn nearest_below(&self, floor: usize, interval: usize) -> Option<At>
+        ensures { IfSome result (λ at. IsNearestBelow floor interval at self.now.current.items
+            ⊎ IsNearestBelow (floor / 2) (interval / 2) at self.now.previous.items) }
     {
-        let mut lower = index;
-        while floor < lower && index - lower < MOST_LOOKED_AT {
+        let mut lower = interval;
+        while floor < lower && interval - lower < MAX_INTERVALS_SCANNED {
             lower -= 1;
-            if let Some(Some(first)) = hint_at(&self.firsts, lower) {
+            if let Some(Some(first)) = hint_at(&self.current, lower) {
                 return Some(first);
             }
-            if lower % 2 == 0 && lower / 2 < index / 2 {
-                if let Some(Some(first)) = hint_at(&self.older, lower / 2) {
+            if lower % 2 == 0 && lower / 2 < interval / 2 {
+                if let Some(Some(first)) = hint_at(&self.previous, lower / 2) {
                     return Some(first);
                 }
             }

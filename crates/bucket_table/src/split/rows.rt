@@ -1,9 +1,10 @@
-ghost use Rattle.bucket_table.specs.Split.{key_of_place};
+ghost use Rattle.bucket_table.specs.SplitRowsState.{key_of_place};
 
 use super::SplitRows;
-use super::layout::hash_of;
-use super::sweep::Sweep;
-use crate::entry::{Entry, Place};
+use super::hints::INTERVALS_PER_BUCKET;
+use super::index::item_hash;
+use super::sweep::SweepMode;
+use crate::entry::{Place, SlotEntry};
 use crate::growth::{Growth, MAX_BUCKETS, Readying};
 use crate::rows::Rows;
 use ets_term::{KeyHash, Term};
@@ -19,7 +20,7 @@ impl<H: KeyHash + Copy + Drop> Rows for SplitRows<H> {
 
     ghost room = { λ s. s.room };
 
-    ghost number = { λ s. H.number s.hash };
+    ghost hash_of = { λ s. H.number s.hasher };
 
     ghost readiness = { λ s. s.ready };
 
@@ -33,8 +34,8 @@ impl<H: KeyHash + Copy + Drop> Rows for SplitRows<H> {
     fn put(&mut self, rows: Vec<(Term, Chain)>) -> Result<(), AllocError> {
         self.reserve_slots(rows.len())?;
         for (key, objects) in rows {
-            let number = self.layout.hash.hash32(&key);
-            self.insert_slot(number, key, objects);
+            let hash = self.index.hasher.hash32(&key);
+            self.insert_slot(hash, key, objects);
         }
         Ok(())
     }
@@ -51,27 +52,32 @@ impl<H: KeyHash + Copy + Drop> Rows for SplitRows<H> {
     }
 
     fn clear(&mut self, hold: bool) {
-        self.sweep_slots(if hold { Sweep::Hold } else { Sweep::Drop });
+        let mode = if hold {
+            SweepMode::EmptyAll
+        } else {
+            SweepMode::RemoveFilled
+        };
+        self.sweep_slots(mode);
     }
 
     fn purge(&mut self) {
-        if self.held.is_lost {
-            self.sweep_slots(Sweep::Purge);
+        if self.log.overflowed {
+            self.sweep_slots(SweepMode::RemoveTombstones);
             return;
         }
-        self.layout.list.known();
-        let before = self.layout.list.len();
-        self.layout.purge_noted(&mut self.held.hashes);
-        self.slots -= before - self.layout.list.len();
+        self.index.list.known();
+        let before = self.index.list.len();
+        self.index.purge_hashes(&mut self.log.hashes);
+        self.slots -= before - self.index.list.len();
     }
 
     fn len(&self) -> usize {
-        self.layout.list.known();
+        self.index.list.known();
         self.slots
     }
 
-    fn known(&self) {
-        self.layout.list.known();
+    fn reveal_invariant(&self) {
+        self.index.list.known();
     }
 
     fn first_at(&self) -> Option<(&Term, &[Term])> {
@@ -80,72 +86,72 @@ impl<H: KeyHash + Copy + Drop> Rows for SplitRows<H> {
     }
 
     fn next_at(&self, key: &Term) -> Option<Option<(&Term, &[Term])>> {
-        self.known();
+        self.reveal_invariant();
         let place = self.find(key)?;
-        match self.place_behind(place) {
+        match self.next_place(place) {
             Some(next) => Some(Some(self.slot_at(next))),
             None => Some(None),
         }
     }
 
     fn find(&self, key: &Term) -> Option<Place> {
-        self.layout.list.known();
-        let number = self.layout.hash.hash32(key);
+        self.index.list.known();
+        let hash = self.index.hasher.hash32(key);
         let mut steps = Steps::new();
-        self.layout.find(number, key, &mut steps)
+        self.index.find(hash, key, &mut steps)
     }
 
-    fn entry(&self, key: &Term) -> Entry {
-        self.layout.list.known();
-        let number = self.layout.hash.hash32(key);
+    fn entry(&self, key: &Term) -> SlotEntry {
+        self.index.list.known();
+        let hash = self.index.hasher.hash32(key);
         let mut steps = Steps::new();
-        match self.layout.find(number, key, &mut steps) {
-            Some(place) => Entry::Occupied(place),
-            None => Entry::Vacant(number),
+        match self.index.find(hash, key, &mut steps) {
+            Some(place) => SlotEntry::Occupied(place),
+            None => SlotEntry::Vacant(hash),
         }
     }
 
     fn first_place(&self) -> Option<Place> {
-        self.layout.list.item_from(0)
+        self.index.list.item_from(0)
     }
 
-    fn place_behind(&self, place: Place) -> Option<Place> {
-        self.layout.list.known();
-        self.layout.list.item_from(place + 1)
+    fn next_place(&self, place: Place) -> Option<Place> {
+        self.index.list.known();
+        self.index.list.item_from(place + 1)
     }
 
     fn slot_at(&self, place: Place) -> (&Term, &[Term]) {
-        self.layout.list.known();
-        match self.layout.list.item(place) {
+        self.index.list.known();
+        match self.index.list.item(place) {
             Some((key, chain)) => (key, chain.as_slice()),
             None => unreachable!(),
         }
     }
 
     fn objects_at(&self, place: Place) -> &[Term] {
-        self.layout.list.known();
-        match self.layout.list.item(place) {
+        self.index.list.known();
+        match self.index.list.item(place) {
             Some((_key, chain)) => chain.as_slice(),
             None => unreachable!(),
         }
     }
 
     fn replace_at(&mut self, place: Place, objects: Chain) -> Chain {
-        self.layout.list.known();
-        let number = hash_of(self.layout.list.key(place));
-        self.held.mark(objects.len() == 0, number);
-        let chain = self.layout.list.chain_mut(place);
+        self.index.list.known();
+        let hash = item_hash(self.index.list.key(place));
+        self.log.log_hash(objects.len() == 0, hash);
+        let chain = self.index.list.chain_mut(place);
         mem::replace(chain, objects)
     }
 
     fn replace_one_at(&mut self, place: Place, object: Term) -> Term {
-        self.layout.list.known();
-        self.layout.list.chain_mut(place).replace(0, object)
+        self.index.list.known();
+        self.index.list.chain_mut(place).replace(0, object)
     }
 
     fn remove_at(&mut self, place: Place) -> (Term, Chain) {
-        self.layout.list.known();
-        let slot = self.layout.remove(place);
+        self.index.list.known();
+        let slot = self.index.remove(place);
         self.slots -= 1;
         slot
     }
@@ -161,46 +167,51 @@ impl<H: KeyHash + Copy + Drop> Rows for SplitRows<H> {
     }
 
     fn grow(&mut self) -> Result<Growth, AllocError> {
-        let buckets = self.layout.dummies.len();
+        let buckets = self.index.directory.len();
         if buckets >= MAX_BUCKETS {
             return Ok(Growth::AtMost);
         }
-        self.layout.hints.clear_older(16 * buckets)?;
-        self.layout.dummies.double()?;
-        mem::swap(&mut self.layout.hints.firsts, &mut self.layout.hints.older);
-        self.layout.hints.shift -= 1;
-        self.layout.hints.turn = 0;
+        self.index
+            .hints
+            .start_generation(2 * INTERVALS_PER_BUCKET * buckets)?;
+        self.index.directory.double()?;
+        mem::swap(
+            &mut self.index.hints.current,
+            &mut self.index.hints.previous,
+        );
+        self.index.hints.interval_bits -= 1;
+        self.index.hints.rehash_index = 0;
         Ok(Growth::Grown)
     }
 
     fn ready(&mut self, bucket: u32) -> Result<Readying, AllocError> {
-        let index = bucket as usize;
-        if index >= self.layout.dummies.len() {
+        let entry = bucket as usize;
+        if entry >= self.index.directory.len() {
             return Ok(Readying::NotABucket);
         }
-        if self.layout.dummies.get(index).is_some() {
+        if self.index.directory.get(entry).is_some() {
             return Ok(Readying::AlreadyReady);
         }
-        let start = self.layout.start_of_dummy(bucket);
-        self.layout.list.reserve(1)?;
-        let at = self.layout.list.insert_dummy(start, dummy_key(bucket));
-        self.layout.dummies.set(index, at);
-        self.layout.survey_both(bucket);
-        self.least = self.layout.next_unready(self.least);
+        let start = self.index.dummy_start(bucket);
+        self.index.list.reserve(1)?;
+        let at = self.index.list.insert_dummy(start, dummy_key(bucket));
+        self.index.directory.set(entry, at);
+        self.index.rebuild_with_parent(bucket);
+        self.first_unready = self.index.first_unready(self.first_unready);
         Ok(Readying::Ready)
     }
 
     fn buckets(&self) -> u32 {
-        self.layout.dummies.len() as u32
+        self.index.directory.len() as u32
     }
 
     fn is_ready(&self, bucket: u32) -> bool {
-        self.layout.dummies.get(bucket as usize).is_some()
+        self.index.directory.get(bucket as usize).is_some()
     }
 
-    fn least(&self) -> Option<u32> {
-        if self.least < self.layout.dummies.len() {
-            Some(self.least as u32)
+    fn first_unready(&self) -> Option<u32> {
+        if self.first_unready < self.index.directory.len() {
+            Some(self.first_unready as u32)
         } else {
             None
         }

@@ -1,15 +1,15 @@
-/// What a walk over all slots makes of them: held slots go, or those with objects go, or all become held.
+/// What a sweep does: remove the tombstones, remove the slots with objects, or make each slot a tombstone.
 #[derive(Clone, Copy, PartialEq, Eq)]
-pub enum Sweep {
-    Purge,
-    Drop,
-    Hold,
+pub enum SweepMode {
+    RemoveTombstones,
+    RemoveFilled,
+    EmptyAll,
 }
 
-/// What becomes of one node.
+/// What a sweep does to one node.
 #[derive(Clone, Copy)]
-pub enum Fate {
-    Stays,
-    Goes,
-    IsEmptied,
+pub enum NodeAction {
+    Keep,
+    Remove,
+    Empty,
 }

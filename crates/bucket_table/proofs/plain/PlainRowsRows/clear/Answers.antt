@@ -1,6 +1,6 @@
 use Rattle.std.proofs.Common.{rules}
 use Rattle.indexmap.proofs.CallerLemmas.{filter-RetainsPairs}
-use Rattle.bucket_table.proofs.PlainLaws.{map-RetainsPairs}
+use Rattle.bucket_table.proofs.slots.Index.{map-RetainsPairs}
 use Rattle.bucket_table.proofs.plain.PlainRowsRows.clear.Goals as goal
 
 pub returns-then-hold-clause-now : goal.returns-then-hold-clause-now

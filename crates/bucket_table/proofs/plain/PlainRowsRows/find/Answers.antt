@@ -1,5 +1,5 @@
 use Rattle.std.proofs.Common.{sym}
-use Rattle.bucket_table.proofs.PlainLaws.{key-at}
+use Rattle.bucket_table.proofs.slots.Index.{key-at}
 use Rattle.bucket_table.proofs.plain.PlainRowsRows.find.Goals as goal
 
 pub returns-in-Some : goal.returns-in-Some

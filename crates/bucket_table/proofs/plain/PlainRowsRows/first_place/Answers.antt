@@ -1,5 +1,5 @@
 use Rattle.std.proofs.Common.{arith}
-use Rattle.bucket_table.proofs.StepLaws.{first-index}
+use Rattle.bucket_table.proofs.slots.Step.{first-index}
 use Rattle.bucket_table.proofs.plain.PlainRowsRows.first_place.Goals as goal
 
 pub returns-then-len-gt0 : goal.returns-then-len-gt0

@@ -1,5 +1,5 @@
 use Rattle.std.proofs.Common.{◌≡◌, ◌+◌, suc, sym, ◌∙◌, ap, slice_get, Some, arith}
-use Rattle.bucket_table.proofs.PlainLaws.{own-entry, at-place, none-behind, none-of, first-of-drop}
+use Rattle.bucket_table.proofs.slots.Index.{own-entry, at-place, none-behind, none-of, first-of-drop}
 use Rattle.bucket_table.proofs.plain.PlainRowsRows.next_at.Goals as goal
 
 pub returns-in_default : goal.returns-in_default

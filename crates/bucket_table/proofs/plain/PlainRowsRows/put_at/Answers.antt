@@ -1,7 +1,7 @@
 use Rattle.std.proofs.Common.{◌≡◌, ◌++◌, ◌∷◌, [], List, Result, Ok, Err, subst, sym}
 use Rattle.std.specs.Result.{OnOk}
 use Rattle.bucket_table.specs.Slots.{Slot, Enters}
-use Rattle.bucket_table.proofs.PlainLaws.{enters-last}
+use Rattle.bucket_table.proofs.slots.Index.{enters-last}
 use Rattle.bucket_table.proofs.plain.PlainRowsRows.put_at.Goals as goal
 
 entered : {E : Type 0} (r : Result (Unit {0}) E) (old new : List Slot) (row : Slot) → OnOk r (new ≡ old ++ row ∷ []) → OnOk r (Enters old row.0 row.1 new)

@@ -1,6 +1,6 @@
 use Rattle.std.proofs.Common.{sym, ◌∙◌, ap}
 use Rattle.std.specs.Option.{option_copied_mut}
-use Rattle.bucket_table.proofs.PlainLaws.{with_objects-none}
+use Rattle.bucket_table.proofs.slots.Index.{with_objects-none}
 use Rattle.bucket_table.proofs.plain.PlainRowsRows.replace.Goals as goal
 
 pub returns-in_err-place-clause-now : goal.returns-in_err-place-clause-now

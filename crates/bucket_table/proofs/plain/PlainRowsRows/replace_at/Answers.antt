@@ -1,9 +1,9 @@
 use Rattle.std.proofs.Common.{◌≡◌, sym, ◌∙◌, ap, Some}
-use Rattle.bucket_table.proofs.StepLaws.{keys-kept}
+use Rattle.bucket_table.proofs.slots.Step.{keys-kept}
 use Rattle.std.specs.Option.{option_map}
 use Rattle.std.proofs.lemmas.Option.{same_Some}
 use Rattle.bucket_table.specs.Slots.{with_objects}
-use Rattle.bucket_table.proofs.PlainLaws.{at-place, place-entry, values-get, key-kept}
+use Rattle.bucket_table.proofs.slots.Index.{at-place, place-entry, values-get, key-kept}
 use Rattle.bucket_table.proofs.plain.PlainRowsRows.replace_at.Goals as goal
 
 pub returns-clause-was : goal.returns-clause-was

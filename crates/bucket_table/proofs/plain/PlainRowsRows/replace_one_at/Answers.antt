@@ -2,9 +2,9 @@ use Rattle.std.proofs.Common.{sym, ◌∙◌, ap, Some}
 use Rattle.std.specs.Option.{option_map}
 use Rattle.std.proofs.lemmas.Option.{same_Some, none-some}
 use Rattle.bucket_table.specs.Slots.{with_objects}
-use Rattle.bucket_table.proofs.OneLaws.{one-stands, one-long, swapped}
-use Rattle.bucket_table.proofs.PlainLaws.{at-place, place-entry, values-get}
-use Rattle.bucket_table.proofs.StepLaws.{keys-kept}
+use Rattle.bucket_table.proofs.slots.Single.{one-stands, one-long, swapped}
+use Rattle.bucket_table.proofs.slots.Index.{at-place, place-entry, values-get}
+use Rattle.bucket_table.proofs.slots.Step.{keys-kept}
 use Rattle.bucket_table.proofs.plain.PlainRowsRows.replace_one_at.Goals as goal
 
 pub replace-requires : goal.replace-requires

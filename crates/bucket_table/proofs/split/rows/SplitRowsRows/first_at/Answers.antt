@@ -1,8 +1,8 @@
 use Rattle.std.proofs.Common.{◌≡◌, List, Some, slice_get, sym, ◌∙◌, ap, subst}
 use Rattle.bucket_table.specs.Slots.{Slot, objects_of}
-use Rattle.bucket_table.specs.Split.{key_of_place}
-use Rattle.bucket_table.proofs.WalkLaws.{first-one}
-use Rattle.bucket_table.proofs.StepLaws.{read-one}
+use Rattle.bucket_table.specs.SplitRowsState.{key_of_place}
+use Rattle.bucket_table.proofs.slots.Traverse.{first-one}
+use Rattle.bucket_table.proofs.slots.Step.{read-one}
 use Rattle.bucket_table.proofs.split.rows.SplitRowsRows.first_at.Goals as goal
 
 pub returns : goal.returns

@@ -1,12 +1,12 @@
 use Rattle.std.proofs.Common.{subst, arith}
 use Rattle.bucket_table.specs.Walks.{IsFirstPlace}
-use Rattle.bucket_table.specs.Split.{Split, key_of_place}
+use Rattle.bucket_table.specs.SplitRowsState.{SplitRowsState, key_of_place}
 use Rattle.bucket_table.specs.inside.Order.{above}
-use Rattle.bucket_table.proofs.ReadLaws.{first-there}
+use Rattle.bucket_table.proofs.order.Read.{first-there}
 use Rattle.bucket_table.proofs.split.rows.SplitRowsRows.first_place.Goals as goal
 
 pub returns : goal.returns
 returns g c =
-    let cells = c.self.inside.layout.list.cells in
-    let Q : Split g.row.H.Denot → Type 0 = λ v. IsFirstPlace (key_of_place v.places) v.slots c.item_from.result in
+    let cells = c.self.inside.index.list.cells in
+    let Q : SplitRowsState g.row.H.Denot → Type 0 = λ v. IsFirstPlace (key_of_place v.places) v.slots c.item_from.result in
     subst Q c.self.view_is (first-there 0 (above cells) cells c.item_from.result (omega arith) c.item_from.ensures)

@@ -1,9 +1,9 @@
 use Rattle.std.proofs.Common.{length, sym, ◌∙◌, ap}
-use Rattle.bucket_table.specs.Split.{Split}
-use Rattle.bucket_table.proofs.OrderedLaws.{same-slots-of}
+use Rattle.bucket_table.specs.SplitRowsState.{SplitRowsState}
+use Rattle.bucket_table.proofs.order.Permute.{same-slots-of}
 use Rattle.bucket_table.proofs.split.rows.SplitRowsRows.len.Goals as goal
 
 pub returns : goal.returns
 returns g c =
     c.self.invariant.counted
-    ∙ (sym (same-slots-of c.self.inside.layout.list.cells c.known.ensures.apart).many ∙ ap (λ (v : Split g.row.H.Denot). length v.slots) c.self.view_is)
+    ∙ (sym (same-slots-of c.self.inside.index.list.cells c.known.ensures.apart).many ∙ ap (λ (v : SplitRowsState g.row.H.Denot). length v.slots) c.self.view_is)

@@ -1,7 +1,7 @@
 use Rattle.std.proofs.Common.{◌≡◌, List, ◌∷◌, length, sym, ◌∙◌, ap, subst, arith}
 use Rattle.std.specs.Vec.Iter.{into_iter_items}
 use Rattle.bucket_table.specs.Slots.{Slot, EnterAll, AreNew, HasDistinctKeys}
-use Rattle.bucket_table.proofs.EnterLaws.{new-still, distinct-rest}
+use Rattle.bucket_table.proofs.slots.Enter.{new-still, distinct-rest}
 use Rattle.bucket_table.proofs.split.rows.SplitRowsRows.put.Goals as goal
 
 pub loop-key-preserved : goal.loop-key-preserved
@@ -20,6 +20,6 @@ loop-key-preserved g c =
       d.1,
       new-still c.loop-key.self.slots c.insert_slot.new.self.slots row.0 row.1 rest c.insert_slot.ensures.now n.1 d.0,
       (λ new h. (let E : List Slot → Type 0 = λ rows. EnterAll c.loop-key.self.slots rows new in i.5 new (subst E (sym is) (c.insert_slot.new.self.slots, c.insert_slot.ensures.now, h)))),
-      c.insert_slot.ensures.hash ∙ i.6,
+      c.insert_slot.ensures.hasher ∙ i.6,
       c.insert_slot.ensures.buckets ∙ i.7,
     )

@@ -11,5 +11,5 @@ invariant-loop-key g l =
     × HasDistinctKeys (into_iter_items l.key-iterator)
     × AreNew l.self.slots (into_iter_items l.key-iterator)
     × ((new : List Slot) → EnterAll l.self.slots (into_iter_items l.key-iterator) new → EnterAll l.initial.self.slots (into_iter_items l.initial.key-iterator) new)
-    × (l.self.hash ≡ l.initial.self.hash)
+    × (l.self.hasher ≡ l.initial.self.hasher)
     × (l.self.ready ≡ l.initial.self.ready)

@@ -7,88 +7,88 @@ use Rattle.node_list.specs.Places.{IsFresh, StandsUpTo}
 use Rattle.bucket_table.specs.Buckets.{IsReadied}
 use Rattle.bucket_table.specs.declared.growth.Readying.TheVariants.{Ready}
 use Rattle.bucket_table.specs.Slots.{Slot}
-use Rattle.bucket_table.specs.Split.{Split}
-use Rattle.bucket_table.specs.inside.Directory.{AreReady}
-use Rattle.bucket_table.specs.inside.Firsts.{IsRows}
+use Rattle.bucket_table.specs.SplitRowsState.{SplitRowsState}
+use Rattle.bucket_table.specs.inside.Directory.{AllReadyBelow}
+use Rattle.bucket_table.specs.inside.Intervals.{ListInvariant}
 use Rattle.bucket_table.specs.inside.Nodes.{slots_of}
-use Rattle.bucket_table.specs.inside.Notes.{AreNoted}
+use Rattle.bucket_table.specs.inside.TombstoneLog.{LogInvariant}
 use Rattle.bucket_table.specs.inside.Order.{content_of}
-use Rattle.bucket_table.proofs.HintedLaws.{hints-dummy}
-use Rattle.bucket_table.proofs.LeastLaws.{ready-still}
-use Rattle.bucket_table.proofs.PlaceLaws.{content-dummy}
-use Rattle.bucket_table.proofs.RowsLaws.{rows-ready}
-use Rattle.bucket_table.proofs.SlotLaws.{slots-put-dummy}
-use Rattle.bucket_table.proofs.SplitLaws.{none-is, ready-none, ready-set}
+use Rattle.bucket_table.proofs.hints.Change.{hints-dummy}
+use Rattle.bucket_table.proofs.directory.FirstUnready.{ready-still}
+use Rattle.bucket_table.proofs.list.Change.{content-dummy}
+use Rattle.bucket_table.proofs.hints.Invariant.{rows-ready}
+use Rattle.bucket_table.proofs.slots.Distinct.{slots-put-dummy}
+use Rattle.bucket_table.proofs.directory.Change.{none-is, ready-none, ready-set}
 use Rattle.bucket_table.proofs.split.rows.SplitRowsRows.ready.Goals as goal
 
 pub insert_dummy-at-requires-clause-stands : goal.insert_dummy-at-requires-clause-stands
 insert_dummy-at-requires-clause-stands g c =
-    let K : ℕ → Type 0 = λ k. StandsUpTo k c.start_of_dummy-start.result c.reserve.new.self.cells in
-    let Z : List Cell → Type 0 = λ zs. StandsUpTo (key_of_dummy c.args.bucket) c.start_of_dummy-start.result zs in
-    subst K (sym c.dummy_key.ensures) (subst Z (sym c.in_ok-reserve.ensures.cells) c.start_of_dummy-start.ensures)
+    let K : ℕ → Type 0 = λ k. StandsUpTo k c.dummy_start-start.result c.reserve.new.self.cells in
+    let Z : List Cell → Type 0 = λ zs. StandsUpTo (key_of_dummy c.args.bucket) c.dummy_start-start.result zs in
+    subst K (sym c.dummy_key.ensures) (subst Z (sym c.in_ok-reserve.ensures.cells) c.dummy_start-start.ensures)
 
-pub survey_both-requires-clause-rows : goal.survey_both-requires-clause-rows
-survey_both-requires-clause-rows g c =
-    let number = g.H.KeyHash.number c.self.inside.layout.hash in
-    let items = c.self.inside.layout.dummies in
-    let cells = c.self.inside.layout.list.cells in
+pub rebuild_with_parent-requires-clause-rows : goal.rebuild_with_parent-requires-clause-rows
+rebuild_with_parent-requires-clause-rows g c =
+    let hash_of = g.H.KeyHash.number c.self.inside.index.hasher in
+    let items = c.self.inside.index.directory in
+    let cells = c.self.inside.index.list.cells in
     let below : c.args.bucket < length items = omega arith in
     let none = sym c.get.ensures ∙ none-is c.get.result (sym c.is_some.ensures ∙ c.if-is_some.false) in
     let F : List Cell → Type 0 = λ zs. IsFresh c.insert_dummy-at.result zs in
     let is = c.insert_dummy-at.ensures.cells ∙ (ap (put_cell (new_cell c.insert_dummy-at.result c.dummy_key.result None)) c.in_ok-reserve.ensures.cells ∙ ap (λ (k : ℕ). put_cell (new_cell c.insert_dummy-at.result k None) cells) c.dummy_key.ensures) in
-    let base = rows-ready number items c.self.inside.layout.hints.shift c.self.inside.layout.hints.firsts.items cells c.self.invariant.rows.rows c.args.bucket c.insert_dummy-at.result below none (subst F c.in_ok-reserve.ensures.cells c.insert_dummy-at.ensures.fresh) c.insert_dummy-at.new.self.cells is in
-    let hints = c.self.inside.layout.hints in
-    let D : List (Option ℕ) → Type 0 = λ ds. IsRows number ds hints.shift hints.firsts.items c.insert_dummy-at.new.self.cells in
+    let base = rows-ready hash_of items c.self.inside.index.hints.interval_bits c.self.inside.index.hints.current.items cells c.self.invariant.rows.rows c.args.bucket c.insert_dummy-at.result below none (subst F c.in_ok-reserve.ensures.cells c.insert_dummy-at.ensures.fresh) c.insert_dummy-at.new.self.cells is in
+    let hints = c.self.inside.index.hints in
+    let D : List (Option ℕ) → Type 0 = λ ds. ListInvariant hash_of ds hints.interval_bits hints.current.items c.insert_dummy-at.new.self.cells in
     record {
       rows = subst D (sym c.set.ensures) base;
-      wider = hints-dummy (2 ^ (hints.shift + 1)) hints.older.items c.insert_dummy-at.result (key_of_dummy c.args.bucket) cells c.insert_dummy-at.new.self.cells c.self.invariant.rows.wider is;
+      previous = hints-dummy (2 ^ (hints.interval_bits + 1)) hints.previous.items c.insert_dummy-at.result (key_of_dummy c.args.bucket) cells c.insert_dummy-at.new.self.cells c.self.invariant.rows.previous is;
     }
 
 pub returns-clause-content : goal.returns-clause-content
 returns-clause-content g c =
     let F : List Cell → Type 0 = λ zs. IsFresh c.insert_dummy-at.result zs in
-    ap content_of (c.survey_both.ensures.cells ∙ (c.insert_dummy-at.ensures.cells ∙ ap (put_cell (new_cell c.insert_dummy-at.result c.dummy_key.result None)) c.in_ok-reserve.ensures.cells))
-    ∙ (content-dummy c.insert_dummy-at.result c.dummy_key.result c.self.inside.layout.list.cells (subst F c.in_ok-reserve.ensures.cells c.insert_dummy-at.ensures.fresh) ∙ ap (λ (v : Split g.row.H.Denot). v.slots) c.self.view_is)
+    ap content_of (c.rebuild_with_parent.ensures.cells ∙ (c.insert_dummy-at.ensures.cells ∙ ap (put_cell (new_cell c.insert_dummy-at.result c.dummy_key.result None)) c.in_ok-reserve.ensures.cells))
+    ∙ (content-dummy c.insert_dummy-at.result c.dummy_key.result c.self.inside.index.list.cells (subst F c.in_ok-reserve.ensures.cells c.insert_dummy-at.ensures.fresh) ∙ ap (λ (v : SplitRowsState g.row.H.Denot). v.slots) c.self.view_is)
 
 pub returns-clause-hash : goal.returns-clause-hash
-returns-clause-hash g c = ap (λ (h : g.row.H.Denot). g.H.KeyHash.number h) (c.survey_both.ensures.keeps.hash ∙ ap (λ (v : Split g.row.H.Denot). v.hash) c.self.view_is)
+returns-clause-hash g c = ap (λ (h : g.row.H.Denot). g.H.KeyHash.number h) (c.rebuild_with_parent.ensures.keeps.hasher ∙ ap (λ (v : SplitRowsState g.row.H.Denot). v.hasher) c.self.view_is)
 
 pub returns-clause-ok : goal.returns-clause-ok
 returns-clause-ok g c =
-    let items = c.self.inside.layout.dummies in
+    let items = c.self.inside.index.directory in
     let below : c.args.bucket < length items = omega arith in
     let none = sym c.get.ensures ∙ none-is c.get.result (sym c.is_some.ensures ∙ c.if-is_some.false) in
-    let after = c.survey_both.new.self.dummies in
-    let P : Split g.row.H.Denot → Type 0 = λ v. IsReadied c.args.bucket v.ready Ready (map is_some after) in
+    let after = c.rebuild_with_parent.new.self.directory in
+    let P : SplitRowsState g.row.H.Denot → Type 0 = λ v. IsReadied c.args.bucket v.ready Ready (map is_some after) in
     let l : length (map is_some items) ≡ length items = length-map items is_some in
     let within : c.args.bucket < length (map is_some items) = omega (arith, l) in
-    subst P c.self.view_is (within, ready-none items c.args.bucket below none, ready-set items after c.args.bucket c.insert_dummy-at.result (c.survey_both.ensures.keeps.dummies ∙ c.set.ensures))
+    subst P c.self.view_is (within, ready-none items c.args.bucket below none, ready-set items after c.args.bucket c.insert_dummy-at.result (c.rebuild_with_parent.ensures.keeps.directory ∙ c.set.ensures))
 
-pub next_unready-self-inside-requires-clause-before : goal.next_unready-self-inside-requires-clause-before
-next_unready-self-inside-requires-clause-before g c =
-    let items = c.self.inside.layout.dummies in
+pub first_unready-self-inside-requires-clause-before : goal.first_unready-self-inside-requires-clause-before
+first_unready-self-inside-requires-clause-before g c =
+    let items = c.self.inside.index.directory in
     let below : c.args.bucket < length items = omega arith in
-    let D : List (Option ℕ) → Type 0 = λ ds. AreReady ds c.self.inside.least in
-    subst D (sym (c.survey_both.ensures.keeps.dummies ∙ c.set.ensures)) (ready-still items c.self.inside.least c.args.bucket c.insert_dummy-at.result below c.self.invariant.due.before)
+    let D : List (Option ℕ) → Type 0 = λ ds. AllReadyBelow ds c.self.inside.first_unready in
+    subst D (sym (c.rebuild_with_parent.ensures.keeps.directory ∙ c.set.ensures)) (ready-still items c.self.inside.first_unready c.args.bucket c.insert_dummy-at.result below c.self.invariant.due.before)
 
-pub next_unready-self-inside-requires-clause-most : goal.next_unready-self-inside-requires-clause-most
-next_unready-self-inside-requires-clause-most g c =
-    let items = c.self.inside.layout.dummies in
+pub first_unready-self-inside-requires-clause-most : goal.first_unready-self-inside-requires-clause-most
+first_unready-self-inside-requires-clause-most g c =
+    let items = c.self.inside.index.directory in
     let l : length (set items c.args.bucket (Some c.insert_dummy-at.result)) ≡ length items = length-set items c.args.bucket (Some c.insert_dummy-at.result) in
-    let D : List (Option ℕ) → Type 0 = λ ds. c.self.inside.least ≤ length ds in
-    subst D (sym (c.survey_both.ensures.keeps.dummies ∙ c.set.ensures)) (omega (arith, l, c.self.invariant.due.most))
+    let D : List (Option ℕ) → Type 0 = λ ds. c.self.inside.first_unready ≤ length ds in
+    subst D (sym (c.rebuild_with_parent.ensures.keeps.directory ∙ c.set.ensures)) (omega (arith, l, c.self.invariant.due.most))
 
 pub invariant_of-self-2 : goal.invariant_of-self-2
 invariant_of-self-2 g c =
-    let number = g.H.KeyHash.number c.self.inside.layout.hash in
-    let cells = c.self.inside.layout.list.cells in
-    let same = ap slots_of (c.survey_both.ensures.cells ∙ (c.insert_dummy-at.ensures.cells ∙ ap (put_cell (new_cell c.insert_dummy-at.result c.dummy_key.result None)) c.in_ok-reserve.ensures.cells))
+    let hash_of = g.H.KeyHash.number c.self.inside.index.hasher in
+    let cells = c.self.inside.index.list.cells in
+    let same = ap slots_of (c.rebuild_with_parent.ensures.cells ∙ (c.insert_dummy-at.ensures.cells ∙ ap (put_cell (new_cell c.insert_dummy-at.result c.dummy_key.result None)) c.in_ok-reserve.ensures.cells))
     ∙ slots-put-dummy c.insert_dummy-at.result c.dummy_key.result cells in
-    let N : g.row.H.Denot → Type 0 = λ h. AreNoted (g.H.KeyHash.number h) c.self.inside.held.is_lost c.self.inside.held.hashes.items (slots_of c.survey_both.new.self.list.cells) in
-    let S : List Slot → Type 0 = λ ss. AreNoted number c.self.inside.held.is_lost c.self.inside.held.hashes.items ss in
+    let N : g.row.H.Denot → Type 0 = λ h. LogInvariant (g.H.KeyHash.number h) c.self.inside.log.overflowed c.self.inside.log.hashes.items (slots_of c.rebuild_with_parent.new.self.list.cells) in
+    let S : List Slot → Type 0 = λ ss. LogInvariant hash_of c.self.inside.log.overflowed c.self.inside.log.hashes.items ss in
     record {
-      rows = c.survey_both.ensures.rows;
+      rows = c.rebuild_with_parent.ensures.rows;
       counted = c.self.invariant.counted ∙ sym (ap length same);
-      due = c.next_unready-self-inside.ensures;
-      noted = subst N (sym c.survey_both.ensures.keeps.hash) (subst S (sym same) c.self.invariant.noted);
+      due = c.first_unready-self-inside.ensures;
+      logged = subst N (sym c.rebuild_with_parent.ensures.keeps.hasher) (subst S (sym same) c.self.invariant.logged);
     }

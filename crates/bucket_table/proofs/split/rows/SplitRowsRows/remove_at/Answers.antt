@@ -1,104 +1,104 @@
-use Rattle.bucket_table.specs.inside.Directory.{IsLeast}
-use Rattle.bucket_table.specs.inside.Notes.{AreAmong, AreNoted}
-use Rattle.bucket_table.proofs.NoteLaws.{among-without}
+use Rattle.bucket_table.specs.inside.Directory.{IsFirstUnready}
+use Rattle.bucket_table.specs.inside.TombstoneLog.{TombstonesAreAmong, LogInvariant}
+use Rattle.bucket_table.proofs.sweep.Log.{among-without}
 use Rattle.std.proofs.Common.{◌≡◌, ◌≢◌, ℕ, List, Option, Some, IsSome, length, map, is_some, sym, ◌∙◌, ap, subst, arith}
 use Rattle.ets_term.specs.declared.term.Term.{Term}
-use Rattle.bucket_table.specs.Walks.{StandsBefore}
-use Rattle.bucket_table.proofs.WalkLaws.{before-other}
-use Rattle.bucket_table.proofs.StepLaws.{place-stays}
+use Rattle.bucket_table.specs.Walks.{ComesBefore}
+use Rattle.bucket_table.proofs.slots.Traverse.{before-other}
+use Rattle.bucket_table.proofs.slots.Step.{place-stays}
 use Rattle.ets_term.specs.Order.{same}
 use Rattle.node_list.specs.declared.node.Item.{Item}
 use Rattle.node_list.specs.Cells.{Cell, new_item}
 use Rattle.bucket_table.specs.Slots.{Slot, objects_of, without}
-use Rattle.bucket_table.specs.Split.{Split, key_of_place}
+use Rattle.bucket_table.specs.SplitRowsState.{SplitRowsState, key_of_place}
 use Rattle.bucket_table.specs.inside.Nodes.{slots_of, places_of}
-use Rattle.bucket_table.proofs.ContentLaws.{found-item}
-use Rattle.bucket_table.proofs.CountedLaws.{length-removed}
-use Rattle.bucket_table.proofs.SeatLaws.{at-place, read-item}
+use Rattle.bucket_table.proofs.list.Content.{found-item}
+use Rattle.bucket_table.proofs.list.Length.{length-removed}
+use Rattle.bucket_table.proofs.list.Places.{at-place, read-item}
 use Rattle.bucket_table.specs.inside.Order.{content_of}
-use Rattle.bucket_table.proofs.OrderedLaws.{ordered}
-use Rattle.bucket_table.proofs.ReadLaws.{objects-same, keys-distinct}
+use Rattle.bucket_table.proofs.order.Permute.{ordered}
+use Rattle.bucket_table.proofs.order.Read.{objects-same, keys-distinct}
 use Rattle.bucket_table.proofs.split.rows.SplitRowsRows.remove_at.Goals as goal
 
 pub remove-slot-requires-clause-item : goal.remove-slot-requires-clause-item
 remove-slot-requires-clause-item g c =
-    let P : Split g.row.H.Denot → Type 0 = λ v. IsSome (key_of_place v.places c.args.place) in
-    let p = at-place c.args.place c.self.inside.layout.list.cells c.known.ensures.apart c.self.invariant.rows.rows.split.distinct (subst P (sym c.self.view_is) c.requires) in
-    found-item p.key c.args.place c.self.inside.layout.list.cells p.found
+    let P : SplitRowsState g.row.H.Denot → Type 0 = λ v. IsSome (key_of_place v.places c.args.place) in
+    let p = at-place c.args.place c.self.inside.index.list.cells c.known.ensures.apart c.self.invariant.rows.rows.split.distinct (subst P (sym c.self.view_is) c.requires) in
+    found-item p.key c.args.place c.self.inside.index.list.cells p.found
 
 pub overflow_sub-self : goal.overflow_sub-self
 overflow_sub-self g c =
-    let P : Split g.row.H.Denot → Type 0 = λ v. IsSome (key_of_place v.places c.args.place) in
-    let p = at-place c.args.place c.self.inside.layout.list.cells c.known.ensures.apart c.self.invariant.rows.rows.split.distinct (subst P (sym c.self.view_is) c.requires) in
-    let l = length-removed (same p.key) (slots_of c.self.inside.layout.list.cells) p.found.item.chain p.found.objects in
+    let P : SplitRowsState g.row.H.Denot → Type 0 = λ v. IsSome (key_of_place v.places c.args.place) in
+    let p = at-place c.args.place c.self.inside.index.list.cells c.known.ensures.apart c.self.invariant.rows.rows.split.distinct (subst P (sym c.self.view_is) c.requires) in
+    let l = length-removed (same p.key) (slots_of c.self.inside.index.list.cells) p.found.item.chain p.found.objects in
     omega (arith, l, c.self.invariant.counted)
 
 pub invariant_of-self : goal.invariant_of-self
 invariant_of-self g c =
-    let P : Split g.row.H.Denot → Type 0 = λ v. IsSome (key_of_place v.places c.args.place) in
-    let p = at-place c.args.place c.self.inside.layout.list.cells c.known.ensures.apart c.self.invariant.rows.rows.split.distinct (subst P (sym c.self.view_is) c.requires) in
-    let l = length-removed (same p.key) (slots_of c.self.inside.layout.list.cells) p.found.item.chain p.found.objects in
+    let P : SplitRowsState g.row.H.Denot → Type 0 = λ v. IsSome (key_of_place v.places c.args.place) in
+    let p = at-place c.args.place c.self.inside.index.list.cells c.known.ensures.apart c.self.invariant.rows.rows.split.distinct (subst P (sym c.self.view_is) c.requires) in
+    let l = length-removed (same p.key) (slots_of c.self.inside.index.list.cells) p.found.item.chain p.found.objects in
     let e = c.remove-slot.ensures in
     let new = c.remove-slot.new.self in
-    let held = c.self.inside.held in
+    let held = c.self.inside.log in
     let is = ap slots_of e.cells ∙ p.found.removed in
-    let number = g.H.KeyHash.number c.self.inside.layout.hash in
-    let D : List (Option ℕ) → Type 0 = λ ds. IsLeast ds c.self.inside.least in
-    let N : g.row.H.Denot → Type 0 = λ h. AreNoted (g.H.KeyHash.number h) held.is_lost held.hashes.items (slots_of new.list.cells) in
-    let S : List Slot → Type 0 = λ ss. AreAmong number held.hashes.items ss in
+    let hash_of = g.H.KeyHash.number c.self.inside.index.hasher in
+    let D : List (Option ℕ) → Type 0 = λ ds. IsFirstUnready ds c.self.inside.first_unready in
+    let N : g.row.H.Denot → Type 0 = λ h. LogInvariant (g.H.KeyHash.number h) held.overflowed held.hashes.items (slots_of new.list.cells) in
+    let S : List Slot → Type 0 = λ ss. TombstonesAreAmong hash_of held.hashes.items ss in
     record {
       rows = e.rows;
       counted = omega (arith, l, ap length is, c.self.invariant.counted);
-      due = subst D (sym e.keeps.dummies) c.self.invariant.due;
-      noted = subst N (sym e.keeps.hash) (λ kept. subst S (sym is) (among-without number held.hashes.items p.key (slots_of c.self.inside.layout.list.cells) (c.self.invariant.noted kept)));
+      due = subst D (sym e.keeps.directory) c.self.invariant.due;
+      logged = subst N (sym e.keeps.hasher) (λ kept. subst S (sym is) (among-without hash_of held.hashes.items p.key (slots_of c.self.inside.index.list.cells) (c.self.invariant.logged kept)));
     }
 
 pub returns-clause-key : goal.returns-clause-key
 returns-clause-key g c =
-    let P : Split g.row.H.Denot → Type 0 = λ v. IsSome (key_of_place v.places c.args.place) in
-    let p = at-place c.args.place c.self.inside.layout.list.cells c.known.ensures.apart c.self.invariant.rows.rows.split.distinct (subst P (sym c.self.view_is) c.requires) in
-    let item = read-item c.args.place c.self.inside.layout.list.cells p (new_item c.remove-slot.result.0 c.remove-slot.result.1) c.remove-slot.ensures.item in
+    let P : SplitRowsState g.row.H.Denot → Type 0 = λ v. IsSome (key_of_place v.places c.args.place) in
+    let p = at-place c.args.place c.self.inside.index.list.cells c.known.ensures.apart c.self.invariant.rows.rows.split.distinct (subst P (sym c.self.view_is) c.requires) in
+    let item = read-item c.args.place c.self.inside.index.list.cells p (new_item c.remove-slot.result.0 c.remove-slot.result.1) c.remove-slot.ensures.item in
     let same_key : p.key ≡ c.remove-slot.result.0 = sym p.found.same_term ∙ ap (λ (i : Item). i.term) item in
-    let Q : Split g.row.H.Denot → Type 0 = λ v. key_of_place v.places c.args.place ≡ Some c.remove-slot.result.0 in
+    let Q : SplitRowsState g.row.H.Denot → Type 0 = λ v. key_of_place v.places c.args.place ≡ Some c.remove-slot.result.0 in
     subst Q c.self.view_is (p.is ∙ ap Some same_key)
 
 pub returns-clause-was : goal.returns-clause-was
 returns-clause-was g c =
-    let P : Split g.row.H.Denot → Type 0 = λ v. IsSome (key_of_place v.places c.args.place) in
-    let p = at-place c.args.place c.self.inside.layout.list.cells c.known.ensures.apart c.self.invariant.rows.rows.split.distinct (subst P (sym c.self.view_is) c.requires) in
-    let item = read-item c.args.place c.self.inside.layout.list.cells p (new_item c.remove-slot.result.0 c.remove-slot.result.1) c.remove-slot.ensures.item in
+    let P : SplitRowsState g.row.H.Denot → Type 0 = λ v. IsSome (key_of_place v.places c.args.place) in
+    let p = at-place c.args.place c.self.inside.index.list.cells c.known.ensures.apart c.self.invariant.rows.rows.split.distinct (subst P (sym c.self.view_is) c.requires) in
+    let item = read-item c.args.place c.self.inside.index.list.cells p (new_item c.remove-slot.result.0 c.remove-slot.result.1) c.remove-slot.ensures.item in
     let same_key : p.key ≡ c.remove-slot.result.0 = sym p.found.same_term ∙ ap (λ (i : Item). i.term) item in
-    let Q : Split g.row.H.Denot → Type 0 = λ v. objects_of v.slots c.remove-slot.result.0 ≡ Some c.remove-slot.result.1 in
-    subst Q c.self.view_is (ap (objects_of (content_of c.self.inside.layout.list.cells)) (sym same_key) ∙ (objects-same c.self.inside.layout.list.cells c.known.ensures.apart c.self.invariant.rows.rows.split.distinct p.key ∙ (p.found.objects ∙ ap (λ (i : Item). Some i.chain) item)))
+    let Q : SplitRowsState g.row.H.Denot → Type 0 = λ v. objects_of v.slots c.remove-slot.result.0 ≡ Some c.remove-slot.result.1 in
+    subst Q c.self.view_is (ap (objects_of (content_of c.self.inside.index.list.cells)) (sym same_key) ∙ (objects-same c.self.inside.index.list.cells c.known.ensures.apart c.self.invariant.rows.rows.split.distinct p.key ∙ (p.found.objects ∙ ap (λ (i : Item). Some i.chain) item)))
 
 pub returns-clause-now : goal.returns-clause-now
 returns-clause-now g c =
-    let P : Split g.row.H.Denot → Type 0 = λ v. IsSome (key_of_place v.places c.args.place) in
-    let p = at-place c.args.place c.self.inside.layout.list.cells c.known.ensures.apart c.self.invariant.rows.rows.split.distinct (subst P (sym c.self.view_is) c.requires) in
-    let item = read-item c.args.place c.self.inside.layout.list.cells p (new_item c.remove-slot.result.0 c.remove-slot.result.1) c.remove-slot.ensures.item in
+    let P : SplitRowsState g.row.H.Denot → Type 0 = λ v. IsSome (key_of_place v.places c.args.place) in
+    let p = at-place c.args.place c.self.inside.index.list.cells c.known.ensures.apart c.self.invariant.rows.rows.split.distinct (subst P (sym c.self.view_is) c.requires) in
+    let item = read-item c.args.place c.self.inside.index.list.cells p (new_item c.remove-slot.result.0 c.remove-slot.result.1) c.remove-slot.ensures.item in
     let same_key : p.key ≡ c.remove-slot.result.0 = sym p.found.same_term ∙ ap (λ (i : Item). i.term) item in
-    let Q : Split g.row.H.Denot → Type 0 = λ v. content_of c.remove-slot.new.self.list.cells ≡ without v.slots c.remove-slot.result.0 in
-    let o = ordered p.key c.args.place c.self.inside.layout.list.cells c.known.ensures.apart c.self.invariant.rows.rows.split.distinct p.found in
-    subst Q c.self.view_is (ap content_of c.remove-slot.ensures.cells ∙ (o.removed ∙ ap (without (content_of c.self.inside.layout.list.cells)) same_key))
+    let Q : SplitRowsState g.row.H.Denot → Type 0 = λ v. content_of c.remove-slot.new.self.list.cells ≡ without v.slots c.remove-slot.result.0 in
+    let o = ordered p.key c.args.place c.self.inside.index.list.cells c.known.ensures.apart c.self.invariant.rows.rows.split.distinct p.found in
+    subst Q c.self.view_is (ap content_of c.remove-slot.ensures.cells ∙ (o.removed ∙ ap (without (content_of c.self.inside.index.list.cells)) same_key))
 
 pub returns-clause-before : goal.returns-clause-before
 returns-clause-before g c =
-    let P : Split g.row.H.Denot → Type 0 = λ v. IsSome (key_of_place v.places c.args.place) in
-    let p = at-place c.args.place c.self.inside.layout.list.cells c.known.ensures.apart c.self.invariant.rows.rows.split.distinct (subst P (sym c.self.view_is) c.requires) in
-    let item = read-item c.args.place c.self.inside.layout.list.cells p (new_item c.remove-slot.result.0 c.remove-slot.result.1) c.remove-slot.ensures.item in
+    let P : SplitRowsState g.row.H.Denot → Type 0 = λ v. IsSome (key_of_place v.places c.args.place) in
+    let p = at-place c.args.place c.self.inside.index.list.cells c.known.ensures.apart c.self.invariant.rows.rows.split.distinct (subst P (sym c.self.view_is) c.requires) in
+    let item = read-item c.args.place c.self.inside.index.list.cells p (new_item c.remove-slot.result.0 c.remove-slot.result.1) c.remove-slot.ensures.item in
     let same_key : p.key ≡ c.remove-slot.result.0 = sym p.found.same_term ∙ ap (λ (i : Item). i.term) item in
-    let Q : Split g.row.H.Denot → Type 0 =
-    λ v. (other : ℕ) (key : Term) → key_of_place v.places other ≡ Some key → StandsBefore v.slots key c.remove-slot.result.0 → key_of_place (places_of c.remove-slot.new.self.list.cells) other ≡ Some key in
+    let Q : SplitRowsState g.row.H.Denot → Type 0 =
+    λ v. (other : ℕ) (key : Term) → key_of_place v.places other ≡ Some key → ComesBefore v.slots key c.remove-slot.result.0 → key_of_place (places_of c.remove-slot.new.self.list.cells) other ≡ Some key in
     subst Q c.self.view_is (λ other key e b.
-    let apart = before-other (content_of c.self.inside.layout.list.cells) key c.remove-slot.result.0 (keys-distinct c.self.inside.layout.list.cells c.known.ensures.apart c.self.invariant.rows.rows.split.distinct) b in
-    let away : c.args.place ≢ other = λ here. apart (some-key key c.remove-slot.result.0 (key_of_place (places_of c.self.inside.layout.list.cells) other) e (ap (key_of_place (places_of c.self.inside.layout.list.cells)) (sym here) ∙ (p.is ∙ ap Some same_key))) in
-    ap (λ (cs : List Cell). key_of_place (places_of cs) other) c.remove-slot.ensures.cells ∙ (place-stays c.args.place other c.self.inside.layout.list.cells away ∙ e))
+    let apart = before-other (content_of c.self.inside.index.list.cells) key c.remove-slot.result.0 (keys-distinct c.self.inside.index.list.cells c.known.ensures.apart c.self.invariant.rows.rows.split.distinct) b in
+    let away : c.args.place ≢ other = λ here. apart (some-key key c.remove-slot.result.0 (key_of_place (places_of c.self.inside.index.list.cells) other) e (ap (key_of_place (places_of c.self.inside.index.list.cells)) (sym here) ∙ (p.is ∙ ap Some same_key))) in
+    ap (λ (cs : List Cell). key_of_place (places_of cs) other) c.remove-slot.ensures.cells ∙ (place-stays c.args.place other c.self.inside.index.list.cells away ∙ e))
   where
     some-key : (a b : Term) (o : Option Term) → o ≡ Some a → o ≡ Some b → a ≡ b
     some-key a b o x y = cc
 
 pub returns-clause-hash : goal.returns-clause-hash
-returns-clause-hash g c = ap (λ (h : g.row.H.Denot). g.H.KeyHash.number h) (c.remove-slot.ensures.keeps.hash ∙ ap (λ (v : Split g.row.H.Denot). v.hash) c.self.view_is)
+returns-clause-hash g c = ap (λ (h : g.row.H.Denot). g.H.KeyHash.number h) (c.remove-slot.ensures.keeps.hasher ∙ ap (λ (v : SplitRowsState g.row.H.Denot). v.hasher) c.self.view_is)
 
 pub returns-clause-buckets : goal.returns-clause-buckets
-returns-clause-buckets g c = ap (λ (ds : List (Option ℕ)). map is_some ds) c.remove-slot.ensures.keeps.dummies ∙ ap (λ (v : Split g.row.H.Denot). v.ready) c.self.view_is
+returns-clause-buckets g c = ap (λ (ds : List (Option ℕ)). map is_some ds) c.remove-slot.ensures.keeps.directory ∙ ap (λ (v : SplitRowsState g.row.H.Denot). v.ready) c.self.view_is

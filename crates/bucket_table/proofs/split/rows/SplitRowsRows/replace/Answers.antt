@@ -1,5 +1,5 @@
 use Rattle.std.proofs.Common.{sym}
-use Rattle.bucket_table.proofs.SlotLaws.{set-absent}
+use Rattle.bucket_table.proofs.slots.Distinct.{set-absent}
 use Rattle.bucket_table.proofs.split.rows.SplitRowsRows.replace.Goals as goal
 
 pub returns-in_err-place-clause-now : goal.returns-in_err-place-clause-now

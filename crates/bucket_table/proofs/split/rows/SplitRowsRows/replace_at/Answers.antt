@@ -1,87 +1,87 @@
 use Rattle.ets_term.specs.declared.term.Term.{Term}
 use Rattle.std.proofs.Math.Nat.{mod-eq_of_lt}
 use Rattle.bucket_table.specs.Slots.{Slot, has_objects}
-use Rattle.bucket_table.specs.inside.Notes.{IsAmong, AreAmong}
-use Rattle.bucket_table.proofs.NoteLaws.{among-with, among-more, held-told}
-use Rattle.bucket_table.proofs.SurveyLaws.{item-small}
+use Rattle.bucket_table.specs.inside.TombstoneLog.{IsAmong, TombstonesAreAmong}
+use Rattle.bucket_table.proofs.sweep.Log.{among-with, among-more, held-told}
+use Rattle.bucket_table.proofs.hints.Rebuild.{item-small}
 use Rattle.std.proofs.Common.{◌≡◌, ◌-◌, ℕ, List, arith, length, IsSome, Some, sym, ◌∙◌, ap, subst, ◌^◌, ◌+◌}
 use Rattle.bucket_table.specs.Entries.{objects_in, with_objects_in}
-use Rattle.bucket_table.specs.Split.{Split, key_of_place}
+use Rattle.bucket_table.specs.SplitRowsState.{SplitRowsState, key_of_place}
 use Rattle.bucket_table.specs.inside.Nodes.{slots_of, places_of}
 use Rattle.node_list.specs.Changes.{cells_with}
-use Rattle.bucket_table.proofs.ContentLaws.{found-item}
-use Rattle.bucket_table.proofs.CountedLaws.{length-set_value}
-use Rattle.bucket_table.proofs.RowsLaws.{rows-with}
-use Rattle.bucket_table.proofs.SeatLaws.{at-place, place-stands, hash-key, length-with, places-with}
+use Rattle.bucket_table.proofs.list.Content.{found-item}
+use Rattle.bucket_table.proofs.list.Length.{length-set_value}
+use Rattle.bucket_table.proofs.hints.Invariant.{rows-with}
+use Rattle.bucket_table.proofs.list.Places.{at-place, place-stands, hash-key, length-with, places-with}
 use Rattle.ets_term.specs.Order.{same}
 use Rattle.bucket_table.specs.inside.Order.{content_of}
-use Rattle.bucket_table.proofs.ReadLaws.{objects-there, objects-put}
-use Rattle.bucket_table.proofs.HintedLaws.{hints-with}
+use Rattle.bucket_table.proofs.order.Read.{objects-there, objects-put}
+use Rattle.bucket_table.proofs.hints.Change.{hints-with}
 use Rattle.bucket_table.proofs.split.rows.SplitRowsRows.replace_at.Goals as goal
 
 pub chain_mut-chain-requires : goal.chain_mut-chain-requires
 chain_mut-chain-requires g c =
-    let P : Split g.row.H.Denot → Type 0 = λ v. IsSome (key_of_place v.places c.args.place) in
-    let p = at-place c.args.place c.self.inside.layout.list.cells c.known.ensures.apart c.self.invariant.rows.rows.split.distinct (subst P (sym c.self.view_is) c.requires) in
-    found-item p.key c.args.place c.self.inside.layout.list.cells p.found
+    let P : SplitRowsState g.row.H.Denot → Type 0 = λ v. IsSome (key_of_place v.places c.args.place) in
+    let p = at-place c.args.place c.self.inside.index.list.cells c.known.ensures.apart c.self.invariant.rows.rows.split.distinct (subst P (sym c.self.view_is) c.requires) in
+    found-item p.key c.args.place c.self.inside.index.list.cells p.found
 
 pub key-requires : goal.key-requires
 key-requires g c =
-    let P : Split g.row.H.Denot → Type 0 = λ v. IsSome (key_of_place v.places c.args.place) in
-    let p = at-place c.args.place c.self.inside.layout.list.cells c.known.ensures.apart c.self.invariant.rows.rows.split.distinct (subst P (sym c.self.view_is) c.requires) in
-    place-stands c.args.place c.self.inside.layout.list.cells p
+    let P : SplitRowsState g.row.H.Denot → Type 0 = λ v. IsSome (key_of_place v.places c.args.place) in
+    let p = at-place c.args.place c.self.inside.index.list.cells c.known.ensures.apart c.self.invariant.rows.rows.split.distinct (subst P (sym c.self.view_is) c.requires) in
+    place-stands c.args.place c.self.inside.index.list.cells p
 
-pub hash_of-number-requires : goal.hash_of-number-requires
-hash_of-number-requires g c =
-    let P : Split g.row.H.Denot → Type 0 = λ v. IsSome (key_of_place v.places c.args.place) in
-    let p = at-place c.args.place c.self.inside.layout.list.cells c.known.ensures.apart c.self.invariant.rows.rows.split.distinct (subst P (sym c.self.view_is) c.requires) in
-    let key = hash-key (g.H.KeyHash.number c.self.inside.layout.hash) c.self.inside.layout.dummies p.key c.args.place c.self.inside.layout.list.cells c.self.invariant.rows.rows.split.placed p.found c.key.result c.key.ensures in
-    let small = item-small ((g.H.KeyHash.number c.self.inside.layout.hash) p.key) in
+pub item_hash-hash-requires : goal.item_hash-hash-requires
+item_hash-hash-requires g c =
+    let P : SplitRowsState g.row.H.Denot → Type 0 = λ v. IsSome (key_of_place v.places c.args.place) in
+    let p = at-place c.args.place c.self.inside.index.list.cells c.known.ensures.apart c.self.invariant.rows.rows.split.distinct (subst P (sym c.self.view_is) c.requires) in
+    let key = hash-key (g.H.KeyHash.number c.self.inside.index.hasher) c.self.inside.index.directory p.key c.args.place c.self.inside.index.list.cells c.self.invariant.rows.rows.split.placed p.found c.key.result c.key.ensures in
+    let small = item-small ((g.H.KeyHash.number c.self.inside.index.hasher) p.key) in
     omega (arith, key, small)
 
 pub invariant_of-self : goal.invariant_of-self
 invariant_of-self g c =
-    let P : Split g.row.H.Denot → Type 0 = λ v. IsSome (key_of_place v.places c.args.place) in
-    let p = at-place c.args.place c.self.inside.layout.list.cells c.known.ensures.apart c.self.invariant.rows.rows.split.distinct (subst P (sym c.self.view_is) c.requires) in
+    let P : SplitRowsState g.row.H.Denot → Type 0 = λ v. IsSome (key_of_place v.places c.args.place) in
+    let p = at-place c.args.place c.self.inside.index.list.cells c.known.ensures.apart c.self.invariant.rows.rows.split.distinct (subst P (sym c.self.view_is) c.requires) in
     let h = p.found in
-    let rows = rows-with (g.H.KeyHash.number c.self.inside.layout.hash) c.self.inside.layout.dummies c.self.inside.layout.hints.shift c.self.inside.layout.hints.firsts.items c.self.inside.layout.list.cells c.self.invariant.rows.rows p.key c.args.place c.replace.new.dest h in
-    let number = g.H.KeyHash.number c.self.inside.layout.hash in
-    let ss = slots_of c.self.inside.layout.list.cells in
-    let hs = c.mark.new.self.hashes.items in
+    let rows = rows-with (g.H.KeyHash.number c.self.inside.index.hasher) c.self.inside.index.directory c.self.inside.index.hints.interval_bits c.self.inside.index.hints.current.items c.self.inside.index.list.cells c.self.invariant.rows.rows p.key c.args.place c.replace.new.dest h in
+    let hash_of = g.H.KeyHash.number c.self.inside.index.hasher in
+    let ss = slots_of c.self.inside.index.list.cells in
+    let hs = c.log_hash.new.self.hashes.items in
     let H : ℕ → Type 0 = λ n. IsAmong n hs in
-    let N : List Slot → Type 0 = λ zs. AreAmong number hs zs in
-    let key = hash-key number c.self.inside.layout.dummies p.key c.args.place c.self.inside.layout.list.cells c.self.invariant.rows.rows.split.placed p.found c.key.result c.key.ensures in
-    let hash : c.hash_of-number.result ≡ number p.key = c.hash_of-number.ensures (number p.key) key ∙ mod-eq_of_lt (g.met.H.KeyHash.below c.self.inside.layout.hash p.key) in
+    let N : List Slot → Type 0 = λ zs. TombstonesAreAmong hash_of hs zs in
+    let key = hash-key hash_of c.self.inside.index.directory p.key c.args.place c.self.inside.index.list.cells c.self.invariant.rows.rows.split.placed p.found c.key.result c.key.ensures in
+    let hash : c.item_hash-hash.result ≡ hash_of p.key = c.item_hash-hash.ensures (hash_of p.key) key ∙ mod-eq_of_lt (g.met.H.KeyHash.below c.self.inside.index.hasher p.key) in
     record {
-      rows = record { rows = rows; wider = hints-with (2 ^ (c.self.inside.layout.hints.shift + 1)) c.self.inside.layout.hints.older.items c.args.place c.replace.new.dest c.self.inside.layout.list.cells c.self.invariant.rows.wider };
+      rows = record { rows = rows; previous = hints-with (2 ^ (c.self.inside.index.hints.interval_bits + 1)) c.self.inside.index.hints.previous.items c.args.place c.replace.new.dest c.self.inside.index.list.cells c.self.invariant.rows.previous };
       counted = c.self.invariant.counted ∙ sym (ap length (h.replaced c.replace.new.dest) ∙ length-set_value (same p.key) ss c.replace.new.dest);
       due = c.self.invariant.due;
-      noted = λ kept. subst N (sym (h.replaced c.replace.new.dest)) (among-with number hs p.key c.replace.new.dest ss
-          (λ e. subst H hash ((c.mark.ensures kept).2 (held-told c.args.objects c.len.result c.len.ensures (ap has_objects (sym c.replace.ensures.after) ∙ e))))
-          (among-more number c.self.inside.held.hashes.items hs (c.mark.ensures kept).1 ss (c.self.invariant.noted (c.mark.ensures kept).0)));
+      logged = λ kept. subst N (sym (h.replaced c.replace.new.dest)) (among-with hash_of hs p.key c.replace.new.dest ss
+          (λ e. subst H hash ((c.log_hash.ensures kept).2 (held-told c.args.objects c.len.result c.len.ensures (ap has_objects (sym c.replace.ensures.after) ∙ e))))
+          (among-more hash_of c.self.inside.log.hashes.items hs (c.log_hash.ensures kept).1 ss (c.self.invariant.logged (c.log_hash.ensures kept).0)));
     }
 
 pub returns-clause-was : goal.returns-clause-was
 returns-clause-was g c =
-    let P : Split g.row.H.Denot → Type 0 = λ v. IsSome (key_of_place v.places c.args.place) in
-    let p = at-place c.args.place c.self.inside.layout.list.cells c.known.ensures.apart c.self.invariant.rows.rows.split.distinct (subst P (sym c.self.view_is) c.requires) in
-    let Q : Split g.row.H.Denot → Type 0 = λ v. objects_in v.slots (key_of_place v.places c.args.place) ≡ Some c.chain_mut-chain.result.now in
-    subst Q c.self.view_is (objects-there c.self.inside.layout.list.cells c.known.ensures.apart c.self.invariant.rows.rows.split.distinct c.args.place p c.chain_mut-chain.result.now c.chain_mut-chain.ensures.value) ∙ ap Some (sym c.replace.ensures.value)
+    let P : SplitRowsState g.row.H.Denot → Type 0 = λ v. IsSome (key_of_place v.places c.args.place) in
+    let p = at-place c.args.place c.self.inside.index.list.cells c.known.ensures.apart c.self.invariant.rows.rows.split.distinct (subst P (sym c.self.view_is) c.requires) in
+    let Q : SplitRowsState g.row.H.Denot → Type 0 = λ v. objects_in v.slots (key_of_place v.places c.args.place) ≡ Some c.chain_mut-chain.result.now in
+    subst Q c.self.view_is (objects-there c.self.inside.index.list.cells c.known.ensures.apart c.self.invariant.rows.rows.split.distinct c.args.place p c.chain_mut-chain.result.now c.chain_mut-chain.ensures.value) ∙ ap Some (sym c.replace.ensures.value)
 
 pub returns-clause-now : goal.returns-clause-now
 returns-clause-now g c =
-    let P : Split g.row.H.Denot → Type 0 = λ v. IsSome (key_of_place v.places c.args.place) in
-    let p = at-place c.args.place c.self.inside.layout.list.cells c.known.ensures.apart c.self.invariant.rows.rows.split.distinct (subst P (sym c.self.view_is) c.requires) in
-    let Q : Split g.row.H.Denot → Type 0 = λ v. content_of (cells_with c.args.place c.replace.new.dest c.self.inside.layout.list.cells) ≡ with_objects_in v.slots (key_of_place v.places c.args.place) c.args.objects in
-    subst Q c.self.view_is (objects-put c.self.inside.layout.list.cells c.known.ensures.apart c.self.invariant.rows.rows.split.distinct c.args.place p c.replace.new.dest ∙ ap (with_objects_in (content_of c.self.inside.layout.list.cells) (key_of_place (places_of c.self.inside.layout.list.cells) c.args.place)) c.replace.ensures.after)
+    let P : SplitRowsState g.row.H.Denot → Type 0 = λ v. IsSome (key_of_place v.places c.args.place) in
+    let p = at-place c.args.place c.self.inside.index.list.cells c.known.ensures.apart c.self.invariant.rows.rows.split.distinct (subst P (sym c.self.view_is) c.requires) in
+    let Q : SplitRowsState g.row.H.Denot → Type 0 = λ v. content_of (cells_with c.args.place c.replace.new.dest c.self.inside.index.list.cells) ≡ with_objects_in v.slots (key_of_place v.places c.args.place) c.args.objects in
+    subst Q c.self.view_is (objects-put c.self.inside.index.list.cells c.known.ensures.apart c.self.invariant.rows.rows.split.distinct c.args.place p c.replace.new.dest ∙ ap (with_objects_in (content_of c.self.inside.index.list.cells) (key_of_place (places_of c.self.inside.index.list.cells) c.args.place)) c.replace.ensures.after)
 
 pub returns-clause-place : goal.returns-clause-place
-returns-clause-place g c = ap (λ (ps : List (ℕ × Term)). key_of_place ps c.args.place) (places-with c.args.place c.replace.new.dest c.self.inside.layout.list.cells ∙ ap (λ (v : Split g.row.H.Denot). v.places) c.self.view_is)
+returns-clause-place g c = ap (λ (ps : List (ℕ × Term)). key_of_place ps c.args.place) (places-with c.args.place c.replace.new.dest c.self.inside.index.list.cells ∙ ap (λ (v : SplitRowsState g.row.H.Denot). v.places) c.self.view_is)
 
 pub returns-clause-places : goal.returns-clause-places
-returns-clause-places g c = λ other. ap (λ (ps : List (ℕ × Term)). key_of_place ps other) (places-with c.args.place c.replace.new.dest c.self.inside.layout.list.cells ∙ ap (λ (v : Split g.row.H.Denot). v.places) c.self.view_is)
+returns-clause-places g c = λ other. ap (λ (ps : List (ℕ × Term)). key_of_place ps other) (places-with c.args.place c.replace.new.dest c.self.inside.index.list.cells ∙ ap (λ (v : SplitRowsState g.row.H.Denot). v.places) c.self.view_is)
 
 pub returns-clause-room : goal.returns-clause-room
 returns-clause-room g c =
-    let is = ap (λ (n : ℕ). c.self.inside.layout.list.capacity - n) (length-with c.args.place c.replace.new.dest c.self.inside.layout.list.cells) ∙ ap (λ (v : Split g.row.H.Denot). v.room) c.self.view_is in
+    let is = ap (λ (n : ℕ). c.self.inside.index.list.capacity - n) (length-with c.args.place c.replace.new.dest c.self.inside.index.list.cells) ∙ ap (λ (v : SplitRowsState g.row.H.Denot). v.room) c.self.view_is in
     omega (arith, is)

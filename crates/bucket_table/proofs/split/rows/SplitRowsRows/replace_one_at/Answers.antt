@@ -4,75 +4,75 @@ use Rattle.ets_term.specs.Order.{same}
 use Rattle.node_list.specs.Changes.{cells_with}
 use Rattle.bucket_table.specs.Slots.{Slot}
 use Rattle.bucket_table.specs.Entries.{HasOne, objects_in, with_objects_in}
-use Rattle.bucket_table.specs.Split.{Split, key_of_place}
+use Rattle.bucket_table.specs.SplitRowsState.{SplitRowsState, key_of_place}
 use Rattle.bucket_table.specs.inside.Nodes.{slots_of, places_of}
-use Rattle.bucket_table.specs.inside.Notes.{AreAmong}
-use Rattle.bucket_table.proofs.ContentLaws.{found-item}
-use Rattle.bucket_table.proofs.CountedLaws.{length-set_value}
-use Rattle.bucket_table.proofs.NoteLaws.{among-with}
-use Rattle.bucket_table.proofs.OneLaws.{one-stands, one-long, swapped, no-held}
-use Rattle.bucket_table.proofs.RowsLaws.{rows-with}
-use Rattle.bucket_table.proofs.SeatLaws.{at-place, length-with, places-with}
+use Rattle.bucket_table.specs.inside.TombstoneLog.{TombstonesAreAmong}
+use Rattle.bucket_table.proofs.list.Content.{found-item}
+use Rattle.bucket_table.proofs.list.Length.{length-set_value}
+use Rattle.bucket_table.proofs.sweep.Log.{among-with}
+use Rattle.bucket_table.proofs.slots.Single.{one-stands, one-long, swapped, no-held}
+use Rattle.bucket_table.proofs.hints.Invariant.{rows-with}
+use Rattle.bucket_table.proofs.list.Places.{at-place, length-with, places-with}
 use Rattle.bucket_table.specs.inside.Order.{content_of}
-use Rattle.bucket_table.proofs.ReadLaws.{objects-there, objects-put}
-use Rattle.bucket_table.proofs.HintedLaws.{hints-with}
+use Rattle.bucket_table.proofs.order.Read.{objects-there, objects-put}
+use Rattle.bucket_table.proofs.hints.Change.{hints-with}
 use Rattle.bucket_table.proofs.split.rows.SplitRowsRows.replace_one_at.Goals as goal
 
 pub chain_mut-requires : goal.chain_mut-requires
 chain_mut-requires g c =
-    let P : Split g.row.H.Denot → Type 0 = λ v. HasOne v.slots (key_of_place v.places c.args.place) in
+    let P : SplitRowsState g.row.H.Denot → Type 0 = λ v. HasOne v.slots (key_of_place v.places c.args.place) in
     let one = subst P (sym c.self.view_is) c.requires in
-    let p = at-place c.args.place c.self.inside.layout.list.cells c.known.ensures.apart c.self.invariant.rows.rows.split.distinct (one-stands _ _ one) in
-    found-item p.key c.args.place c.self.inside.layout.list.cells p.found
+    let p = at-place c.args.place c.self.inside.index.list.cells c.known.ensures.apart c.self.invariant.rows.rows.split.distinct (one-stands _ _ one) in
+    found-item p.key c.args.place c.self.inside.index.list.cells p.found
 
 pub replace-requires : goal.replace-requires
 replace-requires g c =
-    let P : Split g.row.H.Denot → Type 0 = λ v. HasOne v.slots (key_of_place v.places c.args.place) in
+    let P : SplitRowsState g.row.H.Denot → Type 0 = λ v. HasOne v.slots (key_of_place v.places c.args.place) in
     let one = subst P (sym c.self.view_is) c.requires in
-    let p = at-place c.args.place c.self.inside.layout.list.cells c.known.ensures.apart c.self.invariant.rows.rows.split.distinct (one-stands _ _ one) in
-    one-long _ _ _ one (objects-there c.self.inside.layout.list.cells c.known.ensures.apart c.self.invariant.rows.rows.split.distinct c.args.place p c.chain_mut.result.now c.chain_mut.ensures.value)
+    let p = at-place c.args.place c.self.inside.index.list.cells c.known.ensures.apart c.self.invariant.rows.rows.split.distinct (one-stands _ _ one) in
+    one-long _ _ _ one (objects-there c.self.inside.index.list.cells c.known.ensures.apart c.self.invariant.rows.rows.split.distinct c.args.place p c.chain_mut.result.now c.chain_mut.ensures.value)
 
 pub invariant_of-self : goal.invariant_of-self
 invariant_of-self g c =
-    let P : Split g.row.H.Denot → Type 0 = λ v. HasOne v.slots (key_of_place v.places c.args.place) in
+    let P : SplitRowsState g.row.H.Denot → Type 0 = λ v. HasOne v.slots (key_of_place v.places c.args.place) in
     let one = subst P (sym c.self.view_is) c.requires in
-    let p = at-place c.args.place c.self.inside.layout.list.cells c.known.ensures.apart c.self.invariant.rows.rows.split.distinct (one-stands _ _ one) in
+    let p = at-place c.args.place c.self.inside.index.list.cells c.known.ensures.apart c.self.invariant.rows.rows.split.distinct (one-stands _ _ one) in
     let h = p.found in
-    let number = g.H.KeyHash.number c.self.inside.layout.hash in
-    let ss = slots_of c.self.inside.layout.list.cells in
-    let hs = c.self.inside.held.hashes.items in
-    let N : List Slot → Type 0 = λ zs. AreAmong number hs zs in
-    let was = swapped _ _ c.chain_mut.result.now c.replace.new.self c.replace.result c.args.object one (objects-there c.self.inside.layout.list.cells c.known.ensures.apart c.self.invariant.rows.rows.split.distinct c.args.place p c.chain_mut.result.now c.chain_mut.ensures.value) c.replace.ensures.old c.replace.ensures.new in
+    let hash_of = g.H.KeyHash.number c.self.inside.index.hasher in
+    let ss = slots_of c.self.inside.index.list.cells in
+    let hs = c.self.inside.log.hashes.items in
+    let N : List Slot → Type 0 = λ zs. TombstonesAreAmong hash_of hs zs in
+    let was = swapped _ _ c.chain_mut.result.now c.replace.new.self c.replace.result c.args.object one (objects-there c.self.inside.index.list.cells c.known.ensures.apart c.self.invariant.rows.rows.split.distinct c.args.place p c.chain_mut.result.now c.chain_mut.ensures.value) c.replace.ensures.old c.replace.ensures.new in
     record {
-      rows = record { rows = rows-with number c.self.inside.layout.dummies c.self.inside.layout.hints.shift c.self.inside.layout.hints.firsts.items c.self.inside.layout.list.cells c.self.invariant.rows.rows p.key c.args.place c.replace.new.self h; wider = hints-with (2 ^ (c.self.inside.layout.hints.shift + 1)) c.self.inside.layout.hints.older.items c.args.place c.replace.new.self c.self.inside.layout.list.cells c.self.invariant.rows.wider };
+      rows = record { rows = rows-with hash_of c.self.inside.index.directory c.self.inside.index.hints.interval_bits c.self.inside.index.hints.current.items c.self.inside.index.list.cells c.self.invariant.rows.rows p.key c.args.place c.replace.new.self h; previous = hints-with (2 ^ (c.self.inside.index.hints.interval_bits + 1)) c.self.inside.index.hints.previous.items c.args.place c.replace.new.self c.self.inside.index.list.cells c.self.invariant.rows.previous };
       counted = c.self.invariant.counted ∙ sym (ap length (h.replaced c.replace.new.self) ∙ length-set_value (same p.key) ss c.replace.new.self);
       due = c.self.invariant.due;
-      noted = λ kept. subst N (sym (h.replaced c.replace.new.self)) (among-with number hs p.key c.replace.new.self ss (λ e. absurd (no-held c.replace.new.self c.args.object was.written e)) (c.self.invariant.noted kept));
+      logged = λ kept. subst N (sym (h.replaced c.replace.new.self)) (among-with hash_of hs p.key c.replace.new.self ss (λ e. absurd (no-held c.replace.new.self c.args.object was.written e)) (c.self.invariant.logged kept));
     }
 
 pub returns-clause-was : goal.returns-clause-was
 returns-clause-was g c =
-    let P : Split g.row.H.Denot → Type 0 = λ v. HasOne v.slots (key_of_place v.places c.args.place) in
+    let P : SplitRowsState g.row.H.Denot → Type 0 = λ v. HasOne v.slots (key_of_place v.places c.args.place) in
     let one = subst P (sym c.self.view_is) c.requires in
-    let p = at-place c.args.place c.self.inside.layout.list.cells c.known.ensures.apart c.self.invariant.rows.rows.split.distinct (one-stands _ _ one) in
-    let read = objects-there c.self.inside.layout.list.cells c.known.ensures.apart c.self.invariant.rows.rows.split.distinct c.args.place p c.chain_mut.result.now c.chain_mut.ensures.value in
+    let p = at-place c.args.place c.self.inside.index.list.cells c.known.ensures.apart c.self.invariant.rows.rows.split.distinct (one-stands _ _ one) in
+    let read = objects-there c.self.inside.index.list.cells c.known.ensures.apart c.self.invariant.rows.rows.split.distinct c.args.place p c.chain_mut.result.now c.chain_mut.ensures.value in
     let was = swapped _ _ c.chain_mut.result.now c.replace.new.self c.replace.result c.args.object one read c.replace.ensures.old c.replace.ensures.new in
-    let Q : Split g.row.H.Denot → Type 0 = λ v. objects_in v.slots (key_of_place v.places c.args.place) ≡ Some c.chain_mut.result.now in
+    let Q : SplitRowsState g.row.H.Denot → Type 0 = λ v. objects_in v.slots (key_of_place v.places c.args.place) ≡ Some c.chain_mut.result.now in
     subst Q c.self.view_is read ∙ ap Some was.read
 
 pub returns-clause-now : goal.returns-clause-now
 returns-clause-now g c =
-    let P : Split g.row.H.Denot → Type 0 = λ v. HasOne v.slots (key_of_place v.places c.args.place) in
+    let P : SplitRowsState g.row.H.Denot → Type 0 = λ v. HasOne v.slots (key_of_place v.places c.args.place) in
     let one = subst P (sym c.self.view_is) c.requires in
-    let p = at-place c.args.place c.self.inside.layout.list.cells c.known.ensures.apart c.self.invariant.rows.rows.split.distinct (one-stands _ _ one) in
-    let was = swapped _ _ c.chain_mut.result.now c.replace.new.self c.replace.result c.args.object one (objects-there c.self.inside.layout.list.cells c.known.ensures.apart c.self.invariant.rows.rows.split.distinct c.args.place p c.chain_mut.result.now c.chain_mut.ensures.value) c.replace.ensures.old c.replace.ensures.new in
-    let Q : Split g.row.H.Denot → Type 0 = λ v. content_of (cells_with c.args.place c.replace.new.self c.self.inside.layout.list.cells) ≡ with_objects_in v.slots (key_of_place v.places c.args.place) (c.args.object ∷ []) in
-    subst Q c.self.view_is (objects-put c.self.inside.layout.list.cells c.known.ensures.apart c.self.invariant.rows.rows.split.distinct c.args.place p c.replace.new.self ∙ ap (with_objects_in (content_of c.self.inside.layout.list.cells) (key_of_place (places_of c.self.inside.layout.list.cells) c.args.place)) was.written)
+    let p = at-place c.args.place c.self.inside.index.list.cells c.known.ensures.apart c.self.invariant.rows.rows.split.distinct (one-stands _ _ one) in
+    let was = swapped _ _ c.chain_mut.result.now c.replace.new.self c.replace.result c.args.object one (objects-there c.self.inside.index.list.cells c.known.ensures.apart c.self.invariant.rows.rows.split.distinct c.args.place p c.chain_mut.result.now c.chain_mut.ensures.value) c.replace.ensures.old c.replace.ensures.new in
+    let Q : SplitRowsState g.row.H.Denot → Type 0 = λ v. content_of (cells_with c.args.place c.replace.new.self c.self.inside.index.list.cells) ≡ with_objects_in v.slots (key_of_place v.places c.args.place) (c.args.object ∷ []) in
+    subst Q c.self.view_is (objects-put c.self.inside.index.list.cells c.known.ensures.apart c.self.invariant.rows.rows.split.distinct c.args.place p c.replace.new.self ∙ ap (with_objects_in (content_of c.self.inside.index.list.cells) (key_of_place (places_of c.self.inside.index.list.cells) c.args.place)) was.written)
 
 pub returns-clause-places : goal.returns-clause-places
-returns-clause-places g c = λ other. ap (λ (ps : List (ℕ × Term)). key_of_place ps other) (places-with c.args.place c.replace.new.self c.self.inside.layout.list.cells ∙ ap (λ (v : Split g.row.H.Denot). v.places) c.self.view_is)
+returns-clause-places g c = λ other. ap (λ (ps : List (ℕ × Term)). key_of_place ps other) (places-with c.args.place c.replace.new.self c.self.inside.index.list.cells ∙ ap (λ (v : SplitRowsState g.row.H.Denot). v.places) c.self.view_is)
 
 pub returns-clause-room : goal.returns-clause-room
 returns-clause-room g c =
-    let is = ap (λ (n : ℕ). c.self.inside.layout.list.capacity - n) (length-with c.args.place c.replace.new.self c.self.inside.layout.list.cells) ∙ ap (λ (v : Split g.row.H.Denot). v.room) c.self.view_is in
+    let is = ap (λ (n : ℕ). c.self.inside.index.list.capacity - n) (length-with c.args.place c.replace.new.self c.self.inside.index.list.cells) ∙ ap (λ (v : SplitRowsState g.row.H.Denot). v.room) c.self.view_is in
     omega (arith, is)

@@ -1,0 +1,12 @@
+pub mod First
+pub mod Search
+pub mod SearchBelow
+pub mod Change
+pub mod Insert
+pub mod Remove
+pub mod Refresh
+pub mod Rehash
+pub mod Rebuild
+pub mod Start
+pub mod Replace
+pub mod Invariant

@@ -1,0 +1,34 @@
+-- A slot that has one object.
+use Rattle.std.proofs.Common.{◌≡◌, ◌∙◌, sym, ap, false, List, [], ◌∷◌, Option, Some, None, IsSome, subst, arith, refl, slice_get, slice_set, length, ◌<◌}
+use Rattle.std.proofs.lemmas.Option.{same_Some}
+use Rattle.ets_term.specs.declared.term.Term.{Term}
+use Rattle.bucket_table.specs.Slots.{Slot, has_objects}
+use Rattle.bucket_table.specs.Entries.{HasOne, objects_in}
+
+-- The slot has a place.
+pub one-stands : (slots : List Slot) (at : Option Term) → HasOne slots at → IsSome at
+one-stands slots None h = absurd (cc)
+one-stands slots (Some key) h = refl
+
+-- The returned object is replaced by another.
+pub record IsSwapped (was : List Term) (result object : Term) (new : List Term) : Type 0 where
+  pub read : was ≡ result ∷ []
+  pub written : new ≡ object ∷ []
+
+pub swapped : (slots : List Slot) (at : Option Term) (was new : List Term) (result object : Term) → HasOne slots at → objects_in slots at ≡ Some was → slice_get was 0 ≡ Some result → new ≡ slice_set was 0 object → IsSwapped was result object new
+swapped slots at was new result object h e r w =
+    let is : was ≡ h.0 ∷ [] = same_Some _ _ (sym e ∙ h.1) in
+    let own : Some h.0 ≡ Some result = sym (ap (λ (l : List Term). slice_get l 0) is) ∙ r in
+    record {
+      read = is ∙ ap (λ (t : Term). t ∷ []) (same_Some _ _ own);
+      written = w ∙ ap (λ (l : List Term). slice_set l 0 object) is;
+    }
+
+pub no-held : (new : List Term) (object : Term) → new ≡ object ∷ [] → has_objects new ≡ false → ⊥
+no-held new object e h = absurd (cc)
+
+-- There is one object to replace.
+pub one-long : (slots : List Slot) (at : Option Term) (was : List Term) → HasOne slots at → objects_in slots at ≡ Some was → 0 < length was
+one-long slots at was h e =
+    let is : was ≡ h.0 ∷ [] = same_Some _ _ (sym e ∙ h.1) in
+    subst (λ (l : List Term). 0 < length l) (sym is) (omega arith)

@@ -1,0 +1,17 @@
+use Rattle.std.proofs.Common.{ℕ, ◌≤◌, ◌/◌, ◌^◌, subst, arith}
+use Rattle.split_key.specs.Keys.{key_of_dummy}
+use Rattle.node_list.specs.Places.{StandsUpTo}
+use Rattle.bucket_table.proofs.hints.Start.{lesser-up-to}
+use Rattle.bucket_table.proofs.hints.SearchBelow.{nearest-start, either-lesser}
+use Rattle.bucket_table.proofs.directory.Search.{start-stands}
+use Rattle.bucket_table.proofs.split.index.SplitIndex.dummy_start.Goals as goal
+
+pub returns-in-Some : goal.returns-in-Some
+returns-in-Some g c =
+    let B : ℕ → Type 0 = λ k. StandsUpTo k c.in-Some.first c.args.self.now.list.cells in
+    subst B c.dummy_key-split_key.ensures (lesser-up-to c.dummy_key-split_key.result c.in-Some.first c.args.self.now.list.cells (either-lesser c.args.self.now.hints.interval_bits c.dummy_key-split_key.result c.in-Some.first (c.dummy_key.result / 2 ^ c.args.self.now.hints.interval_bits) c.args.self.now.list.cells c.args.self.now.hints.current.items c.args.self.now.hints.previous.items c.known.ensures.sorted c.known.ensures.apart c.requires.rows.rows.hinted.hints c.requires.rows.previous c.in-Some.ensures))
+
+pub returns-in-None : goal.returns-in-None
+returns-in-None g c =
+    let low : key_of_dummy c.args.bucket ≤ key_of_dummy c.args.bucket = omega arith in
+    start-stands c.args.self.now.directory c.args.bucket c.nearest_ready-near.result.1 (key_of_dummy c.args.bucket) c.args.self.now.list.cells c.requires.rows.rows.split.stand (nearest-start _ _ _ _ c.nearest_ready-near.ensures) low

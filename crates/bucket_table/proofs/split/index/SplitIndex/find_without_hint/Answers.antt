@@ -1,0 +1,27 @@
+use Rattle.std.proofs.Common.{ℕ, ◌⊎◌, ◌/◌, ◌%◌, ◌^◌, length, ◌∙◌, ap, subst}
+use Rattle.split_key.specs.Keys.{key_of_item, key_of_dummy}
+use Rattle.bucket_table.specs.inside.Directory.{IsNearestReady}
+use Rattle.bucket_table.specs.inside.Intervals.{IsNearestBelow}
+use Rattle.bucket_table.proofs.hints.SearchBelow.{lower-start, dummy-start}
+use Rattle.bucket_table.proofs.split.index.SplitIndex.find_without_hint.Goals as goal
+
+pub find_from-requires-clause-start : goal.find_from-requires-clause-start
+find_from-requires-clause-start g c =
+    let index = c.args.self.now in
+    let near = c.bucket_start-bucket.result.0 in
+    let start = c.bucket_start-bucket.result.1 in
+    let first = c.in-Some.first in
+    let interval_bits = index.hints.interval_bits in
+    let N : ℕ → Type 0 = λ z. IsNearestReady index.directory (z % length index.directory) near start in
+    let F : ℕ → ℕ → Type 0 = λ k i. IsNearestBelow (k / 2 ^ interval_bits) (i / 2 ^ interval_bits) first index.hints.current.items ⊎ IsNearestBelow (k / 2 ^ interval_bits / 2) (i / 2 ^ interval_bits / 2) first index.hints.previous.items in
+    let D : ℕ → Type 0 = λ k. F k c.item_key.result in
+    let I : ℕ → Type 0 = λ i. F (key_of_dummy near) i in
+    let key = c.item_key.ensures ∙ ap key_of_item c.requires.hash in
+    lower-start (g.H.KeyHash.number index.hasher) index.directory index.list.cells c.args.key.now interval_bits near start first index.hints.current.items index.hints.previous.items c.requires.rows.rows.split c.requires.rows.rows.hinted c.requires.rows.previous c.known.ensures.sorted c.known.ensures.apart
+    (subst N c.requires.hash c.bucket_start-bucket.ensures) (subst I key (subst D c.dummy_key.ensures c.in-Some.ensures))
+
+pub find_from-requires-in-None-clause-start : goal.find_from-requires-in-None-clause-start
+find_from-requires-in-None-clause-start g c =
+    let index = c.args.self.now in
+    let N : ℕ → Type 0 = λ z. IsNearestReady index.directory (z % length index.directory) c.bucket_start-bucket.result.0 c.bucket_start-bucket.result.1 in
+    dummy-start (g.H.KeyHash.number index.hasher) index.directory index.list.cells c.args.key.now c.bucket_start-bucket.result.0 c.bucket_start-bucket.result.1 c.requires.rows.rows.split (subst N c.requires.hash c.bucket_start-bucket.ensures) c.known.ensures.sorted c.known.ensures.apart

@@ -1,0 +1,51 @@
+use Rattle.std.proofs.Common.{◌≡◌, ◌/◌, ◌^◌, ℕ, Some, None, get_or, ◌∙◌, sym, ap, subst}
+use Rattle.split_key.specs.Keys.{key_of_item}
+use Rattle.node_list.specs.Cells.{new_cell, new_item}
+use Rattle.node_list.specs.Changes.{put_cell}
+use Rattle.bucket_table.specs.declared.split.hints.Hints.{Hints}
+use Rattle.bucket_table.proofs.hints.Start.{lesser-up-to}
+use Rattle.bucket_table.proofs.hints.Rehash.{previous-put}
+use Rattle.bucket_table.proofs.hints.Replace.{right, anew}
+use Rattle.bucket_table.proofs.directory.Placed.{placed-parity}
+use Rattle.bucket_table.proofs.hints.Invariant.{rows-put}
+use Rattle.bucket_table.proofs.split.index.SplitIndex.insert.Goals as goal
+
+pub rehash_step-requires : goal.rehash_step-requires
+rehash_step-requires g c = record { hints = right g.H.KeyHash.number c.args.self.now c.requires.rows }
+
+pub search_start-before-requires : goal.search_start-before-requires
+search_start-before-requires g c = record { rows = anew g.H.KeyHash.number c.args.self.now c.requires.rows c.rehash_interval.new.self (c.rehash_interval.ensures.interval_bits ∙ c.rehash_step.ensures.interval_bits) c.rehash_interval.ensures.hints }
+
+pub refresh-start-requires-clause-parity : goal.refresh-start-requires-clause-parity
+refresh-start-requires-clause-parity g c = placed-parity (g.H.KeyHash.number c.args.self.now.hasher) c.args.self.now.directory c.args.self.now.list.cells c.requires.rows.rows.split.placed
+
+pub insert_item-at-requires-clause-stands : goal.insert_item-at-requires-clause-stands
+insert_item-at-requires-clause-stands g c = lesser-up-to c.item_key-split_key.result c.refresh-start.result c.args.self.now.list.cells c.refresh-start.ensures.below
+
+pub returns-clause-rows : goal.returns-clause-rows
+returns-clause-rows g c =
+    let index = c.args.self.now in
+    let cells = index.list.cells in
+    let hash_of = g.H.KeyHash.number index.hasher in
+    let hints = c.refresh-start.new.self in
+    let split = c.item_key-split_key.result in
+    let put = c.insert_item-at in
+    let interval_bits = ap (λ (h : Hints). h.interval_bits) c.refresh-start.ensures.rest ∙ (c.rehash_interval.ensures.interval_bits ∙ c.rehash_step.ensures.interval_bits) in
+    let learned = anew g.H.KeyHash.number index c.requires.rows hints interval_bits c.refresh-start.ensures.hints in
+    let G : Hints → Type 0 = λ h. get_or h.previous.items (split / 2 ^ h.interval_bits / 2) None ≡ None in
+    let gone = subst G (sym c.refresh-start.ensures.rest) c.rehash_interval.ensures.gone in
+    record {
+      rows = rows-put hash_of index.directory hints.interval_bits hints.current.items cells learned.rows c.set_first.new.current.items c.is_new_first-is_first.result put.result split c.args.key c.args.objects put.new.self.cells
+          put.ensures.fresh (c.item_key-split_key.ensures ∙ ap key_of_item c.requires.hash) c.requires.new put.ensures.cells
+          c.set_first.ensures c.is_new_first-is_first.ensures.new c.is_new_first-is_first.ensures.old;
+      previous = previous-put hints.interval_bits put.result split (new_item c.args.key c.args.objects) hints.previous.items cells put.new.self.cells c.refresh-start.ensures.hints.previous gone put.ensures.cells;
+    }
+
+pub returns-clause-now : goal.returns-clause-now
+returns-clause-now g c =
+    let put = c.insert_item-at in
+    record {
+      at = put.result;
+      fresh = put.ensures.fresh;
+      is = put.ensures.cells ∙ ap (λ (k : ℕ). put_cell (new_cell put.result k (Some (new_item c.args.key c.args.objects))) c.args.self.now.list.cells) c.item_key-split_key.ensures;
+    }

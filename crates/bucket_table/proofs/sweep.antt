@@ -1,0 +1,4 @@
+pub mod Sweep
+pub mod Order
+pub mod Log
+pub mod PurgeHash

@@ -1,0 +1,136 @@
+-- A sweep of the slots in the order of their places.
+use Rattle.std.proofs.Common.{◌≡◌, ℕ, zero, suc, ◌+◌, inl, inr, List, [], ◌∷◌, ◌++◌, Option, Some, None, Bool, true, false, not, cond, refl, sym, ◌∙◌, ap, subst, arith}
+use Rattle.std.proofs.lemmas.Bool.{cases_eq}
+use Rattle.node_list.specs.declared.node.Item.{Item}
+use Rattle.node_list.specs.Cells.{Cell}
+use Rattle.node_list.specs.Places.{item_at, AreApart}
+use Rattle.node_list.specs.Changes.{without, cells_with, item_with}
+use Rattle.bucket_table.specs.declared.split.sweep.SweepMode.{SweepMode}
+use Rattle.bucket_table.specs.declared.split.sweep.SweepMode.TheVariants.{RemoveTombstones, RemoveFilled, EmptyAll}
+use Rattle.bucket_table.specs.Slots.{Slot, has_objects}
+use Rattle.bucket_table.specs.inside.Nodes.{slots_of, with_slot}
+use Rattle.bucket_table.specs.inside.Order.{slots_from, above, content_of}
+use Rattle.bucket_table.specs.inside.Sweeps.{swept, slot_at, HaveSameSweep, Sweeps}
+use Rattle.bucket_table.proofs.sweep.Sweep.{swept-none}
+use Rattle.bucket_table.proofs.list.Change.{item-here, item-on, content-is, without-apart, without-own, with-apart, with-own}
+
+-- ---- one node
+
+pub alike-gone : (mode : SweepMode) (gone : ℕ) (cs new : List Cell) → AreApart cs → new ≡ without gone cs → ((ss : List Slot) → swept mode (with_slot (item_at gone cs) ss) ≡ swept mode ss) → HaveSameSweep mode cs new
+alike-gone mode gone cs new a e h at =
+    let P : List Cell → Type 0 = λ zs. swept mode (slot_at at zs) ≡ swept mode (slot_at at cs) in
+    let S : Option Item → List Slot = λ o. swept mode (with_slot o []) in
+    subst P (sym e)
+    (elim (cases_eq gone at) [
+      | inl here ↦
+          ap (λ (z : ℕ). swept mode (slot_at z (without gone cs))) (sym here)
+          ∙ (ap S (without-own gone cs a) ∙ (sym (h []) ∙ ap (λ (z : ℕ). swept mode (slot_at z cs)) here))
+      | inr other ↦ ap S (without-apart gone at cs other)
+    ])
+
+held-again : (o : Option Item) → swept EmptyAll (with_slot (item_with o []) []) ≡ swept EmptyAll (with_slot o [])
+held-again None = refl
+held-again (Some item) = refl
+
+pub alike-emptied : (own : ℕ) (cs : List Cell) → HaveSameSweep EmptyAll cs (cells_with own [] cs)
+alike-emptied own cs at =
+    let S : Option Item → List Slot = λ o. swept EmptyAll (with_slot o []) in
+    elim (cases_eq own at) [
+      | inl here ↦
+          ap (λ (z : ℕ). swept EmptyAll (slot_at z (cells_with own [] cs))) (sym here)
+          ∙ (ap S (with-own own [] cs) ∙ (held-again (item_at own cs) ∙ ap (λ (z : ℕ). swept EmptyAll (slot_at z cs)) here))
+      | inr other ↦ ap S (with-apart own at [] cs other)
+    ]
+
+-- ---- part by part
+
+kept-first : (b : Bool) (s : Slot) (ss : List Slot) → cond b (s ∷ ss) ss ≡ cond b (s ∷ []) [] ++ ss
+kept-first true s ss = refl
+kept-first false s ss = refl
+
+swept-first : (mode : SweepMode) (s : Slot) (ss : List Slot) → swept mode (s ∷ ss) ≡ swept mode (s ∷ []) ++ swept mode ss
+swept-first RemoveTombstones s ss = kept-first (has_objects s.1) s (swept RemoveTombstones ss)
+swept-first RemoveFilled s ss = kept-first (not (has_objects s.1)) s (swept RemoveFilled ss)
+swept-first EmptyAll s ss = refl
+
+swept-parts : (mode : SweepMode) (o : Option Item) (ss : List Slot) → swept mode (with_slot o ss) ≡ swept mode (with_slot o []) ++ swept mode ss
+swept-parts mode None ss = ap (λ (zs : List Slot). zs ++ swept mode ss) (sym (swept-none mode))
+swept-parts mode (Some item) ss = swept-first mode (item.term, item.chain) ss
+
+with-parts : (o : Option Item) (ss : List Slot) → with_slot o [] ++ ss ≡ with_slot o ss
+with-parts None ss = refl
+with-parts (Some item) ss = refl
+
+-- ---- slots that a sweep keeps
+
+abbrev pub AreSettled : SweepMode → List Slot → Type 0
+AreSettled mode [] = Unit {0}
+AreSettled mode (s ∷ ss) = (swept mode (s ∷ []) ≡ s ∷ []) × AreSettled mode ss
+
+purged-settled : (s : Slot) (ss : List Slot) (b : Bool) → has_objects s.1 ≡ b → AreSettled RemoveTombstones ss → AreSettled RemoveTombstones (cond b (s ∷ ss) ss)
+purged-settled s ss true e h = (ap (λ (b : Bool). cond b (s ∷ []) []) e, h)
+purged-settled s ss false e h = h
+
+dropped-settled : (s : Slot) (ss : List Slot) (b : Bool) → not (has_objects s.1) ≡ b → AreSettled RemoveFilled ss → AreSettled RemoveFilled (cond b (s ∷ ss) ss)
+dropped-settled s ss true e h = (ap (λ (b : Bool). cond b (s ∷ []) []) e, h)
+dropped-settled s ss false e h = h
+
+settled : (mode : SweepMode) (ss : List Slot) → AreSettled mode (swept mode ss)
+settled RemoveTombstones [] = tt
+settled RemoveFilled [] = tt
+settled EmptyAll [] = tt
+settled RemoveTombstones (s ∷ ss) = purged-settled s (swept RemoveTombstones ss) (has_objects s.1) refl (settled RemoveTombstones ss)
+settled RemoveFilled (s ∷ ss) = dropped-settled s (swept RemoveFilled ss) (not (has_objects s.1)) refl (settled RemoveFilled ss)
+settled EmptyAll (s ∷ ss) = (refl, settled EmptyAll ss)
+
+settled-first : (mode : SweepMode) (o : Option Item) (ss : List Slot) → AreSettled mode (with_slot o ss) → swept mode (with_slot o []) ≡ with_slot o []
+settled-first mode None ss h = swept-none mode
+settled-first mode (Some item) ss h = h.0
+
+settled-rest : (mode : SweepMode) (o : Option Item) (ss : List Slot) → AreSettled mode (with_slot o ss) → AreSettled mode ss
+settled-rest mode None ss h = h
+settled-rest mode (Some item) ss h = h.1
+
+settled-at : (mode : SweepMode) (at : ℕ) (cs : List Cell) → AreSettled mode (slots_of cs) → swept mode (slot_at at cs) ≡ slot_at at cs
+settled-at mode at [] h = swept-none mode
+settled-at mode at (c ∷ cs) h =
+    let S : Option Item → Type 0 = λ o. swept mode (with_slot o []) ≡ with_slot o [] in
+    elim (cases_eq c.at at) [
+      | inl here ↦ subst S (sym (item-here at c cs here)) (settled-first mode c.item (slots_of cs) h)
+      | inr other ↦ subst S (sym (item-on at c cs other)) (settled-at mode at cs (settled-rest mode c.item (slots_of cs) h))
+    ]
+
+-- ---- all slots
+
+alike-from : (mode : SweepMode) (f g : ℕ → Option Item) (at more : ℕ) → ((p : ℕ) → swept mode (with_slot (f p) []) ≡ swept mode (with_slot (g p) [])) → swept mode (slots_from f at more) ≡ swept mode (slots_from g at more)
+alike-from mode f g at zero h = refl
+alike-from mode f g at (suc more) h =
+    swept-parts mode (f at) (slots_from f (suc at) more)
+    ∙ (ap (λ (ss : List Slot). ss ++ swept mode (slots_from f (suc at) more)) (h at)
+    ∙ (ap (λ (ss : List Slot). swept mode (with_slot (g at) []) ++ ss) (alike-from mode f g (suc at) more h)
+    ∙ sym (swept-parts mode (g at) (slots_from g (suc at) more))))
+
+settled-from : (mode : SweepMode) (f : ℕ → Option Item) (at more : ℕ) → ((p : ℕ) → swept mode (with_slot (f p) []) ≡ with_slot (f p) []) → swept mode (slots_from f at more) ≡ slots_from f at more
+settled-from mode f at zero h = swept-none mode
+settled-from mode f at (suc more) h =
+    swept-parts mode (f at) (slots_from f (suc at) more)
+    ∙ (ap (λ (ss : List Slot). ss ++ swept mode (slots_from f (suc at) more)) (h at)
+    ∙ (ap (λ (ss : List Slot). with_slot (f at) [] ++ ss) (settled-from mode f (suc at) more h) ∙ with-parts (f at) (slots_from f (suc at) more)))
+
+-- A sweep of the list also sweeps the slots in the order of their places.
+pub content-swept : (mode : SweepMode) (old new : List Cell) → HaveSameSweep mode old new → slots_of new ≡ swept mode (slots_of old) → content_of new ≡ swept mode (content_of old)
+content-swept mode old new alike e =
+    let S : List Slot → Type 0 = λ ss. AreSettled mode ss in
+    let s : AreSettled mode (slots_of new) = subst S (sym e) (settled mode (slots_of old)) in
+    sym (content-is new (above old + above new) (omega arith))
+    ∙ (sym (settled-from mode (λ at. item_at at new) 0 (above old + above new) (λ at. settled-at mode at new s))
+    ∙ (alike-from mode (λ at. item_at at new) (λ at. item_at at old) 0 (above old + above new) alike
+    ∙ ap (swept mode) (content-is old (above old + above new) (omega arith))))
+
+-- One sweep after another.
+pub sweeps-on : (mode : SweepMode) (old mid new : List Cell) → Sweeps mode old mid → Sweeps mode mid new → Sweeps mode old new
+sweeps-on mode old mid new a b = record {
+  alike = λ at. b.alike at ∙ a.alike at;
+  len = omega (arith, a.len, b.len);
+  fewer = omega (arith, a.fewer, b.fewer);
+}

@@ -1,0 +1,72 @@
+// What an insertion and a removal do to the hint of their interval.
+ghost use Rattle.std.specs.Prelude.{◌≡◌, ◌/◌, ◌^◌, true, false, None, get_or};
+ghost use Rattle.bucket_table.specs.inside.Directory.{HaveParity};
+ghost use Rattle.bucket_table.specs.inside.Intervals.{HintsAreSound, IsNewFirst, KeepsFirst, SetsFirst, IsItemIn, IsHintAfterRemoval, ReplacesFirst};
+
+use super::Hints;
+use crate::split::hint::{Hint, hint_at};
+use node_list::{At, NodeList};
+
+impl Hints {
+    /// Returns whether an item with this split key, inserted now, needs the hint of its interval changed.
+    pub fn is_new_first(&self, list: &NodeList, split_key: u64) -> bool
+        requires hints { HintsAreSound self.now list.now.cells }
+        ensures new { result ≡ true
+            → IsNewFirst (2 ^ self.now.interval_bits) (split_key / 2 ^ self.now.interval_bits)
+            list.now.cells split_key }
+        ensures old { result ≡ false
+            → KeepsFirst (2 ^ self.now.interval_bits) (split_key / 2 ^ self.now.interval_bits) list.now.cells split_key
+            (get_or self.now.current.items (split_key / 2 ^ self.now.interval_bits) None) }
+    {
+        match hint_at(&self.current, (split_key >> self.interval_bits) as usize) {
+            None => false,
+            Some(None) => true,
+            Some(Some(first)) => {
+                list.known();
+                split_key < list.key(first)
+            }
+        }
+    }
+
+    /// Returns the hint of an interval after the removal of its first item, the one at `at`.
+    pub fn hint_after_removal(&self, list: &NodeList, interval: usize, at: At) -> Hint
+        requires parity { HaveParity list.now.cells }
+        requires hints { HintsAreSound self.now list.now.cells }
+        requires item { IsItemIn (2 ^ self.now.interval_bits) interval at list.now.cells }
+        ensures { IsHintAfterRemoval (2 ^ self.now.interval_bits) interval at list.now.cells result }
+    {
+        list.known();
+        let Some(next) = list.after(at) else {
+            return Hint::empty();
+        };
+        let split_key = list.key(next);
+        if (split_key >> self.interval_bits) as usize != interval {
+            return Hint::empty();
+        }
+        if split_key % 2 == 1 {
+            Hint::at(next)
+        } else {
+            Hint::unknown()
+        }
+    }
+}
+
+/// Sets the hint of an interval to a place, if `is_first` is set.
+pub fn set_first(current: &mut Vec<Hint>, is_first: bool, interval: usize, at: At)
+    ensures { SetsFirst is_first interval at current.old.items current.new.items }
+{
+    if is_first && interval < current.len() {
+        current[interval] = Hint::at(at);
+    }
+}
+
+/// Replaces the hint of an interval if it is `at`.
+pub fn replace_first(current: &mut Vec<Hint>, interval: usize, at: At, hint: Hint)
+    ensures { ReplacesFirst interval at hint current.old.items current.new.items }
+{
+    if let Some(Some(first)) = hint_at(current, interval) {
+        if first == at && interval < current.len() {
+            current[interval] = hint;
+        }
+    }
+}

@@ -1,0 +1,44 @@
+// The hints of a new number of buckets. They are set to unknown in steps.
+ghost use Rattle.std.specs.Prelude.{◌≡◌, ◌<◌, OnOk, OnErr};
+ghost use Rattle.bucket_table.specs.inside.Intervals.{AreUnknown, HaveSameHints};
+
+use super::{Hints, SPLIT_KEY_BITS};
+use crate::split::hint::Hint;
+use std::alloc::AllocError;
+
+/// A doubling sets at most this many hints to unknown, which are 64 KiB. So no doubling takes long.
+const HINTS_SET_AT_DOUBLING: usize = 16384;
+
+/// An insertion then sets at most this many more, which are 1 KiB.
+const HINTS_SET_AT_INSERTION: usize = 256;
+
+impl Hints {
+    /// Replaces the previous hints by unknown ones, with memory for `intervals` of them. The memory is new, because
+    /// growing a block would copy it.
+    pub fn start_generation(&mut self, intervals: usize) -> Result<(), AllocError>
+        ensures ok { OnOk result (AreUnknown self.new.previous.items) }
+        ensures rest { self.new ≡ record self.old { previous = self.new.previous } }
+        ensures err { OnErr result (self.new ≡ self.old) }
+    {
+        let mut unknown = Vec::with_capacity(*self.previous.allocator(), intervals)?;
+        let count = intervals.min(HINTS_SET_AT_DOUBLING);
+        unknown.resize(count, Hint::unknown())?;
+        self.previous = unknown;
+        Ok(())
+    }
+
+    /// Adds unknown hints to the current ones, if some intervals have none yet. Without memory it does nothing: a
+    /// missing hint is unknown.
+    pub fn extend_generation(&mut self)
+        requires narrow { self.old.interval_bits < 64 }
+        ensures same { HaveSameHints self.old.current.items self.new.current.items }
+        ensures rest { self.new ≡ record self.old { current = self.new.current } }
+    {
+        let intervals = (1usize << SPLIT_KEY_BITS) >> self.interval_bits;
+        let len = self.current.len();
+        if len < intervals {
+            let more = len.saturating_add(HINTS_SET_AT_INSERTION).min(intervals);
+            let _outcome = self.current.resize(more, Hint::unknown());
+        }
+    }
+}

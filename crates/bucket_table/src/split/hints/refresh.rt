@@ -1,0 +1,80 @@
+// The refresh of an unknown hint by an insertion.
+ghost use Rattle.std.specs.Prelude.{◌≡◌, ◌/◌, ◌^◌, None, get_or};
+ghost use Rattle.bucket_table.specs.inside.Directory.{HaveParity, HasKeyBelow};
+ghost use Rattle.bucket_table.specs.inside.Intervals.{HintsAreSound, IsBeforeInterval, IsSoundHint, SetsIfUnknown, SetsHint};
+
+use super::Hints;
+use crate::split::hint::{Hint, hint_at};
+use node_list::{At, NodeList};
+
+impl Hints {
+    /// Scans from a node before the key's interval to the last node before its first item. Returns that node and the
+    /// hint of the interval.
+    fn scan_to_interval(&self, list: &NodeList, split_key: u64, start: At) -> (At, Hint)
+        requires parity { HaveParity list.now.cells }
+        requires hints { HintsAreSound self.now list.now.cells }
+        requires front { IsBeforeInterval (2 ^ self.now.interval_bits) (split_key / 2 ^ self.now.interval_bits)
+            start list.now.cells }
+        ensures front { IsBeforeInterval (2 ^ self.now.interval_bits) (split_key / 2 ^ self.now.interval_bits)
+            result.0 list.now.cells }
+        ensures hint { IsSoundHint (2 ^ self.now.interval_bits) (split_key / 2 ^ self.now.interval_bits)
+            list.now.cells result.1 }
+    {
+        list.known();
+        let interval_bits = self.interval_bits;
+        let mut at = start;
+        while let Some(next) = list.after(at) {
+            let found = list.key(next);
+            if found >> interval_bits > split_key >> interval_bits {
+                return (at, Hint::empty());
+            }
+            if found >> interval_bits == split_key >> interval_bits {
+                if found % 2 == 1 {
+                    return (at, Hint::at(next));
+                }
+                return (at, Hint::unknown());
+            }
+            at = next;
+        }
+        (at, Hint::empty())
+    }
+
+    /// Sets the hint of the key's interval if it is unknown, by a scan from `start`. Returns a node before the key.
+    pub fn refresh(&mut self, list: &NodeList, split_key: u64, start: At) -> At
+        requires parity { HaveParity list.now.cells }
+        requires hints { HintsAreSound self.old list.now.cells }
+        requires below { HasKeyBelow split_key start list.now.cells }
+        ensures hints { HintsAreSound self.new list.now.cells }
+        ensures below { HasKeyBelow split_key result list.now.cells }
+        ensures rest { self.new ≡ record self.old { current = self.new.current } }
+    {
+        let interval = (split_key >> self.interval_bits) as usize;
+        if hint_at(&self.current, interval).is_some() {
+            return start;
+        }
+        if list.key(start) >> self.interval_bits >= split_key >> self.interval_bits {
+            return start;
+        }
+        let (at, hint) = self.scan_to_interval(list, split_key, start);
+        set_if_unknown(&mut self.current, interval, hint);
+        at
+    }
+}
+
+/// Sets the hint of an interval, if the list has one and it is unknown.
+pub fn set_if_unknown(current: &mut Vec<Hint>, interval: usize, hint: Hint)
+    ensures { SetsIfUnknown interval hint current.old.items current.new.items }
+{
+    if interval < current.len() && hint_at(current, interval).is_none() {
+        current[interval] = hint;
+    }
+}
+
+/// Sets the hint of an interval, if the list has one.
+pub fn set(current: &mut Vec<Hint>, interval: usize, hint: Hint)
+    ensures { SetsHint interval hint current.old.items current.new.items }
+{
+    if interval < current.len() {
+        current[interval] = hint;
+    }
+}

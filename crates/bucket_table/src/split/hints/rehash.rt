@@ -1,0 +1,71 @@
+// The rehash of previous hints into current ones.
+ghost use Rattle.std.specs.Prelude.{◌≡◌, ◌+◌, ◌*◌, ◌/◌, ◌^◌, None, get_or};
+ghost use Rattle.bucket_table.specs.inside.Intervals.{HintsAreSound, IsSoundHint};
+
+use super::Hints;
+use super::refresh::{set, set_if_unknown};
+use crate::split::hint::{Hint, hint_at};
+use node_list::NodeList;
+
+impl Hints {
+    /// Returns the hints of the lower and the upper half of a previous interval. If its first item is in the upper
+    /// half, the lower half is empty.
+    fn split_hint(&self, list: &NodeList, pair: usize) -> (Hint, Hint)
+        requires hints { HintsAreSound self.now list.now.cells }
+        ensures lower { IsSoundHint (2 ^ self.now.interval_bits) (2 * pair) list.now.cells result.0 }
+        ensures upper { IsSoundHint (2 ^ self.now.interval_bits) (2 * pair + 1) list.now.cells result.1 }
+    {
+        match hint_at(&self.previous, pair) {
+            None => (Hint::unknown(), Hint::unknown()),
+            Some(None) => (Hint::empty(), Hint::empty()),
+            Some(Some(first)) => {
+                list.known();
+                if (list.key(first) >> self.interval_bits) % 2 == 1 {
+                    (Hint::empty(), Hint::at(first))
+                } else {
+                    (Hint::at(first), Hint::unknown())
+                }
+            }
+        }
+    }
+
+    /// Moves a previous hint to its halves.
+    fn rehash_pair(&mut self, list: &NodeList, pair: usize)
+        requires hints { HintsAreSound self.old list.now.cells }
+        ensures hints { HintsAreSound self.new list.now.cells }
+        ensures interval_bits { self.new.interval_bits ≡ self.old.interval_bits }
+        ensures gone { get_or self.new.previous.items pair None ≡ None }
+    {
+        if pair < self.previous.len() && hint_at(&self.previous, pair).is_some() {
+            let (lower, upper) = self.split_hint(list, pair);
+            set_if_unknown(&mut self.current, 2 * pair, lower);
+            set_if_unknown(&mut self.current, 2 * pair + 1, upper);
+            set(&mut self.previous, pair, Hint::unknown());
+        }
+    }
+
+    /// Rehashes the previous hint of a split key.
+    pub fn rehash_interval(&mut self, list: &NodeList, split_key: u64)
+        requires hints { HintsAreSound self.old list.now.cells }
+        ensures hints { HintsAreSound self.new list.now.cells }
+        ensures interval_bits { self.new.interval_bits ≡ self.old.interval_bits }
+        ensures gone { get_or self.new.previous.items (split_key / 2 ^ self.new.interval_bits / 2) None ≡ None }
+    {
+        self.rehash_pair(list, (split_key >> self.interval_bits) as usize / 2);
+    }
+
+    /// Rehashes the next two previous hints and adds some current ones.
+    pub fn rehash_step(&mut self, list: &NodeList)
+        requires hints { HintsAreSound self.old list.now.cells }
+        ensures hints { HintsAreSound self.new list.now.cells }
+        ensures interval_bits { self.new.interval_bits ≡ self.old.interval_bits }
+    {
+        self.extend_generation();
+        let rehash_index = self.rehash_index;
+        if rehash_index < self.previous.len() {
+            self.rehash_pair(list, rehash_index);
+            self.rehash_pair(list, rehash_index + 1);
+            self.rehash_index = rehash_index.saturating_add(2);
+        }
+    }
+}

@@ -1,0 +1,75 @@
+// A search for a key's item.
+ghost use Rattle.std.specs.Prelude.{◌≡◌};
+ghost use Rattle.bucket_table.specs.inside.Search.{CanStartSearch};
+ghost use Rattle.bucket_table.specs.inside.SplitIndex.{RowsInvariant, FindsItem, CountsVisits};
+
+use super::SplitIndex;
+use crate::split::hint::hint_at;
+use ets_term::{KeyHash, Term};
+use node_list::{At, Steps};
+use split_key::{dummy_key, item_key};
+
+impl<H: KeyHash + Copy + Drop> SplitIndex<H> {
+    /// Returns the place of the key's item, if it has one. The search starts at a hint, or without one at a dummy.
+    /// `hash` is the key's hash, and `steps` counts the visited nodes.
+    pub fn find(&self, hash: u32, key: &Term, steps: &mut Steps) -> Option<At>
+        requires rows { RowsInvariant H.number self.now }
+        requires hash { hash ≡ H.number self.now.hasher key.now }
+        ensures found { FindsItem self.now key.now result }
+        ensures looked { CountsVisits H.number self.now key.now steps.old steps.new }
+    {
+        self.list.known();
+        let _count = steps.count();
+        let interval = (item_key(hash) >> self.hints.interval_bits) as usize;
+        match hint_at(&self.hints.current, interval) {
+            Some(Some(first)) => self.find_from(first, hash, key, steps),
+            Some(None) => None,
+            None => self.find_by_previous_hint(hash, key, steps),
+        }
+    }
+
+    /// Does the same search from the previous hint of the interval.
+    fn find_by_previous_hint(&self, hash: u32, key: &Term, steps: &mut Steps) -> Option<At>
+        requires rows { RowsInvariant H.number self.now }
+        requires hash { hash ≡ H.number self.now.hasher key.now }
+        ensures found { FindsItem self.now key.now result }
+        ensures looked { CountsVisits H.number self.now key.now steps.old steps.new }
+    {
+        self.list.known();
+        let _count = steps.count();
+        let interval = (item_key(hash) >> self.hints.interval_bits) as usize;
+        match hint_at(&self.hints.previous, interval / 2) {
+            Some(Some(first)) => self.find_from(first, hash, key, steps),
+            Some(None) => None,
+            None => self.find_without_hint(hash, key, steps),
+        }
+    }
+
+    /// Does the same search from the nearest known hint below, or from the dummy of the nearest ready bucket.
+    fn find_without_hint(&self, hash: u32, key: &Term, steps: &mut Steps) -> Option<At>
+        requires rows { RowsInvariant H.number self.now }
+        requires hash { hash ≡ H.number self.now.hasher key.now }
+        ensures found { FindsItem self.now key.now result }
+        ensures looked { CountsVisits H.number self.now key.now steps.old steps.new }
+    {
+        self.list.known();
+        let (bucket, start) = self.bucket_start(hash);
+        let floor = (dummy_key(bucket) >> self.hints.interval_bits) as usize;
+        let interval = (item_key(hash) >> self.hints.interval_bits) as usize;
+        match self.hints.nearest_below(floor, interval) {
+            Some(first) => self.find_from(first, hash, key, steps),
+            None => self.find_from(start, hash, key, steps),
+        }
+    }
+
+    /// Does the same search from a node where it can start.
+    fn find_from(&self, start: At, hash: u32, key: &Term, steps: &mut Steps) -> Option<At>
+        requires hash { hash ≡ H.number self.now.hasher key.now }
+        requires start { CanStartSearch (H.number self.now.hasher) self.now.directory key.now start
+            self.now.list.cells }
+        ensures found { FindsItem self.now key.now result }
+        ensures looked { CountsVisits H.number self.now key.now steps.old steps.new }
+    {
+        self.list.find(start, item_key(hash), key, steps)
+    }
+}

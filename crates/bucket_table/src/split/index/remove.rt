@@ -1,0 +1,50 @@
+// The removal of an item.
+ghost use Rattle.std.specs.Prelude.{◌≡◌, ◌+◌, Some, length};
+ghost use Rattle.node_list.specs.Cells.{new_item};
+ghost use Rattle.node_list.specs.Changes.{without};
+ghost use Rattle.node_list.specs.Places.{HasItem, behind, item_at};
+ghost use Rattle.bucket_table.specs.inside.SplitIndex.{RowsInvariant, KeepsDirectory};
+
+use super::SplitIndex;
+use super::buckets::item_hash;
+use crate::split::hints::replace_first;
+use ets_term::{KeyHash, Term};
+use node_list::{At, Chain};
+
+impl<H: KeyHash + Copy + Drop> SplitIndex<H> {
+    /// Removes the item at a place and returns its key and objects.
+    pub fn remove(&mut self, at: At) -> (Term, Chain)
+        requires rows { RowsInvariant H.number self.old }
+        requires item { HasItem at self.old.list.cells }
+        ensures rows { RowsInvariant H.number self.new }
+        ensures keeps { KeepsDirectory self.old self.new }
+        ensures item { item_at at self.old.list.cells ≡ Some (new_item result.0 result.1) }
+        ensures cells { self.new.list.cells ≡ without at self.old.list.cells }
+    {
+        self.list.known();
+        let split_key = self.list.key(at);
+        self.hints.rehash_interval(&self.list, split_key);
+        let start = self.search_start(item_hash(split_key));
+        self.take_out(start, at)
+    }
+
+    /// Removes an item and returns its key and objects. `start` is a node before it.
+    pub fn take_out(&mut self, start: At, at: At) -> (Term, Chain)
+        requires rows { RowsInvariant H.number self.old }
+        requires stands { HasItem at (behind start self.old.list.cells) }
+        ensures rows { RowsInvariant H.number self.new }
+        ensures keeps { KeepsDirectory self.old self.new }
+        ensures item { item_at at self.old.list.cells ≡ Some (new_item result.0 result.1) }
+        ensures cells { self.new.list.cells ≡ without at self.old.list.cells }
+        ensures len { length self.new.list.cells + 1 ≡ length self.old.list.cells }
+    {
+        self.list.known();
+        let split_key = self.list.key(at);
+        self.hints.rehash_interval(&self.list, split_key);
+        let interval = (split_key >> self.hints.interval_bits) as usize;
+        let hint = self.hints.hint_after_removal(&self.list, interval, at);
+        let slot = self.list.unlink(start, at);
+        replace_first(&mut self.hints.current, interval, at, hint);
+        slot
+    }
+}

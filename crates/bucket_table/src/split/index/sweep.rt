@@ -1,0 +1,115 @@
+// Sweeps of many nodes.
+ghost use Rattle.std.specs.Prelude.{◌≡◌, ℕ, ◌+◌, ◌≤◌, List, ◌∷◌, Some, length};
+ghost use Rattle.node_list.specs.Places.{Stands, place_after};
+ghost use Rattle.bucket_table.specs.declared.split.sweep.SweepMode.TheVariants.{RemoveTombstones};
+ghost use Rattle.bucket_table.specs.inside.Nodes.{slots_of};
+ghost use Rattle.bucket_table.specs.inside.SplitIndex.{RowsInvariant, KeepsDirectory};
+ghost use Rattle.bucket_table.specs.inside.Sweeps.{Sweeps, swept, SweepsNext, IsActionFor};
+ghost use Rattle.bucket_table.specs.inside.TombstoneLog.{TombstonesAreAmong};
+ghost use Rattle.bucket_table.specs.Slots.{purged};
+
+use super::SplitIndex;
+use crate::split::sweep::{NodeAction, SweepMode};
+use ets_term::KeyHash;
+use node_list::At;
+use split_key::item_key;
+
+impl<H: KeyHash + Copy + Drop> SplitIndex<H> {
+    /// Returns what a sweep does to the node at a place. A dummy is kept.
+    fn action_for(&self, mode: SweepMode, at: At) -> NodeAction
+        requires { Stands at self.now.list.cells }
+        ensures { IsActionFor mode at self.now.list.cells result }
+    {
+        match self.list.item(at) {
+            None => NodeAction::Keep,
+            Some((_, objects)) => match mode {
+                SweepMode::EmptyAll => NodeAction::Empty,
+                SweepMode::RemoveTombstones => if objects.len() == 0 {
+                    NodeAction::Remove
+                } else {
+                    NodeAction::Keep
+                },
+                SweepMode::RemoveFilled => if objects.len() == 0 {
+                    NodeAction::Keep
+                } else {
+                    NodeAction::Remove
+                },
+            },
+        }
+    }
+
+    /// Sweeps the node after a kept one. Returns the last node that is kept now.
+    fn sweep_next(&mut self, mode: SweepMode, at: At, next: At) -> At
+        requires rows { RowsInvariant H.number self.old }
+        requires stands { Stands at self.old.list.cells }
+        requires next { place_after at self.old.list.cells ≡ Some next }
+        ensures rows { RowsInvariant H.number self.new }
+        ensures keeps { KeepsDirectory self.old self.new }
+        ensures swept { SweepsNext mode at self.old.list.cells result self.new.list.cells }
+        ensures each { Sweeps mode self.old.list.cells self.new.list.cells }
+    {
+        self.list.known();
+        match self.action_for(mode, next) {
+            NodeAction::Keep => next,
+            NodeAction::Remove => {
+                let _slot = self.take_out(at, next);
+                at
+            }
+            NodeAction::Empty => {
+                self.list.chain_mut(next).truncate(0);
+                next
+            }
+        }
+    }
+
+    /// Removes the tombstones of a hash.
+    fn purge_hash(&mut self, hash: u32)
+        requires rows { RowsInvariant H.number self.old }
+        ensures rows { RowsInvariant H.number self.new }
+        ensures keeps { KeepsDirectory self.old self.new }
+        ensures purged { purged (slots_of self.new.list.cells) ≡ purged (slots_of self.old.list.cells) }
+        ensures each { Sweeps RemoveTombstones self.old.list.cells self.new.list.cells }
+        ensures gone { (others : List ℕ)
+            → TombstonesAreAmong (H.number self.old.hasher) (hash ∷ others) (slots_of self.old.list.cells)
+            → TombstonesAreAmong (H.number self.old.hasher) others (slots_of self.new.list.cells) }
+    {
+        self.list.known();
+        let split_key = item_key(hash);
+        let mut at = self.search_start(hash);
+        while let Some(next) = self.list.after(at) {
+            self.list.known();
+            if split_key < self.list.key(next) {
+                return;
+            }
+            at = self.sweep_next(SweepMode::RemoveTombstones, at, next);
+        }
+    }
+
+    /// Removes the tombstones of these hashes, which must include those of all tombstones.
+    pub fn purge_hashes(&mut self, hashes: &mut Vec<u32>)
+        requires rows { RowsInvariant H.number self.old }
+        requires logged { TombstonesAreAmong (H.number self.old.hasher) hashes.old.items (slots_of self.old.list.cells) }
+        ensures rows { RowsInvariant H.number self.new }
+        ensures keeps { KeepsDirectory self.old self.new }
+        ensures slots { slots_of self.new.list.cells ≡ purged (slots_of self.old.list.cells) }
+        ensures each { Sweeps RemoveTombstones self.old.list.cells self.new.list.cells }
+    {
+        while let Some(hash) = hashes.pop() {
+            self.purge_hash(hash);
+        }
+    }
+
+    /// Sweeps all slots once.
+    pub fn sweep_all(&mut self, mode: SweepMode)
+        requires rows { RowsInvariant H.number self.old }
+        ensures rows { RowsInvariant H.number self.new }
+        ensures keeps { KeepsDirectory self.old self.new }
+        ensures slots { slots_of self.new.list.cells ≡ swept mode (slots_of self.old.list.cells) }
+        ensures each { Sweeps mode self.old.list.cells self.new.list.cells }
+    {
+        let mut at = self.list.head();
+        while let Some(next) = self.list.after(at) {
+            at = self.sweep_next(mode, at, next);
+        }
+    }
+}

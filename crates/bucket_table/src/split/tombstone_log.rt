@@ -1,0 +1,64 @@
+ghost use Rattle.std.specs.Prelude.{◌≡◌, [], false};
+ghost use Rattle.bucket_table.specs.inside.TombstoneLog.{LogsHash};
+ghost use Rattle.bucket_table.specs.declared.split.sweep.SweepMode.TheVariants.{RemoveTombstones};
+
+use super::sweep::SweepMode;
+use std::alloc::Global;
+
+/// The log has room for one hash per this many nodes, if memory allows.
+const NODES_PER_HASH: usize = 16;
+
+/// The hashes of the slots that became tombstones since the last purge. If the log overflowed, some are missing.
+#[derive(Drop)]
+pub struct TombstoneLog {
+    pub hashes: Vec<u32>,
+    pub overflowed: bool,
+}
+
+impl TombstoneLog {
+    /// Creates an empty log.
+    pub fn new(alloc: Global) -> TombstoneLog
+        ensures hashes { result.hashes.items ≡ [] }
+        ensures lost { result.overflowed ≡ false }
+    {
+        TombstoneLog {
+            hashes: Vec::new(alloc),
+            overflowed: false,
+        }
+    }
+
+    /// Reserves room for the hashes of a list of `nodes` nodes, if memory allows.
+    pub fn reserve_for(&mut self, nodes: usize)
+        ensures hashes { self.new.hashes.items ≡ self.old.hashes.items }
+        ensures lost { self.new.overflowed ≡ self.old.overflowed }
+    {
+        let room = self.hashes.capacity();
+        if room < nodes / NODES_PER_HASH {
+            let more = nodes.saturating_sub(self.hashes.len());
+            let _outcome = self.hashes.reserve(more / 8);
+        }
+    }
+
+    /// Logs the hash of a slot if the slot is a tombstone. It allocates no memory: without room the log overflows.
+    pub fn log_hash(&mut self, is_held: bool, hash: u32)
+        ensures { LogsHash is_held hash self.old.overflowed self.old.hashes.items
+            self.new.overflowed self.new.hashes.items }
+    {
+        if !is_held {
+            return;
+        }
+        if self.hashes.len() < self.hashes.capacity() {
+            self.hashes.push_reserved(hash);
+        } else {
+            self.overflowed = true;
+        }
+    }
+
+    /// Resets the log after a sweep of all slots. Only a sweep that removes the tombstones leaves a complete log.
+    pub fn reset_after(&mut self, mode: SweepMode)
+        ensures { self.new.overflowed ≡ false → mode ≡ RemoveTombstones }
+    {
+        self.hashes.clear();
+        self.overflowed = mode != SweepMode::RemoveTombstones;
+    }
+}
