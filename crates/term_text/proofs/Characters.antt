@@ -4,32 +4,32 @@ use Rattle.ets_term.specs.Character.{is_character}
 use Rattle.term_text.specs.declared.fault.TextFault.{TextFault}
 use Rattle.term_text.specs.declared.fault.TextFault.TheVariants.{Unexpected, Memory}
 use Rattle.term_text.specs.declared.quote_form.QuoteForm.{QuoteForm}
-use Rattle.term_text.specs.Reader.{Open, quoted, escaped, Reading, goes, fails, quote, admits, read_from}
+use Rattle.term_text.specs.Reader.{OpenBracket, quoted, escaped, Reading, reads_on, fails, quote, admits, read_from}
 use Rattle.term_text.specs.Given.{Fails}
 use Rattle.term_text.specs.inside.Parts.{Refuses, ReadsCharacter}
-use Rattle.term_text.proofs.Places.{by_test, fails_at, if_true, if_false}
+use Rattle.term_text.proofs.Places.{by-test, fails-at, if-true, if-false}
 
-either_false : (a b : Bool) → a ≡ false → b ≡ false → (a || b) ≡ false
-either_false true b h k = h
-either_false false b h k = k
+either-false : (a b : Bool) → a ≡ false → b ≡ false → (a || b) ≡ false
+either-false true b h k = h
+either-false false b h k = k
 
-pub fails_as : (f : TextFault) (s : Reading) → s ≡ fails f → Fails f s
-fails_as Memory s e = tt
-fails_as f s e = e
+pub fails-as : (f : TextFault) (s : Reading) → s ≡ fails f → Fails f s
+fails-as Memory s e = tt
+fails-as f s e = e
 
-pub no_escape : (text : List ℕ) (at : ℕ) (q : QuoteForm) (cs : List ℕ) (os : List Open) → at < length text → (get_or text at 0 == quote q) ≡ false → (get_or text at 0 == 92) ≡ false
-    → read_from at (goes (escaped q cs) os) (drop at text) ≡ fails (Unexpected at)
-no_escape text at q cs os h a b = fails_at text at (goes (escaped q cs) os) (Unexpected at) h (if_false _ _ _ (either_false _ _ a b))
+pub no-escape : (text : List ℕ) (at : ℕ) (q : QuoteForm) (cs : List ℕ) (os : List OpenBracket) → at < length text → (get_or text at 0 == quote q) ≡ false → (get_or text at 0 == 92) ≡ false
+    → read_from at (reads_on (escaped q cs) os) (drop at text) ≡ fails (Unexpected at)
+no-escape text at q cs os h a b = fails-at text at (reads_on (escaped q cs) os) (Unexpected at) h (if-false _ _ _ (either-false _ _ a b))
 
-pub no_character : (text : List ℕ) (at : ℕ) (q : QuoteForm) (cs : List ℕ) (os : List Open) → at < length text → (get_or text at 0 == quote q) ≡ false → (get_or text at 0 == 92) ≡ false → is_character (get_or text at 0) ≡ false
-    → read_from at (goes (quoted q cs) os) (drop at text) ≡ fails (Unexpected at)
-no_character text at q cs os h a b d = fails_at text at (goes (quoted q cs) os) (Unexpected at) h (if_false _ _ _ a ∙ if_false _ _ _ b ∙ if_false _ _ _ d)
+pub no-character : (text : List ℕ) (at : ℕ) (q : QuoteForm) (cs : List ℕ) (os : List OpenBracket) → at < length text → (get_or text at 0 == quote q) ≡ false → (get_or text at 0 == 92) ≡ false → is_character (get_or text at 0) ≡ false
+    → read_from at (reads_on (quoted q cs) os) (drop at text) ≡ fails (Unexpected at)
+no-character text at q cs os h a b d = fails-at text at (reads_on (quoted q cs) os) (Unexpected at) h (if-false _ _ _ a ∙ if-false _ _ _ b ∙ if-false _ _ _ d)
 
-pub refused : (text : List ℕ) (at : ℕ) (q : QuoteForm) (deep : Bool) (n : ℕ) (f : TextFault) → at < length text → (get_or text at 0 == quote q) ≡ false → ((get_or text at 0 == 92) ≡ false → is_character (get_or text at 0) ≡ true)
-    → Refuses at q n deep (Some f) → ReadsCharacter text at q deep n (Err f)
-refused text at q deep n f h a d r = λ cs os len level.
-    let s : Reading = goes (quoted q cs) os in
+pub refused : (text : List ℕ) (at : ℕ) (q : QuoteForm) (out_of_levels : Bool) (n : ℕ) (f : TextFault) → at < length text → (get_or text at 0 == quote q) ≡ false → ((get_or text at 0 == 92) ≡ false → is_character (get_or text at 0) ≡ true)
+    → Refuses at q n out_of_levels (Some f) → ReadsCharacter text at q out_of_levels n (Err f)
+refused text at q out_of_levels n f h a d r = λ cs os len level.
+    let s : Reading = reads_on (quoted q cs) os in
     let failed : (z : Reading) → admits at q (length cs) os z ≡ fails f = λ z. ap (λ (k : ℕ). admits at q k os z) len ∙ r os z level in
-    fails_as f _ (fails_at text at s f h (by_test (get_or text at 0 == 92)
-    (λ b. if_false _ _ _ a ∙ if_true _ _ _ b ∙ failed _)
-    (λ b. if_false _ _ _ a ∙ if_false _ _ _ b ∙ if_true _ _ _ (d b) ∙ failed _)))
+    fails-as f _ (fails-at text at s f h (by-test (get_or text at 0 == 92)
+    (λ b. if-false _ _ _ a ∙ if-true _ _ _ b ∙ failed _)
+    (λ b. if-false _ _ _ a ∙ if-false _ _ _ b ∙ if-true _ _ _ (d b) ∙ failed _)))

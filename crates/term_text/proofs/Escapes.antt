@@ -11,8 +11,8 @@ use Rattle.std.specs.Str.{IsAscii, IsCharBoundary}
 use Rattle.ets_term.specs.Character.{is_character}
 use Rattle.term_text.specs.Printed.{escaped}
 use Rattle.term_text.specs.Sent.{AppendsFront, AppendsOrFront}
-use Rattle.term_text.proofs.Pieces.{appends_then, front_first, front_then, front_as, sends_as, sends_then, appends_nothing}
-use Rattle.term_text.proofs.Places.{if_true, if_false}
+use Rattle.term_text.proofs.Pieces.{appends-then, front-first, front-then, front-as, sends-as, sends-then, appends-nothing}
+use Rattle.term_text.proofs.Places.{if-true, if-false}
 
 small : (b : ℕ) → is_character b ≡ true → b < 128
 small b h = grind (arith, nat_tests)
@@ -25,13 +25,13 @@ pub boundary : (bs : List ℕ) (i : ℕ) → list_all is_character bs ≡ true �
 boundary bs i h k = IsCharBoundary-from_ascii bs i (ascii bs h) k
 
 -- the escaped text of the first i characters and of the others
-pub escaped_parts : (i : ℕ) (bs : List ℕ) → flat_map escaped (take i bs) ++ flat_map escaped (drop i bs) ≡ flat_map escaped bs
-escaped_parts zero bs = refl
-escaped_parts (suc i) [] = refl
-escaped_parts (suc i) (b ∷ bs) = append_assoc (escaped b) (flat_map escaped (take i bs)) (flat_map escaped (drop i bs)) ∙ ap (λ (w : List ℕ). escaped b ++ w) (escaped_parts i bs)
+pub escaped-parts : (i : ℕ) (bs : List ℕ) → flat_map escaped (take i bs) ++ flat_map escaped (drop i bs) ≡ flat_map escaped bs
+escaped-parts zero bs = refl
+escaped-parts (suc i) [] = refl
+escaped-parts (suc i) (b ∷ bs) = append_assoc (escaped b) (flat_map escaped (take i bs)) (flat_map escaped (drop i bs)) ∙ ap (λ (w : List ℕ). escaped b ++ w) (escaped-parts i bs)
 
-pub escaped_more : (i : ℕ) (bs : List ℕ) → i < length bs → flat_map escaped (take (i + 1) bs) ≡ flat_map escaped (take i bs) ++ escaped (get_or bs i 0)
-escaped_more i bs h = rw add-one (more i bs h)
+pub escaped-more : (i : ℕ) (bs : List ℕ) → i < length bs → flat_map escaped (take (i + 1) bs) ≡ flat_map escaped (take i bs) ++ escaped (get_or bs i 0)
+escaped-more i bs h = rw add-one (more i bs h)
   where
     more : (i : ℕ) (bs : List ℕ) → i < length bs → flat_map escaped (take (suc i) bs) ≡ flat_map escaped (take i bs) ++ escaped (get_or bs i 0)
     more i [] h = absurd (omega (arith, h))
@@ -39,8 +39,8 @@ escaped_more i bs h = rw add-one (more i bs h)
     more (suc i) (b ∷ bs) h = ap (λ (w : List ℕ). escaped b ++ w) (more i bs (omega (arith, h))) ∙ sym (append_assoc (escaped b) (flat_map escaped (take i bs)) (escaped (get_or bs i 0)))
 
 -- the characters from start on, with one more
-pub slice_more : (start i : ℕ) (bs : List ℕ) → start ≤ i → i < length bs → take (i + 1 - start) (drop start bs) ≡ take (i - start) (drop start bs) ++ get_or bs i 0 ∷ []
-slice_more start i bs h k =
+pub slice-more : (start i : ℕ) (bs : List ℕ) → start ≤ i → i < length bs → take (i + 1 - start) (drop start bs) ≡ take (i - start) (drop start bs) ++ get_or bs i 0 ∷ []
+slice-more start i bs h k =
     let n : ℕ = i - start in
     let len : n < length (drop start bs) = omega (arith, h, k, length-drop start bs) in
     let e : i + 1 - start ≡ n + 1 = omega (arith, h) in
@@ -48,67 +48,67 @@ slice_more start i bs h k =
     ap (λ (m : ℕ). take m (drop start bs)) e ∙ take_more (drop start bs) n 0 len
     ∙ ap (λ (c : ℕ). take n (drop start bs) ++ c ∷ []) (get_or-drop start bs n 0 ∙ ap (λ (m : ℕ). get_or bs m 0) f)
 
-slice_one : (i : ℕ) (bs : List ℕ) → i < length bs → take (i + 1 - i) (drop i bs) ≡ get_or bs i 0 ∷ []
-slice_one i bs h =
+slice-one : (i : ℕ) (bs : List ℕ) → i < length bs → take (i + 1 - i) (drop i bs) ≡ get_or bs i 0 ∷ []
+slice-one i bs h =
     let e : i + 1 - i ≡ 1 = omega arith in
     ap (λ (m : ℕ). take m (drop i bs)) e ∙ ap (take 1) (drop_more bs i 0 h)
 
-slice_all : (start i : ℕ) (bs : List ℕ) → length bs ≤ i → take (i - start) (drop start bs) ≡ drop start bs
-slice_all start i bs h = take_all (i - start) (drop start bs) (omega (arith, h, length-drop start bs))
+slice-all : (start i : ℕ) (bs : List ℕ) → length bs ≤ i → take (i - start) (drop start bs) ≡ drop start bs
+slice-all start i bs h = take_all (i - start) (drop start bs) (omega (arith, h, length-drop start bs))
 
 -- what has gone out of the escaped text: all but the characters from start on, of which the first has its `\` before it
 abbrev pub Escaped : Option (List ℕ) → Option (List ℕ) → ℕ → ℕ → List ℕ → Type 0
 Escaped a b start i bs = (sent : List ℕ) × (sent ++ take (i - start) (drop start bs) ≡ flat_map escaped (take i bs)) × Appends a b sent × (start ≤ i)
 
-pub escaped_first : (a : Option (List ℕ)) (bs : List ℕ) → Escaped a a 0 0 bs
-escaped_first a bs = ([], refl, appends_nothing a, omega arith)
+pub escaped-first : (a : Option (List ℕ)) (bs : List ℕ) → Escaped a a 0 0 bs
+escaped-first a bs = ([], refl, appends-nothing a, omega arith)
 
-pub escaped_stays : (a b : Option (List ℕ)) (start i : ℕ) (bs : List ℕ) → Escaped a b start i bs → i < length bs → ((get_or bs i 0 == 39) || (get_or bs i 0 == 92)) ≡ false → Escaped a b start (i + 1) bs
-escaped_stays a b start i bs (sent, e, h, k) m plain =
+pub escaped-stays : (a b : Option (List ℕ)) (start i : ℕ) (bs : List ℕ) → Escaped a b start i bs → i < length bs → ((get_or bs i 0 == 39) || (get_or bs i 0 == 92)) ≡ false → Escaped a b start (i + 1) bs
+escaped-stays a b start i bs (sent, e, h, k) m plain =
     let c = get_or bs i 0 in (
       sent,
-      ap (λ (w : List ℕ). sent ++ w) (slice_more start i bs k m) ∙ sym (append_assoc sent (take (i - start) (drop start bs)) (c ∷ [])) ∙ ap (λ (w : List ℕ). w ++ c ∷ []) e
-          ∙ ap (λ (w : List ℕ). flat_map escaped (take i bs) ++ w) (sym (if_false _ _ _ plain)) ∙ sym (escaped_more i bs m),
+      ap (λ (w : List ℕ). sent ++ w) (slice-more start i bs k m) ∙ sym (append_assoc sent (take (i - start) (drop start bs)) (c ∷ [])) ∙ ap (λ (w : List ℕ). w ++ c ∷ []) e
+          ∙ ap (λ (w : List ℕ). flat_map escaped (take i bs) ++ w) (sym (if-false _ _ _ plain)) ∙ sym (escaped-more i bs m),
       h,
       omega (arith, k),
     )
 
-pub escaped_turns : (a b z : Option (List ℕ)) (start i : ℕ) (bs : List ℕ) → Escaped a b start i bs → i < length bs → ((get_or bs i 0 == 39) || (get_or bs i 0 == 92)) ≡ true
+pub escaped-turns : (a b z : Option (List ℕ)) (start i : ℕ) (bs : List ℕ) → Escaped a b start i bs → i < length bs → ((get_or bs i 0 == 39) || (get_or bs i 0 == 92)) ≡ true
     → Appends b z (take (i - start) (drop start bs) ++ 92 ∷ []) → Escaped a z i (i + 1) bs
-escaped_turns a b z start i bs (sent, e, h, k) l special y =
+escaped-turns a b z start i bs (sent, e, h, k) l special y =
     let c = get_or bs i 0 in
     let slice : List ℕ = take (i - start) (drop start bs) in (
       sent ++ (slice ++ 92 ∷ []),
-      ap (λ (w : List ℕ). (sent ++ (slice ++ 92 ∷ [])) ++ w) (slice_one i bs l)
+      ap (λ (w : List ℕ). (sent ++ (slice ++ 92 ∷ [])) ++ w) (slice-one i bs l)
           ∙ append_assoc sent (slice ++ 92 ∷ []) (c ∷ []) ∙ ap (λ (w : List ℕ). sent ++ w) (append_assoc slice (92 ∷ []) (c ∷ [])) ∙ sym (append_assoc sent slice (92 ∷ c ∷ []))
-          ∙ ap (λ (w : List ℕ). w ++ 92 ∷ c ∷ []) e ∙ ap (λ (w : List ℕ). flat_map escaped (take i bs) ++ w) (sym (if_true _ _ _ special)) ∙ sym (escaped_more i bs l),
-      appends_then a b z sent (slice ++ 92 ∷ []) h y,
+          ∙ ap (λ (w : List ℕ). w ++ 92 ∷ c ∷ []) e ∙ ap (λ (w : List ℕ). flat_map escaped (take i bs) ++ w) (sym (if-true _ _ _ special)) ∙ sym (escaped-more i bs l),
+      appends-then a b z sent (slice ++ 92 ∷ []) h y,
       omega arith,
     )
 
 -- the characters from the i-th on, of which the first is escaped
-special_rest : (i : ℕ) (bs : List ℕ) → i < length bs → ((get_or bs i 0 == 39) || (get_or bs i 0 == 92)) ≡ true → flat_map escaped (drop i bs) ≡ (92 ∷ []) ++ (get_or bs i 0 ∷ flat_map escaped (drop (i + 1) bs))
-special_rest i bs h special = at_drop_more (flat_map escaped) bs i 0 h ∙ ap (λ (w : List ℕ). w ++ flat_map escaped (drop (i + 1) bs)) (if_true _ _ _ special)
+special-rest : (i : ℕ) (bs : List ℕ) → i < length bs → ((get_or bs i 0 == 39) || (get_or bs i 0 == 92)) ≡ true → flat_map escaped (drop i bs) ≡ (92 ∷ []) ++ (get_or bs i 0 ∷ flat_map escaped (drop (i + 1) bs))
+special-rest i bs h special = at_drop_more (flat_map escaped) bs i 0 h ∙ ap (λ (w : List ℕ). w ++ flat_map escaped (drop (i + 1) bs)) (if-true _ _ _ special)
 
-pub piece_fails : (a b z : Option (List ℕ)) (start i : ℕ) (bs : List ℕ) → Escaped a b start i bs → i < length bs → ((get_or bs i 0 == 39) || (get_or bs i 0 == 92)) ≡ true
+pub piece-fails : (a b z : Option (List ℕ)) (start i : ℕ) (bs : List ℕ) → Escaped a b start i bs → i < length bs → ((get_or bs i 0 == 39) || (get_or bs i 0 == 92)) ≡ true
     → AppendsFront b z (take (i - start) (drop start bs) ++ 92 ∷ []) → AppendsFront a z (flat_map escaped bs)
-piece_fails a b z start i bs (sent, e, h, k) l special f =
+piece-fails a b z start i bs (sent, e, h, k) l special f =
     let slice : List ℕ = take (i - start) (drop start bs) in
     let rest : List ℕ = get_or bs i 0 ∷ flat_map escaped (drop (i + 1) bs) in
-    front_as a z (sent ++ ((slice ++ 92 ∷ []) ++ rest)) (flat_map escaped bs)
+    front-as a z (sent ++ ((slice ++ 92 ∷ []) ++ rest)) (flat_map escaped bs)
     (ap (λ (w : List ℕ). sent ++ w) (append_assoc slice (92 ∷ []) rest) ∙ sym (append_assoc sent slice ((92 ∷ []) ++ rest))
-    ∙ ap (λ (w : List ℕ). w ++ ((92 ∷ []) ++ rest)) e ∙ ap (λ (w : List ℕ). flat_map escaped (take i bs) ++ w) (sym (special_rest i bs l special)) ∙ escaped_parts i bs)
-    (front_then a b z sent ((slice ++ 92 ∷ []) ++ rest) h (front_first b z (slice ++ 92 ∷ []) rest f))
+    ∙ ap (λ (w : List ℕ). w ++ ((92 ∷ []) ++ rest)) e ∙ ap (λ (w : List ℕ). flat_map escaped (take i bs) ++ w) (sym (special-rest i bs l special)) ∙ escaped-parts i bs)
+    (front-then a b z sent ((slice ++ 92 ∷ []) ++ rest) h (front-first b z (slice ++ 92 ∷ []) rest f))
 
-pub escaped_ends : {A E : Type 0} (a b z : Option (List ℕ)) (start i : ℕ) (bs : List ℕ) (r : Result A E) → Escaped a b start i bs → length bs ≤ i → AppendsOrFront b z (take (length bs - start) (drop start bs)) r → AppendsOrFront a z (flat_map escaped bs) r
-escaped_ends a b z start i bs r (sent, e, h, k) l s =
+pub escaped-ends : {A E : Type 0} (a b z : Option (List ℕ)) (start i : ℕ) (bs : List ℕ) (r : Result A E) → Escaped a b start i bs → length bs ≤ i → AppendsOrFront b z (take (length bs - start) (drop start bs)) r → AppendsOrFront a z (flat_map escaped bs) r
+escaped-ends a b z start i bs r (sent, e, h, k) l s =
     let whole : take (length bs - start) (drop start bs) ≡ drop start bs = take_all (length bs - start) (drop start bs) (omega (arith, length-drop start bs)) in
-    sends_as a z (sent ++ drop start bs) (flat_map escaped bs) r
-    (ap (λ (w : List ℕ). sent ++ w) (sym (slice_all start i bs l)) ∙ e ∙ ap (flat_map escaped) (take_all i bs l))
-    (sends_then a b z sent (drop start bs) r h (sends_as b z _ (drop start bs) r whole s))
+    sends-as a z (sent ++ drop start bs) (flat_map escaped bs) r
+    (ap (λ (w : List ℕ). sent ++ w) (sym (slice-all start i bs l)) ∙ e ∙ ap (flat_map escaped) (take_all i bs l))
+    (sends-then a b z sent (drop start bs) r h (sends-as b z _ (drop start bs) r whole s))
 
-pub escaped_same : (a b c : Option (List ℕ)) (start from i : ℕ) (bs : List ℕ) → c ≡ b → from ≡ start → Escaped a b start i bs → Escaped a c from i bs
-escaped_same a b c start from i bs e f h =
+pub escaped-same : (a b c : Option (List ℕ)) (start from i : ℕ) (bs : List ℕ) → c ≡ b → from ≡ start → Escaped a b start i bs → Escaped a c from i bs
+escaped-same a b c start from i bs e f h =
     let P : Option (List ℕ) → Type 0 = λ x. Escaped a x from i bs in
     let Q : ℕ → Type 0 = λ n. Escaped a b n i bs in
     subst P (sym e) (subst Q (sym f) h)

@@ -7,25 +7,25 @@ use Rattle.term_text.specs.declared.fault.TextFault.{TextFault}
 use Rattle.term_text.specs.declared.quote_form.QuoteForm.{QuoteForm}
 use Rattle.term_text.specs.declared.quote_form.QuoteForm.TheVariants as form
 use Rattle.term_text.specs.Text.{is_blank, is_digit, is_small, is_name, begins}
-use Rattle.term_text.specs.Reader.{Open, Number, integer, Goal, whole, digits, Mode, wants, digit, number, name, quoted, escaped, signs, angle, opened_binary, wants_byte, behind_byte, behind_string, after, Reading, goes, found, fails, quote}
-use Rattle.term_text.specs.Faults.{Here, Bytes, Before, number_start, Says}
+use Rattle.term_text.specs.Reader.{OpenBracket, Number, integer, Expect, whole, digits, Mode, wants, digit, number, name, quoted, escaped, signs, angle, opened_binary, wants_byte, behind_byte, behind_string, after, Reading, reads_on, found, fails, quote}
+use Rattle.term_text.specs.Faults.{AwaitsTerm, AwaitsByte, LeadsNumber, number_start, FaultMeans}
 use Rattle.term_text.specs.Grammar.{AreBlanks, SpellsNumber, SpellsQuoted, SpellsBytes, opening_sign, Spells, SpellsRow, Front}
 
 -- the text up to where a term is wanted, and s of that term
-pub record At (os : List Open) (pre s : List ℕ) : Type 0 where
+pub record At (os : List OpenBracket) (pre s : List ℕ) : Type 0 where
   pub k : ℕ
   pub p : List ℕ
   pub cut : pre ≡ p ++ s
-  pub here : Here (suc k) os p
+  pub here : AwaitsTerm (suc k) os p
 
 -- the text up to behind a term in a bracket
-pub record Behind (o : Open) (os : List Open) (pre : List ℕ) : Type 0 where
+pub record Behind (o : OpenBracket) (os : List OpenBracket) (pre : List ℕ) : Type 0 where
   pub k : ℕ
   pub outer : List ℕ
   pub row : List ℕ
   pub blanks : List ℕ
   pub cut : pre ≡ outer ++ (opening_sign o.square ∷ (row ++ blanks))
-  pub here : Here (suc k) os outer
+  pub here : AwaitsTerm (suc k) os outer
   pub spells : SpellsRow k row o.terms
   pub are_blanks : AreBlanks blanks
 
@@ -35,7 +35,7 @@ Lead form.Binary s = (blanks : List ℕ) × (s ≡ (60 ∷ 60 ∷ []) ++ blanks)
 Lead q s = s ≡ []
 
 -- n characters are within what the form admits
-abbrev pub Admitted : QuoteForm → ℕ → List Open → Type 0
+abbrev pub Admitted : QuoteForm → ℕ → List OpenBracket → Type 0
 Admitted (form.Atom start) n os = n ≤ 255
 Admitted form.String n os = 0 < n → length os ≤ 126
 Admitted form.Binary n os = Unit {0}
@@ -51,66 +51,66 @@ QuoteStarts (form.Atom start) lead = start ≡ length lead
 QuoteStarts q lead = Unit {0}
 
 -- what signs lead to
-abbrev pub Leads : List ℕ → Goal → Type 0
+abbrev pub Leads : List ℕ → Expect → Type 0
 Leads s (whole t) = (k : ℕ) → Spells (suc k) s t
-Leads s (digits kind) = Before kind s × IsFramed kind
+Leads s (digits kind) = LeadsNumber kind s × IsFramed kind
 
 -- a text that no further byte can belong to
 pub record Closed (s : List ℕ) : Type 0 where
   pub some : 0 < length s
-  pub no_number : begins (λ b. is_digit b || (b == 45)) s ≡ false
-  pub no_name : begins is_small s ≡ false
+  pub no-number : begins (λ b. is_digit b || (b == 45)) s ≡ false
+  pub no-name : begins is_small s ≡ false
 
-abbrev pub MeansIn : List ℕ → Mode → List Open → Type 0
+abbrev pub MeansIn : List ℕ → Mode → List OpenBracket → Type 0
 MeansIn pre (wants true) [] = ⊥
-MeansIn pre (wants true) (o ∷ os) = (k : ℕ) × Here k (o ∷ os) pre × (o.terms ≡ [])
-MeansIn pre (wants false) os = (k : ℕ) × Here k os pre
-MeansIn pre (digit kind start) os = (s : List ℕ) × Before kind s × (a : At os pre s) × (start ≡ number_start kind (length a.p) (length a.p + length s))
-MeansIn pre (number kind start n) os = (s ds : List ℕ) × Before kind s × (a : At os pre (s ++ ds)) × SpellsNumber kind ds n × (start ≡ number_start kind (length a.p) (length a.p + length s))
+MeansIn pre (wants true) (o ∷ os) = (k : ℕ) × AwaitsTerm k (o ∷ os) pre × (o.terms ≡ [])
+MeansIn pre (wants false) os = (k : ℕ) × AwaitsTerm k os pre
+MeansIn pre (digit kind start) os = (s : List ℕ) × LeadsNumber kind s × (a : At os pre s) × (start ≡ number_start kind (length a.p) (length a.p + length s))
+MeansIn pre (number kind start n) os = (s ds : List ℕ) × LeadsNumber kind s × (a : At os pre (s ++ ds)) × SpellsNumber kind ds n × (start ≡ number_start kind (length a.p) (length a.p + length s))
 MeansIn pre (name start cs) os = (a : At os pre cs) × IsTrue (begins is_small cs) × IsTrue (list_all is_name cs) × (length cs ≤ 255) × (start ≡ length a.p)
 MeansIn pre (quoted q cs) os = (s body : List ℕ) × Lead q s × (a : At os pre (s ++ (quote q ∷ body))) × SpellsQuoted (quote q) body cs × Admitted q (length cs) os × QuoteStarts q a.p
 MeansIn pre (escaped q cs) os = (s body : List ℕ) × Lead q s × (a : At os pre (s ++ (quote q ∷ (body ++ 92 ∷ [])))) × SpellsQuoted (quote q) body cs × Admitted q (length cs + 1) os × QuoteStarts q a.p
 MeansIn pre (signs cs goal) os = (s : List ℕ) × At os pre s × Leads (s ++ cs) goal × Closed s
 MeansIn pre angle os = At os pre (60 ∷ [])
 MeansIn pre opened_binary os = (blanks : List ℕ) × At os pre ((60 ∷ 60 ∷ []) ++ blanks) × AreBlanks blanks
-MeansIn pre (wants_byte bs) os = (inner : List ℕ) × At os pre ((60 ∷ 60 ∷ []) ++ inner) × Bytes bs inner
+MeansIn pre (wants_byte bs) os = (inner : List ℕ) × At os pre ((60 ∷ 60 ∷ []) ++ inner) × AwaitsByte bs inner
 MeansIn pre (behind_byte bs) os = (row blanks : List ℕ) × At os pre ((60 ∷ 60 ∷ []) ++ (row ++ blanks)) × SpellsBytes row bs × AreBlanks blanks
 MeansIn pre (behind_string bs) os = (before body behind : List ℕ) × At os pre ((60 ∷ 60 ∷ []) ++ (before ++ (34 ∷ (body ++ (34 ∷ behind))))) × AreBlanks before × SpellsQuoted 34 body bs × AreBlanks behind
 MeansIn pre after [] = ⊥
 MeansIn pre after (o ∷ os) = Behind o os pre
 
 abbrev pub Means : List ℕ → Reading → Type 0
-Means pre (goes mode os) = MeansIn pre mode os
+Means pre (reads_on mode os) = MeansIn pre mode os
 Means pre (found t n) = (rest : List ℕ) → Front (pre ++ rest) t n
-Means pre (fails f) = (p : List ℕ) × (b : ℕ) × (pre ≡ p ++ b ∷ []) × Says p b f
+Means pre (fails f) = (p : List ℕ) × (b : ℕ) × (pre ≡ p ++ b ∷ []) × FaultMeans p b f
 
 pub record Holds (pre : List ℕ) (s : Reading) : Type 0 where
   pub meaning : Means pre s
 
-pub holds_if : {pre : List ℕ} (b : Bool) (x y : Reading) → (b ≡ true → Holds pre x) → (b ≡ false → Holds pre y) → Holds pre (if b then x else y)
-holds_if true x y p q = p refl
-holds_if false x y p q = q refl
+pub holds-if : {pre : List ℕ} (b : Bool) (x y : Reading) → (b ≡ true → Holds pre x) → (b ≡ false → Holds pre y) → Holds pre (if b then x else y)
+holds-if true x y p q = p refl
+holds-if false x y p q = q refl
 
-pub noticed : (pre : List ℕ) (b : ℕ) (f : TextFault) → Says pre b f → Holds (pre ++ b ∷ []) (fails f)
+pub noticed : (pre : List ℕ) (b : ℕ) (f : TextFault) → FaultMeans pre b f → Holds (pre ++ b ∷ []) (fails f)
 noticed pre b f h = record { meaning = (pre, b, refl, h) }
 
-pub all_more : (p : ℕ → Bool) (s : List ℕ) (b : ℕ) → list_all p s ≡ true → p b ≡ true → list_all p (s ++ b ∷ []) ≡ true
-all_more p [] b h k = both_true k refl
-all_more p (c ∷ s) b h k = let q = and_parts (p c) (list_all p s) h in both_true q.0 (all_more p s b q.1 k)
+pub all-more : (p : ℕ → Bool) (s : List ℕ) (b : ℕ) → list_all p s ≡ true → p b ≡ true → list_all p (s ++ b ∷ []) ≡ true
+all-more p [] b h k = both_true k refl
+all-more p (c ∷ s) b h k = let q = and_parts (p c) (list_all p s) h in both_true q.0 (all-more p s b q.1 k)
 
-pub begins_more : (p : ℕ → Bool) (s t : List ℕ) → begins p s ≡ true → begins p (s ++ t) ≡ true
-begins_more p [] t h = absurd (false≢true h)
-begins_more p (c ∷ s) t h = h
+pub begins-more : (p : ℕ → Bool) (s t : List ℕ) → begins p s ≡ true → begins p (s ++ t) ≡ true
+begins-more p [] t h = absurd (false≢true h)
+begins-more p (c ∷ s) t h = h
 
-abbrev pub at_more : (os : List Open) (pre s z : List ℕ) (b : ℕ) → At os pre s → s ++ b ∷ [] ≡ z → At os (pre ++ b ∷ []) z
+abbrev pub at_more : (os : List OpenBracket) (pre s z : List ℕ) (b : ℕ) → At os pre s → s ++ b ∷ [] ≡ z → At os (pre ++ b ∷ []) z
 at_more os pre s z b a e = record { k = a.k; p = a.p; cut = ap (λ (w : List ℕ). w ++ b ∷ []) a.cut ∙ append_assoc a.p s (b ∷ []) ∙ ap (λ (w : List ℕ). a.p ++ w) e; here = a.here }
 
-pub blank_more : (s : List ℕ) (b : ℕ) → AreBlanks s → is_blank b ≡ true → AreBlanks (s ++ b ∷ [])
-blank_more s b h k = all_more is_blank s b h k
+pub blank-more : (s : List ℕ) (b : ℕ) → AreBlanks s → is_blank b ≡ true → AreBlanks (s ++ b ∷ [])
+blank-more s b h k = all-more is_blank s b h k
 
-pub here_len : (k : ℕ) (os : List Open) (p : List ℕ) → Here k os p → length os + k ≡ 128
-here_len k [] p h = omega (arith, h.1)
-here_len k (o ∷ os) p (outer, inner, e, h, i) = let r = here_len (suc k) os outer h in omega (arith, r)
+pub here-len : (k : ℕ) (os : List OpenBracket) (p : List ℕ) → AwaitsTerm k os p → length os + k ≡ 128
+here-len k [] p h = omega (arith, h.1)
+here-len k (o ∷ os) p (outer, inner, e, h, i) = let r = here-len (suc k) os outer h in omega (arith, r)
 
-pub more_len : (at : ℕ) (pre : List ℕ) (b : ℕ) → at ≡ length pre → at + 1 ≡ length (pre ++ b ∷ [])
-more_len at pre b e = omega (arith, e, length-append pre (b ∷ []))
+pub more-len : (at : ℕ) (pre : List ℕ) (b : ℕ) → at ≡ length pre → at + 1 ≡ length (pre ++ b ∷ [])
+more-len at pre b e = omega (arith, e, length-append pre (b ∷ []))

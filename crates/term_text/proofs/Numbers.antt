@@ -3,18 +3,18 @@ use Rattle.std.proofs.Common.{◌≡◌, ◌+◌, ◌-◌, ◌*◌, ◌<◌, ◌
 use Rattle.std.proofs.lemmas.Bool.Decides.{nat_tests}
 use Rattle.term_text.specs.Text.{is_digit, spelled}
 
-le_if : (c : Bool) (k m n : ℕ) → k ≤ m → k ≤ n → k ≤ (if c then m else n)
-le_if true k m n h e = h
-le_if false k m n h e = e
+le-if : (c : Bool) (k m n : ℕ) → k ≤ m → k ≤ n → k ≤ (if c then m else n)
+le-if true k m n h e = h
+le-if false k m n h e = e
 
 pub spelled_grows : (n : ℕ) (bs : List ℕ) → n ≤ spelled n bs
 spelled_grows n [] = omega arith
-spelled_grows n (b ∷ bs) = let r = spelled_grows (n * 10 + (b - 48)) bs in le_if (is_digit b) n _ n (omega (arith, r)) (omega arith)
+spelled_grows n (b ∷ bs) = let r = spelled_grows (n * 10 + (b - 48)) bs in le-if (is_digit b) n _ n (omega (arith, r)) (omega arith)
 
 -- a number that is past the limit before its last digits is past it with them
-pub past_limit : (bs : List ℕ) (at n limit : ℕ) → at < length bs → is_digit (get_or bs at 0) ≡ true → limit < n * 10 + (get_or bs at 0 - 48) → limit < spelled n (drop at bs)
-past_limit bs at n limit h d k = rw (drop-cons bs at 0) (rw d (let r = spelled_grows (n * 10 + (get_or bs at 0 - 48)) (drop (suc at) bs) in omega (arith, r)))
+pub past-limit : (bs : List ℕ) (at n limit : ℕ) → at < length bs → is_digit (get_or bs at 0) ≡ true → limit < n * 10 + (get_or bs at 0 - 48) → limit < spelled n (drop at bs)
+past-limit bs at n limit h d k = rw (drop-cons bs at 0) (rw d (let r = spelled_grows (n * 10 + (get_or bs at 0 - 48)) (drop (suc at) bs) in omega (arith, r)))
 
-pub digit_small : (b : ℕ) → is_digit b ≡ true → b - 48 ≤ 9
+pub digit-small : (b : ℕ) → is_digit b ≡ true → b - 48 ≤ 9
 unfolding is_digit
-digit_small b h = grind (arith, nat_tests)
+digit-small b h = grind (arith, nat_tests)

@@ -10,110 +10,110 @@ use Rattle.std.proofs.lemmas.Str.{IsCharBoundary-from_take}
 use Rattle.term_text.specs.Printed.{row_text, comma_if}
 use Rattle.term_text.specs.Sent.{AppendsFront, AppendsOrFront}
 
-pub appends_then : (a b c : Option (List ℕ)) (x y : List ℕ) → Appends a b x → Appends b c y → Appends a c (x ++ y)
-appends_then None b c x y h k = tt
-appends_then (Some p) None c x y h k = absurd h
-appends_then (Some p) (Some q) None x y h k = absurd k
-appends_then (Some p) (Some q) (Some r) x y h k = k ∙ ap (λ (w : List ℕ). w ++ y) h ∙ append_assoc p x y
+pub appends-then : (a b c : Option (List ℕ)) (x y : List ℕ) → Appends a b x → Appends b c y → Appends a c (x ++ y)
+appends-then None b c x y h k = tt
+appends-then (Some p) None c x y h k = absurd h
+appends-then (Some p) (Some q) None x y h k = absurd k
+appends-then (Some p) (Some q) (Some r) x y h k = k ∙ ap (λ (w : List ℕ). w ++ y) h ∙ append_assoc p x y
 
 -- after a fault in the first piece
-pub front_first : (a b : Option (List ℕ)) (x y : List ℕ) → AppendsFront a b x → AppendsFront a b (x ++ y)
-front_first a b x y (sent, rest, e, h) = (sent, rest ++ y, ap (λ (w : List ℕ). w ++ y) e ∙ append_assoc sent rest y, h)
+pub front-first : (a b : Option (List ℕ)) (x y : List ℕ) → AppendsFront a b x → AppendsFront a b (x ++ y)
+front-first a b x y (sent, rest, e, h) = (sent, rest ++ y, ap (λ (w : List ℕ). w ++ y) e ∙ append_assoc sent rest y, h)
 
 -- after a fault in a later piece
-pub front_then : (a b c : Option (List ℕ)) (x y : List ℕ) → Appends a b x → AppendsFront b c y → AppendsFront a c (x ++ y)
-front_then a b c x y h (sent, rest, e, k) = (x ++ sent, rest, ap (λ (w : List ℕ). x ++ w) e ∙ sym (append_assoc x sent rest), appends_then a b c x sent h k)
+pub front-then : (a b c : Option (List ℕ)) (x y : List ℕ) → Appends a b x → AppendsFront b c y → AppendsFront a c (x ++ y)
+front-then a b c x y h (sent, rest, e, k) = (x ++ sent, rest, ap (λ (w : List ℕ). x ++ w) e ∙ sym (append_assoc x sent rest), appends-then a b c x sent h k)
 
-pub sends_fault : {A E : Type 0} (a b : Option (List ℕ)) (x : List ℕ) (r : Result A E) → IsErr r → AppendsFront a b x → AppendsOrFront a b x r
-sends_fault a b x (Ok v) e h = absurd (false≢true e)
-sends_fault a b x (Err f) e h = h
+pub sends-fault : {A E : Type 0} (a b : Option (List ℕ)) (x : List ℕ) (r : Result A E) → IsErr r → AppendsFront a b x → AppendsOrFront a b x r
+sends-fault a b x (Ok v) e h = absurd (false≢true e)
+sends-fault a b x (Err f) e h = h
 
-pub sends_then : {A E : Type 0} (a b c : Option (List ℕ)) (x y : List ℕ) (r : Result A E) → Appends a b x → AppendsOrFront b c y r → AppendsOrFront a c (x ++ y) r
-sends_then a b c x y (Ok v) h k = appends_then a b c x y h k
-sends_then a b c x y (Err f) h k = front_then a b c x y h k
+pub sends-then : {A E : Type 0} (a b c : Option (List ℕ)) (x y : List ℕ) (r : Result A E) → Appends a b x → AppendsOrFront b c y r → AppendsOrFront a c (x ++ y) r
+sends-then a b c x y (Ok v) h k = appends-then a b c x y h k
+sends-then a b c x y (Err f) h k = front-then a b c x y h k
 
-pub appends_nothing : (a : Option (List ℕ)) → Appends a a []
-appends_nothing None = tt
-appends_nothing (Some p) = sym (append-nil p)
+pub appends-nothing : (a : Option (List ℕ)) → Appends a a []
+appends-nothing None = tt
+appends-nothing (Some p) = sym (append-nil p)
 
-pub front_as : (a b : Option (List ℕ)) (x y : List ℕ) → x ≡ y → AppendsFront a b x → AppendsFront a b y
-front_as a b x y e h = let P : List ℕ → Type 0 = λ w. AppendsFront a b w in subst P e h
+pub front-as : (a b : Option (List ℕ)) (x y : List ℕ) → x ≡ y → AppendsFront a b x → AppendsFront a b y
+front-as a b x y e h = let P : List ℕ → Type 0 = λ w. AppendsFront a b w in subst P e h
 
-pub appends_as : (a b : Option (List ℕ)) (x y : List ℕ) → x ≡ y → Appends a b x → Appends a b y
-appends_as a b x y e h = let P : List ℕ → Type 0 = λ w. Appends a b w in subst P e h
+pub appends-as : (a b : Option (List ℕ)) (x y : List ℕ) → x ≡ y → Appends a b x → Appends a b y
+appends-as a b x y e h = let P : List ℕ → Type 0 = λ w. Appends a b w in subst P e h
 
 -- texts parted by commas, of which so many have been sent
 abbrev pub Rows : {X : Type 0} → Option (List ℕ) → Option (List ℕ) → (X → List ℕ) → Bool → List X → List ℕ → Type 0
 Rows a b f later xs whole = (sent : List ℕ) × (sent ++ row_text later (map f xs) ≡ whole) × Appends a b sent
 
-pub rows_comma : {X : Type 0} (a b c : Option (List ℕ)) (f : X → List ℕ) (later : Bool) (x : X) (xs : List X) (whole : List ℕ)
+pub rows-comma : {X : Type 0} (a b c : Option (List ℕ)) (f : X → List ℕ) (later : Bool) (x : X) (xs : List X) (whole : List ℕ)
     → Rows a b f later (x ∷ xs) whole → AppendsFront b c (comma_if later) → AppendsFront a c whole
-rows_comma a b c f later x xs whole (sent, e, h) k = front_as a c _ whole e (front_then a b c sent _ h (front_first b c (comma_if later) _ k))
+rows-comma a b c f later x xs whole (sent, e, h) k = front-as a c _ whole e (front-then a b c sent _ h (front-first b c (comma_if later) _ k))
 
-pub rows_item : {X : Type 0} (a b m c : Option (List ℕ)) (f : X → List ℕ) (later : Bool) (x : X) (xs : List X) (whole : List ℕ)
+pub rows-item : {X : Type 0} (a b m c : Option (List ℕ)) (f : X → List ℕ) (later : Bool) (x : X) (xs : List X) (whole : List ℕ)
     → Rows a b f later (x ∷ xs) whole → Appends b m (comma_if later) → AppendsFront m c (f x) → AppendsFront a c whole
-rows_item a b m c f later x xs whole (sent, e, h) j k = front_as a c _ whole e (front_then a b c sent _ h (front_then b m c (comma_if later) _ j (front_first m c (f x) _ k)))
+rows-item a b m c f later x xs whole (sent, e, h) j k = front-as a c _ whole e (front-then a b c sent _ h (front-then b m c (comma_if later) _ j (front-first m c (f x) _ k)))
 
-pub rows_more : {X : Type 0} (a b m c : Option (List ℕ)) (f : X → List ℕ) (later : Bool) (x : X) (xs : List X) (whole : List ℕ)
+pub rows-more : {X : Type 0} (a b m c : Option (List ℕ)) (f : X → List ℕ) (later : Bool) (x : X) (xs : List X) (whole : List ℕ)
     → Rows a b f later (x ∷ xs) whole → Appends b m (comma_if later) → Appends m c (f x) → Rows a c f true xs whole
-rows_more a b m c f later x xs whole (sent, e, h) j k =
+rows-more a b m c f later x xs whole (sent, e, h) j k =
     let now : List ℕ = comma_if later ++ f x in (
       sent ++ now,
       append_assoc sent now (row_text true (map f xs)) ∙ ap (λ (w : List ℕ). sent ++ w) (append_assoc (comma_if later) (f x) (row_text true (map f xs))) ∙ e,
-      appends_then a b c sent now h (appends_then b m c (comma_if later) (f x) j k),
+      appends-then a b c sent now h (appends-then b m c (comma_if later) (f x) j k),
     )
 
-pub rows_done : {X : Type 0} (a b : Option (List ℕ)) (f : X → List ℕ) (later : Bool) (whole : List ℕ) → Rows a b f later [] whole → Appends a b whole
-rows_done a b f later whole (sent, e, h) = appends_as a b sent whole (sym (append-nil sent) ∙ e) h
+pub rows-done : {X : Type 0} (a b : Option (List ℕ)) (f : X → List ℕ) (later : Bool) (whole : List ℕ) → Rows a b f later [] whole → Appends a b whole
+rows-done a b f later whole (sent, e, h) = appends-as a b sent whole (sym (append-nil sent) ∙ e) h
 
 -- the next of the texts
-pub rows_here : {X : Type 0} (a b : Option (List ℕ)) (f : X → List ℕ) (later : Bool) (xs : List X) (i : ℕ) (d : X) (whole : List ℕ) → i < length xs
+pub rows-here : {X : Type 0} (a b : Option (List ℕ)) (f : X → List ℕ) (later : Bool) (xs : List X) (i : ℕ) (d : X) (whole : List ℕ) → i < length xs
     → Rows a b f later (drop i xs) whole → Rows a b f later (get_or xs i d ∷ drop (i + 1) xs) whole
-rows_here a b f later xs i d whole h rows = let P : List _ → Type 0 = λ ys. Rows a b f later ys whole in subst P (drop_more xs i d h) rows
+rows-here a b f later xs i d whole h rows = let P : List _ → Type 0 = λ ys. Rows a b f later ys whole in subst P (drop_more xs i d h) rows
 
 -- none is left
-pub rows_end : {X : Type 0} (a b : Option (List ℕ)) (f : X → List ℕ) (later : Bool) (xs : List X) (i : ℕ) (whole : List ℕ) → length xs ≤ i
+pub rows-end : {X : Type 0} (a b : Option (List ℕ)) (f : X → List ℕ) (later : Bool) (xs : List X) (i : ℕ) (whole : List ℕ) → length xs ≤ i
     → Rows a b f later (drop i xs) whole → Appends a b whole
-rows_end a b f later xs i whole h rows = let P : List _ → Type 0 = λ ys. Rows a b f later ys whole in rows_done a b f later whole (subst P (drop_all i xs h) rows)
+rows-end a b f later xs i whole h rows = let P : List _ → Type 0 = λ ys. Rows a b f later ys whole in rows-done a b f later whole (subst P (drop_all i xs h) rows)
 
-pub rows_at : {X : Type 0} (a b : Option (List ℕ)) (f : X → List ℕ) (later : Bool) (xs : List X) (i : ℕ) (x : X) (whole : List ℕ) → i < length xs → get_or xs i x ≡ x
+pub rows-at : {X : Type 0} (a b : Option (List ℕ)) (f : X → List ℕ) (later : Bool) (xs : List X) (i : ℕ) (x : X) (whole : List ℕ) → i < length xs → get_or xs i x ≡ x
     → Rows a b f later (drop i xs) whole → Rows a b f later (x ∷ drop (i + 1) xs) whole
-rows_at a b f later xs i x whole h e rows = let P : List _ → Type 0 = λ ys. Rows a b f later ys whole in subst P (drop_more xs i x h ∙ ap (λ (y : _). y ∷ drop (i + 1) xs) e) rows
+rows-at a b f later xs i x whole h e rows = let P : List _ → Type 0 = λ ys. Rows a b f later ys whole in subst P (drop_more xs i x h ∙ ap (λ (y : _). y ∷ drop (i + 1) xs) e) rows
 
 -- a row between two signs: a comma fails, a text fails, or all is sent up to the sign behind it
-pub row_comma_fails : {X A E : Type 0} (a b c d : Option (List ℕ)) (f : X → List ℕ) (later : Bool) (x : X) (xs : List X) (front row back : List ℕ) (r : Result A E) → IsErr r
+pub row-comma-fails : {X A E : Type 0} (a b c d : Option (List ℕ)) (f : X → List ℕ) (later : Bool) (x : X) (xs : List X) (front row back : List ℕ) (r : Result A E) → IsErr r
     → Appends a b front → Rows b c f later (x ∷ xs) row → AppendsFront c d (comma_if later) → AppendsOrFront a d (front ++ (row ++ back)) r
-row_comma_fails a b c d f later x xs front row back r e h rows k =
-    sends_fault a d _ r e (front_then a b d front (row ++ back) h (front_first b d row back (rows_comma b c d f later x xs row rows k)))
+row-comma-fails a b c d f later x xs front row back r e h rows k =
+    sends-fault a d _ r e (front-then a b d front (row ++ back) h (front-first b d row back (rows-comma b c d f later x xs row rows k)))
 
-pub row_item_fails : {X A E : Type 0} (a b c m d : Option (List ℕ)) (f : X → List ℕ) (later : Bool) (x : X) (xs : List X) (front row back : List ℕ) (r : Result A E) → IsErr r
+pub row-item-fails : {X A E : Type 0} (a b c m d : Option (List ℕ)) (f : X → List ℕ) (later : Bool) (x : X) (xs : List X) (front row back : List ℕ) (r : Result A E) → IsErr r
     → Appends a b front → Rows b c f later (x ∷ xs) row → Appends c m (comma_if later) → AppendsFront m d (f x) → AppendsOrFront a d (front ++ (row ++ back)) r
-row_item_fails a b c m d f later x xs front row back r e h rows j k =
-    sends_fault a d _ r e (front_then a b d front (row ++ back) h (front_first b d row back (rows_item b c m d f later x xs row rows j k)))
+row-item-fails a b c m d f later x xs front row back r e h rows j k =
+    sends-fault a d _ r e (front-then a b d front (row ++ back) h (front-first b d row back (rows-item b c m d f later x xs row rows j k)))
 
-pub row_sent : {X A E : Type 0} (a b c d : Option (List ℕ)) (f : X → List ℕ) (later : Bool) (xs : List X) (i : ℕ) (front row back : List ℕ) (r : Result A E) → length xs ≤ i
+pub row-sent : {X A E : Type 0} (a b c d : Option (List ℕ)) (f : X → List ℕ) (later : Bool) (xs : List X) (i : ℕ) (front row back : List ℕ) (r : Result A E) → length xs ≤ i
     → Appends a b front → Rows b c f later (drop i xs) row → AppendsOrFront c d back r → AppendsOrFront a d (front ++ (row ++ back)) r
-row_sent a b c d f later xs i front row back r past h rows k =
-    sends_then a b d front (row ++ back) r h (sends_then b c d row back r (rows_end b c f later xs i row past rows) k)
+row-sent a b c d f later xs i front row back r past h rows k =
+    sends-then a b d front (row ++ back) r h (sends-then b c d row back r (rows-end b c f later xs i row past rows) k)
 
-pub sends_as : {A E : Type 0} (a b : Option (List ℕ)) (x y : List ℕ) (r : Result A E) → x ≡ y → AppendsOrFront a b x r → AppendsOrFront a b y r
-sends_as a b x y r e h = let P : List ℕ → Type 0 = λ w. AppendsOrFront a b w r in subst P e h
+pub sends-as : {A E : Type 0} (a b : Option (List ℕ)) (x y : List ℕ) (r : Result A E) → x ≡ y → AppendsOrFront a b x r → AppendsOrFront a b y r
+sends-as a b x y r e h = let P : List ℕ → Type 0 = λ w. AppendsOrFront a b w r in subst P e h
 
-pub appends_keeps : (a b c : Option (List ℕ)) (x : List ℕ) → Appends a b x → Keeps b c → Appends a c x
-appends_keeps None b c x h k = tt
-appends_keeps (Some p) None c x h k = absurd h
-appends_keeps (Some p) (Some q) None x h k = absurd k
-appends_keeps (Some p) (Some q) (Some r) x h k = k ∙ h
+pub appends-keeps : (a b c : Option (List ℕ)) (x : List ℕ) → Appends a b x → Keeps b c → Appends a c x
+appends-keeps None b c x h k = tt
+appends-keeps (Some p) None c x h k = absurd h
+appends-keeps (Some p) (Some q) None x h k = absurd k
+appends-keeps (Some p) (Some q) (Some r) x h k = k ∙ h
 
 -- the end of what stood there before is where a character ends
-pub front_boundary : (old new text : List ℕ) → IsUtf8 old → IsUtf8 new → AppendsFront (Some old) (Some new) text → IsSplitPoint new (length old)
-front_boundary old new text u v (sent, rest, e, h) =
+pub front-boundary : (old new text : List ℕ) → IsUtf8 old → IsUtf8 new → AppendsFront (Some old) (Some new) text → IsSplitPoint new (length old)
+front-boundary old new text u v (sent, rest, e, h) =
     let le : length old ≤ length new = omega (arith, ap length h, length-append old sent) in
     let P : List ℕ → Type 0 = λ bs. IsUtf8 bs in
     let front : old ≡ take (length old) new = sym (ap (take (length old)) h ∙ take-append_seam old sent) in
     let b = IsCharBoundary-from_take new (length old) v le (subst P front u) in
     (le, λ _. b.1)
 
-pub sends_front : {A E : Type 0} (a b : Option (List ℕ)) (x : List ℕ) (r : Result A E) → is_err r ≡ true → AppendsOrFront a b x r → AppendsFront a b x
-sends_front a b x (Ok v) e h = absurd (false≢true e)
-sends_front a b x (Err f) e h = h
+pub sends-front : {A E : Type 0} (a b : Option (List ℕ)) (x : List ℕ) (r : Result A E) → is_err r ≡ true → AppendsOrFront a b x r → AppendsFront a b x
+sends-front a b x (Ok v) e h = absurd (false≢true e)
+sends-front a b x (Err f) e h = h

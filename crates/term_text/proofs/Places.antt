@@ -6,148 +6,148 @@ use Rattle.ets_term.specs.declared.term.Term.{Term}
 use Rattle.std.specs.List.{prefix_len}
 use Rattle.term_text.specs.declared.fault.TextFault.{TextFault}
 use Rattle.term_text.specs.declared.fault.TextFault.TheVariants.{Unexpected, Unclosed, OutOfRange}
-use Rattle.term_text.specs.Reader.{Open, Number, integer, pid, identifier, byte, Goal, wants, digit, number, Reading, goes, found, fails, top, take_byte, end, read_from, reading, arrive}
+use Rattle.term_text.specs.Reader.{OpenBracket, Number, integer, pid, identifier, byte, Expect, wants, digit, number, Reading, reads_on, found, fails, max_magnitude, take_byte, end, read_from, reading, expect}
 use Rattle.term_text.specs.Given.{Fails, GivesTerm}
-use Rattle.term_text.specs.inside.Parts.{Comes, Reads, counted}
+use Rattle.term_text.specs.inside.Parts.{Reaches, Reads, counted}
 use Rattle.term_text.specs.Text.{is_digit, spelled, begins}
-use Rattle.term_text.proofs.Numbers.{spelled_grows, digit_small}
+use Rattle.term_text.proofs.Numbers.{spelled_grows, digit-small}
 
-pub if_false : {A : Type 0} (b : Bool) (x y : A) → b ≡ false → (if b then x else y) ≡ y
-if_false true x y h = absurd (true≢false h)
-if_false false x y h = refl
+pub if-false : {A : Type 0} (b : Bool) (x y : A) → b ≡ false → (if b then x else y) ≡ y
+if-false true x y h = absurd (true≢false h)
+if-false false x y h = refl
 
-pub if_true : {A : Type 0} (b : Bool) (x y : A) → b ≡ true → (if b then x else y) ≡ x
-if_true true x y h = refl
-if_true false x y h = absurd (false≢true h)
+pub if-true : {A : Type 0} (b : Bool) (x y : A) → b ≡ true → (if b then x else y) ≡ x
+if-true true x y h = refl
+if-true false x y h = absurd (false≢true h)
 
-pub read_found : (at : ℕ) (t : Term) (n : ℕ) (bs : List ℕ) → read_from at (found t n) bs ≡ found t n
-read_found at t n [] = refl
-read_found at t n (b ∷ bs) = read_found (at + 1) t n bs
+pub read-found : (at : ℕ) (t : Term) (n : ℕ) (bs : List ℕ) → read_from at (found t n) bs ≡ found t n
+read-found at t n [] = refl
+read-found at t n (b ∷ bs) = read-found (at + 1) t n bs
 
-pub read_fails : (at : ℕ) (f : TextFault) (bs : List ℕ) → read_from at (fails f) bs ≡ fails f
-read_fails at f [] = refl
-read_fails at f (b ∷ bs) = read_fails (at + 1) f bs
+pub read-fails : (at : ℕ) (f : TextFault) (bs : List ℕ) → read_from at (fails f) bs ≡ fails f
+read-fails at f [] = refl
+read-fails at f (b ∷ bs) = read-fails (at + 1) f bs
 
-pub fails_along : (f : TextFault) (s z : Reading) → s ≡ z → Fails f z → Fails f s
-fails_along f s z e h = let P : Reading → Type 0 = λ x. Fails f x in subst P (sym e) h
+pub fails-along : (f : TextFault) (s z : Reading) → s ≡ z → Fails f z → Fails f s
+fails-along f s z e h = let P : Reading → Type 0 = λ x. Fails f x in subst P (sym e) h
 
 -- the step of the byte at
-pub read_at : (bytes : List ℕ) (at : ℕ) (s z : Reading) → at < length bytes → take_byte at s (get_or bytes at 0) ≡ z → Comes bytes at s (at + 1) z
-read_at bytes at s z h e = at_drop_more (read_from at s) bytes at 0 h ∙ ap (λ (x : Reading). read_from (at + 1) x (drop (at + 1) bytes)) e
+pub read-at : (bytes : List ℕ) (at : ℕ) (s z : Reading) → at < length bytes → take_byte at s (get_or bytes at 0) ≡ z → Reaches bytes at s (at + 1) z
+read-at bytes at s z h e = at_drop_more (read_from at s) bytes at 0 h ∙ ap (λ (x : Reading). read_from (at + 1) x (drop (at + 1) bytes)) e
 
-pub fails_at : (bytes : List ℕ) (at : ℕ) (s : Reading) (f : TextFault) → at < length bytes → take_byte at s (get_or bytes at 0) ≡ fails f → read_from at s (drop at bytes) ≡ fails f
-fails_at bytes at s f h e = read_at bytes at s (fails f) h e ∙ read_fails (at + 1) f (drop (at + 1) bytes)
+pub fails-at : (bytes : List ℕ) (at : ℕ) (s : Reading) (f : TextFault) → at < length bytes → take_byte at s (get_or bytes at 0) ≡ fails f → read_from at s (drop at bytes) ≡ fails f
+fails-at bytes at s f h e = read-at bytes at s (fails f) h e ∙ read-fails (at + 1) f (drop (at + 1) bytes)
 
-pub ends_at : (bytes : List ℕ) (at : ℕ) (s : Reading) → length bytes ≤ at → read_from at s (drop at bytes) ≡ end at s
-ends_at bytes at s h = ap (λ (xs : List ℕ). read_from at s xs) (drop_all at bytes h)
+pub ends-at : (bytes : List ℕ) (at : ℕ) (s : Reading) → length bytes ≤ at → read_from at s (drop at bytes) ≡ end at s
+ends-at bytes at s h = ap (λ (xs : List ℕ). read_from at s xs) (drop_all at bytes h)
 
-pub by_test : {P : Type 0} (b : Bool) → (b ≡ true → P) → (b ≡ false → P) → P
-by_test true p q = p refl
-by_test false p q = q refl
+pub by-test : {P : Type 0} (b : Bool) → (b ≡ true → P) → (b ≡ false → P) → P
+by-test true p q = p refl
+by-test false p q = q refl
 
-pub drop_past : (k : ℕ) (b : ℕ) (bs : List ℕ) → drop (k + 1) (b ∷ bs) ≡ drop k bs
-drop_past k b bs = rw add-one refl
+pub drop-past : (k : ℕ) (b : ℕ) (bs : List ℕ) → drop (k + 1) (b ∷ bs) ≡ drop k bs
+drop-past k b bs = rw add-one refl
 
-pub nat_le_true : (m n : ℕ) → m ≤ n → nat_le m n ≡ true
-nat_le_true m n h = search (arith, rules)
+pub nat-le-true : (m n : ℕ) → m ≤ n → nat_le m n ≡ true
+nat-le-true m n h = search (arith, rules)
 
-pub nat_le_false : (m n : ℕ) → n < m → nat_le m n ≡ false
-nat_le_false m n h = lt-leb m n h
+pub nat-le-false : (m n : ℕ) → n < m → nat_le m n ≡ false
+nat-le-false m n h = lt-leb m n h
 
-number_same : (start : ℕ) (kind : Number) (os : List Open) (m n v w : ℕ) (xs ys : List ℕ) → m ≡ n → v ≡ w → xs ≡ ys
-    → read_from m (goes (number kind start v) os) xs ≡ read_from n (goes (number kind start w) os) ys
-number_same start kind os m n v w xs ys e f g = cc
+number-same : (start : ℕ) (kind : Number) (os : List OpenBracket) (m n v w : ℕ) (xs ys : List ℕ) → m ≡ n → v ≡ w → xs ≡ ys
+    → read_from m (reads_on (number kind start v) os) xs ≡ read_from n (reads_on (number kind start w) os) ys
+number-same start kind os m n v w xs ys e f g = cc
 
-pub prefix_more : (p : ℕ → Bool) (b : ℕ) (bs : List ℕ) → p b ≡ true → prefix_len p (b ∷ bs) ≡ prefix_len p bs + 1
-prefix_more p b bs h = if_true _ _ _ h ∙ omega arith
+pub prefix-more : (p : ℕ → Bool) (b : ℕ) (bs : List ℕ) → p b ≡ true → prefix_len p (b ∷ bs) ≡ prefix_len p bs + 1
+prefix-more p b bs h = if-true _ _ _ h ∙ omega arith
 
-pub prefix_none : (p : ℕ → Bool) (b : ℕ) (bs : List ℕ) → p b ≡ false → prefix_len p (b ∷ bs) ≡ 0
-prefix_none p b bs h = if_false _ _ _ h
+pub prefix-none : (p : ℕ → Bool) (b : ℕ) (bs : List ℕ) → p b ≡ false → prefix_len p (b ∷ bs) ≡ 0
+prefix-none p b bs h = if-false _ _ _ h
 
 -- A number within its range goes to the end of its digits.
-pub read_number : (at start n : ℕ) (kind : Number) (os : List Open) (bs : List ℕ) → spelled n bs ≤ top kind
-    → read_from at (goes (number kind start n) os) bs ≡ read_from (at + prefix_len is_digit bs) (goes (number kind start (spelled n bs)) os) (drop (prefix_len is_digit bs) bs)
-read_number at start n kind os [] h = number_same start kind os at (at + 0) n n [] [] (omega arith) refl refl
-read_number at start n kind os (b ∷ bs) h = by_test (is_digit b)
+pub read-number : (at start n : ℕ) (kind : Number) (os : List OpenBracket) (bs : List ℕ) → spelled n bs ≤ max_magnitude kind
+    → read_from at (reads_on (number kind start n) os) bs ≡ read_from (at + prefix_len is_digit bs) (reads_on (number kind start (spelled n bs)) os) (drop (prefix_len is_digit bs) bs)
+read-number at start n kind os [] h = number-same start kind os at (at + 0) n n [] [] (omega arith) refl refl
+read-number at start n kind os (b ∷ bs) h = by-test (is_digit b)
     (λ d.
     let more : ℕ = n * 10 + (b - 48) in
-    let v : spelled n (b ∷ bs) ≡ spelled more bs = if_true _ _ _ d in
-    let c : prefix_len is_digit (b ∷ bs) ≡ prefix_len is_digit bs + 1 = prefix_more is_digit b bs d in
-    let fits : spelled more bs ≤ top kind = omega (arith, v, h) in
-    let small : more ≤ top kind = omega (arith, spelled_grows more bs, fits) in
-    ap (λ (s : Reading). read_from (at + 1) s bs) (if_true _ _ _ d ∙ if_true _ _ _ (nat_le_true _ _ small))
-    ∙ read_number (at + 1) start more kind os bs fits
-    ∙ number_same start kind os (at + 1 + prefix_len is_digit bs) (at + prefix_len is_digit (b ∷ bs)) (spelled more bs) (spelled n (b ∷ bs)) _ _ (omega (arith, c)) (sym v) (sym (ap (λ (k : ℕ). drop k (b ∷ bs)) c ∙ drop_past (prefix_len is_digit bs) b bs)))
+    let v : spelled n (b ∷ bs) ≡ spelled more bs = if-true _ _ _ d in
+    let c : prefix_len is_digit (b ∷ bs) ≡ prefix_len is_digit bs + 1 = prefix-more is_digit b bs d in
+    let fits : spelled more bs ≤ max_magnitude kind = omega (arith, v, h) in
+    let small : more ≤ max_magnitude kind = omega (arith, spelled_grows more bs, fits) in
+    ap (λ (s : Reading). read_from (at + 1) s bs) (if-true _ _ _ d ∙ if-true _ _ _ (nat-le-true _ _ small))
+    ∙ read-number (at + 1) start more kind os bs fits
+    ∙ number-same start kind os (at + 1 + prefix_len is_digit bs) (at + prefix_len is_digit (b ∷ bs)) (spelled more bs) (spelled n (b ∷ bs)) _ _ (omega (arith, c)) (sym v) (sym (ap (λ (k : ℕ). drop k (b ∷ bs)) c ∙ drop-past (prefix_len is_digit bs) b bs)))
     (λ d.
-    let c : prefix_len is_digit (b ∷ bs) ≡ 0 = prefix_none is_digit b bs d in
-    number_same start kind os at (at + prefix_len is_digit (b ∷ bs)) n (spelled n (b ∷ bs)) (b ∷ bs) _ (omega (arith, c)) (sym (if_false _ _ _ d)) (sym (ap (λ (k : ℕ). drop k (b ∷ bs)) c)))
+    let c : prefix_len is_digit (b ∷ bs) ≡ 0 = prefix-none is_digit b bs d in
+    number-same start kind os at (at + prefix_len is_digit (b ∷ bs)) n (spelled n (b ∷ bs)) (b ∷ bs) _ (omega (arith, c)) (sym (if-false _ _ _ d)) (sym (ap (λ (k : ℕ). drop k (b ∷ bs)) c)))
 
 -- A number past its range fails at the digit that takes it there.
-pub read_passes : (at start n : ℕ) (kind : Number) (os : List Open) (bs : List ℕ) → n ≤ top kind → top kind < spelled n bs
-    → read_from at (goes (number kind start n) os) bs ≡ fails (OutOfRange start)
-read_passes at start n kind os [] small h = absurd (omega (arith, small, h))
-read_passes at start n kind os (b ∷ bs) small h = by_test (is_digit b)
+pub read-passes : (at start n : ℕ) (kind : Number) (os : List OpenBracket) (bs : List ℕ) → n ≤ max_magnitude kind → max_magnitude kind < spelled n bs
+    → read_from at (reads_on (number kind start n) os) bs ≡ fails (OutOfRange start)
+read-passes at start n kind os [] small h = absurd (omega (arith, small, h))
+read-passes at start n kind os (b ∷ bs) small h = by-test (is_digit b)
     (λ d.
     let more : ℕ = n * 10 + (b - 48) in
-    let v : spelled n (b ∷ bs) ≡ spelled more bs = if_true _ _ _ d in
-    let far : top kind < spelled more bs = omega (arith, v, h) in
-    by_test (nat_le more (top kind))
-    (λ k. ap (λ (s : Reading). read_from (at + 1) s bs) (if_true _ _ _ d ∙ if_true _ _ _ k) ∙ read_passes (at + 1) start more kind os bs (leb-true _ _ k) far)
-    (λ k. ap (λ (s : Reading). read_from (at + 1) s bs) (if_true _ _ _ d ∙ if_false _ _ _ k) ∙ read_fails (at + 1) (OutOfRange start) bs))
-    (λ d. let v : spelled n (b ∷ bs) ≡ n = if_false _ _ _ d in absurd (omega (arith, v, small, h)))
+    let v : spelled n (b ∷ bs) ≡ spelled more bs = if-true _ _ _ d in
+    let far : max_magnitude kind < spelled more bs = omega (arith, v, h) in
+    by-test (nat_le more (max_magnitude kind))
+    (λ k. ap (λ (s : Reading). read_from (at + 1) s bs) (if-true _ _ _ d ∙ if-true _ _ _ k) ∙ read-passes (at + 1) start more kind os bs (leb-true _ _ k) far)
+    (λ k. ap (λ (s : Reading). read_from (at + 1) s bs) (if-true _ _ _ d ∙ if-false _ _ _ k) ∙ read-fails (at + 1) (OutOfRange start) bs))
+    (λ d. let v : spelled n (b ∷ bs) ≡ n = if-false _ _ _ d in absurd (omega (arith, v, small, h)))
 
 -- what follows the digits is no digit
-pub prefix_ends : (p : ℕ → Bool) (bs : List ℕ) → begins p (drop (prefix_len p bs) bs) ≡ false
-prefix_ends p [] = refl
-prefix_ends p (b ∷ bs) = by_test (p b)
-    (λ d. ap (λ (k : ℕ). begins p (drop k (b ∷ bs))) (prefix_more p b bs d) ∙ ap (begins p) (drop_past (prefix_len p bs) b bs) ∙ prefix_ends p bs)
-    (λ d. ap (λ (k : ℕ). begins p (drop k (b ∷ bs))) (prefix_none p b bs d) ∙ d)
+pub prefix-ends : (p : ℕ → Bool) (bs : List ℕ) → begins p (drop (prefix_len p bs) bs) ≡ false
+prefix-ends p [] = refl
+prefix-ends p (b ∷ bs) = by-test (p b)
+    (λ d. ap (λ (k : ℕ). begins p (drop k (b ∷ bs))) (prefix-more p b bs d) ∙ ap (begins p) (drop-past (prefix_len p bs) b bs) ∙ prefix-ends p bs)
+    (λ d. ap (λ (k : ℕ). begins p (drop k (b ∷ bs))) (prefix-none p b bs d) ∙ d)
 
 -- Behind its digits a number is what its kind says.
-pub number_behind : (at start v : ℕ) (kind : Number) (os : List Open) (rest : List ℕ) → begins is_digit rest ≡ false
-    → read_from at (goes (number kind start v) os) rest ≡ read_from at (counted at kind v os) rest
-number_behind at start v (integer below) [] [] h = refl
-number_behind at start v (integer below) (o ∷ os) [] h = refl
-number_behind at start v pid os [] h = refl
-number_behind at start v identifier os [] h = refl
-number_behind at start v (byte bs) os [] h = refl
-number_behind at start v (integer below) [] (b ∷ rest) h = ap (λ (s : Reading). read_from (at + 1) s rest) (if_false _ _ _ h)
-number_behind at start v (integer below) (o ∷ os) (b ∷ rest) h = ap (λ (s : Reading). read_from (at + 1) s rest) (if_false _ _ _ h)
-number_behind at start v pid os (b ∷ rest) h = ap (λ (s : Reading). read_from (at + 1) s rest) (if_false _ _ _ h)
-number_behind at start v identifier os (b ∷ rest) h = ap (λ (s : Reading). read_from (at + 1) s rest) (if_false _ _ _ h)
-number_behind at start v (byte bs) os (b ∷ rest) h = ap (λ (s : Reading). read_from (at + 1) s rest) (if_false _ _ _ h)
+pub number-behind : (at start v : ℕ) (kind : Number) (os : List OpenBracket) (rest : List ℕ) → begins is_digit rest ≡ false
+    → read_from at (reads_on (number kind start v) os) rest ≡ read_from at (counted at kind v os) rest
+number-behind at start v (integer below) [] [] h = refl
+number-behind at start v (integer below) (o ∷ os) [] h = refl
+number-behind at start v pid os [] h = refl
+number-behind at start v identifier os [] h = refl
+number-behind at start v (byte bs) os [] h = refl
+number-behind at start v (integer below) [] (b ∷ rest) h = ap (λ (s : Reading). read_from (at + 1) s rest) (if-false _ _ _ h)
+number-behind at start v (integer below) (o ∷ os) (b ∷ rest) h = ap (λ (s : Reading). read_from (at + 1) s rest) (if-false _ _ _ h)
+number-behind at start v pid os (b ∷ rest) h = ap (λ (s : Reading). read_from (at + 1) s rest) (if-false _ _ _ h)
+number-behind at start v identifier os (b ∷ rest) h = ap (λ (s : Reading). read_from (at + 1) s rest) (if-false _ _ _ h)
+number-behind at start v (byte bs) os (b ∷ rest) h = ap (λ (s : Reading). read_from (at + 1) s rest) (if-false _ _ _ h)
 
 -- the first digit
-digit_first : (at start b : ℕ) (kind : Number) (os : List Open) (bs : List ℕ) → is_digit b ≡ true
-    → read_from at (goes (digit kind start) os) (b ∷ bs) ≡ read_from (at + 1) (goes (number kind start (b - 48)) os) bs
-digit_first at start b kind os bs d = ap (λ (s : Reading). read_from (at + 1) s bs) (if_true _ _ _ d)
+digit-first : (at start b : ℕ) (kind : Number) (os : List OpenBracket) (bs : List ℕ) → is_digit b ≡ true
+    → read_from at (reads_on (digit kind start) os) (b ∷ bs) ≡ read_from (at + 1) (reads_on (number kind start (b - 48)) os) bs
+digit-first at start b kind os bs d = ap (λ (s : Reading). read_from (at + 1) s bs) (if-true _ _ _ d)
 
-first_value : (b : ℕ) (bs : List ℕ) → is_digit b ≡ true → spelled 0 (b ∷ bs) ≡ spelled (b - 48) bs
-first_value b bs d = if_true _ _ _ d ∙ ap (λ (n : ℕ). spelled n bs) (omega arith)
+first-value : (b : ℕ) (bs : List ℕ) → is_digit b ≡ true → spelled 0 (b ∷ bs) ≡ spelled (b - 48) bs
+first-value b bs d = if-true _ _ _ d ∙ ap (λ (n : ℕ). spelled n bs) (omega arith)
 
 -- A number that begins before the byte at, by its digits.
-pub number_here : (at start : ℕ) (kind : Number) (os : List Open) (bs : List ℕ) → begins is_digit bs ≡ true → spelled 0 bs ≤ top kind
-    → read_from at (goes (digit kind start) os) bs ≡ read_from (at + prefix_len is_digit bs) (counted (at + prefix_len is_digit bs) kind (spelled 0 bs) os) (drop (prefix_len is_digit bs) bs)
-number_here at start kind os [] d h = absurd (false≢true d)
-number_here at start kind os (b ∷ bs) d h =
-    let v = first_value b bs d in
-    let c = prefix_more is_digit b bs d in
-    let fits : spelled (b - 48) bs ≤ top kind = omega (arith, v, h) in
-    digit_first at start b kind os bs d
-    ∙ read_number (at + 1) start (b - 48) kind os bs fits
-    ∙ number_same start kind os (at + 1 + prefix_len is_digit bs) (at + prefix_len is_digit (b ∷ bs)) (spelled (b - 48) bs) (spelled 0 (b ∷ bs)) _ _ (omega (arith, c)) (sym v) (sym (ap (λ (k : ℕ). drop k (b ∷ bs)) c ∙ drop_past (prefix_len is_digit bs) b bs))
-    ∙ number_behind _ start _ kind os _ (prefix_ends is_digit (b ∷ bs))
+pub number-here : (at start : ℕ) (kind : Number) (os : List OpenBracket) (bs : List ℕ) → begins is_digit bs ≡ true → spelled 0 bs ≤ max_magnitude kind
+    → read_from at (reads_on (digit kind start) os) bs ≡ read_from (at + prefix_len is_digit bs) (counted (at + prefix_len is_digit bs) kind (spelled 0 bs) os) (drop (prefix_len is_digit bs) bs)
+number-here at start kind os [] d h = absurd (false≢true d)
+number-here at start kind os (b ∷ bs) d h =
+    let v = first-value b bs d in
+    let c = prefix-more is_digit b bs d in
+    let fits : spelled (b - 48) bs ≤ max_magnitude kind = omega (arith, v, h) in
+    digit-first at start b kind os bs d
+    ∙ read-number (at + 1) start (b - 48) kind os bs fits
+    ∙ number-same start kind os (at + 1 + prefix_len is_digit bs) (at + prefix_len is_digit (b ∷ bs)) (spelled (b - 48) bs) (spelled 0 (b ∷ bs)) _ _ (omega (arith, c)) (sym v) (sym (ap (λ (k : ℕ). drop k (b ∷ bs)) c ∙ drop-past (prefix_len is_digit bs) b bs))
+    ∙ number-behind _ start _ kind os _ (prefix-ends is_digit (b ∷ bs))
 
-pub number_past : (at start : ℕ) (kind : Number) (os : List Open) (bs : List ℕ) → begins is_digit bs ≡ true → 9 ≤ top kind → top kind < spelled 0 bs
-    → read_from at (goes (digit kind start) os) bs ≡ fails (OutOfRange start)
-number_past at start kind os [] d nine h = absurd (false≢true d)
-number_past at start kind os (b ∷ bs) d nine h =
-    let v = first_value b bs d in
-    digit_first at start b kind os bs d
-    ∙ read_passes (at + 1) start (b - 48) kind os bs (omega (arith, digit_small b d, nine)) (omega (arith, v, h))
+pub number-past : (at start : ℕ) (kind : Number) (os : List OpenBracket) (bs : List ℕ) → begins is_digit bs ≡ true → 9 ≤ max_magnitude kind → max_magnitude kind < spelled 0 bs
+    → read_from at (reads_on (digit kind start) os) bs ≡ fails (OutOfRange start)
+number-past at start kind os [] d nine h = absurd (false≢true d)
+number-past at start kind os (b ∷ bs) d nine h =
+    let v = first-value b bs d in
+    digit-first at start b kind os bs d
+    ∙ read-passes (at + 1) start (b - 48) kind os bs (omega (arith, digit-small b d, nine)) (omega (arith, v, h))
 
-drop_drop_at : (text : List ℕ) (at k : ℕ) → drop k (drop at text) ≡ drop (at + k) text
-drop_drop_at text at k = drop-drop k at text
+drop-drop-at : (text : List ℕ) (at k : ℕ) → drop k (drop at text) ≡ drop (at + k) text
+drop-drop-at text at k = drop-drop k at text
 
 pub begins_at : (p : ℕ → Bool) (text : List ℕ) (at : ℕ) → at < length text → begins p (drop at text) ≡ p (get_or text at 0)
 begins_at p text at h = rw (drop-cons text at 0) refl
@@ -162,34 +162,34 @@ begins_in p [] (suc n) h = absurd (false≢true h)
 begins_in p (b ∷ bs) zero h = omega arith
 begins_in p (b ∷ bs) (suc n) h = let r = begins_in p bs n h in omega (arith, r)
 
-pub number_comes : (text : List ℕ) (at start v n : ℕ) (kind : Number) (os : List Open) → at < length text → is_digit (get_or text at 0) ≡ true
-    → v ≡ spelled 0 (drop at text) → v ≤ top kind → n ≡ at + prefix_len is_digit (drop at text) → Comes text at (goes (digit kind start) os) n (counted n kind v os)
-number_comes text at start v n kind os h d e fits en =
-    number_here at start kind os (drop at text) (begins_at is_digit text at h ∙ d) (omega (arith, e, fits))
-    ∙ ap (λ (xs : List ℕ). read_from (at + prefix_len is_digit (drop at text)) (counted (at + prefix_len is_digit (drop at text)) kind (spelled 0 (drop at text)) os) xs) (drop_drop_at text at (prefix_len is_digit (drop at text)))
+pub number-reaches : (text : List ℕ) (at start v n : ℕ) (kind : Number) (os : List OpenBracket) → at < length text → is_digit (get_or text at 0) ≡ true
+    → v ≡ spelled 0 (drop at text) → v ≤ max_magnitude kind → n ≡ at + prefix_len is_digit (drop at text) → Reaches text at (reads_on (digit kind start) os) n (counted n kind v os)
+number-reaches text at start v n kind os h d e fits en =
+    number-here at start kind os (drop at text) (begins_at is_digit text at h ∙ d) (omega (arith, e, fits))
+    ∙ ap (λ (xs : List ℕ). read_from (at + prefix_len is_digit (drop at text)) (counted (at + prefix_len is_digit (drop at text)) kind (spelled 0 (drop at text)) os) xs) (drop-drop-at text at (prefix_len is_digit (drop at text)))
     ∙ cc
 
-pub number_fails : (text : List ℕ) (at start : ℕ) (kind : Number) (os : List Open) → at < length text → is_digit (get_or text at 0) ≡ true
-    → 9 ≤ top kind → top kind < spelled 0 (drop at text) → read_from at (goes (digit kind start) os) (drop at text) ≡ fails (OutOfRange start)
-number_fails text at start kind os h d nine far = number_past at start kind os (drop at text) (begins_at is_digit text at h ∙ d) nine far
+pub number-fails : (text : List ℕ) (at start : ℕ) (kind : Number) (os : List OpenBracket) → at < length text → is_digit (get_or text at 0) ≡ true
+    → 9 ≤ max_magnitude kind → max_magnitude kind < spelled 0 (drop at text) → read_from at (reads_on (digit kind start) os) (drop at text) ≡ fails (OutOfRange start)
+number-fails text at start kind os h d nine far = number-past at start kind os (drop at text) (begins_at is_digit text at h ∙ d) nine far
 
 -- signs at the end of the text, and before another byte
-pub signs_end : (text cs : List ℕ) (place i : ℕ) (goal : Goal) (os : List Open) → i < length cs → length text ≤ place
-    → read_from place (arrive place (drop i cs) goal os) (drop place text) ≡ fails (Unclosed place)
-signs_end text cs place i goal os h k = ends_at text place _ k ∙ at_drop_more (λ (xs : List ℕ). end place (arrive place xs goal os)) cs i 0 h
+pub signs-end : (text cs : List ℕ) (place i : ℕ) (goal : Expect) (os : List OpenBracket) → i < length cs → length text ≤ place
+    → read_from place (expect place (drop i cs) goal os) (drop place text) ≡ fails (Unclosed place)
+signs-end text cs place i goal os h k = ends-at text place _ k ∙ at_drop_more (λ (xs : List ℕ). end place (expect place xs goal os)) cs i 0 h
 
-pub signs_wrong : (text cs : List ℕ) (place i : ℕ) (goal : Goal) (os : List Open) → i < length cs → place < length text → (get_or text place 0 == get_or cs i 0) ≡ false
-    → read_from place (arrive place (drop i cs) goal os) (drop place text) ≡ fails (Unexpected place)
-signs_wrong text cs place i goal os h k e =
-    fails_at text place (arrive place (drop i cs) goal os) (Unexpected place) k
-    (at_drop_more (λ (xs : List ℕ). take_byte place (arrive place xs goal os) (get_or text place 0)) cs i 0 h ∙ if_false _ _ _ e)
+pub signs-wrong : (text cs : List ℕ) (place i : ℕ) (goal : Expect) (os : List OpenBracket) → i < length cs → place < length text → (get_or text place 0 == get_or cs i 0) ≡ false
+    → read_from place (expect place (drop i cs) goal os) (drop place text) ≡ fails (Unexpected place)
+signs-wrong text cs place i goal os h k e =
+    fails-at text place (expect place (drop i cs) goal os) (Unexpected place) k
+    (at_drop_more (λ (xs : List ℕ). take_byte place (expect place xs goal os) (get_or text place 0)) cs i 0 h ∙ if-false _ _ _ e)
 
 -- What is read from z on is read from s on, where s comes to z.
-pub reads_along : (text : List ℕ) (at n : ℕ) (s z : Reading) (os : List Open) (r : Result (Term × ℕ) TextFault) → Comes text at s n z → Reads text n z os r → Reads text at s os r
+pub reads_along : (text : List ℕ) (at n : ℕ) (s z : Reading) (os : List OpenBracket) (r : Result (Term × ℕ) TextFault) → Reaches text at s n z → Reads text n z os r → Reads text at s os r
 reads_along text at n s z os (Ok x) e h = e ∙ h
-reads_along text at n s z os (Err f) e h = fails_along f _ _ e h
+reads_along text at n s z os (Err f) e h = fails-along f _ _ e h
 
 -- What is read in no bracket is what the text gives.
-pub reads_gives : (text : List ℕ) (r : Result (Term × ℕ) TextFault) → Reads text 0 (goes (wants false) []) [] r → GivesTerm (reading text) r
-reads_gives text (Ok x) h = h ∙ read_found x.1 x.0 x.1 (drop x.1 text)
-reads_gives text (Err f) h = h
+pub reads-gives : (text : List ℕ) (r : Result (Term × ℕ) TextFault) → Reads text 0 (reads_on (wants false) []) [] r → GivesTerm (reading text) r
+reads-gives text (Ok x) h = h ∙ read-found x.1 x.0 x.1 (drop x.1 text)
+reads-gives text (Err f) h = h

@@ -22,85 +22,85 @@ use Rattle.ets_term.specs.declared.term.Term.TheFolds.{map-Term}
 use Rattle.ets_term.specs.declared.term.Term.TheOpen.{Term-F}
 use Rattle.ets_term.specs.declared.term.Term.TheVariants.{Int, Atom, Pid, Tid, Tuple, List as ListOf, Binary, rolls-Int, rolls-Atom, rolls-Pid, rolls-Tid, rolls-Tuple, rolls-List, rolls-Binary}
 use Rattle.term_text.specs.Grammar.{SpellsNumber, SpellsQuoted, SpellsBytes, Spells, SpellsRow, none, plain, escaped as escaped_form, first, more, positive, negative, plain_atom, quoted_atom, pid_form, identifier_form, no_bytes, bytes, empty_bracket, full_bracket, first_term, more_terms}
-use Rattle.term_text.specs.Reader.{Number, integer, pid, identifier, byte, top}
+use Rattle.term_text.specs.Reader.{Number, integer, pid, identifier, byte, max_magnitude}
 use Rattle.term_text.specs.Printed.{is_plain, escaped, atom_text, row_text, printed}
 use Rattle.term_text.specs.RoundTrip.{ReadsBack}
 use Rattle.term_text.specs.Text.{is_digit, is_small, is_name, begins, spelled}
-use Rattle.term_text.proofs.Places.{by_test, if_true, if_false}
+use Rattle.term_text.proofs.Places.{by-test, if-true, if-false}
 use Rattle.term_text.proofs.Printed.{printed-Int, printed-Atom, printed-Pid, printed-Tid, printed-Tuple, printed-List, printed-Binary}
-use Rattle.term_text.proofs.Spelled.{front_read}
+use Rattle.term_text.proofs.Spelled.{front-read}
 
 -- numbers
 digit_in : (c : ℕ) → 48 ≤ c → c ≤ 57 → is_digit c ≡ true
 unfolding is_digit
 digit_in c h k = grind (arith, nat_tests)
 
-digit_here : (c : ℕ) → digit_value c < 10 → is_digit c ≡ true
-digit_here c h = let r = digit_from_value c h in digit_in c (omega (arith, r)) (omega (arith, r))
+digit-here : (c : ℕ) → digit_value c < 10 → is_digit c ≡ true
+digit-here c h = let r = digit_from_value c h in digit_in c (omega (arith, r)) (omega (arith, r))
 
-digits_here : (ds : List ℕ) → AllDigits 10 ds → list_all is_digit ds ≡ true
-digits_here [] h = refl
-digits_here (c ∷ cs) h = rw (digit_here c h.0) (digits_here cs h.1)
+digits-here : (ds : List ℕ) → AllDigits 10 ds → list_all is_digit ds ≡ true
+digits-here [] h = refl
+digits-here (c ∷ cs) h = rw (digit-here c h.0) (digits-here cs h.1)
 
-first_here : (ds : List ℕ) → 0 < length ds → AllDigits 10 ds → begins is_digit ds ≡ true
-first_here [] h k = absurd (omega (arith, h))
-first_here (c ∷ cs) h k = digit_here c k.0
+first-here : (ds : List ℕ) → 0 < length ds → AllDigits 10 ds → begins is_digit ds ≡ true
+first-here [] h k = absurd (omega (arith, h))
+first-here (c ∷ cs) h k = digit-here c k.0
 
-value_here : (n : ℕ) (ds : List ℕ) → AllDigits 10 ds → spelled n ds ≡ digits_value_after 10 n ds
-value_here n [] h = refl
-value_here n (c ∷ cs) h =
-    if_true _ _ _ (digit_here c h.0)
+value-here : (n : ℕ) (ds : List ℕ) → AllDigits 10 ds → spelled n ds ≡ digits_value_after 10 n ds
+value-here n [] h = refl
+value-here n (c ∷ cs) h =
+    if-true _ _ _ (digit-here c h.0)
     ∙ ap (λ (m : ℕ). spelled m cs) (let r = digit_value_digit c (digit_from_value c h.0) in omega (arith, r))
-    ∙ value_here (n * 10 + digit_value c) cs h.1
+    ∙ value-here (n * 10 + digit_value c) cs h.1
 
-number_spelled : (kind : Number) (n : ℕ) → n < 10 ^ 64 → n ≤ top kind → SpellsNumber kind (decimal n) n
-number_spelled kind n h k = let e = decimal_is_IsNumeral_wide n h in
-    record { some = first_here (decimal n) e.0.0 e.0.1; each = digits_here (decimal n) e.0.1; value = value_here 0 (decimal n) e.0.1 ∙ e.1; fits = k }
+number-spelled : (kind : Number) (n : ℕ) → n < 10 ^ 64 → n ≤ max_magnitude kind → SpellsNumber kind (decimal n) n
+number-spelled kind n h k = let e = decimal_is_IsNumeral_wide n h in
+    record { some = first-here (decimal n) e.0.0 e.0.1; each = digits-here (decimal n) e.0.1; value = value-here 0 (decimal n) e.0.1 ∙ e.1; fits = k }
 
-integer_spelled : (k : ℕ) (n : ℤ) → least ≤ℤ n → n ≤ℤ greatest → Spells (suc k) (signed_decimal n) (Int n)
-integer_spelled k (pos n) low high = positive k (decimal n) n (let r : n ≤ 2 ^ 127 - 1 = omega (arith, ints, high) in number_spelled (integer false) n (omega (arith, r)) r)
-integer_spelled k (negsuc n) low high = negative k (decimal (suc n)) (suc n) (let r : n ≤ 2 ^ 127 - 1 = omega (arith, ints, low) in number_spelled (integer true) (suc n) (omega (arith, r)) (omega (arith, r)))
+integer-spelled : (k : ℕ) (n : ℤ) → least ≤ℤ n → n ≤ℤ greatest → Spells (suc k) (signed_decimal n) (Int n)
+integer-spelled k (pos n) low high = positive k (decimal n) n (let r : n ≤ 2 ^ 127 - 1 = omega (arith, ints, high) in number-spelled (integer false) n (omega (arith, r)) r)
+integer-spelled k (negsuc n) low high = negative k (decimal (suc n)) (suc n) (let r : n ≤ 2 ^ 127 - 1 = omega (arith, ints, low) in number-spelled (integer true) (suc n) (omega (arith, r)) (omega (arith, r)))
 
 -- atoms
-quoted_along : (s t cs ds : List ℕ) → s ≡ t → cs ≡ ds → SpellsQuoted 39 s cs → SpellsQuoted 39 t ds
-quoted_along s t cs ds e f h = subst (λ (w : List ℕ). SpellsQuoted 39 w ds) e (subst (λ (w : List ℕ). SpellsQuoted 39 s w) f h)
+quoted-along : (s t cs ds : List ℕ) → s ≡ t → cs ≡ ds → SpellsQuoted 39 s cs → SpellsQuoted 39 t ds
+quoted-along s t cs ds e f h = subst (λ (w : List ℕ). SpellsQuoted 39 w ds) e (subst (λ (w : List ℕ). SpellsQuoted 39 s w) f h)
 
-quoted_on : (t ds s : List ℕ) → SpellsQuoted 39 t ds → list_all is_character s ≡ true → SpellsQuoted 39 (t ++ flat_map escaped s) (ds ++ s)
-quoted_on t ds [] sp h = quoted_along t (t ++ []) ds (ds ++ []) (sym (append-nil t)) (sym (append-nil ds)) sp
-quoted_on t ds (c ∷ s) sp h =
+quoted-on : (t ds s : List ℕ) → SpellsQuoted 39 t ds → list_all is_character s ≡ true → SpellsQuoted 39 (t ++ flat_map escaped s) (ds ++ s)
+quoted-on t ds [] sp h = quoted-along t (t ++ []) ds (ds ++ []) (sym (append-nil t)) (sym (append-nil ds)) sp
+quoted-on t ds (c ∷ s) sp h =
     let q = and_parts (is_character c) (list_all is_character s) h in
     let tail : List ℕ = flat_map escaped s in
-    by_test ((c == 39) || (c == 92))
-    (λ e. quoted_along _ (t ++ (escaped c ++ tail)) _ (ds ++ c ∷ s)
-    (append_assoc t (92 ∷ c ∷ []) tail ∙ ap (λ (w : List ℕ). t ++ (w ++ tail)) (sym (if_true _ _ _ e))) (append_assoc ds (c ∷ []) s)
-    (quoted_on (t ++ 92 ∷ c ∷ []) (ds ++ c ∷ []) s (escaped_form t ds c sp e) q.1))
+    by-test ((c == 39) || (c == 92))
+    (λ e. quoted-along _ (t ++ (escaped c ++ tail)) _ (ds ++ c ∷ s)
+    (append_assoc t (92 ∷ c ∷ []) tail ∙ ap (λ (w : List ℕ). t ++ (w ++ tail)) (sym (if-true _ _ _ e))) (append_assoc ds (c ∷ []) s)
+    (quoted-on (t ++ 92 ∷ c ∷ []) (ds ++ c ∷ []) s (escaped_form t ds c sp e) q.1))
     (λ e. let z = or_parts (c == 39) (c == 92) e in
-    quoted_along _ (t ++ (escaped c ++ tail)) _ (ds ++ c ∷ s)
-    (append_assoc t (c ∷ []) tail ∙ ap (λ (w : List ℕ). t ++ (w ++ tail)) (sym (if_false _ _ _ e))) (append_assoc ds (c ∷ []) s)
-    (quoted_on (t ++ c ∷ []) (ds ++ c ∷ []) s (plain t ds c sp q.0 z.0 z.1) q.1))
+    quoted-along _ (t ++ (escaped c ++ tail)) _ (ds ++ c ∷ s)
+    (append_assoc t (c ∷ []) tail ∙ ap (λ (w : List ℕ). t ++ (w ++ tail)) (sym (if-false _ _ _ e))) (append_assoc ds (c ∷ []) s)
+    (quoted-on (t ++ c ∷ []) (ds ++ c ∷ []) s (plain t ds c sp q.0 z.0 z.1) q.1))
 
-atom_spelled : (k : ℕ) (s : List ℕ) → IsAtomText s → Spells (suc k) (atom_text s) (Atom s)
-atom_spelled k s h = by_test (is_plain s)
+atom-spelled : (k : ℕ) (s : List ℕ) → IsAtomText s → Spells (suc k) (atom_text s) (Atom s)
+atom-spelled k s h = by-test (is_plain s)
     (λ e. let q = and_parts (begins is_small s) (list_all is_name s) e in
-    subst (λ (w : List ℕ). Spells (suc k) w (Atom s)) (sym (if_true _ _ _ e)) (plain_atom k s q.0 q.1 h.short))
-    (λ e. subst (λ (w : List ℕ). Spells (suc k) w (Atom s)) (sym (if_false _ _ _ e)) (quoted_atom k (flat_map escaped s) s (quoted_on [] [] s none h.each) h.short))
+    subst (λ (w : List ℕ). Spells (suc k) w (Atom s)) (sym (if-true _ _ _ e)) (plain_atom k s q.0 q.1 h.short))
+    (λ e. subst (λ (w : List ℕ). Spells (suc k) w (Atom s)) (sym (if-false _ _ _ e)) (quoted_atom k (flat_map escaped s) s (quoted-on [] [] s none h.each) h.short))
 
 -- binaries
-bytes_along : (s t cs ds : List ℕ) → s ≡ t → cs ≡ ds → SpellsBytes s cs → SpellsBytes t ds
-bytes_along s t cs ds e f h = subst (λ (w : List ℕ). SpellsBytes w ds) e (subst (λ (w : List ℕ). SpellsBytes s w) f h)
+bytes-along : (s t cs ds : List ℕ) → s ≡ t → cs ≡ ds → SpellsBytes s cs → SpellsBytes t ds
+bytes-along s t cs ds e f h = subst (λ (w : List ℕ). SpellsBytes w ds) e (subst (λ (w : List ℕ). SpellsBytes s w) f h)
 
-byte_spelled : (b : ℕ) → b < 256 → SpellsNumber (byte []) (decimal b) b
-byte_spelled b h = number_spelled (byte []) b (omega (arith, h)) (omega (arith, h))
+byte-spelled : (b : ℕ) → b < 256 → SpellsNumber (byte []) (decimal b) b
+byte-spelled b h = number-spelled (byte []) b (omega (arith, h)) (omega (arith, h))
 
-bytes_on : (row us bs : List ℕ) → SpellsBytes row us → AllByRecursion (λ b. b < 256) bs → SpellsBytes (row ++ row_text true (map decimal bs)) (us ++ bs)
-bytes_on row us [] sp h = bytes_along row (row ++ []) us (us ++ []) (sym (append-nil row)) (sym (append-nil us)) sp
-bytes_on row us (b ∷ bs) sp h =
-    bytes_along _ (row ++ row_text true (map decimal (b ∷ bs))) _ (us ++ b ∷ bs) (append_assoc row (44 ∷ decimal b) (row_text true (map decimal bs))) (append_assoc us (b ∷ []) bs)
-    (bytes_on (row ++ 44 ∷ decimal b) (us ++ b ∷ []) bs (more row [] [] (decimal b) us b sp refl refl (byte_spelled b h.0)) h.1)
+bytes-on : (row us bs : List ℕ) → SpellsBytes row us → AllByRecursion (λ b. b < 256) bs → SpellsBytes (row ++ row_text true (map decimal bs)) (us ++ bs)
+bytes-on row us [] sp h = bytes-along row (row ++ []) us (us ++ []) (sym (append-nil row)) (sym (append-nil us)) sp
+bytes-on row us (b ∷ bs) sp h =
+    bytes-along _ (row ++ row_text true (map decimal (b ∷ bs))) _ (us ++ b ∷ bs) (append_assoc row (44 ∷ decimal b) (row_text true (map decimal bs))) (append_assoc us (b ∷ []) bs)
+    (bytes-on (row ++ 44 ∷ decimal b) (us ++ b ∷ []) bs (more row [] [] (decimal b) us b sp refl refl (byte-spelled b h.0)) h.1)
 
-binary_spelled : (k : ℕ) (bs : List ℕ) → AllByRecursion (λ b. b < 256) bs → Spells (suc k) ((60 ∷ 60 ∷ []) ++ (row_text false (map decimal bs) ++ 62 ∷ 62 ∷ [])) (Binary bs)
-binary_spelled k [] h = no_bytes k [] refl
-binary_spelled k (b ∷ bs) h = bytes k (decimal b ++ row_text true (map decimal bs)) [] (b ∷ bs) (bytes_on (decimal b) (b ∷ []) bs (first [] (decimal b) b refl (byte_spelled b h.0)) h.1) refl
+binary-spelled : (k : ℕ) (bs : List ℕ) → AllByRecursion (λ b. b < 256) bs → Spells (suc k) ((60 ∷ 60 ∷ []) ++ (row_text false (map decimal bs) ++ 62 ∷ 62 ∷ [])) (Binary bs)
+binary-spelled k [] h = no_bytes k [] refl
+binary-spelled k (b ∷ bs) h = bytes k (decimal b ++ row_text true (map decimal bs)) [] (b ∷ bs) (bytes-on (decimal b) (b ∷ []) bs (first [] (decimal b) b refl (byte-spelled b h.0)) h.1) refl
 
 -- terms
 abbrev IsSpelled : Term → Type 0
@@ -112,41 +112,41 @@ Known = (t : Term) × IsSpelled t
 abbrev bare : Known → Term
 bare k = k.0
 
-row_along : (k : ℕ) (s t : List ℕ) (ts us : List Term) → s ≡ t → ts ≡ us → SpellsRow k s ts → SpellsRow k t us
-row_along k s t ts us e f h = subst (λ (w : List ℕ). SpellsRow k w us) e (subst (λ (w : List Term). SpellsRow k s w) f h)
+row-along : (k : ℕ) (s t : List ℕ) (ts us : List Term) → s ≡ t → ts ≡ us → SpellsRow k s ts → SpellsRow k t us
+row-along k s t ts us e f h = subst (λ (w : List ℕ). SpellsRow k w us) e (subst (λ (w : List Term). SpellsRow k s w) f h)
 
-max_left : (m n k : ℕ) → max m n ≤ k → m ≤ k
-max_left m n k h = omega (arith, h)
+max-left : (m n k : ℕ) → max m n ≤ k → m ≤ k
+max-left m n k h = omega (arith, h)
 
-max_right : (m n k : ℕ) → max m n ≤ k → n ≤ k
-max_right m n k h = omega (arith, h)
+max-right : (m n k : ℕ) → max m n ≤ k → n ≤ k
+max-right m n k h = omega (arith, h)
 
-row_on : (k : ℕ) (row : List ℕ) (us : List Term) (xs : List Known) → SpellsRow k row us → RowFits (row_of (map data_of (map bare xs))) → largest (map depth (map bare xs)) ≤ k
+row-on : (k : ℕ) (row : List ℕ) (us : List Term) (xs : List Known) → SpellsRow k row us → RowFits (row_of (map data_of (map bare xs))) → largest (map depth (map bare xs)) ≤ k
     → SpellsRow k (row ++ row_text true (map printed (map bare xs))) (us ++ map bare xs)
-row_on k row us [] sp h d = row_along k row (row ++ []) us (us ++ []) (sym (append-nil row)) (sym (append-nil us)) sp
-row_on k row us (x ∷ xs) sp h d =
+row-on k row us [] sp h d = row-along k row (row ++ []) us (us ++ []) (sym (append-nil row)) (sym (append-nil us)) sp
+row-on k row us (x ∷ xs) sp h d =
     let tail : List ℕ = row_text true (map printed (map bare xs)) in
-    row_along k _ (row ++ 44 ∷ (printed x.0 ++ tail)) _ (us ++ x.0 ∷ map bare xs) (append_assoc row (44 ∷ printed x.0) tail) (append_assoc us (x.0 ∷ []) (map bare xs))
-    (row_on k (row ++ 44 ∷ printed x.0) (us ++ x.0 ∷ []) xs (more_terms k row [] [] (printed x.0) us x.0 sp refl refl (x.1 k h.0 (max_left _ _ k d))) h.1 (max_right (depth x.0) _ k d))
+    row-along k _ (row ++ 44 ∷ (printed x.0 ++ tail)) _ (us ++ x.0 ∷ map bare xs) (append_assoc row (44 ∷ printed x.0) tail) (append_assoc us (x.0 ∷ []) (map bare xs))
+    (row-on k (row ++ 44 ∷ printed x.0) (us ++ x.0 ∷ []) xs (more_terms k row [] [] (printed x.0) us x.0 sp refl refl (x.1 k h.0 (max-left _ _ k d))) h.1 (max-right (depth x.0) _ k d))
 
-row_spelled : (k : ℕ) (x : Known) (xs : List Known) → RowFits (row_of (map data_of (map bare (x ∷ xs)))) → largest (map depth (map bare (x ∷ xs))) ≤ k
+row-spelled : (k : ℕ) (x : Known) (xs : List Known) → RowFits (row_of (map data_of (map bare (x ∷ xs)))) → largest (map depth (map bare (x ∷ xs))) ≤ k
     → SpellsRow k (row_text false (map printed (map bare (x ∷ xs)))) (map bare (x ∷ xs))
-row_spelled k x xs h d = row_on k (printed x.0) (x.0 ∷ []) xs (first_term k [] (printed x.0) x.0 refl (x.1 k h.0 (max_left _ _ k d))) h.1 (max_right (depth x.0) _ k d)
+row-spelled k x xs h d = row-on k (printed x.0) (x.0 ∷ []) xs (first_term k [] (printed x.0) x.0 refl (x.1 k h.0 (max-left _ _ k d))) h.1 (max-right (depth x.0) _ k d)
 
-tuple_spelled : (k : ℕ) (xs : List Known) → RowFits (row_of (map data_of (map bare xs))) → largest (map depth (map bare xs)) ≤ k
+tuple-spelled : (k : ℕ) (xs : List Known) → RowFits (row_of (map data_of (map bare xs))) → largest (map depth (map bare xs)) ≤ k
     → Spells (suc k) ((123 ∷ []) ++ (row_text false (map printed (map bare xs)) ++ 125 ∷ [])) (Tuple (map bare xs))
-tuple_spelled k [] h d = empty_bracket k false [] refl
-tuple_spelled k (x ∷ xs) h d = full_bracket k false (row_text false (map printed (map bare (x ∷ xs)))) [] (map bare (x ∷ xs)) (row_spelled k x xs h d) refl
+tuple-spelled k [] h d = empty_bracket k false [] refl
+tuple-spelled k (x ∷ xs) h d = full_bracket k false (row_text false (map printed (map bare (x ∷ xs)))) [] (map bare (x ∷ xs)) (row-spelled k x xs h d) refl
 
-list_spelled : (k : ℕ) (xs : List Known) → RowFits (row_of (map data_of (map bare xs))) → largest (map depth (map bare xs)) ≤ k
+list-spelled : (k : ℕ) (xs : List Known) → RowFits (row_of (map data_of (map bare xs))) → largest (map depth (map bare xs)) ≤ k
     → Spells (suc k) ((91 ∷ []) ++ (row_text false (map printed (map bare xs)) ++ 93 ∷ [])) (ListOf (map bare xs))
-list_spelled k [] h d = empty_bracket k true [] refl
-list_spelled k (x ∷ xs) h d = full_bracket k true (row_text false (map printed (map bare (x ∷ xs)))) [] (map bare (x ∷ xs)) (row_spelled k x xs h d) refl
+list-spelled k [] h d = empty_bracket k true [] refl
+list-spelled k (x ∷ xs) h d = full_bracket k true (row_text false (map printed (map bare (x ∷ xs)))) [] (map bare (x ∷ xs)) (row-spelled k x xs h d) refl
 
 -- A term whose tree, text and depth are known is spelled, if it is one level further in.
-by_parts : (t : Term) (z : Data) (text : List ℕ) (inner : ℕ) → data_of t ≡ z → printed t ≡ text → depth t ≡ inner + 1 → ((k : ℕ) → DataFits z → inner ≤ k → Spells (suc k) text t) → IsSpelled t
-by_parts t z text inner e f g h zero fits d = absurd (omega (arith, g, d))
-by_parts t z text inner e f g h (suc k) fits d = subst (λ (w : List ℕ). Spells (suc k) w t) (sym f) (h k (subst DataFits e fits) (omega (arith, g, d)))
+by-parts : (t : Term) (z : Data) (text : List ℕ) (inner : ℕ) → data_of t ≡ z → printed t ≡ text → depth t ≡ inner + 1 → ((k : ℕ) → DataFits z → inner ≤ k → Spells (suc k) text t) → IsSpelled t
+by-parts t z text inner e f g h zero fits d = absurd (omega (arith, g, d))
+by-parts t z text inner e f g h (suc k) fits d = subst (λ (w : List ℕ). Spells (suc k) w t) (sym f) (h k (subst DataFits e fits) (omega (arith, g, d)))
 
 data-Int : (n : ℤ) → data_of (Int n) ≡ int n
 data-Int n = search (rules, the_lemmas)
@@ -190,23 +190,23 @@ depth-List ts = search (rules, the_lemmas)
 depth-Binary : (bs : List ℕ) → depth (Binary bs) ≡ 0 + 1
 depth-Binary bs = search (rules, the_lemmas)
 
-number_32 : (kind : Number) (n : ℕ) → n < 2 ^ 32 → top kind ≡ 2 ^ 32 - 1 → SpellsNumber kind (decimal n) n
-number_32 kind n h e = number_spelled kind n (omega (arith, h)) (omega (arith, h, e))
+number-32 : (kind : Number) (n : ℕ) → n < 2 ^ 32 → max_magnitude kind ≡ 2 ^ 32 - 1 → SpellsNumber kind (decimal n) n
+number-32 kind n h e = number-spelled kind n (omega (arith, h)) (omega (arith, h, e))
 
-one_spelled : (y : Term-F Known) → IsSpelled (roll-Term (map-Term Known Term bare y))
-one_spelled (Term-F.Int n) = subst IsSpelled (sym (rolls-Int n)) (by_parts (Int n) (int n) _ 0 (data-Int n) (printed-Int n) (depth-Int n) (λ k h d. integer_spelled k n h.0 h.1))
-one_spelled (Term-F.Atom s) = subst IsSpelled (sym (rolls-Atom s)) (by_parts (Atom s) (atom s) _ 0 (data-Atom s) (printed-Atom s) (depth-Atom s) (λ k h d. atom_spelled k s h))
-one_spelled (Term-F.Pid n) = subst IsSpelled (sym (rolls-Pid n)) (by_parts (Pid n) (pid_data n) _ 0 (data-Pid n) (printed-Pid n) (depth-Pid n) (λ k h d. pid_form k (decimal n) n (number_32 pid n h refl)))
-one_spelled (Term-F.Tid n) = subst IsSpelled (sym (rolls-Tid n)) (by_parts (Tid n) (tid n) _ 0 (data-Tid n) (printed-Tid n) (depth-Tid n) (λ k h d. identifier_form k (decimal n) n (number_32 identifier n h refl)))
-one_spelled (Term-F.Tuple xs) = let ts : List Term = map bare xs in
-    subst IsSpelled (sym (rolls-Tuple ts)) (by_parts (Tuple ts) (tuple (row_of (map data_of ts))) _ (largest (map depth ts)) (data-Tuple ts) (printed-Tuple ts) (depth-Tuple ts) (λ k h d. tuple_spelled k xs h d))
-one_spelled (Term-F.List xs) = let ts : List Term = map bare xs in
-    subst IsSpelled (sym (rolls-List ts)) (by_parts (ListOf ts) (list (row_of (map data_of ts))) _ (largest (map depth ts)) (data-List ts) (printed-List ts) (depth-List ts) (λ k h d. list_spelled k xs h d))
-one_spelled (Term-F.Binary bs) = subst IsSpelled (sym (rolls-Binary bs)) (by_parts (Binary bs) (binary bs) _ 0 (data-Binary bs) (printed-Binary bs) (depth-Binary bs) (λ k h d. binary_spelled k bs h))
+one-spelled : (y : Term-F Known) → IsSpelled (roll-Term (map-Term Known Term bare y))
+one-spelled (Term-F.Int n) = subst IsSpelled (sym (rolls-Int n)) (by-parts (Int n) (int n) _ 0 (data-Int n) (printed-Int n) (depth-Int n) (λ k h d. integer-spelled k n h.0 h.1))
+one-spelled (Term-F.Atom s) = subst IsSpelled (sym (rolls-Atom s)) (by-parts (Atom s) (atom s) _ 0 (data-Atom s) (printed-Atom s) (depth-Atom s) (λ k h d. atom-spelled k s h))
+one-spelled (Term-F.Pid n) = subst IsSpelled (sym (rolls-Pid n)) (by-parts (Pid n) (pid_data n) _ 0 (data-Pid n) (printed-Pid n) (depth-Pid n) (λ k h d. pid_form k (decimal n) n (number-32 pid n h refl)))
+one-spelled (Term-F.Tid n) = subst IsSpelled (sym (rolls-Tid n)) (by-parts (Tid n) (tid n) _ 0 (data-Tid n) (printed-Tid n) (depth-Tid n) (λ k h d. identifier_form k (decimal n) n (number-32 identifier n h refl)))
+one-spelled (Term-F.Tuple xs) = let ts : List Term = map bare xs in
+    subst IsSpelled (sym (rolls-Tuple ts)) (by-parts (Tuple ts) (tuple (row_of (map data_of ts))) _ (largest (map depth ts)) (data-Tuple ts) (printed-Tuple ts) (depth-Tuple ts) (λ k h d. tuple-spelled k xs h d))
+one-spelled (Term-F.List xs) = let ts : List Term = map bare xs in
+    subst IsSpelled (sym (rolls-List ts)) (by-parts (ListOf ts) (list (row_of (map data_of ts))) _ (largest (map depth ts)) (data-List ts) (printed-List ts) (depth-List ts) (λ k h d. list-spelled k xs h d))
+one-spelled (Term-F.Binary bs) = subst IsSpelled (sym (rolls-Binary bs)) (by-parts (Binary bs) (binary bs) _ 0 (data-Binary bs) (printed-Binary bs) (depth-Binary bs) (λ k h d. binary-spelled k bs h))
 
-pub printed_spells : (t : Term) → IsSpelled t
-printed_spells = ind-Term IsSpelled (λ x y e. subst (λ (z : Term-F Term). IsSpelled (roll-Term z)) e (one_spelled y))
+pub printed-spells : (t : Term) → IsSpelled t
+printed-spells = ind-Term IsSpelled (λ x y e. subst (λ (z : Term-F Term). IsSpelled (roll-Term z)) e (one-spelled y))
 
-pub reads_back : (t : Term) (rest : List ℕ) → ReadsBack t rest
-reads_back t rest fits d ends = front_read (printed t ++ rest) t (length (printed t))
-    (record { blanks = []; spelling = printed t; rest = rest; whole = refl; taken = refl; are_blanks = refl; spells = printed_spells t 128 fits d; ends = ends })
+pub reads-back : (t : Term) (rest : List ℕ) → ReadsBack t rest
+reads-back t rest fits d ends = front-read (printed t ++ rest) t (length (printed t))
+    (record { blanks = []; spelling = printed t; rest = rest; whole = refl; taken = refl; are_blanks = refl; spells = printed-spells t 128 fits d; ends = ends })

@@ -7,107 +7,107 @@ use Rattle.ets_term.specs.declared.term.Term.TheVariants.{Int, Atom}
 use Rattle.term_text.specs.declared.fault.TextFault.{TextFault}
 use Rattle.term_text.specs.declared.fault.TextFault.TheVariants.{OutOfRange, AtomTooLong}
 use Rattle.term_text.specs.Text.{is_blank, is_digit, is_small, is_name, begins}
-use Rattle.term_text.specs.Reader.{Open, integer, byte, Mode, wants, digit, number, name, quoted, escaped, signs, angle, opened_binary, wants_byte, behind_byte, behind_string, after, Reading, goes, found, fails, signed, top, next, end, read_from, reading}
+use Rattle.term_text.specs.Reader.{OpenBracket, integer, byte, Mode, wants, digit, number, name, quoted, escaped, signs, angle, opened_binary, wants_byte, behind_byte, behind_string, after, Reading, reads_on, found, fails, signed, max_magnitude, next, end, read_from, reading}
 use Rattle.term_text.specs.Faults.{plain_form}
 use Rattle.term_text.specs.Grammar.{Spells, Ends, Front, plain_atom}
-use Rattle.term_text.proofs.Places.{read_fails}
-use Rattle.term_text.proofs.Meaning.{At, Holds, Means, MeansIn, all_more, at_more, begins_more, holds_if, more_len, noticed}
-use Rattle.term_text.proofs.Signs.{is_byte, small_no_number}
-use Rattle.term_text.proofs.SoundBinaries.{angle_second, first_byte, string_holds}
-use Rattle.term_text.proofs.SoundBrackets.{begin_holds, here_blank, opened_holds}
-use Rattle.term_text.proofs.SoundNumbers.{byte_holds, bytes_blank, digit_holds, integer_spelled, more_digits, number_holds}
-use Rattle.term_text.proofs.SoundQuotes.{escaped_holds, quoted_holds}
-use Rattle.term_text.proofs.SoundTerms.{after_holds, behind_form, behind_holds, front_of, sign_holds}
+use Rattle.term_text.proofs.Places.{read-fails}
+use Rattle.term_text.proofs.Meaning.{At, Holds, Means, MeansIn, all-more, at_more, begins-more, holds-if, more-len, noticed}
+use Rattle.term_text.proofs.Signs.{is-byte, small-no-number}
+use Rattle.term_text.proofs.SoundBinaries.{angle-second, first-byte, string-holds}
+use Rattle.term_text.proofs.SoundBrackets.{begin-holds, here-blank, opened-holds}
+use Rattle.term_text.proofs.SoundNumbers.{byte-holds, bytes-blank, digit-holds, integer-spelled, more-digits, number-holds}
+use Rattle.term_text.proofs.SoundQuotes.{escaped-holds, quoted-holds}
+use Rattle.term_text.proofs.SoundTerms.{after-holds, behind-form, behind-holds, front-of, sign-holds}
 
-name_ends : (cs : List ℕ) (b : ℕ) (rest : List ℕ) → begins is_small cs ≡ true → is_name b ≡ false → Ends cs (b ∷ rest)
-name_ends [] b rest h n = absurd (false≢true h)
-name_ends (c ∷ cs) b rest h n = (λ e. absurd (false≢true (sym (small_no_number c h) ∙ e)), λ e. n)
+name-ends : (cs : List ℕ) (b : ℕ) (rest : List ℕ) → begins is_small cs ≡ true → is_name b ≡ false → Ends cs (b ∷ rest)
+name-ends [] b rest h n = absurd (false≢true h)
+name-ends (c ∷ cs) b rest h n = (λ e. absurd (false≢true (sym (small-no-number c h) ∙ e)), λ e. n)
 
-room_255 : (n : ℕ) → n ≤ 255 → (n == 255) ≡ false → n + 1 ≤ 255
-room_255 n h e = search (arith, rules)
+room-255 : (n : ℕ) → n ≤ 255 → (n == 255) ≡ false → n + 1 ≤ 255
+room-255 n h e = search (arith, rules)
 
-name_room : (cs : List ℕ) (b : ℕ) → length cs ≤ 255 → (length cs == 255) ≡ false → length (cs ++ b ∷ []) ≤ 255
-name_room cs b h e = let r = room_255 (length cs) h e in omega (arith, r, length-append cs (b ∷ []))
+name-room : (cs : List ℕ) (b : ℕ) → length cs ≤ 255 → (length cs == 255) ≡ false → length (cs ++ b ∷ []) ≤ 255
+name-room cs b h e = let r = room-255 (length cs) h e in omega (arith, r, length-append cs (b ∷ []))
 
-past_top : (m n : ℕ) → nat_le m n ≡ false → n < m
-past_top m n e = search (arith, rules)
+past-top : (m n : ℕ) → nat_le m n ≡ false → n < m
+past-top m n e = search (arith, rules)
 
-pub next_holds : (at : ℕ) (mode : Mode) (os : List Open) (pre : List ℕ) (b : ℕ) → at ≡ length pre → MeansIn pre mode os → Holds (pre ++ b ∷ []) (next at mode os b)
-next_holds at (wants true) [] pre b len h = absurd h
-next_holds at (wants true) (o ∷ os) pre b len (k, h, e) = holds_if (is_blank b) _ _ (λ d. record { meaning = (k, here_blank k (o ∷ os) pre b h d, e) }) (λ d. opened_holds at o os pre b k len h e)
-next_holds at (wants false) os pre b len (k, h) = holds_if (is_blank b) _ _ (λ d. record { meaning = (k, here_blank k os pre b h d) }) (λ d. begin_holds at os pre b k len h)
-next_holds at (digit kind start) os pre b len (s, bef, a, st) = digit_holds at kind start os pre s b len bef a st
-next_holds at (number kind start n) os pre b len (s, ds, bef, a, num, st) = holds_if (is_digit b) _ _
-    (λ d. holds_if (nat_le (n * 10 + (b - 48)) (top kind)) _ _
-    (λ e. record { meaning = (s, ds ++ b ∷ [], bef, at_more os pre (s ++ ds) (s ++ (ds ++ b ∷ [])) b a (append_assoc s ds (b ∷ [])), more_digits kind ds n b num d (leb-true _ _ e), st) })
-    (λ e. noticed pre b (OutOfRange start) (record { os = os; k = a.k; kind = kind; value = n; lead = a.p; before = s; digits = ds; cut = a.cut; here = a.here; is_before = bef; spells = num; begins = st; digit = d; past = past_top (n * 10 + (b - 48)) (top kind) e })))
-    (λ d. number_holds at kind n os pre s ds b len bef a num d)
-next_holds at (name start cs) os pre b len (a, small, names, few, st) = holds_if (is_name b) _ _
-    (λ d. holds_if (length cs == 255) _ _ (λ e. noticed pre b (AtomTooLong start) (plain_form os a.k a.p cs a.cut a.here st small names (is_byte (length cs) 255 e) d))
-    (λ e. record { meaning = (at_more os pre cs (cs ++ b ∷ []) b a refl, begins_more is_small cs (b ∷ []) small, all_more is_name cs b names d, name_room cs b few e, st) }))
-    (λ d. behind_holds at os pre cs (Atom cs) b a len (plain_atom a.k cs small names few) (λ rest. name_ends cs b rest small d))
-next_holds at (quoted q cs) os pre b len (s, body, lead, a, sp, ok, starts) = quoted_holds at q cs os pre s body b len lead a sp ok starts
-next_holds at (escaped q cs) os pre b len (s, body, lead, a, sp, ok, starts) = escaped_holds at q cs os pre s body b len lead a sp ok starts
-next_holds at (signs cs goal) os pre b len (s, a, l, c) = sign_holds at cs goal os pre s b len a l c
-next_holds at angle os pre b len a = angle_second at os pre b len a
-next_holds at opened_binary os pre b len (blanks, a, bl) = first_byte at os pre blanks b len a bl
-next_holds at (wants_byte bs) os pre b len (inner, a, in_bytes) = holds_if (is_blank b) _ _
-    (λ d. record { meaning = (inner ++ b ∷ [], at_more os pre ((60 ∷ 60 ∷ []) ++ inner) ((60 ∷ 60 ∷ []) ++ (inner ++ b ∷ [])) b a refl, bytes_blank bs inner b in_bytes d) })
-    (λ d. digit_holds at (byte bs) at os pre ((60 ∷ 60 ∷ []) ++ inner) b len (inner, refl, in_bytes) a (behind_form os pre ((60 ∷ 60 ∷ []) ++ inner) at a len))
-next_holds at (behind_byte bs) os pre b len (row, blanks, a, sp, bl) = byte_holds at bs os pre row blanks b len a sp bl
-next_holds at (behind_string bs) os pre b len (before, body, behind, a, h, sp, i) = string_holds at bs os pre before body behind b len a h sp i
-next_holds at after [] pre b len h = absurd h
-next_holds at after (o ∷ os) pre b len h = after_holds at o os pre b len h
+pub next-holds : (at : ℕ) (mode : Mode) (os : List OpenBracket) (pre : List ℕ) (b : ℕ) → at ≡ length pre → MeansIn pre mode os → Holds (pre ++ b ∷ []) (next at mode os b)
+next-holds at (wants true) [] pre b len h = absurd h
+next-holds at (wants true) (o ∷ os) pre b len (k, h, e) = holds-if (is_blank b) _ _ (λ d. record { meaning = (k, here-blank k (o ∷ os) pre b h d, e) }) (λ d. opened-holds at o os pre b k len h e)
+next-holds at (wants false) os pre b len (k, h) = holds-if (is_blank b) _ _ (λ d. record { meaning = (k, here-blank k os pre b h d) }) (λ d. begin-holds at os pre b k len h)
+next-holds at (digit kind start) os pre b len (s, bef, a, st) = digit-holds at kind start os pre s b len bef a st
+next-holds at (number kind start n) os pre b len (s, ds, bef, a, num, st) = holds-if (is_digit b) _ _
+    (λ d. holds-if (nat_le (n * 10 + (b - 48)) (max_magnitude kind)) _ _
+    (λ e. record { meaning = (s, ds ++ b ∷ [], bef, at_more os pre (s ++ ds) (s ++ (ds ++ b ∷ [])) b a (append_assoc s ds (b ∷ [])), more-digits kind ds n b num d (leb-true _ _ e), st) })
+    (λ e. noticed pre b (OutOfRange start) (record { os = os; k = a.k; kind = kind; value = n; lead = a.p; before = s; digits = ds; cut = a.cut; here = a.here; is_before = bef; spells = num; begins = st; digit = d; past = past-top (n * 10 + (b - 48)) (max_magnitude kind) e })))
+    (λ d. number-holds at kind n os pre s ds b len bef a num d)
+next-holds at (name start cs) os pre b len (a, small, names, few, st) = holds-if (is_name b) _ _
+    (λ d. holds-if (length cs == 255) _ _ (λ e. noticed pre b (AtomTooLong start) (plain_form os a.k a.p cs a.cut a.here st small names (is-byte (length cs) 255 e) d))
+    (λ e. record { meaning = (at_more os pre cs (cs ++ b ∷ []) b a refl, begins-more is_small cs (b ∷ []) small, all-more is_name cs b names d, name-room cs b few e, st) }))
+    (λ d. behind-holds at os pre cs (Atom cs) b a len (plain_atom a.k cs small names few) (λ rest. name-ends cs b rest small d))
+next-holds at (quoted q cs) os pre b len (s, body, lead, a, sp, ok, starts) = quoted-holds at q cs os pre s body b len lead a sp ok starts
+next-holds at (escaped q cs) os pre b len (s, body, lead, a, sp, ok, starts) = escaped-holds at q cs os pre s body b len lead a sp ok starts
+next-holds at (signs cs goal) os pre b len (s, a, l, c) = sign-holds at cs goal os pre s b len a l c
+next-holds at angle os pre b len a = angle-second at os pre b len a
+next-holds at opened_binary os pre b len (blanks, a, bl) = first-byte at os pre blanks b len a bl
+next-holds at (wants_byte bs) os pre b len (inner, a, in_bytes) = holds-if (is_blank b) _ _
+    (λ d. record { meaning = (inner ++ b ∷ [], at_more os pre ((60 ∷ 60 ∷ []) ++ inner) ((60 ∷ 60 ∷ []) ++ (inner ++ b ∷ [])) b a refl, bytes-blank bs inner b in_bytes d) })
+    (λ d. digit-holds at (byte bs) at os pre ((60 ∷ 60 ∷ []) ++ inner) b len (inner, refl, in_bytes) a (behind-form os pre ((60 ∷ 60 ∷ []) ++ inner) at a len))
+next-holds at (behind_byte bs) os pre b len (row, blanks, a, sp, bl) = byte-holds at bs os pre row blanks b len a sp bl
+next-holds at (behind_string bs) os pre b len (before, body, behind, a, h, sp, i) = string-holds at bs os pre before body behind b len a h sp i
+next-holds at after [] pre b len h = absurd h
+next-holds at after (o ∷ os) pre b len h = after-holds at o os pre b len h
 
-nothing_ends : (s : List ℕ) → Ends s []
-nothing_ends s = (λ e. refl, λ e. refl)
+nothing-ends : (s : List ℕ) → Ends s []
+nothing-ends s = (λ e. refl, λ e. refl)
 
 -- a term that the end of the text ends
-front_end : (pre s : List ℕ) (u t : Term) (m n : ℕ) (a : At [] pre s) → Spells (suc a.k) s u → m ≡ length pre → u ≡ t → m ≡ n → Front pre t n
-front_end pre s u t m n a sp len e f =
+front-end : (pre s : List ℕ) (u t : Term) (m n : ℕ) (a : At [] pre s) → Spells (suc a.k) s u → m ≡ length pre → u ≡ t → m ≡ n → Front pre t n
+front-end pre s u t m n a sp len e f =
     let P : List ℕ → Type 0 = λ w. Front w u m in
     let Q : Term → Type 0 = λ x. Front pre x m in
     let R : ℕ → Type 0 = λ x. Front pre t x in
     let S : ℕ → Type 0 = λ k. Spells k s u in
-    subst R f (subst Q e (subst P (append-nil pre) (front_of pre a.p s u m [] a.cut a.here.0 (subst S a.here.1 sp) len (nothing_ends s))))
+    subst R f (subst Q e (subst P (append-nil pre) (front-of pre a.p s u m [] a.cut a.here.0 (subst S a.here.1 sp) len (nothing-ends s))))
 
-same_term : (u t : Term) (m n : ℕ) → found u m ≡ found t n → u ≡ t
-same_term u t m n e = cc
+same-term : (u t : Term) (m n : ℕ) → found u m ≡ found t n → u ≡ t
+same-term u t m n e = cc
 
-same_count : (u t : Term) (m n : ℕ) → found u m ≡ found t n → m ≡ n
-same_count u t m n e = cc
+same-count : (u t : Term) (m n : ℕ) → found u m ≡ found t n → m ≡ n
+same-count u t m n e = cc
 
-no_fault : (f : TextFault) (t : Term) (n : ℕ) → fails f ≡ found t n → ⊥
-no_fault f t n e = cc
+no-fault : (f : TextFault) (t : Term) (n : ℕ) → fails f ≡ found t n → ⊥
+no-fault f t n e = cc
 
 -- the end of the text
-end_sound : (at : ℕ) (mode : Mode) (os : List Open) (pre : List ℕ) (t : Term) (n : ℕ) → at ≡ length pre → MeansIn pre mode os → end at (goes mode os) ≡ found t n → Front pre t n
-end_sound at (number (integer below) start v) [] pre t n len (s, ds, bef, a, num, st) e =
-    front_end pre (s ++ ds) (Int (signed below v)) t at n a (integer_spelled below a.k s ds v bef num) len (same_term _ t at n e) (same_count (Int (signed below v)) t at n e)
-end_sound at (number (integer below) start v) (o ∷ os) pre t n len h e = absurd (no_fault _ t n e)
-end_sound at (name start cs) [] pre t n len (a, small, names, few, st) e =
-    front_end pre cs (Atom cs) t at n a (plain_atom a.k cs small names few) len (same_term _ t at n e) (same_count (Atom cs) t at n e)
-end_sound at (name start cs) (o ∷ os) pre t n len h e = absurd (no_fault _ t n e)
-end_sound at mode os pre t n len h e = absurd (no_fault _ t n e)
+end-sound : (at : ℕ) (mode : Mode) (os : List OpenBracket) (pre : List ℕ) (t : Term) (n : ℕ) → at ≡ length pre → MeansIn pre mode os → end at (reads_on mode os) ≡ found t n → Front pre t n
+end-sound at (number (integer below) start v) [] pre t n len (s, ds, bef, a, num, st) e =
+    front-end pre (s ++ ds) (Int (signed below v)) t at n a (integer-spelled below a.k s ds v bef num) len (same-term _ t at n e) (same-count (Int (signed below v)) t at n e)
+end-sound at (number (integer below) start v) (o ∷ os) pre t n len h e = absurd (no-fault _ t n e)
+end-sound at (name start cs) [] pre t n len (a, small, names, few, st) e =
+    front-end pre cs (Atom cs) t at n a (plain_atom a.k cs small names few) len (same-term _ t at n e) (same-count (Atom cs) t at n e)
+end-sound at (name start cs) (o ∷ os) pre t n len h e = absurd (no-fault _ t n e)
+end-sound at mode os pre t n len h e = absurd (no-fault _ t n e)
 
-found_on : (pre : List ℕ) (b : ℕ) (t : Term) (n : ℕ) → Means pre (found t n) → Means (pre ++ b ∷ []) (found t n)
-found_on pre b t n h = λ rest. let P : List ℕ → Type 0 = λ w. Front w t n in subst P (sym (append_assoc pre (b ∷ []) rest)) (h (b ∷ rest))
+found-on : (pre : List ℕ) (b : ℕ) (t : Term) (n : ℕ) → Means pre (found t n) → Means (pre ++ b ∷ []) (found t n)
+found-on pre b t n h = λ rest. let P : List ℕ → Type 0 = λ w. Front w t n in subst P (sym (append_assoc pre (b ∷ []) rest)) (h (b ∷ rest))
 
 -- What a state comes to over the rest of the text is in front of the whole.
-pub read_sound : (bs : List ℕ) (at : ℕ) (s : Reading) (pre : List ℕ) (t : Term) (n : ℕ) → at ≡ length pre → Means pre s → read_from at s bs ≡ found t n → Front (pre ++ bs) t n
-read_sound [] at (goes mode os) pre t n len h e = let P : List ℕ → Type 0 = λ w. Front w t n in subst P (sym (append-nil pre)) (end_sound at mode os pre t n len h e)
-read_sound [] at (found u m) pre t n len h e =
+pub read-sound : (bs : List ℕ) (at : ℕ) (s : Reading) (pre : List ℕ) (t : Term) (n : ℕ) → at ≡ length pre → Means pre s → read_from at s bs ≡ found t n → Front (pre ++ bs) t n
+read-sound [] at (reads_on mode os) pre t n len h e = let P : List ℕ → Type 0 = λ w. Front w t n in subst P (sym (append-nil pre)) (end-sound at mode os pre t n len h e)
+read-sound [] at (found u m) pre t n len h e =
     let Q : Term → Type 0 = λ x. Front (pre ++ []) x m in
     let R : ℕ → Type 0 = λ x. Front (pre ++ []) t x in
-    subst R (same_count u t m n e) (subst Q (same_term u t m n e) (h []))
-read_sound [] at (fails f) pre t n len h e = absurd (no_fault f t n e)
-read_sound (b ∷ bs) at (goes mode os) pre t n len h e =
+    subst R (same-count u t m n e) (subst Q (same-term u t m n e) (h []))
+read-sound [] at (fails f) pre t n len h e = absurd (no-fault f t n e)
+read-sound (b ∷ bs) at (reads_on mode os) pre t n len h e =
     let P : List ℕ → Type 0 = λ w. Front w t n in
-    subst P (append_assoc pre (b ∷ []) bs) (read_sound bs (at + 1) (next at mode os b) (pre ++ b ∷ []) t n (more_len at pre b len) (next_holds at mode os pre b len h).meaning e)
-read_sound (b ∷ bs) at (found u m) pre t n len h e =
+    subst P (append_assoc pre (b ∷ []) bs) (read-sound bs (at + 1) (next at mode os b) (pre ++ b ∷ []) t n (more-len at pre b len) (next-holds at mode os pre b len h).meaning e)
+read-sound (b ∷ bs) at (found u m) pre t n len h e =
     let P : List ℕ → Type 0 = λ w. Front w t n in
-    subst P (append_assoc pre (b ∷ []) bs) (read_sound bs (at + 1) (found u m) (pre ++ b ∷ []) t n (more_len at pre b len) (found_on pre b u m h) e)
-read_sound (b ∷ bs) at (fails f) pre t n len h e = absurd (no_fault f t n (sym (read_fails (at + 1) f bs) ∙ e))
+    subst P (append_assoc pre (b ∷ []) bs) (read-sound bs (at + 1) (found u m) (pre ++ b ∷ []) t n (more-len at pre b len) (found-on pre b u m h) e)
+read-sound (b ∷ bs) at (fails f) pre t n len h e = absurd (no-fault f t n (sym (read-fails (at + 1) f bs) ∙ e))
 
 pub sound : (text : List ℕ) (t : Term) (n : ℕ) → reading text ≡ found t n → Front text t n
-sound text t n e = read_sound text 0 (goes (wants false) []) [] t n refl (128, (refl, refl)) e
+sound text t n e = read-sound text 0 (reads_on (wants false) []) [] t n refl (128, (refl, refl)) e

@@ -7,99 +7,99 @@ use Rattle.std.specs.List.{list_all}
 use Rattle.ets_term.specs.declared.term.Term.TheVariants.{Int, Pid, Tid, Binary}
 use Rattle.term_text.specs.declared.fault.TextFault.TheVariants.{Unexpected}
 use Rattle.term_text.specs.Text.{is_blank, is_digit, is_small, begins, spelled}
-use Rattle.term_text.specs.Reader.{Open, Number, integer, pid, identifier, byte, whole, signed, top, next_behind_byte, next_behind_number, next_digit}
-use Rattle.term_text.specs.Faults.{Bytes, opened, comma, Before, number_start}
+use Rattle.term_text.specs.Reader.{OpenBracket, Number, integer, pid, identifier, byte, whole, signed, max_magnitude, next_behind_byte, next_behind_number, next_digit}
+use Rattle.term_text.specs.Faults.{AwaitsByte, opened, comma, LeadsNumber, number_start}
 use Rattle.term_text.specs.Grammar.{AreBlanks, SpellsNumber, SpellsBytes, Spells, Ends, first, more, positive, negative, pid_form, identifier_form, bytes}
-use Rattle.term_text.proofs.Numbers.{digit_small}
-use Rattle.term_text.proofs.Places.{if_true}
-use Rattle.term_text.proofs.Meaning.{At, Closed, Holds, all_more, at_more, begins_more, blank_more, holds_if, noticed}
-use Rattle.term_text.proofs.Signs.{digit_no_small, is_byte, minus_no_small}
-use Rattle.term_text.proofs.SoundTerms.{angle_text, behind_holds, hash_text, sign_holds}
+use Rattle.term_text.proofs.Numbers.{digit-small}
+use Rattle.term_text.proofs.Places.{if-true}
+use Rattle.term_text.proofs.Meaning.{At, Closed, Holds, all-more, at_more, begins-more, blank-more, holds-if, noticed}
+use Rattle.term_text.proofs.Signs.{digit-no-small, is-byte, minus-no-small}
+use Rattle.term_text.proofs.SoundTerms.{angle-text, behind-holds, hash-text, sign-holds}
 
 -- digits
-spelled_more : (m : ℕ) (ds : List ℕ) (b : ℕ) → list_all is_digit ds ≡ true → is_digit b ≡ true → spelled m (ds ++ b ∷ []) ≡ spelled m ds * 10 + (b - 48)
-spelled_more m [] b h d = if_true _ _ _ d
-spelled_more m (c ∷ ds) b h d =
+spelled-more : (m : ℕ) (ds : List ℕ) (b : ℕ) → list_all is_digit ds ≡ true → is_digit b ≡ true → spelled m (ds ++ b ∷ []) ≡ spelled m ds * 10 + (b - 48)
+spelled-more m [] b h d = if-true _ _ _ d
+spelled-more m (c ∷ ds) b h d =
     let q = and_parts (is_digit c) (list_all is_digit ds) h in
-    if_true _ _ _ q.0 ∙ spelled_more (m * 10 + (c - 48)) ds b q.1 d ∙ ap (λ (n : ℕ). n * 10 + (b - 48)) (sym (if_true _ _ _ q.0))
+    if-true _ _ _ q.0 ∙ spelled-more (m * 10 + (c - 48)) ds b q.1 d ∙ ap (λ (n : ℕ). n * 10 + (b - 48)) (sym (if-true _ _ _ q.0))
 
-pub nine_fits : (kind : Number) (n : ℕ) → n ≤ 9 → n ≤ top kind
-nine_fits (integer true) n h = omega (arith, h)
-nine_fits (integer false) n h = omega (arith, h)
-nine_fits pid n h = omega (arith, h)
-nine_fits identifier n h = omega (arith, h)
-nine_fits (byte bs) n h = omega (arith, h)
+pub nine-fits : (kind : Number) (n : ℕ) → n ≤ 9 → n ≤ max_magnitude kind
+nine-fits (integer true) n h = omega (arith, h)
+nine-fits (integer false) n h = omega (arith, h)
+nine-fits pid n h = omega (arith, h)
+nine-fits identifier n h = omega (arith, h)
+nine-fits (byte bs) n h = omega (arith, h)
 
-pub one_digit : (kind : Number) (b : ℕ) → is_digit b ≡ true → SpellsNumber kind (b ∷ []) (b - 48)
-one_digit kind b d = record { some = d; each = both_true d refl; value = if_true _ _ _ d ∙ omega arith; fits = nine_fits kind (b - 48) (digit_small b d) }
+pub one-digit : (kind : Number) (b : ℕ) → is_digit b ≡ true → SpellsNumber kind (b ∷ []) (b - 48)
+one-digit kind b d = record { some = d; each = both_true d refl; value = if-true _ _ _ d ∙ omega arith; fits = nine-fits kind (b - 48) (digit-small b d) }
 
-pub more_digits : (kind : Number) (ds : List ℕ) (n b : ℕ) → SpellsNumber kind ds n → is_digit b ≡ true → n * 10 + (b - 48) ≤ top kind → SpellsNumber kind (ds ++ b ∷ []) (n * 10 + (b - 48))
-more_digits kind ds n b h d fits = record { some = begins_more is_digit ds (b ∷ []) h.some; each = all_more is_digit ds b h.each d; value = spelled_more 0 ds b h.each d ∙ ap (λ (m : ℕ). m * 10 + (b - 48)) h.value; fits = fits }
+pub more-digits : (kind : Number) (ds : List ℕ) (n b : ℕ) → SpellsNumber kind ds n → is_digit b ≡ true → n * 10 + (b - 48) ≤ max_magnitude kind → SpellsNumber kind (ds ++ b ∷ []) (n * 10 + (b - 48))
+more-digits kind ds n b h d fits = record { some = begins-more is_digit ds (b ∷ []) h.some; each = all-more is_digit ds b h.each d; value = spelled-more 0 ds b h.each d ∙ ap (λ (m : ℕ). m * 10 + (b - 48)) h.value; fits = fits }
 
-pub digit_holds : (at : ℕ) (kind : Number) (start : ℕ) (os : List Open) (pre s : List ℕ) (b : ℕ) → at ≡ length pre → Before kind s → (a : At os pre s) → start ≡ number_start kind (length a.p) (length a.p + length s) → Holds (pre ++ b ∷ []) (next_digit at kind start os b)
-digit_holds at kind start os pre s b len bef a st = holds_if (is_digit b) _ _ (λ d. record { meaning = (s, b ∷ [], bef, at_more os pre s (s ++ b ∷ []) b a refl, one_digit kind b d, st) }) (λ d. noticed pre b (Unexpected at) len)
+pub digit-holds : (at : ℕ) (kind : Number) (start : ℕ) (os : List OpenBracket) (pre s : List ℕ) (b : ℕ) → at ≡ length pre → LeadsNumber kind s → (a : At os pre s) → start ≡ number_start kind (length a.p) (length a.p + length s) → Holds (pre ++ b ∷ []) (next_digit at kind start os b)
+digit-holds at kind start os pre s b len bef a st = holds-if (is_digit b) _ _ (λ d. record { meaning = (s, b ∷ [], bef, at_more os pre s (s ++ b ∷ []) b a refl, one-digit kind b d, st) }) (λ d. noticed pre b (Unexpected at) len)
 
 -- bytes
-bytes_with : (bs inner ds : List ℕ) (n : ℕ) → Bytes bs inner → SpellsNumber (byte bs) ds n → SpellsBytes (inner ++ ds) (bs ++ n ∷ [])
-bytes_with bs inner ds n (opened blanks h) num = first blanks ds n h (record { some = num.some; each = num.each; value = num.value; fits = num.fits })
-bytes_with bs inner ds n (comma us row before behind r h i) num =
+bytes-with : (bs inner ds : List ℕ) (n : ℕ) → AwaitsByte bs inner → SpellsNumber (byte bs) ds n → SpellsBytes (inner ++ ds) (bs ++ n ∷ [])
+bytes-with bs inner ds n (opened blanks h) num = first blanks ds n h (record { some = num.some; each = num.each; value = num.value; fits = num.fits })
+bytes-with bs inner ds n (comma us row before behind r h i) num =
     let P : List ℕ → Type 0 = λ w. SpellsBytes w (bs ++ n ∷ []) in
     subst P (sym (append_assoc row (before ++ 44 ∷ behind) ds ∙ ap (λ (w : List ℕ). row ++ w) (append_assoc before (44 ∷ behind) ds)))
     (more row before behind ds us n r h i (record { some = num.some; each = num.each; value = num.value; fits = num.fits }))
 
-pub byte_holds : (at : ℕ) (bs : List ℕ) (os : List Open) (pre row blanks : List ℕ) (b : ℕ) → at ≡ length pre → At os pre ((60 ∷ 60 ∷ []) ++ (row ++ blanks)) → SpellsBytes row bs → AreBlanks blanks
+pub byte-holds : (at : ℕ) (bs : List ℕ) (os : List OpenBracket) (pre row blanks : List ℕ) (b : ℕ) → at ≡ length pre → At os pre ((60 ∷ 60 ∷ []) ++ (row ++ blanks)) → SpellsBytes row bs → AreBlanks blanks
     → Holds (pre ++ b ∷ []) (next_behind_byte at bs os b)
-byte_holds at bs os pre row blanks b len a sp bl = holds_if (is_blank b) _ _
-    (λ d. record { meaning = (row, blanks ++ b ∷ [], at_more os pre _ ((60 ∷ 60 ∷ []) ++ (row ++ (blanks ++ b ∷ []))) b a (ap (λ (w : List ℕ). 60 ∷ 60 ∷ w) (append_assoc row blanks (b ∷ []))), sp, blank_more blanks b bl d) })
-    (λ d. holds_if (b == 44) _ _
+byte-holds at bs os pre row blanks b len a sp bl = holds-if (is_blank b) _ _
+    (λ d. record { meaning = (row, blanks ++ b ∷ [], at_more os pre _ ((60 ∷ 60 ∷ []) ++ (row ++ (blanks ++ b ∷ []))) b a (ap (λ (w : List ℕ). 60 ∷ 60 ∷ w) (append_assoc row blanks (b ∷ []))), sp, blank-more blanks b bl d) })
+    (λ d. holds-if (b == 44) _ _
     (λ e. record {
       meaning = (
         row ++ (blanks ++ 44 ∷ []),
-        at_more os pre _ ((60 ∷ 60 ∷ []) ++ (row ++ (blanks ++ 44 ∷ []))) b a (ap (λ (w : List ℕ). 60 ∷ 60 ∷ w) (append_assoc row blanks (b ∷ []) ∙ ap (λ (x : ℕ). row ++ (blanks ++ x ∷ [])) (is_byte b 44 e))),
+        at_more os pre _ ((60 ∷ 60 ∷ []) ++ (row ++ (blanks ++ 44 ∷ []))) b a (ap (λ (w : List ℕ). 60 ∷ 60 ∷ w) (append_assoc row blanks (b ∷ []) ∙ ap (λ (x : ℕ). row ++ (blanks ++ x ∷ [])) (is-byte b 44 e))),
         comma bs row blanks [] sp bl refl,
       );
     })
-    (λ e. sign_holds at (62 ∷ 62 ∷ []) (whole (Binary bs)) os pre ((60 ∷ 60 ∷ []) ++ (row ++ blanks)) b len a
+    (λ e. sign-holds at (62 ∷ 62 ∷ []) (whole (Binary bs)) os pre ((60 ∷ 60 ∷ []) ++ (row ++ blanks)) b len a
     (λ k. let P : List ℕ → Type 0 = λ w. Spells (suc k) (60 ∷ 60 ∷ w) (Binary bs) in subst P (sym (append_assoc row blanks (62 ∷ 62 ∷ []))) (bytes k row blanks bs sp bl))
-    (angle_text _)))
+    (angle-text _)))
 
 -- an integer ends where no digit follows
-integer_ends : (s : List ℕ) (b : ℕ) (rest : List ℕ) → begins is_small s ≡ false → is_digit b ≡ false → Ends s (b ∷ rest)
-integer_ends s b rest h d = (λ e. d, λ e. absurd (false≢true (sym h ∙ e)))
+integer-ends : (s : List ℕ) (b : ℕ) (rest : List ℕ) → begins is_small s ≡ false → is_digit b ≡ false → Ends s (b ∷ rest)
+integer-ends s b rest h d = (λ e. d, λ e. absurd (false≢true (sym h ∙ e)))
 
-digits_no_small : (ds : List ℕ) → begins is_digit ds ≡ true → begins is_small ds ≡ false
-digits_no_small [] h = refl
-digits_no_small (b ∷ ds) h = digit_no_small b h
+digits-no-small : (ds : List ℕ) → begins is_digit ds ≡ true → begins is_small ds ≡ false
+digits-no-small [] h = refl
+digits-no-small (b ∷ ds) h = digit-no-small b h
 
-pub integer_spelled : (below : Bool) (k : ℕ) (s ds : List ℕ) (n : ℕ) → Before (integer below) s → SpellsNumber (integer below) ds n → Spells (suc k) (s ++ ds) (Int (signed below n))
-integer_spelled true k s ds n e num = let P : List ℕ → Type 0 = λ w. Spells (suc k) (w ++ ds) (Int (signed true n)) in subst P (sym e) (negative k ds n num)
-integer_spelled false k s ds n e num = let P : List ℕ → Type 0 = λ w. Spells (suc k) (w ++ ds) (Int (signed false n)) in subst P (sym e) (positive k ds n num)
+pub integer-spelled : (below : Bool) (k : ℕ) (s ds : List ℕ) (n : ℕ) → LeadsNumber (integer below) s → SpellsNumber (integer below) ds n → Spells (suc k) (s ++ ds) (Int (signed below n))
+integer-spelled true k s ds n e num = let P : List ℕ → Type 0 = λ w. Spells (suc k) (w ++ ds) (Int (signed true n)) in subst P (sym e) (negative k ds n num)
+integer-spelled false k s ds n e num = let P : List ℕ → Type 0 = λ w. Spells (suc k) (w ++ ds) (Int (signed false n)) in subst P (sym e) (positive k ds n num)
 
-integer_no_small : (below : Bool) (s ds : List ℕ) (n : ℕ) → Before (integer below) s → SpellsNumber (integer below) ds n → begins is_small (s ++ ds) ≡ false
-integer_no_small true s ds n e num = ap (λ (w : List ℕ). begins is_small (w ++ ds)) e ∙ minus_no_small
-integer_no_small false s ds n e num = ap (λ (w : List ℕ). begins is_small (w ++ ds)) e ∙ digits_no_small ds num.some
+integer-no-small : (below : Bool) (s ds : List ℕ) (n : ℕ) → LeadsNumber (integer below) s → SpellsNumber (integer below) ds n → begins is_small (s ++ ds) ≡ false
+integer-no-small true s ds n e num = ap (λ (w : List ℕ). begins is_small (w ++ ds)) e ∙ minus-no-small
+integer-no-small false s ds n e num = ap (λ (w : List ℕ). begins is_small (w ++ ds)) e ∙ digits-no-small ds num.some
 
-pub number_holds : (at : ℕ) (kind : Number) (n : ℕ) (os : List Open) (pre s ds : List ℕ) (b : ℕ) → at ≡ length pre → Before kind s → At os pre (s ++ ds) → SpellsNumber kind ds n → is_digit b ≡ false
+pub number-holds : (at : ℕ) (kind : Number) (n : ℕ) (os : List OpenBracket) (pre s ds : List ℕ) (b : ℕ) → at ≡ length pre → LeadsNumber kind s → At os pre (s ++ ds) → SpellsNumber kind ds n → is_digit b ≡ false
     → Holds (pre ++ b ∷ []) (next_behind_number at kind n os b)
-number_holds at (integer below) n os pre s ds b len bef a num d =
-    behind_holds at os pre (s ++ ds) (Int (signed below n)) b a len (integer_spelled below a.k s ds n bef num) (λ rest. integer_ends (s ++ ds) b rest (integer_no_small below s ds n bef num) d)
-number_holds at pid n os pre s ds b len bef a num d =
+number-holds at (integer below) n os pre s ds b len bef a num d =
+    behind-holds at os pre (s ++ ds) (Int (signed below n)) b a len (integer-spelled below a.k s ds n bef num) (λ rest. integer-ends (s ++ ds) b rest (integer-no-small below s ds n bef num) d)
+number-holds at pid n os pre s ds b len bef a num d =
     let Q : List ℕ → Type 0 = λ w. Closed (w ++ ds) in
-    sign_holds at (46 ∷ 48 ∷ 62 ∷ []) (whole (Pid n)) os pre (s ++ ds) b len a
+    sign-holds at (46 ∷ 48 ∷ 62 ∷ []) (whole (Pid n)) os pre (s ++ ds) b len a
     (λ k. let P : List ℕ → Type 0 = λ w. Spells (suc k) ((w ++ ds) ++ 46 ∷ 48 ∷ 62 ∷ []) (Pid n) in subst P (sym bef) (pid_form k ds n num))
-    (subst Q (sym bef) (angle_text _))
-number_holds at identifier n os pre s ds b len bef a num d =
+    (subst Q (sym bef) (angle-text _))
+number-holds at identifier n os pre s ds b len bef a num d =
     let Q : List ℕ → Type 0 = λ w. Closed (w ++ ds) in
-    sign_holds at (62 ∷ []) (whole (Tid n)) os pre (s ++ ds) b len a
+    sign-holds at (62 ∷ []) (whole (Tid n)) os pre (s ++ ds) b len a
     (λ k. let P : List ℕ → Type 0 = λ w. Spells (suc k) ((w ++ ds) ++ 62 ∷ []) (Tid n) in subst P (sym bef) (identifier_form k ds n num))
-    (subst Q (sym bef) (hash_text _))
-number_holds at (byte bs) n os pre s ds b len (inner, e, in_bytes) a num d =
+    (subst Q (sym bef) (hash-text _))
+number-holds at (byte bs) n os pre s ds b len (inner, e, in_bytes) a num d =
     let grown : At os pre ((60 ∷ 60 ∷ []) ++ ((inner ++ ds) ++ [])) = (let P : List ℕ → Type 0 = λ w. At os pre w in
     subst P (ap (λ (w : List ℕ). w ++ ds) e ∙ ap (λ (w : List ℕ). 60 ∷ 60 ∷ w) (sym (append-nil (inner ++ ds)))) a) in
-    byte_holds at (bs ++ n ∷ []) os pre (inner ++ ds) [] b len grown (bytes_with bs inner ds n in_bytes num) refl
+    byte-holds at (bs ++ n ∷ []) os pre (inner ++ ds) [] b len grown (bytes-with bs inner ds n in_bytes num) refl
 
-pub bytes_blank : (bs inner : List ℕ) (b : ℕ) → Bytes bs inner → is_blank b ≡ true → Bytes bs (inner ++ b ∷ [])
-bytes_blank bs inner b (opened blanks h) d = opened (blanks ++ b ∷ []) (blank_more blanks b h d)
-bytes_blank bs inner b (comma us row before behind r h i) d =
-    let P : List ℕ → Type 0 = λ w. Bytes bs w in
-    subst P (sym (append_assoc row (before ++ 44 ∷ behind) (b ∷ []) ∙ ap (λ (w : List ℕ). row ++ w) (append_assoc before (44 ∷ behind) (b ∷ [])))) (comma us row before (behind ++ b ∷ []) r h (blank_more behind b i d))
+pub bytes-blank : (bs inner : List ℕ) (b : ℕ) → AwaitsByte bs inner → is_blank b ≡ true → AwaitsByte bs (inner ++ b ∷ [])
+bytes-blank bs inner b (opened blanks h) d = opened (blanks ++ b ∷ []) (blank-more blanks b h d)
+bytes-blank bs inner b (comma us row before behind r h i) d =
+    let P : List ℕ → Type 0 = λ w. AwaitsByte bs w in
+    subst P (sym (append_assoc row (before ++ 44 ∷ behind) (b ∷ []) ∙ ap (λ (w : List ℕ). row ++ w) (append_assoc before (44 ∷ behind) (b ∷ [])))) (comma us row before (behind ++ b ∷ []) r h (blank-more behind b i d))

@@ -5,18 +5,18 @@ use Rattle.std.proofs.lemmas.List.{append-nil}
 use Rattle.ets_term.specs.declared.term.Term.{Term}
 use Rattle.term_text.specs.declared.fault.TextFault.TheVariants.{Unexpected}
 use Rattle.term_text.specs.Text.{is_blank, is_digit, is_small, closes}
-use Rattle.term_text.specs.Reader.{Open, Number, integer, pid, identifier, byte, Goal, whole, digits, with_term, bracket, put, arrive, next_sign, next_after, next_behind}
-use Rattle.term_text.specs.Faults.{Inside, fresh, further, Before, number_start}
+use Rattle.term_text.specs.Reader.{OpenBracket, Number, integer, pid, identifier, byte, Expect, whole, digits, with_term, bracket, put, expect, next_sign, next_after, next_behind}
+use Rattle.term_text.specs.Faults.{AwaitsItem, fresh, further, LeadsNumber, number_start}
 use Rattle.term_text.specs.Grammar.{AreBlanks, opening_sign, closing_sign, Spells, SpellsRow, Ends, Front, full_bracket, first_term, more_terms}
-use Rattle.term_text.proofs.Meaning.{At, Behind, Closed, Holds, IsFramed, Leads, at_more, blank_more, holds_if, more_len, noticed}
-use Rattle.term_text.proofs.Signs.{close_is, is_byte}
+use Rattle.term_text.proofs.Meaning.{At, Behind, Closed, Holds, IsFramed, Leads, at_more, blank-more, holds-if, more-len, noticed}
+use Rattle.term_text.proofs.Signs.{close-is, is-byte}
 
 -- a byte that no integer and no atom without quotes begins with
-closed_by : (c : ℕ) (s rest : List ℕ) → (is_digit c || (c == 45)) ≡ false → is_small c ≡ false → Ends (c ∷ s) rest
-closed_by c s rest h k = (λ e. absurd (false≢true (sym h ∙ e)), λ e. absurd (false≢true (sym k ∙ e)))
+closed-by : (c : ℕ) (s rest : List ℕ) → (is_digit c || (c == 45)) ≡ false → is_small c ≡ false → Ends (c ∷ s) rest
+closed-by c s rest h k = (λ e. absurd (false≢true (sym h ∙ e)), λ e. absurd (false≢true (sym k ∙ e)))
 
-pub front_of : (pre p s : List ℕ) (t : Term) (n : ℕ) (rest : List ℕ) → pre ≡ p ++ s → AreBlanks p → Spells 128 s t → n ≡ length pre → Ends s rest → Front (pre ++ rest) t n
-front_of pre p s t n rest e h sp len ends = record {
+pub front-of : (pre p s : List ℕ) (t : Term) (n : ℕ) (rest : List ℕ) → pre ≡ p ++ s → AreBlanks p → Spells 128 s t → n ≡ length pre → Ends s rest → Front (pre ++ rest) t n
+front-of pre p s t n rest e h sp len ends = record {
   blanks = p;
   spelling = s;
   rest = rest;
@@ -28,14 +28,14 @@ front_of pre p s t n rest e h sp len ends = record {
 }
 
 -- a term is whole
-inside_with : (k : ℕ) (ts : List Term) (inner s : List ℕ) (t : Term) → Inside k ts inner → Spells k s t → SpellsRow k (inner ++ s) (ts ++ t ∷ [])
-inside_with k ts inner s t (fresh blanks h) sp = first_term k blanks s t h sp
-inside_with k ts inner s t (further us row before behind r h i) sp =
+inside-with : (k : ℕ) (ts : List Term) (inner s : List ℕ) (t : Term) → AwaitsItem k ts inner → Spells k s t → SpellsRow k (inner ++ s) (ts ++ t ∷ [])
+inside-with k ts inner s t (fresh blanks h) sp = first_term k blanks s t h sp
+inside-with k ts inner s t (further us row before behind r h i) sp =
     let P : List ℕ → Type 0 = λ w. SpellsRow k w (ts ++ t ∷ []) in
     subst P (sym (append_assoc row (before ++ 44 ∷ behind) s ∙ ap (λ (w : List ℕ). row ++ w) (append_assoc before (44 ∷ behind) s))) (more_terms k row before behind s us t r h i sp)
 
-term_behind : (o : Open) (os : List Open) (pre s : List ℕ) (t : Term) (a : At (o ∷ os) pre s) → Spells (suc a.k) s t → Behind (with_term o t) os pre
-term_behind o os pre s t a sp =
+term-behind : (o : OpenBracket) (os : List OpenBracket) (pre s : List ℕ) (t : Term) (a : At (o ∷ os) pre s) → Spells (suc a.k) s t → Behind (with_term o t) os pre
+term-behind o os pre s t a sp =
     let outer = a.here.0 in
     let inner = a.here.1 in
     let sign = opening_sign o.square in
@@ -46,102 +46,102 @@ term_behind o os pre s t a sp =
       blanks = [];
       cut = a.cut ∙ ap (λ (w : List ℕ). w ++ s) a.here.2 ∙ append_assoc outer (sign ∷ inner) s ∙ ap (λ (w : List ℕ). outer ++ (sign ∷ w)) (sym (append-nil (inner ++ s)));
       here = a.here.3;
-      spells = inside_with (suc a.k) o.terms inner s t a.here.4 sp;
+      spells = inside-with (suc a.k) o.terms inner s t a.here.4 sp;
       are_blanks = refl;
     }
 
 -- what is whole and can't go on
-pub put_holds : (os : List Open) (pre s : List ℕ) (t : Term) (n : ℕ) (a : At os pre s) → Spells (suc a.k) s t → n ≡ length pre → ((rest : List ℕ) → Ends s rest) → Holds pre (put os t n)
-put_holds [] pre s t n a sp len ends = record { meaning = λ rest. front_of pre a.p s t n rest a.cut a.here.0 (let P : ℕ → Type 0 = λ k. Spells k s t in subst P a.here.1 sp) len (ends rest) }
-put_holds (o ∷ os) pre s t n a sp len ends = record { meaning = term_behind o os pre s t a sp }
+pub put-holds : (os : List OpenBracket) (pre s : List ℕ) (t : Term) (n : ℕ) (a : At os pre s) → Spells (suc a.k) s t → n ≡ length pre → ((rest : List ℕ) → Ends s rest) → Holds pre (put os t n)
+put-holds [] pre s t n a sp len ends = record { meaning = λ rest. front-of pre a.p s t n rest a.cut a.here.0 (let P : ℕ → Type 0 = λ k. Spells k s t in subst P a.here.1 sp) len (ends rest) }
+put-holds (o ∷ os) pre s t n a sp len ends = record { meaning = term-behind o os pre s t a sp }
 
-pub open_closed : (square : Bool) (s rest : List ℕ) → Ends (opening_sign square ∷ s) rest
+pub open-closed : (square : Bool) (s rest : List ℕ) → Ends (opening_sign square ∷ s) rest
 unfolding is_digit is_small
-open_closed true s rest = closed_by 91 s rest refl refl
-open_closed false s rest = closed_by 123 s rest refl refl
+open-closed true s rest = closed-by 91 s rest refl refl
+open-closed false s rest = closed-by 123 s rest refl refl
 
-pub quote_closed : (s rest : List ℕ) → Ends (39 ∷ s) rest
+pub quote-closed : (s rest : List ℕ) → Ends (39 ∷ s) rest
 unfolding is_digit is_small
-quote_closed s rest = closed_by 39 s rest refl refl
+quote-closed s rest = closed-by 39 s rest refl refl
 
-pub string_closed : (s rest : List ℕ) → Ends (34 ∷ s) rest
+pub string-closed : (s rest : List ℕ) → Ends (34 ∷ s) rest
 unfolding is_digit is_small
-string_closed s rest = closed_by 34 s rest refl refl
+string-closed s rest = closed-by 34 s rest refl refl
 
-angle_closed : (s rest : List ℕ) → Ends (60 ∷ s) rest
+angle-closed : (s rest : List ℕ) → Ends (60 ∷ s) rest
 unfolding is_digit is_small
-angle_closed s rest = closed_by 60 s rest refl refl
+angle-closed s rest = closed-by 60 s rest refl refl
 
-hash_closed : (s rest : List ℕ) → Ends (35 ∷ s) rest
+hash-closed : (s rest : List ℕ) → Ends (35 ∷ s) rest
 unfolding is_digit is_small
-hash_closed s rest = closed_by 35 s rest refl refl
+hash-closed s rest = closed-by 35 s rest refl refl
 
 -- a byte behind a term in a bracket
-pub after_holds : (at : ℕ) (o : Open) (os : List Open) (pre : List ℕ) (b : ℕ) → at ≡ length pre → Behind o os pre → Holds (pre ++ b ∷ []) (next_after at (o ∷ os) b)
-after_holds at o os pre b len h =
+pub after-holds : (at : ℕ) (o : OpenBracket) (os : List OpenBracket) (pre : List ℕ) (b : ℕ) → at ≡ length pre → Behind o os pre → Holds (pre ++ b ∷ []) (next_after at (o ∷ os) b)
+after-holds at o os pre b len h =
     let sign = opening_sign o.square in
     let grown : pre ++ b ∷ [] ≡ h.outer ++ (sign ∷ (h.row ++ (h.blanks ++ b ∷ []))) = ap (λ (w : List ℕ). w ++ b ∷ []) h.cut ∙ append_assoc h.outer (sign ∷ (h.row ++ h.blanks)) (b ∷ []) ∙ ap (λ (w : List ℕ). h.outer ++ (sign ∷ w)) (append_assoc h.row h.blanks (b ∷ [])) in
-    holds_if (closes o.square b) _ _
+    holds-if (closes o.square b) _ _
     (λ c.
-    let closed : pre ++ b ∷ [] ≡ h.outer ++ (sign ∷ (h.row ++ (h.blanks ++ closing_sign o.square ∷ []))) = grown ∙ ap (λ (x : ℕ). h.outer ++ (sign ∷ (h.row ++ (h.blanks ++ x ∷ [])))) (close_is o.square b c) in
-    put_holds os (pre ++ b ∷ []) (sign ∷ (h.row ++ (h.blanks ++ closing_sign o.square ∷ []))) (bracket o) (at + 1) (record { k = h.k; p = h.outer; cut = closed; here = h.here })
-    (full_bracket h.k o.square h.row h.blanks o.terms h.spells h.are_blanks) (more_len at pre b len) (open_closed o.square (h.row ++ (h.blanks ++ closing_sign o.square ∷ []))))
-    (λ c. holds_if (is_blank b) _ _
-    (λ d. record { meaning = record { k = h.k; outer = h.outer; row = h.row; blanks = h.blanks ++ b ∷ []; cut = grown; here = h.here; spells = h.spells; are_blanks = blank_more h.blanks b h.are_blanks d } })
-    (λ d. holds_if (b == 44) _ _
+    let closed : pre ++ b ∷ [] ≡ h.outer ++ (sign ∷ (h.row ++ (h.blanks ++ closing_sign o.square ∷ []))) = grown ∙ ap (λ (x : ℕ). h.outer ++ (sign ∷ (h.row ++ (h.blanks ++ x ∷ [])))) (close-is o.square b c) in
+    put-holds os (pre ++ b ∷ []) (sign ∷ (h.row ++ (h.blanks ++ closing_sign o.square ∷ []))) (bracket o) (at + 1) (record { k = h.k; p = h.outer; cut = closed; here = h.here })
+    (full_bracket h.k o.square h.row h.blanks o.terms h.spells h.are_blanks) (more-len at pre b len) (open-closed o.square (h.row ++ (h.blanks ++ closing_sign o.square ∷ []))))
+    (λ c. holds-if (is_blank b) _ _
+    (λ d. record { meaning = record { k = h.k; outer = h.outer; row = h.row; blanks = h.blanks ++ b ∷ []; cut = grown; here = h.here; spells = h.spells; are_blanks = blank-more h.blanks b h.are_blanks d } })
+    (λ d. holds-if (b == 44) _ _
     (λ e.
-    let comma : pre ++ b ∷ [] ≡ h.outer ++ (sign ∷ (h.row ++ (h.blanks ++ 44 ∷ []))) = grown ∙ ap (λ (x : ℕ). h.outer ++ (sign ∷ (h.row ++ (h.blanks ++ x ∷ [])))) (is_byte b 44 e) in
+    let comma : pre ++ b ∷ [] ≡ h.outer ++ (sign ∷ (h.row ++ (h.blanks ++ 44 ∷ []))) = grown ∙ ap (λ (x : ℕ). h.outer ++ (sign ∷ (h.row ++ (h.blanks ++ x ∷ [])))) (is-byte b 44 e) in
     record { meaning = (h.k, (h.outer, h.row ++ (h.blanks ++ 44 ∷ []), comma, h.here, further o.terms h.row h.blanks [] h.spells h.are_blanks refl)) })
     (λ e. noticed pre b (Unexpected at) len)))
 
 -- the byte behind an integer or a name
-pub behind_holds : (at : ℕ) (os : List Open) (pre s : List ℕ) (t : Term) (b : ℕ) (a : At os pre s) → at ≡ length pre → Spells (suc a.k) s t → ((rest : List ℕ) → Ends s (b ∷ rest))
+pub behind-holds : (at : ℕ) (os : List OpenBracket) (pre s : List ℕ) (t : Term) (b : ℕ) (a : At os pre s) → at ≡ length pre → Spells (suc a.k) s t → ((rest : List ℕ) → Ends s (b ∷ rest))
     → Holds (pre ++ b ∷ []) (next_behind at (put os t at) b)
-behind_holds at [] pre s t b a len sp ends = record {
+behind-holds at [] pre s t b a len sp ends = record {
   meaning = λ rest.
       let P : List ℕ → Type 0 = λ w. Front w t at in
-      subst P (sym (append_assoc pre (b ∷ []) rest)) (front_of pre a.p s t at (b ∷ rest) a.cut a.here.0 (let Q : ℕ → Type 0 = λ k. Spells k s t in subst Q a.here.1 sp) len (ends rest));
+      subst P (sym (append_assoc pre (b ∷ []) rest)) (front-of pre a.p s t at (b ∷ rest) a.cut a.here.0 (let Q : ℕ → Type 0 = λ k. Spells k s t in subst Q a.here.1 sp) len (ends rest));
 }
-behind_holds at (o ∷ os) pre s t b a len sp ends = after_holds at (with_term o t) os pre b len (term_behind o os pre s t a sp)
+behind-holds at (o ∷ os) pre s t b a len sp ends = after-holds at (with_term o t) os pre b len (term-behind o os pre s t a sp)
 
-closed_ends : (s rest : List ℕ) → Closed s → Ends s rest
-closed_ends [] rest c = absurd (omega (arith, c.some))
-closed_ends (b ∷ s) rest c = closed_by b s rest c.no_number c.no_name
+closed-ends : (s rest : List ℕ) → Closed s → Ends s rest
+closed-ends [] rest c = absurd (omega (arith, c.some))
+closed-ends (b ∷ s) rest c = closed-by b s rest c.no-number c.no-name
 
-closed_more : (s t : List ℕ) → Closed s → Closed (s ++ t)
-closed_more [] t c = absurd (omega (arith, c.some))
-closed_more (b ∷ s) t c = record { some = omega arith; no_number = c.no_number; no_name = c.no_name }
+closed-more : (s t : List ℕ) → Closed s → Closed (s ++ t)
+closed-more [] t c = absurd (omega (arith, c.some))
+closed-more (b ∷ s) t c = record { some = omega arith; no-number = c.no-number; no-name = c.no-name }
 
-pub angle_text : (s : List ℕ) → Closed (60 ∷ s)
+pub angle-text : (s : List ℕ) → Closed (60 ∷ s)
 unfolding is_digit is_small
-angle_text s = record { some = omega arith; no_number = refl; no_name = refl }
+angle-text s = record { some = omega arith; no-number = refl; no-name = refl }
 
-pub hash_text : (s : List ℕ) → Closed (35 ∷ s)
+pub hash-text : (s : List ℕ) → Closed (35 ∷ s)
 unfolding is_digit is_small
-hash_text s = record { some = omega arith; no_number = refl; no_name = refl }
+hash-text s = record { some = omega arith; no-number = refl; no-name = refl }
 
 -- the place behind what stands of a form
-pub behind_form : (os : List Open) (pre s : List ℕ) (at : ℕ) (a : At os pre s) → at ≡ length pre → at ≡ length a.p + length s
-behind_form os pre s at a len = omega (arith, len, ap length a.cut, length-append a.p s)
+pub behind-form : (os : List OpenBracket) (pre s : List ℕ) (at : ℕ) (a : At os pre s) → at ≡ length pre → at ≡ length a.p + length s
+behind-form os pre s at a len = omega (arith, len, ap length a.cut, length-append a.p s)
 
-framed_start : (kind : Number) (m n at : ℕ) → IsFramed kind → at ≡ n → at ≡ number_start kind m n
-framed_start (integer below) m n at h e = absurd h
-framed_start pid m n at h e = e
-framed_start identifier m n at h e = e
-framed_start (byte bs) m n at h e = e
+framed-start : (kind : Number) (m n at : ℕ) → IsFramed kind → at ≡ n → at ≡ number_start kind m n
+framed-start (integer below) m n at h e = absurd h
+framed-start pid m n at h e = e
+framed-start identifier m n at h e = e
+framed-start (byte bs) m n at h e = e
 
 -- signs that must come
-arrive_holds : (at : ℕ) (cs : List ℕ) (goal : Goal) (os : List Open) (pre s : List ℕ) → at ≡ length pre → At os pre s → Leads (s ++ cs) goal → Closed s → Holds pre (arrive at cs goal os)
-arrive_holds at [] (whole t) os pre s len a l c = put_holds os pre s t at a (let P : List ℕ → Type 0 = λ w. Spells (suc a.k) w t in subst P (append-nil s) (l a.k)) len (λ rest. closed_ends s rest c)
-arrive_holds at [] (digits kind) os pre s len a l c = record { meaning = (s, (let P : List ℕ → Type 0 = λ w. Before kind w in subst P (append-nil s) l.0), a, framed_start kind (length a.p) (length a.p + length s) at l.1 (behind_form os pre s at a len)) }
-arrive_holds at (b ∷ cs) goal os pre s len a l c = record { meaning = (s, a, l, c) }
+expect-holds : (at : ℕ) (cs : List ℕ) (goal : Expect) (os : List OpenBracket) (pre s : List ℕ) → at ≡ length pre → At os pre s → Leads (s ++ cs) goal → Closed s → Holds pre (expect at cs goal os)
+expect-holds at [] (whole t) os pre s len a l c = put-holds os pre s t at a (let P : List ℕ → Type 0 = λ w. Spells (suc a.k) w t in subst P (append-nil s) (l a.k)) len (λ rest. closed-ends s rest c)
+expect-holds at [] (digits kind) os pre s len a l c = record { meaning = (s, (let P : List ℕ → Type 0 = λ w. LeadsNumber kind w in subst P (append-nil s) l.0), a, framed-start kind (length a.p) (length a.p + length s) at l.1 (behind-form os pre s at a len)) }
+expect-holds at (b ∷ cs) goal os pre s len a l c = record { meaning = (s, a, l, c) }
 
-pub sign_holds : (at : ℕ) (cs : List ℕ) (goal : Goal) (os : List Open) (pre s : List ℕ) (b : ℕ) → at ≡ length pre → At os pre s → Leads (s ++ cs) goal → Closed s
+pub sign-holds : (at : ℕ) (cs : List ℕ) (goal : Expect) (os : List OpenBracket) (pre s : List ℕ) (b : ℕ) → at ≡ length pre → At os pre s → Leads (s ++ cs) goal → Closed s
     → Holds (pre ++ b ∷ []) (next_sign at cs goal os b)
-sign_holds at [] goal os pre s b len a l closed = noticed pre b (Unexpected at) len
-sign_holds at (c ∷ cs) goal os pre s b len a l closed = holds_if (b == c) _ _
-    (λ e. let same : b ≡ c = is_byte b c e in
+sign-holds at [] goal os pre s b len a l closed = noticed pre b (Unexpected at) len
+sign-holds at (c ∷ cs) goal os pre s b len a l closed = holds-if (b == c) _ _
+    (λ e. let same : b ≡ c = is-byte b c e in
     let P : List ℕ → Type 0 = λ w. Leads w goal in
-    arrive_holds (at + 1) cs goal os (pre ++ b ∷ []) (s ++ b ∷ []) (more_len at pre b len) (at_more os pre s (s ++ b ∷ []) b a refl)
-    (subst P (ap (λ (x : ℕ). s ++ x ∷ cs) (sym same) ∙ sym (append_assoc s (b ∷ []) cs)) l) (closed_more s (b ∷ []) closed))
+    expect-holds (at + 1) cs goal os (pre ++ b ∷ []) (s ++ b ∷ []) (more-len at pre b len) (at_more os pre s (s ++ b ∷ []) b a refl)
+    (subst P (ap (λ (x : ℕ). s ++ x ∷ cs) (sym same) ∙ sym (append_assoc s (b ∷ []) cs)) l) (closed-more s (b ∷ []) closed))
     (λ e. noticed pre b (Unexpected at) len)

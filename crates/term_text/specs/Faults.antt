@@ -6,36 +6,36 @@ use Rattle.ets_term.specs.declared.term.Term.{Term}
 use Rattle.ets_term.specs.Depth.{max_depth}
 use Rattle.term_text.specs.declared.fault.TextFault.{TextFault}
 use Rattle.term_text.specs.declared.fault.TextFault.TheVariants.{Unexpected, Unclosed, OutOfRange, TooDeep, AtomTooLong, Memory}
-use Rattle.term_text.specs.Forms.{Open, Number, integer, pid, identifier, byte, top}
+use Rattle.term_text.specs.Forms.{OpenBracket, Number, integer, pid, identifier, byte, max_magnitude}
 use Rattle.term_text.specs.Grammar.{AreBlanks, SpellsNumber, SpellsQuoted, SpellsBytes, SpellsRow, opening_sign, Front}
 use Rattle.term_text.specs.Text.{apostrophe, quotation_mark, is_digit, is_small, is_name, begins, begins_term}
 
 -- the text in a bracket up to where a term is wanted, behind these
-pub data Inside (k : ℕ) : List Term → List ℕ → Type 0 where
-  fresh : (blanks : List ℕ) → AreBlanks blanks → Inside k [] blanks
+pub data AwaitsItem (k : ℕ) : List Term → List ℕ → Type 0 where
+  fresh : (blanks : List ℕ) → AreBlanks blanks → AwaitsItem k [] blanks
   further : (ts : List Term) (row before behind : List ℕ) → SpellsRow k row ts → AreBlanks before → AreBlanks behind
-      → Inside k ts (row ++ (before ++ (codes "," ++ behind)))
+      → AwaitsItem k ts (row ++ (before ++ (codes "," ++ behind)))
 
 -- the text up to where a term of at most k levels is wanted, in these open brackets
-abbrev pub Here : ℕ → List Open → List ℕ → Type 0
-Here k [] pre = AreBlanks pre × (k ≡ max_depth)
-Here k (o ∷ os) pre =
+abbrev pub AwaitsTerm : ℕ → List OpenBracket → List ℕ → Type 0
+AwaitsTerm k [] pre = AreBlanks pre × (k ≡ max_depth)
+AwaitsTerm k (o ∷ os) pre =
     (outer inner : List ℕ) × (pre ≡ outer ++ (opening_sign o.square ∷ inner))
-    × Here (suc k) os outer × Inside k o.terms inner
+    × AwaitsTerm (suc k) os outer × AwaitsItem k o.terms inner
 
 -- the bytes of a binary up to where a further one is wanted
-pub data Bytes : List ℕ → List ℕ → Type 0 where
-  opened : (blanks : List ℕ) → AreBlanks blanks → Bytes [] blanks
+pub data AwaitsByte : List ℕ → List ℕ → Type 0 where
+  opened : (blanks : List ℕ) → AreBlanks blanks → AwaitsByte [] blanks
   comma : (bs row before behind : List ℕ) → SpellsBytes row bs → AreBlanks before → AreBlanks behind
-      → Bytes bs (row ++ (before ++ (codes "," ++ behind)))
+      → AwaitsByte bs (row ++ (before ++ (codes "," ++ behind)))
 
 -- what stands before the digits of a number
-abbrev pub Before : Number → List ℕ → Type 0
-Before (integer true) s = s ≡ codes "-"
-Before (integer false) s = s ≡ []
-Before pid s = s ≡ codes "<0."
-Before identifier s = s ≡ codes "#Tid<"
-Before (byte bs) s = (inner : List ℕ) × (s ≡ codes "<<" ++ inner) × Bytes bs inner
+abbrev pub LeadsNumber : Number → List ℕ → Type 0
+LeadsNumber (integer true) s = s ≡ codes "-"
+LeadsNumber (integer false) s = s ≡ []
+LeadsNumber pid s = s ≡ codes "<0."
+LeadsNumber identifier s = s ≡ codes "#Tid<"
+LeadsNumber (byte bs) s = (inner : List ℕ) × (s ≡ codes "<<" ++ inner) × AwaitsByte bs inner
 
 -- where a number is told to begin: with its sign, or its first digit
 abbrev pub number_start : Number → ℕ → ℕ → ℕ
@@ -44,7 +44,7 @@ number_start kind form digits = digits
 
 -- out of range: the digit b takes the number that begins at `start` past its range
 pub record PastRange (pre : List ℕ) (b start : ℕ) : Type 0 where
-  pub os : List Open
+  pub os : List OpenBracket
   pub k : ℕ
   pub kind : Number
   pub value : ℕ
@@ -52,44 +52,44 @@ pub record PastRange (pre : List ℕ) (b start : ℕ) : Type 0 where
   pub before : List ℕ
   pub digits : List ℕ
   pub cut : pre ≡ lead ++ (before ++ digits)
-  pub here : Here (suc k) os lead
-  pub is_before : Before kind before
+  pub here : AwaitsTerm (suc k) os lead
+  pub is_before : LeadsNumber kind before
   pub spells : SpellsNumber kind digits value
   pub begins : start ≡ number_start kind (length lead) (length lead + length before)
   pub digit : is_digit b ≡ true
-  pub past : top kind < value * 10 + (b - 48)
+  pub past : max_magnitude kind < value * 10 + (b - 48)
 
 -- an atom too long: b begins one character more than an atom has, of one that begins at `start`
 pub data PastAtom (pre : List ℕ) (b start : ℕ) : Type 0 where
-  plain_form : (os : List Open) (k : ℕ) (lead s : List ℕ) → pre ≡ lead ++ s → Here (suc k) os lead → start ≡ length lead
+  plain_form : (os : List OpenBracket) (k : ℕ) (lead s : List ℕ) → pre ≡ lead ++ s → AwaitsTerm (suc k) os lead → start ≡ length lead
       → IsTrue (begins is_small s) → IsTrue (list_all is_name s) → length s ≡ max_characters → is_name b ≡ true
       → PastAtom pre b start
-  quoted_form : (os : List Open) (k : ℕ) (lead s cs : List ℕ) → pre ≡ lead ++ (codes "'" ++ s)
-      → Here (suc k) os lead → start ≡ length lead
+  quoted_form : (os : List OpenBracket) (k : ℕ) (lead s cs : List ℕ) → pre ≡ lead ++ (codes "'" ++ s)
+      → AwaitsTerm (suc k) os lead → start ≡ length lead
       → SpellsQuoted apostrophe s cs → length cs ≡ max_characters → is_character b ≡ true → (b == apostrophe) ≡ false
       → PastAtom pre b start
 
--- too deep: b can begin a term one level past the last, or a character of a string that stands at the last
+-- too out_of_levels: b can begin a term one level past the last, or a character of a string that stands at the last
 pub data PastDepth (pre : List ℕ) (b : ℕ) : Type 0 where
-  a_term : (os : List Open) → Here 0 os pre → begins_term b ≡ true → PastDepth pre b
-  a_character : (os : List Open) (lead : List ℕ) → pre ≡ lead ++ codes "\"" → Here 1 os lead
+  a_term : (os : List OpenBracket) → AwaitsTerm 0 os pre → begins_term b ≡ true → PastDepth pre b
+  a_character : (os : List OpenBracket) (lead : List ℕ) → pre ≡ lead ++ codes "\"" → AwaitsTerm 1 os lead
       → is_character b ≡ true → (b == quotation_mark) ≡ false → PastDepth pre b
 
 -- what a fault at the byte b says of the text before it
-abbrev pub Says : List ℕ → ℕ → TextFault → Type 0
-Says pre b (Unexpected at) = at ≡ length pre
-Says pre b (OutOfRange at) = PastRange pre b at
-Says pre b (TooDeep at) = (at ≡ length pre) × PastDepth pre b
-Says pre b (AtomTooLong at) = PastAtom pre b at
-Says pre b (Unclosed at) = ⊥
-Says pre b Memory = ⊥
+abbrev pub FaultMeans : List ℕ → ℕ → TextFault → Type 0
+FaultMeans pre b (Unexpected at) = at ≡ length pre
+FaultMeans pre b (OutOfRange at) = PastRange pre b at
+FaultMeans pre b (TooDeep at) = (at ≡ length pre) × PastDepth pre b
+FaultMeans pre b (AtomTooLong at) = PastAtom pre b at
+FaultMeans pre b (Unclosed at) = ⊥
+FaultMeans pre b Memory = ⊥
 
 -- a row for its own reason; any other byte with which no text can go on is unexpected
-abbrev pub IsTold : List ℕ → ℕ → TextFault → Type 0
-IsTold pre b (Unexpected at) =
+abbrev pub IsFaultAt : List ℕ → ℕ → TextFault → Type 0
+IsFaultAt pre b (Unexpected at) =
     (at ≡ length pre) × ((start : ℕ) → PastRange pre b start → ⊥)
     × (PastDepth pre b → ⊥) × ((start : ℕ) → PastAtom pre b start → ⊥)
-IsTold pre b f = Says pre b f
+IsFaultAt pre b f = FaultMeans pre b f
 
 -- some text that begins so has a term at its front
 abbrev pub Continues : List ℕ → Type 0
@@ -103,7 +103,7 @@ pub record IsNoticed (text : List ℕ) (f : TextFault) : Type 0 where
   pub whole : text ≡ pre ++ b ∷ rest
   pub before : Continues pre
   pub behind : Continues (pre ++ b ∷ []) → ⊥
-  pub told : IsTold pre b f
+  pub told : IsFaultAt pre b f
 
 -- the text can go on, and ends before it has a term
 pub record EndsEarly (text : List ℕ) (at : ℕ) : Type 0 where

@@ -12,7 +12,7 @@ pub data Number : Type 0 where
   byte : List ℕ → Number  -- a byte of a binary, behind these
 
 -- A bracket that is open, square or a brace, and the terms that stand in it so far.
-pub record Open : Type 0 where
+pub record OpenBracket : Type 0 where
   pub square : Bool
   pub terms : List Term
 
@@ -28,14 +28,14 @@ size (pos n) = n
 size (negsuc n) = n + 1
 
 -- the greatest size of a number
-abbrev pub top : Number → ℕ
-top (integer true) = size least
-top (integer false) = size greatest
-top pid = 2 ^ 32 - 1
-top identifier = 2 ^ 32 - 1
-top (byte bs) = 2 ^ 8 - 1
+abbrev pub max_magnitude : Number → ℕ
+max_magnitude (integer true) = size least
+max_magnitude (integer false) = size greatest
+max_magnitude pid = 2 ^ 32 - 1
+max_magnitude identifier = 2 ^ 32 - 1
+max_magnitude (byte bs) = 2 ^ 8 - 1
 
-abbrev pub bracket : Open → Term
+abbrev pub bracket : OpenBracket → Term
 bracket o = if o.square then ListOf o.terms else Tuple o.terms
 
 -- the integer of a character

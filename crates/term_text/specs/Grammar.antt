@@ -5,7 +5,7 @@ use Rattle.ets_term.specs.Character.{is_character, max_characters}
 use Rattle.ets_term.specs.declared.term.Term.{Term}
 use Rattle.ets_term.specs.declared.term.Term.TheVariants.{Int, Atom, Pid, Tid, Binary, List as ListOf}
 use Rattle.ets_term.specs.Depth.{max_depth}
-use Rattle.term_text.specs.Forms.{Number, integer, pid, identifier, byte, signed, top, code, bracket}
+use Rattle.term_text.specs.Forms.{Number, integer, pid, identifier, byte, signed, max_magnitude, code, bracket}
 use Rattle.term_text.specs.Text.{apostrophe, quotation_mark, is_blank, is_digit, is_small, is_name, begins, spelled}
 
 abbrev pub AreBlanks : List ℕ → Type 0
@@ -16,7 +16,7 @@ pub record SpellsNumber (kind : Number) (s : List ℕ) (n : ℕ) : Type 0 where
   pub some : IsTrue (begins is_digit s)
   pub each : IsTrue (list_all is_digit s)
   pub value : spelled 0 s ≡ n
-  pub fits : n ≤ top kind
+  pub fits : n ≤ max_magnitude kind
 
 -- characters between quotes of this sign: the sign and `\` have a `\` before them
 pub data SpellsQuoted (quote : ℕ) : List ℕ → List ℕ → Type 0 where

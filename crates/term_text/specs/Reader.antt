@@ -9,13 +9,13 @@ use Rattle.term_text.specs.declared.fault.TextFault.{TextFault}
 use Rattle.term_text.specs.declared.fault.TextFault.TheVariants.{Unexpected, Unclosed, OutOfRange, TooDeep, AtomTooLong}
 use Rattle.term_text.specs.declared.quote_form.QuoteForm.{QuoteForm}
 use Rattle.term_text.specs.declared.quote_form.QuoteForm.TheVariants as form
-pub use Rattle.term_text.specs.Forms.{Open, Number, integer, pid, identifier, byte, signed, size, top, bracket, code}
+pub use Rattle.term_text.specs.Forms.{OpenBracket, Number, integer, pid, identifier, byte, signed, size, max_magnitude, bracket, code}
 use Rattle.term_text.specs.Text.{apostrophe, quotation_mark, is_blank, is_digit, is_name, closes, begins_term}
 
 -- What stands behind signs that must come.
-pub data Goal : Type 0 where
-  whole : Term → Goal
-  digits : Number → Goal
+pub data Expect : Type 0 where
+  whole : Term → Expect
+  digits : Number → Expect
 
 -- What may come next. A number or an atom that has begun keeps where it did.
 pub data Mode : Type 0 where
@@ -25,7 +25,7 @@ pub data Mode : Type 0 where
   name : ℕ → List ℕ → Mode  -- a further character of an atom without quotes
   quoted : QuoteForm → List ℕ → Mode  -- a further character in quotes, or the quote that closes
   escaped : QuoteForm → List ℕ → Mode  -- the quote or `\` behind a `\`
-  signs : List ℕ → Goal → Mode  -- these signs
+  signs : List ℕ → Expect → Mode  -- these signs
   angle : Mode  -- behind `<`, the `<` of a binary or the `0` of a pid
   opened_binary : Mode  -- a byte, a string or the closing sign of a binary just opened
   wants_byte : List ℕ → Mode  -- a further byte of a binary
@@ -35,87 +35,87 @@ pub data Mode : Type 0 where
 
 -- What was read so far, or the end of it. The open brackets are listed from the innermost.
 pub data Reading : Type 0 where
-  goes : Mode → List Open → Reading
+  reads_on : Mode → List OpenBracket → Reading
   found : Term → ℕ → Reading  -- the term that the text begins with, and how many bytes it takes
   fails : TextFault → Reading
 
-abbrev pub opening : Bool → Open
+abbrev pub opening : Bool → OpenBracket
 opening square = record { square = square; terms = [] }
 
-abbrev pub with_term : Open → Term → Open
+abbrev pub with_term : OpenBracket → Term → OpenBracket
 with_term o t = record { square = o.square; terms = o.terms ++ t ∷ [] }
 
 -- a term is whole, and n bytes are taken
-abbrev pub put : List Open → Term → ℕ → Reading
+abbrev pub put : List OpenBracket → Term → ℕ → Reading
 put [] t n = found t n
-put (o ∷ os) t n = goes after (with_term o t ∷ os)
+put (o ∷ os) t n = reads_on after (with_term o t ∷ os)
 
 -- before the byte n, with these signs still to come
-abbrev pub arrive : ℕ → List ℕ → Goal → List Open → Reading
-arrive n [] (whole t) os = put os t n
-arrive n [] (digits kind) os = goes (digit kind n) os
-arrive n (c ∷ cs) goal os = goes (signs (c ∷ cs) goal) os
+abbrev pub expect : ℕ → List ℕ → Expect → List OpenBracket → Reading
+expect n [] (whole t) os = put os t n
+expect n [] (digits kind) os = reads_on (digit kind n) os
+expect n (c ∷ cs) goal os = reads_on (signs (c ∷ cs) goal) os
 
-abbrev pub next_sign : ℕ → List ℕ → Goal → List Open → ℕ → Reading
+abbrev pub next_sign : ℕ → List ℕ → Expect → List OpenBracket → ℕ → Reading
 next_sign at [] goal os b = fails (Unexpected at)
-next_sign at (c ∷ cs) goal os b = if b == c then arrive (at + 1) cs goal os else fails (Unexpected at)
+next_sign at (c ∷ cs) goal os b = if b == c then expect (at + 1) cs goal os else fails (Unexpected at)
 
 -- the first byte of a term; there are max_depth levels
-unfoldable pub begin : ℕ → List Open → ℕ → Reading
+unfoldable pub begin : ℕ → List OpenBracket → ℕ → Reading
 begin at os b = if begins_term b
     then (if nat_le max_depth (length os) then fails (TooDeep at)
-    else if b == 123 then goes (wants true) (opening false ∷ os)
-    else if b == 91 then goes (wants true) (opening true ∷ os)
-    else if b == 45 then goes (digit (integer true) at) os
-    else if b == 39 then goes (quoted (form.Atom at) []) os
-    else if b == 34 then goes (quoted form.String []) os
-    else if b == 60 then goes angle os
-    else if b == 35 then goes (signs (codes "Tid<") (digits identifier)) os
-    else if is_digit b then goes (number (integer false) at (b - 48)) os
-    else goes (name at (b ∷ [])) os)
+    else if b == 123 then reads_on (wants true) (opening false ∷ os)
+    else if b == 91 then reads_on (wants true) (opening true ∷ os)
+    else if b == 45 then reads_on (digit (integer true) at) os
+    else if b == 39 then reads_on (quoted (form.Atom at) []) os
+    else if b == 34 then reads_on (quoted form.String []) os
+    else if b == 60 then reads_on angle os
+    else if b == 35 then reads_on (signs (codes "Tid<") (digits identifier)) os
+    else if is_digit b then reads_on (number (integer false) at (b - 48)) os
+    else reads_on (name at (b ∷ [])) os)
     else fails (Unexpected at)
 
 -- a byte behind a term in a bracket
-abbrev pub next_after : ℕ → List Open → ℕ → Reading
+abbrev pub next_after : ℕ → List OpenBracket → ℕ → Reading
 next_after at [] b = fails (Unexpected at)
 next_after at (o ∷ os) b = if closes o.square b then put os (bracket o) (at + 1)
-    else if is_blank b then goes after (o ∷ os)
-    else if b == 44 then goes (wants false) (o ∷ os)
+    else if is_blank b then reads_on after (o ∷ os)
+    else if b == 44 then reads_on (wants false) (o ∷ os)
     else fails (Unexpected at)
 
 -- the byte behind an integer or a name, which is thereby whole
 abbrev pub next_behind : ℕ → Reading → ℕ → Reading
-next_behind at (goes mode os) b = next_after at os b
+next_behind at (reads_on mode os) b = next_after at os b
 next_behind at (found t n) b = found t n
 next_behind at (fails f) b = fails f
 
 -- a byte where a bracket has just been opened
-abbrev pub next_opened : ℕ → List Open → ℕ → Reading
+abbrev pub next_opened : ℕ → List OpenBracket → ℕ → Reading
 next_opened at [] b = begin at [] b
 next_opened at (o ∷ os) b = if closes o.square b then put os (bracket o) (at + 1) else begin at (o ∷ os) b
 
 -- the signs behind the bytes of a binary
-abbrev pub binary_ends : ℕ → List ℕ → List Open → ℕ → Reading
+abbrev pub binary_ends : ℕ → List ℕ → List OpenBracket → ℕ → Reading
 binary_ends at bs os b = next_sign at (codes ">>") (whole (Binary bs)) os b
 
-abbrev pub next_behind_byte : ℕ → List ℕ → List Open → ℕ → Reading
-next_behind_byte at bs os b = if is_blank b then goes (behind_byte bs) os
-    else if b == 44 then goes (wants_byte bs) os
+abbrev pub next_behind_byte : ℕ → List ℕ → List OpenBracket → ℕ → Reading
+next_behind_byte at bs os b = if is_blank b then reads_on (behind_byte bs) os
+    else if b == 44 then reads_on (wants_byte bs) os
     else binary_ends at bs os b
 
 -- the byte behind the digits of a number
-abbrev pub next_behind_number : ℕ → Number → ℕ → List Open → ℕ → Reading
+abbrev pub next_behind_number : ℕ → Number → ℕ → List OpenBracket → ℕ → Reading
 next_behind_number at (integer below) n os b = next_behind at (put os (Int (signed below n)) at) b
 next_behind_number at pid n os b = next_sign at (codes ".0>") (whole (Pid n)) os b
 next_behind_number at identifier n os b = next_sign at (codes ">") (whole (Tid n)) os b
 next_behind_number at (byte bs) n os b = next_behind_byte at (bs ++ n ∷ []) os b
 
-abbrev pub next_digit : ℕ → Number → ℕ → List Open → ℕ → Reading
-next_digit at kind start os b = if is_digit b then goes (number kind start (b - 48)) os else fails (Unexpected at)
+abbrev pub next_digit : ℕ → Number → ℕ → List OpenBracket → ℕ → Reading
+next_digit at kind start os b = if is_digit b then reads_on (number kind start (b - 48)) os else fails (Unexpected at)
 
-abbrev pub next_number : ℕ → Number → ℕ → ℕ → List Open → ℕ → Reading
+abbrev pub next_number : ℕ → Number → ℕ → ℕ → List OpenBracket → ℕ → Reading
 next_number at kind start n os b = if is_digit b
-    then (if nat_le (n * 10 + (b - 48)) (top kind) then goes (number kind start (n * 10 + (b - 48))) os
+    then (if nat_le (n * 10 + (b - 48)) (max_magnitude kind) then reads_on (number kind start (n * 10 + (b - 48))) os
     else fails (OutOfRange start))
     else next_behind_number at kind n os b
 
@@ -126,70 +126,70 @@ quote form.String = quotation_mark
 quote form.Binary = quotation_mark
 
 -- behind the closing quote, n bytes being taken; a string stands for the list of its characters' codes
-abbrev pub unquoted : ℕ → QuoteForm → List ℕ → List Open → Reading
+abbrev pub unquoted : ℕ → QuoteForm → List ℕ → List OpenBracket → Reading
 unquoted n (form.Atom start) cs os = put os (Atom cs) n
 unquoted n form.String cs os = put os (ListOf (map code cs)) n
-unquoted n form.Binary cs os = goes (behind_string cs) os
+unquoted n form.Binary cs os = reads_on (behind_string cs) os
 
 -- the first byte of a further character, behind n others: an atom has max_characters at most, and those of a string
 -- stand one level further in
-abbrev pub admits : ℕ → QuoteForm → ℕ → List Open → Reading → Reading
+abbrev pub admits : ℕ → QuoteForm → ℕ → List OpenBracket → Reading → Reading
 admits at (form.Atom start) n os s = if n == max_characters then fails (AtomTooLong start) else s
 admits at form.String n os s = if nat_le (max_depth - 1) (length os) then fails (TooDeep at) else s
 admits at form.Binary n os s = s
 
-abbrev pub next_quoted : ℕ → QuoteForm → List ℕ → List Open → ℕ → Reading
+abbrev pub next_quoted : ℕ → QuoteForm → List ℕ → List OpenBracket → ℕ → Reading
 next_quoted at q cs os b = if b == quote q then unquoted (at + 1) q cs os
-    else if b == 92 then admits at q (length cs) os (goes (escaped q cs) os)
-    else if is_character b then admits at q (length cs) os (goes (quoted q (cs ++ b ∷ [])) os)
+    else if b == 92 then admits at q (length cs) os (reads_on (escaped q cs) os)
+    else if is_character b then admits at q (length cs) os (reads_on (quoted q (cs ++ b ∷ [])) os)
     else fails (Unexpected at)
 
-abbrev pub next : ℕ → Mode → List Open → ℕ → Reading
-next at (wants opened) os b = if is_blank b then goes (wants opened) os
+abbrev pub next : ℕ → Mode → List OpenBracket → ℕ → Reading
+next at (wants opened) os b = if is_blank b then reads_on (wants opened) os
     else if opened then next_opened at os b
     else begin at os b
 next at (digit kind start) os b = next_digit at kind start os b
 next at (number kind start n) os b = next_number at kind start n os b
 next at (name start cs) os b = if is_name b
-    then (if length cs == max_characters then fails (AtomTooLong start) else goes (name start (cs ++ b ∷ [])) os)
+    then (if length cs == max_characters then fails (AtomTooLong start) else reads_on (name start (cs ++ b ∷ [])) os)
     else next_behind at (put os (Atom cs) at) b
 next at (quoted q cs) os b = next_quoted at q cs os b
 next at (escaped q cs) os b = if (b == quote q) || (b == 92)
-    then goes (quoted q (cs ++ b ∷ [])) os
+    then reads_on (quoted q (cs ++ b ∷ [])) os
     else fails (Unexpected at)
 next at (signs cs goal) os b = next_sign at cs goal os b
-next at angle os b = if b == 60 then goes opened_binary os
-    else if b == 48 then goes (signs (codes ".") (digits pid)) os
+next at angle os b = if b == 60 then reads_on opened_binary os
+    else if b == 48 then reads_on (signs (codes ".") (digits pid)) os
     else fails (Unexpected at)
-next at opened_binary os b = if is_blank b then goes opened_binary os
-    else if b == 34 then goes (quoted form.Binary []) os
-    else if is_digit b then goes (number (byte []) at (b - 48)) os
+next at opened_binary os b = if is_blank b then reads_on opened_binary os
+    else if b == 34 then reads_on (quoted form.Binary []) os
+    else if is_digit b then reads_on (number (byte []) at (b - 48)) os
     else binary_ends at [] os b
-next at (wants_byte bs) os b = if is_blank b then goes (wants_byte bs) os else next_digit at (byte bs) at os b
+next at (wants_byte bs) os b = if is_blank b then reads_on (wants_byte bs) os else next_digit at (byte bs) at os b
 next at (behind_byte bs) os b = next_behind_byte at bs os b
-next at (behind_string bs) os b = if is_blank b then goes (behind_string bs) os else binary_ends at bs os b
+next at (behind_string bs) os b = if is_blank b then reads_on (behind_string bs) os else binary_ends at bs os b
 next at after os b = next_after at os b
 
 -- A text that has been read, or has a fault, takes further bytes without change.
 abbrev pub take_byte : ℕ → Reading → ℕ → Reading
-take_byte at (goes mode os) b = next at mode os b
+take_byte at (reads_on mode os) b = next at mode os b
 take_byte at (found t n) b = found t n
 take_byte at (fails f) b = fails f
 
 -- the end of the text behind a term
 abbrev pub closed : ℕ → Reading → Reading
-closed at (goes mode os) = fails (Unclosed at)
+closed at (reads_on mode os) = fails (Unclosed at)
 closed at (found t n) = found t n
 closed at (fails f) = fails f
 
 -- the end of the text, where an integer or a name may end
-abbrev pub ending : ℕ → Mode → List Open → Reading
+abbrev pub ending : ℕ → Mode → List OpenBracket → Reading
 ending at (number (integer below) start n) os = closed at (put os (Int (signed below n)) at)
 ending at (name start cs) os = closed at (put os (Atom cs) at)
 ending at mode os = fails (Unclosed at)
 
 abbrev pub end : ℕ → Reading → Reading
-end at (goes mode os) = ending at mode os
+end at (reads_on mode os) = ending at mode os
 end at (found t n) = found t n
 end at (fails f) = fails f
 
@@ -200,4 +200,4 @@ read_from at s (b ∷ bs) = read_from (at + 1) (take_byte at s b) bs
 
 -- what the text gives: a term and the number of its bytes, or the fault at the first byte that has no next state
 abbrev pub reading : List ℕ → Reading
-reading bs = read_from 0 (goes (wants false) []) bs
+reading bs = read_from 0 (reads_on (wants false) []) bs

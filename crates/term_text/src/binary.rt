@@ -1,10 +1,10 @@
 //! Binaries, pids and table identifiers.
 ghost use Rattle.std.specs.Prelude.{◌≡◌, ◌+◌, ◌≤◌, ◌<◌, ◌∷◌, [], List, true, length, IfOk, codes};
-ghost use Rattle.term_text.specs.Reader.{Open, byte, digit, quoted, goes, opened_binary, angle, arrive, digits, pid, identifier};
+ghost use Rattle.term_text.specs.Reader.{OpenBracket, byte, digit, quoted, reads_on, opened_binary, angle, expect, digits, pid, identifier};
 ghost use Rattle.term_text.specs.inside.Parts.{Reads, ReadsBytes};
 ghost use Rattle.term_text.specs.declared.quote_form.QuoteForm.TheVariants as form;
 
-use crate::bytes::{digit_stands, past_blanks, stands};
+use crate::bytes::{digit_at, past_blanks, byte_is};
 use crate::fault::TextFault;
 use crate::number::{Magnitude, literal_at, number_at};
 use crate::quote_form::QuoteForm;
@@ -25,7 +25,7 @@ fn bytes_at(alloc: Global, text: &[u8], at: usize) -> Result<(Items<u8>, usize),
         let (n, end) = number_at(text, place, place, u8::MAX as Magnitude)?;
         bytes.push(n as u8)?;
         let behind = past_blanks(text, end);
-        if !stands(text, behind, b',') {
+        if !byte_is(text, behind, b',') {
             return Ok((Items::from_vec(bytes), behind));
         }
         place = past_blanks(text, behind + 1);
@@ -36,7 +36,7 @@ fn bytes_at(alloc: Global, text: &[u8], at: usize) -> Result<(Items<u8>, usize),
 fn byte_binary_at(alloc: Global, text: &[u8], at: usize) -> Result<(Term, usize), TextFault>
     requires { at ≤ length text.now }
     ensures within { IfOk result (λ x. (at ≤ x.1) × (x.1 ≤ length text.now)) }
-    ensures reads { (os : List Open) → Reads text.now at (goes (digit (byte []) at) os) os result }
+    ensures reads { (os : List OpenBracket) → Reads text.now at (reads_on (digit (byte []) at) os) os result }
 {
     let (bytes, place) = bytes_at(alloc, text, at)?;
     let end = literal_at(text, place, b">>")?;
@@ -48,7 +48,7 @@ fn byte_binary_at(alloc: Global, text: &[u8], at: usize) -> Result<(Term, usize)
 fn string_binary_at(alloc: Global, text: &[u8], at: usize) -> Result<(Term, usize), TextFault>
     requires { at ≤ length text.now }
     ensures within { IfOk result (λ x. (at ≤ x.1) × (x.1 ≤ length text.now)) }
-    ensures reads { (os : List Open) → Reads text.now at (goes (quoted form.Binary []) os) os result }
+    ensures reads { (os : List OpenBracket) → Reads text.now at (reads_on (quoted form.Binary []) os) os result }
 {
     let (bytes, behind) = quoted_at(alloc, text, at, QuoteForm::Binary, false)?;
     let place = past_blanks(text, behind);
@@ -61,13 +61,13 @@ fn string_binary_at(alloc: Global, text: &[u8], at: usize) -> Result<(Term, usiz
 fn binary_at(alloc: Global, text: &[u8], at: usize) -> Result<(Term, usize), TextFault>
     requires { at ≤ length text.now }
     ensures within { IfOk result (λ x. (at ≤ x.1) × (x.1 ≤ length text.now)) }
-    ensures reads { (os : List Open) → Reads text.now at (goes opened_binary os) os result }
+    ensures reads { (os : List OpenBracket) → Reads text.now at (reads_on opened_binary os) os result }
 {
     let start = past_blanks(text, at);
-    if stands(text, start, b'"') {
+    if byte_is(text, start, b'"') {
         return string_binary_at(alloc, text, start + 1);
     }
-    if digit_stands(text, start) {
+    if digit_at(text, start) {
         return byte_binary_at(alloc, text, start);
     }
     let end = literal_at(text, start, b">>")?;
@@ -78,7 +78,7 @@ fn binary_at(alloc: Global, text: &[u8], at: usize) -> Result<(Term, usize), Tex
 fn pid_at(text: &[u8], at: usize) -> Result<(Term, usize), TextFault>
     requires { at ≤ length text.now }
     ensures within { IfOk result (λ x. (at ≤ x.1) × (x.1 ≤ length text.now)) }
-    ensures reads { (os : List Open) → Reads text.now at (arrive at (codes ".") (digits pid) os) os result }
+    ensures reads { (os : List OpenBracket) → Reads text.now at (expect at (codes ".") (digits pid) os) os result }
 {
     let first = literal_at(text, at, b".")?;
     let (n, behind) = number_at(text, first, first, u32::MAX as Magnitude)?;
@@ -90,7 +90,7 @@ fn pid_at(text: &[u8], at: usize) -> Result<(Term, usize), TextFault>
 pub(crate) fn identifier_at(text: &[u8], at: usize) -> Result<(Term, usize), TextFault>
     requires { at ≤ length text.now }
     ensures within { IfOk result (λ x. (at ≤ x.1) × (x.1 ≤ length text.now)) }
-    ensures reads { (os : List Open) → Reads text.now at (arrive at (codes "Tid<") (digits identifier) os) os result }
+    ensures reads { (os : List OpenBracket) → Reads text.now at (expect at (codes "Tid<") (digits identifier) os) os result }
 {
     let first = literal_at(text, at, b"Tid<")?;
     let (n, behind) = number_at(text, first, first, u32::MAX as Magnitude)?;
@@ -102,7 +102,7 @@ pub(crate) fn identifier_at(text: &[u8], at: usize) -> Result<(Term, usize), Tex
 pub(crate) fn angle_at(alloc: Global, text: &[u8], at: usize) -> Result<(Term, usize), TextFault>
     requires { at ≤ length text.now }
     ensures within { IfOk result (λ x. (at ≤ x.1) × (x.1 ≤ length text.now)) }
-    ensures reads { (os : List Open) → Reads text.now at (goes angle os) os result }
+    ensures reads { (os : List OpenBracket) → Reads text.now at (reads_on angle os) os result }
 {
     if at >= text.len() {
         return Err(TextFault::Unclosed(at));

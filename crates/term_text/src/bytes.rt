@@ -3,7 +3,7 @@ ghost use Rattle.std.specs.Prelude.{◌≡◌, ◌+◌, ◌≤◌, ◌==◌, len
 ghost use Rattle.ets_term.specs.Character.{is_character};
 ghost use Rattle.std.specs.List.{prefix_len};
 ghost use Rattle.term_text.specs.Reader.{Reading};
-ghost use Rattle.term_text.specs.inside.Parts.{IgnoresBlanks, Comes};
+ghost use Rattle.term_text.specs.inside.Parts.{IgnoresBlanks, Reaches};
 ghost use Rattle.term_text.specs.Text.{is_blank, is_digit, is_small, is_name, closes, begins_term, begins};
 
 #[tactic(auto, unfolding(crate::specs::Text::is_blank))]
@@ -38,14 +38,14 @@ pub fn is_name_byte(b: u8) -> bool
 }
 
 #[tactic(auto, unfolding(crate::specs::Text::closes))]
-pub(crate) fn closes_byte(square: bool, b: u8) -> bool
+pub(crate) fn is_closing_byte(square: bool, b: u8) -> bool
     ensures { result ≡ closes square b }
 {
     if square { b == b']' } else { b == b'}' }
 }
 
 #[tactic(auto, unfolding(crate::specs::Text::begins_term))]
-pub(crate) fn begins_byte(b: u8) -> bool
+pub(crate) fn is_first_byte(b: u8) -> bool
     ensures { result ≡ begins_term b }
 {
     b == b'{'
@@ -68,7 +68,7 @@ pub fn is_character_byte(b: u8) -> bool
 
 /// Whether this sign stands here.
 #[tactic(auto, using(crate::proofs::Places::begins_at, crate::proofs::Places::begins_end))]
-pub(crate) fn stands(text: &[u8], at: usize, sign: u8) -> bool
+pub(crate) fn byte_is(text: &[u8], at: usize, sign: u8) -> bool
     ensures { result ≡ begins (λ b. b == sign) (drop at text.now) }
 {
     at < text.len() && text[at] == sign
@@ -76,7 +76,7 @@ pub(crate) fn stands(text: &[u8], at: usize, sign: u8) -> bool
 
 /// Whether a digit stands here.
 #[tactic(auto, using(crate::proofs::Places::begins_at, crate::proofs::Places::begins_end))]
-pub(crate) fn digit_stands(text: &[u8], at: usize) -> bool
+pub(crate) fn digit_at(text: &[u8], at: usize) -> bool
     ensures { result ≡ begins is_digit (drop at text.now) }
 {
     at < text.len() && is_digit_byte(text[at])
@@ -88,7 +88,7 @@ pub(crate) fn past_blanks(text: &[u8], at: usize) -> usize
     requires { at ≤ length text.now }
     ensures within { (at ≤ result) × (result ≤ length text.now) }
     ensures stop { begins is_blank (drop result text.now) ≡ false }
-    ensures stays { (s : Reading) → IgnoresBlanks s → Comes text.now at s result s }
+    ensures stays { (s : Reading) → IgnoresBlanks s → Reaches text.now at s result s }
 {
     let mut place = at;
     while place < text.len() && is_blank_byte(text[place]) {

@@ -1,6 +1,6 @@
 //! Integers.
 ghost use Rattle.std.specs.Prelude.{◌≡◌, ◌≤◌, List, length, IfOk};
-ghost use Rattle.term_text.specs.Reader.{Open, integer, digit, goes, signed, top};
+ghost use Rattle.term_text.specs.Reader.{OpenBracket, integer, digit, reads_on, signed, max_magnitude};
 ghost use Rattle.term_text.specs.inside.Parts.{Reads};
 
 use crate::fault::TextFault;
@@ -8,21 +8,21 @@ use crate::number::{Magnitude, number_at};
 use ets_term::{Integer, Term};
 
 /// The greatest size of an integer.
-fn greatest(below: bool) -> Magnitude
-    ensures { result ≡ top (integer below) }
+fn integer_limit(negative: bool) -> Magnitude
+    ensures { result ≡ max_magnitude (integer negative) }
 {
     let size = Integer::MAX as Magnitude;
-    if below { size + 1 } else { size }
+    if negative { size + 1 } else { size }
 }
 
 #[tactic(auto, unfolding(crate::specs::Reader::signed))]
-fn signed_value(below: bool, n: Magnitude) -> Integer
-    requires { n ≤ top (integer below) }
-    ensures { result ≡ signed below n }
+fn signed_value(negative: bool, n: Magnitude) -> Integer
+    requires { n ≤ max_magnitude (integer negative) }
+    ensures { result ≡ signed negative n }
 {
-    if !below {
+    if !negative {
         n as Integer
-    } else if n == greatest(true) {
+    } else if n == integer_limit(true) {
         Integer::MIN
     } else {
         -(n as Integer)
@@ -34,12 +34,12 @@ pub(crate) fn integer_at(
     text: &[u8],
     at: usize,
     start: usize,
-    below: bool,
+    negative: bool,
 ) -> Result<(Term, usize), TextFault>
     requires { at ≤ length text.now }
     ensures within { IfOk result (λ x. (at ≤ x.1) × (x.1 ≤ length text.now)) }
-    ensures reads { (os : List Open) → Reads text.now at (goes (digit (integer below) start) os) os result }
+    ensures reads { (os : List OpenBracket) → Reads text.now at (reads_on (digit (integer negative) start) os) os result }
 {
-    let (n, end) = number_at(text, at, start, greatest(below))?;
-    Ok((Term::Int(signed_value(below, n)), end))
+    let (n, end) = number_at(text, at, start, integer_limit(negative))?;
+    Ok((Term::Int(signed_value(negative, n)), end))
 }

@@ -1,6 +1,6 @@
 //! Atoms without quotes.
 ghost use Rattle.std.specs.Prelude.{◌≡◌, ◌+◌, ◌≤◌, ◌<◌, ◌∷◌, [], List, true, length, IfOk, slice_index};
-ghost use Rattle.term_text.specs.Reader.{Open, name, goes};
+ghost use Rattle.term_text.specs.Reader.{OpenBracket, name, reads_on};
 ghost use Rattle.term_text.specs.inside.Parts.{Reads};
 ghost use Rattle.term_text.specs.Text.{is_small};
 
@@ -14,8 +14,8 @@ pub(crate) fn name_at(alloc: Global, text: &[u8], at: usize) -> Result<(Term, us
     requires within { at < length text.now }
     requires small { is_small (slice_index text.now at) ≡ true }
     ensures within { IfOk result (λ x. (at ≤ x.1) × (x.1 ≤ length text.now)) }
-    ensures reads { (os : List Open)
-        → Reads text.now (at + 1) (goes (name at (slice_index text.now at ∷ [])) os) os result }
+    ensures reads { (os : List OpenBracket)
+        → Reads text.now (at + 1) (reads_on (name at (slice_index text.now at ∷ [])) os) os result }
 {
     let end = past_name(text, at);
     if end - at > MAX_CHARACTERS {

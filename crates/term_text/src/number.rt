@@ -10,7 +10,7 @@ use crate::fault::TextFault;
 pub type Magnitude = u128;
 
 /// Below this number one more digit stays within 64 bits.
-const SHORT: u64 = u64::MAX / 10;
+const SHORT_BOUND: u64 = u64::MAX / 10;
 
 #[tactic(auto, unfolding(crate::specs::Text::is_digit))]
 fn digit_of(b: u8) -> u64
@@ -42,7 +42,7 @@ fn short_digits_at(text: &[u8], at: usize) -> (u64, usize)
 {
     let mut n: u64 = 0;
     let mut place = at;
-    while place < text.len() && n < SHORT && is_digit_byte(text[place]) {
+    while place < text.len() && n < SHORT_BOUND && is_digit_byte(text[place]) {
         n = n * 10 + digit_of(text[place]);
         place += 1;
     }

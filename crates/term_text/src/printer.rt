@@ -39,14 +39,14 @@ fn append_items<S: Sink>(
     ensures { AppendsOrFront (S.contents out.old) (S.contents out.new)
         (front.now ++ (row_text false (map printed items.now) ++ back.now)) result }
 {
-    out.put(front)?;
+    out.write_str(front)?;
     let mut later = false;
     for item in items {
         append_comma(later, out)?;
         append(item, out)?;
         later = true;
     }
-    out.put(back)
+    out.write_str(back)
 }
 
 /// Bytes between two signs.
@@ -54,44 +54,44 @@ fn append_bytes<S: Sink>(front: &str, bytes: &[u8], back: &str, out: &mut S) -> 
     ensures { AppendsOrFront (S.contents out.old) (S.contents out.new)
         (front.now ++ (row_text false (map decimal bytes.now) ++ back.now)) result }
 {
-    out.put(front)?;
+    out.write_str(front)?;
     let mut later = false;
     for b in bytes {
         append_comma(later, out)?;
         append_decimal(*b as u32, out)?;
         later = true;
     }
-    out.put(back)
+    out.write_str(back)
 }
 
 /// A comma, where something stands before.
 fn append_comma<S: Sink>(later: bool, out: &mut S) -> Result<(), S::Fault>
     ensures { AppendsOrFront (S.contents out.old) (S.contents out.new) (comma_if later) result }
 {
-    if later { out.put(",") } else { Ok(()) }
+    if later { out.write_str(",") } else { Ok(()) }
 }
 
 /// A number between two signs.
 fn append_number<S: Sink>(front: &str, n: u32, back: &str, out: &mut S) -> Result<(), S::Fault>
     ensures { AppendsOrFront (S.contents out.old) (S.contents out.new) (front.now ++ (decimal n ++ back.now)) result }
 {
-    out.put(front)?;
+    out.write_str(front)?;
     append_decimal(n, out)?;
-    out.put(back)
+    out.write_str(back)
 }
 
 fn append_decimal<S: Sink>(n: u32, out: &mut S) -> Result<(), S::Fault>
     ensures { AppendsOrFront (S.contents out.old) (S.contents out.new) (decimal n) result }
 {
     let mut buffer = Buffer::new();
-    out.put(buffer.format(n))
+    out.write_str(buffer.format(n))
 }
 
 fn append_integer<S: Sink>(n: Integer, out: &mut S) -> Result<(), S::Fault>
     ensures { AppendsOrFront (S.contents out.old) (S.contents out.new) (signed_decimal n) result }
 {
     let mut buffer = Buffer::new();
-    out.put(buffer.format(n))
+    out.write_str(buffer.format(n))
 }
 
 fn append_atom<S: Sink>(name: &Atom, out: &mut S) -> Result<(), S::Fault>
@@ -99,7 +99,7 @@ fn append_atom<S: Sink>(name: &Atom, out: &mut S) -> Result<(), S::Fault>
 {
     let text = name.text();
     if is_plain_text(text.as_bytes()) {
-        return out.put(text);
+        return out.write_str(text);
     }
     append_quoted(text, out)
 }
@@ -109,11 +109,11 @@ fn is_plain_text(bytes: &[u8]) -> bool
 {
     match bytes {
         [] => false,
-        [b, ..] => is_small_byte(*b) && all_names(bytes),
+        [b, ..] => is_small_byte(*b) && are_name_bytes(bytes),
     }
 }
 
-fn all_names(bytes: &[u8]) -> bool
+fn are_name_bytes(bytes: &[u8]) -> bool
     ensures { result ≡ list_all is_name bytes.now }
 {
     bytes.iter().all(|b| is_name_byte(*b))
@@ -125,9 +125,9 @@ fn append_quoted<S: Sink>(text: &str, out: &mut S) -> Result<(), S::Fault>
     ensures { AppendsOrFront (S.contents out.old) (S.contents out.new)
         (codes "'" ++ (flat_map escaped text.now ++ codes "'")) result }
 {
-    out.put("'")?;
+    out.write_str("'")?;
     append_escaped(text, out)?;
-    out.put("'")
+    out.write_str("'")
 }
 
 fn append_escaped<S: Sink>(text: &str, out: &mut S) -> Result<(), S::Fault>
@@ -136,7 +136,7 @@ fn append_escaped<S: Sink>(text: &str, out: &mut S) -> Result<(), S::Fault>
 {
     let mut start = 0;
     for (i, b) in text.as_bytes().iter().enumerate() {
-        if is_escaped(*b) {
+        if needs_escape(*b) {
             append_piece(text, start, i, out)?;
             start = i;
         }
@@ -144,7 +144,7 @@ fn append_escaped<S: Sink>(text: &str, out: &mut S) -> Result<(), S::Fault>
     append_slice(text, start, text.len(), out)
 }
 
-fn is_escaped(b: u8) -> bool
+fn needs_escape(b: u8) -> bool
     ensures { result ≡ ((b == 39) || (b == 92)) }
 {
     b == b'\'' || b == b'\\'
@@ -158,7 +158,7 @@ fn append_piece<S: Sink>(text: &str, start: usize, end: usize, out: &mut S) -> R
         (take (end - start) (drop start text.now) ++ 92 ∷ []) result }
 {
     append_slice(text, start, end, out)?;
-    out.put("\\")
+    out.write_str("\\")
 }
 
 #[tactic(auto, using(crate::proofs::Escapes::boundary))]
@@ -168,5 +168,5 @@ fn append_slice<S: Sink>(text: &str, start: usize, end: usize, out: &mut S) -> R
     ensures { AppendsOrFront (S.contents out.old) (S.contents out.new)
         (take (end - start) (drop start text.now)) result }
 {
-    out.put(&text[start..end])
+    out.write_str(&text[start..end])
 }

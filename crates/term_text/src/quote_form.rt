@@ -26,13 +26,13 @@ impl QuoteForm {
     }
 
     /// Why one more character, behind n others, is refused.
-    pub(crate) fn refusal(self, at: usize, n: usize, deep: bool) -> Option<TextFault>
-        ensures refuses { Refuses at self n deep result }
+    pub(crate) fn fault_of_next(self, at: usize, n: usize, out_of_levels: bool) -> Option<TextFault>
+        ensures refuses { Refuses at self n out_of_levels result }
         ensures short { result ≡ None → IsShort self n → IsShort self (n + 1) }
     {
         match self {
             QuoteForm::Atom(start) if n == MAX_CHARACTERS => Some(TextFault::AtomTooLong(start)),
-            QuoteForm::String if deep => Some(TextFault::TooDeep(at)),
+            QuoteForm::String if out_of_levels => Some(TextFault::TooDeep(at)),
             _ => None,
         }
     }

@@ -2,8 +2,8 @@
 ghost use Rattle.std.specs.Prelude.{◌≡◌, ◌+◌, ◌≤◌, ◌<◌, ◌==◌, ◌∷◌, [], List, map, true, false, length, IfOk, IsTrue, slice_index};
 ghost use Rattle.std.specs.List.{list_all};
 ghost use Rattle.ets_term.specs.Character.{is_character};
-ghost use Rattle.term_text.specs.Reader.{code, quote, Open, quoted, goes};
-ghost use Rattle.term_text.specs.inside.Parts.{ReadsEscaped, ReadsCharacter, IsShort, ReadsQuoted, Reads, IsDeep};
+ghost use Rattle.term_text.specs.Reader.{code, quote, OpenBracket, quoted, reads_on};
+ghost use Rattle.term_text.specs.inside.Parts.{ReadsEscaped, ReadsCharacter, IsShort, ReadsQuoted, Reads, IsOutOfLevels};
 ghost use Rattle.term_text.specs.declared.quote_form.QuoteForm.TheVariants as form;
 
 use crate::bytes::is_character_byte;
@@ -34,7 +34,7 @@ fn character_at(
     text: &[u8],
     at: usize,
     quotes: QuoteForm,
-    deep: bool,
+    out_of_levels: bool,
     n: usize,
 ) -> Result<(u8, usize), TextFault>
     requires within { at < length text.now }
@@ -42,13 +42,13 @@ fn character_at(
     ensures within { IfOk result (λ x. (at < x.1) × (x.1 ≤ length text.now)) }
     ensures character { IfOk result (λ x. is_character x.0 ≡ true) }
     ensures short { IfOk result (λ x. IsShort quotes n → IsShort quotes (n + 1)) }
-    ensures reads { ReadsCharacter text.now at quotes deep n result }
+    ensures reads { ReadsCharacter text.now at quotes out_of_levels n result }
 {
     let b = text[at];
     if b != b'\\' && !is_character_byte(b) {
         return Err(TextFault::Unexpected(at));
     }
-    if let Some(fault) = quotes.refusal(at, n, deep) {
+    if let Some(fault) = quotes.fault_of_next(at, n, out_of_levels) {
         return Err(fault);
     }
     if b == b'\\' {
@@ -63,13 +63,13 @@ pub(crate) fn quoted_at(
     text: &[u8],
     at: usize,
     quotes: QuoteForm,
-    deep: bool,
+    out_of_levels: bool,
 ) -> Result<(Items<u8>, usize), TextFault>
     requires { at ≤ length text.now }
     ensures within { IfOk result (λ x. (at ≤ x.1) × (x.1 ≤ length text.now)) }
     ensures characters { IfOk result (λ x. IsTrue (list_all is_character x.0)) }
     ensures short { IfOk result (λ x. IsShort quotes (length x.0)) }
-    ensures reads { ReadsQuoted text.now at quotes deep result }
+    ensures reads { ReadsQuoted text.now at quotes out_of_levels result }
 {
     let mut chars = Vec::new(alloc);
     let mut place = at;
@@ -77,7 +77,7 @@ pub(crate) fn quoted_at(
         if text[place] == quotes.quote() {
             return Ok((Items::from_vec(chars), place + 1));
         }
-        let (c, end) = character_at(text, place, quotes, deep, chars.len())?;
+        let (c, end) = character_at(text, place, quotes, out_of_levels, chars.len())?;
         chars.push(c)?;
         place = end;
     }
@@ -92,7 +92,7 @@ pub(crate) fn quoted_atom_at(
 ) -> Result<(Term, usize), TextFault>
     requires { at < length text.now }
     ensures within { IfOk result (λ x. (at ≤ x.1) × (x.1 ≤ length text.now)) }
-    ensures reads { (os : List Open) → Reads text.now (at + 1) (goes (quoted (form.Atom at) []) os) os result }
+    ensures reads { (os : List OpenBracket) → Reads text.now (at + 1) (reads_on (quoted (form.Atom at) []) os) os result }
 {
     let (chars, end) = quoted_at(alloc, text, at + 1, QuoteForm::Atom(at), false)?;
     let name = Atom::of_bytes(alloc, chars.as_slice())?;
@@ -104,14 +104,14 @@ pub(crate) fn string_at(
     alloc: Global,
     text: &[u8],
     at: usize,
-    deep: bool,
+    out_of_levels: bool,
 ) -> Result<(Term, usize), TextFault>
     requires { at ≤ length text.now }
     ensures within { IfOk result (λ x. (at ≤ x.1) × (x.1 ≤ length text.now)) }
-    ensures reads { (os : List Open) → IsDeep form.String deep os
-        → Reads text.now at (goes (quoted form.String []) os) os result }
+    ensures reads { (os : List OpenBracket) → IsOutOfLevels form.String out_of_levels os
+        → Reads text.now at (reads_on (quoted form.String []) os) os result }
 {
-    let (chars, end) = quoted_at(alloc, text, at, QuoteForm::String, deep)?;
+    let (chars, end) = quoted_at(alloc, text, at, QuoteForm::String, out_of_levels)?;
     let codes = codes_of(alloc, chars.as_slice())?;
     Ok((Term::List(codes), end))
 }

@@ -1,11 +1,11 @@
 //! The reader: one pass over the bytes, with the levels that are left.
 ghost use Rattle.std.specs.Prelude.{◌≡◌, ◌+◌, ◌≤◌, ◌<◌, ◌∷◌, List, true, false, length, IfOk, slice_index};
-ghost use Rattle.term_text.specs.Reader.{Open, wants, goes, opening, bracket, begin, reading};
+ghost use Rattle.term_text.specs.Reader.{OpenBracket, wants, reads_on, opening, bracket, begin, reading};
 ghost use Rattle.term_text.specs.Given.{GivesTerm};
 ghost use Rattle.term_text.specs.inside.Parts.{Reads};
 
 use crate::binary::{angle_at, identifier_at};
-use crate::bytes::{begins_byte, closes_byte, is_digit_byte, past_blanks};
+use crate::bytes::{is_first_byte, is_closing_byte, is_digit_byte, past_blanks};
 use crate::fault::TextFault;
 use crate::integer::integer_at;
 use crate::name::name_at;
@@ -31,40 +31,40 @@ pub fn read_term_bytes(alloc: Global, text: &[u8]) -> Result<(Term, usize), Text
 
 /// The term that must begin here, behind blanks, with `room` levels left.
 #[cycle(term)]
-fn term_at(alloc: Global, text: &[u8], at: usize, room: usize) -> Result<(Term, usize), TextFault>
+fn term_at(alloc: Global, text: &[u8], at: usize, levels_left: usize) -> Result<(Term, usize), TextFault>
     requires { at ≤ length text.now }
     ensures within { IfOk result (λ x. (at ≤ x.1) × (x.1 ≤ length text.now)) }
-    ensures reads { (os : List Open) → length os + room ≡ MAX_DEPTH
-        → Reads text.now at (goes (wants false) os) os result }
+    ensures reads { (os : List OpenBracket) → length os + levels_left ≡ MAX_DEPTH
+        → Reads text.now at (reads_on (wants false) os) os result }
 {
     let start = past_blanks(text, at);
     if start >= text.len() {
         return Err(TextFault::Unclosed(start));
     }
-    form_at(alloc, text, start, room)
+    form_at(alloc, text, start, levels_left)
 }
 
 /// The term whose first byte stands here.
 #[cycle(term)]
-fn form_at(alloc: Global, text: &[u8], at: usize, room: usize) -> Result<(Term, usize), TextFault>
+fn form_at(alloc: Global, text: &[u8], at: usize, levels_left: usize) -> Result<(Term, usize), TextFault>
     requires { at < length text.now }
     ensures within { IfOk result (λ x. (at ≤ x.1) × (x.1 ≤ length text.now)) }
-    ensures reads { (os : List Open) → length os + room ≡ MAX_DEPTH
+    ensures reads { (os : List OpenBracket) → length os + levels_left ≡ MAX_DEPTH
         → Reads text.now (at + 1) (begin at os (slice_index text.now at)) os result }
 {
     let b = text[at];
-    if !begins_byte(b) {
+    if !is_first_byte(b) {
         return Err(TextFault::Unexpected(at));
     }
-    if room == 0 {
+    if levels_left == 0 {
         return Err(TextFault::TooDeep(at));
     }
     match b {
-        b'{' => bracket_at(alloc, text, at + 1, false, room - 1),
-        b'[' => bracket_at(alloc, text, at + 1, true, room - 1),
+        b'{' => bracket_at(alloc, text, at + 1, false, levels_left - 1),
+        b'[' => bracket_at(alloc, text, at + 1, true, levels_left - 1),
         b'-' => integer_at(text, at + 1, at, true),
         b'\'' => quoted_atom_at(alloc, text, at),
-        b'"' => string_at(alloc, text, at + 1, room == 1),
+        b'"' => string_at(alloc, text, at + 1, levels_left == 1),
         b'<' => angle_at(alloc, text, at + 1),
         b'#' => identifier_at(text, at + 1),
         _ => {
@@ -84,20 +84,20 @@ fn bracket_at(
     text: &[u8],
     at: usize,
     square: bool,
-    room: usize,
+    levels_left: usize,
 ) -> Result<(Term, usize), TextFault>
     requires { at ≤ length text.now }
     ensures within { IfOk result (λ x. (at ≤ x.1) × (x.1 ≤ length text.now)) }
-    ensures reads { (os : List Open) → length os + 1 + room ≡ MAX_DEPTH
-        → Reads text.now at (goes (wants true) (opening square ∷ os)) os result }
+    ensures reads { (os : List OpenBracket) → length os + 1 + levels_left ≡ MAX_DEPTH
+        → Reads text.now at (reads_on (wants true) (opening square ∷ os)) os result }
 {
     let mut items = Items::new(alloc);
     let mut place = past_blanks(text, at);
-    if place < text.len() && closes_byte(square, text[place]) {
+    if place < text.len() && is_closing_byte(square, text[place]) {
         return Ok((bracket_of(square, items), place + 1));
     }
     loop {
-        let (item, end) = match term_at(alloc, text, place, room) {
+        let (item, end) = match term_at(alloc, text, place, levels_left) {
             Ok(found) => found,
             Err(fault) => return Err(fault),
         };
@@ -106,7 +106,7 @@ fn bracket_at(
         if behind >= text.len() {
             return Err(TextFault::Unclosed(behind));
         }
-        if closes_byte(square, text[behind]) {
+        if is_closing_byte(square, text[behind]) {
             return Ok((bracket_of(square, items), behind + 1));
         }
         if text[behind] != b',' {

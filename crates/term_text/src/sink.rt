@@ -12,7 +12,7 @@ pub(crate) trait Sink {
     ghost contents: { Self → Option (List ℕ) };
 
     /// Appends a piece. After a fault a prefix of it has been appended.
-    fn put(&mut self, piece: &str) -> Result<(), Self::Fault>
+    fn write_str(&mut self, piece: &str) -> Result<(), Self::Fault>
         ensures { AppendsOrFront (contents self.old) (contents self.new) piece.now result };
 }
 
@@ -29,7 +29,7 @@ impl Sink for Buffer {
 
     ghost contents = { λ b. Some (string_bytes b.text) };
 
-    fn put(&mut self, piece: &str) -> Result<(), AllocError> {
+    fn write_str(&mut self, piece: &str) -> Result<(), AllocError> {
         self.text.push_str(piece)
     }
 }
@@ -48,7 +48,7 @@ impl<W: Write> Sink for W {
 
     ghost contents = { W.contents };
 
-    fn put(&mut self, piece: &str) -> Result<(), WriteFault> {
+    fn write_str(&mut self, piece: &str) -> Result<(), WriteFault> {
         write_bytes(piece.as_bytes(), self)
     }
 }

@@ -6,27 +6,27 @@ use Rattle.ets_term.specs.declared.term.Term.TheVariants.{Int, Pid, Tid, Binary}
 use Rattle.ets_term.specs.Depth.{max_depth}
 use Rattle.ets_term.specs.Character.{max_characters}
 use Rattle.term_text.specs.declared.fault.TextFault.{TextFault}
-use Rattle.term_text.specs.Reader.{Open, Number, integer, pid, identifier, byte, Goal, whole, digit, behind_byte, quoted, escaped, unquoted, admits, Reading, goes, fails, signed, top, put, arrive, take_byte, read_from}
+use Rattle.term_text.specs.Reader.{OpenBracket, Number, integer, pid, identifier, byte, Expect, whole, digit, behind_byte, quoted, escaped, unquoted, admits, Reading, reads_on, fails, signed, max_magnitude, put, expect, take_byte, read_from}
 use Rattle.term_text.specs.declared.quote_form.QuoteForm.{QuoteForm}
 use Rattle.term_text.specs.declared.quote_form.QuoteForm.TheVariants as form
 use Rattle.term_text.specs.Given.{Fails}
 use Rattle.term_text.specs.Text.{is_blank, is_digit}
 
 -- from s before the byte at the reader comes to z before the byte n
-abbrev pub Comes : List ℕ → ℕ → Reading → ℕ → Reading → Type 0
-Comes text at s n z = read_from at s (drop at text) ≡ read_from n z (drop n text)
+abbrev pub Reaches : List ℕ → ℕ → Reading → ℕ → Reading → Type 0
+Reaches text at s n z = read_from at s (drop at text) ≡ read_from n z (drop n text)
 
 -- from s before the byte at the reader comes to the end of a term in these brackets, or fails
-abbrev pub Reads : List ℕ → ℕ → Reading → List Open → Result (Term × ℕ) TextFault → Type 0
-Reads text at s os (Ok x) = Comes text at s x.1 (put os x.0 x.1)
+abbrev pub Reads : List ℕ → ℕ → Reading → List OpenBracket → Result (Term × ℕ) TextFault → Type 0
+Reads text at s os (Ok x) = Reaches text at s x.1 (put os x.0 x.1)
 Reads text at s os (Err f) = Fails f (read_from at s (drop at text))
 
 -- behind the digits of a number, which end before the byte n
-abbrev pub counted : ℕ → Number → ℕ → List Open → Reading
+abbrev pub counted : ℕ → Number → ℕ → List OpenBracket → Reading
 counted n (integer below) v os = put os (Int (signed below v)) n
-counted n pid v os = arrive n (codes ".0>") (whole (Pid v)) os
-counted n identifier v os = arrive n (codes ">") (whole (Tid v)) os
-counted n (byte bs) v os = goes (behind_byte (bs ++ v ∷ [])) os
+counted n pid v os = expect n (codes ".0>") (whole (Pid v)) os
+counted n identifier v os = expect n (codes ">") (whole (Tid v)) os
+counted n (byte bs) v os = reads_on (behind_byte (bs ++ v ∷ [])) os
 
 -- where the digits from the byte at on end
 abbrev pub digits_end : List ℕ → ℕ → ℕ
@@ -35,27 +35,27 @@ digits_end text at = at + prefix_len is_digit (drop at text)
 -- a number that must begin before the byte at, and whose greatest size is limit
 abbrev pub ReadsNumber : List ℕ → ℕ → ℕ → ℕ → Result (ℕ × ℕ) TextFault → Type 0
 ReadsNumber text at start limit (Ok x) =
-    (kind : Number) (os : List Open) → limit ≡ top kind
-    → Comes text at (goes (digit kind start) os) x.1 (counted x.1 kind x.0 os)
+    (kind : Number) (os : List OpenBracket) → limit ≡ max_magnitude kind
+    → Reaches text at (reads_on (digit kind start) os) x.1 (counted x.1 kind x.0 os)
 ReadsNumber text at start limit (Err f) =
-    (kind : Number) (os : List Open) → limit ≡ top kind
-    → Fails f (read_from at (goes (digit kind start) os) (drop at text))
+    (kind : Number) (os : List OpenBracket) → limit ≡ max_magnitude kind
+    → Fails f (read_from at (reads_on (digit kind start) os) (drop at text))
 
 -- signs that must stand before the byte at
 abbrev pub ReadsSigns : List ℕ → ℕ → List ℕ → Result ℕ TextFault → Type 0
 ReadsSigns text at signs (Ok n) =
-    (goal : Goal) (os : List Open) → Comes text at (arrive at signs goal os) n (arrive n [] goal os)
+    (goal : Expect) (os : List OpenBracket) → Reaches text at (expect at signs goal os) n (expect n [] goal os)
 ReadsSigns text at signs (Err f) =
-    (goal : Goal) (os : List Open) → Fails f (read_from at (arrive at signs goal os) (drop at text))
+    (goal : Expect) (os : List OpenBracket) → Fails f (read_from at (expect at signs goal os) (drop at text))
 
 -- blanks leave the state as it is
 abbrev pub IgnoresBlanks : Reading → Type 0
 IgnoresBlanks s = (at b : ℕ) → is_blank b ≡ true → take_byte at s b ≡ s
 
 -- no level is left for the characters of a string
-abbrev pub IsDeep : QuoteForm → Bool → List Open → Type 0
-IsDeep form.String deep os = deep ≡ nat_le (max_depth - 1) (length os)
-IsDeep q deep os = Unit {0}
+abbrev pub IsOutOfLevels : QuoteForm → Bool → List OpenBracket → Type 0
+IsOutOfLevels form.String out_of_levels os = out_of_levels ≡ nat_le (max_depth - 1) (length os)
+IsOutOfLevels q out_of_levels os = Unit {0}
 
 -- not too long for an atom
 abbrev pub IsShort : QuoteForm → ℕ → Type 0
@@ -64,36 +64,36 @@ IsShort q n = Unit {0}
 
 -- whether one more character, behind n, is refused
 abbrev pub Refuses : ℕ → QuoteForm → ℕ → Bool → Option TextFault → Type 0
-Refuses at q n deep None = (os : List Open) (s : Reading) → IsDeep q deep os → admits at q n os s ≡ s
-Refuses at q n deep (Some f) = (os : List Open) (s : Reading) → IsDeep q deep os → admits at q n os s ≡ fails f
+Refuses at q n out_of_levels None = (os : List OpenBracket) (s : Reading) → IsOutOfLevels q out_of_levels os → admits at q n os s ≡ s
+Refuses at q n out_of_levels (Some f) = (os : List OpenBracket) (s : Reading) → IsOutOfLevels q out_of_levels os → admits at q n os s ≡ fails f
 
 -- the character behind a `\` that stands before the byte at
 abbrev pub ReadsEscaped : List ℕ → ℕ → QuoteForm → Result (ℕ × ℕ) TextFault → Type 0
 ReadsEscaped text at q (Ok x) =
-    (cs : List ℕ) (os : List Open) → Comes text at (goes (escaped q cs) os) x.1 (goes (quoted q (cs ++ x.0 ∷ [])) os)
+    (cs : List ℕ) (os : List OpenBracket) → Reaches text at (reads_on (escaped q cs) os) x.1 (reads_on (quoted q (cs ++ x.0 ∷ [])) os)
 ReadsEscaped text at q (Err f) =
-    (cs : List ℕ) (os : List Open) → Fails f (read_from at (goes (escaped q cs) os) (drop at text))
+    (cs : List ℕ) (os : List OpenBracket) → Fails f (read_from at (reads_on (escaped q cs) os) (drop at text))
 
 -- a further character in quotes, behind n
 abbrev pub ReadsCharacter : List ℕ → ℕ → QuoteForm → Bool → ℕ → Result (ℕ × ℕ) TextFault → Type 0
-ReadsCharacter text at q deep n (Ok x) =
-    (cs : List ℕ) (os : List Open) → length cs ≡ n → IsDeep q deep os
-    → Comes text at (goes (quoted q cs) os) x.1 (goes (quoted q (cs ++ x.0 ∷ [])) os)
-ReadsCharacter text at q deep n (Err f) =
-    (cs : List ℕ) (os : List Open) → length cs ≡ n → IsDeep q deep os
-    → Fails f (read_from at (goes (quoted q cs) os) (drop at text))
+ReadsCharacter text at q out_of_levels n (Ok x) =
+    (cs : List ℕ) (os : List OpenBracket) → length cs ≡ n → IsOutOfLevels q out_of_levels os
+    → Reaches text at (reads_on (quoted q cs) os) x.1 (reads_on (quoted q (cs ++ x.0 ∷ [])) os)
+ReadsCharacter text at q out_of_levels n (Err f) =
+    (cs : List ℕ) (os : List OpenBracket) → length cs ≡ n → IsOutOfLevels q out_of_levels os
+    → Fails f (read_from at (reads_on (quoted q cs) os) (drop at text))
 
 -- what stands in quotes, from before the byte at to behind the closing quote
 abbrev pub ReadsQuoted : List ℕ → ℕ → QuoteForm → Bool → Result (List ℕ × ℕ) TextFault → Type 0
-ReadsQuoted text at q deep (Ok x) =
-    (os : List Open) → IsDeep q deep os → Comes text at (goes (quoted q []) os) x.1 (unquoted x.1 q x.0 os)
-ReadsQuoted text at q deep (Err f) =
-    (os : List Open) → IsDeep q deep os → Fails f (read_from at (goes (quoted q []) os) (drop at text))
+ReadsQuoted text at q out_of_levels (Ok x) =
+    (os : List OpenBracket) → IsOutOfLevels q out_of_levels os → Reaches text at (reads_on (quoted q []) os) x.1 (unquoted x.1 q x.0 os)
+ReadsQuoted text at q out_of_levels (Err f) =
+    (os : List OpenBracket) → IsOutOfLevels q out_of_levels os → Fails f (read_from at (reads_on (quoted q []) os) (drop at text))
 
 -- the bytes of a binary that has one before the byte at
 abbrev pub ReadsBytes : List ℕ → ℕ → Result (List ℕ × ℕ) TextFault → Type 0
 ReadsBytes text at (Ok x) =
-    (os : List Open)
-    → Comes text at (goes (digit (byte []) at) os) x.1 (arrive x.1 (codes ">>") (whole (Binary x.0)) os)
+    (os : List OpenBracket)
+    → Reaches text at (reads_on (digit (byte []) at) os) x.1 (expect x.1 (codes ">>") (whole (Binary x.0)) os)
 ReadsBytes text at (Err f) =
-    (os : List Open) → Fails f (read_from at (goes (digit (byte []) at) os) (drop at text))
+    (os : List OpenBracket) → Fails f (read_from at (reads_on (digit (byte []) at) os) (drop at text))

@@ -1,11 +1,11 @@
 use Rattle.std.proofs.Common.{◌≤◌, ◌-◌, length}
 use Rattle.term_text.specs.Reader.{Reading}
-use Rattle.term_text.specs.inside.Parts.{IgnoresBlanks, Comes}
+use Rattle.term_text.specs.inside.Parts.{IgnoresBlanks, Reaches}
 use Rattle.term_text.proofs.bytes.past_blanks.Given as goal
 
 abbrev pub invariant-loop-place : goal.invariant-loop-place
 invariant-loop-place l = record {
-  stays : (s : Reading) → IgnoresBlanks s → Comes l.text l.at s l.place s;
+  stays : (s : Reading) → IgnoresBlanks s → Reaches l.text l.at s l.place s;
   behind : l.at ≤ l.place;
   within : l.place ≤ length l.text;
 }

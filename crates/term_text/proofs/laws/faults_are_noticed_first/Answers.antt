@@ -1,5 +1,5 @@
-use Rattle.term_text.proofs.Prefixes.{goes_on, stuck}
+use Rattle.term_text.proofs.Prefixes.{goes-on, stuck}
 use Rattle.term_text.proofs.laws.faults_are_noticed_first.Goals as goal
 
 pub returns : goal.returns
-returns c = record { before = goes_on; from = stuck }
+returns c = record { before = goes-on; from = stuck }

@@ -1,10 +1,10 @@
 use Rattle.std.proofs.Common.{◌≡◌, ◌≤◌, List, length, drop}
-use Rattle.term_text.specs.Reader.{Goal, Open, arrive, read_from}
+use Rattle.term_text.specs.Reader.{Expect, OpenBracket, expect, read_from}
 use Rattle.term_text.proofs.number.literal_at.Given as goal
 
 abbrev pub invariant-loop-sign : goal.invariant-loop-sign
 invariant-loop-sign l = record {
-  reads : (goal : Goal) (os : List Open) → read_from l.at (arrive l.at l.signs goal os) (drop l.at l.text) ≡ read_from l.place (arrive l.place (drop l.sign-index l.signs) goal os) (drop l.place l.text);
+  reads : (goal : Expect) (os : List OpenBracket) → read_from l.at (expect l.at l.signs goal os) (drop l.at l.text) ≡ read_from l.place (expect l.place (drop l.sign-index l.signs) goal os) (drop l.place l.text);
   behind : l.at ≤ l.place;
   within : l.place ≤ length l.text;
 }

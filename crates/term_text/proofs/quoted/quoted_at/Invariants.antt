@@ -1,13 +1,13 @@
 use Rattle.std.proofs.Common.{◌≤◌, ◌-◌, List, [], length, IsTrue}
 use Rattle.std.specs.List.{list_all}
 use Rattle.ets_term.specs.Character.{is_character}
-use Rattle.term_text.specs.Reader.{Open, quoted, goes}
-use Rattle.term_text.specs.inside.Parts.{Comes, IsDeep, IsShort}
+use Rattle.term_text.specs.Reader.{OpenBracket, quoted, reads_on}
+use Rattle.term_text.specs.inside.Parts.{Reaches, IsOutOfLevels, IsShort}
 use Rattle.term_text.proofs.quoted.quoted_at.Given as goal
 
 abbrev pub invariant-loop-place : goal.invariant-loop-place
 invariant-loop-place l = record {
-  reads : (os : List Open) → IsDeep l.quotes l.deep os → Comes l.text l.at (goes (quoted l.quotes []) os) l.place (goes (quoted l.quotes l.chars.items) os);
+  reads : (os : List OpenBracket) → IsOutOfLevels l.quotes l.out_of_levels os → Reaches l.text l.at (reads_on (quoted l.quotes []) os) l.place (reads_on (quoted l.quotes l.chars.items) os);
   characters : IsTrue (list_all is_character l.chars.items);
   short : IsShort l.quotes (length l.chars.items);
   behind : l.at ≤ l.place;

@@ -1,7 +1,7 @@
 use Rattle.std.proofs.Common.{◌≡◌, ap, ◌∙◌, [], ◌+◌, ◌-◌, ℕ, List, ◌++◌, take, drop, length, sym, rules, length-drop}
 use Rattle.std.proofs.Math.Seq.{take-add, take-length}
 use Rattle.std.proofs.lemmas.List.{take-append-drop, append-nil}
-use Rattle.term_text.proofs.Pieces.{appends_then, appends_as, appends_keeps}
+use Rattle.term_text.proofs.Pieces.{appends-then, appends-as, appends-keeps}
 use Rattle.term_text.proofs.sink.write_bytes.Goals as goal
 
 sliced : (i n : ℕ) (xs : List ℕ) → take i xs ++ take n (take (length xs - i) (drop i xs)) ≡ take (i + n) xs
@@ -13,8 +13,8 @@ returns-in-Ok-eq0 g c =
     let bs = c.args.bytes.now in
     let n = c.in-Ok-eq0.field-0 in
     let none : take n (take (length bs - i) (drop i bs)) ≡ [] = ap (λ (m : ℕ). take m (take (length bs - i) (drop i bs))) c.in-Ok-eq0.field-0-test in
-    let same = appends_then (g.W.Write.contents c.args.out.now) (g.W.Write.contents c.loop-done.out) (g.W.Write.contents c.write.new.self) (take i bs) (take n (take (length bs - i) (drop i bs))) c.loop-done.invariant.1 c.in-Ok-eq0.ensures.bytes in
-    (take i bs, drop i bs, sym (take-append-drop i bs), appends_as _ _ _ (take i bs) (ap (λ (xs : List ℕ). take i bs ++ xs) none ∙ append-nil (take i bs)) same)
+    let same = appends-then (g.W.Write.contents c.args.out.now) (g.W.Write.contents c.loop-done.out) (g.W.Write.contents c.write.new.self) (take i bs) (take n (take (length bs - i) (drop i bs))) c.loop-done.invariant.1 c.in-Ok-eq0.ensures.bytes in
+    (take i bs, drop i bs, sym (take-append-drop i bs), appends-as _ _ _ (take i bs) (ap (λ (xs : List ℕ). take i bs ++ xs) none ∙ append-nil (take i bs)) same)
 
 pub loop-done-preserved : goal.loop-done-preserved
 loop-done-preserved g c =
@@ -22,12 +22,12 @@ loop-done-preserved g c =
     let n = c.in-Ok.n in
     let bs = c.args.bytes.now in (
       search rules,
-      appends_as (g.W.Write.contents c.args.out.now) (g.W.Write.contents c.write.new.self) _ (take (i + n) bs) (sliced i n bs)
-          (appends_then (g.W.Write.contents c.args.out.now) (g.W.Write.contents c.loop-done.out) (g.W.Write.contents c.write.new.self) (take i bs) (take n (take (length bs - i) (drop i bs))) c.loop-done.invariant.1 c.in-Ok.ensures.bytes),
+      appends-as (g.W.Write.contents c.args.out.now) (g.W.Write.contents c.write.new.self) _ (take (i + n) bs) (sliced i n bs)
+          (appends-then (g.W.Write.contents c.args.out.now) (g.W.Write.contents c.loop-done.out) (g.W.Write.contents c.write.new.self) (take i bs) (take n (take (length bs - i) (drop i bs))) c.loop-done.invariant.1 c.in-Ok.ensures.bytes),
     )
 
 pub returns-in-Err : goal.returns-in-Err
 returns-in-Err g c =
     let i = c.loop-done.done in
     let bs = c.args.bytes.now in
-    (take i bs, drop i bs, sym (take-append-drop i bs), appends_keeps (g.W.Write.contents c.args.out.now) (g.W.Write.contents c.loop-done.out) (g.W.Write.contents c.write.new.self) (take i bs) c.loop-done.invariant.1 c.in-Err.ensures.bytes)
+    (take i bs, drop i bs, sym (take-append-drop i bs), appends-keeps (g.W.Write.contents c.args.out.now) (g.W.Write.contents c.loop-done.out) (g.W.Write.contents c.write.new.self) (take i bs) c.loop-done.invariant.1 c.in-Err.ensures.bytes)
