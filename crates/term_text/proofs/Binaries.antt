@@ -1,4 +1,4 @@
--- Binaries: what stands behind their bytes.
+-- The bytes of a binary, and what follows them.
 use Rattle.std.proofs.Common.{◌≡◌, refl, ap, sym, ◌∙◌, ◌+◌, ◌<◌, ◌==◌, ℕ, List, [], ◌∷◌, length, drop, get_or, Bool, true, false}
 use Rattle.ets_term.specs.declared.term.Term.TheVariants.{Binary}
 use Rattle.term_text.specs.declared.quote_form.QuoteForm.TheVariants as form
@@ -30,16 +30,16 @@ pub bytes-end-here : (place : ℕ) (bs : List ℕ) (os : List OpenBracket) (rest
 bytes-end-here place bs os [] h k = refl
 bytes-end-here place bs os (b ∷ rest) h k = ap (λ (s : Reading). read_from (place + 1) s rest) (if-false _ _ _ h ∙ if-false _ _ _ k)
 
--- behind a byte, with no comma
+-- after a byte that no comma follows
 pub bytes_end : (text : List ℕ) (place : ℕ) (bs : List ℕ) (os : List OpenBracket) → begins is_blank (drop place text) ≡ false → begins (λ b. b == 44) (drop place text) ≡ false
     → Reaches text place (reads_on (behind_byte bs) os) place (expect place (62 ∷ 62 ∷ []) (whole (Binary bs)) os)
 bytes_end text place bs os h k = bytes-end-here place bs os (drop place text) h k
 
--- what holds of the first byte of the rest holds of the byte at the place
+-- what is true of the first byte of the rest is true of the byte at the offset
 pub here : (p : ℕ → Bool) (v : Bool) (text : List ℕ) (place : ℕ) → place < length text → begins p (drop place text) ≡ v → p (get_or text place 0) ≡ v
 here p v text place h e = sym (begins_at p text place h) ∙ e
 
--- behind a byte and a comma
+-- after a byte and a comma
 pub comma_byte : (text : List ℕ) (place : ℕ) (bs : List ℕ) (os : List OpenBracket) → begins is_blank (drop place text) ≡ false → begins (λ b. b == 44) (drop place text) ≡ true
     → Reaches text place (reads_on (behind_byte bs) os) (place + 1) (reads_on (wants_byte bs) os)
 comma_byte text place bs os e k =
@@ -51,7 +51,7 @@ pub opened-digit-here : (place : ℕ) (os : List OpenBracket) (rest : List ℕ) 
 opened-digit-here place os [] h k d = refl
 opened-digit-here place os (b ∷ rest) h k d = ap (λ (s : Reading). read_from (place + 1) s rest) (if-false _ _ _ h ∙ if-false _ _ _ k ∙ if-true _ _ _ d ∙ sym (if-true _ _ _ d))
 
--- where a binary has just been opened
+-- after the `<<` of a binary
 pub opened_digit : (text : List ℕ) (place : ℕ) (os : List OpenBracket) → begins is_blank (drop place text) ≡ false → begins (λ b. b == 34) (drop place text) ≡ false → begins is_digit (drop place text) ≡ true
     → Reaches text place (reads_on opened_binary os) place (reads_on (digit (byte []) place) os)
 opened_digit text place os h k d = opened-digit-here place os (drop place text) h k d

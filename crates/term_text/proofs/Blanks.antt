@@ -1,4 +1,4 @@
--- Where blanks end, and what they leave as it is.
+-- Where blanks end, and the states that they do not change.
 use Rattle.std.proofs.Common.{◌≡◌, ap, ◌∙◌, ◌+◌, ◌<◌, ◌≤◌, ℕ, List, ◌∷◌, length, drop, get_or, arith, Bool, true, false}
 use Rattle.std.proofs.lemmas.List.{drop_all}
 use Rattle.term_text.specs.Reader.{OpenBracket, Reading, reads_on, wants, opened_binary, wants_byte, behind_byte, behind_string, after}
@@ -6,7 +6,7 @@ use Rattle.term_text.specs.inside.Parts.{Reaches, IgnoresBlanks}
 use Rattle.term_text.specs.Text.{is_blank, begins, closes}
 use Rattle.term_text.proofs.Places.{read-at, begins_at, if-true, if-false}
 
--- a place that no blank stands at
+-- an offset without a blank
 pub stops_here : (text : List ℕ) (place : ℕ) → place < length text → is_blank (get_or text place 0) ≡ false → begins is_blank (drop place text) ≡ false
 stops_here text place h e = begins_at is_blank text place h ∙ e
 

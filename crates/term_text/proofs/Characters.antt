@@ -1,4 +1,4 @@
--- What stands in quotes.
+-- Characters between quotes.
 use Rattle.std.proofs.Common.{◌≡◌, ap, ◌∙◌, ◌<◌, ◌==◌, ◌||◌, ℕ, List, length, drop, get_or, Bool, true, false, Some, Err}
 use Rattle.ets_term.specs.Character.{is_character}
 use Rattle.term_text.specs.declared.fault.TextFault.{TextFault}

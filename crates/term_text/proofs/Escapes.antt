@@ -1,4 +1,4 @@
--- Characters between single quotes, as the pieces that go out.
+-- Characters between single quotes, as the printer sends them in pieces.
 use Rattle.std.proofs.Common.{◌≡◌, refl, ap, sym, subst, ◌∙◌, ◌+◌, ◌-◌, ◌<◌, ◌≤◌, ◌++◌, ◌==◌, ◌||◌, ℕ, zero, suc, List, [], ◌∷◌, length, take, drop, get_or, arith, add-one, true, false, append_assoc, Option, Result}
 use Rattle.std.proofs.lemmas.List.{append-nil, take_more, take_all, get_or-drop, length-drop, drop_more, at_drop_more}
 use Rattle.std.proofs.lemmas.Bool.{and_parts}
@@ -56,7 +56,7 @@ slice-one i bs h =
 slice-all : (start i : ℕ) (bs : List ℕ) → length bs ≤ i → take (i - start) (drop start bs) ≡ drop start bs
 slice-all start i bs h = take_all (i - start) (drop start bs) (omega (arith, h, length-drop start bs))
 
--- what has gone out of the escaped text: all but the characters from start on, of which the first has its `\` before it
+-- what was sent of the escaped text: all but the characters from start on, with the `\` of the first
 abbrev pub Escaped : Option (List ℕ) → Option (List ℕ) → ℕ → ℕ → List ℕ → Type 0
 Escaped a b start i bs = (sent : List ℕ) × (sent ++ take (i - start) (drop start bs) ≡ flat_map escaped (take i bs)) × Appends a b sent × (start ≤ i)
 
@@ -86,7 +86,7 @@ escaped-turns a b z start i bs (sent, e, h, k) l special y =
       omega arith,
     )
 
--- the characters from the i-th on, of which the first is escaped
+-- the characters from the i-th on, if the first needs a `\`
 special-rest : (i : ℕ) (bs : List ℕ) → i < length bs → ((get_or bs i 0 == 39) || (get_or bs i 0 == 92)) ≡ true → flat_map escaped (drop i bs) ≡ (92 ∷ []) ++ (get_or bs i 0 ∷ flat_map escaped (drop (i + 1) bs))
 special-rest i bs h special = at_drop_more (flat_map escaped) bs i 0 h ∙ ap (λ (w : List ℕ). w ++ flat_map escaped (drop (i + 1) bs)) (if-true _ _ _ special)
 

@@ -1,4 +1,4 @@
--- Each row of the table of faults is told where it stands in a text.
+-- The automaton reports each row of the table of faults.
 use Rattle.std.proofs.Common.{◌≡◌, refl, ap, sym, ◌∙◌, ◌+◌, ◌-◌, ◌*◌, ◌<◌, ◌≤◌, ◌++◌, ◌==◌, ℕ, suc, List, [], ◌∷◌, length, arith, rules, Bool, true, false, append_assoc, length-append}
 use Rattle.std.proofs.lemmas.Bool.{false≢true, and_parts}
 use Rattle.std.specs.List.{list_all, prefix_len}
@@ -29,7 +29,7 @@ use Rattle.term_text.proofs.SpelledQuotes.{quoted-text}
 abbrev start_state : Reading
 start_state = reads_on (wants false) []
 
--- where a term is wanted the reader wants one
+-- where a term must begin the automaton expects one
 pub record Arrives (os : List OpenBracket) (lead rest : List ℕ) : Type 0 where
   pub opened : Bool
   pub runs : read_from 0 start_state (lead ++ rest) ≡ read_from (length lead) (reads_on (wants opened) os) rest
@@ -69,7 +69,7 @@ here-run k (o ∷ os) lead rest (outer, inner, e, h, i) =
           ∙ ap (λ (m : ℕ). read_from m (reads_on (wants inside.0) (o ∷ os)) rest) (omega (arith, ap length e, length-append outer (sign ∷ inner)));
     }
 
--- a byte that fails
+-- a byte without a next state
 byte-fails : (at : ℕ) (s : Reading) (b : ℕ) (rest : List ℕ) (f : TextFault) → take_byte at s b ≡ fails f → read_from at s (b ∷ rest) ≡ fails f
 byte-fails at s b rest f e = byte-taken at s (fails f) b rest e ∙ read-fails (at + 1) f rest
 
@@ -132,7 +132,7 @@ atom-told pre b start rest (quoted_form os k lead s cs e h st sp long char other
     ∙ byte-fails p (reads_on (quoted (form.Atom at) cs) os) b rest (AtomTooLong at) (character-fails p (form.Atom at) cs os b (AtomTooLong at) other char (λ s. if-true _ _ _ (same-test (length cs) long)))
     ∙ ap (λ (m : ℕ). fails (AtomTooLong m)) (sym st)
 
--- digits, one after the other
+-- one digit after another
 spelled-least : (n : ℕ) (bs : List ℕ) → n ≤ spelled n bs
 spelled-least n [] = omega arith
 spelled-least n (b ∷ bs) = by-test (is_digit b)
@@ -145,7 +145,7 @@ spelled-on n (c ∷ s) t h =
     let q = and_parts (is_digit c) (list_all is_digit s) h in
     if-true _ _ _ q.0 ∙ spelled-on (n * 10 + (c - 48)) s t q.1 ∙ ap (λ (m : ℕ). spelled m t) (sym (if-true _ _ _ q.0))
 
--- what stands before the digits of a number leads to them
+-- what precedes the digits of a number leads to the state before them
 number-reached : (kind : Number) (at : ℕ) (op : Bool) (os : List OpenBracket) (before ds rest : List ℕ) → LeadsNumber kind before → length os < 128 → begins is_digit ds ≡ true
     → read_from at (reads_on (wants op) os) (before ++ (ds ++ rest)) ≡ read_from (at + length before) (reads_on (digit kind (number_start kind at (at + length before))) os) (ds ++ rest)
 number-reached (integer false) at op os before ds rest e room d =

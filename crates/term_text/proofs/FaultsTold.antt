@@ -1,4 +1,4 @@
--- What a fault says of the text before the byte at which it is noticed.
+-- A fault of the automaton is the fault of the table, and the other way round.
 use Rattle.std.proofs.Common.{◌≡◌, refl, ap, sym, subst, ◌∙◌, ◌+◌, ◌++◌, ℕ, List, [], ◌∷◌, length, take, drop, false, arith, append_assoc, length-append}
 use Rattle.std.proofs.lemmas.List.{append-nil}
 use Rattle.std.proofs.Math.Seq.{drop-append_seam, take-append_seam}
@@ -20,7 +20,7 @@ use Rattle.term_text.proofs.Spelled.{front-read}
 continues : (bs : List ℕ) → GoesOn bs → Continues bs
 continues bs (more, t, n, e) = (more, t, n, sound (bs ++ more) t n e)
 
--- what can go on is not stuck
+-- a text that can be completed has no fault
 not-stuck : (bs : List ℕ) (f : TextFault) → so_far bs ≡ fails f → Continues bs → ⊥
 not-stuck bs f e (more, t, n, front) = no-fault t n f (sym (front-read (bs ++ more) t n front) ∙ stuck bs f more e)
   where
@@ -52,7 +52,7 @@ end-fault at mode os f e = sym (same-fault (Unclosed at) f e)
 fault-free-so : (pre : List ℕ) (mode : Mode) (os : List OpenBracket) → so_far pre ≡ reads_on mode os → HasNoFault (so_far pre)
 fault-free-so pre mode os e = subst HasNoFault (sym e) tt
 
--- the last byte of a text, and what stands before it
+-- the last byte of a text, and the bytes before it
 same-front : (xs ys : List ℕ) (a b : ℕ) → xs ++ a ∷ [] ≡ ys ++ b ∷ [] → xs ≡ ys
 same-front xs ys a b e =
     let l = ap length e in
@@ -103,7 +103,7 @@ at-byte pre b bs (OutOfRange at) h e s = record { pre = pre; b = b; rest = bs; w
 at-byte pre b bs (TooDeep at) h e s = record { pre = pre; b = b; rest = bs; whole = refl; before = continues pre (goes-on pre h); behind = not-stuck (pre ++ b ∷ []) (TooDeep at) e; told = s }
 at-byte pre b bs (AtomTooLong at) h e s = record { pre = pre; b = b; rest = bs; whole = refl; before = continues pre (goes-on pre h); behind = not-stuck (pre ++ b ∷ []) (AtomTooLong at) e; told = s }
 
--- no term is in front of a text that has a fault
+-- a text with a fault does not begin with a term
 no-front : (text : List ℕ) (f : TextFault) → reading text ≡ fails f → (t : Term) (n : ℕ) → Front text t n → ⊥
 no-front text f e t n front = not-found t n f (sym (front-read text t n front) ∙ e)
 
@@ -132,11 +132,11 @@ read-fault [] f pre mode os h e r =
     subst P (sym is) (subst Q (sym (append-nil pre)) (record { length_is = refl; before = continues pre (goes-on pre (fault-free-so pre mode os e)); none = none }))
 read-fault (b ∷ bs) f pre mode os h e r = step-fault (next (length pre) mode os b) bs pre b mode os f (read-fault bs f) e refl (next-holds (length pre) mode os pre b refl h).meaning r
 
--- Each fault stands in the text as its row says.
+-- Each fault of the automaton meets its row.
 pub faulted : (text : List ℕ) (f : TextFault) → reading text ≡ fails f → IsFault text f
 faulted text f e = read-fault text f [] (wants false) [] (128, (refl, refl)) refl e
 
--- What a state that goes on says of the text so far.
+-- what a state without a result says of the text so far
 not-reading-found : (t : Term) (n : ℕ) (mode : Mode) (os : List OpenBracket) → found t n ≡ reads_on mode os → ⊥
 not-reading-found t n mode os e = cc
 
@@ -175,7 +175,7 @@ means-behind (b ∷ bs) pre mode os h m2 os2 e = byte-means (next (length pre) m
 means-so-far : (pre : List ℕ) (mode : Mode) (os : List OpenBracket) → so_far pre ≡ reads_on mode os → MeansIn pre mode os
 means-so-far pre mode os e = means-behind pre [] (wants false) [] (128, (refl, refl)) mode os e
 
--- Each fault is told as its row says.
+-- The automaton reports each fault whose row the text meets.
 only-unexpected : (pre : List ℕ) (b at : ℕ) (f : TextFault) → FaultMeans pre b f → IsFaultAt pre b (Unexpected at) → f ≡ Unexpected at
 only-unexpected pre b at (Unexpected n) s told = ap Unexpected (s ∙ sym told.0)
 only-unexpected pre b at (Unclosed n) s told = absurd s

@@ -1,4 +1,4 @@
--- The first byte of a term, and what stands behind a term in a bracket.
+-- The first byte of a term, and the byte after a term in a bracket.
 use Rattle.std.proofs.Common.{◌≡◌, refl, ap, sym, subst, ◌∙◌, ◌+◌, ◌-◌, ◌<◌, ◌≤◌, ◌==◌, ◌||◌, ℕ, List, [], ◌∷◌, length, drop, get_or, arith, Bool, true, false, nat_le, Result}
 use Rattle.std.proofs.lemmas.Bool.{lt-leb, true≢false}
 use Rattle.std.proofs.lemmas.Bool.Decides.{nat_tests}
@@ -77,12 +77,12 @@ out_of_levels-room k r e h = grind (arith, nat_tests)
 here : (p : ℕ → Bool) (v : Bool) (text : List ℕ) (place : ℕ) → place < length text → begins p (drop place text) ≡ v → p (get_or text place 0) ≡ v
 here p v text place h e = sym (begins_at p text place h) ∙ e
 
--- a byte that is no blank begins the term that is wanted
+-- a byte that is not blank begins the expected term
 pub wants-begin : (text : List ℕ) (at : ℕ) (os : List OpenBracket) → at < length text → begins is_blank (drop at text) ≡ false
     → Reaches text at (reads_on (wants false) os) (at + 1) (begin at os (get_or text at 0))
 wants-begin text at os h e = read-at text at _ _ h (if-false _ _ _ (here is_blank false text at h e))
 
--- behind a term in a bracket
+-- after a term in a bracket
 pub after-closes : (text : List ℕ) (at : ℕ) (o : OpenBracket) (os : List OpenBracket) → at < length text → closes o.square (get_or text at 0) ≡ true
     → Reaches text at (reads_on after (o ∷ os)) (at + 1) (put os (bracket o) (at + 1))
 after-closes text at o os h e = read-at text at _ _ h (if-true _ _ _ e)

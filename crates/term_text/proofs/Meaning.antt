@@ -1,4 +1,4 @@
--- What a state of the reader says of the bytes before it, in the words of the grammar.
+-- What a state of the automaton says of the bytes before it, in terms of the grammar.
 use Rattle.std.proofs.Common.{ℕ, ◌≡◌, refl, ap, ◌∙◌, ◌+◌, ◌<◌, ◌≤◌, ◌++◌, ◌==◌, ◌||◌, suc, List, [], ◌∷◌, length, arith, Bool, true, false, IsTrue, if◌then◌else◌, append_assoc, length-append}
 use Rattle.std.specs.Cmp.Derive.{both_true}
 use Rattle.std.proofs.lemmas.Bool.{false≢true, and_parts}
@@ -11,14 +11,14 @@ use Rattle.term_text.specs.Reader.{OpenBracket, Number, integer, Expect, whole, 
 use Rattle.term_text.specs.Faults.{AwaitsTerm, AwaitsByte, LeadsNumber, number_start, FaultMeans}
 use Rattle.term_text.specs.Grammar.{AreBlanks, SpellsNumber, SpellsQuoted, SpellsBytes, opening_sign, Spells, SpellsRow, Front}
 
--- the text up to where a term is wanted, and s of that term
+-- the text up to where a term must begin, and the first bytes s of that term
 pub record At (os : List OpenBracket) (pre s : List ℕ) : Type 0 where
   pub k : ℕ
   pub p : List ℕ
   pub cut : pre ≡ p ++ s
   pub here : AwaitsTerm (suc k) os p
 
--- the text up to behind a term in a bracket
+-- the text up to the end of a term in a bracket
 pub record Behind (o : OpenBracket) (os : List OpenBracket) (pre : List ℕ) : Type 0 where
   pub k : ℕ
   pub outer : List ℕ
@@ -29,23 +29,23 @@ pub record Behind (o : OpenBracket) (os : List OpenBracket) (pre : List ℕ) : T
   pub spells : SpellsRow k row o.terms
   pub are_blanks : AreBlanks blanks
 
--- what stands before an opening quote
+-- the bytes before an opening quote
 abbrev pub Lead : QuoteForm → List ℕ → Type 0
 Lead form.Binary s = (blanks : List ℕ) × (s ≡ (60 ∷ 60 ∷ []) ++ blanks) × AreBlanks blanks
 Lead q s = s ≡ []
 
--- n characters are within what the form admits
+-- the form allows n characters
 abbrev pub Admitted : QuoteForm → ℕ → List OpenBracket → Type 0
 Admitted (form.Atom start) n os = n ≤ 255
 Admitted form.String n os = 0 < n → length os ≤ 126
 Admitted form.Binary n os = Unit {0}
 
--- a number behind signs, which is told to begin with its first digit
+-- a number after signs, which a fault lets begin with its first digit
 abbrev pub IsFramed : Number → Type 0
 IsFramed (integer below) = ⊥
 IsFramed kind = Unit {0}
 
--- where an atom in quotes began
+-- the offset where a quoted atom began
 abbrev pub QuoteStarts : QuoteForm → List ℕ → Type 0
 QuoteStarts (form.Atom start) lead = start ≡ length lead
 QuoteStarts q lead = Unit {0}

@@ -27,7 +27,7 @@ take-past k b bs = rw add-one refl
 name-same : (start : ℕ) (os : List OpenBracket) (m n : ℕ) (cs ds xs ys : List ℕ) → m ≡ n → cs ≡ ds → xs ≡ ys → read_from m (reads_on (name start cs) os) xs ≡ read_from n (reads_on (name start ds) os) ys
 name-same start os m n cs ds xs ys e f g = cc
 
--- A name that fits goes to its end.
+-- The automaton reads a name of at most 255 characters to its end.
 pub read-name : (at start : ℕ) (cs : List ℕ) (os : List OpenBracket) (bs : List ℕ) → length cs + prefix_len is_name bs ≤ 255
     → read_from at (reads_on (name start cs) os) bs ≡ read_from (at + prefix_len is_name bs) (reads_on (name start (cs ++ take (prefix_len is_name bs) bs)) os) (drop (prefix_len is_name bs) bs)
 read-name at start cs os [] h = name-same start os at (at + 0) cs (cs ++ []) [] [] (omega arith) (sym (append-nil cs)) refl
@@ -46,7 +46,7 @@ read-name at start cs os (b ∷ bs) h = by-test (is_name b)
     name-same start os at (at + prefix_len is_name (b ∷ bs)) cs (cs ++ take (prefix_len is_name (b ∷ bs)) (b ∷ bs)) (b ∷ bs) (drop (prefix_len is_name (b ∷ bs)) (b ∷ bs))
     (omega (arith, c)) (sym (ap (λ (n : ℕ). cs ++ take n (b ∷ bs)) c ∙ append-nil cs)) (sym (ap (λ (n : ℕ). drop n (b ∷ bs)) c)))
 
--- A longer one fails at its 256th character.
+-- It fails at the 256th character of a longer name.
 pub read-long-name : (at start : ℕ) (cs : List ℕ) (os : List OpenBracket) (bs : List ℕ) → length cs ≤ 255 → 255 < length cs + prefix_len is_name bs
     → read_from at (reads_on (name start cs) os) bs ≡ fails (AtomTooLong start)
 read-long-name at start cs os [] few h = absurd (omega (arith, few, h))

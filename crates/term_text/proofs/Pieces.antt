@@ -1,4 +1,4 @@
--- A text that is sent in pieces.
+-- Texts that are sent in pieces.
 use Rattle.std.proofs.Common.{◌≡◌, ap, sym, subst, ◌∙◌, ℕ, List, [], ◌∷◌, ◌++◌, ◌+◌, ◌<◌, ◌≤◌, length, length-append, arith, take, drop, get_or, map, Bool, true, append_assoc, Option, None, Some, Result, Ok, Err, IsErr, is_err}
 use Rattle.std.proofs.lemmas.Bool.{false≢true}
 use Rattle.std.proofs.lemmas.List.{append-nil, drop_more, drop_all}
@@ -42,7 +42,7 @@ front-as a b x y e h = let P : List ℕ → Type 0 = λ w. AppendsFront a b w in
 pub appends-as : (a b : Option (List ℕ)) (x y : List ℕ) → x ≡ y → Appends a b x → Appends a b y
 appends-as a b x y e h = let P : List ℕ → Type 0 = λ w. Appends a b w in subst P e h
 
--- texts parted by commas, of which so many have been sent
+-- texts separated by commas, of which the first were sent
 abbrev pub Rows : {X : Type 0} → Option (List ℕ) → Option (List ℕ) → (X → List ℕ) → Bool → List X → List ℕ → Type 0
 Rows a b f later xs whole = (sent : List ℕ) × (sent ++ row_text later (map f xs) ≡ whole) × Appends a b sent
 
@@ -71,7 +71,7 @@ pub rows-here : {X : Type 0} (a b : Option (List ℕ)) (f : X → List ℕ) (lat
     → Rows a b f later (drop i xs) whole → Rows a b f later (get_or xs i d ∷ drop (i + 1) xs) whole
 rows-here a b f later xs i d whole h rows = let P : List _ → Type 0 = λ ys. Rows a b f later ys whole in subst P (drop_more xs i d h) rows
 
--- none is left
+-- no text is left
 pub rows-end : {X : Type 0} (a b : Option (List ℕ)) (f : X → List ℕ) (later : Bool) (xs : List X) (i : ℕ) (whole : List ℕ) → length xs ≤ i
     → Rows a b f later (drop i xs) whole → Appends a b whole
 rows-end a b f later xs i whole h rows = let P : List _ → Type 0 = λ ys. Rows a b f later ys whole in rows-done a b f later whole (subst P (drop_all i xs h) rows)
@@ -80,7 +80,7 @@ pub rows-at : {X : Type 0} (a b : Option (List ℕ)) (f : X → List ℕ) (later
     → Rows a b f later (drop i xs) whole → Rows a b f later (x ∷ drop (i + 1) xs) whole
 rows-at a b f later xs i x whole h e rows = let P : List _ → Type 0 = λ ys. Rows a b f later ys whole in subst P (drop_more xs i x h ∙ ap (λ (y : _). y ∷ drop (i + 1) xs) e) rows
 
--- a row between two signs: a comma fails, a text fails, or all is sent up to the sign behind it
+-- a row between two signs: a comma fails, a text fails, or all is sent up to the closing sign
 pub row-comma-fails : {X A E : Type 0} (a b c d : Option (List ℕ)) (f : X → List ℕ) (later : Bool) (x : X) (xs : List X) (front row back : List ℕ) (r : Result A E) → IsErr r
     → Appends a b front → Rows b c f later (x ∷ xs) row → AppendsFront c d (comma_if later) → AppendsOrFront a d (front ++ (row ++ back)) r
 row-comma-fails a b c d f later x xs front row back r e h rows k =
@@ -105,7 +105,7 @@ appends-keeps (Some p) None c x h k = absurd h
 appends-keeps (Some p) (Some q) None x h k = absurd k
 appends-keeps (Some p) (Some q) (Some r) x h k = k ∙ h
 
--- the end of what stood there before is where a character ends
+-- the old end of the string is the end of a character
 pub front-boundary : (old new text : List ℕ) → IsUtf8 old → IsUtf8 new → AppendsFront (Some old) (Some new) text → IsSplitPoint new (length old)
 front-boundary old new text u v (sent, rest, e, h) =
     let le : length old ≤ length new = omega (arith, ap length h, length-append old sent) in

@@ -1,4 +1,4 @@
--- What is read from a place of a text on.
+-- What the automaton reads from an offset on.
 use Rattle.std.proofs.Common.{◌≡◌, refl, ap, sym, subst, ◌∙◌, ◌+◌, ◌-◌, ◌*◌, ◌<◌, ◌≤◌, ◌==◌, ℕ, suc, zero, List, [], ◌∷◌, length, drop, get_or, drop-cons, arith, rules, add-one, Bool, true, false, if◌then◌else◌, nat_le, Result, Ok, Err}
 use Rattle.std.proofs.lemmas.List.{drop_all, drop-drop, at_drop_more}
 use Rattle.std.proofs.lemmas.Bool.{false≢true, true≢false, lt-leb, leb-true}
@@ -64,7 +64,7 @@ prefix-more p b bs h = if-true _ _ _ h ∙ omega arith
 pub prefix-none : (p : ℕ → Bool) (b : ℕ) (bs : List ℕ) → p b ≡ false → prefix_len p (b ∷ bs) ≡ 0
 prefix-none p b bs h = if-false _ _ _ h
 
--- A number within its range goes to the end of its digits.
+-- The automaton reads a number in its range to the end of its digits.
 pub read-number : (at start n : ℕ) (kind : Number) (os : List OpenBracket) (bs : List ℕ) → spelled n bs ≤ max_magnitude kind
     → read_from at (reads_on (number kind start n) os) bs ≡ read_from (at + prefix_len is_digit bs) (reads_on (number kind start (spelled n bs)) os) (drop (prefix_len is_digit bs) bs)
 read-number at start n kind os [] h = number-same start kind os at (at + 0) n n [] [] (omega arith) refl refl
@@ -82,7 +82,7 @@ read-number at start n kind os (b ∷ bs) h = by-test (is_digit b)
     let c : prefix_len is_digit (b ∷ bs) ≡ 0 = prefix-none is_digit b bs d in
     number-same start kind os at (at + prefix_len is_digit (b ∷ bs)) n (spelled n (b ∷ bs)) (b ∷ bs) _ (omega (arith, c)) (sym (if-false _ _ _ d)) (sym (ap (λ (k : ℕ). drop k (b ∷ bs)) c)))
 
--- A number past its range fails at the digit that takes it there.
+-- It fails at the digit that takes a number out of its range.
 pub read-passes : (at start n : ℕ) (kind : Number) (os : List OpenBracket) (bs : List ℕ) → n ≤ max_magnitude kind → max_magnitude kind < spelled n bs
     → read_from at (reads_on (number kind start n) os) bs ≡ fails (OutOfRange start)
 read-passes at start n kind os [] small h = absurd (omega (arith, small, h))
@@ -103,7 +103,7 @@ prefix-ends p (b ∷ bs) = by-test (p b)
     (λ d. ap (λ (k : ℕ). begins p (drop k (b ∷ bs))) (prefix-more p b bs d) ∙ ap (begins p) (drop-past (prefix_len p bs) b bs) ∙ prefix-ends p bs)
     (λ d. ap (λ (k : ℕ). begins p (drop k (b ∷ bs))) (prefix-none p b bs d) ∙ d)
 
--- Behind its digits a number is what its kind says.
+-- after its digits a number is what its kind says
 pub number-behind : (at start v : ℕ) (kind : Number) (os : List OpenBracket) (rest : List ℕ) → begins is_digit rest ≡ false
     → read_from at (reads_on (number kind start v) os) rest ≡ read_from at (counted at kind v os) rest
 number-behind at start v (integer below) [] [] h = refl
@@ -155,7 +155,7 @@ begins_at p text at h = rw (drop-cons text at 0) refl
 pub begins_end : (p : ℕ → Bool) (text : List ℕ) (at : ℕ) → length text ≤ at → begins p (drop at text) ≡ false
 begins_end p text at h = ap (begins p) (drop_all at text h)
 
--- what begins has a first byte
+-- a text whose first byte passes has a first byte
 pub begins_in : (p : ℕ → Bool) (text : List ℕ) (at : ℕ) → begins p (drop at text) ≡ true → at < length text
 begins_in p [] zero h = absurd (false≢true h)
 begins_in p [] (suc n) h = absurd (false≢true h)
@@ -184,12 +184,12 @@ signs-wrong text cs place i goal os h k e =
     fails-at text place (expect place (drop i cs) goal os) (Unexpected place) k
     (at_drop_more (λ (xs : List ℕ). take_byte place (expect place xs goal os) (get_or text place 0)) cs i 0 h ∙ if-false _ _ _ e)
 
--- What is read from z on is read from s on, where s comes to z.
+-- what is read from z on is read from s on, if s reaches z
 pub reads_along : (text : List ℕ) (at n : ℕ) (s z : Reading) (os : List OpenBracket) (r : Result (Term × ℕ) TextFault) → Reaches text at s n z → Reads text n z os r → Reads text at s os r
 reads_along text at n s z os (Ok x) e h = e ∙ h
 reads_along text at n s z os (Err f) e h = fails-along f _ _ e h
 
--- What is read in no bracket is what the text gives.
+-- what is read outside brackets is the result of the text
 pub reads-gives : (text : List ℕ) (r : Result (Term × ℕ) TextFault) → Reads text 0 (reads_on (wants false) []) [] r → GivesTerm (reading text) r
 reads-gives text (Ok x) h = h ∙ read-found x.1 x.0 x.1 (drop x.1 text)
 reads-gives text (Err f) h = h

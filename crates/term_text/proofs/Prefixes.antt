@@ -1,4 +1,4 @@
--- A state of the reader that a text leads to can go on to a whole term.
+-- Each state of the automaton can be completed to a term.
 use Rattle.std.proofs.Common.{◌≡◌, refl, ap, ◌∙◌, ◌+◌, ◌-◌, ◌<◌, ◌≤◌, ◌++◌, ◌==◌, ◌||◌, ℕ, List, [], ◌∷◌, length, arith, rules, Bool, true, false, if◌then◌else◌}
 use Rattle.ets_term.specs.declared.term.Term.{Term}
 use Rattle.ets_term.specs.declared.term.Term.TheVariants.{Int, Atom, Pid, Tid, Binary}
@@ -11,7 +11,7 @@ use Rattle.term_text.specs.Prefixes.{state, so_far, HasNoFault, GoesOn}
 use Rattle.term_text.proofs.Places.{if-true, if-false, read-fails}
 use Rattle.term_text.proofs.FirstBytes.{begin-digit}
 
--- how many brackets are open in a mode
+-- the number of open brackets that a mode needs
 abbrev InMode : Mode → List OpenBracket → Type 0
 InMode (wants true) os = (0 < length os) × (length os ≤ 128)
 InMode (signs [] goal) os = ⊥
@@ -104,7 +104,7 @@ pub state-in : (at : ℕ) (s : Reading) (bs : List ℕ) → InLevels s → InLev
 state-in at s [] h = h
 state-in at s (b ∷ bs) h = state-in (at + 1) (take_byte at s b) bs (step-in at s b h)
 
--- some bytes make it a whole term
+-- some bytes complete it to a term
 abbrev pub CanEnd : ℕ → Reading → Type 0
 CanEnd at s = (more : List ℕ) × (t : Term) × (n : ℕ) × (read_from at s more ≡ found t n)
 
@@ -135,7 +135,7 @@ unfolding is_blank closer
 not-blank true = refl
 not-blank false = refl
 
--- from behind a term the closing signs of all open brackets lead to the end
+-- after a term the closing signs of all open brackets lead to the end
 finish : (os : List OpenBracket) (t : Term) (at n : ℕ) → CanEnd at (put os t n)
 finish [] t at n = ([], t, n, refl)
 finish (o ∷ os) t at n = ends-by at (reads_on after (with_term o t ∷ os)) (put os (bracket (with_term o t)) (at + 1)) (closer o.square) (if-true _ _ _ (closes-closer o.square)) (finish os (bracket (with_term o t)) (at + 1) (at + 1))
@@ -234,15 +234,15 @@ can-end at (reads_on mode os) h k = mode-ends at mode os h
 can-end at (found t n) h k = ([], t, n, refl)
 can-end at (fails f) h k = absurd k
 
--- A run is a run from the state behind its first bytes.
+-- a run over a text is a run from the state after its first bytes
 pub read-append : (at : ℕ) (s : Reading) (bs more : List ℕ) → read_from at s (bs ++ more) ≡ read_from (at + length bs) (state at s bs) more
 read-append at s [] more = ap (λ (k : ℕ). read_from k s more) (omega arith)
 read-append at s (b ∷ bs) more = read-append (at + 1) (take_byte at s b) bs more ∙ ap (λ (k : ℕ). read_from k (state (at + 1) (take_byte at s b) bs) more) (omega arith)
 
--- Up to a fault the text can go on to a whole term.
+-- up to a fault the text can be completed to a term
 pub goes-on : (bs : List ℕ) → HasNoFault (so_far bs) → GoesOn bs
 goes-on bs h = let r = can-end (0 + length bs) (so_far bs) (state-in 0 (reads_on (wants false) []) bs (omega arith)) h in (r.0, r.1, r.2, read-append 0 (reads_on (wants false) []) bs r.0 ∙ r.3)
 
--- From the fault on it can't.
+-- from the fault on it cannot
 pub stuck : (bs : List ℕ) (f : TextFault) (more : List ℕ) → so_far bs ≡ fails f → reading (bs ++ more) ≡ fails f
 stuck bs f more e = read-append 0 (reads_on (wants false) []) bs more ∙ ap (λ (s : Reading). read_from (0 + length bs) s more) e ∙ read-fails (0 + length bs) f more

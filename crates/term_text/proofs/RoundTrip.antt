@@ -143,7 +143,7 @@ list-spelled : (k : ℕ) (xs : List Known) → RowFits (row_of (map data_of (map
 list-spelled k [] h d = empty_bracket k true [] refl
 list-spelled k (x ∷ xs) h d = full_bracket k true (row_text false (map printed (map bare (x ∷ xs)))) [] (map bare (x ∷ xs)) (row-spelled k x xs h d) refl
 
--- A term whose tree, text and depth are known is spelled, if it is one level further in.
+-- a term is spelled one level further in, if its tree, text and depth are known
 by-parts : (t : Term) (z : Data) (text : List ℕ) (inner : ℕ) → data_of t ≡ z → printed t ≡ text → depth t ≡ inner + 1 → ((k : ℕ) → DataFits z → inner ≤ k → Spells (suc k) text t) → IsSpelled t
 by-parts t z text inner e f g h zero fits d = absurd (omega (arith, g, d))
 by-parts t z text inner e f g h (suc k) fits d = subst (λ (w : List ℕ). Spells (suc k) w t) (sym f) (h k (subst DataFits e fits) (omega (arith, g, d)))

@@ -1,4 +1,4 @@
--- What single bytes are, and are not.
+-- The classes of single bytes.
 use Rattle.std.proofs.Common.{ℕ, ◌≡◌, refl, ◌≤◌, ◌==◌, ◌||◌, arith, rules, Bool, true, false}
 use Rattle.std.proofs.lemmas.Bool.Decides.{nat_tests}
 use Rattle.ets_term.specs.Character.{is_character}
@@ -85,7 +85,7 @@ pub quote-no-blank : is_blank 34 ≡ false
 unfolding is_blank
 quote-no-blank = refl
 
--- the first byte of a term where it is wanted
+-- the first byte of an expected term
 pub no-blank : (b : ℕ) → begins_term b ≡ true → is_blank b ≡ false
 unfolding begins_term is_digit is_small is_blank
 no-blank b h = grind arith

@@ -1,4 +1,4 @@
--- What is found is spelled so.
+-- A term that the automaton finds is spelled at the front of the text.
 use Rattle.std.proofs.Common.{ℕ, ◌≡◌, refl, sym, subst, ◌∙◌, ◌+◌, ◌-◌, ◌*◌, ◌<◌, ◌≤◌, ◌++◌, ◌==◌, suc, List, [], ◌∷◌, length, arith, rules, true, false, nat_le, append_assoc, length-append}
 use Rattle.std.proofs.lemmas.List.{append-nil}
 use Rattle.std.proofs.lemmas.Bool.{false≢true, leb-true}
@@ -93,7 +93,7 @@ end-sound at mode os pre t n len h e = absurd (no-fault _ t n e)
 found-on : (pre : List ℕ) (b : ℕ) (t : Term) (n : ℕ) → Means pre (found t n) → Means (pre ++ b ∷ []) (found t n)
 found-on pre b t n h = λ rest. let P : List ℕ → Type 0 = λ w. Front w t n in subst P (sym (append_assoc pre (b ∷ []) rest)) (h (b ∷ rest))
 
--- What a state comes to over the rest of the text is in front of the whole.
+-- a result from a state over the rest of a text is a result of the whole text
 pub read-sound : (bs : List ℕ) (at : ℕ) (s : Reading) (pre : List ℕ) (t : Term) (n : ℕ) → at ≡ length pre → Means pre s → read_from at s bs ≡ found t n → Front (pre ++ bs) t n
 read-sound [] at (reads_on mode os) pre t n len h e = let P : List ℕ → Type 0 = λ w. Front w t n in subst P (sym (append-nil pre)) (end-sound at mode os pre t n len h e)
 read-sound [] at (found u m) pre t n len h e =

@@ -1,4 +1,4 @@
--- What stands behind the first sign of a binary or pid.
+-- The bytes after the `<` of a binary or pid.
 use Rattle.std.proofs.Common.{ℕ, ◌≡◌, refl, ap, sym, subst, ◌∙◌, ◌++◌, ◌==◌, suc, List, [], ◌∷◌, length, append_assoc}
 use Rattle.ets_term.specs.declared.term.Term.TheVariants.{Binary}
 use Rattle.term_text.specs.declared.fault.TextFault.TheVariants.{Unexpected}

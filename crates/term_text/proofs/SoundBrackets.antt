@@ -1,4 +1,4 @@
--- The first byte of a term, and brackets that were just opened.
+-- The first byte of a term, and of a bracket.
 use Rattle.std.proofs.Common.{ℕ, ◌≡◌, refl, ap, sym, subst, ◌∙◌, ◌+◌, ◌≤◌, ◌++◌, ◌==◌, suc, zero, List, [], ◌∷◌, length, arith, rules, Bool, true, false, nat_le, append_assoc}
 use Rattle.std.specs.Cmp.Derive.{both_true}
 use Rattle.std.proofs.lemmas.List.{append-nil}
@@ -70,7 +70,7 @@ here-blank k [] pre b h d = (blank-more pre b h.0 d, h.1)
 here-blank k (o ∷ os) pre b (outer, inner, e, h, i) d =
     (outer, inner ++ b ∷ [], ap (λ (w : List ℕ). w ++ b ∷ []) e ∙ append_assoc outer (opening_sign o.square ∷ inner) (b ∷ []), h, inside-blank k o.terms inner b i d)
 
--- the text behind the opening sign of an empty bracket
+-- the text after the opening sign of an empty bracket
 fresh-blanks : (k : ℕ) (ts : List Term) (inner : List ℕ) → AwaitsItem k ts inner → ts ≡ [] → AreBlanks inner
 fresh-blanks k ts inner (fresh blanks h) e = h
 fresh-blanks k ts inner (further us row before behind r h i) e = absurd (some-terms k row us r e)

@@ -1,4 +1,4 @@
--- Numbers, and the bytes of a binary: each state of the reader holds what it says.
+-- Numbers and the bytes of a binary: what each state says of the text is true.
 use Rattle.std.proofs.Common.{ℕ, ◌≡◌, refl, ap, sym, subst, ◌∙◌, ◌+◌, ◌-◌, ◌*◌, ◌≤◌, ◌++◌, ◌==◌, suc, List, [], ◌∷◌, length, arith, Bool, true, false, append_assoc}
 use Rattle.std.specs.Cmp.Derive.{both_true}
 use Rattle.std.proofs.lemmas.Bool.{false≢true, and_parts}

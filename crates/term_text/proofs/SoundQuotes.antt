@@ -1,4 +1,4 @@
--- What stands in quotes: each state of the reader holds what it says.
+-- Characters between quotes: what each state says of the text is true.
 use Rattle.std.proofs.Common.{ℕ, ◌≡◌, refl, ap, sym, subst, ◌∙◌, ◌+◌, ◌<◌, ◌≤◌, ◌++◌, ◌==◌, ◌||◌, suc, zero, List, [], ◌∷◌, length, map, arith, rules, true, false, nat_le, append_assoc, length-append}
 use Rattle.std.proofs.lemmas.Bool.{leb-true}
 use Rattle.ets_term.specs.Character.{is_character}
@@ -44,7 +44,7 @@ escape-more q body cs b sp h = let P : List ℕ → Type 0 = λ w. SpellsQuoted 
 abbrev quoted_at : (os : List OpenBracket) (pre s body z : List ℕ) (q : QuoteForm) (b : ℕ) → At os pre (s ++ (quote q ∷ body)) → body ++ b ∷ [] ≡ z → At os (pre ++ b ∷ []) (s ++ (quote q ∷ z))
 quoted_at os pre s body z q b a e = at_more os pre (s ++ (quote q ∷ body)) (s ++ (quote q ∷ z)) b a (append_assoc s (quote q ∷ body) (b ∷ []) ∙ ap (λ (w : List ℕ). s ++ (quote q ∷ w)) e)
 
--- why one more character is refused
+-- the fault of one more character
 abbrev RefusedBy : QuoteForm → ℕ → List ℕ → ℕ → ℕ → List OpenBracket → Type 0
 RefusedBy (form.Atom start) at pre b n os = n ≡ 255 → PastAtom pre b start
 RefusedBy form.String at pre b n os = 127 ≤ length os → (at ≡ length pre) × PastDepth pre b
@@ -68,7 +68,7 @@ refused form.String at pre b cs os s body a len lead sp ok starts char other = �
     last-level k m e out_of_levels some = omega (arith, e, out_of_levels, some)
 refused form.Binary at pre b cs os s body a len lead sp ok starts char other = tt
 
--- where one more character is admitted
+-- one more character is allowed
 admits-holds : (at : ℕ) (q : QuoteForm) (n : ℕ) (os : List OpenBracket) (pre : List ℕ) (b : ℕ) (s : Reading) → Admitted q n os → RefusedBy q at pre b n os → (Admitted q (n + 1) os → Holds (pre ++ b ∷ []) s) → Holds (pre ++ b ∷ []) (admits at q n os s)
 admits-holds at (form.Atom start) n os pre b s ok why h = holds-if (n == 255) _ _ (λ e. noticed pre b (AtomTooLong start) (why (is-byte n 255 e))) (λ e. h (less n ok e))
   where

@@ -1,4 +1,4 @@
--- A term that is whole, what ends it, and signs that must come.
+-- A complete term, the byte that ends it, and signs that must follow.
 use Rattle.std.proofs.lemmas.Bool.{false≢true}
 use Rattle.std.proofs.Common.{ℕ, ◌≡◌, refl, ap, sym, subst, ◌∙◌, ◌+◌, ◌++◌, ◌==◌, ◌||◌, suc, List, [], ◌∷◌, length, arith, Bool, true, false, append_assoc, length-append}
 use Rattle.std.proofs.lemmas.List.{append-nil}
@@ -11,7 +11,7 @@ use Rattle.term_text.specs.Grammar.{AreBlanks, opening_sign, closing_sign, Spell
 use Rattle.term_text.proofs.Meaning.{At, Behind, Closed, Holds, IsFramed, Leads, at_more, blank-more, holds-if, more-len, noticed}
 use Rattle.term_text.proofs.Signs.{close-is, is-byte}
 
--- a byte that no integer and no atom without quotes begins with
+-- a byte that begins no integer and no unquoted atom
 closed-by : (c : ℕ) (s rest : List ℕ) → (is_digit c || (c == 45)) ≡ false → is_small c ≡ false → Ends (c ∷ s) rest
 closed-by c s rest h k = (λ e. absurd (false≢true (sym h ∙ e)), λ e. absurd (false≢true (sym k ∙ e)))
 
@@ -27,7 +27,7 @@ front-of pre p s t n rest e h sp len ends = record {
   ends = ends;
 }
 
--- a term is whole
+-- a term is complete
 inside-with : (k : ℕ) (ts : List Term) (inner s : List ℕ) (t : Term) → AwaitsItem k ts inner → Spells k s t → SpellsRow k (inner ++ s) (ts ++ t ∷ [])
 inside-with k ts inner s t (fresh blanks h) sp = first_term k blanks s t h sp
 inside-with k ts inner s t (further us row before behind r h i) sp =
@@ -50,7 +50,7 @@ term-behind o os pre s t a sp =
       are_blanks = refl;
     }
 
--- what is whole and can't go on
+-- a complete term that cannot continue
 pub put-holds : (os : List OpenBracket) (pre s : List ℕ) (t : Term) (n : ℕ) (a : At os pre s) → Spells (suc a.k) s t → n ≡ length pre → ((rest : List ℕ) → Ends s rest) → Holds pre (put os t n)
 put-holds [] pre s t n a sp len ends = record { meaning = λ rest. front-of pre a.p s t n rest a.cut a.here.0 (let P : ℕ → Type 0 = λ k. Spells k s t in subst P a.here.1 sp) len (ends rest) }
 put-holds (o ∷ os) pre s t n a sp len ends = record { meaning = term-behind o os pre s t a sp }
@@ -76,7 +76,7 @@ hash-closed : (s rest : List ℕ) → Ends (35 ∷ s) rest
 unfolding is_digit is_small
 hash-closed s rest = closed-by 35 s rest refl refl
 
--- a byte behind a term in a bracket
+-- a byte after a term in a bracket
 pub after-holds : (at : ℕ) (o : OpenBracket) (os : List OpenBracket) (pre : List ℕ) (b : ℕ) → at ≡ length pre → Behind o os pre → Holds (pre ++ b ∷ []) (next_after at (o ∷ os) b)
 after-holds at o os pre b len h =
     let sign = opening_sign o.square in
@@ -94,7 +94,7 @@ after-holds at o os pre b len h =
     record { meaning = (h.k, (h.outer, h.row ++ (h.blanks ++ 44 ∷ []), comma, h.here, further o.terms h.row h.blanks [] h.spells h.are_blanks refl)) })
     (λ e. noticed pre b (Unexpected at) len)))
 
--- the byte behind an integer or a name
+-- the byte after an integer or a name
 pub behind-holds : (at : ℕ) (os : List OpenBracket) (pre s : List ℕ) (t : Term) (b : ℕ) (a : At os pre s) → at ≡ length pre → Spells (suc a.k) s t → ((rest : List ℕ) → Ends s (b ∷ rest))
     → Holds (pre ++ b ∷ []) (next_behind at (put os t at) b)
 behind-holds at [] pre s t b a len sp ends = record {
@@ -120,7 +120,7 @@ pub hash-text : (s : List ℕ) → Closed (35 ∷ s)
 unfolding is_digit is_small
 hash-text s = record { some = omega arith; no-number = refl; no-name = refl }
 
--- the place behind what stands of a form
+-- the offset after the bytes of a form
 pub behind-form : (os : List OpenBracket) (pre s : List ℕ) (at : ℕ) (a : At os pre s) → at ≡ length pre → at ≡ length a.p + length s
 behind-form os pre s at a len = omega (arith, len, ap length a.cut, length-append a.p s)
 
@@ -130,7 +130,7 @@ framed-start pid m n at h e = e
 framed-start identifier m n at h e = e
 framed-start (byte bs) m n at h e = e
 
--- signs that must come
+-- signs that must follow
 expect-holds : (at : ℕ) (cs : List ℕ) (goal : Expect) (os : List OpenBracket) (pre s : List ℕ) → at ≡ length pre → At os pre s → Leads (s ++ cs) goal → Closed s → Holds pre (expect at cs goal os)
 expect-holds at [] (whole t) os pre s len a l c = put-holds os pre s t at a (let P : List ℕ → Type 0 = λ w. Spells (suc a.k) w t in subst P (append-nil s) (l a.k)) len (λ rest. closed-ends s rest c)
 expect-holds at [] (digits kind) os pre s len a l c = record { meaning = (s, (let P : List ℕ → Type 0 = λ w. LeadsNumber kind w in subst P (append-nil s) l.0), a, framed-start kind (length a.p) (length a.p + length s) at l.1 (behind-form os pre s at a len)) }

@@ -1,4 +1,4 @@
--- What is spelled so is read so, whatever brackets stand round it.
+-- The automaton reads each spelling as its term, in any open brackets.
 use Rattle.std.proofs.Common.{ℕ, ◌≡◌, refl, ap, ◌∙◌, ◌+◌, ◌<◌, ◌≤◌, ◌++◌, List, [], ◌∷◌, length, map, arith, Bool, true, false, append_assoc, length-append}
 use Rattle.ets_term.specs.declared.term.Term.{Term}
 use Rattle.ets_term.specs.declared.term.Term.TheVariants.{Atom, Pid, Tid, List as ListOf}
@@ -116,7 +116,7 @@ mutual
       ∙ term_text j s t sp p3 false (holding square us ∷ os) rest fin (omega (arith, room)) (no-name-ends s rest stop)
       (omega (arith, e, length-append r (before ++ 44 ∷ (behind ++ s)), length-append before (44 ∷ (behind ++ s)), length-append behind s))
 
--- What is in front of a text is what the text gives.
+-- the term at the front of a text is the result of the text
 pub front-read : (text : List ℕ) (t : Term) (n : ℕ) → Front text t n → reading text ≡ found t n
 front-read text t n f =
     let fin : n ≡ length f.blanks + length f.spelling = f.taken ∙ length-append f.blanks f.spelling in

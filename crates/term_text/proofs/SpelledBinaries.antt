@@ -1,4 +1,4 @@
--- Binaries that are spelled so are read so.
+-- The automaton reads each spelling of a binary.
 use Rattle.std.proofs.Common.{ℕ, ◌≡◌, refl, ap, ◌∙◌, ◌+◌, ◌++◌, ◌==◌, List, [], ◌∷◌, length, arith, false, append_assoc, length-append}
 use Rattle.ets_term.specs.declared.term.Term.TheVariants.{Binary}
 use Rattle.term_text.specs.declared.quote_form.QuoteForm.TheVariants as form
@@ -36,7 +36,7 @@ bytes-text at os row bs rest fin (more r before behind s us n sp h i num) k e =
     ∙ number-text p3 p3 (byte us) os s rest n fin (record { some = num.some; each = num.each; value = num.value; fits = num.fits }) k
     (omega (arith, e, length-append r (before ++ 44 ∷ (behind ++ s)), length-append before (44 ∷ (behind ++ s)), length-append behind s))
 
--- a binary, behind its `<<`
+-- a binary after its `<<`
 binary-end : (at : ℕ) (bs : List ℕ) (os : List OpenBracket) (rest : List ℕ) (fin : ℕ) → fin ≡ at + 2 → read_from at (expect at (62 ∷ 62 ∷ []) (whole (Binary bs)) os) (62 ∷ 62 ∷ rest) ≡ read_from fin (put os (Binary bs) fin) rest
 binary-end at bs os rest fin e = signs-text at (62 ∷ 62 ∷ []) (whole (Binary bs)) os rest fin e
 

@@ -1,4 +1,4 @@
--- Integers, atoms without quotes, pids and identifiers that are spelled so are read so.
+-- The automaton reads each spelling of an integer, unquoted atom, pid or identifier.
 use Rattle.std.proofs.Common.{ℕ, ◌≡◌, refl, ap, sym, ◌∙◌, ◌+◌, ◌-◌, ◌<◌, ◌≤◌, ◌++◌, ◌==◌, ◌||◌, List, [], ◌∷◌, length, take, drop, arith, Bool, true, false, append_assoc, length-append}
 use Rattle.std.proofs.lemmas.Bool.{false≢true, and_parts}
 use Rattle.std.proofs.Math.Seq.{drop-append_seam, take-append_seam}

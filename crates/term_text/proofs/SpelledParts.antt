@@ -1,4 +1,4 @@
--- Numbers, blanks and signs that are spelled so are read so.
+-- The automaton reads each spelling of numbers, blanks and signs.
 use Rattle.std.proofs.Common.{ℕ, ◌≡◌, refl, ap, sym, ◌∙◌, ◌+◌, ◌-◌, ◌*◌, ◌++◌, List, [], ◌∷◌, length, drop, arith, Bool, true, false}
 use Rattle.std.proofs.lemmas.Bool.{false≢true, and_parts}
 use Rattle.std.proofs.Math.Seq.{drop-append_seam}

@@ -1,4 +1,4 @@
--- What is spelled so in quotes is read so.
+-- The automaton reads each spelling in quotes.
 use Rattle.std.proofs.Common.{ℕ, ◌≡◌, refl, ap, ◌∙◌, ◌+◌, ◌≤◌, ◌++◌, ◌==◌, List, [], ◌∷◌, length, arith, rules, false, append_assoc, length-append}
 use Rattle.std.proofs.lemmas.Bool.{lt-leb}
 use Rattle.term_text.specs.declared.quote_form.QuoteForm.{QuoteForm}

@@ -1,4 +1,4 @@
--- Which fault a text has, by the grammar: one row a fault. `pre` is the text before the byte b at which it is noticed.
+-- The fault of a text by the grammar, one row for each kind. The text `pre` precedes the byte b that shows the fault.
 use Rattle.std.specs.Prelude.{◌≡◌, ℕ, suc, ◌+◌, ◌-◌, ◌*◌, ◌<◌, List, [], ◌∷◌, ◌++◌, length, true, false, ◌==◌, IsTrue, codes}
 use Rattle.std.specs.List.{list_all}
 use Rattle.ets_term.specs.Character.{is_character, max_characters}
@@ -10,26 +10,26 @@ use Rattle.term_text.specs.Forms.{OpenBracket, Number, integer, pid, identifier,
 use Rattle.term_text.specs.Grammar.{AreBlanks, SpellsNumber, SpellsQuoted, SpellsBytes, SpellsRow, opening_sign, Front}
 use Rattle.term_text.specs.Text.{apostrophe, quotation_mark, is_digit, is_small, is_name, begins, begins_term}
 
--- the text in a bracket up to where a term is wanted, behind these
+-- inner is the text in a bracket after the terms ts, up to where the next must begin
 pub data AwaitsItem (k : ℕ) : List Term → List ℕ → Type 0 where
   fresh : (blanks : List ℕ) → AreBlanks blanks → AwaitsItem k [] blanks
   further : (ts : List Term) (row before behind : List ℕ) → SpellsRow k row ts → AreBlanks before → AreBlanks behind
       → AwaitsItem k ts (row ++ (before ++ (codes "," ++ behind)))
 
--- the text up to where a term of at most k levels is wanted, in these open brackets
+-- pre ends where a term of at most k levels must begin, in these open brackets
 abbrev pub AwaitsTerm : ℕ → List OpenBracket → List ℕ → Type 0
 AwaitsTerm k [] pre = AreBlanks pre × (k ≡ max_depth)
 AwaitsTerm k (o ∷ os) pre =
     (outer inner : List ℕ) × (pre ≡ outer ++ (opening_sign o.square ∷ inner))
     × AwaitsTerm (suc k) os outer × AwaitsItem k o.terms inner
 
--- the bytes of a binary up to where a further one is wanted
+-- the text of a binary after its `<<` and these bytes, up to where the next byte must begin
 pub data AwaitsByte : List ℕ → List ℕ → Type 0 where
   opened : (blanks : List ℕ) → AreBlanks blanks → AwaitsByte [] blanks
   comma : (bs row before behind : List ℕ) → SpellsBytes row bs → AreBlanks before → AreBlanks behind
       → AwaitsByte bs (row ++ (before ++ (codes "," ++ behind)))
 
--- what stands before the digits of a number
+-- s is what precedes the digits of a number
 abbrev pub LeadsNumber : Number → List ℕ → Type 0
 LeadsNumber (integer true) s = s ≡ codes "-"
 LeadsNumber (integer false) s = s ≡ []
@@ -37,12 +37,12 @@ LeadsNumber pid s = s ≡ codes "<0."
 LeadsNumber identifier s = s ≡ codes "#Tid<"
 LeadsNumber (byte bs) s = (inner : List ℕ) × (s ≡ codes "<<" ++ inner) × AwaitsByte bs inner
 
--- where a number is told to begin: with its sign, or its first digit
+-- the offset of a number in a fault: that of an integer's sign, or of the first digit
 abbrev pub number_start : Number → ℕ → ℕ → ℕ
 number_start (integer below) form digits = form
 number_start kind form digits = digits
 
--- out of range: the digit b takes the number that begins at `start` past its range
+-- out of range: with the digit b the number that begins at `start` exceeds its range
 pub record PastRange (pre : List ℕ) (b start : ℕ) : Type 0 where
   pub os : List OpenBracket
   pub k : ℕ
@@ -59,7 +59,7 @@ pub record PastRange (pre : List ℕ) (b start : ℕ) : Type 0 where
   pub digit : is_digit b ≡ true
   pub past : max_magnitude kind < value * 10 + (b - 48)
 
--- an atom too long: b begins one character more than an atom has, of one that begins at `start`
+-- an atom too long: b begins one character too many of the atom that begins at `start`
 pub data PastAtom (pre : List ℕ) (b start : ℕ) : Type 0 where
   plain_form : (os : List OpenBracket) (k : ℕ) (lead s : List ℕ) → pre ≡ lead ++ s → AwaitsTerm (suc k) os lead → start ≡ length lead
       → IsTrue (begins is_small s) → IsTrue (list_all is_name s) → length s ≡ max_characters → is_name b ≡ true
@@ -75,7 +75,7 @@ pub data PastDepth (pre : List ℕ) (b : ℕ) : Type 0 where
   a_character : (os : List OpenBracket) (lead : List ℕ) → pre ≡ lead ++ codes "\"" → AwaitsTerm 1 os lead
       → is_character b ≡ true → (b == quotation_mark) ≡ false → PastDepth pre b
 
--- what a fault at the byte b says of the text before it
+-- what the fault says of the byte b and the text before it
 abbrev pub FaultMeans : List ℕ → ℕ → TextFault → Type 0
 FaultMeans pre b (Unexpected at) = at ≡ length pre
 FaultMeans pre b (OutOfRange at) = PastRange pre b at
@@ -84,18 +84,18 @@ FaultMeans pre b (AtomTooLong at) = PastAtom pre b at
 FaultMeans pre b (Unclosed at) = ⊥
 FaultMeans pre b Memory = ⊥
 
--- a row for its own reason; any other byte with which no text can go on is unexpected
+-- A byte that breaks a limit has that fault. Any other byte with which no text can continue is unexpected.
 abbrev pub IsFaultAt : List ℕ → ℕ → TextFault → Type 0
 IsFaultAt pre b (Unexpected at) =
     (at ≡ length pre) × ((start : ℕ) → PastRange pre b start → ⊥)
     × (PastDepth pre b → ⊥) × ((start : ℕ) → PastAtom pre b start → ⊥)
 IsFaultAt pre b f = FaultMeans pre b f
 
--- some text that begins so has a term at its front
+-- the bytes can be completed to a text that begins with a term
 abbrev pub Continues : List ℕ → Type 0
 Continues bs = (more : List ℕ) × (t : Term) × (n : ℕ) × Front (bs ++ more) t n
 
--- up to the byte b, and not with it, the text can go on
+-- the text can be completed up to the byte b, but not with it
 pub record IsNoticed (text : List ℕ) (f : TextFault) : Type 0 where
   pub pre : List ℕ
   pub b : ℕ
@@ -105,7 +105,7 @@ pub record IsNoticed (text : List ℕ) (f : TextFault) : Type 0 where
   pub behind : Continues (pre ++ b ∷ []) → ⊥
   pub told : IsFaultAt pre b f
 
--- the text can go on, and ends before it has a term
+-- the text can be completed, but does not begin with a term
 pub record EndsEarly (text : List ℕ) (at : ℕ) : Type 0 where
   pub length_is : at ≡ length text
   pub before : Continues text

@@ -1,33 +1,33 @@
--- The forms of numbers, characters and brackets in a text, and the terms that they stand for.
+-- The numbers, characters and brackets of a text, and their terms.
 use Rattle.std.specs.Prelude.{ℕ, zero, suc, ◌+◌, ◌-◌, ◌^◌, ℤ, pos, negsuc, List, Bool, true, false, if◌then◌else◌}
 use Rattle.ets_term.specs.Integers.{least, greatest}
 use Rattle.ets_term.specs.declared.term.Term.{Term}
 use Rattle.ets_term.specs.declared.term.Term.TheVariants.{Int, Tuple, List as ListOf}
 
--- The numbers that a text may have.
+-- the numbers of a text
 pub data Number : Type 0 where
-  integer : Bool → Number  -- an integer, below zero if true
+  integer : Bool → Number  -- an integer, negative if true
   pid : Number
   identifier : Number
-  byte : List ℕ → Number  -- a byte of a binary, behind these
+  byte : List ℕ → Number  -- a byte of a binary, after these
 
--- A bracket that is open, square or a brace, and the terms that stand in it so far.
+-- an open bracket, square or a brace, and the terms read in it
 pub record OpenBracket : Type 0 where
   pub square : Bool
   pub terms : List Term
 
--- the integer of this size, below zero if true
+-- the integer of this magnitude, negative if true
 abbrev pub signed : Bool → ℕ → ℤ
 signed true zero = pos 0
 signed true (suc n) = negsuc n
 signed false n = pos n
 
--- the size of an integer, without its sign
+-- the magnitude of an integer
 abbrev pub size : ℤ → ℕ
 size (pos n) = n
 size (negsuc n) = n + 1
 
--- the greatest size of a number
+-- the greatest magnitude of a number
 abbrev pub max_magnitude : Number → ℕ
 max_magnitude (integer true) = size least
 max_magnitude (integer false) = size greatest
@@ -35,6 +35,7 @@ max_magnitude pid = 2 ^ 32 - 1
 max_magnitude identifier = 2 ^ 32 - 1
 max_magnitude (byte bs) = 2 ^ 8 - 1
 
+-- the list or tuple of a bracket
 abbrev pub bracket : OpenBracket → Term
 bracket o = if o.square then ListOf o.terms else Tuple o.terms
 

@@ -1,4 +1,4 @@
--- The text of terms: what spells a term, by cases on the term.
+-- The grammar of terms: the texts that spell a term.
 use Rattle.std.specs.Prelude.{◌≡◌, ℕ, suc, ◌<◌, ◌≤◌, List, [], ◌∷◌, ◌++◌, length, map, Bool, true, false, ◌||◌, ◌==◌, if◌then◌else◌, IsTrue, codes}
 use Rattle.std.specs.List.{list_all}
 use Rattle.ets_term.specs.Character.{is_character, max_characters}
@@ -8,17 +8,18 @@ use Rattle.ets_term.specs.Depth.{max_depth}
 use Rattle.term_text.specs.Forms.{Number, integer, pid, identifier, byte, signed, max_magnitude, code, bracket}
 use Rattle.term_text.specs.Text.{apostrophe, quotation_mark, is_blank, is_digit, is_small, is_name, begins, spelled}
 
+-- each byte is blank
 abbrev pub AreBlanks : List ℕ → Type 0
 AreBlanks s = IsTrue (list_all is_blank s)
 
--- one digit or more, whose number is n and in the range of its kind; leading zeros are read
+-- one digit or more, of the number n, which is in the range of its kind; leading zeros are allowed
 pub record SpellsNumber (kind : Number) (s : List ℕ) (n : ℕ) : Type 0 where
   pub some : IsTrue (begins is_digit s)
   pub each : IsTrue (list_all is_digit s)
   pub value : spelled 0 s ≡ n
   pub fits : n ≤ max_magnitude kind
 
--- characters between quotes of this sign: the sign and `\` have a `\` before them
+-- characters between quotes of this sign: a `\` precedes the sign and each `\`
 pub data SpellsQuoted (quote : ℕ) : List ℕ → List ℕ → Type 0 where
   none : SpellsQuoted quote [] []
   plain : (s cs : List ℕ) (c : ℕ) → SpellsQuoted quote s cs
@@ -27,7 +28,7 @@ pub data SpellsQuoted (quote : ℕ) : List ℕ → List ℕ → Type 0 where
   escaped : (s cs : List ℕ) (c : ℕ) → SpellsQuoted quote s cs → ((c == quote) || (c == 92)) ≡ true
       → SpellsQuoted quote (s ++ (codes "\\" ++ c ∷ [])) (cs ++ c ∷ [])
 
--- the bytes of a binary, one or more, parted by commas
+-- the bytes of a binary, one or more, separated by commas
 pub data SpellsBytes : List ℕ → List ℕ → Type 0 where
   first : (before s : List ℕ) (n : ℕ) → AreBlanks before → SpellsNumber (byte []) s n
       → SpellsBytes (before ++ s) (n ∷ [])
@@ -35,7 +36,7 @@ pub data SpellsBytes : List ℕ → List ℕ → Type 0 where
       → AreBlanks before → AreBlanks behind → SpellsNumber (byte []) s n
       → SpellsBytes (row ++ (before ++ (codes "," ++ (behind ++ s)))) (bs ++ n ∷ [])
 
--- the sign that opens a list, or a tuple, and the one that closes it
+-- the signs that open and close a list or a tuple
 abbrev pub opening_sign : Bool → ℕ
 opening_sign square = if square then 91 else 123
 
@@ -43,7 +44,7 @@ abbrev pub closing_sign : Bool → ℕ
 closing_sign square = if square then 93 else 125
 
 mutual
-  -- the spellings of a term that has at most this many levels
+  -- the spellings of a term of at most k levels
   pub data Spells : ℕ → List ℕ → Term → Type 0 where
     positive : (k : ℕ) (s : List ℕ) (n : ℕ) → SpellsNumber (integer false) s n → Spells (suc k) s (Int (signed false n))
     negative : (k : ℕ) (s : List ℕ) (n : ℕ) → SpellsNumber (integer true) s n
@@ -75,7 +76,7 @@ mutual
         → Spells (suc k) (opening_sign square ∷ (row ++ (behind ++ closing_sign square ∷ [])))
         (bracket (record { square = square; terms = ts }))
 
-  -- the terms in a bracket, one or more, parted by commas
+  -- the terms in a bracket, one or more, separated by commas
   pub data SpellsRow : ℕ → List ℕ → List Term → Type 0 where
     first_term : (k : ℕ) (before s : List ℕ) (t : Term) → AreBlanks before → Spells k s t
         → SpellsRow k (before ++ s) (t ∷ [])
@@ -83,7 +84,7 @@ mutual
         → AreBlanks before → AreBlanks behind → Spells k s t
         → SpellsRow k (row ++ (before ++ (codes "," ++ (behind ++ s)))) (ts ++ t ∷ [])
 
--- An integer and an atom without quotes take each further byte that can belong to them.
+-- an integer or an unquoted atom ends only before a byte that cannot belong to it
 abbrev pub Ends : List ℕ → List ℕ → Type 0
 Ends s rest =
     (begins (λ b. is_digit b || (b == 45)) s ≡ true → begins is_digit rest ≡ false)

@@ -6,22 +6,23 @@ use Rattle.ets_term.specs.declared.term.Term.{Term, fold-Term}
 use Rattle.ets_term.specs.declared.term.Term.TheOpen.{Term-F}
 use Rattle.term_text.specs.Text.{is_small, is_name, begins}
 
--- a small letter, then letters, digits, `_` and `@`
+-- a lowercase letter, then letters, digits, `_` and `@`: an atom that needs no quotes
 abbrev pub is_plain : List ℕ → Bool
 is_plain s = begins is_small s && list_all is_name s
 
--- a character between single quotes: a quote and a `\` have a `\` before them
+-- a character between single quotes: a `\` precedes a quote and a `\`
 abbrev pub escaped : ℕ → List ℕ
 escaped c = if (c == 39) || (c == 92) then codes "\\" ++ c ∷ [] else c ∷ []
 
+-- the text of an atom
 abbrev pub atom_text : List ℕ → List ℕ
 atom_text s = if is_plain s then s else codes "'" ++ (flat_map escaped s ++ codes "'")
 
--- a comma, where something stands before
+-- a comma, except before the first
 abbrev pub comma_if : Bool → List ℕ
 comma_if later = if later then codes "," else []
 
--- texts parted by commas
+-- texts separated by commas
 abbrev pub row_text : Bool → List (List ℕ) → List ℕ
 row_text later [] = []
 row_text later (s ∷ ss) = comma_if later ++ (s ++ row_text true ss)
@@ -36,5 +37,6 @@ printed_form (Term-F.Tuple ss) = codes "{" ++ (row_text false ss ++ codes "}")
 printed_form (Term-F.List ss) = codes "[" ++ (row_text false ss ++ codes "]")
 printed_form (Term-F.Binary bs) = codes "<<" ++ (row_text false (map decimal bs) ++ codes ">>")
 
+-- the printed text of a term
 abbrev pub printed : Term → List ℕ
 printed = fold-Term (List ℕ) printed_form

@@ -1,5 +1,4 @@
--- The reader of a term's text, which takes one byte after the other. A fault is noticed at the byte where it has no
--- next state.
+-- The automaton that reads a term, one byte after another. It has a fault at the byte for which it has no next state.
 use Rattle.std.specs.Prelude.{ℕ, ◌+◌, ◌-◌, ◌*◌, List, [], ◌∷◌, ◌++◌, length, map, Bool, true, false, ◌||◌, ◌==◌, nat_le, if◌then◌else◌, codes}
 use Rattle.ets_term.specs.Character.{is_character, max_characters}
 use Rattle.ets_term.specs.declared.term.Term.{Term}
@@ -12,31 +11,31 @@ use Rattle.term_text.specs.declared.quote_form.QuoteForm.TheVariants as form
 pub use Rattle.term_text.specs.Forms.{OpenBracket, Number, integer, pid, identifier, byte, signed, size, max_magnitude, bracket, code}
 use Rattle.term_text.specs.Text.{apostrophe, quotation_mark, is_blank, is_digit, is_name, closes, begins_term}
 
--- What stands behind signs that must come.
+-- what must follow some fixed signs
 pub data Expect : Type 0 where
   whole : Term → Expect
   digits : Number → Expect
 
--- What may come next. A number or an atom that has begun keeps where it did.
+-- What may come next. A number or an atom keeps the offset where it began.
 pub data Mode : Type 0 where
   wants : Bool → Mode  -- a term; or, if true, the sign that closes the bracket just opened
   digit : Number → ℕ → Mode  -- the first digit of a number
-  number : Number → ℕ → ℕ → Mode  -- a further digit, behind those of this value
+  number : Number → ℕ → ℕ → Mode  -- a further digit, after those of this value
   name : ℕ → List ℕ → Mode  -- a further character of an atom without quotes
   quoted : QuoteForm → List ℕ → Mode  -- a further character in quotes, or the quote that closes
-  escaped : QuoteForm → List ℕ → Mode  -- the quote or `\` behind a `\`
+  escaped : QuoteForm → List ℕ → Mode  -- the quote or `\` after a `\`
   signs : List ℕ → Expect → Mode  -- these signs
-  angle : Mode  -- behind `<`, the `<` of a binary or the `0` of a pid
+  angle : Mode  -- after `<`, the `<` of a binary or the `0` of a pid
   opened_binary : Mode  -- a byte, a string or the closing sign of a binary just opened
   wants_byte : List ℕ → Mode  -- a further byte of a binary
   behind_byte : List ℕ → Mode  -- a comma or the closing sign
   behind_string : List ℕ → Mode  -- the closing sign of a binary
-  after : Mode  -- in a bracket, behind a term: a comma or the sign that closes
+  after : Mode  -- in a bracket, after a term: a comma or the closing sign
 
--- What was read so far, or the end of it. The open brackets are listed from the innermost.
+-- The state: a mode in open brackets, listed from the innermost, or the result.
 pub data Reading : Type 0 where
   reads_on : Mode → List OpenBracket → Reading
-  found : Term → ℕ → Reading  -- the term that the text begins with, and how many bytes it takes
+  found : Term → ℕ → Reading  -- the term that the text begins with, and the number of its bytes
   fails : TextFault → Reading
 
 abbrev pub opening : Bool → OpenBracket
@@ -45,12 +44,12 @@ opening square = record { square = square; terms = [] }
 abbrev pub with_term : OpenBracket → Term → OpenBracket
 with_term o t = record { square = o.square; terms = o.terms ++ t ∷ [] }
 
--- a term is whole, and n bytes are taken
+-- a term is complete after n bytes
 abbrev pub put : List OpenBracket → Term → ℕ → Reading
 put [] t n = found t n
 put (o ∷ os) t n = reads_on after (with_term o t ∷ os)
 
--- before the byte n, with these signs still to come
+-- after n bytes, with these signs still to come
 abbrev pub expect : ℕ → List ℕ → Expect → List OpenBracket → Reading
 expect n [] (whole t) os = put os t n
 expect n [] (digits kind) os = reads_on (digit kind n) os
@@ -75,7 +74,7 @@ begin at os b = if begins_term b
     else reads_on (name at (b ∷ [])) os)
     else fails (Unexpected at)
 
--- a byte behind a term in a bracket
+-- a byte after a term in a bracket
 abbrev pub next_after : ℕ → List OpenBracket → ℕ → Reading
 next_after at [] b = fails (Unexpected at)
 next_after at (o ∷ os) b = if closes o.square b then put os (bracket o) (at + 1)
@@ -83,18 +82,18 @@ next_after at (o ∷ os) b = if closes o.square b then put os (bracket o) (at + 
     else if b == 44 then reads_on (wants false) (o ∷ os)
     else fails (Unexpected at)
 
--- the byte behind an integer or a name, which is thereby whole
+-- the byte after an integer or a name, which it ends
 abbrev pub next_behind : ℕ → Reading → ℕ → Reading
 next_behind at (reads_on mode os) b = next_after at os b
 next_behind at (found t n) b = found t n
 next_behind at (fails f) b = fails f
 
--- a byte where a bracket has just been opened
+-- the first byte in a bracket
 abbrev pub next_opened : ℕ → List OpenBracket → ℕ → Reading
 next_opened at [] b = begin at [] b
 next_opened at (o ∷ os) b = if closes o.square b then put os (bracket o) (at + 1) else begin at (o ∷ os) b
 
--- the signs behind the bytes of a binary
+-- the signs after the bytes of a binary
 abbrev pub binary_ends : ℕ → List ℕ → List OpenBracket → ℕ → Reading
 binary_ends at bs os b = next_sign at (codes ">>") (whole (Binary bs)) os b
 
@@ -103,7 +102,7 @@ next_behind_byte at bs os b = if is_blank b then reads_on (behind_byte bs) os
     else if b == 44 then reads_on (wants_byte bs) os
     else binary_ends at bs os b
 
--- the byte behind the digits of a number
+-- the byte after the digits of a number
 abbrev pub next_behind_number : ℕ → Number → ℕ → List OpenBracket → ℕ → Reading
 next_behind_number at (integer below) n os b = next_behind at (put os (Int (signed below n)) at) b
 next_behind_number at pid n os b = next_sign at (codes ".0>") (whole (Pid n)) os b
@@ -125,14 +124,14 @@ quote (form.Atom start) = apostrophe
 quote form.String = quotation_mark
 quote form.Binary = quotation_mark
 
--- behind the closing quote, n bytes being taken; a string stands for the list of its characters' codes
+-- after the closing quote and n bytes; a string is the list of its characters' codes
 abbrev pub unquoted : ℕ → QuoteForm → List ℕ → List OpenBracket → Reading
 unquoted n (form.Atom start) cs os = put os (Atom cs) n
 unquoted n form.String cs os = put os (ListOf (map code cs)) n
 unquoted n form.Binary cs os = reads_on (behind_string cs) os
 
--- the first byte of a further character, behind n others: an atom has max_characters at most, and those of a string
--- stand one level further in
+-- the first byte of a further character after n others: an atom has at most max_characters, and the characters of a
+-- string are one level further in
 abbrev pub admits : ℕ → QuoteForm → ℕ → List OpenBracket → Reading → Reading
 admits at (form.Atom start) n os s = if n == max_characters then fails (AtomTooLong start) else s
 admits at form.String n os s = if nat_le (max_depth - 1) (length os) then fails (TooDeep at) else s
@@ -170,13 +169,13 @@ next at (behind_byte bs) os b = next_behind_byte at bs os b
 next at (behind_string bs) os b = if is_blank b then reads_on (behind_string bs) os else binary_ends at bs os b
 next at after os b = next_after at os b
 
--- A text that has been read, or has a fault, takes further bytes without change.
+-- A result does not change with further bytes.
 abbrev pub take_byte : ℕ → Reading → ℕ → Reading
 take_byte at (reads_on mode os) b = next at mode os b
 take_byte at (found t n) b = found t n
 take_byte at (fails f) b = fails f
 
--- the end of the text behind a term
+-- the end of the text after a term
 abbrev pub closed : ℕ → Reading → Reading
 closed at (reads_on mode os) = fails (Unclosed at)
 closed at (found t n) = found t n
@@ -193,11 +192,11 @@ end at (reads_on mode os) = ending at mode os
 end at (found t n) = found t n
 end at (fails f) = fails f
 
--- from the state before the byte at, over the rest of the text
+-- the result from a state before the byte at, over the rest of the text
 abbrev pub read_from : ℕ → Reading → List ℕ → Reading
 read_from at s [] = end at s
 read_from at s (b ∷ bs) = read_from (at + 1) (take_byte at s b) bs
 
--- what the text gives: a term and the number of its bytes, or the fault at the first byte that has no next state
+-- the result of a text: a term and the number of its bytes, or the fault at the first byte that has no next state
 abbrev pub reading : List ℕ → Reading
 reading bs = read_from 0 (reads_on (wants false) []) bs

@@ -1,4 +1,4 @@
--- What is printed is read back.
+-- A printed term is read back.
 use Rattle.std.specs.Prelude.{◌≡◌, ℕ, ◌≤◌, List, ◌++◌, length}
 use Rattle.ets_term.specs.Depth.{depth, max_depth}
 use Rattle.ets_term.specs.Fits.{Fits}
@@ -7,8 +7,8 @@ use Rattle.term_text.specs.Grammar.{Ends}
 use Rattle.term_text.specs.Reader.{found, reading}
 use Rattle.term_text.specs.Printed.{printed}
 
--- The printed text of a term of at most max_depth levels is read as this term, to its last byte, unless what stands
--- behind it goes on with its integer or its atom without quotes.
+-- The printed text of a term of at most max_depth levels is read as this term, to its last byte, if the text after it
+-- does not continue its integer or unquoted atom.
 abbrev pub ReadsBack : Term → List ℕ → Type 0
 ReadsBack t rest =
     Fits t → depth t ≤ max_depth → Ends (printed t) rest

@@ -1,4 +1,4 @@
--- What a text that is sent piece by piece leaves.
+-- What a sink contains after a text was sent to it.
 use Rattle.std.specs.Prelude.{◌≡◌, ℕ, List, ◌++◌, Option, Result, Ok, Err}
 use Rattle.std.specs.Io.KnownBytes.{Appends}
 
@@ -6,7 +6,7 @@ use Rattle.std.specs.Io.KnownBytes.{Appends}
 abbrev pub AppendsFront : Option (List ℕ) → Option (List ℕ) → List ℕ → Type 0
 AppendsFront old new text = (sent rest : List ℕ) × (text ≡ sent ++ rest) × Appends old new sent
 
--- the text was appended, or after a fault a prefix of it
+-- the text was appended or, if the call failed, a prefix of it
 abbrev pub AppendsOrFront : {A E : Type 0} → Option (List ℕ) → Option (List ℕ) → List ℕ → Result A E → Type 0
 AppendsOrFront old new text (Ok x) = Appends old new text
 AppendsOrFront old new text (Err e) = AppendsFront old new text

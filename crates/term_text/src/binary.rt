@@ -1,10 +1,10 @@
-//! Binaries, pids and table identifiers.
+//! Reads binaries, pids and table identifiers.
 ghost use Rattle.std.specs.Prelude.{◌≡◌, ◌+◌, ◌≤◌, ◌<◌, ◌∷◌, [], List, true, length, IfOk, codes};
 ghost use Rattle.term_text.specs.Reader.{OpenBracket, byte, digit, quoted, reads_on, opened_binary, angle, expect, digits, pid, identifier};
 ghost use Rattle.term_text.specs.inside.Parts.{Reads, ReadsBytes};
 ghost use Rattle.term_text.specs.declared.quote_form.QuoteForm.TheVariants as form;
 
-use crate::bytes::{digit_at, past_blanks, byte_is};
+use crate::bytes::{byte_is, digit_at, past_blanks};
 use crate::fault::TextFault;
 use crate::number::{Magnitude, literal_at, number_at};
 use crate::quote_form::QuoteForm;
@@ -12,7 +12,7 @@ use crate::quoted::quoted_at;
 use ets_term::{Items, Term};
 use std::alloc::Global;
 
-/// The bytes of a binary, of which there is one here, and where the sign behind them must stand.
+/// Reads the bytes of a binary, one or more, and returns them with the offset after them and blanks.
 #[tactic(auto, using(crate::proofs::Binaries::bytes_end, crate::proofs::Binaries::comma_byte, crate::proofs::Binaries::wants_digit, crate::proofs::Blanks::behind_byte_ignores, crate::proofs::Blanks::wants_byte_ignores, crate::proofs::Places::begins_in))]
 fn bytes_at(alloc: Global, text: &[u8], at: usize) -> Result<(Items<u8>, usize), TextFault>
     requires { at ≤ length text.now }
@@ -32,7 +32,7 @@ fn bytes_at(alloc: Global, text: &[u8], at: usize) -> Result<(Items<u8>, usize),
     }
 }
 
-/// A binary of bytes, behind its `<<` and blanks.
+/// Reads a binary of bytes, after its `<<` and blanks.
 fn byte_binary_at(alloc: Global, text: &[u8], at: usize) -> Result<(Term, usize), TextFault>
     requires { at ≤ length text.now }
     ensures within { IfOk result (λ x. (at ≤ x.1) × (x.1 ≤ length text.now)) }
@@ -43,7 +43,7 @@ fn byte_binary_at(alloc: Global, text: &[u8], at: usize) -> Result<(Term, usize)
     Ok((Term::Binary(bytes), end))
 }
 
-/// A binary of a string, behind the opening quote.
+/// Reads a binary of a string, after the opening quote.
 #[tactic(auto, using(crate::proofs::Binaries::string_ends, crate::proofs::Blanks::behind_string_ignores))]
 fn string_binary_at(alloc: Global, text: &[u8], at: usize) -> Result<(Term, usize), TextFault>
     requires { at ≤ length text.now }
@@ -56,7 +56,7 @@ fn string_binary_at(alloc: Global, text: &[u8], at: usize) -> Result<(Term, usiz
     Ok((Term::Binary(bytes), end))
 }
 
-/// A binary, behind its `<<`.
+/// Reads a binary after its `<<`.
 #[tactic(auto, using(crate::proofs::Binaries::opened_quote, crate::proofs::Binaries::opened_digit, crate::proofs::Binaries::opened_ends, crate::proofs::Blanks::opened_binary_ignores, crate::proofs::Places::reads_along, crate::proofs::Places::begins_in))]
 fn binary_at(alloc: Global, text: &[u8], at: usize) -> Result<(Term, usize), TextFault>
     requires { at ≤ length text.now }
@@ -74,7 +74,7 @@ fn binary_at(alloc: Global, text: &[u8], at: usize) -> Result<(Term, usize), Tex
     Ok((Term::Binary(Items::new(alloc)), end))
 }
 
-/// A pid, behind its `<0`.
+/// Reads a pid after its `<0`.
 fn pid_at(text: &[u8], at: usize) -> Result<(Term, usize), TextFault>
     requires { at ≤ length text.now }
     ensures within { IfOk result (λ x. (at ≤ x.1) × (x.1 ≤ length text.now)) }
@@ -86,7 +86,7 @@ fn pid_at(text: &[u8], at: usize) -> Result<(Term, usize), TextFault>
     Ok((Term::Pid(n as u32), end))
 }
 
-/// A table identifier, behind its `#`.
+/// Reads a table identifier after its `#`.
 pub(crate) fn identifier_at(text: &[u8], at: usize) -> Result<(Term, usize), TextFault>
     requires { at ≤ length text.now }
     ensures within { IfOk result (λ x. (at ≤ x.1) × (x.1 ≤ length text.now)) }
@@ -98,7 +98,7 @@ pub(crate) fn identifier_at(text: &[u8], at: usize) -> Result<(Term, usize), Tex
     Ok((Term::Tid(n as u32), end))
 }
 
-/// A pid or a binary, behind its `<`.
+/// Reads a pid or a binary after its `<`.
 pub(crate) fn angle_at(alloc: Global, text: &[u8], at: usize) -> Result<(Term, usize), TextFault>
     requires { at ≤ length text.now }
     ensures within { IfOk result (λ x. (at ≤ x.1) × (x.1 ≤ length text.now)) }

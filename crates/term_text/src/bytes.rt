@@ -1,4 +1,4 @@
-//! Bytes by what they may stand for, and runs of them.
+//! Classes of bytes, and runs of blanks and names.
 ghost use Rattle.std.specs.Prelude.{◌≡◌, ◌+◌, ◌≤◌, ◌==◌, length, drop, false};
 ghost use Rattle.ets_term.specs.Character.{is_character};
 ghost use Rattle.std.specs.List.{prefix_len};
@@ -6,6 +6,7 @@ ghost use Rattle.term_text.specs.Reader.{Reading};
 ghost use Rattle.term_text.specs.inside.Parts.{IgnoresBlanks, Reaches};
 ghost use Rattle.term_text.specs.Text.{is_blank, is_digit, is_small, is_name, closes, begins_term, begins};
 
+/// Returns whether the byte is a space, tab, line feed or carriage return.
 #[tactic(auto, unfolding(crate::specs::Text::is_blank))]
 pub(crate) fn is_blank_byte(b: u8) -> bool
     ensures { result ≡ is_blank b }
@@ -13,7 +14,7 @@ pub(crate) fn is_blank_byte(b: u8) -> bool
     b == b' ' || b == b'\t' || b == b'\n' || b == b'\r'
 }
 
-/// Whether the byte is a digit.
+/// Returns whether the byte is a digit from `0` to `9`.
 #[tactic(auto, unfolding(crate::specs::Text::is_digit))]
 pub fn is_digit_byte(b: u8) -> bool
     ensures { result ≡ is_digit b }
@@ -21,7 +22,7 @@ pub fn is_digit_byte(b: u8) -> bool
     b >= b'0' && b <= b'9'
 }
 
-/// Whether the byte is a letter from a to z, with which a name begins.
+/// Returns whether the byte is a letter from `a` to `z`, as a name begins with.
 #[tactic(auto, unfolding(crate::specs::Text::is_small))]
 pub fn is_small_byte(b: u8) -> bool
     ensures { result ≡ is_small b }
@@ -29,7 +30,7 @@ pub fn is_small_byte(b: u8) -> bool
     b >= b'a' && b <= b'z'
 }
 
-/// Whether a name goes on with the byte: letters, digits, `_` and `@`.
+/// Returns whether the byte may follow in a name: an ASCII letter, a digit, `_` or `@`.
 #[tactic(auto, unfolding(crate::specs::Text::is_name))]
 pub fn is_name_byte(b: u8) -> bool
     ensures { result ≡ is_name b }
@@ -37,6 +38,7 @@ pub fn is_name_byte(b: u8) -> bool
     is_small_byte(b) || (b >= b'A' && b <= b'Z') || is_digit_byte(b) || b == b'_' || b == b'@'
 }
 
+/// Returns whether the byte closes the bracket.
 #[tactic(auto, unfolding(crate::specs::Text::closes))]
 pub(crate) fn is_closing_byte(square: bool, b: u8) -> bool
     ensures { result ≡ closes square b }
@@ -44,6 +46,7 @@ pub(crate) fn is_closing_byte(square: bool, b: u8) -> bool
     if square { b == b']' } else { b == b'}' }
 }
 
+/// Returns whether a term can begin with the byte.
 #[tactic(auto, unfolding(crate::specs::Text::begins_term))]
 pub(crate) fn is_first_byte(b: u8) -> bool
     ensures { result ≡ begins_term b }
@@ -59,14 +62,14 @@ pub(crate) fn is_first_byte(b: u8) -> bool
         || is_small_byte(b)
 }
 
-/// Whether the byte is printable ASCII, from the space to the tilde.
+/// Returns whether the byte is printable ASCII, from the space to the tilde.
 pub fn is_character_byte(b: u8) -> bool
     ensures { result ≡ is_character b }
 {
     b >= b' ' && b <= b'~'
 }
 
-/// Whether this sign stands here.
+/// Returns whether the text has this byte at the offset.
 #[tactic(auto, using(crate::proofs::Places::begins_at, crate::proofs::Places::begins_end))]
 pub(crate) fn byte_is(text: &[u8], at: usize, sign: u8) -> bool
     ensures { result ≡ begins (λ b. b == sign) (drop at text.now) }
@@ -74,7 +77,7 @@ pub(crate) fn byte_is(text: &[u8], at: usize, sign: u8) -> bool
     at < text.len() && text[at] == sign
 }
 
-/// Whether a digit stands here.
+/// Returns whether the text has a digit at the offset.
 #[tactic(auto, using(crate::proofs::Places::begins_at, crate::proofs::Places::begins_end))]
 pub(crate) fn digit_at(text: &[u8], at: usize) -> bool
     ensures { result ≡ begins is_digit (drop at text.now) }
@@ -82,7 +85,7 @@ pub(crate) fn digit_at(text: &[u8], at: usize) -> bool
     at < text.len() && is_digit_byte(text[at])
 }
 
-/// Where the blanks that begin at this byte end.
+/// Returns the offset of the first byte from `at` on that is not blank.
 #[tactic(auto, using(crate::proofs::Blanks::stops_here, crate::proofs::Blanks::stops_end, crate::proofs::Blanks::stays_more))]
 pub(crate) fn past_blanks(text: &[u8], at: usize) -> usize
     requires { at ≤ length text.now }
@@ -97,7 +100,7 @@ pub(crate) fn past_blanks(text: &[u8], at: usize) -> usize
     place
 }
 
-/// Where the characters of a name that begin at this byte end.
+/// Returns the offset of the first byte from `at` on that no name contains.
 pub(crate) fn past_name(text: &[u8], at: usize) -> usize
     requires { at ≤ length text.now }
     ensures end { result ≡ at + prefix_len is_name (drop at text.now) }

@@ -3,25 +3,25 @@ ghost use Rattle.term_text.specs.Given.{offset};
 
 use std::alloc::{AllocError, AllocFailed};
 
-/// Why a text is no term, and at which byte, counted from 0.
+/// A syntax error: why a text does not begin with a term. Offsets are in bytes, from 0.
 #[derive(Debug, Clone, Copy, PartialEq, Eq)]
 pub enum TextFault {
-    /// A byte with which no term can go on.
+    /// No term continues with the byte at this offset.
     Unexpected(usize),
-    /// The text ends before the term is whole; the length of the text.
+    /// The text ends inside the term; the value is the length of the text.
     Unclosed(usize),
-    /// A number past its range; its first byte, a sign included.
+    /// A number is out of its range. It begins at this offset, with its minus sign if it has one.
     OutOfRange(usize),
-    /// A term, or a string's character, at level 129.
+    /// A term, or a character of a string, is at level 129.
     TooDeep(usize),
-    /// An atom of more than 255 characters; its first byte.
+    /// An atom has more than 255 characters. It begins at this offset.
     AtomTooLong(usize),
-    /// Memory ran out.
+    /// Memory ran out. The text may be correct.
     Memory,
 }
 
 impl TextFault {
-    /// The byte at which the fault is told; none where memory ran out.
+    /// Returns the offset of the fault in bytes, or `None` if memory ran out.
     pub fn at(&self) -> Option<usize>
         ensures { result ≡ offset self.now }
     {

@@ -1,4 +1,4 @@
-//! Integers.
+//! Reads integers.
 ghost use Rattle.std.specs.Prelude.{◌≡◌, ◌≤◌, List, length, IfOk};
 ghost use Rattle.term_text.specs.Reader.{OpenBracket, integer, digit, reads_on, signed, max_magnitude};
 ghost use Rattle.term_text.specs.inside.Parts.{Reads};
@@ -7,7 +7,7 @@ use crate::fault::TextFault;
 use crate::number::{Magnitude, number_at};
 use ets_term::{Integer, Term};
 
-/// The greatest size of an integer.
+/// Returns the greatest magnitude of a negative or other integer.
 fn integer_limit(negative: bool) -> Magnitude
     ensures { result ≡ max_magnitude (integer negative) }
 {
@@ -15,6 +15,7 @@ fn integer_limit(negative: bool) -> Magnitude
     if negative { size + 1 } else { size }
 }
 
+/// Returns the integer of this magnitude and sign.
 #[tactic(auto, unfolding(crate::specs::Reader::signed))]
 fn signed_value(negative: bool, n: Magnitude) -> Integer
     requires { n ≤ max_magnitude (integer negative) }
@@ -29,7 +30,7 @@ fn signed_value(negative: bool, n: Magnitude) -> Integer
     }
 }
 
-/// The integer whose digits begin at this byte, and it itself at `start`.
+/// Reads the integer whose digits begin at `at`. With its sign it begins at `start`.
 pub(crate) fn integer_at(
     text: &[u8],
     at: usize,

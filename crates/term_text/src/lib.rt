@@ -1,18 +1,18 @@
-//! The text of terms: read exactly where the grammar has one, with the fault that is noticed first, and printed in one
-//! form.
+//! Reads the text of a term if it follows the grammar, or reports the first syntax error, and prints each term in one form.
 //!
-//! *Guarantee.* `read_term` answers a term and a number of bytes exactly where these bytes are blanks and a spelling of
-//! the term, of at most 128 levels, that ends there; else the fault whose reason stands at the first byte with which no
-//! text can go on. `print_term` and `write_term` give one text a term, which is read back as the term.
+//! *Guarantee.* `read_term` returns a term and a number of bytes only if these bytes are blanks and a spelling of the
+//! term. Otherwise it returns the fault of the first byte with which no text can continue, or of the text's end.
+//! `print_term` and `write_term` print one text per term, and `read_term` reads that text as the term.
 //!
-//! *Weakness.* Want of memory is answered by any call that takes memory: no contract says that memory is there.
+//! *Weakness.* Every function that allocates may run out of memory: no contract says when memory is available. If
+//! `write_term` fails, its contract says that a prefix of the text was written, but not why the writer failed.
 //!
-//! *Mechanism.* The definition is a reader that takes one byte after the other: a fault is where it has no next state.
-//! The code is a recursive descent with the levels that are left, one pass and no look back, each function of which is
-//! a part of that reader's way; digits, names and blanks are taken in bulk. Laws over texts tie it to the grammar.
+//! *Mechanism.* The code is a recursive descent in one pass, without backtracking, that counts the levels left. Digits,
+//! names and blanks are read in runs. The proofs go through a second definition: an automaton that takes one byte after
+//! another and has a fault where no next state exists. Laws tie the automaton to the grammar.
 //!
-//! *Limits.* A term is read at most 128 levels deep, so the descent needs little stack; a deeper one that a program
-//! made is printed too, by a walk as deep as the term. An atom has at most 255 characters, an integer 128 bits.
+//! *Limits.* `read_term` reads at most 128 levels, so its stack is bounded. The printer also prints deeper terms, by a
+//! recursion as deep as the term. An atom has at most 255 characters, an integer 128 bits.
 #![tactic(auto)]
 
 mod binary;

@@ -1,4 +1,4 @@
-//! Atoms without quotes.
+//! Reads atoms without quotes.
 ghost use Rattle.std.specs.Prelude.{◌≡◌, ◌+◌, ◌≤◌, ◌<◌, ◌∷◌, [], List, true, length, IfOk, slice_index};
 ghost use Rattle.term_text.specs.Reader.{OpenBracket, name, reads_on};
 ghost use Rattle.term_text.specs.inside.Parts.{Reads};
@@ -9,7 +9,7 @@ use crate::fault::TextFault;
 use ets_term::{Atom, MAX_CHARACTERS, Term};
 use std::alloc::Global;
 
-/// The atom that begins with a small letter at this byte.
+/// Reads the atom that begins with a lowercase letter at this offset.
 pub(crate) fn name_at(alloc: Global, text: &[u8], at: usize) -> Result<(Term, usize), TextFault>
     requires within { at < length text.now }
     requires small { is_small (slice_index text.now at) ≡ true }

@@ -1,4 +1,4 @@
-//! Numbers and fixed signs.
+//! Reads numbers and fixed signs.
 ghost use Rattle.std.specs.Prelude.{◌≡◌, ◌+◌, ◌-◌, ◌*◌, ◌≤◌, ◌<◌, ℕ, List, true, false, get_or, length, drop, IfOk, OnErr, MatchOption};
 ghost use Rattle.term_text.specs.inside.Parts.{digits_end, ReadsNumber, ReadsSigns};
 ghost use Rattle.term_text.specs.Text.{is_digit, spelled};
@@ -6,12 +6,13 @@ ghost use Rattle.term_text.specs.Text.{is_digit, spelled};
 use crate::bytes::is_digit_byte;
 use crate::fault::TextFault;
 
-/// The size of a number, without its sign.
+/// The magnitude of a number: its value without the sign.
 pub type Magnitude = u128;
 
-/// Below this number one more digit stays within 64 bits.
+/// A number below this bound has room for one more digit in 64 bits.
 const SHORT_BOUND: u64 = u64::MAX / 10;
 
+/// Returns the value of a digit.
 #[tactic(auto, unfolding(crate::specs::Text::is_digit))]
 fn digit_of(b: u8) -> u64
     requires { is_digit b ≡ true }
@@ -21,7 +22,7 @@ fn digit_of(b: u8) -> u64
     (b - b'0') as u64
 }
 
-/// The number with one more digit, where it is within the limit.
+/// Appends a digit to the number, or returns `None` if the result exceeds the limit.
 fn with_digit(n: Magnitude, digit: Magnitude, limit: Magnitude) -> Option<Magnitude>
     requires digit_in { digit ≤ 9 }
     requires limit_in { 9 ≤ limit }
@@ -33,7 +34,8 @@ fn with_digit(n: Magnitude, digit: Magnitude, limit: Magnitude) -> Option<Magnit
     Some(n * 10 + digit)
 }
 
-/// The number that the digits from this byte on spell as far as 64 bits surely have it, and where it ends.
+/// Reads digits from this offset on while the number surely fits in 64 bits. Returns the number and the offset after
+/// the digits read.
 fn short_digits_at(text: &[u8], at: usize) -> (u64, usize)
     requires { at ≤ length text.now }
     ensures value { spelled result.0 (drop result.1 text.now) ≡ spelled 0 (drop at text.now) }
@@ -49,7 +51,8 @@ fn short_digits_at(text: &[u8], at: usize) -> (u64, usize)
     (n, place)
 }
 
-/// The number that the digits from this byte on spell, 0 of none, and where they end. None where it passes the limit.
+/// Reads the decimal digits from this offset on. Returns their number, 0 if there are none, and the offset after them.
+/// Returns `None` if the number exceeds the limit.
 #[tactic(auto, using(crate::proofs::Numbers::spelled_grows))]
 pub fn digits_at(text: &[u8], at: usize, limit: Magnitude) -> Option<(Magnitude, usize)>
     requires within { at ≤ length text.now }
@@ -74,7 +77,8 @@ pub fn digits_at(text: &[u8], at: usize, limit: Magnitude) -> Option<(Magnitude,
     Some((n, place))
 }
 
-/// The number that must begin at this byte, and where its digits end. With its sign it begins at `start`.
+/// Reads the number that must begin at this offset, and returns it with the offset after its digits. With its sign it
+/// begins at `start`.
 pub(crate) fn number_at(
     text: &[u8],
     at: usize,
@@ -98,7 +102,7 @@ pub(crate) fn number_at(
     }
 }
 
-/// Where signs that must stand here end.
+/// Checks that the text has these signs at the offset, and returns the offset after them.
 pub(crate) fn literal_at(text: &[u8], at: usize, signs: &[u8]) -> Result<usize, TextFault>
     requires { at ≤ length text.now }
     ensures within { IfOk result (λ n. (at ≤ n) × (n ≤ length text.now)) }

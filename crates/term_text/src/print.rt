@@ -1,4 +1,4 @@
-//! The text of terms into strings and writers.
+//! Prints terms into strings and writers.
 ghost use Rattle.std.specs.Prelude.{◌≡◌, ◌++◌, OnOk, OnErr, string_bytes};
 ghost use Rattle.term_text.specs.Printed.{printed};
 ghost use Rattle.term_text.specs.Sent.{AppendsOrFront};
@@ -10,7 +10,7 @@ use std::alloc::{AllocError, Global};
 use std::io::Write;
 use std::mem;
 
-/// Appends the term's text. After want of memory the string is as before.
+/// Appends the text of a term to the string. If memory runs out, the string is unchanged.
 pub fn print_term(alloc: Global, term: &Term, out: &mut String) -> Result<(), AllocError>
     ensures ok { OnOk result (string_bytes out.new ≡ string_bytes out.old ++ printed term.now) }
     ensures err { OnErr result (string_bytes out.new ≡ string_bytes out.old) }
@@ -28,7 +28,7 @@ pub fn print_term(alloc: Global, term: &Term, out: &mut String) -> Result<(), Al
     result
 }
 
-/// Writes the term's text, and takes no memory for it. After a fault a prefix of the text has gone out.
+/// Writes the text of a term and allocates nothing. If the writer fails, it has taken a prefix of the text.
 pub fn write_term<W: Write>(term: &Term, out: &mut W) -> Result<(), WriteFault>
     ensures { AppendsOrFront (W.contents out.old) (W.contents out.new) (printed term.now) result }
 {

@@ -1,4 +1,4 @@
-//! The printer, for any sink.
+//! Prints terms into any sink.
 ghost use Rattle.std.specs.Prelude.{◌≡◌, ◌++◌, ◌-◌, ◌≤◌, ◌==◌, ◌||◌, length, take, drop, ◌∷◌, [], List, ℕ, map, decimal, codes, true, false};
 ghost use Rattle.std.specs.Fmt.{signed_decimal};
 ghost use Rattle.std.specs.List.{list_all, flat_map};
@@ -12,7 +12,7 @@ use crate::sink::Sink;
 use ets_term::{Atom, Integer, Term};
 use itoa::Buffer;
 
-/// Appends the term's text.
+/// Appends the text of a term.
 #[cycle(append)]
 pub(crate) fn append<S: Sink>(term: &Term, out: &mut S) -> Result<(), S::Fault>
     ensures { AppendsOrFront (S.contents out.old) (S.contents out.new) (printed term.now) result }
@@ -28,7 +28,7 @@ pub(crate) fn append<S: Sink>(term: &Term, out: &mut S) -> Result<(), S::Fault>
     }
 }
 
-/// Terms between two signs.
+/// Appends terms, separated by commas, between two signs.
 #[cycle(append)]
 fn append_items<S: Sink>(
     front: &str,
@@ -49,7 +49,7 @@ fn append_items<S: Sink>(
     out.write_str(back)
 }
 
-/// Bytes between two signs.
+/// Appends bytes, separated by commas, between two signs.
 fn append_bytes<S: Sink>(front: &str, bytes: &[u8], back: &str, out: &mut S) -> Result<(), S::Fault>
     ensures { AppendsOrFront (S.contents out.old) (S.contents out.new)
         (front.now ++ (row_text false (map decimal bytes.now) ++ back.now)) result }
@@ -64,7 +64,7 @@ fn append_bytes<S: Sink>(front: &str, bytes: &[u8], back: &str, out: &mut S) -> 
     out.write_str(back)
 }
 
-/// A comma, where something stands before.
+/// Appends a comma, except before the first item.
 fn append_comma<S: Sink>(later: bool, out: &mut S) -> Result<(), S::Fault>
     ensures { AppendsOrFront (S.contents out.old) (S.contents out.new) (comma_if later) result }
 {
@@ -80,6 +80,7 @@ fn append_number<S: Sink>(front: &str, n: u32, back: &str, out: &mut S) -> Resul
     out.write_str(back)
 }
 
+/// Appends a number in decimal.
 fn append_decimal<S: Sink>(n: u32, out: &mut S) -> Result<(), S::Fault>
     ensures { AppendsOrFront (S.contents out.old) (S.contents out.new) (decimal n) result }
 {
@@ -87,6 +88,7 @@ fn append_decimal<S: Sink>(n: u32, out: &mut S) -> Result<(), S::Fault>
     out.write_str(buffer.format(n))
 }
 
+/// Appends an integer in decimal.
 fn append_integer<S: Sink>(n: Integer, out: &mut S) -> Result<(), S::Fault>
     ensures { AppendsOrFront (S.contents out.old) (S.contents out.new) (signed_decimal n) result }
 {
@@ -104,6 +106,7 @@ fn append_atom<S: Sink>(name: &Atom, out: &mut S) -> Result<(), S::Fault>
     append_quoted(text, out)
 }
 
+/// Returns whether an atom of these characters needs no quotes.
 fn is_plain_text(bytes: &[u8]) -> bool
     ensures { result ≡ is_plain bytes.now }
 {
@@ -113,13 +116,14 @@ fn is_plain_text(bytes: &[u8]) -> bool
     }
 }
 
+/// Returns whether a name may contain each of the bytes.
 fn are_name_bytes(bytes: &[u8]) -> bool
     ensures { result ≡ list_all is_name bytes.now }
 {
     bytes.iter().all(|b| is_name_byte(*b))
 }
 
-/// Characters between single quotes.
+/// Appends characters between single quotes.
 fn append_quoted<S: Sink>(text: &str, out: &mut S) -> Result<(), S::Fault>
     requires { list_all is_character text.now ≡ true }
     ensures { AppendsOrFront (S.contents out.old) (S.contents out.new)
@@ -130,6 +134,7 @@ fn append_quoted<S: Sink>(text: &str, out: &mut S) -> Result<(), S::Fault>
     out.write_str("'")
 }
 
+/// Appends characters, with a `\` before each single quote and each `\`.
 fn append_escaped<S: Sink>(text: &str, out: &mut S) -> Result<(), S::Fault>
     requires { list_all is_character text.now ≡ true }
     ensures { AppendsOrFront (S.contents out.old) (S.contents out.new) (flat_map escaped text.now) result }
@@ -144,13 +149,14 @@ fn append_escaped<S: Sink>(text: &str, out: &mut S) -> Result<(), S::Fault>
     append_slice(text, start, text.len(), out)
 }
 
+/// Returns whether a `\` must precede the character between single quotes.
 fn needs_escape(b: u8) -> bool
     ensures { result ≡ ((b == 39) || (b == 92)) }
 {
     b == b'\'' || b == b'\\'
 }
 
-/// The characters between two places, and a `\`.
+/// Appends the characters between two offsets, and a `\`.
 fn append_piece<S: Sink>(text: &str, start: usize, end: usize, out: &mut S) -> Result<(), S::Fault>
     requires ascii { list_all is_character text.now ≡ true }
     requires within { (start ≤ end) × (end ≤ length text.now) }
@@ -161,6 +167,7 @@ fn append_piece<S: Sink>(text: &str, start: usize, end: usize, out: &mut S) -> R
     out.write_str("\\")
 }
 
+/// Appends the characters between two offsets.
 #[tactic(auto, using(crate::proofs::Escapes::boundary))]
 fn append_slice<S: Sink>(text: &str, start: usize, end: usize, out: &mut S) -> Result<(), S::Fault>
     requires ascii { list_all is_character text.now ≡ true }

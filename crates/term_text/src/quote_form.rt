@@ -5,17 +5,19 @@ ghost use Rattle.term_text.specs.inside.Parts.{IsShort, Refuses};
 use crate::fault::TextFault;
 use ets_term::MAX_CHARACTERS;
 
-/// The forms that stand in quotes.
+/// The forms whose text has quotes.
 #[derive(Clone, Copy)]
 pub(crate) enum QuoteForm {
-    /// An atom that begins at this byte.
+    /// An atom. Its opening quote is at this offset.
     Atom(usize),
+    /// A string, which is a list.
     String,
     /// A string in a binary.
     Binary,
 }
 
 impl QuoteForm {
+    /// Returns the quote of the form.
     pub(crate) fn quote(self) -> u8
         ensures { result ≡ quote self }
     {
@@ -25,7 +27,7 @@ impl QuoteForm {
         }
     }
 
-    /// Why one more character, behind n others, is refused.
+    /// Returns the fault of one more character at this offset, after `n` others, or `None` if the form allows it.
     pub(crate) fn fault_of_next(self, at: usize, n: usize, out_of_levels: bool) -> Option<TextFault>
         ensures refuses { Refuses at self n out_of_levels result }
         ensures short { result ≡ None → IsShort self n → IsShort self (n + 1) }

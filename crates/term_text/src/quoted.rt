@@ -1,4 +1,4 @@
-//! What stands in quotes.
+//! Reads the forms whose text has quotes.
 ghost use Rattle.std.specs.Prelude.{◌≡◌, ◌+◌, ◌≤◌, ◌<◌, ◌==◌, ◌∷◌, [], List, map, true, false, length, IfOk, IsTrue, slice_index};
 ghost use Rattle.std.specs.List.{list_all};
 ghost use Rattle.ets_term.specs.Character.{is_character};
@@ -12,7 +12,7 @@ use crate::quote_form::QuoteForm;
 use ets_term::{Atom, Integer, Items, Term};
 use std::alloc::{AllocError, Global};
 
-/// The character behind a `\`, and where it ends.
+/// Reads the character after a `\`, and returns it with the offset after it.
 fn escape_at(text: &[u8], at: usize, quotes: QuoteForm) -> Result<(u8, usize), TextFault>
     requires { at ≤ length text.now }
     ensures within { IfOk result (λ x. (at < x.1) × (x.1 ≤ length text.now)) }
@@ -29,7 +29,8 @@ fn escape_at(text: &[u8], at: usize, quotes: QuoteForm) -> Result<(u8, usize), T
     Ok((b, at + 1))
 }
 
-/// The character at this byte, which is no closing quote, and where it ends. There are n before it.
+/// Reads the character at this offset, which is not the closing quote and has `n` before it. Returns it with the offset
+/// after it.
 fn character_at(
     text: &[u8],
     at: usize,
@@ -57,7 +58,7 @@ fn character_at(
     Ok((b, at + 1))
 }
 
-/// The characters up to the closing quote, and where that ends.
+/// Reads the characters up to the closing quote, and returns them with the offset after it.
 pub(crate) fn quoted_at(
     alloc: Global,
     text: &[u8],
@@ -84,7 +85,7 @@ pub(crate) fn quoted_at(
     Err(TextFault::Unclosed(place))
 }
 
-/// The atom whose quote is at this byte.
+/// Reads the atom whose opening quote is at this offset.
 pub(crate) fn quoted_atom_at(
     alloc: Global,
     text: &[u8],
@@ -99,7 +100,7 @@ pub(crate) fn quoted_atom_at(
     Ok((Term::Atom(name), end))
 }
 
-/// The string behind its opening quote: the list of its characters' codes.
+/// Reads a string after its opening quote, as the list of its characters' codes.
 pub(crate) fn string_at(
     alloc: Global,
     text: &[u8],
@@ -116,6 +117,7 @@ pub(crate) fn string_at(
     Ok((Term::List(codes), end))
 }
 
+/// Returns the characters as integers.
 fn codes_of(alloc: Global, chars: &[u8]) -> Result<Items<Term>, AllocError>
     ensures { IfOk result (λ ts. ts ≡ map code chars.now) }
 {

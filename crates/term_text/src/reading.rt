@@ -1,11 +1,11 @@
-//! The reader: one pass over the bytes, with the levels that are left.
+//! Reads terms by recursive descent, and counts the levels left.
 ghost use Rattle.std.specs.Prelude.{◌≡◌, ◌+◌, ◌≤◌, ◌<◌, ◌∷◌, List, true, false, length, IfOk, slice_index};
 ghost use Rattle.term_text.specs.Reader.{OpenBracket, wants, reads_on, opening, bracket, begin, reading};
 ghost use Rattle.term_text.specs.Given.{GivesTerm};
 ghost use Rattle.term_text.specs.inside.Parts.{Reads};
 
 use crate::binary::{angle_at, identifier_at};
-use crate::bytes::{is_first_byte, is_closing_byte, is_digit_byte, past_blanks};
+use crate::bytes::{is_closing_byte, is_digit_byte, is_first_byte, past_blanks};
 use crate::fault::TextFault;
 use crate::integer::integer_at;
 use crate::name::name_at;
@@ -13,8 +13,8 @@ use crate::quoted::{quoted_atom_at, string_at};
 use ets_term::{Items, MAX_DEPTH, Term};
 use std::alloc::Global;
 
-/// Reads the term at the front of the text, and how many bytes it takes with the blanks before it. A fault is the one
-/// that is noticed first.
+/// Reads the term at the front of the text. Returns it with the number of bytes that it and the blanks before it take.
+/// If the text does not begin with a term, returns the fault of the first byte with which no term can continue.
 pub fn read_term(alloc: Global, text: &str) -> Result<(Term, usize), TextFault>
     ensures { GivesTerm (reading text.now) result }
 {
@@ -22,16 +22,21 @@ pub fn read_term(alloc: Global, text: &str) -> Result<(Term, usize), TextFault>
     read_term_bytes(alloc, bytes)
 }
 
-/// Reads the term at the front of a text that is given by its bytes, as `read_term` does.
+/// Does what `read_term` does for a text in bytes.
 pub fn read_term_bytes(alloc: Global, text: &[u8]) -> Result<(Term, usize), TextFault>
     ensures { GivesTerm (reading text.now) result }
 {
     term_at(alloc, text, 0, MAX_DEPTH)
 }
 
-/// The term that must begin here, behind blanks, with `room` levels left.
+/// Reads the term that must begin here, after blanks, with `levels_left` levels left.
 #[cycle(term)]
-fn term_at(alloc: Global, text: &[u8], at: usize, levels_left: usize) -> Result<(Term, usize), TextFault>
+fn term_at(
+    alloc: Global,
+    text: &[u8],
+    at: usize,
+    levels_left: usize,
+) -> Result<(Term, usize), TextFault>
     requires { at ≤ length text.now }
     ensures within { IfOk result (λ x. (at ≤ x.1) × (x.1 ≤ length text.now)) }
     ensures reads { (os : List OpenBracket) → length os + levels_left ≡ MAX_DEPTH
@@ -44,9 +49,14 @@ fn term_at(alloc: Global, text: &[u8], at: usize, levels_left: usize) -> Result<
     form_at(alloc, text, start, levels_left)
 }
 
-/// The term whose first byte stands here.
+/// Reads the term whose first byte is here.
 #[cycle(term)]
-fn form_at(alloc: Global, text: &[u8], at: usize, levels_left: usize) -> Result<(Term, usize), TextFault>
+fn form_at(
+    alloc: Global,
+    text: &[u8],
+    at: usize,
+    levels_left: usize,
+) -> Result<(Term, usize), TextFault>
     requires { at < length text.now }
     ensures within { IfOk result (λ x. (at ≤ x.1) × (x.1 ≤ length text.now)) }
     ensures reads { (os : List OpenBracket) → length os + levels_left ≡ MAX_DEPTH
@@ -116,6 +126,7 @@ fn bracket_at(
     }
 }
 
+/// Returns the list or tuple of the terms.
 fn bracket_of(square: bool, terms: Items<Term>) -> Term
     ensures { result ≡ bracket (record { square = square; terms = terms }) }
 {

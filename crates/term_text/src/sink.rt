@@ -1,22 +1,22 @@
-//! Where a text goes piece by piece: a string or a writer.
+//! Sinks: a string or a writer that takes a text piece by piece.
 ghost use Rattle.std.specs.Prelude.{◌≡◌, Option, List, ℕ};
 ghost use Rattle.term_text.specs.Sent.{AppendsOrFront};
 
 use std::alloc::AllocError;
 use std::io::{Error, Write};
 
-/// Where a text goes piece by piece.
+/// Takes a text piece by piece.
 pub(crate) trait Sink {
     type Fault: Drop;
 
     ghost contents: { Self → Option (List ℕ) };
 
-    /// Appends a piece. After a fault a prefix of it has been appended.
+    /// Appends a piece. If it fails, a prefix of the piece was appended.
     fn write_str(&mut self, piece: &str) -> Result<(), Self::Fault>
         ensures { AppendsOrFront (contents self.old) (contents self.new) piece.now result };
 }
 
-/// A string that grows.
+/// A sink in memory.
 #[derive(Drop)]
 pub(crate) struct Buffer {
     pub(crate) text: String,
@@ -34,12 +34,12 @@ impl Sink for Buffer {
     }
 }
 
-/// Why a text was not written whole.
+/// Why a text was not written completely.
 #[derive(Debug, Drop)]
 pub enum WriteFault {
-    /// The writer took no byte.
+    /// The writer took no bytes.
     Zero,
-    /// The writer's own error.
+    /// The writer returned this error.
     Io(Error),
 }
 
@@ -53,7 +53,7 @@ impl<W: Write> Sink for W {
     }
 }
 
-/// Writes the bytes. After a fault a prefix of them has gone out.
+/// Writes all bytes. If it fails, a prefix of them was written.
 pub fn write_bytes<W: Write>(bytes: &[u8], out: &mut W) -> Result<(), WriteFault>
     ensures { AppendsOrFront (W.contents out.old) (W.contents out.new) bytes.now result }
 {

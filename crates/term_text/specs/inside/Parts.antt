@@ -1,4 +1,4 @@
--- What private contracts say that the parts of the program's reader answer, beside the reader of the definitions.
+-- The private contracts of the recursive descent: each function runs a part of the automaton.
 use Rattle.std.specs.Prelude.{◌≡◌, ℕ, List, [], ◌∷◌, ◌++◌, ◌+◌, ◌-◌, length, drop, ◌≤◌, Bool, true, nat_le, Option, None, Some, Result, Ok, Err, codes}
 use Rattle.std.specs.List.{prefix_len}
 use Rattle.ets_term.specs.declared.term.Term.{Term}
@@ -12,27 +12,27 @@ use Rattle.term_text.specs.declared.quote_form.QuoteForm.TheVariants as form
 use Rattle.term_text.specs.Given.{Fails}
 use Rattle.term_text.specs.Text.{is_blank, is_digit}
 
--- from s before the byte at the reader comes to z before the byte n
+-- from s before the byte at, the automaton reaches z before the byte n
 abbrev pub Reaches : List ℕ → ℕ → Reading → ℕ → Reading → Type 0
 Reaches text at s n z = read_from at s (drop at text) ≡ read_from n z (drop n text)
 
--- from s before the byte at the reader comes to the end of a term in these brackets, or fails
+-- from s before the byte at, the automaton reaches the end of a term in these brackets, or fails
 abbrev pub Reads : List ℕ → ℕ → Reading → List OpenBracket → Result (Term × ℕ) TextFault → Type 0
 Reads text at s os (Ok x) = Reaches text at s x.1 (put os x.0 x.1)
 Reads text at s os (Err f) = Fails f (read_from at s (drop at text))
 
--- behind the digits of a number, which end before the byte n
+-- after the digits of a number, which end before the byte n
 abbrev pub counted : ℕ → Number → ℕ → List OpenBracket → Reading
 counted n (integer below) v os = put os (Int (signed below v)) n
 counted n pid v os = expect n (codes ".0>") (whole (Pid v)) os
 counted n identifier v os = expect n (codes ">") (whole (Tid v)) os
 counted n (byte bs) v os = reads_on (behind_byte (bs ++ v ∷ [])) os
 
--- where the digits from the byte at on end
+-- the offset after the digits from the byte at on
 abbrev pub digits_end : List ℕ → ℕ → ℕ
 digits_end text at = at + prefix_len is_digit (drop at text)
 
--- a number that must begin before the byte at, and whose greatest size is limit
+-- reads a number whose digits must begin at the byte at, and whose greatest magnitude is limit
 abbrev pub ReadsNumber : List ℕ → ℕ → ℕ → ℕ → Result (ℕ × ℕ) TextFault → Type 0
 ReadsNumber text at start limit (Ok x) =
     (kind : Number) (os : List OpenBracket) → limit ≡ max_magnitude kind
@@ -41,40 +41,40 @@ ReadsNumber text at start limit (Err f) =
     (kind : Number) (os : List OpenBracket) → limit ≡ max_magnitude kind
     → Fails f (read_from at (reads_on (digit kind start) os) (drop at text))
 
--- signs that must stand before the byte at
+-- reads signs that must begin at the byte at
 abbrev pub ReadsSigns : List ℕ → ℕ → List ℕ → Result ℕ TextFault → Type 0
 ReadsSigns text at signs (Ok n) =
     (goal : Expect) (os : List OpenBracket) → Reaches text at (expect at signs goal os) n (expect n [] goal os)
 ReadsSigns text at signs (Err f) =
     (goal : Expect) (os : List OpenBracket) → Fails f (read_from at (expect at signs goal os) (drop at text))
 
--- blanks leave the state as it is
+-- blanks do not change the state
 abbrev pub IgnoresBlanks : Reading → Type 0
 IgnoresBlanks s = (at b : ℕ) → is_blank b ≡ true → take_byte at s b ≡ s
 
--- no level is left for the characters of a string
+-- whether no level is left for the characters of a string
 abbrev pub IsOutOfLevels : QuoteForm → Bool → List OpenBracket → Type 0
 IsOutOfLevels form.String out_of_levels os = out_of_levels ≡ nat_le (max_depth - 1) (length os)
 IsOutOfLevels q out_of_levels os = Unit {0}
 
--- not too long for an atom
+-- an atom may have n characters
 abbrev pub IsShort : QuoteForm → ℕ → Type 0
 IsShort (form.Atom start) n = n ≤ max_characters
 IsShort q n = Unit {0}
 
--- whether one more character, behind n, is refused
+-- whether one more character, after n, is refused
 abbrev pub Refuses : ℕ → QuoteForm → ℕ → Bool → Option TextFault → Type 0
 Refuses at q n out_of_levels None = (os : List OpenBracket) (s : Reading) → IsOutOfLevels q out_of_levels os → admits at q n os s ≡ s
 Refuses at q n out_of_levels (Some f) = (os : List OpenBracket) (s : Reading) → IsOutOfLevels q out_of_levels os → admits at q n os s ≡ fails f
 
--- the character behind a `\` that stands before the byte at
+-- reads the character at the byte at, after a `\`
 abbrev pub ReadsEscaped : List ℕ → ℕ → QuoteForm → Result (ℕ × ℕ) TextFault → Type 0
 ReadsEscaped text at q (Ok x) =
     (cs : List ℕ) (os : List OpenBracket) → Reaches text at (reads_on (escaped q cs) os) x.1 (reads_on (quoted q (cs ++ x.0 ∷ [])) os)
 ReadsEscaped text at q (Err f) =
     (cs : List ℕ) (os : List OpenBracket) → Fails f (read_from at (reads_on (escaped q cs) os) (drop at text))
 
--- a further character in quotes, behind n
+-- reads a further character in quotes, after n
 abbrev pub ReadsCharacter : List ℕ → ℕ → QuoteForm → Bool → ℕ → Result (ℕ × ℕ) TextFault → Type 0
 ReadsCharacter text at q out_of_levels n (Ok x) =
     (cs : List ℕ) (os : List OpenBracket) → length cs ≡ n → IsOutOfLevels q out_of_levels os
@@ -83,14 +83,14 @@ ReadsCharacter text at q out_of_levels n (Err f) =
     (cs : List ℕ) (os : List OpenBracket) → length cs ≡ n → IsOutOfLevels q out_of_levels os
     → Fails f (read_from at (reads_on (quoted q cs) os) (drop at text))
 
--- what stands in quotes, from before the byte at to behind the closing quote
+-- reads the characters from the byte at on, and the closing quote
 abbrev pub ReadsQuoted : List ℕ → ℕ → QuoteForm → Bool → Result (List ℕ × ℕ) TextFault → Type 0
 ReadsQuoted text at q out_of_levels (Ok x) =
     (os : List OpenBracket) → IsOutOfLevels q out_of_levels os → Reaches text at (reads_on (quoted q []) os) x.1 (unquoted x.1 q x.0 os)
 ReadsQuoted text at q out_of_levels (Err f) =
     (os : List OpenBracket) → IsOutOfLevels q out_of_levels os → Fails f (read_from at (reads_on (quoted q []) os) (drop at text))
 
--- the bytes of a binary that has one before the byte at
+-- reads the bytes of a binary, of which the first must begin at the byte at
 abbrev pub ReadsBytes : List ℕ → ℕ → Result (List ℕ × ℕ) TextFault → Type 0
 ReadsBytes text at (Ok x) =
     (os : List OpenBracket)
