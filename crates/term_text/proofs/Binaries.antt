@@ -2,7 +2,7 @@
 use Rattle.std.proofs.Common.{◌≡◌, refl, ap, sym, ◌∙◌, ◌+◌, ◌<◌, ◌==◌, ℕ, List, [], ◌∷◌, length, drop, get_or, Bool, true, false}
 use Rattle.ets_term.specs.declared.term.Term.TheVariants.{Binary}
 use Rattle.term_text.specs.declared.quote_form.QuoteForm.TheVariants as form
-use Rattle.term_text.specs.Reader.{OpenBracket, byte, whole, digit, quoted, behind_byte, behind_string, opened_binary, wants_byte, Reading, reads_on, expect, read_from}
+use Rattle.term_text.specs.inside.Reader.{OpenBracket, byte, whole, digit, quoted, behind_byte, behind_string, opened_binary, wants_byte, Reading, reads_on, expect, read_from}
 use Rattle.term_text.specs.inside.Parts.{Reaches}
 use Rattle.term_text.specs.Text.{is_blank, is_digit, begins}
 use Rattle.term_text.proofs.Places.{if-true, if-false, read-at, begins_at, begins_in}

@@ -1,7 +1,7 @@
 -- Where blanks end, and the states that they do not change.
 use Rattle.std.proofs.Common.{◌≡◌, ap, ◌∙◌, ◌+◌, ◌<◌, ◌≤◌, ℕ, List, ◌∷◌, length, drop, get_or, arith, Bool, true, false}
 use Rattle.std.proofs.lemmas.List.{drop_all}
-use Rattle.term_text.specs.Reader.{OpenBracket, Reading, reads_on, wants, opened_binary, wants_byte, behind_byte, behind_string, after}
+use Rattle.term_text.specs.inside.Reader.{OpenBracket, Reading, reads_on, wants, opened_binary, wants_byte, behind_byte, behind_string, after}
 use Rattle.term_text.specs.inside.Parts.{Reaches, IgnoresBlanks}
 use Rattle.term_text.specs.Text.{is_blank, begins, closes}
 use Rattle.term_text.proofs.Places.{read-at, begins_at, if-true, if-false}

@@ -4,8 +4,8 @@ use Rattle.ets_term.specs.Character.{is_character}
 use Rattle.term_text.specs.declared.fault.TextFault.{TextFault}
 use Rattle.term_text.specs.declared.fault.TextFault.TheVariants.{Unexpected, Memory}
 use Rattle.term_text.specs.declared.quote_form.QuoteForm.{QuoteForm}
-use Rattle.term_text.specs.Reader.{OpenBracket, quoted, escaped, Reading, reads_on, fails, quote, admits, read_from}
-use Rattle.term_text.specs.Given.{Fails}
+use Rattle.term_text.specs.inside.Reader.{OpenBracket, quoted, escaped, Reading, reads_on, fails, quote, admits, read_from}
+use Rattle.term_text.specs.Reading.{ReaderFails}
 use Rattle.term_text.specs.inside.Parts.{Refuses, ReadsCharacter}
 use Rattle.term_text.proofs.Places.{by-test, fails-at, if-true, if-false}
 
@@ -13,7 +13,7 @@ either-false : (a b : Bool) → a ≡ false → b ≡ false → (a || b) ≡ fal
 either-false true b h k = h
 either-false false b h k = k
 
-pub fails-as : (f : TextFault) (s : Reading) → s ≡ fails f → Fails f s
+pub fails-as : (f : TextFault) (s : Reading) → s ≡ fails f → ReaderFails f s
 fails-as Memory s e = tt
 fails-as f s e = e
 

@@ -9,7 +9,7 @@ use Rattle.term_text.specs.declared.fault.TextFault.TheVariants.{OutOfRange, Too
 use Rattle.term_text.specs.declared.quote_form.QuoteForm.{QuoteForm}
 use Rattle.term_text.specs.declared.quote_form.QuoteForm.TheVariants as form
 use Rattle.term_text.specs.Text.{is_blank, is_digit, is_small, is_name, begins, spelled}
-use Rattle.term_text.specs.Reader.{OpenBracket, Number, integer, pid, identifier, byte, digits, wants, digit, name, quoted, signs, angle, opened_binary, wants_byte, behind_byte, after, Reading, reads_on, fails, opening, quote, admits, take_byte, read_from, reading}
+use Rattle.term_text.specs.inside.Reader.{OpenBracket, Number, integer, pid, identifier, byte, digits, wants, digit, name, quoted, signs, angle, opened_binary, wants_byte, behind_byte, after, Reading, reads_on, fails, opening, quote, admits, take_byte, read_from, reading}
 use Rattle.term_text.specs.Faults.{AwaitsItem, fresh, further, AwaitsTerm, AwaitsByte, opened, comma, LeadsNumber, number_start, PastRange, PastAtom, plain_form, quoted_form, PastDepth, a_term, a_character}
 use Rattle.term_text.specs.Grammar.{opening_sign}
 use Rattle.term_text.proofs.FirstBytes.{begin-out_of_levels, begin-minus, begin-quoted, begin-string, begin-angle, begin-identifier, begin-name}

@@ -2,13 +2,15 @@
 use Rattle.std.proofs.Common.{◌≡◌, refl, ap, sym, subst, ◌∙◌, ◌+◌, ◌++◌, ℕ, List, [], ◌∷◌, length, take, drop, false, arith, append_assoc, length-append}
 use Rattle.std.proofs.lemmas.List.{append-nil}
 use Rattle.std.proofs.Math.Seq.{drop-append_seam, take-append_seam}
+use Rattle.std.specs.Prelude.{Result, Ok, Err, IfOk, IfErr}
 use Rattle.ets_term.specs.declared.term.Term.{Term}
 use Rattle.ets_term.specs.declared.term.Term.TheVariants.{Int, Atom}
 use Rattle.term_text.specs.declared.fault.TextFault.{TextFault}
 use Rattle.term_text.specs.declared.fault.TextFault.TheVariants.{Unexpected, Unclosed, OutOfRange, TooDeep, AtomTooLong, Memory}
-use Rattle.term_text.specs.Reader.{OpenBracket, integer, Mode, number, name, wants, Reading, reads_on, found, fails, signed, put, next, take_byte, ending, closed, read_from, reading}
+use Rattle.term_text.specs.inside.Reader.{OpenBracket, integer, Mode, number, name, wants, Reading, reads_on, found, fails, signed, put, next, take_byte, ending, closed, read_from, reading}
 use Rattle.term_text.specs.Prefixes.{state, so_far, HasNoFault, GoesOn}
-use Rattle.term_text.specs.Faults.{FaultMeans, IsFaultAt, Continues, EndsEarly, IsFault}
+use Rattle.term_text.specs.Faults.{FaultMeans, IsFaultAt, Continues, EndsEarly, IsFault, IsFaultOrMemory}
+use Rattle.term_text.specs.Reading.{ReaderReturns}
 use Rattle.term_text.specs.Grammar.{Front}
 use Rattle.term_text.proofs.Prefixes.{goes-on, stuck, read-append}
 use Rattle.term_text.proofs.Places.{read-fails, read-found}
@@ -235,3 +237,17 @@ told text (OutOfRange at) h = ap reading h.whole ∙ range-told h.pre h.b at h.r
 told text (TooDeep at) h = ap reading h.whole ∙ depth-told h.pre h.b h.rest h.told.1 ∙ ap (λ (n : ℕ). fails (TooDeep n)) (sym h.told.0)
 told text (AtomTooLong at) h = ap reading h.whole ∙ atom-told h.pre h.b at h.rest h.told
 told text Memory h = absurd h.told
+
+-- a call that returns the result of the automaton returns a term at the front of the text, or the fault of the text
+pub returned-front : (text : List ℕ) (r : Result (Term × ℕ) TextFault) → ReaderReturns (reading text) r → IfOk r (λ (x : Term × ℕ). Front text x.0 x.1)
+returned-front text (Ok x) e = sound text x.0 x.1 e
+returned-front text (Err f) e = tt
+
+pub returned-fault : (text : List ℕ) (r : Result (Term × ℕ) TextFault) → ReaderReturns (reading text) r → IfErr r (λ (f : TextFault). IsFaultOrMemory text f)
+returned-fault text (Ok x) e = tt
+returned-fault text (Err Memory) e = tt
+returned-fault text (Err (Unexpected at)) e = faulted text (Unexpected at) e
+returned-fault text (Err (Unclosed at)) e = faulted text (Unclosed at) e
+returned-fault text (Err (OutOfRange at)) e = faulted text (OutOfRange at) e
+returned-fault text (Err (TooDeep at)) e = faulted text (TooDeep at) e
+returned-fault text (Err (AtomTooLong at)) e = faulted text (AtomTooLong at) e

@@ -6,7 +6,7 @@ use Rattle.ets_term.specs.declared.term.Term.{Term}
 use Rattle.term_text.specs.declared.fault.TextFault.{TextFault}
 use Rattle.term_text.specs.declared.fault.TextFault.TheVariants.{Unexpected, Unclosed, TooDeep}
 use Rattle.term_text.specs.declared.quote_form.QuoteForm.TheVariants as form
-use Rattle.term_text.specs.Reader.{OpenBracket, integer, identifier, digits, wants, digit, number, name, quoted, signs, angle, after, Reading, reads_on, fails, opening, bracket, put, begin, read_from}
+use Rattle.term_text.specs.inside.Reader.{OpenBracket, integer, identifier, digits, wants, digit, number, name, quoted, signs, angle, after, Reading, reads_on, fails, opening, bracket, put, begin, read_from}
 use Rattle.term_text.specs.inside.Parts.{Reaches, Reads}
 use Rattle.term_text.specs.Text.{is_blank, is_digit, is_small, begins, begins_term, closes}
 use Rattle.term_text.proofs.Places.{if-true, if-false, read-fails, read-at, fails-at, ends-at, begins_at, nat-le-true}

@@ -7,7 +7,7 @@ use Rattle.std.specs.List.{list_all, prefix_len}
 use Rattle.ets_term.specs.Character.{is_character, IsAtomText}
 use Rattle.ets_term.specs.declared.term.Term.TheVariants.{Atom}
 use Rattle.term_text.specs.declared.fault.TextFault.TheVariants.{AtomTooLong}
-use Rattle.term_text.specs.Reader.{OpenBracket, name, Reading, reads_on, fails, put, read_from}
+use Rattle.term_text.specs.inside.Reader.{OpenBracket, name, Reading, reads_on, fails, put, read_from}
 use Rattle.term_text.specs.inside.Parts.{Reaches}
 use Rattle.term_text.specs.Text.{is_digit, is_small, is_name, begins}
 use Rattle.term_text.proofs.Places.{by-test, if-true, if-false, read-fails, prefix-more, prefix-none, prefix-ends, drop-past}

@@ -6,8 +6,8 @@ use Rattle.ets_term.specs.declared.term.Term.{Term}
 use Rattle.std.specs.List.{prefix_len}
 use Rattle.term_text.specs.declared.fault.TextFault.{TextFault}
 use Rattle.term_text.specs.declared.fault.TextFault.TheVariants.{Unexpected, Unclosed, OutOfRange}
-use Rattle.term_text.specs.Reader.{OpenBracket, Number, integer, pid, identifier, byte, Expect, wants, digit, number, Reading, reads_on, found, fails, max_magnitude, take_byte, end, read_from, reading, expect}
-use Rattle.term_text.specs.Given.{Fails, GivesTerm}
+use Rattle.term_text.specs.inside.Reader.{OpenBracket, Number, integer, pid, identifier, byte, Expect, wants, digit, number, Reading, reads_on, found, fails, max_magnitude, take_byte, end, read_from, reading, expect}
+use Rattle.term_text.specs.Reading.{ReaderFails, ReaderReturns}
 use Rattle.term_text.specs.inside.Parts.{Reaches, Reads, counted}
 use Rattle.term_text.specs.Text.{is_digit, spelled, begins}
 use Rattle.term_text.proofs.Numbers.{spelled_grows, digit-small}
@@ -28,8 +28,8 @@ pub read-fails : (at : ℕ) (f : TextFault) (bs : List ℕ) → read_from at (fa
 read-fails at f [] = refl
 read-fails at f (b ∷ bs) = read-fails (at + 1) f bs
 
-pub fails-along : (f : TextFault) (s z : Reading) → s ≡ z → Fails f z → Fails f s
-fails-along f s z e h = let P : Reading → Type 0 = λ x. Fails f x in subst P (sym e) h
+pub fails-along : (f : TextFault) (s z : Reading) → s ≡ z → ReaderFails f z → ReaderFails f s
+fails-along f s z e h = let P : Reading → Type 0 = λ x. ReaderFails f x in subst P (sym e) h
 
 -- the step of the byte at
 pub read-at : (bytes : List ℕ) (at : ℕ) (s z : Reading) → at < length bytes → take_byte at s (get_or bytes at 0) ≡ z → Reaches bytes at s (at + 1) z
@@ -190,6 +190,6 @@ reads_along text at n s z os (Ok x) e h = e ∙ h
 reads_along text at n s z os (Err f) e h = fails-along f _ _ e h
 
 -- what is read outside brackets is the result of the text
-pub reads-gives : (text : List ℕ) (r : Result (Term × ℕ) TextFault) → Reads text 0 (reads_on (wants false) []) [] r → GivesTerm (reading text) r
+pub reads-gives : (text : List ℕ) (r : Result (Term × ℕ) TextFault) → Reads text 0 (reads_on (wants false) []) [] r → ReaderReturns (reading text) r
 reads-gives text (Ok x) h = h ∙ read-found x.1 x.0 x.1 (drop x.1 text)
 reads-gives text (Err f) h = h

@@ -6,7 +6,7 @@ use Rattle.term_text.specs.declared.fault.TextFault.{TextFault}
 use Rattle.term_text.specs.declared.quote_form.QuoteForm.{QuoteForm}
 use Rattle.term_text.specs.declared.quote_form.QuoteForm.TheVariants as form
 use Rattle.term_text.specs.Text.{is_blank, is_digit, is_small, is_name, closes}
-use Rattle.term_text.specs.Reader.{OpenBracket, Number, integer, pid, identifier, byte, Expect, whole, digits, Mode, wants, digit, number, name, quoted, escaped, signs, angle, opened_binary, wants_byte, behind_byte, behind_string, after, Reading, reads_on, found, fails, signed, with_term, bracket, put, expect, next_sign, begin, next_after, next_behind, next_opened, next_behind_byte, next_behind_number, next_digit, quote, unquoted, admits, next, take_byte, read_from, reading}
+use Rattle.term_text.specs.inside.Reader.{OpenBracket, Number, integer, pid, identifier, byte, Expect, whole, digits, Mode, wants, digit, number, name, quoted, escaped, signs, angle, opened_binary, wants_byte, behind_byte, behind_string, after, Reading, reads_on, found, fails, signed, with_term, bracket, put, expect, next_sign, begin, next_after, next_behind, next_opened, next_behind_byte, next_behind_number, next_digit, quote, unquoted, admits, next, take_byte, read_from, reading}
 use Rattle.term_text.specs.Prefixes.{state, so_far, HasNoFault, GoesOn}
 use Rattle.term_text.proofs.Places.{if-true, if-false, read-fails}
 use Rattle.term_text.proofs.FirstBytes.{begin-digit}

@@ -22,7 +22,7 @@ use Rattle.ets_term.specs.declared.term.Term.TheFolds.{map-Term}
 use Rattle.ets_term.specs.declared.term.Term.TheOpen.{Term-F}
 use Rattle.ets_term.specs.declared.term.Term.TheVariants.{Int, Atom, Pid, Tid, Tuple, List as ListOf, Binary, rolls-Int, rolls-Atom, rolls-Pid, rolls-Tid, rolls-Tuple, rolls-List, rolls-Binary}
 use Rattle.term_text.specs.Grammar.{SpellsNumber, SpellsQuoted, SpellsBytes, Spells, SpellsRow, none, plain, escaped as escaped_form, first, more, positive, negative, plain_atom, quoted_atom, pid_form, identifier_form, no_bytes, bytes, empty_bracket, full_bracket, first_term, more_terms}
-use Rattle.term_text.specs.Reader.{Number, integer, pid, identifier, byte, max_magnitude}
+use Rattle.term_text.specs.inside.Reader.{Number, integer, pid, identifier, byte, max_magnitude}
 use Rattle.term_text.specs.Printed.{is_plain, escaped, atom_text, row_text, printed}
 use Rattle.term_text.specs.RoundTrip.{ReadsBack}
 use Rattle.term_text.specs.Text.{is_digit, is_small, is_name, begins, spelled}

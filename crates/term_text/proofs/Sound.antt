@@ -7,7 +7,7 @@ use Rattle.ets_term.specs.declared.term.Term.TheVariants.{Int, Atom}
 use Rattle.term_text.specs.declared.fault.TextFault.{TextFault}
 use Rattle.term_text.specs.declared.fault.TextFault.TheVariants.{OutOfRange, AtomTooLong}
 use Rattle.term_text.specs.Text.{is_blank, is_digit, is_small, is_name, begins}
-use Rattle.term_text.specs.Reader.{OpenBracket, integer, byte, Mode, wants, digit, number, name, quoted, escaped, signs, angle, opened_binary, wants_byte, behind_byte, behind_string, after, Reading, reads_on, found, fails, signed, max_magnitude, next, end, read_from, reading}
+use Rattle.term_text.specs.inside.Reader.{OpenBracket, integer, byte, Mode, wants, digit, number, name, quoted, escaped, signs, angle, opened_binary, wants_byte, behind_byte, behind_string, after, Reading, reads_on, found, fails, signed, max_magnitude, next, end, read_from, reading}
 use Rattle.term_text.specs.Faults.{plain_form}
 use Rattle.term_text.specs.Grammar.{Spells, Ends, Front, plain_atom}
 use Rattle.term_text.proofs.Places.{read-fails}

@@ -3,7 +3,7 @@ use Rattle.std.proofs.Common.{ℕ, ◌≡◌, refl, ap, sym, subst, ◌∙◌, �
 use Rattle.ets_term.specs.declared.term.Term.TheVariants.{Binary}
 use Rattle.term_text.specs.declared.fault.TextFault.TheVariants.{Unexpected}
 use Rattle.term_text.specs.Text.{is_blank, is_digit}
-use Rattle.term_text.specs.Reader.{OpenBracket, byte, whole, angle, opened_binary, behind_string, next}
+use Rattle.term_text.specs.inside.Reader.{OpenBracket, byte, whole, angle, opened_binary, behind_string, next}
 use Rattle.term_text.specs.Faults.{opened}
 use Rattle.term_text.specs.Grammar.{AreBlanks, SpellsQuoted, Spells, none, no_bytes, byte_string}
 use Rattle.term_text.proofs.Meaning.{At, Holds, at_more, blank-more, holds-if, noticed}

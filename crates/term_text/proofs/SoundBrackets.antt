@@ -6,7 +6,7 @@ use Rattle.std.proofs.lemmas.Bool.{leb-true}
 use Rattle.ets_term.specs.declared.term.Term.{Term}
 use Rattle.term_text.specs.declared.fault.TextFault.TheVariants.{Unexpected, TooDeep}
 use Rattle.term_text.specs.Text.{is_blank, is_digit, closes, begins_term}
-use Rattle.term_text.specs.Reader.{OpenBracket, integer, wants, reads_on, bracket, opening, begin, next_opened}
+use Rattle.term_text.specs.inside.Reader.{OpenBracket, integer, wants, reads_on, bracket, opening, begin, next_opened}
 use Rattle.term_text.specs.Faults.{AwaitsItem, fresh, further, AwaitsTerm, a_term}
 use Rattle.term_text.specs.Grammar.{AreBlanks, opening_sign, closing_sign, Spells, SpellsRow, none, empty_bracket, first_term, more_terms}
 use Rattle.term_text.proofs.FirstBytes.{begins-small}

@@ -7,7 +7,7 @@ use Rattle.std.specs.List.{list_all}
 use Rattle.ets_term.specs.declared.term.Term.TheVariants.{Int, Pid, Tid, Binary}
 use Rattle.term_text.specs.declared.fault.TextFault.TheVariants.{Unexpected}
 use Rattle.term_text.specs.Text.{is_blank, is_digit, is_small, begins, spelled}
-use Rattle.term_text.specs.Reader.{OpenBracket, Number, integer, pid, identifier, byte, whole, signed, max_magnitude, next_behind_byte, next_behind_number, next_digit}
+use Rattle.term_text.specs.inside.Reader.{OpenBracket, Number, integer, pid, identifier, byte, whole, signed, max_magnitude, next_behind_byte, next_behind_number, next_digit}
 use Rattle.term_text.specs.Faults.{AwaitsByte, opened, comma, LeadsNumber, number_start}
 use Rattle.term_text.specs.Grammar.{AreBlanks, SpellsNumber, SpellsBytes, Spells, Ends, first, more, positive, negative, pid_form, identifier_form, bytes}
 use Rattle.term_text.proofs.Numbers.{digit-small}

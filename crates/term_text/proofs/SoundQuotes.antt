@@ -6,7 +6,7 @@ use Rattle.ets_term.specs.declared.term.Term.TheVariants.{Atom, List as ListOf}
 use Rattle.term_text.specs.declared.fault.TextFault.TheVariants.{Unexpected, TooDeep, AtomTooLong}
 use Rattle.term_text.specs.declared.quote_form.QuoteForm.{QuoteForm}
 use Rattle.term_text.specs.declared.quote_form.QuoteForm.TheVariants as form
-use Rattle.term_text.specs.Reader.{OpenBracket, quoted, escaped, Reading, reads_on, code, quote, unquoted, admits, next_quoted, next}
+use Rattle.term_text.specs.inside.Reader.{OpenBracket, quoted, escaped, Reading, reads_on, code, quote, unquoted, admits, next_quoted, next}
 use Rattle.term_text.specs.Faults.{AwaitsTerm, PastAtom, quoted_form, PastDepth, a_character}
 use Rattle.term_text.specs.Grammar.{SpellsQuoted, Spells, none, plain, escaped as escaped_form, quoted_atom, empty_string, string}
 use Rattle.term_text.proofs.Meaning.{Admitted, At, Holds, Lead, QuoteStarts, at_more, here-len, holds-if, more-len, noticed}

@@ -4,7 +4,7 @@ use Rattle.ets_term.specs.declared.term.Term.{Term}
 use Rattle.ets_term.specs.declared.term.Term.TheVariants.{Atom, Pid, Tid, List as ListOf}
 use Rattle.term_text.specs.declared.quote_form.QuoteForm.TheVariants as form
 use Rattle.term_text.specs.Text.{is_digit, is_name, begins}
-use Rattle.term_text.specs.Reader.{OpenBracket, integer, pid, identifier, digits, wants, digit, quoted, signs, angle, opened_binary, after, reads_on, found, code, bracket, opening, put, read_from, reading}
+use Rattle.term_text.specs.inside.Reader.{OpenBracket, integer, pid, identifier, digits, wants, digit, quoted, signs, angle, opened_binary, after, reads_on, found, code, bracket, opening, put, read_from, reading}
 use Rattle.term_text.specs.Grammar.{AreBlanks, opening_sign, closing_sign, Spells, SpellsRow, Ends, Front, positive, negative, plain_atom, quoted_atom, pid_form, identifier_form, no_bytes, bytes, byte_string, empty_string, string, empty_bracket, full_bracket, first_term, more_terms}
 use Rattle.term_text.proofs.FirstBytes.{begin-brace, begin-square, begin-minus, begin-quoted, begin-string, begin-angle, begin-identifier}
 use Rattle.term_text.proofs.Blanks.{wants-ignores, after-ignores}

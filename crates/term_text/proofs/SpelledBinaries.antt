@@ -3,7 +3,7 @@ use Rattle.std.proofs.Common.{ℕ, ◌≡◌, refl, ap, ◌∙◌, ◌+◌, ◌+
 use Rattle.ets_term.specs.declared.term.Term.TheVariants.{Binary}
 use Rattle.term_text.specs.declared.quote_form.QuoteForm.TheVariants as form
 use Rattle.term_text.specs.Text.{is_blank, is_digit, begins}
-use Rattle.term_text.specs.Reader.{OpenBracket, byte, whole, quoted, opened_binary, wants_byte, behind_byte, behind_string, reads_on, put, expect, read_from}
+use Rattle.term_text.specs.inside.Reader.{OpenBracket, byte, whole, quoted, opened_binary, wants_byte, behind_byte, behind_string, reads_on, put, expect, read_from}
 use Rattle.term_text.specs.Grammar.{AreBlanks, SpellsQuoted, SpellsBytes, first, more}
 use Rattle.term_text.proofs.Binaries.{opened-digit-here, opened-ends-here, bytes-end-here, wants-digit-here, string-ends-here}
 use Rattle.term_text.proofs.Blanks.{opened_binary_ignores, wants_byte_ignores, behind_byte_ignores, behind_string_ignores}

@@ -7,7 +7,7 @@ use Rattle.ets_term.specs.declared.term.Term.{Term}
 use Rattle.ets_term.specs.declared.term.Term.TheVariants.{Atom}
 use Rattle.term_text.specs.inside.Parts.{counted}
 use Rattle.term_text.specs.Text.{is_digit, is_small, is_name, begins_term, begins}
-use Rattle.term_text.specs.Reader.{OpenBracket, Number, integer, whole, wants, digit, number, name, Reading, reads_on, put, expect, begin, read_from}
+use Rattle.term_text.specs.inside.Reader.{OpenBracket, Number, integer, whole, wants, digit, number, name, Reading, reads_on, put, expect, begin, read_from}
 use Rattle.term_text.specs.Grammar.{SpellsNumber, Ends}
 use Rattle.term_text.proofs.FirstBytes.{begin-digit, begin-name}
 use Rattle.term_text.proofs.Names.{read-name, name-behind}

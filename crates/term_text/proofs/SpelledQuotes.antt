@@ -3,7 +3,7 @@ use Rattle.std.proofs.Common.{ℕ, ◌≡◌, refl, ap, ◌∙◌, ◌+◌, ◌�
 use Rattle.std.proofs.lemmas.Bool.{lt-leb}
 use Rattle.term_text.specs.declared.quote_form.QuoteForm.{QuoteForm}
 use Rattle.term_text.specs.declared.quote_form.QuoteForm.TheVariants as form
-use Rattle.term_text.specs.Reader.{OpenBracket, quoted, escaped, Reading, reads_on, quote, admits, read_from}
+use Rattle.term_text.specs.inside.Reader.{OpenBracket, quoted, escaped, Reading, reads_on, quote, admits, read_from}
 use Rattle.term_text.specs.Grammar.{SpellsQuoted, none, plain, escaped as escaped_form}
 use Rattle.term_text.proofs.Places.{if-true, if-false}
 use Rattle.term_text.proofs.Meaning.{Admitted}

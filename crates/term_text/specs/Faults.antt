@@ -1,5 +1,5 @@
 -- The fault of a text by the grammar, one row for each kind. The text `pre` precedes the byte b that shows the fault.
-use Rattle.std.specs.Prelude.{◌≡◌, ℕ, suc, ◌+◌, ◌-◌, ◌*◌, ◌<◌, List, [], ◌∷◌, ◌++◌, length, true, false, ◌==◌, IsTrue, codes}
+use Rattle.std.specs.Prelude.{◌≡◌, ℕ, suc, ◌+◌, ◌-◌, ◌*◌, ◌<◌, List, [], ◌∷◌, ◌++◌, length, true, false, ◌==◌, IsTrue, codes, Option, None, Some}
 use Rattle.std.specs.List.{list_all}
 use Rattle.ets_term.specs.Character.{is_character, max_characters}
 use Rattle.ets_term.specs.declared.term.Term.{Term}
@@ -69,7 +69,7 @@ pub data PastAtom (pre : List ℕ) (b start : ℕ) : Type 0 where
       → SpellsQuoted apostrophe s cs → length cs ≡ max_characters → is_character b ≡ true → (b == apostrophe) ≡ false
       → PastAtom pre b start
 
--- too out_of_levels: b can begin a term one level past the last, or a character of a string that stands at the last
+-- too deep: b can begin a term below the last level, or a character of a string at the last level
 pub data PastDepth (pre : List ℕ) (b : ℕ) : Type 0 where
   a_term : (os : List OpenBracket) → AwaitsTerm 0 os pre → begins_term b ≡ true → PastDepth pre b
   a_character : (os : List OpenBracket) (lead : List ℕ) → pre ≡ lead ++ codes "\"" → AwaitsTerm 1 os lead
@@ -115,3 +115,17 @@ pub record EndsEarly (text : List ℕ) (at : ℕ) : Type 0 where
 abbrev pub IsFault : List ℕ → TextFault → Type 0
 IsFault text (Unclosed at) = EndsEarly text at
 IsFault text f = IsNoticed text f
+
+-- the fault of the text, or memory ran out
+abbrev pub IsFaultOrMemory : List ℕ → TextFault → Type 0
+IsFaultOrMemory text Memory = Unit {0}
+IsFaultOrMemory text f = IsFault text f
+
+-- the offset of a fault in bytes
+abbrev pub offset : TextFault → Option ℕ
+offset (Unexpected at) = Some at
+offset (Unclosed at) = Some at
+offset (OutOfRange at) = Some at
+offset (TooDeep at) = Some at
+offset (AtomTooLong at) = Some at
+offset Memory = None

@@ -1,11 +1,10 @@
 pub mod Text
 pub mod Forms
-pub mod Reader
-pub mod Given
-pub mod Printed
-pub mod Sent
 pub mod Grammar
 pub mod Faults
+pub mod Reading
+pub mod Printed
+pub mod Sent
 pub mod Prefixes
 pub mod RoundTrip
 pub mod inside

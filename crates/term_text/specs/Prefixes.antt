@@ -1,7 +1,7 @@
 -- What the reader can find after the bytes that it has taken.
 use Rattle.std.specs.Prelude.{◌≡◌, ℕ, ◌+◌, List, [], ◌∷◌, ◌++◌, false}
 use Rattle.ets_term.specs.declared.term.Term.{Term}
-use Rattle.term_text.specs.Reader.{wants, Reading, reads_on, found, fails, take_byte, reading}
+use Rattle.term_text.specs.inside.Reader.{wants, Reading, reads_on, found, fails, take_byte, reading}
 
 -- the state after some bytes
 abbrev pub state : ℕ → Reading → List ℕ → Reading

@@ -4,7 +4,7 @@ use Rattle.ets_term.specs.Depth.{depth, max_depth}
 use Rattle.ets_term.specs.Fits.{Fits}
 use Rattle.ets_term.specs.declared.term.Term.{Term}
 use Rattle.term_text.specs.Grammar.{Ends}
-use Rattle.term_text.specs.Reader.{found, reading}
+use Rattle.term_text.specs.inside.Reader.{found, reading}
 use Rattle.term_text.specs.Printed.{printed}
 
 -- The printed text of a term of at most max_depth levels is read as this term, to its last byte, if the text after it

@@ -1,6 +1,6 @@
 //! Reads binaries, pids and table identifiers.
 ghost use Rattle.std.specs.Prelude.{◌≡◌, ◌+◌, ◌≤◌, ◌<◌, ◌∷◌, [], List, true, length, IfOk, codes};
-ghost use Rattle.term_text.specs.Reader.{OpenBracket, byte, digit, quoted, reads_on, opened_binary, angle, expect, digits, pid, identifier};
+ghost use Rattle.term_text.specs.inside.Reader.{OpenBracket, byte, digit, quoted, reads_on, opened_binary, angle, expect, digits, pid, identifier};
 ghost use Rattle.term_text.specs.inside.Parts.{Reads, ReadsBytes};
 ghost use Rattle.term_text.specs.declared.quote_form.QuoteForm.TheVariants as form;
 

@@ -2,9 +2,9 @@
 ghost use Rattle.std.specs.Prelude.{◌≡◌, ◌+◌, ◌≤◌, ◌==◌, length, drop, false};
 ghost use Rattle.ets_term.specs.Character.{is_character};
 ghost use Rattle.std.specs.List.{prefix_len};
-ghost use Rattle.term_text.specs.Reader.{Reading};
+ghost use Rattle.term_text.specs.inside.Reader.{Reading};
 ghost use Rattle.term_text.specs.inside.Parts.{IgnoresBlanks, Reaches};
-ghost use Rattle.term_text.specs.Text.{is_blank, is_digit, is_small, is_name, closes, begins_term, begins};
+ghost use Rattle.term_text.specs.Text.{is_blank, is_digit, is_small, is_name, begins_term, begins};
 
 /// Returns whether the byte is a space, tab, line feed or carriage return.
 #[tactic(auto, unfolding(crate::specs::Text::is_blank))]
@@ -36,14 +36,6 @@ pub fn is_name_byte(b: u8) -> bool
     ensures { result ≡ is_name b }
 {
     is_small_byte(b) || (b >= b'A' && b <= b'Z') || is_digit_byte(b) || b == b'_' || b == b'@'
-}
-
-/// Returns whether the byte closes the bracket.
-#[tactic(auto, unfolding(crate::specs::Text::closes))]
-pub(crate) fn is_closing_byte(square: bool, b: u8) -> bool
-    ensures { result ≡ closes square b }
-{
-    if square { b == b']' } else { b == b'}' }
 }
 
 /// Returns whether a term can begin with the byte.

@@ -1,5 +1,5 @@
 ghost use Rattle.std.specs.Prelude.{◌≡◌};
-ghost use Rattle.term_text.specs.Given.{offset};
+ghost use Rattle.term_text.specs.Faults.{offset};
 
 use std::alloc::{AllocError, AllocFailed};
 

@@ -1,6 +1,6 @@
 //! Reads integers.
 ghost use Rattle.std.specs.Prelude.{◌≡◌, ◌≤◌, List, length, IfOk};
-ghost use Rattle.term_text.specs.Reader.{OpenBracket, integer, digit, reads_on, signed, max_magnitude};
+ghost use Rattle.term_text.specs.inside.Reader.{OpenBracket, integer, digit, reads_on, signed, max_magnitude};
 ghost use Rattle.term_text.specs.inside.Parts.{Reads};
 
 use crate::fault::TextFault;
@@ -16,7 +16,7 @@ fn integer_limit(negative: bool) -> Magnitude
 }
 
 /// Returns the integer of this magnitude and sign.
-#[tactic(auto, unfolding(crate::specs::Reader::signed))]
+#[tactic(auto, unfolding(crate::specs::Forms::signed))]
 fn signed_value(negative: bool, n: Magnitude) -> Integer
     requires { n ≤ max_magnitude (integer negative) }
     ensures { result ≡ signed negative n }

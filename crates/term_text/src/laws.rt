@@ -2,7 +2,7 @@
 ghost use Rattle.std.specs.Prelude.{◌≡◌, ◌++◌, ℕ, List};
 ghost use Rattle.term_text.specs.Faults.{IsFault};
 ghost use Rattle.term_text.specs.Prefixes.{GoesOn, HasNoFault, so_far};
-ghost use Rattle.term_text.specs.Reader.{fails, found, reading};
+ghost use Rattle.term_text.specs.inside.Reader.{fails, found, reading};
 ghost use Rattle.term_text.specs.Grammar.{Front};
 ghost use Rattle.term_text.specs.RoundTrip.{ReadsBack};
 ghost use Rattle.ets_term.specs.declared.term.Term.{Term};
@@ -32,5 +32,5 @@ pub fn printed_text_reads_as_itself()
 /// of a text that could continue, or else belongs to the first byte with which no text can.
 pub fn faults_say_why()
     ensures noticed { (text : List ℕ) (f : TextFault) → reading text ≡ fails f → IsFault text f }
-    ensures told { (text : List ℕ) (f : TextFault) → IsFault text f → reading text ≡ fails f }
+    ensures reported { (text : List ℕ) (f : TextFault) → IsFault text f → reading text ≡ fails f }
 {}

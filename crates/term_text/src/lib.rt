@@ -16,6 +16,7 @@
 #![tactic(auto)]
 
 mod binary;
+mod bracket;
 mod bytes;
 mod fault;
 mod integer;

@@ -1,6 +1,6 @@
 //! Reads atoms without quotes.
 ghost use Rattle.std.specs.Prelude.{◌≡◌, ◌+◌, ◌≤◌, ◌<◌, ◌∷◌, [], List, true, length, IfOk, slice_index};
-ghost use Rattle.term_text.specs.Reader.{OpenBracket, name, reads_on};
+ghost use Rattle.term_text.specs.inside.Reader.{OpenBracket, name, reads_on};
 ghost use Rattle.term_text.specs.inside.Parts.{Reads};
 ghost use Rattle.term_text.specs.Text.{is_small};
 

@@ -71,7 +71,7 @@ fn append_comma<S: Sink>(later: bool, out: &mut S) -> Result<(), S::Fault>
     if later { out.write_str(",") } else { Ok(()) }
 }
 
-/// A number between two signs.
+/// Appends a number between two signs.
 fn append_number<S: Sink>(front: &str, n: u32, back: &str, out: &mut S) -> Result<(), S::Fault>
     ensures { AppendsOrFront (S.contents out.old) (S.contents out.new) (front.now ++ (decimal n ++ back.now)) result }
 {
@@ -96,6 +96,7 @@ fn append_integer<S: Sink>(n: Integer, out: &mut S) -> Result<(), S::Fault>
     out.write_str(buffer.format(n))
 }
 
+/// Appends the text of an atom.
 fn append_atom<S: Sink>(name: &Atom, out: &mut S) -> Result<(), S::Fault>
     ensures { AppendsOrFront (S.contents out.old) (S.contents out.new) (atom_text name.now) result }
 {

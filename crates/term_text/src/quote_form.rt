@@ -1,5 +1,5 @@
 ghost use Rattle.std.specs.Prelude.{◌≡◌, ◌+◌, None};
-ghost use Rattle.term_text.specs.Reader.{quote};
+ghost use Rattle.term_text.specs.inside.Reader.{quote};
 ghost use Rattle.term_text.specs.inside.Parts.{IsShort, Refuses};
 
 use crate::fault::TextFault;

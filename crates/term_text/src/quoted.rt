@@ -2,7 +2,7 @@
 ghost use Rattle.std.specs.Prelude.{◌≡◌, ◌+◌, ◌≤◌, ◌<◌, ◌==◌, ◌∷◌, [], List, map, true, false, length, IfOk, IsTrue, slice_index};
 ghost use Rattle.std.specs.List.{list_all};
 ghost use Rattle.ets_term.specs.Character.{is_character};
-ghost use Rattle.term_text.specs.Reader.{code, quote, OpenBracket, quoted, reads_on};
+ghost use Rattle.term_text.specs.inside.Reader.{code, quote, OpenBracket, quoted, reads_on};
 ghost use Rattle.term_text.specs.inside.Parts.{ReadsEscaped, ReadsCharacter, IsShort, ReadsQuoted, Reads, IsOutOfLevels};
 ghost use Rattle.term_text.specs.declared.quote_form.QuoteForm.TheVariants as form;
 

@@ -1,11 +1,14 @@
 //! Reads terms by recursive descent, and counts the levels left.
-ghost use Rattle.std.specs.Prelude.{◌≡◌, ◌+◌, ◌≤◌, ◌<◌, ◌∷◌, List, true, false, length, IfOk, slice_index};
-ghost use Rattle.term_text.specs.Reader.{OpenBracket, wants, reads_on, opening, bracket, begin, reading};
-ghost use Rattle.term_text.specs.Given.{GivesTerm};
-ghost use Rattle.term_text.specs.inside.Parts.{Reads};
+ghost use Rattle.std.specs.Prelude.{◌≡◌, ◌+◌, ◌≤◌, ◌<◌, ◌∷◌, List, true, false, length, IfOk, IfErr, slice_index};
+ghost use Rattle.term_text.specs.inside.Reader.{OpenBracket, wants, reads_on, opening, begin, reading};
+ghost use Rattle.term_text.specs.Faults.{IsFaultOrMemory};
+ghost use Rattle.term_text.specs.Grammar.{Front};
+ghost use Rattle.term_text.specs.Reading.{ReaderReturns};
+ghost use Rattle.term_text.specs.inside.Parts.{Reads, is_square};
 
 use crate::binary::{angle_at, identifier_at};
-use crate::bytes::{is_closing_byte, is_digit_byte, is_first_byte, past_blanks};
+use crate::bracket::Bracket;
+use crate::bytes::{is_digit_byte, is_first_byte, past_blanks};
 use crate::fault::TextFault;
 use crate::integer::integer_at;
 use crate::name::name_at;
@@ -16,7 +19,8 @@ use std::alloc::Global;
 /// Reads the term at the front of the text. Returns it with the number of bytes that it and the blanks before it take.
 /// If the text does not begin with a term, returns the fault of the first byte with which no term can continue.
 pub fn read_term(alloc: Global, text: &str) -> Result<(Term, usize), TextFault>
-    ensures { GivesTerm (reading text.now) result }
+    ensures found { IfOk result (λ x. Front text.now x.0 x.1) }
+    ensures fault { IfErr result (λ f. IsFaultOrMemory text.now f) }
 {
     let bytes = text.as_bytes();
     read_term_bytes(alloc, bytes)
@@ -24,7 +28,10 @@ pub fn read_term(alloc: Global, text: &str) -> Result<(Term, usize), TextFault>
 
 /// Does what `read_term` does for a text in bytes.
 pub fn read_term_bytes(alloc: Global, text: &[u8]) -> Result<(Term, usize), TextFault>
-    ensures { GivesTerm (reading text.now) result }
+    ensures found { IfOk result (λ x. Front text.now x.0 x.1) }
+    ensures fault { IfErr result (λ f. IsFaultOrMemory text.now f) }
+    // Follows from the two clauses above by the laws. Specifications of lines and calls need the result as a function.
+    ensures exactly { ReaderReturns (reading text.now) result }
 {
     term_at(alloc, text, 0, MAX_DEPTH)
 }
@@ -70,8 +77,8 @@ fn form_at(
         return Err(TextFault::TooDeep(at));
     }
     match b {
-        b'{' => bracket_at(alloc, text, at + 1, false, levels_left - 1),
-        b'[' => bracket_at(alloc, text, at + 1, true, levels_left - 1),
+        b'{' => bracket_at(alloc, text, at + 1, Bracket::Brace, levels_left - 1),
+        b'[' => bracket_at(alloc, text, at + 1, Bracket::Square, levels_left - 1),
         b'-' => integer_at(text, at + 1, at, true),
         b'\'' => quoted_atom_at(alloc, text, at),
         b'"' => string_at(alloc, text, at + 1, levels_left == 1),
@@ -87,24 +94,24 @@ fn form_at(
     }
 }
 
-/// A tuple, or a list if square, behind the sign that opens it, with `room` levels left inside.
+/// Reads a tuple or list after its opening sign, with `levels_left` levels left inside.
 #[cycle(term)]
 fn bracket_at(
     alloc: Global,
     text: &[u8],
     at: usize,
-    square: bool,
+    bracket: Bracket,
     levels_left: usize,
 ) -> Result<(Term, usize), TextFault>
     requires { at ≤ length text.now }
     ensures within { IfOk result (λ x. (at ≤ x.1) × (x.1 ≤ length text.now)) }
     ensures reads { (os : List OpenBracket) → length os + 1 + levels_left ≡ MAX_DEPTH
-        → Reads text.now at (reads_on (wants true) (opening square ∷ os)) os result }
+        → Reads text.now at (reads_on (wants true) (opening (is_square bracket) ∷ os)) os result }
 {
     let mut items = Items::new(alloc);
     let mut place = past_blanks(text, at);
-    if place < text.len() && is_closing_byte(square, text[place]) {
-        return Ok((bracket_of(square, items), place + 1));
+    if place < text.len() && bracket.is_closed_by(text[place]) {
+        return Ok((bracket.enclose(items), place + 1));
     }
     loop {
         let (item, end) = match term_at(alloc, text, place, levels_left) {
@@ -116,23 +123,12 @@ fn bracket_at(
         if behind >= text.len() {
             return Err(TextFault::Unclosed(behind));
         }
-        if is_closing_byte(square, text[behind]) {
-            return Ok((bracket_of(square, items), behind + 1));
+        if bracket.is_closed_by(text[behind]) {
+            return Ok((bracket.enclose(items), behind + 1));
         }
         if text[behind] != b',' {
             return Err(TextFault::Unexpected(behind));
         }
         place = behind + 1;
-    }
-}
-
-/// Returns the list or tuple of the terms.
-fn bracket_of(square: bool, terms: Items<Term>) -> Term
-    ensures { result ≡ bracket (record { square = square; terms = terms }) }
-{
-    if square {
-        Term::List(terms)
-    } else {
-        Term::Tuple(terms)
     }
 }

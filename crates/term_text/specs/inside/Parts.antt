@@ -1,15 +1,17 @@
 -- The private contracts of the recursive descent: each function runs a part of the automaton.
-use Rattle.std.specs.Prelude.{◌≡◌, ℕ, List, [], ◌∷◌, ◌++◌, ◌+◌, ◌-◌, length, drop, ◌≤◌, Bool, true, nat_le, Option, None, Some, Result, Ok, Err, codes}
+use Rattle.std.specs.Prelude.{◌≡◌, ℕ, List, [], ◌∷◌, ◌++◌, ◌+◌, ◌-◌, length, drop, ◌≤◌, Bool, true, false, nat_le, Option, None, Some, Result, Ok, Err, codes}
 use Rattle.std.specs.List.{prefix_len}
 use Rattle.ets_term.specs.declared.term.Term.{Term}
 use Rattle.ets_term.specs.declared.term.Term.TheVariants.{Int, Pid, Tid, Binary}
 use Rattle.ets_term.specs.Depth.{max_depth}
 use Rattle.ets_term.specs.Character.{max_characters}
 use Rattle.term_text.specs.declared.fault.TextFault.{TextFault}
-use Rattle.term_text.specs.Reader.{OpenBracket, Number, integer, pid, identifier, byte, Expect, whole, digit, behind_byte, quoted, escaped, unquoted, admits, Reading, reads_on, fails, signed, max_magnitude, put, expect, take_byte, read_from}
+use Rattle.term_text.specs.inside.Reader.{OpenBracket, Number, integer, pid, identifier, byte, Expect, whole, digit, behind_byte, quoted, escaped, unquoted, admits, Reading, reads_on, fails, signed, max_magnitude, put, expect, take_byte, read_from}
+use Rattle.term_text.specs.declared.bracket.Bracket.{Bracket}
+use Rattle.term_text.specs.declared.bracket.Bracket.TheVariants.{Square, Brace}
 use Rattle.term_text.specs.declared.quote_form.QuoteForm.{QuoteForm}
 use Rattle.term_text.specs.declared.quote_form.QuoteForm.TheVariants as form
-use Rattle.term_text.specs.Given.{Fails}
+use Rattle.term_text.specs.Reading.{ReaderFails}
 use Rattle.term_text.specs.Text.{is_blank, is_digit}
 
 -- from s before the byte at, the automaton reaches z before the byte n
@@ -19,7 +21,7 @@ Reaches text at s n z = read_from at s (drop at text) ≡ read_from n z (drop n 
 -- from s before the byte at, the automaton reaches the end of a term in these brackets, or fails
 abbrev pub Reads : List ℕ → ℕ → Reading → List OpenBracket → Result (Term × ℕ) TextFault → Type 0
 Reads text at s os (Ok x) = Reaches text at s x.1 (put os x.0 x.1)
-Reads text at s os (Err f) = Fails f (read_from at s (drop at text))
+Reads text at s os (Err f) = ReaderFails f (read_from at s (drop at text))
 
 -- after the digits of a number, which end before the byte n
 abbrev pub counted : ℕ → Number → ℕ → List OpenBracket → Reading
@@ -39,14 +41,19 @@ ReadsNumber text at start limit (Ok x) =
     → Reaches text at (reads_on (digit kind start) os) x.1 (counted x.1 kind x.0 os)
 ReadsNumber text at start limit (Err f) =
     (kind : Number) (os : List OpenBracket) → limit ≡ max_magnitude kind
-    → Fails f (read_from at (reads_on (digit kind start) os) (drop at text))
+    → ReaderFails f (read_from at (reads_on (digit kind start) os) (drop at text))
 
 -- reads signs that must begin at the byte at
 abbrev pub ReadsSigns : List ℕ → ℕ → List ℕ → Result ℕ TextFault → Type 0
 ReadsSigns text at signs (Ok n) =
     (goal : Expect) (os : List OpenBracket) → Reaches text at (expect at signs goal os) n (expect n [] goal os)
 ReadsSigns text at signs (Err f) =
-    (goal : Expect) (os : List OpenBracket) → Fails f (read_from at (expect at signs goal os) (drop at text))
+    (goal : Expect) (os : List OpenBracket) → ReaderFails f (read_from at (expect at signs goal os) (drop at text))
+
+-- whether the bracket is square
+abbrev pub is_square : Bracket → Bool
+is_square Square = true
+is_square Brace = false
 
 -- blanks do not change the state
 abbrev pub IgnoresBlanks : Reading → Type 0
@@ -72,7 +79,7 @@ abbrev pub ReadsEscaped : List ℕ → ℕ → QuoteForm → Result (ℕ × ℕ)
 ReadsEscaped text at q (Ok x) =
     (cs : List ℕ) (os : List OpenBracket) → Reaches text at (reads_on (escaped q cs) os) x.1 (reads_on (quoted q (cs ++ x.0 ∷ [])) os)
 ReadsEscaped text at q (Err f) =
-    (cs : List ℕ) (os : List OpenBracket) → Fails f (read_from at (reads_on (escaped q cs) os) (drop at text))
+    (cs : List ℕ) (os : List OpenBracket) → ReaderFails f (read_from at (reads_on (escaped q cs) os) (drop at text))
 
 -- reads a further character in quotes, after n
 abbrev pub ReadsCharacter : List ℕ → ℕ → QuoteForm → Bool → ℕ → Result (ℕ × ℕ) TextFault → Type 0
@@ -81,14 +88,14 @@ ReadsCharacter text at q out_of_levels n (Ok x) =
     → Reaches text at (reads_on (quoted q cs) os) x.1 (reads_on (quoted q (cs ++ x.0 ∷ [])) os)
 ReadsCharacter text at q out_of_levels n (Err f) =
     (cs : List ℕ) (os : List OpenBracket) → length cs ≡ n → IsOutOfLevels q out_of_levels os
-    → Fails f (read_from at (reads_on (quoted q cs) os) (drop at text))
+    → ReaderFails f (read_from at (reads_on (quoted q cs) os) (drop at text))
 
 -- reads the characters from the byte at on, and the closing quote
 abbrev pub ReadsQuoted : List ℕ → ℕ → QuoteForm → Bool → Result (List ℕ × ℕ) TextFault → Type 0
 ReadsQuoted text at q out_of_levels (Ok x) =
     (os : List OpenBracket) → IsOutOfLevels q out_of_levels os → Reaches text at (reads_on (quoted q []) os) x.1 (unquoted x.1 q x.0 os)
 ReadsQuoted text at q out_of_levels (Err f) =
-    (os : List OpenBracket) → IsOutOfLevels q out_of_levels os → Fails f (read_from at (reads_on (quoted q []) os) (drop at text))
+    (os : List OpenBracket) → IsOutOfLevels q out_of_levels os → ReaderFails f (read_from at (reads_on (quoted q []) os) (drop at text))
 
 -- reads the bytes of a binary, of which the first must begin at the byte at
 abbrev pub ReadsBytes : List ℕ → ℕ → Result (List ℕ × ℕ) TextFault → Type 0
@@ -96,4 +103,4 @@ ReadsBytes text at (Ok x) =
     (os : List OpenBracket)
     → Reaches text at (reads_on (digit (byte []) at) os) x.1 (expect x.1 (codes ">>") (whole (Binary x.0)) os)
 ReadsBytes text at (Err f) =
-    (os : List OpenBracket) → Fails f (read_from at (reads_on (digit (byte []) at) os) (drop at text))
+    (os : List OpenBracket) → ReaderFails f (read_from at (reads_on (digit (byte []) at) os) (drop at text))

@@ -1,5 +1,5 @@
 use Rattle.std.proofs.Common.{rules, ◌∙◌, ◌+◌, []}
-use Rattle.term_text.specs.Reader.{reads_on, opened_binary, digit, byte, quoted}
+use Rattle.term_text.specs.inside.Reader.{reads_on, opened_binary, digit, byte, quoted}
 use Rattle.term_text.specs.declared.quote_form.QuoteForm.TheVariants as form
 use Rattle.term_text.proofs.Binaries.{opened_quote, opened_digit}
 use Rattle.term_text.proofs.Blanks.{opened_binary_ignores}

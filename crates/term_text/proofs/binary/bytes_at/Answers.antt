@@ -1,5 +1,5 @@
 use Rattle.std.proofs.Common.{◌≡◌, rules, arith, ap, ◌∙◌, ◌++◌, ◌∷◌, [], List, ℕ, sym, drop}
-use Rattle.term_text.specs.Reader.{reads_on, behind_byte, wants_byte, digit, byte, read_from}
+use Rattle.term_text.specs.inside.Reader.{reads_on, behind_byte, wants_byte, digit, byte, read_from}
 use Rattle.term_text.proofs.Binaries.{comma_byte, wants_digit}
 use Rattle.term_text.proofs.Blanks.{behind_byte_ignores, wants_byte_ignores}
 use Rattle.term_text.proofs.binary.bytes_at.Goals as goal

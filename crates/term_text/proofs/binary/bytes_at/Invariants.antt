@@ -1,5 +1,5 @@
 use Rattle.std.proofs.Common.{◌≤◌, ◌-◌, List, [], length}
-use Rattle.term_text.specs.Reader.{OpenBracket, byte, digit, reads_on}
+use Rattle.term_text.specs.inside.Reader.{OpenBracket, byte, digit, reads_on}
 use Rattle.term_text.specs.inside.Parts.{Reaches}
 use Rattle.term_text.proofs.binary.bytes_at.Given as goal
 

@@ -1,5 +1,5 @@
 use Rattle.std.proofs.Common.{◌≤◌, ◌-◌, length}
-use Rattle.term_text.specs.Reader.{Reading}
+use Rattle.term_text.specs.inside.Reader.{Reading}
 use Rattle.term_text.specs.inside.Parts.{IgnoresBlanks, Reaches}
 use Rattle.term_text.proofs.bytes.past_blanks.Given as goal
 

@@ -1,6 +1,6 @@
 use Rattle.std.proofs.Common.{rules, arith, ◌∙◌, ap, List, ℕ, drop}
 use Rattle.ets_term.specs.declared.term.Term.TheVariants.{Atom}
-use Rattle.term_text.specs.Reader.{put, read_from}
+use Rattle.term_text.specs.inside.Reader.{put, read_from}
 use Rattle.term_text.proofs.Names.{name-reaches, name-fails, name-is-text}
 use Rattle.term_text.proofs.name.name_at.Goals as goal
 

@@ -1,5 +1,5 @@
 use Rattle.std.proofs.Common.{◌≡◌, ◌≤◌, List, length, drop}
-use Rattle.term_text.specs.Reader.{Expect, OpenBracket, expect, read_from}
+use Rattle.term_text.specs.inside.Reader.{Expect, OpenBracket, expect, read_from}
 use Rattle.term_text.proofs.number.literal_at.Given as goal
 
 abbrev pub invariant-loop-sign : goal.invariant-loop-sign

@@ -1,5 +1,5 @@
 use Rattle.std.proofs.Common.{◌≡◌, take, map}
-use Rattle.term_text.specs.Reader.{code}
+use Rattle.term_text.specs.inside.Reader.{code}
 use Rattle.term_text.proofs.quoted.codes_of.Given as goal
 
 abbrev pub invariant-loop-c : goal.invariant-loop-c

@@ -1,7 +1,7 @@
 use Rattle.std.proofs.Common.{◌≤◌, ◌-◌, List, [], length, IsTrue}
 use Rattle.std.specs.List.{list_all}
 use Rattle.ets_term.specs.Character.{is_character}
-use Rattle.term_text.specs.Reader.{OpenBracket, quoted, reads_on}
+use Rattle.term_text.specs.inside.Reader.{OpenBracket, quoted, reads_on}
 use Rattle.term_text.specs.inside.Parts.{Reaches, IsOutOfLevels, IsShort}
 use Rattle.term_text.proofs.quoted.quoted_at.Given as goal
 

@@ -1,6 +1,7 @@
 use Rattle.std.proofs.Common.{◌≡◌, rules, arith, ap, sym, ◌∙◌, ◌+◌, ◌-◌, ◌∷◌, [], get_or, length, drop, false}
 use Rattle.ets_term.specs.declared.term.Term.{Term}
-use Rattle.term_text.specs.Reader.{OpenBracket, integer, wants, digit, number, name, after, reads_on, bracket, with_term, put, begin, read_from}
+use Rattle.term_text.specs.inside.Reader.{OpenBracket, integer, wants, digit, number, name, after, reads_on, bracket, with_term, put, begin, read_from}
+use Rattle.term_text.specs.inside.Parts.{is_square}
 use Rattle.term_text.specs.Text.{is_digit}
 use Rattle.term_text.specs.declared.fault.TextFault.TheVariants.{Unexpected, TooDeep}
 use Rattle.term_text.proofs.FirstBytes as begins
@@ -55,7 +56,7 @@ form_at-returns-in-35-clause-reads t c = λ os e.
 pub bracket_at-returns-then-behind-text-clause-reads :
     goal.bracket_at-returns-then-behind-text-clause-reads
 bracket_at-returns-then-behind-text-clause-reads t c = λ os e.
-    let o : OpenBracket = record { square = c.args.square; terms = c.loop-found.items } in
+    let o : OpenBracket = record { square = is_square c.args.bracket; terms = c.loop-found.items } in
     let p : OpenBracket = with_term o c.in-Ok.found.0 in
     let behind = c.past_blanks-behind.result in
     c.loop-found.invariant.reads os e
@@ -63,13 +64,13 @@ bracket_at-returns-then-behind-text-clause-reads t c = λ os e.
     ∙ c.past_blanks-behind.ensures.stays (reads_on after (p ∷ os)) (after-ignores p os)
     ∙ begins.after-ends c.args.text.now behind p os (omega arith)
 
-pub bracket_at-returns-then-is_closing_byte-2-clause-reads :
-    goal.bracket_at-returns-then-is_closing_byte-2-clause-reads
-bracket_at-returns-then-is_closing_byte-2-clause-reads t c = λ os e.
-    let o : OpenBracket = record { square = c.args.square; terms = c.loop-found.items } in
+pub bracket_at-returns-then-is_closed_by-2-clause-reads :
+    goal.bracket_at-returns-then-is_closed_by-2-clause-reads
+bracket_at-returns-then-is_closed_by-2-clause-reads t c = λ os e.
+    let o : OpenBracket = record { square = is_square c.args.bracket; terms = c.loop-found.items } in
     let p : OpenBracket = with_term o c.in-Ok.found.0 in
     let behind = c.past_blanks-behind.result in
-    let term : bracket p ≡ c.bracket_of-then-is_closing_byte-2.result = search rules in
+    let term : bracket p ≡ c.enclose-then-is_closed_by-2.result = search rules in
     c.loop-found.invariant.reads os e
     ∙ c.in-Ok.ensures.reads (o ∷ os) (omega (arith, e))
     ∙ c.past_blanks-behind.ensures.stays (reads_on after (p ∷ os)) (after-ignores p os)
@@ -79,7 +80,7 @@ bracket_at-returns-then-is_closing_byte-2-clause-reads t c = λ os e.
 pub bracket_at-returns-then-text-behind-ne44-clause-reads :
     goal.bracket_at-returns-then-text-behind-ne44-clause-reads
 bracket_at-returns-then-text-behind-ne44-clause-reads t c = λ os e.
-    let o : OpenBracket = record { square = c.args.square; terms = c.loop-found.items } in
+    let o : OpenBracket = record { square = is_square c.args.bracket; terms = c.loop-found.items } in
     let p : OpenBracket = with_term o c.in-Ok.found.0 in
     let behind = c.past_blanks-behind.result in
     c.loop-found.invariant.reads os e
@@ -90,9 +91,9 @@ bracket_at-returns-then-text-behind-ne44-clause-reads t c = λ os e.
 pub bracket_at-loop-found-preserved : goal.bracket_at-loop-found-preserved
 bracket_at-loop-found-preserved t c = record {
   reads = λ os e.
-      let o : OpenBracket = record { square = c.args.square; terms = c.loop-found.items } in
+      let o : OpenBracket = record { square = is_square c.args.bracket; terms = c.loop-found.items } in
       let p : OpenBracket = with_term o c.in-Ok.found.0 in
-      let q : OpenBracket = record { square = c.args.square; terms = c.push.new.self } in
+      let q : OpenBracket = record { square = is_square c.args.bracket; terms = c.push.new.self } in
       let same : p ≡ q = search rules in
       let behind = c.past_blanks-behind.result in
       c.loop-found.invariant.reads os e

@@ -1,6 +1,6 @@
 use Rattle.std.proofs.Common.{◌≡◌, ◌≤◌, ◌+◌, ◌-◌, ◌*◌, ◌∷◌, List, length, true, false}
-use Rattle.term_text.specs.Reader.{OpenBracket, wants, reads_on, opening}
-use Rattle.term_text.specs.inside.Parts.{Reaches}
+use Rattle.term_text.specs.inside.Reader.{OpenBracket, wants, reads_on, opening}
+use Rattle.term_text.specs.inside.Parts.{Reaches, is_square}
 use Rattle.term_text.proofs.reading.+term.Given as goal
 
 abbrev pub decreases-term_at : goal.decreases-term_at
@@ -14,7 +14,7 @@ decreases-bracket_at l = 3 * l.levels_left + 2
 
 abbrev pub invariant-bracket_at-loop-found : goal.invariant-bracket_at-loop-found
 invariant-bracket_at-loop-found l = record {
-  reads : (os : List OpenBracket) → length os + 1 + l.levels_left ≡ 128 → Reaches l.text l.at (reads_on (wants true) (opening l.square ∷ os)) l.place (reads_on (wants false) (record { square = l.square; terms = l.items } ∷ os));
+  reads : (os : List OpenBracket) → length os + 1 + l.levels_left ≡ 128 → Reaches l.text l.at (reads_on (wants true) (opening (is_square l.bracket) ∷ os)) l.place (reads_on (wants false) (record { square = is_square l.bracket; terms = l.items } ∷ os));
   behind : l.at ≤ l.place;
   within : l.place ≤ length l.text;
 }
