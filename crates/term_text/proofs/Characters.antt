@@ -7,7 +7,7 @@ use Rattle.term_text.specs.declared.quote_form.QuoteForm.{QuoteForm}
 use Rattle.term_text.specs.inside.Reader.{OpenBracket, quoted, escaped, Reading, reads_on, fails, quote, admits, read_from}
 use Rattle.term_text.specs.Reading.{ReaderFails}
 use Rattle.term_text.specs.inside.Parts.{Refuses, ReadsCharacter}
-use Rattle.term_text.proofs.Places.{by-test, fails-at, if-true, if-false}
+use Rattle.term_text.proofs.Offsets.{by-test, fails-at, if-true, if-false}
 
 either-false : (a b : Bool) → a ≡ false → b ≡ false → (a || b) ≡ false
 either-false true b h k = h

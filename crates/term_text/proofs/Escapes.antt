@@ -12,7 +12,7 @@ use Rattle.ets_term.specs.Character.{is_character}
 use Rattle.term_text.specs.Printed.{escaped}
 use Rattle.term_text.specs.Sent.{AppendsFront, AppendsOrFront}
 use Rattle.term_text.proofs.Pieces.{appends-then, front-first, front-then, front-as, sends-as, sends-then, appends-nothing}
-use Rattle.term_text.proofs.Places.{if-true, if-false}
+use Rattle.term_text.proofs.Offsets.{if-true, if-false}
 
 small : (b : ℕ) → is_character b ≡ true → b < 128
 small b h = grind (arith, nat_tests)

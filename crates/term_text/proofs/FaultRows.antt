@@ -9,14 +9,14 @@ use Rattle.term_text.specs.declared.fault.TextFault.TheVariants.{OutOfRange, Too
 use Rattle.term_text.specs.declared.quote_form.QuoteForm.{QuoteForm}
 use Rattle.term_text.specs.declared.quote_form.QuoteForm.TheVariants as form
 use Rattle.term_text.specs.Text.{is_blank, is_digit, is_small, is_name, begins, spelled}
-use Rattle.term_text.specs.inside.Reader.{OpenBracket, Number, integer, pid, identifier, byte, digits, wants, digit, name, quoted, signs, angle, opened_binary, wants_byte, behind_byte, after, Reading, reads_on, fails, opening, quote, admits, take_byte, read_from, reading}
+use Rattle.term_text.specs.inside.Reader.{OpenBracket, Number, integer, pid, identifier, byte, digits, wants, digit, name, quoted, signs, angle, opened_binary, wants_byte, after_byte, after, Reading, reads_on, fails, opening, quote, admits, take_byte, read_from, reading}
 use Rattle.term_text.specs.Faults.{AwaitsItem, fresh, further, AwaitsTerm, AwaitsByte, opened, comma, LeadsNumber, number_start, PastRange, PastAtom, plain_form, quoted_form, PastDepth, a_term, a_character}
 use Rattle.term_text.specs.Grammar.{opening_sign}
 use Rattle.term_text.proofs.FirstBytes.{begin-out_of_levels, begin-minus, begin-quoted, begin-string, begin-angle, begin-identifier, begin-name}
 use Rattle.term_text.proofs.Binaries.{opened-digit-here, wants-digit-here}
-use Rattle.term_text.proofs.Blanks.{wants-ignores, opened_binary_ignores, wants_byte_ignores, behind_byte_ignores, after-ignores}
+use Rattle.term_text.proofs.Blanks.{wants-ignores, opened_binary_ignores, wants_byte_ignores, after_byte_ignores, after-ignores}
 use Rattle.term_text.proofs.Names.{read-long-name}
-use Rattle.term_text.proofs.Places.{if-true, if-false, read-fails, by-test, nat-le-true, prefix-more, number-past}
+use Rattle.term_text.proofs.Offsets.{if-true, if-false, read-fails, by-test, nat-le-true, prefix-more, number-past}
 use Rattle.term_text.proofs.Meaning.{here-len, begins-more}
 use Rattle.term_text.proofs.Signs.{blank-no-name, blank-no-digit, comma-no-name, comma-no-blank, comma-no-close, comma-no-digit, small-begins, string-begins, quote-begins, minus-begins, angle-begins, hash-begins, digit-no-blank, digit-no-quote}
 use Rattle.term_text.proofs.SoundNumbers.{nine-fits}
@@ -82,12 +82,12 @@ character-fails at q cs os b f other char no_room = by-test (b == 92)
 same-test : (n : ℕ) → n ≡ 255 → (n == 255) ≡ true
 same-test n e = search (arith, rules)
 
-pub depth-told : (pre : List ℕ) (b : ℕ) (rest : List ℕ) → PastDepth pre b → reading (pre ++ b ∷ rest) ≡ fails (TooDeep (length pre))
-depth-told pre b rest (a_term os h starts) =
+pub depth-reported : (pre : List ℕ) (b : ℕ) (rest : List ℕ) → PastDepth pre b → reading (pre ++ b ∷ rest) ≡ fails (TooDeep (length pre))
+depth-reported pre b rest (a_term os h starts) =
     let arrived = here-run 0 os pre (b ∷ rest) h in
     let levels = here-len 0 os pre h in
     arrived.runs ∙ wants-first (length pre) arrived.opened os b (fails (TooDeep (length pre))) rest starts (begin-out_of_levels (length pre) os b starts (omega (arith, levels))) ∙ read-fails (length pre + 1) (TooDeep (length pre)) rest
-depth-told pre b rest (a_character os lead e h char other) =
+depth-reported pre b rest (a_character os lead e h char other) =
     let arrived = here-run 1 os lead (34 ∷ b ∷ rest) h in
     let levels = here-len 1 os lead h in
     let at : ℕ = length lead + 1 in
@@ -102,12 +102,12 @@ count-more : (p : ℕ → Bool) (s t : List ℕ) → list_all p s ≡ true → p
 count-more p [] t h = omega arith
 count-more p (c ∷ s) t h = let q = and_parts (p c) (list_all p s) h in prefix-more p c (s ++ t) q.0 ∙ (let r = count-more p s t q.1 in omega (arith, r))
 
-pub atom-told : (pre : List ℕ) (b start : ℕ) (rest : List ℕ) → PastAtom pre b start → reading (pre ++ b ∷ rest) ≡ fails (AtomTooLong start)
-atom-told pre b start rest (plain_form os k lead s e h st small names long named) = plain-told s e small names long
+pub atom-reported : (pre : List ℕ) (b start : ℕ) (rest : List ℕ) → PastAtom pre b start → reading (pre ++ b ∷ rest) ≡ fails (AtomTooLong start)
+atom-reported pre b start rest (plain_form os k lead s e h st small names long named) = plain-reported s e small names long
   where
-    plain-told : (s : List ℕ) → pre ≡ lead ++ s → begins is_small s ≡ true → list_all is_name s ≡ true → length s ≡ 255 → reading (pre ++ b ∷ rest) ≡ fails (AtomTooLong start)
-    plain-told [] e small names long = absurd (false≢true small)
-    plain-told (c ∷ t) e small names long =
+    plain-reported : (s : List ℕ) → pre ≡ lead ++ s → begins is_small s ≡ true → list_all is_name s ≡ true → length s ≡ 255 → reading (pre ++ b ∷ rest) ≡ fails (AtomTooLong start)
+    plain-reported [] e small names long = absurd (false≢true small)
+    plain-reported (c ∷ t) e small names long =
         let arrived = here-run (suc k) os lead (c ∷ (t ++ b ∷ rest)) h in
         let levels = here-len (suc k) os lead h in
         let at : ℕ = length lead in
@@ -119,7 +119,7 @@ atom-told pre b start rest (plain_form os k lead s e h st small names long named
         ∙ wants-first at arrived.opened os c (reads_on (name at (c ∷ [])) os) (t ++ b ∷ rest) (small-begins c small) (begin-name at os c (omega (arith, levels)) small)
         ∙ read-long-name (at + 1) at (c ∷ []) os (t ++ b ∷ rest) (omega arith) (omega (arith, counted, one_more, long))
         ∙ ap (λ (m : ℕ). fails (AtomTooLong m)) (sym st)
-atom-told pre b start rest (quoted_form os k lead s cs e h st sp long char other) =
+atom-reported pre b start rest (quoted_form os k lead s cs e h st sp long char other) =
     let arrived = here-run (suc k) os lead (39 ∷ (s ++ b ∷ rest)) h in
     let levels = here-len (suc k) os lead h in
     let at : ℕ = length lead in
@@ -184,14 +184,14 @@ number-reached (byte bs) at op os before ds rest (inner, e, in_bytes) room d =
         let p2 : ℕ = p1 + length prior in
         ap (λ (w : List ℕ). read_from p (reads_on opened_binary os) w) (append_assoc row (prior ++ 44 ∷ behind) (ds ++ rest) ∙ ap (λ (w : List ℕ). row ++ w) (append_assoc prior (44 ∷ behind) (ds ++ rest)))
         ∙ bytes-text p os row bs (prior ++ 44 ∷ tail) p1 sp (blanks-then is_digit prior 44 tail h blank-no-digit comma-no-digit) refl
-        ∙ blanks-stay p1 (reads_on (behind_byte bs) os) prior (44 ∷ tail) (behind_byte_ignores bs os) h
-        ∙ byte-taken p2 (reads_on (behind_byte bs) os) (reads_on (wants_byte bs) os) 44 tail (if-false _ _ _ comma-no-blank)
+        ∙ blanks-stay p1 (reads_on (after_byte bs) os) prior (44 ∷ tail) (after_byte_ignores bs os) h
+        ∙ byte-taken p2 (reads_on (after_byte bs) os) (reads_on (wants_byte bs) os) 44 tail (if-false _ _ _ comma-no-blank)
         ∙ blanks-stay (p2 + 1) (reads_on (wants_byte bs) os) behind (ds ++ rest) (wants_byte_ignores bs os) i
         ∙ wants-digit-here (p2 + 1 + length behind) bs os (ds ++ rest) (begins-other is_digit is_blank ds rest d digit-no-blank)
         ∙ ap (λ (m : ℕ). read_from m (reads_on (digit (byte bs) m) os) (ds ++ rest)) (omega (arith, length-append row (prior ++ 44 ∷ behind), length-append prior (44 ∷ behind)))
 
-pub range-told : (pre : List ℕ) (b start : ℕ) (rest : List ℕ) → PastRange pre b start → reading (pre ++ b ∷ rest) ≡ fails (OutOfRange start)
-range-told pre b start rest h =
+pub range-reported : (pre : List ℕ) (b start : ℕ) (rest : List ℕ) → PastRange pre b start → reading (pre ++ b ∷ rest) ≡ fails (OutOfRange start)
+range-reported pre b start rest h =
     let tail : List ℕ = b ∷ rest in
     let at : ℕ = length h.lead in
     let arrived = here-run (suc h.k) h.os h.lead (h.before ++ (h.digits ++ tail)) h.here in

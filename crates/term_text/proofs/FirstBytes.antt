@@ -9,7 +9,7 @@ use Rattle.term_text.specs.declared.quote_form.QuoteForm.TheVariants as form
 use Rattle.term_text.specs.inside.Reader.{OpenBracket, integer, identifier, digits, wants, digit, number, name, quoted, signs, angle, after, Reading, reads_on, fails, opening, bracket, put, begin, read_from}
 use Rattle.term_text.specs.inside.Parts.{Reaches, Reads}
 use Rattle.term_text.specs.Text.{is_blank, is_digit, is_small, begins, begins_term, closes}
-use Rattle.term_text.proofs.Places.{if-true, if-false, read-fails, read-at, fails-at, ends-at, begins_at, nat-le-true}
+use Rattle.term_text.proofs.Offsets.{if-true, if-false, read-fails, read-at, fails-at, ends-at, begins_at, nat-le-true}
 
 pub begin-unexpected : (at : ℕ) (os : List OpenBracket) (b : ℕ) → begins_term b ≡ false → begin at os b ≡ fails (Unexpected at)
 unfolding begin
@@ -74,8 +74,8 @@ begun text at os b z r e h = let P : Reading → Type 0 = λ s. Reads text (at +
 pub out_of_levels-room : (k r : ℕ) → k + r ≡ 128 → (r ≡ 0 → ⊥) → (r == 1) ≡ nat_le 127 k
 out_of_levels-room k r e h = grind (arith, nat_tests)
 
-here : (p : ℕ → Bool) (v : Bool) (text : List ℕ) (place : ℕ) → place < length text → begins p (drop place text) ≡ v → p (get_or text place 0) ≡ v
-here p v text place h e = sym (begins_at p text place h) ∙ e
+here : (p : ℕ → Bool) (v : Bool) (text : List ℕ) (offset : ℕ) → offset < length text → begins p (drop offset text) ≡ v → p (get_or text offset 0) ≡ v
+here p v text offset h e = sym (begins_at p text offset h) ∙ e
 
 -- a byte that is not blank begins the expected term
 pub wants-begin : (text : List ℕ) (at : ℕ) (os : List OpenBracket) → at < length text → begins is_blank (drop at text) ≡ false

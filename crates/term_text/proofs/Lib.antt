@@ -1,6 +1,6 @@
 pub mod Numbers
 pub mod Signs
-pub mod Places
+pub mod Offsets
 pub mod Blanks
 pub mod Characters
 pub mod Binaries
@@ -23,5 +23,5 @@ pub mod SpelledBinaries
 pub mod SpelledForms
 pub mod Spelled
 pub mod RoundTrip
-pub mod FaultsTold
+pub mod FaultLaws
 pub mod FaultRows

@@ -7,7 +7,7 @@ use Rattle.term_text.specs.declared.fault.TextFault.{TextFault}
 use Rattle.term_text.specs.declared.quote_form.QuoteForm.{QuoteForm}
 use Rattle.term_text.specs.declared.quote_form.QuoteForm.TheVariants as form
 use Rattle.term_text.specs.Text.{is_blank, is_digit, is_small, is_name, begins}
-use Rattle.term_text.specs.inside.Reader.{OpenBracket, Number, integer, Expect, whole, digits, Mode, wants, digit, number, name, quoted, escaped, signs, angle, opened_binary, wants_byte, behind_byte, behind_string, after, Reading, reads_on, found, fails, quote}
+use Rattle.term_text.specs.inside.Reader.{OpenBracket, Number, integer, Expect, whole, digits, Mode, wants, digit, number, name, quoted, escaped, signs, angle, opened_binary, wants_byte, after_byte, after_string, after, Reading, reads_on, found, fails, quote}
 use Rattle.term_text.specs.Faults.{AwaitsTerm, AwaitsByte, LeadsNumber, number_start, FaultMeans}
 use Rattle.term_text.specs.Grammar.{AreBlanks, SpellsNumber, SpellsQuoted, SpellsBytes, opening_sign, Spells, SpellsRow, Front}
 
@@ -74,8 +74,8 @@ MeansIn pre (signs cs goal) os = (s : List ℕ) × At os pre s × Leads (s ++ cs
 MeansIn pre angle os = At os pre (60 ∷ [])
 MeansIn pre opened_binary os = (blanks : List ℕ) × At os pre ((60 ∷ 60 ∷ []) ++ blanks) × AreBlanks blanks
 MeansIn pre (wants_byte bs) os = (inner : List ℕ) × At os pre ((60 ∷ 60 ∷ []) ++ inner) × AwaitsByte bs inner
-MeansIn pre (behind_byte bs) os = (row blanks : List ℕ) × At os pre ((60 ∷ 60 ∷ []) ++ (row ++ blanks)) × SpellsBytes row bs × AreBlanks blanks
-MeansIn pre (behind_string bs) os = (before body behind : List ℕ) × At os pre ((60 ∷ 60 ∷ []) ++ (before ++ (34 ∷ (body ++ (34 ∷ behind))))) × AreBlanks before × SpellsQuoted 34 body bs × AreBlanks behind
+MeansIn pre (after_byte bs) os = (row blanks : List ℕ) × At os pre ((60 ∷ 60 ∷ []) ++ (row ++ blanks)) × SpellsBytes row bs × AreBlanks blanks
+MeansIn pre (after_string bs) os = (before body behind : List ℕ) × At os pre ((60 ∷ 60 ∷ []) ++ (before ++ (34 ∷ (body ++ (34 ∷ behind))))) × AreBlanks before × SpellsQuoted 34 body bs × AreBlanks behind
 MeansIn pre after [] = ⊥
 MeansIn pre after (o ∷ os) = Behind o os pre
 

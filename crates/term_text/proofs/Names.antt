@@ -10,7 +10,7 @@ use Rattle.term_text.specs.declared.fault.TextFault.TheVariants.{AtomTooLong}
 use Rattle.term_text.specs.inside.Reader.{OpenBracket, name, Reading, reads_on, fails, put, read_from}
 use Rattle.term_text.specs.inside.Parts.{Reaches}
 use Rattle.term_text.specs.Text.{is_digit, is_small, is_name, begins}
-use Rattle.term_text.proofs.Places.{by-test, if-true, if-false, read-fails, prefix-more, prefix-none, prefix-ends, drop-past}
+use Rattle.term_text.proofs.Offsets.{by-test, if-true, if-false, read-fails, prefix-more, prefix-none, prefix-ends, drop-past}
 
 is-255 : (n : ℕ) → (n == 255) ≡ true → n ≡ 255
 is-255 n h = search (arith, rules)
@@ -61,12 +61,12 @@ read-long-name at start cs os (b ∷ bs) few h = by-test (is_name b)
     not-equal : (n : ℕ) → (n == 255) ≡ false → n ≡ 255 → ⊥
     not-equal n e k = true≢false (sym (same-255 n k) ∙ e)
 
-pub name-behind : (at start : ℕ) (cs : List ℕ) (os : List OpenBracket) (rest : List ℕ) → begins is_name rest ≡ false
+pub name-after : (at start : ℕ) (cs : List ℕ) (os : List OpenBracket) (rest : List ℕ) → begins is_name rest ≡ false
     → read_from at (reads_on (name start cs) os) rest ≡ read_from at (put os (Atom cs) at) rest
-name-behind at start cs [] [] h = refl
-name-behind at start cs (o ∷ os) [] h = refl
-name-behind at start cs [] (b ∷ bs) h = ap (λ (s : Reading). read_from (at + 1) s bs) (if-false _ _ _ h)
-name-behind at start cs (o ∷ os) (b ∷ bs) h = ap (λ (s : Reading). read_from (at + 1) s bs) (if-false _ _ _ h)
+name-after at start cs [] [] h = refl
+name-after at start cs (o ∷ os) [] h = refl
+name-after at start cs [] (b ∷ bs) h = ap (λ (s : Reading). read_from (at + 1) s bs) (if-false _ _ _ h)
+name-after at start cs (o ∷ os) (b ∷ bs) h = ap (λ (s : Reading). read_from (at + 1) s bs) (if-false _ _ _ h)
 
 pub small-is-name : (b : ℕ) → is_small b ≡ true → is_name b ≡ true
 unfolding is_name
@@ -87,7 +87,7 @@ name-reaches text at n os h d e few =
     let size : n - at ≡ k + 1 = omega (arith, c, e) in
     let taken : b ∷ take k bs ≡ take (n - at) (drop at text) = sym (ap (λ (m : ℕ). take m (drop at text)) size ∙ at_drop_more (take (k + 1)) text at 0 h ∙ take-past k b bs) in
     read-name (at + 1) at (b ∷ []) os bs (omega (arith, size, few))
-    ∙ name-behind (at + 1 + k) at (b ∷ take k bs) os (drop k bs) (prefix-ends is_name bs)
+    ∙ name-after (at + 1 + k) at (b ∷ take k bs) os (drop k bs) (prefix-ends is_name bs)
     ∙ ap (λ (xs : List ℕ). read_from (at + 1 + k) (put os (Atom (b ∷ take k bs)) (at + 1 + k)) xs) (drop-drop k (at + 1) text)
     ∙ ap (λ (m : ℕ). read_from m (put os (Atom (b ∷ take k bs)) m) (drop m text)) (sym len)
     ∙ ap (λ (cs : List ℕ). read_from n (put os (Atom cs) n) (drop n text)) taken

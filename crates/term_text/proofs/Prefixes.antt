@@ -6,9 +6,9 @@ use Rattle.term_text.specs.declared.fault.TextFault.{TextFault}
 use Rattle.term_text.specs.declared.quote_form.QuoteForm.{QuoteForm}
 use Rattle.term_text.specs.declared.quote_form.QuoteForm.TheVariants as form
 use Rattle.term_text.specs.Text.{is_blank, is_digit, is_small, is_name, closes}
-use Rattle.term_text.specs.inside.Reader.{OpenBracket, Number, integer, pid, identifier, byte, Expect, whole, digits, Mode, wants, digit, number, name, quoted, escaped, signs, angle, opened_binary, wants_byte, behind_byte, behind_string, after, Reading, reads_on, found, fails, signed, with_term, bracket, put, expect, next_sign, begin, next_after, next_behind, next_opened, next_behind_byte, next_behind_number, next_digit, quote, unquoted, admits, next, take_byte, read_from, reading}
+use Rattle.term_text.specs.inside.Reader.{OpenBracket, Number, integer, pid, identifier, byte, Expect, whole, digits, Mode, wants, digit, number, name, quoted, escaped, signs, angle, opened_binary, wants_byte, after_byte, after_string, after, Reading, reads_on, found, fails, signed, with_term, bracket, put, expect, next_sign, begin, next_after, next_unless_found, next_opened, next_after_byte, next_after_number, next_digit, quote, unquoted, admits, next, take_byte, read_from, reading}
 use Rattle.term_text.specs.Prefixes.{state, so_far, HasNoFault, GoesOn}
-use Rattle.term_text.proofs.Places.{if-true, if-false, read-fails}
+use Rattle.term_text.proofs.Offsets.{if-true, if-false, read-fails}
 use Rattle.term_text.proofs.FirstBytes.{begin-digit}
 
 -- the number of open brackets that a mode needs
@@ -48,19 +48,19 @@ after-in : (at : ℕ) (os : List OpenBracket) (b : ℕ) → 0 < length os → le
 after-in at [] b h k = tt
 after-in at (o ∷ os) b h k = search (arith, rules, levels-if, put-in) depth 8
 
-behind-in : (at : ℕ) (os : List OpenBracket) (t : Term) (b : ℕ) → length os ≤ 127 → InLevels (next_behind at (put os t at) b)
-behind-in at [] t b h = tt
-behind-in at (o ∷ os) t b h = after-in at (with_term o t ∷ os) b (omega arith) h
+unless-found-in : (at : ℕ) (os : List OpenBracket) (t : Term) (b : ℕ) → length os ≤ 127 → InLevels (next_unless_found at (put os t at) b)
+unless-found-in at [] t b h = tt
+unless-found-in at (o ∷ os) t b h = after-in at (with_term o t ∷ os) b (omega arith) h
 
 opened-in : (at : ℕ) (os : List OpenBracket) (b : ℕ) → length os ≤ 128 → InLevels (next_opened at os b)
 opened-in at [] b h = begin-in at [] b
 opened-in at (o ∷ os) b h = search (arith, rules, levels-if, put-in, begin-in) depth 8
 
-byte-in : (at : ℕ) (bs : List ℕ) (os : List OpenBracket) (b : ℕ) → length os ≤ 127 → InLevels (next_behind_byte at bs os b)
+byte-in : (at : ℕ) (bs : List ℕ) (os : List OpenBracket) (b : ℕ) → length os ≤ 127 → InLevels (next_after_byte at bs os b)
 byte-in at bs os b h = search (arith, rules, levels-if, sign-in) depth 8
 
-number-in : (at : ℕ) (kind : Number) (n : ℕ) (os : List OpenBracket) (b : ℕ) → length os ≤ 127 → InLevels (next_behind_number at kind n os b)
-number-in at (integer below) n os b h = behind-in at os (Int (signed below n)) b h
+number-in : (at : ℕ) (kind : Number) (n : ℕ) (os : List OpenBracket) (b : ℕ) → length os ≤ 127 → InLevels (next_after_number at kind n os b)
+number-in at (integer below) n os b h = unless-found-in at os (Int (signed below n)) b h
 number-in at pid n os b h = sign-in at (46 ∷ 48 ∷ 62 ∷ []) (whole (Pid n)) os b h
 number-in at identifier n os b h = sign-in at (62 ∷ []) (whole (Tid n)) os b h
 number-in at (byte bs) n os b h = byte-in at (bs ++ n ∷ []) os b h
@@ -83,7 +83,7 @@ next-in at (wants true) os b h = search (arith, rules, levels-if, opened-in, h.0
 next-in at (wants false) os b h = search (arith, rules, levels-if, begin-in) depth 9
 next-in at (digit kind start) os b h = digit_in at kind start os b h
 next-in at (number kind start n) os b h = search (arith, rules, levels-if, number-in) depth 9
-next-in at (name start cs) os b h = search (arith, rules, levels-if, behind-in) depth 9
+next-in at (name start cs) os b h = search (arith, rules, levels-if, unless-found-in) depth 9
 next-in at (quoted q cs) os b h = search (arith, rules, levels-if, unquoted-in, admits-in) depth 9
 next-in at (escaped q cs) os b h = search (arith, rules, levels-if) depth 9
 next-in at (signs [] goal) os b h = absurd h
@@ -91,8 +91,8 @@ next-in at (signs (c ∷ cs) goal) os b h = sign-in at (c ∷ cs) goal os b h
 next-in at angle os b h = search (arith, rules, levels-if) depth 9
 next-in at opened_binary os b h = search (arith, rules, levels-if, sign-in) depth 9
 next-in at (wants_byte bs) os b h = search (arith, rules, levels-if, digit_in) depth 9
-next-in at (behind_byte bs) os b h = byte-in at bs os b h
-next-in at (behind_string bs) os b h = search (arith, rules, levels-if, sign-in) depth 9
+next-in at (after_byte bs) os b h = byte-in at bs os b h
+next-in at (after_string bs) os b h = search (arith, rules, levels-if, sign-in) depth 9
 next-in at after os b h = after-in at os b h.0 h.1
 
 step-in : (at : ℕ) (s : Reading) (b : ℕ) → InLevels s → InLevels (take_byte at s b)
@@ -167,8 +167,8 @@ zero-blank : is_blank 48 ≡ false
 unfolding is_blank
 zero-blank = refl
 
-byte-ends : (at : ℕ) (bs : List ℕ) (os : List OpenBracket) → CanEnd at (reads_on (behind_byte bs) os)
-byte-ends at bs os = ends-by at (reads_on (behind_byte bs) os) (expect (at + 1) (62 ∷ []) (whole (Binary bs)) os) 62 (if-false _ _ _ angle-blank) (signs-end (at + 1) (62 ∷ []) (Binary bs) os)
+byte-ends : (at : ℕ) (bs : List ℕ) (os : List OpenBracket) → CanEnd at (reads_on (after_byte bs) os)
+byte-ends at bs os = ends-by at (reads_on (after_byte bs) os) (expect (at + 1) (62 ∷ []) (whole (Binary bs)) os) 62 (if-false _ _ _ angle-blank) (signs-end (at + 1) (62 ∷ []) (Binary bs) os)
 
 number-ends : (at start : ℕ) (kind : Number) (n : ℕ) (os : List OpenBracket) → CanEnd at (reads_on (number kind start n) os)
 number-ends at start (integer below) n [] = ([], Int (signed below n), at, refl)
@@ -192,8 +192,8 @@ name-ends at start cs [] = ([], Atom cs, at, refl)
 name-ends at start cs (o ∷ os) =
     ends-by at (reads_on (name start cs) (o ∷ os)) (put os (bracket (with_term o (Atom cs))) (at + 1)) (closer o.square) (if-false _ _ _ (not-name o.square) ∙ if-true _ _ _ (closes-closer o.square)) (finish os (bracket (with_term o (Atom cs))) (at + 1) (at + 1))
 
-string_ends : (at : ℕ) (bs : List ℕ) (os : List OpenBracket) → CanEnd at (reads_on (behind_string bs) os)
-string_ends at bs os = ends-by at (reads_on (behind_string bs) os) (expect (at + 1) (62 ∷ []) (whole (Binary bs)) os) 62 (if-false _ _ _ angle-blank) (signs-end (at + 1) (62 ∷ []) (Binary bs) os)
+string_ends : (at : ℕ) (bs : List ℕ) (os : List OpenBracket) → CanEnd at (reads_on (after_string bs) os)
+string_ends at bs os = ends-by at (reads_on (after_string bs) os) (expect (at + 1) (62 ∷ []) (whole (Binary bs)) os) 62 (if-false _ _ _ angle-blank) (signs-end (at + 1) (62 ∷ []) (Binary bs) os)
 
 unquoted-ends : (at n : ℕ) (q : QuoteForm) (cs : List ℕ) (os : List OpenBracket) → CanEnd at (unquoted n q cs os)
 unquoted-ends at n (form.Atom start) cs os = finish os (Atom cs) at n
@@ -224,8 +224,8 @@ mode-ends at (signs (c ∷ cs) goal) os h = goal-ends at (c ∷ cs) goal os
 mode-ends at angle os h = ends-by at (reads_on angle os) (reads_on opened_binary os) 60 refl (ends-by (at + 1) (reads_on opened_binary os) (expect (at + 1 + 1) (62 ∷ []) (whole (Binary [])) os) 62 (if-false _ _ _ angle-blank ∙ if-false _ _ _ angle-digit) (signs-end (at + 1 + 1) (62 ∷ []) (Binary []) os))
 mode-ends at opened_binary os h = ends-by at (reads_on opened_binary os) (expect (at + 1) (62 ∷ []) (whole (Binary [])) os) 62 (if-false _ _ _ angle-blank ∙ if-false _ _ _ angle-digit) (signs-end (at + 1) (62 ∷ []) (Binary []) os)
 mode-ends at (wants_byte bs) os h = ends-by at (reads_on (wants_byte bs) os) (reads_on (number (byte bs) at (48 - 48)) os) 48 (if-false _ _ _ zero-blank ∙ if-true _ _ _ zero-digit) (number-ends (at + 1) at (byte bs) (48 - 48) os)
-mode-ends at (behind_byte bs) os h = byte-ends at bs os
-mode-ends at (behind_string bs) os h = string_ends at bs os
+mode-ends at (after_byte bs) os h = byte-ends at bs os
+mode-ends at (after_string bs) os h = string_ends at bs os
 mode-ends at after [] h = absurd (omega (arith, h.0))
 mode-ends at after (o ∷ os) h = ends-by at (reads_on after (o ∷ os)) (put os (bracket o) (at + 1)) (closer o.square) (if-true _ _ _ (closes-closer o.square)) (finish os (bracket o) (at + 1) (at + 1))
 

@@ -26,7 +26,7 @@ use Rattle.term_text.specs.inside.Reader.{Number, integer, pid, identifier, byte
 use Rattle.term_text.specs.Printed.{is_plain, escaped, atom_text, row_text, printed}
 use Rattle.term_text.specs.RoundTrip.{ReadsBack}
 use Rattle.term_text.specs.Text.{is_digit, is_small, is_name, begins, spelled}
-use Rattle.term_text.proofs.Places.{by-test, if-true, if-false}
+use Rattle.term_text.proofs.Offsets.{by-test, if-true, if-false}
 use Rattle.term_text.proofs.Printed.{printed-Int, printed-Atom, printed-Pid, printed-Tid, printed-Tuple, printed-List, printed-Binary}
 use Rattle.term_text.proofs.Spelled.{front-read}
 

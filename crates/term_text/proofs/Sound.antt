@@ -7,17 +7,17 @@ use Rattle.ets_term.specs.declared.term.Term.TheVariants.{Int, Atom}
 use Rattle.term_text.specs.declared.fault.TextFault.{TextFault}
 use Rattle.term_text.specs.declared.fault.TextFault.TheVariants.{OutOfRange, AtomTooLong}
 use Rattle.term_text.specs.Text.{is_blank, is_digit, is_small, is_name, begins}
-use Rattle.term_text.specs.inside.Reader.{OpenBracket, integer, byte, Mode, wants, digit, number, name, quoted, escaped, signs, angle, opened_binary, wants_byte, behind_byte, behind_string, after, Reading, reads_on, found, fails, signed, max_magnitude, next, end, read_from, reading}
+use Rattle.term_text.specs.inside.Reader.{OpenBracket, integer, byte, Mode, wants, digit, number, name, quoted, escaped, signs, angle, opened_binary, wants_byte, after_byte, after_string, after, Reading, reads_on, found, fails, signed, max_magnitude, next, end, read_from, reading}
 use Rattle.term_text.specs.Faults.{plain_form}
 use Rattle.term_text.specs.Grammar.{Spells, Ends, Front, plain_atom}
-use Rattle.term_text.proofs.Places.{read-fails}
+use Rattle.term_text.proofs.Offsets.{read-fails}
 use Rattle.term_text.proofs.Meaning.{At, Holds, Means, MeansIn, all-more, at_more, begins-more, holds-if, more-len, noticed}
 use Rattle.term_text.proofs.Signs.{is-byte, small-no-number}
 use Rattle.term_text.proofs.SoundBinaries.{angle-second, first-byte, string-holds}
 use Rattle.term_text.proofs.SoundBrackets.{begin-holds, here-blank, opened-holds}
 use Rattle.term_text.proofs.SoundNumbers.{byte-holds, bytes-blank, digit-holds, integer-spelled, more-digits, number-holds}
 use Rattle.term_text.proofs.SoundQuotes.{escaped-holds, quoted-holds}
-use Rattle.term_text.proofs.SoundTerms.{after-holds, behind-form, behind-holds, front-of, sign-holds}
+use Rattle.term_text.proofs.SoundTerms.{after-holds, after-form, unless-found-holds, front-of, sign-holds}
 
 name-ends : (cs : List ℕ) (b : ℕ) (rest : List ℕ) → begins is_small cs ≡ true → is_name b ≡ false → Ends cs (b ∷ rest)
 name-ends [] b rest h n = absurd (false≢true h)
@@ -45,7 +45,7 @@ next-holds at (number kind start n) os pre b len (s, ds, bef, a, num, st) = hold
 next-holds at (name start cs) os pre b len (a, small, names, few, st) = holds-if (is_name b) _ _
     (λ d. holds-if (length cs == 255) _ _ (λ e. noticed pre b (AtomTooLong start) (plain_form os a.k a.p cs a.cut a.here st small names (is-byte (length cs) 255 e) d))
     (λ e. record { meaning = (at_more os pre cs (cs ++ b ∷ []) b a refl, begins-more is_small cs (b ∷ []) small, all-more is_name cs b names d, name-room cs b few e, st) }))
-    (λ d. behind-holds at os pre cs (Atom cs) b a len (plain_atom a.k cs small names few) (λ rest. name-ends cs b rest small d))
+    (λ d. unless-found-holds at os pre cs (Atom cs) b a len (plain_atom a.k cs small names few) (λ rest. name-ends cs b rest small d))
 next-holds at (quoted q cs) os pre b len (s, body, lead, a, sp, ok, starts) = quoted-holds at q cs os pre s body b len lead a sp ok starts
 next-holds at (escaped q cs) os pre b len (s, body, lead, a, sp, ok, starts) = escaped-holds at q cs os pre s body b len lead a sp ok starts
 next-holds at (signs cs goal) os pre b len (s, a, l, c) = sign-holds at cs goal os pre s b len a l c
@@ -53,9 +53,9 @@ next-holds at angle os pre b len a = angle-second at os pre b len a
 next-holds at opened_binary os pre b len (blanks, a, bl) = first-byte at os pre blanks b len a bl
 next-holds at (wants_byte bs) os pre b len (inner, a, in_bytes) = holds-if (is_blank b) _ _
     (λ d. record { meaning = (inner ++ b ∷ [], at_more os pre ((60 ∷ 60 ∷ []) ++ inner) ((60 ∷ 60 ∷ []) ++ (inner ++ b ∷ [])) b a refl, bytes-blank bs inner b in_bytes d) })
-    (λ d. digit-holds at (byte bs) at os pre ((60 ∷ 60 ∷ []) ++ inner) b len (inner, refl, in_bytes) a (behind-form os pre ((60 ∷ 60 ∷ []) ++ inner) at a len))
-next-holds at (behind_byte bs) os pre b len (row, blanks, a, sp, bl) = byte-holds at bs os pre row blanks b len a sp bl
-next-holds at (behind_string bs) os pre b len (before, body, behind, a, h, sp, i) = string-holds at bs os pre before body behind b len a h sp i
+    (λ d. digit-holds at (byte bs) at os pre ((60 ∷ 60 ∷ []) ++ inner) b len (inner, refl, in_bytes) a (after-form os pre ((60 ∷ 60 ∷ []) ++ inner) at a len))
+next-holds at (after_byte bs) os pre b len (row, blanks, a, sp, bl) = byte-holds at bs os pre row blanks b len a sp bl
+next-holds at (after_string bs) os pre b len (before, body, behind, a, h, sp, i) = string-holds at bs os pre before body behind b len a h sp i
 next-holds at after [] pre b len h = absurd h
 next-holds at after (o ∷ os) pre b len h = after-holds at o os pre b len h
 

@@ -7,14 +7,14 @@ use Rattle.std.specs.List.{list_all}
 use Rattle.ets_term.specs.declared.term.Term.TheVariants.{Int, Pid, Tid, Binary}
 use Rattle.term_text.specs.declared.fault.TextFault.TheVariants.{Unexpected}
 use Rattle.term_text.specs.Text.{is_blank, is_digit, is_small, begins, spelled}
-use Rattle.term_text.specs.inside.Reader.{OpenBracket, Number, integer, pid, identifier, byte, whole, signed, max_magnitude, next_behind_byte, next_behind_number, next_digit}
+use Rattle.term_text.specs.inside.Reader.{OpenBracket, Number, integer, pid, identifier, byte, whole, signed, max_magnitude, next_after_byte, next_after_number, next_digit}
 use Rattle.term_text.specs.Faults.{AwaitsByte, opened, comma, LeadsNumber, number_start}
 use Rattle.term_text.specs.Grammar.{AreBlanks, SpellsNumber, SpellsBytes, Spells, Ends, first, more, positive, negative, pid_form, identifier_form, bytes}
 use Rattle.term_text.proofs.Numbers.{digit-small}
-use Rattle.term_text.proofs.Places.{if-true}
+use Rattle.term_text.proofs.Offsets.{if-true}
 use Rattle.term_text.proofs.Meaning.{At, Closed, Holds, all-more, at_more, begins-more, blank-more, holds-if, noticed}
 use Rattle.term_text.proofs.Signs.{digit-no-small, is-byte, minus-no-small}
-use Rattle.term_text.proofs.SoundTerms.{angle-text, behind-holds, hash-text, sign-holds}
+use Rattle.term_text.proofs.SoundTerms.{angle-text, unless-found-holds, hash-text, sign-holds}
 
 -- digits
 spelled-more : (m : ℕ) (ds : List ℕ) (b : ℕ) → list_all is_digit ds ≡ true → is_digit b ≡ true → spelled m (ds ++ b ∷ []) ≡ spelled m ds * 10 + (b - 48)
@@ -48,7 +48,7 @@ bytes-with bs inner ds n (comma us row before behind r h i) num =
     (more row before behind ds us n r h i (record { some = num.some; each = num.each; value = num.value; fits = num.fits }))
 
 pub byte-holds : (at : ℕ) (bs : List ℕ) (os : List OpenBracket) (pre row blanks : List ℕ) (b : ℕ) → at ≡ length pre → At os pre ((60 ∷ 60 ∷ []) ++ (row ++ blanks)) → SpellsBytes row bs → AreBlanks blanks
-    → Holds (pre ++ b ∷ []) (next_behind_byte at bs os b)
+    → Holds (pre ++ b ∷ []) (next_after_byte at bs os b)
 byte-holds at bs os pre row blanks b len a sp bl = holds-if (is_blank b) _ _
     (λ d. record { meaning = (row, blanks ++ b ∷ [], at_more os pre _ ((60 ∷ 60 ∷ []) ++ (row ++ (blanks ++ b ∷ []))) b a (ap (λ (w : List ℕ). 60 ∷ 60 ∷ w) (append_assoc row blanks (b ∷ []))), sp, blank-more blanks b bl d) })
     (λ d. holds-if (b == 44) _ _
@@ -80,9 +80,9 @@ integer-no-small true s ds n e num = ap (λ (w : List ℕ). begins is_small (w +
 integer-no-small false s ds n e num = ap (λ (w : List ℕ). begins is_small (w ++ ds)) e ∙ digits-no-small ds num.some
 
 pub number-holds : (at : ℕ) (kind : Number) (n : ℕ) (os : List OpenBracket) (pre s ds : List ℕ) (b : ℕ) → at ≡ length pre → LeadsNumber kind s → At os pre (s ++ ds) → SpellsNumber kind ds n → is_digit b ≡ false
-    → Holds (pre ++ b ∷ []) (next_behind_number at kind n os b)
+    → Holds (pre ++ b ∷ []) (next_after_number at kind n os b)
 number-holds at (integer below) n os pre s ds b len bef a num d =
-    behind-holds at os pre (s ++ ds) (Int (signed below n)) b a len (integer-spelled below a.k s ds n bef num) (λ rest. integer-ends (s ++ ds) b rest (integer-no-small below s ds n bef num) d)
+    unless-found-holds at os pre (s ++ ds) (Int (signed below n)) b a len (integer-spelled below a.k s ds n bef num) (λ rest. integer-ends (s ++ ds) b rest (integer-no-small below s ds n bef num) d)
 number-holds at pid n os pre s ds b len bef a num d =
     let Q : List ℕ → Type 0 = λ w. Closed (w ++ ds) in
     sign-holds at (46 ∷ 48 ∷ 62 ∷ []) (whole (Pid n)) os pre (s ++ ds) b len a

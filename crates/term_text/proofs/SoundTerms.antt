@@ -5,7 +5,7 @@ use Rattle.std.proofs.lemmas.List.{append-nil}
 use Rattle.ets_term.specs.declared.term.Term.{Term}
 use Rattle.term_text.specs.declared.fault.TextFault.TheVariants.{Unexpected}
 use Rattle.term_text.specs.Text.{is_blank, is_digit, is_small, closes}
-use Rattle.term_text.specs.inside.Reader.{OpenBracket, Number, integer, pid, identifier, byte, Expect, whole, digits, with_term, bracket, put, expect, next_sign, next_after, next_behind}
+use Rattle.term_text.specs.inside.Reader.{OpenBracket, Number, integer, pid, identifier, byte, Expect, whole, digits, with_term, bracket, put, expect, next_sign, next_after, next_unless_found}
 use Rattle.term_text.specs.Faults.{AwaitsItem, fresh, further, LeadsNumber, number_start}
 use Rattle.term_text.specs.Grammar.{AreBlanks, opening_sign, closing_sign, Spells, SpellsRow, Ends, Front, full_bracket, first_term, more_terms}
 use Rattle.term_text.proofs.Meaning.{At, Behind, Closed, Holds, IsFramed, Leads, at_more, blank-more, holds-if, more-len, noticed}
@@ -34,8 +34,8 @@ inside-with k ts inner s t (further us row before behind r h i) sp =
     let P : List ℕ → Type 0 = λ w. SpellsRow k w (ts ++ t ∷ []) in
     subst P (sym (append_assoc row (before ++ 44 ∷ behind) s ∙ ap (λ (w : List ℕ). row ++ w) (append_assoc before (44 ∷ behind) s))) (more_terms k row before behind s us t r h i sp)
 
-term-behind : (o : OpenBracket) (os : List OpenBracket) (pre s : List ℕ) (t : Term) (a : At (o ∷ os) pre s) → Spells (suc a.k) s t → Behind (with_term o t) os pre
-term-behind o os pre s t a sp =
+term-after : (o : OpenBracket) (os : List OpenBracket) (pre s : List ℕ) (t : Term) (a : At (o ∷ os) pre s) → Spells (suc a.k) s t → Behind (with_term o t) os pre
+term-after o os pre s t a sp =
     let outer = a.here.0 in
     let inner = a.here.1 in
     let sign = opening_sign o.square in
@@ -53,7 +53,7 @@ term-behind o os pre s t a sp =
 -- a complete term that cannot continue
 pub put-holds : (os : List OpenBracket) (pre s : List ℕ) (t : Term) (n : ℕ) (a : At os pre s) → Spells (suc a.k) s t → n ≡ length pre → ((rest : List ℕ) → Ends s rest) → Holds pre (put os t n)
 put-holds [] pre s t n a sp len ends = record { meaning = λ rest. front-of pre a.p s t n rest a.cut a.here.0 (let P : ℕ → Type 0 = λ k. Spells k s t in subst P a.here.1 sp) len (ends rest) }
-put-holds (o ∷ os) pre s t n a sp len ends = record { meaning = term-behind o os pre s t a sp }
+put-holds (o ∷ os) pre s t n a sp len ends = record { meaning = term-after o os pre s t a sp }
 
 pub open-closed : (square : Bool) (s rest : List ℕ) → Ends (opening_sign square ∷ s) rest
 unfolding is_digit is_small
@@ -95,14 +95,14 @@ after-holds at o os pre b len h =
     (λ e. noticed pre b (Unexpected at) len)))
 
 -- the byte after an integer or a name
-pub behind-holds : (at : ℕ) (os : List OpenBracket) (pre s : List ℕ) (t : Term) (b : ℕ) (a : At os pre s) → at ≡ length pre → Spells (suc a.k) s t → ((rest : List ℕ) → Ends s (b ∷ rest))
-    → Holds (pre ++ b ∷ []) (next_behind at (put os t at) b)
-behind-holds at [] pre s t b a len sp ends = record {
+pub unless-found-holds : (at : ℕ) (os : List OpenBracket) (pre s : List ℕ) (t : Term) (b : ℕ) (a : At os pre s) → at ≡ length pre → Spells (suc a.k) s t → ((rest : List ℕ) → Ends s (b ∷ rest))
+    → Holds (pre ++ b ∷ []) (next_unless_found at (put os t at) b)
+unless-found-holds at [] pre s t b a len sp ends = record {
   meaning = λ rest.
       let P : List ℕ → Type 0 = λ w. Front w t at in
       subst P (sym (append_assoc pre (b ∷ []) rest)) (front-of pre a.p s t at (b ∷ rest) a.cut a.here.0 (let Q : ℕ → Type 0 = λ k. Spells k s t in subst Q a.here.1 sp) len (ends rest));
 }
-behind-holds at (o ∷ os) pre s t b a len sp ends = after-holds at (with_term o t) os pre b len (term-behind o os pre s t a sp)
+unless-found-holds at (o ∷ os) pre s t b a len sp ends = after-holds at (with_term o t) os pre b len (term-after o os pre s t a sp)
 
 closed-ends : (s rest : List ℕ) → Closed s → Ends s rest
 closed-ends [] rest c = absurd (omega (arith, c.some))
@@ -121,8 +121,8 @@ unfolding is_digit is_small
 hash-text s = record { some = omega arith; no-number = refl; no-name = refl }
 
 -- the offset after the bytes of a form
-pub behind-form : (os : List OpenBracket) (pre s : List ℕ) (at : ℕ) (a : At os pre s) → at ≡ length pre → at ≡ length a.p + length s
-behind-form os pre s at a len = omega (arith, len, ap length a.cut, length-append a.p s)
+pub after-form : (os : List OpenBracket) (pre s : List ℕ) (at : ℕ) (a : At os pre s) → at ≡ length pre → at ≡ length a.p + length s
+after-form os pre s at a len = omega (arith, len, ap length a.cut, length-append a.p s)
 
 framed-start : (kind : Number) (m n at : ℕ) → IsFramed kind → at ≡ n → at ≡ number_start kind m n
 framed-start (integer below) m n at h e = absurd h
@@ -133,7 +133,7 @@ framed-start (byte bs) m n at h e = e
 -- signs that must follow
 expect-holds : (at : ℕ) (cs : List ℕ) (goal : Expect) (os : List OpenBracket) (pre s : List ℕ) → at ≡ length pre → At os pre s → Leads (s ++ cs) goal → Closed s → Holds pre (expect at cs goal os)
 expect-holds at [] (whole t) os pre s len a l c = put-holds os pre s t at a (let P : List ℕ → Type 0 = λ w. Spells (suc a.k) w t in subst P (append-nil s) (l a.k)) len (λ rest. closed-ends s rest c)
-expect-holds at [] (digits kind) os pre s len a l c = record { meaning = (s, (let P : List ℕ → Type 0 = λ w. LeadsNumber kind w in subst P (append-nil s) l.0), a, framed-start kind (length a.p) (length a.p + length s) at l.1 (behind-form os pre s at a len)) }
+expect-holds at [] (digits kind) os pre s len a l c = record { meaning = (s, (let P : List ℕ → Type 0 = λ w. LeadsNumber kind w in subst P (append-nil s) l.0), a, framed-start kind (length a.p) (length a.p + length s) at l.1 (after-form os pre s at a len)) }
 expect-holds at (b ∷ cs) goal os pre s len a l c = record { meaning = (s, a, l, c) }
 
 pub sign-holds : (at : ℕ) (cs : List ℕ) (goal : Expect) (os : List OpenBracket) (pre s : List ℕ) (b : ℕ) → at ≡ length pre → At os pre s → Leads (s ++ cs) goal → Closed s

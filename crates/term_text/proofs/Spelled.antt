@@ -8,7 +8,7 @@ use Rattle.term_text.specs.inside.Reader.{OpenBracket, integer, pid, identifier,
 use Rattle.term_text.specs.Grammar.{AreBlanks, opening_sign, closing_sign, Spells, SpellsRow, Ends, Front, positive, negative, plain_atom, quoted_atom, pid_form, identifier_form, no_bytes, bytes, byte_string, empty_string, string, empty_bracket, full_bracket, first_term, more_terms}
 use Rattle.term_text.proofs.FirstBytes.{begin-brace, begin-square, begin-minus, begin-quoted, begin-string, begin-angle, begin-identifier}
 use Rattle.term_text.proofs.Blanks.{wants-ignores, after-ignores}
-use Rattle.term_text.proofs.Places.{if-true, if-false, read-found}
+use Rattle.term_text.proofs.Offsets.{if-true, if-false, read-found}
 use Rattle.term_text.proofs.Signs.{angle-begins, angle-no-digit, blank-no-name, brace-begins, close-no-blank, close-no-name, closes-so, comma-no-blank, comma-no-close, comma-no-name, dot-no-digit, hash-begins, minus-begins, quote-begins, square-begins, string-begins}
 use Rattle.term_text.proofs.SpelledBinaries.{byte-string-text, full-bytes-text, no-bytes-text}
 use Rattle.term_text.proofs.SpelledForms.{digits-are-number, digits-wanted, framed-text, name-text, no-name-ends, or-right, wants-first}

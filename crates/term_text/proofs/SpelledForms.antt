@@ -10,8 +10,8 @@ use Rattle.term_text.specs.Text.{is_digit, is_small, is_name, begins_term, begin
 use Rattle.term_text.specs.inside.Reader.{OpenBracket, Number, integer, whole, wants, digit, number, name, Reading, reads_on, put, expect, begin, read_from}
 use Rattle.term_text.specs.Grammar.{SpellsNumber, Ends}
 use Rattle.term_text.proofs.FirstBytes.{begin-digit, begin-name}
-use Rattle.term_text.proofs.Names.{read-name, name-behind}
-use Rattle.term_text.proofs.Places.{if-true, if-false}
+use Rattle.term_text.proofs.Names.{read-name, name-after}
+use Rattle.term_text.proofs.Offsets.{if-true, if-false}
 use Rattle.term_text.proofs.Signs.{digit-begins, no-blank, no-closing, no-name-no-digit, small-begins}
 use Rattle.term_text.proofs.SpelledParts.{byte-taken, number-text, prefix-all, signs-text}
 
@@ -39,7 +39,7 @@ name-text at opened os (b ∷ s) rest fin room h names few k e =
     let taken : b ∷ take (prefix_len is_name (s ++ rest)) (s ++ rest) ≡ b ∷ s = ap (λ (w : List ℕ). b ∷ w) (ap (λ (m : ℕ). take m (s ++ rest)) c ∙ take-append_seam s rest) in
     wants-first at opened os b (reads_on (name at (b ∷ [])) os) (s ++ rest) (small-begins b h) (begin-name at os b room h)
     ∙ read-name (at + 1) at (b ∷ []) os (s ++ rest) (omega (arith, c, few))
-    ∙ name-behind (at + 1 + prefix_len is_name (s ++ rest)) at (b ∷ take (prefix_len is_name (s ++ rest)) (s ++ rest)) os (drop (prefix_len is_name (s ++ rest)) (s ++ rest)) (ap (begins is_name) dropped ∙ k)
+    ∙ name-after (at + 1 + prefix_len is_name (s ++ rest)) at (b ∷ take (prefix_len is_name (s ++ rest)) (s ++ rest)) os (drop (prefix_len is_name (s ++ rest)) (s ++ rest)) (ap (begins is_name) dropped ∙ k)
     ∙ name-same-end os _ fin _ (b ∷ s) _ rest (omega (arith, c, e)) taken dropped
 
 or-left : (a b : Bool) → a ≡ true → (a || b) ≡ true

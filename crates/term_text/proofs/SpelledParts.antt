@@ -7,7 +7,7 @@ use Rattle.term_text.specs.inside.Parts.{IgnoresBlanks, counted}
 use Rattle.term_text.specs.Text.{is_blank, is_digit, begins, spelled}
 use Rattle.term_text.specs.inside.Reader.{OpenBracket, Number, Expect, digit, signs, Reading, reads_on, expect, take_byte, read_from}
 use Rattle.term_text.specs.Grammar.{AreBlanks, SpellsNumber}
-use Rattle.term_text.proofs.Places.{if-true, if-false, number-here, prefix-more}
+use Rattle.term_text.proofs.Offsets.{if-true, if-false, number-here, prefix-more}
 use Rattle.term_text.proofs.Meaning.{begins-more}
 use Rattle.term_text.proofs.Signs.{same}
 

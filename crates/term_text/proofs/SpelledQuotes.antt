@@ -5,7 +5,7 @@ use Rattle.term_text.specs.declared.quote_form.QuoteForm.{QuoteForm}
 use Rattle.term_text.specs.declared.quote_form.QuoteForm.TheVariants as form
 use Rattle.term_text.specs.inside.Reader.{OpenBracket, quoted, escaped, Reading, reads_on, quote, admits, read_from}
 use Rattle.term_text.specs.Grammar.{SpellsQuoted, none, plain, escaped as escaped_form}
-use Rattle.term_text.proofs.Places.{if-true, if-false}
+use Rattle.term_text.proofs.Offsets.{if-true, if-false}
 use Rattle.term_text.proofs.Meaning.{Admitted}
 use Rattle.term_text.proofs.SpelledParts.{byte-taken}
 

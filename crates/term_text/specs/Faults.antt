@@ -13,8 +13,8 @@ use Rattle.term_text.specs.Text.{apostrophe, quotation_mark, is_digit, is_small,
 -- inner is the text in a bracket after the terms ts, up to where the next must begin
 pub data AwaitsItem (k : ℕ) : List Term → List ℕ → Type 0 where
   fresh : (blanks : List ℕ) → AreBlanks blanks → AwaitsItem k [] blanks
-  further : (ts : List Term) (row before behind : List ℕ) → SpellsRow k row ts → AreBlanks before → AreBlanks behind
-      → AwaitsItem k ts (row ++ (before ++ (codes "," ++ behind)))
+  further : (ts : List Term) (row before after : List ℕ) → SpellsRow k row ts → AreBlanks before → AreBlanks after
+      → AwaitsItem k ts (row ++ (before ++ (codes "," ++ after)))
 
 -- pre ends where a term of at most k levels must begin, in these open brackets
 abbrev pub AwaitsTerm : ℕ → List OpenBracket → List ℕ → Type 0
@@ -26,8 +26,8 @@ AwaitsTerm k (o ∷ os) pre =
 -- the text of a binary after its `<<` and these bytes, up to where the next byte must begin
 pub data AwaitsByte : List ℕ → List ℕ → Type 0 where
   opened : (blanks : List ℕ) → AreBlanks blanks → AwaitsByte [] blanks
-  comma : (bs row before behind : List ℕ) → SpellsBytes row bs → AreBlanks before → AreBlanks behind
-      → AwaitsByte bs (row ++ (before ++ (codes "," ++ behind)))
+  comma : (bs row before after : List ℕ) → SpellsBytes row bs → AreBlanks before → AreBlanks after
+      → AwaitsByte bs (row ++ (before ++ (codes "," ++ after)))
 
 -- s is what precedes the digits of a number
 abbrev pub LeadsNumber : Number → List ℕ → Type 0
@@ -102,8 +102,8 @@ pub record IsNoticed (text : List ℕ) (f : TextFault) : Type 0 where
   pub rest : List ℕ
   pub whole : text ≡ pre ++ b ∷ rest
   pub before : Continues pre
-  pub behind : Continues (pre ++ b ∷ []) → ⊥
-  pub told : IsFaultAt pre b f
+  pub after : Continues (pre ++ b ∷ []) → ⊥
+  pub fault : IsFaultAt pre b f
 
 -- the text can be completed, but does not begin with a term
 pub record EndsEarly (text : List ℕ) (at : ℕ) : Type 0 where

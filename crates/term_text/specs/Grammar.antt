@@ -32,9 +32,9 @@ pub data SpellsQuoted (quote : ℕ) : List ℕ → List ℕ → Type 0 where
 pub data SpellsBytes : List ℕ → List ℕ → Type 0 where
   first : (before s : List ℕ) (n : ℕ) → AreBlanks before → SpellsNumber (byte []) s n
       → SpellsBytes (before ++ s) (n ∷ [])
-  more : (row before behind s bs : List ℕ) (n : ℕ) → SpellsBytes row bs
-      → AreBlanks before → AreBlanks behind → SpellsNumber (byte []) s n
-      → SpellsBytes (row ++ (before ++ (codes "," ++ (behind ++ s)))) (bs ++ n ∷ [])
+  more : (row before after s bs : List ℕ) (n : ℕ) → SpellsBytes row bs
+      → AreBlanks before → AreBlanks after → SpellsNumber (byte []) s n
+      → SpellsBytes (row ++ (before ++ (codes "," ++ (after ++ s)))) (bs ++ n ∷ [])
 
 -- the signs that open and close a list or a tuple
 abbrev pub opening_sign : Bool → ℕ
@@ -59,30 +59,30 @@ mutual
         → Spells (suc k) (codes "#Tid<" ++ (s ++ codes ">")) (Tid n)
     no_bytes : (k : ℕ) (blanks : List ℕ) → AreBlanks blanks
         → Spells (suc k) (codes "<<" ++ (blanks ++ codes ">>")) (Binary [])
-    bytes : (k : ℕ) (row behind bs : List ℕ) → SpellsBytes row bs → AreBlanks behind
-        → Spells (suc k) (codes "<<" ++ (row ++ (behind ++ codes ">>"))) (Binary bs)
-    byte_string : (k : ℕ) (before s behind bs : List ℕ) → AreBlanks before → SpellsQuoted quotation_mark s bs
-        → AreBlanks behind
+    bytes : (k : ℕ) (row after bs : List ℕ) → SpellsBytes row bs → AreBlanks after
+        → Spells (suc k) (codes "<<" ++ (row ++ (after ++ codes ">>"))) (Binary bs)
+    byte_string : (k : ℕ) (before s after bs : List ℕ) → AreBlanks before → SpellsQuoted quotation_mark s bs
+        → AreBlanks after
         → Spells (suc k)
-        (codes "<<" ++ (before ++ (codes "\"" ++ (s ++ (codes "\"" ++ (behind ++ codes ">>")))))) (Binary bs)
+        (codes "<<" ++ (before ++ (codes "\"" ++ (s ++ (codes "\"" ++ (after ++ codes ">>")))))) (Binary bs)
     empty_string : (k : ℕ) → Spells (suc k) (codes "\"\"") (ListOf [])
     string : (k : ℕ) (s cs : List ℕ) → SpellsQuoted quotation_mark s cs → 0 < length cs
         → Spells (suc (suc k)) (codes "\"" ++ (s ++ codes "\"")) (ListOf (map code cs))
     empty_bracket : (k : ℕ) (square : Bool) (blanks : List ℕ) → AreBlanks blanks
         → Spells (suc k) (opening_sign square ∷ (blanks ++ closing_sign square ∷ []))
         (bracket (record { square = square; terms = [] }))
-    full_bracket : (k : ℕ) (square : Bool) (row behind : List ℕ) (ts : List Term) → SpellsRow k row ts
-        → AreBlanks behind
-        → Spells (suc k) (opening_sign square ∷ (row ++ (behind ++ closing_sign square ∷ [])))
+    full_bracket : (k : ℕ) (square : Bool) (row after : List ℕ) (ts : List Term) → SpellsRow k row ts
+        → AreBlanks after
+        → Spells (suc k) (opening_sign square ∷ (row ++ (after ++ closing_sign square ∷ [])))
         (bracket (record { square = square; terms = ts }))
 
   -- the terms in a bracket, one or more, separated by commas
   pub data SpellsRow : ℕ → List ℕ → List Term → Type 0 where
     first_term : (k : ℕ) (before s : List ℕ) (t : Term) → AreBlanks before → Spells k s t
         → SpellsRow k (before ++ s) (t ∷ [])
-    more_terms : (k : ℕ) (row before behind s : List ℕ) (ts : List Term) (t : Term) → SpellsRow k row ts
-        → AreBlanks before → AreBlanks behind → Spells k s t
-        → SpellsRow k (row ++ (before ++ (codes "," ++ (behind ++ s)))) (ts ++ t ∷ [])
+    more_terms : (k : ℕ) (row before after s : List ℕ) (ts : List Term) (t : Term) → SpellsRow k row ts
+        → AreBlanks before → AreBlanks after → Spells k s t
+        → SpellsRow k (row ++ (before ++ (codes "," ++ (after ++ s)))) (ts ++ t ∷ [])
 
 -- an integer or an unquoted atom ends only before a byte that cannot belong to it
 abbrev pub Ends : List ℕ → List ℕ → Type 0

@@ -1,7 +1,7 @@
 //! Reads binaries, pids and table identifiers.
 ghost use Rattle.std.specs.Prelude.{◌≡◌, ◌+◌, ◌≤◌, ◌<◌, ◌∷◌, [], List, true, length, IfOk, codes};
 ghost use Rattle.term_text.specs.inside.Reader.{OpenBracket, byte, digit, quoted, reads_on, opened_binary, angle, expect, digits, pid, identifier};
-ghost use Rattle.term_text.specs.inside.Parts.{Reads, ReadsBytes};
+ghost use Rattle.term_text.specs.inside.Parts.{EndsWithin, Reads, ReadsBytes};
 ghost use Rattle.term_text.specs.declared.quote_form.QuoteForm.TheVariants as form;
 
 use crate::bytes::{byte_is, digit_at, past_blanks};
@@ -13,54 +13,54 @@ use ets_term::{Items, Term};
 use std::alloc::Global;
 
 /// Reads the bytes of a binary, one or more, and returns them with the offset after them and blanks.
-#[tactic(auto, using(crate::proofs::Binaries::bytes_end, crate::proofs::Binaries::comma_byte, crate::proofs::Binaries::wants_digit, crate::proofs::Blanks::behind_byte_ignores, crate::proofs::Blanks::wants_byte_ignores, crate::proofs::Places::begins_in))]
+#[tactic(auto, using(crate::proofs::Binaries::bytes_end, crate::proofs::Binaries::comma_byte, crate::proofs::Binaries::wants_digit, crate::proofs::Blanks::after_byte_ignores, crate::proofs::Blanks::wants_byte_ignores, crate::proofs::Offsets::begins_in))]
 fn bytes_at(alloc: Global, text: &[u8], at: usize) -> Result<(Items<u8>, usize), TextFault>
     requires { at ≤ length text.now }
-    ensures within { IfOk result (λ x. (at ≤ x.1) × (x.1 ≤ length text.now)) }
+    ensures within { EndsWithin text.now at result }
     ensures reads { ReadsBytes text.now at result }
 {
     let mut bytes = Vec::new(alloc);
-    let mut place = at;
+    let mut offset = at;
     loop {
-        let (n, end) = number_at(text, place, place, u8::MAX as Magnitude)?;
+        let (n, end) = number_at(text, offset, offset, u8::MAX as Magnitude)?;
         bytes.push(n as u8)?;
-        let behind = past_blanks(text, end);
-        if !byte_is(text, behind, b',') {
-            return Ok((Items::from_vec(bytes), behind));
+        let next = past_blanks(text, end);
+        if !byte_is(text, next, b',') {
+            return Ok((Items::from_vec(bytes), next));
         }
-        place = past_blanks(text, behind + 1);
+        offset = past_blanks(text, next + 1);
     }
 }
 
 /// Reads a binary of bytes, after its `<<` and blanks.
 fn byte_binary_at(alloc: Global, text: &[u8], at: usize) -> Result<(Term, usize), TextFault>
     requires { at ≤ length text.now }
-    ensures within { IfOk result (λ x. (at ≤ x.1) × (x.1 ≤ length text.now)) }
+    ensures within { EndsWithin text.now at result }
     ensures reads { (os : List OpenBracket) → Reads text.now at (reads_on (digit (byte []) at) os) os result }
 {
-    let (bytes, place) = bytes_at(alloc, text, at)?;
-    let end = literal_at(text, place, b">>")?;
+    let (bytes, offset) = bytes_at(alloc, text, at)?;
+    let end = literal_at(text, offset, b">>")?;
     Ok((Term::Binary(bytes), end))
 }
 
 /// Reads a binary of a string, after the opening quote.
-#[tactic(auto, using(crate::proofs::Binaries::string_ends, crate::proofs::Blanks::behind_string_ignores))]
+#[tactic(auto, using(crate::proofs::Binaries::string_ends, crate::proofs::Blanks::after_string_ignores))]
 fn string_binary_at(alloc: Global, text: &[u8], at: usize) -> Result<(Term, usize), TextFault>
     requires { at ≤ length text.now }
-    ensures within { IfOk result (λ x. (at ≤ x.1) × (x.1 ≤ length text.now)) }
+    ensures within { EndsWithin text.now at result }
     ensures reads { (os : List OpenBracket) → Reads text.now at (reads_on (quoted form.Binary []) os) os result }
 {
-    let (bytes, behind) = quoted_at(alloc, text, at, QuoteForm::Binary, false)?;
-    let place = past_blanks(text, behind);
-    let end = literal_at(text, place, b">>")?;
+    let (bytes, next) = quoted_at(alloc, text, at, QuoteForm::Binary, false)?;
+    let offset = past_blanks(text, next);
+    let end = literal_at(text, offset, b">>")?;
     Ok((Term::Binary(bytes), end))
 }
 
 /// Reads a binary after its `<<`.
-#[tactic(auto, using(crate::proofs::Binaries::opened_quote, crate::proofs::Binaries::opened_digit, crate::proofs::Binaries::opened_ends, crate::proofs::Blanks::opened_binary_ignores, crate::proofs::Places::reads_along, crate::proofs::Places::begins_in))]
+#[tactic(auto, using(crate::proofs::Binaries::opened_quote, crate::proofs::Binaries::opened_digit, crate::proofs::Binaries::opened_ends, crate::proofs::Blanks::opened_binary_ignores, crate::proofs::Offsets::reads_along, crate::proofs::Offsets::begins_in))]
 fn binary_at(alloc: Global, text: &[u8], at: usize) -> Result<(Term, usize), TextFault>
     requires { at ≤ length text.now }
-    ensures within { IfOk result (λ x. (at ≤ x.1) × (x.1 ≤ length text.now)) }
+    ensures within { EndsWithin text.now at result }
     ensures reads { (os : List OpenBracket) → Reads text.now at (reads_on opened_binary os) os result }
 {
     let start = past_blanks(text, at);
@@ -77,31 +77,31 @@ fn binary_at(alloc: Global, text: &[u8], at: usize) -> Result<(Term, usize), Tex
 /// Reads a pid after its `<0`.
 fn pid_at(text: &[u8], at: usize) -> Result<(Term, usize), TextFault>
     requires { at ≤ length text.now }
-    ensures within { IfOk result (λ x. (at ≤ x.1) × (x.1 ≤ length text.now)) }
+    ensures within { EndsWithin text.now at result }
     ensures reads { (os : List OpenBracket) → Reads text.now at (expect at (codes ".") (digits pid) os) os result }
 {
     let first = literal_at(text, at, b".")?;
-    let (n, behind) = number_at(text, first, first, u32::MAX as Magnitude)?;
-    let end = literal_at(text, behind, b".0>")?;
+    let (n, next) = number_at(text, first, first, u32::MAX as Magnitude)?;
+    let end = literal_at(text, next, b".0>")?;
     Ok((Term::Pid(n as u32), end))
 }
 
 /// Reads a table identifier after its `#`.
 pub(crate) fn identifier_at(text: &[u8], at: usize) -> Result<(Term, usize), TextFault>
     requires { at ≤ length text.now }
-    ensures within { IfOk result (λ x. (at ≤ x.1) × (x.1 ≤ length text.now)) }
+    ensures within { EndsWithin text.now at result }
     ensures reads { (os : List OpenBracket) → Reads text.now at (expect at (codes "Tid<") (digits identifier) os) os result }
 {
     let first = literal_at(text, at, b"Tid<")?;
-    let (n, behind) = number_at(text, first, first, u32::MAX as Magnitude)?;
-    let end = literal_at(text, behind, b">")?;
+    let (n, next) = number_at(text, first, first, u32::MAX as Magnitude)?;
+    let end = literal_at(text, next, b">")?;
     Ok((Term::Tid(n as u32), end))
 }
 
 /// Reads a pid or a binary after its `<`.
 pub(crate) fn angle_at(alloc: Global, text: &[u8], at: usize) -> Result<(Term, usize), TextFault>
     requires { at ≤ length text.now }
-    ensures within { IfOk result (λ x. (at ≤ x.1) × (x.1 ≤ length text.now)) }
+    ensures within { EndsWithin text.now at result }
     ensures reads { (os : List OpenBracket) → Reads text.now at (reads_on angle os) os result }
 {
     if at >= text.len() {

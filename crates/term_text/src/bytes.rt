@@ -62,7 +62,7 @@ pub fn is_character_byte(b: u8) -> bool
 }
 
 /// Returns whether the text has this byte at the offset.
-#[tactic(auto, using(crate::proofs::Places::begins_at, crate::proofs::Places::begins_end))]
+#[tactic(auto, using(crate::proofs::Offsets::begins_at, crate::proofs::Offsets::begins_end))]
 pub(crate) fn byte_is(text: &[u8], at: usize, sign: u8) -> bool
     ensures { result ≡ begins (λ b. b == sign) (drop at text.now) }
 {
@@ -70,7 +70,7 @@ pub(crate) fn byte_is(text: &[u8], at: usize, sign: u8) -> bool
 }
 
 /// Returns whether the text has a digit at the offset.
-#[tactic(auto, using(crate::proofs::Places::begins_at, crate::proofs::Places::begins_end))]
+#[tactic(auto, using(crate::proofs::Offsets::begins_at, crate::proofs::Offsets::begins_end))]
 pub(crate) fn digit_at(text: &[u8], at: usize) -> bool
     ensures { result ≡ begins is_digit (drop at text.now) }
 {
@@ -85,11 +85,11 @@ pub(crate) fn past_blanks(text: &[u8], at: usize) -> usize
     ensures stop { begins is_blank (drop result text.now) ≡ false }
     ensures stays { (s : Reading) → IgnoresBlanks s → Reaches text.now at s result s }
 {
-    let mut place = at;
-    while place < text.len() && is_blank_byte(text[place]) {
-        place += 1;
+    let mut offset = at;
+    while offset < text.len() && is_blank_byte(text[offset]) {
+        offset += 1;
     }
-    place
+    offset
 }
 
 /// Returns the offset of the first byte from `at` on that no name contains.
@@ -98,9 +98,9 @@ pub(crate) fn past_name(text: &[u8], at: usize) -> usize
     ensures end { result ≡ at + prefix_len is_name (drop at text.now) }
     ensures within { (at ≤ result) × (result ≤ length text.now) }
 {
-    let mut place = at;
-    while place < text.len() && is_name_byte(text[place]) {
-        place += 1;
+    let mut offset = at;
+    while offset < text.len() && is_name_byte(text[offset]) {
+        offset += 1;
     }
-    place
+    offset
 }

@@ -1,11 +1,12 @@
-//! Reads the text of a term if it follows the grammar, or reports the first syntax error, and prints each term in one form.
+//! Reads a term from its text or reports the first syntax error, and prints each term in one form.
 //!
 //! *Guarantee.* `read_term` returns a term and a number of bytes only if these bytes are blanks and a spelling of the
 //! term. Otherwise it returns the fault of the first byte with which no text can continue, or of the text's end.
-//! `print_term` and `write_term` print one text per term, and `read_term` reads that text as the term.
+//! `print_term` and `write_term` print one text per term. `read_term` reads it as the term again if it has at most 128
+//! levels.
 //!
-//! *Weakness.* Every function that allocates may run out of memory: no contract says when memory is available. If
-//! `write_term` fails, its contract says that a prefix of the text was written, but not why the writer failed.
+//! *Weakness.* Every function that allocates may run out of memory: no contract says when memory is available. Nor does
+//! one say when `write_term` may fail, only that a prefix of the text was written then.
 //!
 //! *Mechanism.* The code is a recursive descent in one pass, without backtracking, that counts the levels left. Digits,
 //! names and blanks are read in runs. The proofs go through a second definition: an automaton that takes one byte after

@@ -1,7 +1,7 @@
 //! Reads atoms without quotes.
 ghost use Rattle.std.specs.Prelude.{◌≡◌, ◌+◌, ◌≤◌, ◌<◌, ◌∷◌, [], List, true, length, IfOk, slice_index};
 ghost use Rattle.term_text.specs.inside.Reader.{OpenBracket, name, reads_on};
-ghost use Rattle.term_text.specs.inside.Parts.{Reads};
+ghost use Rattle.term_text.specs.inside.Parts.{EndsWithin, Reads};
 ghost use Rattle.term_text.specs.Text.{is_small};
 
 use crate::bytes::past_name;
@@ -13,7 +13,7 @@ use std::alloc::Global;
 pub(crate) fn name_at(alloc: Global, text: &[u8], at: usize) -> Result<(Term, usize), TextFault>
     requires within { at < length text.now }
     requires small { is_small (slice_index text.now at) ≡ true }
-    ensures within { IfOk result (λ x. (at ≤ x.1) × (x.1 ≤ length text.now)) }
+    ensures within { EndsWithin text.now at result }
     ensures reads { (os : List OpenBracket)
         → Reads text.now (at + 1) (reads_on (name at (slice_index text.now at ∷ [])) os) os result }
 {

@@ -43,12 +43,12 @@ fn short_digits_at(text: &[u8], at: usize) -> (u64, usize)
     ensures within { result.1 ≤ length text.now }
 {
     let mut n: u64 = 0;
-    let mut place = at;
-    while place < text.len() && n < SHORT_BOUND && is_digit_byte(text[place]) {
-        n = n * 10 + digit_of(text[place]);
-        place += 1;
+    let mut offset = at;
+    while offset < text.len() && n < SHORT_BOUND && is_digit_byte(text[offset]) {
+        n = n * 10 + digit_of(text[offset]);
+        offset += 1;
     }
-    (n, place)
+    (n, offset)
 }
 
 /// Reads the decimal digits from this offset on. Returns their number, 0 if there are none, and the offset after them.
@@ -66,15 +66,15 @@ pub fn digits_at(text: &[u8], at: usize, limit: Magnitude) -> Option<(Magnitude,
     if n > limit {
         return None;
     }
-    let mut place = end;
-    while place < text.len() && is_digit_byte(text[place]) {
-        match with_digit(n, digit_of(text[place]) as Magnitude, limit) {
+    let mut offset = end;
+    while offset < text.len() && is_digit_byte(text[offset]) {
+        match with_digit(n, digit_of(text[offset]) as Magnitude, limit) {
             Some(more) => n = more,
             None => return None,
         }
-        place += 1;
+        offset += 1;
     }
-    Some((n, place))
+    Some((n, offset))
 }
 
 /// Reads the number that must begin at this offset, and returns it with the offset after its digits. With its sign it
@@ -108,15 +108,15 @@ pub(crate) fn literal_at(text: &[u8], at: usize, signs: &[u8]) -> Result<usize, 
     ensures within { IfOk result (λ n. (at ≤ n) × (n ≤ length text.now)) }
     ensures reads { ReadsSigns text.now at signs.now result }
 {
-    let mut place = at;
+    let mut offset = at;
     for sign in signs {
-        if place >= text.len() {
-            return Err(TextFault::Unclosed(place));
+        if offset >= text.len() {
+            return Err(TextFault::Unclosed(offset));
         }
-        if text[place] != *sign {
-            return Err(TextFault::Unexpected(place));
+        if text[offset] != *sign {
+            return Err(TextFault::Unexpected(offset));
         }
-        place += 1;
+        offset += 1;
     }
-    Ok(place)
+    Ok(offset)
 }

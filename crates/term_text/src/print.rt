@@ -4,7 +4,7 @@ ghost use Rattle.term_text.specs.Printed.{printed};
 ghost use Rattle.term_text.specs.Sent.{AppendsOrFront};
 
 use crate::printer::append;
-use crate::sink::{Buffer, WriteFault};
+use crate::sink::{StringSink, WriteFault};
 use ets_term::Term;
 use std::alloc::{AllocError, Global};
 use std::io::Write;
@@ -16,11 +16,11 @@ pub fn print_term(alloc: Global, term: &Term, out: &mut String) -> Result<(), Al
     ensures err { OnErr result (string_bytes out.new ≡ string_bytes out.old) }
 {
     let len = out.len();
-    let mut buffer = Buffer {
+    let mut buffer = StringSink {
         text: mem::replace(out, String::new(alloc)),
     };
     let result = append(term, &mut buffer);
-    let Buffer { mut text } = buffer;
+    let StringSink { mut text } = buffer;
     if result.is_err() {
         text.truncate(len);
     }

@@ -3,7 +3,7 @@ ghost use Rattle.std.specs.Prelude.{◌≡◌, ◌+◌, ◌≤◌, ◌<◌, ◌=
 ghost use Rattle.std.specs.List.{list_all};
 ghost use Rattle.ets_term.specs.Character.{is_character};
 ghost use Rattle.term_text.specs.inside.Reader.{code, quote, OpenBracket, quoted, reads_on};
-ghost use Rattle.term_text.specs.inside.Parts.{ReadsEscaped, ReadsCharacter, IsShort, ReadsQuoted, Reads, IsOutOfLevels};
+ghost use Rattle.term_text.specs.inside.Parts.{EndsWithin, ReadsEscaped, ReadsCharacter, IsShort, ReadsQuoted, Reads, IsOutOfLevels};
 ghost use Rattle.term_text.specs.declared.quote_form.QuoteForm.TheVariants as form;
 
 use crate::bytes::is_character_byte;
@@ -67,22 +67,22 @@ pub(crate) fn quoted_at(
     out_of_levels: bool,
 ) -> Result<(Items<u8>, usize), TextFault>
     requires { at ≤ length text.now }
-    ensures within { IfOk result (λ x. (at ≤ x.1) × (x.1 ≤ length text.now)) }
+    ensures within { EndsWithin text.now at result }
     ensures characters { IfOk result (λ x. IsTrue (list_all is_character x.0)) }
     ensures short { IfOk result (λ x. IsShort quotes (length x.0)) }
     ensures reads { ReadsQuoted text.now at quotes out_of_levels result }
 {
     let mut chars = Vec::new(alloc);
-    let mut place = at;
-    while place < text.len() {
-        if text[place] == quotes.quote() {
-            return Ok((Items::from_vec(chars), place + 1));
+    let mut offset = at;
+    while offset < text.len() {
+        if text[offset] == quotes.quote() {
+            return Ok((Items::from_vec(chars), offset + 1));
         }
-        let (c, end) = character_at(text, place, quotes, out_of_levels, chars.len())?;
+        let (c, end) = character_at(text, offset, quotes, out_of_levels, chars.len())?;
         chars.push(c)?;
-        place = end;
+        offset = end;
     }
-    Err(TextFault::Unclosed(place))
+    Err(TextFault::Unclosed(offset))
 }
 
 /// Reads the atom whose opening quote is at this offset.
@@ -92,7 +92,7 @@ pub(crate) fn quoted_atom_at(
     at: usize,
 ) -> Result<(Term, usize), TextFault>
     requires { at < length text.now }
-    ensures within { IfOk result (λ x. (at ≤ x.1) × (x.1 ≤ length text.now)) }
+    ensures within { EndsWithin text.now at result }
     ensures reads { (os : List OpenBracket) → Reads text.now (at + 1) (reads_on (quoted (form.Atom at) []) os) os result }
 {
     let (chars, end) = quoted_at(alloc, text, at + 1, QuoteForm::Atom(at), false)?;
@@ -108,7 +108,7 @@ pub(crate) fn string_at(
     out_of_levels: bool,
 ) -> Result<(Term, usize), TextFault>
     requires { at ≤ length text.now }
-    ensures within { IfOk result (λ x. (at ≤ x.1) × (x.1 ≤ length text.now)) }
+    ensures within { EndsWithin text.now at result }
     ensures reads { (os : List OpenBracket) → IsOutOfLevels form.String out_of_levels os
         → Reads text.now at (reads_on (quoted form.String []) os) os result }
 {

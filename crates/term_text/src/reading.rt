@@ -4,7 +4,7 @@ ghost use Rattle.term_text.specs.inside.Reader.{OpenBracket, wants, reads_on, op
 ghost use Rattle.term_text.specs.Faults.{IsFaultOrMemory};
 ghost use Rattle.term_text.specs.Grammar.{Front};
 ghost use Rattle.term_text.specs.Reading.{ReaderReturns};
-ghost use Rattle.term_text.specs.inside.Parts.{Reads, is_square};
+ghost use Rattle.term_text.specs.inside.Parts.{EndsWithin, Reads, is_square};
 
 use crate::binary::{angle_at, identifier_at};
 use crate::bracket::Bracket;
@@ -17,7 +17,8 @@ use ets_term::{Items, MAX_DEPTH, Term};
 use std::alloc::Global;
 
 /// Reads the term at the front of the text. Returns it with the number of bytes that it and the blanks before it take.
-/// If the text does not begin with a term, returns the fault of the first byte with which no term can continue.
+/// Otherwise returns the fault of the first byte with which no term can continue, or of the end of the text. Returns
+/// `Memory` if memory runs out.
 pub fn read_term(alloc: Global, text: &str) -> Result<(Term, usize), TextFault>
     ensures found { IfOk result (λ x. Front text.now x.0 x.1) }
     ensures fault { IfErr result (λ f. IsFaultOrMemory text.now f) }
@@ -45,7 +46,7 @@ fn term_at(
     levels_left: usize,
 ) -> Result<(Term, usize), TextFault>
     requires { at ≤ length text.now }
-    ensures within { IfOk result (λ x. (at ≤ x.1) × (x.1 ≤ length text.now)) }
+    ensures within { EndsWithin text.now at result }
     ensures reads { (os : List OpenBracket) → length os + levels_left ≡ MAX_DEPTH
         → Reads text.now at (reads_on (wants false) os) os result }
 {
@@ -65,7 +66,7 @@ fn form_at(
     levels_left: usize,
 ) -> Result<(Term, usize), TextFault>
     requires { at < length text.now }
-    ensures within { IfOk result (λ x. (at ≤ x.1) × (x.1 ≤ length text.now)) }
+    ensures within { EndsWithin text.now at result }
     ensures reads { (os : List OpenBracket) → length os + levels_left ≡ MAX_DEPTH
         → Reads text.now (at + 1) (begin at os (slice_index text.now at)) os result }
 {
@@ -104,31 +105,31 @@ fn bracket_at(
     levels_left: usize,
 ) -> Result<(Term, usize), TextFault>
     requires { at ≤ length text.now }
-    ensures within { IfOk result (λ x. (at ≤ x.1) × (x.1 ≤ length text.now)) }
+    ensures within { EndsWithin text.now at result }
     ensures reads { (os : List OpenBracket) → length os + 1 + levels_left ≡ MAX_DEPTH
         → Reads text.now at (reads_on (wants true) (opening (is_square bracket) ∷ os)) os result }
 {
     let mut items = Items::new(alloc);
-    let mut place = past_blanks(text, at);
-    if place < text.len() && bracket.is_closed_by(text[place]) {
-        return Ok((bracket.enclose(items), place + 1));
+    let mut offset = past_blanks(text, at);
+    if offset < text.len() && bracket.is_closed_by(text[offset]) {
+        return Ok((bracket.enclose(items), offset + 1));
     }
     loop {
-        let (item, end) = match term_at(alloc, text, place, levels_left) {
+        let (item, end) = match term_at(alloc, text, offset, levels_left) {
             Ok(found) => found,
             Err(fault) => return Err(fault),
         };
         items.push(item)?;
-        let behind = past_blanks(text, end);
-        if behind >= text.len() {
-            return Err(TextFault::Unclosed(behind));
+        let next = past_blanks(text, end);
+        if next >= text.len() {
+            return Err(TextFault::Unclosed(next));
         }
-        if bracket.is_closed_by(text[behind]) {
-            return Ok((bracket.enclose(items), behind + 1));
+        if bracket.is_closed_by(text[next]) {
+            return Ok((bracket.enclose(items), next + 1));
         }
-        if text[behind] != b',' {
-            return Err(TextFault::Unexpected(behind));
+        if text[next] != b',' {
+            return Err(TextFault::Unexpected(next));
         }
-        place = behind + 1;
+        offset = next + 1;
     }
 }

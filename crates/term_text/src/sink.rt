@@ -18,11 +18,11 @@ pub(crate) trait Sink {
 
 /// A sink in memory.
 #[derive(Drop)]
-pub(crate) struct Buffer {
+pub(crate) struct StringSink {
     pub(crate) text: String,
 }
 
-impl Sink for Buffer {
+impl Sink for StringSink {
     ghost use Rattle.std.specs.Prelude.{Some, string_bytes};
 
     type Fault = AllocError;

@@ -1,18 +1,22 @@
 -- The private contracts of the recursive descent: each function runs a part of the automaton.
-use Rattle.std.specs.Prelude.{◌≡◌, ℕ, List, [], ◌∷◌, ◌++◌, ◌+◌, ◌-◌, length, drop, ◌≤◌, Bool, true, false, nat_le, Option, None, Some, Result, Ok, Err, codes}
+use Rattle.std.specs.Prelude.{◌≡◌, ℕ, List, [], ◌∷◌, ◌++◌, ◌+◌, ◌-◌, length, drop, ◌≤◌, Bool, true, false, nat_le, Option, None, Some, Result, Ok, Err, IfOk, codes}
 use Rattle.std.specs.List.{prefix_len}
 use Rattle.ets_term.specs.declared.term.Term.{Term}
 use Rattle.ets_term.specs.declared.term.Term.TheVariants.{Int, Pid, Tid, Binary}
 use Rattle.ets_term.specs.Depth.{max_depth}
 use Rattle.ets_term.specs.Character.{max_characters}
 use Rattle.term_text.specs.declared.fault.TextFault.{TextFault}
-use Rattle.term_text.specs.inside.Reader.{OpenBracket, Number, integer, pid, identifier, byte, Expect, whole, digit, behind_byte, quoted, escaped, unquoted, admits, Reading, reads_on, fails, signed, max_magnitude, put, expect, take_byte, read_from}
+use Rattle.term_text.specs.inside.Reader.{OpenBracket, Number, integer, pid, identifier, byte, Expect, whole, digit, after_byte, quoted, escaped, unquoted, admits, Reading, reads_on, fails, signed, max_magnitude, put, expect, take_byte, read_from}
 use Rattle.term_text.specs.declared.bracket.Bracket.{Bracket}
 use Rattle.term_text.specs.declared.bracket.Bracket.TheVariants.{Square, Brace}
 use Rattle.term_text.specs.declared.quote_form.QuoteForm.{QuoteForm}
 use Rattle.term_text.specs.declared.quote_form.QuoteForm.TheVariants as form
 use Rattle.term_text.specs.Reading.{ReaderFails}
 use Rattle.term_text.specs.Text.{is_blank, is_digit}
+
+-- the function ends at an offset from at on, within the text
+abbrev pub EndsWithin : {A E : Type 0} → List ℕ → ℕ → Result (A × ℕ) E → Type 0
+EndsWithin text at result = IfOk result (λ x. (at ≤ x.1) × (x.1 ≤ length text))
 
 -- from s before the byte at, the automaton reaches z before the byte n
 abbrev pub Reaches : List ℕ → ℕ → Reading → ℕ → Reading → Type 0
@@ -28,7 +32,7 @@ abbrev pub counted : ℕ → Number → ℕ → List OpenBracket → Reading
 counted n (integer below) v os = put os (Int (signed below v)) n
 counted n pid v os = expect n (codes ".0>") (whole (Pid v)) os
 counted n identifier v os = expect n (codes ">") (whole (Tid v)) os
-counted n (byte bs) v os = reads_on (behind_byte (bs ++ v ∷ [])) os
+counted n (byte bs) v os = reads_on (after_byte (bs ++ v ∷ [])) os
 
 -- the offset after the digits from the byte at on
 abbrev pub digits_end : List ℕ → ℕ → ℕ

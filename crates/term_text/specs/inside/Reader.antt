@@ -28,8 +28,8 @@ pub data Mode : Type 0 where
   angle : Mode  -- after `<`, the `<` of a binary or the `0` of a pid
   opened_binary : Mode  -- a byte, a string or the closing sign of a binary just opened
   wants_byte : List ℕ → Mode  -- a further byte of a binary
-  behind_byte : List ℕ → Mode  -- a comma or the closing sign
-  behind_string : List ℕ → Mode  -- the closing sign of a binary
+  after_byte : List ℕ → Mode  -- a comma or the closing sign
+  after_string : List ℕ → Mode  -- the closing sign of a binary
   after : Mode  -- in a bracket, after a term: a comma or the closing sign
 
 -- The state: a mode in open brackets, listed from the innermost, or the result.
@@ -83,10 +83,10 @@ next_after at (o ∷ os) b = if closes o.square b then put os (bracket o) (at + 
     else fails (Unexpected at)
 
 -- the byte after an integer or a name, which it ends
-abbrev pub next_behind : ℕ → Reading → ℕ → Reading
-next_behind at (reads_on mode os) b = next_after at os b
-next_behind at (found t n) b = found t n
-next_behind at (fails f) b = fails f
+abbrev pub next_unless_found : ℕ → Reading → ℕ → Reading
+next_unless_found at (reads_on mode os) b = next_after at os b
+next_unless_found at (found t n) b = found t n
+next_unless_found at (fails f) b = fails f
 
 -- the first byte in a bracket
 abbrev pub next_opened : ℕ → List OpenBracket → ℕ → Reading
@@ -97,17 +97,17 @@ next_opened at (o ∷ os) b = if closes o.square b then put os (bracket o) (at +
 abbrev pub binary_ends : ℕ → List ℕ → List OpenBracket → ℕ → Reading
 binary_ends at bs os b = next_sign at (codes ">>") (whole (Binary bs)) os b
 
-abbrev pub next_behind_byte : ℕ → List ℕ → List OpenBracket → ℕ → Reading
-next_behind_byte at bs os b = if is_blank b then reads_on (behind_byte bs) os
+abbrev pub next_after_byte : ℕ → List ℕ → List OpenBracket → ℕ → Reading
+next_after_byte at bs os b = if is_blank b then reads_on (after_byte bs) os
     else if b == 44 then reads_on (wants_byte bs) os
     else binary_ends at bs os b
 
 -- the byte after the digits of a number
-abbrev pub next_behind_number : ℕ → Number → ℕ → List OpenBracket → ℕ → Reading
-next_behind_number at (integer below) n os b = next_behind at (put os (Int (signed below n)) at) b
-next_behind_number at pid n os b = next_sign at (codes ".0>") (whole (Pid n)) os b
-next_behind_number at identifier n os b = next_sign at (codes ">") (whole (Tid n)) os b
-next_behind_number at (byte bs) n os b = next_behind_byte at (bs ++ n ∷ []) os b
+abbrev pub next_after_number : ℕ → Number → ℕ → List OpenBracket → ℕ → Reading
+next_after_number at (integer below) n os b = next_unless_found at (put os (Int (signed below n)) at) b
+next_after_number at pid n os b = next_sign at (codes ".0>") (whole (Pid n)) os b
+next_after_number at identifier n os b = next_sign at (codes ">") (whole (Tid n)) os b
+next_after_number at (byte bs) n os b = next_after_byte at (bs ++ n ∷ []) os b
 
 abbrev pub next_digit : ℕ → Number → ℕ → List OpenBracket → ℕ → Reading
 next_digit at kind start os b = if is_digit b then reads_on (number kind start (b - 48)) os else fails (Unexpected at)
@@ -116,7 +116,7 @@ abbrev pub next_number : ℕ → Number → ℕ → ℕ → List OpenBracket →
 next_number at kind start n os b = if is_digit b
     then (if nat_le (n * 10 + (b - 48)) (max_magnitude kind) then reads_on (number kind start (n * 10 + (b - 48))) os
     else fails (OutOfRange start))
-    else next_behind_number at kind n os b
+    else next_after_number at kind n os b
 
 -- the quote of a form
 abbrev pub quote : QuoteForm → ℕ
@@ -128,7 +128,7 @@ quote form.Binary = quotation_mark
 abbrev pub unquoted : ℕ → QuoteForm → List ℕ → List OpenBracket → Reading
 unquoted n (form.Atom start) cs os = put os (Atom cs) n
 unquoted n form.String cs os = put os (ListOf (map code cs)) n
-unquoted n form.Binary cs os = reads_on (behind_string cs) os
+unquoted n form.Binary cs os = reads_on (after_string cs) os
 
 -- the first byte of a further character after n others: an atom has at most max_characters, and the characters of a
 -- string are one level further in
@@ -151,7 +151,7 @@ next at (digit kind start) os b = next_digit at kind start os b
 next at (number kind start n) os b = next_number at kind start n os b
 next at (name start cs) os b = if is_name b
     then (if length cs == max_characters then fails (AtomTooLong start) else reads_on (name start (cs ++ b ∷ [])) os)
-    else next_behind at (put os (Atom cs) at) b
+    else next_unless_found at (put os (Atom cs) at) b
 next at (quoted q cs) os b = next_quoted at q cs os b
 next at (escaped q cs) os b = if (b == quote q) || (b == 92)
     then reads_on (quoted q (cs ++ b ∷ [])) os
@@ -165,8 +165,8 @@ next at opened_binary os b = if is_blank b then reads_on opened_binary os
     else if is_digit b then reads_on (number (byte []) at (b - 48)) os
     else binary_ends at [] os b
 next at (wants_byte bs) os b = if is_blank b then reads_on (wants_byte bs) os else next_digit at (byte bs) at os b
-next at (behind_byte bs) os b = next_behind_byte at bs os b
-next at (behind_string bs) os b = if is_blank b then reads_on (behind_string bs) os else binary_ends at bs os b
+next at (after_byte bs) os b = next_after_byte at bs os b
+next at (after_string bs) os b = if is_blank b then reads_on (after_string bs) os else binary_ends at bs os b
 next at after os b = next_after at os b
 
 -- A result does not change with further bytes.

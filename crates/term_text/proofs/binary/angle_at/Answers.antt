@@ -1,7 +1,7 @@
 use Rattle.std.proofs.Common.{rules, arith, ◌∙◌, ◌∷◌, [], ◌+◌, refl, get_or, ◌==◌}
 use Rattle.term_text.specs.inside.Reader.{reads_on, angle, opened_binary, expect, digits, pid}
 use Rattle.term_text.specs.declared.fault.TextFault.TheVariants.{Unexpected}
-use Rattle.term_text.proofs.Places.{read-at, fails-at, reads_along, if-false}
+use Rattle.term_text.proofs.Offsets.{read-at, fails-at, reads_along, if-false}
 use Rattle.term_text.proofs.binary.angle_at.Goals as goal
 
 pub returns-in-60-clause-reads : goal.returns-in-60-clause-reads

@@ -3,7 +3,7 @@ use Rattle.term_text.specs.inside.Reader.{reads_on, opened_binary, digit, byte, 
 use Rattle.term_text.specs.declared.quote_form.QuoteForm.TheVariants as form
 use Rattle.term_text.proofs.Binaries.{opened_quote, opened_digit}
 use Rattle.term_text.proofs.Blanks.{opened_binary_ignores}
-use Rattle.term_text.proofs.Places.{reads_along}
+use Rattle.term_text.proofs.Offsets.{reads_along}
 use Rattle.term_text.proofs.binary.binary_at.Goals as goal
 
 pub returns-then-byte_is-clause-reads : goal.returns-then-byte_is-clause-reads

@@ -3,12 +3,12 @@ use Rattle.term_text.specs.inside.Reader.{Reading}
 use Rattle.term_text.specs.inside.Parts.{IgnoresBlanks, Reaches}
 use Rattle.term_text.proofs.bytes.past_blanks.Given as goal
 
-abbrev pub invariant-loop-place : goal.invariant-loop-place
-invariant-loop-place l = record {
-  stays : (s : Reading) → IgnoresBlanks s → Reaches l.text l.at s l.place s;
-  behind : l.at ≤ l.place;
-  within : l.place ≤ length l.text;
+abbrev pub invariant-loop-offset : goal.invariant-loop-offset
+invariant-loop-offset l = record {
+  stays : (s : Reading) → IgnoresBlanks s → Reaches l.text l.at s l.offset s;
+  forward : l.at ≤ l.offset;
+  within : l.offset ≤ length l.text;
 }
 
-abbrev pub decreases-loop-place : goal.decreases-loop-place
-decreases-loop-place l = length l.text - l.place
+abbrev pub decreases-loop-offset : goal.decreases-loop-offset
+decreases-loop-offset l = length l.text - l.offset

@@ -3,12 +3,12 @@ use Rattle.std.specs.List.{prefix_len}
 use Rattle.term_text.specs.Text.{is_name}
 use Rattle.term_text.proofs.bytes.past_name.Given as goal
 
-abbrev pub invariant-loop-place : goal.invariant-loop-place
-invariant-loop-place l = record {
-  end : l.place + prefix_len is_name (drop l.place l.text) ≡ l.at + prefix_len is_name (drop l.at l.text);
-  behind : l.at ≤ l.place;
-  within : l.place ≤ length l.text;
+abbrev pub invariant-loop-offset : goal.invariant-loop-offset
+invariant-loop-offset l = record {
+  end : l.offset + prefix_len is_name (drop l.offset l.text) ≡ l.at + prefix_len is_name (drop l.at l.text);
+  forward : l.at ≤ l.offset;
+  within : l.offset ≤ length l.text;
 }
 
-abbrev pub decreases-loop-place : goal.decreases-loop-place
-decreases-loop-place l = length l.text - l.place
+abbrev pub decreases-loop-offset : goal.decreases-loop-offset
+decreases-loop-offset l = length l.text - l.offset

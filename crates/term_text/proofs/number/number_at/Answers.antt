@@ -2,7 +2,7 @@ use Rattle.std.proofs.Common.{rules, arith, get_or}
 use Rattle.term_text.specs.Text.{is_digit}
 use Rattle.term_text.specs.inside.Reader.{reads_on, digit}
 use Rattle.term_text.specs.declared.fault.TextFault.TheVariants.{Unexpected}
-use Rattle.term_text.proofs.Places.{ends-at, fails-at, if-false, number-reaches, number-fails}
+use Rattle.term_text.proofs.Offsets.{ends-at, fails-at, if-false, number-reaches, number-fails}
 use Rattle.term_text.proofs.number.number_at.Goals as goal
 
 pub returns-then-at-text-clause-reads : goal.returns-then-at-text-clause-reads

@@ -3,12 +3,12 @@ use Rattle.std.specs.List.{prefix_len}
 use Rattle.term_text.specs.Text.{is_digit, spelled}
 use Rattle.term_text.proofs.number.short_digits_at.Given as goal
 
-abbrev pub invariant-loop-place : goal.invariant-loop-place
-invariant-loop-place l = record {
-  value : spelled l.n (drop l.place l.text) ≡ spelled 0 (drop l.at l.text);
-  end : l.place + prefix_len is_digit (drop l.place l.text) ≡ l.at + prefix_len is_digit (drop l.at l.text);
-  within : l.place ≤ length l.text;
+abbrev pub invariant-loop-offset : goal.invariant-loop-offset
+invariant-loop-offset l = record {
+  value : spelled l.n (drop l.offset l.text) ≡ spelled 0 (drop l.at l.text);
+  end : l.offset + prefix_len is_digit (drop l.offset l.text) ≡ l.at + prefix_len is_digit (drop l.at l.text);
+  within : l.offset ≤ length l.text;
 }
 
-abbrev pub decreases-loop-place : goal.decreases-loop-place
-decreases-loop-place l = length l.text - l.place
+abbrev pub decreases-loop-offset : goal.decreases-loop-offset
+decreases-loop-offset l = length l.text - l.offset

@@ -5,14 +5,14 @@ use Rattle.term_text.specs.inside.Reader.{OpenBracket, quoted, reads_on}
 use Rattle.term_text.specs.inside.Parts.{Reaches, IsOutOfLevels, IsShort}
 use Rattle.term_text.proofs.quoted.quoted_at.Given as goal
 
-abbrev pub invariant-loop-place : goal.invariant-loop-place
-invariant-loop-place l = record {
-  reads : (os : List OpenBracket) → IsOutOfLevels l.quotes l.out_of_levels os → Reaches l.text l.at (reads_on (quoted l.quotes []) os) l.place (reads_on (quoted l.quotes l.chars.items) os);
+abbrev pub invariant-loop-offset : goal.invariant-loop-offset
+invariant-loop-offset l = record {
+  reads : (os : List OpenBracket) → IsOutOfLevels l.quotes l.out_of_levels os → Reaches l.text l.at (reads_on (quoted l.quotes []) os) l.offset (reads_on (quoted l.quotes l.chars.items) os);
   characters : IsTrue (list_all is_character l.chars.items);
   short : IsShort l.quotes (length l.chars.items);
-  behind : l.at ≤ l.place;
-  within : l.place ≤ length l.text;
+  forward : l.at ≤ l.offset;
+  within : l.offset ≤ length l.text;
 }
 
-abbrev pub decreases-loop-place : goal.decreases-loop-place
-decreases-loop-place l = length l.text - l.place
+abbrev pub decreases-loop-offset : goal.decreases-loop-offset
+decreases-loop-offset l = length l.text - l.offset

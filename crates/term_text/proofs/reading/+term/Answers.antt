@@ -6,7 +6,7 @@ use Rattle.term_text.specs.Text.{is_digit}
 use Rattle.term_text.specs.declared.fault.TextFault.TheVariants.{Unexpected, TooDeep}
 use Rattle.term_text.proofs.FirstBytes as begins
 use Rattle.term_text.proofs.Blanks.{after-ignores}
-use Rattle.term_text.proofs.Places.{read-at, reads_along, if-true}
+use Rattle.term_text.proofs.Offsets.{read-at, reads_along, if-true}
 use Rattle.term_text.proofs.reading.+term.Goals as goal
 
 pub form_at-returns-then-not-is_first_byte-clause-reads :
@@ -53,40 +53,40 @@ form_at-returns-in-35-clause-reads t c = λ os e.
     let at = c.args.at in
     begins.begun c.args.text.now at os (get_or c.args.text.now at 0) _ c.identifier_at.result (ap (begin at os) c.in-35.is ∙ begins.begin-identifier at os (omega (arith, e))) (c.identifier_at.ensures.reads os)
 
-pub bracket_at-returns-then-behind-text-clause-reads :
-    goal.bracket_at-returns-then-behind-text-clause-reads
-bracket_at-returns-then-behind-text-clause-reads t c = λ os e.
+pub bracket_at-returns-then-next-text-clause-reads :
+    goal.bracket_at-returns-then-next-text-clause-reads
+bracket_at-returns-then-next-text-clause-reads t c = λ os e.
     let o : OpenBracket = record { square = is_square c.args.bracket; terms = c.loop-found.items } in
     let p : OpenBracket = with_term o c.in-Ok.found.0 in
-    let behind = c.past_blanks-behind.result in
+    let next = c.past_blanks-next.result in
     c.loop-found.invariant.reads os e
     ∙ c.in-Ok.ensures.reads (o ∷ os) (omega (arith, e))
-    ∙ c.past_blanks-behind.ensures.stays (reads_on after (p ∷ os)) (after-ignores p os)
-    ∙ begins.after-ends c.args.text.now behind p os (omega arith)
+    ∙ c.past_blanks-next.ensures.stays (reads_on after (p ∷ os)) (after-ignores p os)
+    ∙ begins.after-ends c.args.text.now next p os (omega arith)
 
 pub bracket_at-returns-then-is_closed_by-2-clause-reads :
     goal.bracket_at-returns-then-is_closed_by-2-clause-reads
 bracket_at-returns-then-is_closed_by-2-clause-reads t c = λ os e.
     let o : OpenBracket = record { square = is_square c.args.bracket; terms = c.loop-found.items } in
     let p : OpenBracket = with_term o c.in-Ok.found.0 in
-    let behind = c.past_blanks-behind.result in
+    let next = c.past_blanks-next.result in
     let term : bracket p ≡ c.enclose-then-is_closed_by-2.result = search rules in
     c.loop-found.invariant.reads os e
     ∙ c.in-Ok.ensures.reads (o ∷ os) (omega (arith, e))
-    ∙ c.past_blanks-behind.ensures.stays (reads_on after (p ∷ os)) (after-ignores p os)
-    ∙ begins.after-closes c.args.text.now behind p os (omega arith) (search rules)
-    ∙ ap (λ (u : Term). read_from (behind + 1) (put os u (behind + 1)) (drop (behind + 1) c.args.text.now)) term
+    ∙ c.past_blanks-next.ensures.stays (reads_on after (p ∷ os)) (after-ignores p os)
+    ∙ begins.after-closes c.args.text.now next p os (omega arith) (search rules)
+    ∙ ap (λ (u : Term). read_from (next + 1) (put os u (next + 1)) (drop (next + 1) c.args.text.now)) term
 
-pub bracket_at-returns-then-text-behind-ne44-clause-reads :
-    goal.bracket_at-returns-then-text-behind-ne44-clause-reads
-bracket_at-returns-then-text-behind-ne44-clause-reads t c = λ os e.
+pub bracket_at-returns-then-text-next-ne44-clause-reads :
+    goal.bracket_at-returns-then-text-next-ne44-clause-reads
+bracket_at-returns-then-text-next-ne44-clause-reads t c = λ os e.
     let o : OpenBracket = record { square = is_square c.args.bracket; terms = c.loop-found.items } in
     let p : OpenBracket = with_term o c.in-Ok.found.0 in
-    let behind = c.past_blanks-behind.result in
+    let next = c.past_blanks-next.result in
     c.loop-found.invariant.reads os e
     ∙ c.in-Ok.ensures.reads (o ∷ os) (omega (arith, e))
-    ∙ c.past_blanks-behind.ensures.stays (reads_on after (p ∷ os)) (after-ignores p os)
-    ∙ begins.after-fails c.args.text.now behind p os (omega arith) (search rules) (search rules) (search rules)
+    ∙ c.past_blanks-next.ensures.stays (reads_on after (p ∷ os)) (after-ignores p os)
+    ∙ begins.after-fails c.args.text.now next p os (omega arith) (search rules) (search rules) (search rules)
 
 pub bracket_at-loop-found-preserved : goal.bracket_at-loop-found-preserved
 bracket_at-loop-found-preserved t c = record {
@@ -95,13 +95,13 @@ bracket_at-loop-found-preserved t c = record {
       let p : OpenBracket = with_term o c.in-Ok.found.0 in
       let q : OpenBracket = record { square = is_square c.args.bracket; terms = c.push.new.self } in
       let same : p ≡ q = search rules in
-      let behind = c.past_blanks-behind.result in
+      let next = c.past_blanks-next.result in
       c.loop-found.invariant.reads os e
       ∙ c.in-Ok.ensures.reads (o ∷ os) (omega (arith, e))
-      ∙ c.past_blanks-behind.ensures.stays (reads_on after (p ∷ os)) (after-ignores p os)
-      ∙ begins.after-comma c.args.text.now behind p os (omega arith) (search rules) (search rules) (search rules)
-      ∙ ap (λ (x : OpenBracket). read_from (behind + 1) (reads_on (wants false) (x ∷ os)) (drop (behind + 1) c.args.text.now)) same;
-  behind = omega (arith, c.in-Ok.ensures.within);
+      ∙ c.past_blanks-next.ensures.stays (reads_on after (p ∷ os)) (after-ignores p os)
+      ∙ begins.after-comma c.args.text.now next p os (omega arith) (search rules) (search rules) (search rules)
+      ∙ ap (λ (x : OpenBracket). read_from (next + 1) (reads_on (wants false) (x ∷ os)) (drop (next + 1) c.args.text.now)) same;
+  forward = omega (arith, c.in-Ok.ensures.within);
   within = omega arith;
 }
 

@@ -14,10 +14,10 @@ decreases-bracket_at l = 3 * l.levels_left + 2
 
 abbrev pub invariant-bracket_at-loop-found : goal.invariant-bracket_at-loop-found
 invariant-bracket_at-loop-found l = record {
-  reads : (os : List OpenBracket) → length os + 1 + l.levels_left ≡ 128 → Reaches l.text l.at (reads_on (wants true) (opening (is_square l.bracket) ∷ os)) l.place (reads_on (wants false) (record { square = is_square l.bracket; terms = l.items } ∷ os));
-  behind : l.at ≤ l.place;
-  within : l.place ≤ length l.text;
+  reads : (os : List OpenBracket) → length os + 1 + l.levels_left ≡ 128 → Reaches l.text l.at (reads_on (wants true) (opening (is_square l.bracket) ∷ os)) l.offset (reads_on (wants false) (record { square = is_square l.bracket; terms = l.items } ∷ os));
+  forward : l.at ≤ l.offset;
+  within : l.offset ≤ length l.text;
 }
 
 abbrev pub decreases-bracket_at-loop-found : goal.decreases-bracket_at-loop-found
-decreases-bracket_at-loop-found l = length l.text - l.place
+decreases-bracket_at-loop-found l = length l.text - l.offset

@@ -1,6 +1,6 @@
 use Rattle.std.proofs.Common.{arith, []}
-use Rattle.term_text.proofs.FaultsTold.{returned-front, returned-fault}
-use Rattle.term_text.proofs.Places.{reads-gives}
+use Rattle.term_text.proofs.FaultLaws.{returned-front, returned-fault}
+use Rattle.term_text.proofs.Offsets.{reads-gives}
 use Rattle.term_text.proofs.reading.read_term_bytes.Goals as goal
 
 pub returns : goal.returns

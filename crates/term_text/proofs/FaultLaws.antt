@@ -13,8 +13,8 @@ use Rattle.term_text.specs.Faults.{FaultMeans, IsFaultAt, Continues, EndsEarly, 
 use Rattle.term_text.specs.Reading.{ReaderReturns}
 use Rattle.term_text.specs.Grammar.{Front}
 use Rattle.term_text.proofs.Prefixes.{goes-on, stuck, read-append}
-use Rattle.term_text.proofs.Places.{read-fails, read-found}
-use Rattle.term_text.proofs.FaultRows.{range-told, depth-told, atom-told}
+use Rattle.term_text.proofs.Offsets.{read-fails, read-found}
+use Rattle.term_text.proofs.FaultRows.{range-reported, depth-reported, atom-reported}
 use Rattle.term_text.proofs.Meaning.{MeansIn, Means}
 use Rattle.term_text.proofs.Sound.{next-holds, sound}
 use Rattle.term_text.proofs.Spelled.{front-read}
@@ -98,12 +98,12 @@ at-byte pre b bs (Unexpected at) h e s =
       rest = bs;
       whole = refl;
       before = continues pre (goes-on pre h);
-      behind = not-stuck (pre ++ b ∷ []) (Unexpected at) e;
-      told = (s, λ start r. other-range at start (sym here ∙ range-told pre b start bs r), λ d. other-depth at (length pre) (sym here ∙ depth-told pre b bs d), λ start a. other-atom at start (sym here ∙ atom-told pre b start bs a));
+      after = not-stuck (pre ++ b ∷ []) (Unexpected at) e;
+      fault = (s, λ start r. other-range at start (sym here ∙ range-reported pre b start bs r), λ d. other-depth at (length pre) (sym here ∙ depth-reported pre b bs d), λ start a. other-atom at start (sym here ∙ atom-reported pre b start bs a));
     }
-at-byte pre b bs (OutOfRange at) h e s = record { pre = pre; b = b; rest = bs; whole = refl; before = continues pre (goes-on pre h); behind = not-stuck (pre ++ b ∷ []) (OutOfRange at) e; told = s }
-at-byte pre b bs (TooDeep at) h e s = record { pre = pre; b = b; rest = bs; whole = refl; before = continues pre (goes-on pre h); behind = not-stuck (pre ++ b ∷ []) (TooDeep at) e; told = s }
-at-byte pre b bs (AtomTooLong at) h e s = record { pre = pre; b = b; rest = bs; whole = refl; before = continues pre (goes-on pre h); behind = not-stuck (pre ++ b ∷ []) (AtomTooLong at) e; told = s }
+at-byte pre b bs (OutOfRange at) h e s = record { pre = pre; b = b; rest = bs; whole = refl; before = continues pre (goes-on pre h); after = not-stuck (pre ++ b ∷ []) (OutOfRange at) e; fault = s }
+at-byte pre b bs (TooDeep at) h e s = record { pre = pre; b = b; rest = bs; whole = refl; before = continues pre (goes-on pre h); after = not-stuck (pre ++ b ∷ []) (TooDeep at) e; fault = s }
+at-byte pre b bs (AtomTooLong at) h e s = record { pre = pre; b = b; rest = bs; whole = refl; before = continues pre (goes-on pre h); after = not-stuck (pre ++ b ∷ []) (AtomTooLong at) e; fault = s }
 
 -- a text with a fault does not begin with a term
 no-front : (text : List ℕ) (f : TextFault) → reading text ≡ fails f → (t : Term) (n : ℕ) → Front text t n → ⊥
@@ -116,11 +116,11 @@ abbrev FaultBehind : List ℕ → TextFault → Type 0
 FaultBehind bs f = (pre : List ℕ) (mode : Mode) (os : List OpenBracket) → MeansIn pre mode os → so_far pre ≡ reads_on mode os → read_from (length pre) (reads_on mode os) bs ≡ fails f → IsFault (pre ++ bs) f
 
 step-fault : (z : Reading) (bs pre : List ℕ) (b : ℕ) (mode : Mode) (os : List OpenBracket) (f : TextFault) → FaultBehind bs f → so_far pre ≡ reads_on mode os → next (length pre) mode os b ≡ z → Means (pre ++ b ∷ []) z → read_from (length pre + 1) z bs ≡ fails f → IsFault (pre ++ b ∷ bs) f
-step-fault (reads_on m2 os2) bs pre b mode os f behind e is meaning r =
+step-fault (reads_on m2 os2) bs pre b mode os f after e is meaning r =
     let P : List ℕ → Type 0 = λ w. IsFault w f in
-    subst P (append_assoc pre (b ∷ []) bs) (behind (pre ++ b ∷ []) m2 os2 meaning (next-state pre mode os b e ∙ is) (ap (λ (k : ℕ). read_from k (reads_on m2 os2) bs) (length-append pre (b ∷ [])) ∙ r))
-step-fault (found t n) bs pre b mode os f behind e is meaning r = absurd (not-found t n f (sym (read-found (length pre + 1) t n bs) ∙ r))
-step-fault (fails g) bs pre b mode os f behind e is meaning r =
+    subst P (append_assoc pre (b ∷ []) bs) (after (pre ++ b ∷ []) m2 os2 meaning (next-state pre mode os b e ∙ is) (ap (λ (k : ℕ). read_from k (reads_on m2 os2) bs) (length-append pre (b ∷ [])) ∙ r))
+step-fault (found t n) bs pre b mode os f after e is meaning r = absurd (not-found t n f (sym (read-found (length pre + 1) t n bs) ∙ r))
+step-fault (fails g) bs pre b mode os f after e is meaning r =
     let same : g ≡ f = same-fault g f (sym (read-fails (length pre + 1) g bs) ∙ r) in
     let P : TextFault → Type 0 = λ x. IsFault (pre ++ b ∷ bs) x in
     subst P same (at-byte pre b bs g (fault-free-so pre mode os e) (next-state pre mode os b e ∙ is) (says-here pre b g meaning))
@@ -135,8 +135,8 @@ read-fault [] f pre mode os h e r =
 read-fault (b ∷ bs) f pre mode os h e r = step-fault (next (length pre) mode os b) bs pre b mode os f (read-fault bs f) e refl (next-holds (length pre) mode os pre b refl h).meaning r
 
 -- Each fault of the automaton meets its row.
-pub faulted : (text : List ℕ) (f : TextFault) → reading text ≡ fails f → IsFault text f
-faulted text f e = read-fault text f [] (wants false) [] (128, (refl, refl)) refl e
+pub row-holds : (text : List ℕ) (f : TextFault) → reading text ≡ fails f → IsFault text f
+row-holds text f e = read-fault text f [] (wants false) [] (128, (refl, refl)) refl e
 
 -- what a state without a result says of the text so far
 not-reading-found : (t : Term) (n : ℕ) (mode : Mode) (os : List OpenBracket) → found t n ≡ reads_on mode os → ⊥
@@ -162,29 +162,29 @@ abbrev MeansBehind : List ℕ → Type 0
 MeansBehind bs = (pre : List ℕ) (mode : Mode) (os : List OpenBracket) → MeansIn pre mode os → (m2 : Mode) (os2 : List OpenBracket) → state (length pre) (reads_on mode os) bs ≡ reads_on m2 os2 → MeansIn (pre ++ bs) m2 os2
 
 byte-means : (z : Reading) (bs pre : List ℕ) (b : ℕ) → MeansBehind bs → Means (pre ++ b ∷ []) z → (m2 : Mode) (os2 : List OpenBracket) → state (length pre + 1) z bs ≡ reads_on m2 os2 → MeansIn (pre ++ b ∷ bs) m2 os2
-byte-means (reads_on m3 os3) bs pre b behind meaning m2 os2 e =
+byte-means (reads_on m3 os3) bs pre b after meaning m2 os2 e =
     let P : List ℕ → Type 0 = λ w. MeansIn w m2 os2 in
-    subst P (append_assoc pre (b ∷ []) bs) (behind (pre ++ b ∷ []) m3 os3 meaning m2 os2 (ap (λ (k : ℕ). state k (reads_on m3 os3) bs) (length-append pre (b ∷ [])) ∙ e))
-byte-means (found t n) bs pre b behind meaning m2 os2 e = absurd (not-reading-found t n m2 os2 (sym (state-found (length pre + 1) t n bs) ∙ e))
-byte-means (fails f) bs pre b behind meaning m2 os2 e = absurd (not-reading-fails f m2 os2 (sym (state-fails (length pre + 1) f bs) ∙ e))
+    subst P (append_assoc pre (b ∷ []) bs) (after (pre ++ b ∷ []) m3 os3 meaning m2 os2 (ap (λ (k : ℕ). state k (reads_on m3 os3) bs) (length-append pre (b ∷ [])) ∙ e))
+byte-means (found t n) bs pre b after meaning m2 os2 e = absurd (not-reading-found t n m2 os2 (sym (state-found (length pre + 1) t n bs) ∙ e))
+byte-means (fails f) bs pre b after meaning m2 os2 e = absurd (not-reading-fails f m2 os2 (sym (state-fails (length pre + 1) f bs) ∙ e))
 
-means-behind : (bs : List ℕ) → MeansBehind bs
-means-behind [] pre mode os h m2 os2 e =
+means-after : (bs : List ℕ) → MeansBehind bs
+means-after [] pre mode os h m2 os2 e =
     let P : List ℕ → Type 0 = λ w. MeansIn w m2 os2 in
     subst P (sym (append-nil pre)) (subst (SaidGoing pre) e h)
-means-behind (b ∷ bs) pre mode os h m2 os2 e = byte-means (next (length pre) mode os b) bs pre b (means-behind bs) (next-holds (length pre) mode os pre b refl h).meaning m2 os2 e
+means-after (b ∷ bs) pre mode os h m2 os2 e = byte-means (next (length pre) mode os b) bs pre b (means-after bs) (next-holds (length pre) mode os pre b refl h).meaning m2 os2 e
 
 means-so-far : (pre : List ℕ) (mode : Mode) (os : List OpenBracket) → so_far pre ≡ reads_on mode os → MeansIn pre mode os
-means-so-far pre mode os e = means-behind pre [] (wants false) [] (128, (refl, refl)) mode os e
+means-so-far pre mode os e = means-after pre [] (wants false) [] (128, (refl, refl)) mode os e
 
 -- The automaton reports each fault whose row the text meets.
 only-unexpected : (pre : List ℕ) (b at : ℕ) (f : TextFault) → FaultMeans pre b f → IsFaultAt pre b (Unexpected at) → f ≡ Unexpected at
-only-unexpected pre b at (Unexpected n) s told = ap Unexpected (s ∙ sym told.0)
-only-unexpected pre b at (Unclosed n) s told = absurd s
-only-unexpected pre b at (OutOfRange n) s told = absurd (told.1 n s)
-only-unexpected pre b at (TooDeep n) s told = absurd (told.2 s.1)
-only-unexpected pre b at (AtomTooLong n) s told = absurd (told.3 n s)
-only-unexpected pre b at Memory s told = absurd s
+only-unexpected pre b at (Unexpected n) s fault = ap Unexpected (s ∙ sym fault.0)
+only-unexpected pre b at (Unclosed n) s fault = absurd s
+only-unexpected pre b at (OutOfRange n) s fault = absurd (fault.1 n s)
+only-unexpected pre b at (TooDeep n) s fault = absurd (fault.2 s.1)
+only-unexpected pre b at (AtomTooLong n) s fault = absurd (fault.3 n s)
+only-unexpected pre b at Memory s fault = absurd s
 
 goes-further : (bs : List ℕ) (mode : Mode) (os : List OpenBracket) → so_far bs ≡ reads_on mode os → Continues bs
 goes-further bs mode os e = continues bs (goes-on bs (fault-free-so bs mode os e))
@@ -192,20 +192,20 @@ goes-further bs mode os e = continues bs (goes-on bs (fault-free-so bs mode os e
 has-found : (bs : List ℕ) (t : Term) (n : ℕ) → so_far bs ≡ found t n → Continues bs
 has-found bs t n e = continues bs (goes-on bs (subst HasNoFault (sym e) tt))
 
-byte-told : (z : Reading) (pre : List ℕ) (b at : ℕ) (rest : List ℕ) → so_far (pre ++ b ∷ []) ≡ z → Means (pre ++ b ∷ []) z → (Continues (pre ++ b ∷ []) → ⊥) → IsFaultAt pre b (Unexpected at) → reading (pre ++ b ∷ rest) ≡ fails (Unexpected at)
-byte-told (reads_on mode os) pre b at rest e meaning behind told = absurd (behind (goes-further (pre ++ b ∷ []) mode os e))
-byte-told (found t n) pre b at rest e meaning behind told = absurd (behind (has-found (pre ++ b ∷ []) t n e))
-byte-told (fails f) pre b at rest e meaning behind told =
-    ap reading (sym (append_assoc pre (b ∷ []) rest)) ∙ stuck (pre ++ b ∷ []) f rest e ∙ ap fails (only-unexpected pre b at f (says-here pre b f meaning) told)
+byte-reported : (z : Reading) (pre : List ℕ) (b at : ℕ) (rest : List ℕ) → so_far (pre ++ b ∷ []) ≡ z → Means (pre ++ b ∷ []) z → (Continues (pre ++ b ∷ []) → ⊥) → IsFaultAt pre b (Unexpected at) → reading (pre ++ b ∷ rest) ≡ fails (Unexpected at)
+byte-reported (reads_on mode os) pre b at rest e meaning after fault = absurd (after (goes-further (pre ++ b ∷ []) mode os e))
+byte-reported (found t n) pre b at rest e meaning after fault = absurd (after (has-found (pre ++ b ∷ []) t n e))
+byte-reported (fails f) pre b at rest e meaning after fault =
+    ap reading (sym (append_assoc pre (b ∷ []) rest)) ∙ stuck (pre ++ b ∷ []) f rest e ∙ ap fails (only-unexpected pre b at f (says-here pre b f meaning) fault)
 
 found-more : (pre : List ℕ) (b : ℕ) (t : Term) (n : ℕ) → so_far pre ≡ found t n → so_far (pre ++ b ∷ []) ≡ found t n
 found-more pre b t n e = state-more 0 (reads_on (wants false) []) pre b ∙ ap (λ (s : Reading). take_byte (0 + length pre) s b) e
 
-unexpected-told : (z : Reading) (pre : List ℕ) (b at : ℕ) (rest : List ℕ) → so_far pre ≡ z → Continues pre → (Continues (pre ++ b ∷ []) → ⊥) → IsFaultAt pre b (Unexpected at) → reading (pre ++ b ∷ rest) ≡ fails (Unexpected at)
-unexpected-told (reads_on mode os) pre b at rest e before behind told =
-    byte-told (next (length pre) mode os b) pre b at rest (next-state pre mode os b e) (next-holds (length pre) mode os pre b refl (means-so-far pre mode os e)).meaning behind told
-unexpected-told (found t n) pre b at rest e before behind told = absurd (behind (has-found (pre ++ b ∷ []) t n (found-more pre b t n e)))
-unexpected-told (fails f) pre b at rest e before behind told = absurd (not-stuck pre f e before)
+unexpected-reported : (z : Reading) (pre : List ℕ) (b at : ℕ) (rest : List ℕ) → so_far pre ≡ z → Continues pre → (Continues (pre ++ b ∷ []) → ⊥) → IsFaultAt pre b (Unexpected at) → reading (pre ++ b ∷ rest) ≡ fails (Unexpected at)
+unexpected-reported (reads_on mode os) pre b at rest e before after fault =
+    byte-reported (next (length pre) mode os b) pre b at rest (next-state pre mode os b e) (next-holds (length pre) mode os pre b refl (means-so-far pre mode os e)).meaning after fault
+unexpected-reported (found t n) pre b at rest e before after fault = absurd (after (has-found (pre ++ b ∷ []) t n (found-more pre b t n e)))
+unexpected-reported (fails f) pre b at rest e before after fault = absurd (not-stuck pre f e before)
 
 closed-not-reading : (at : ℕ) (os : List OpenBracket) (t : Term) (m2 : Mode) (os2 : List OpenBracket) → closed at (put os t at) ≡ reads_on m2 os2 → ⊥
 closed-not-reading at [] t m2 os2 e = not-reading-found t at m2 os2 e
@@ -216,27 +216,27 @@ end-not-reading at (number (integer below) start n) os m2 os2 e = closed-not-rea
 end-not-reading at (name start cs) os m2 os2 e = closed-not-reading at os (Atom cs) m2 os2 e
 end-not-reading at mode os m2 os2 e = not-reading-fails (Unclosed at) m2 os2 e
 
-end-told : (z : Reading) (text : List ℕ) (mode : Mode) (os : List OpenBracket) → ending (length text) mode os ≡ z → reading text ≡ z → ((t : Term) (n : ℕ) → Front text t n → ⊥) → reading text ≡ fails (Unclosed (length text))
-end-told (reads_on m2 os2) text mode os e r none = absurd (end-not-reading (length text) mode os m2 os2 e)
-end-told (found t n) text mode os e r none = absurd (none t n (sound text t n r))
-end-told (fails f) text mode os e r none = r ∙ ap fails (end-fault (length text) mode os f e)
+end-reported : (z : Reading) (text : List ℕ) (mode : Mode) (os : List OpenBracket) → ending (length text) mode os ≡ z → reading text ≡ z → ((t : Term) (n : ℕ) → Front text t n → ⊥) → reading text ≡ fails (Unclosed (length text))
+end-reported (reads_on m2 os2) text mode os e r none = absurd (end-not-reading (length text) mode os m2 os2 e)
+end-reported (found t n) text mode os e r none = absurd (none t n (sound text t n r))
+end-reported (fails f) text mode os e r none = r ∙ ap fails (end-fault (length text) mode os f e)
 
 reading-end : (text : List ℕ) (mode : Mode) (os : List OpenBracket) → so_far text ≡ reads_on mode os → reading text ≡ ending (length text) mode os
 reading-end text mode os e = ap reading (sym (append-nil text)) ∙ reading-from text [] mode os e
 
-unclosed-told : (z : Reading) (text : List ℕ) → so_far text ≡ z → Continues text → ((t : Term) (n : ℕ) → Front text t n → ⊥) → reading text ≡ fails (Unclosed (length text))
-unclosed-told (reads_on mode os) text e before none = end-told (ending (length text) mode os) text mode os refl (reading-end text mode os e) none
-unclosed-told (found t n) text e before none =
+unclosed-reported : (z : Reading) (text : List ℕ) → so_far text ≡ z → Continues text → ((t : Term) (n : ℕ) → Front text t n → ⊥) → reading text ≡ fails (Unclosed (length text))
+unclosed-reported (reads_on mode os) text e before none = end-reported (ending (length text) mode os) text mode os refl (reading-end text mode os e) none
+unclosed-reported (found t n) text e before none =
     absurd (none t n (sound text t n (ap reading (sym (append-nil text)) ∙ read-append 0 (reads_on (wants false) []) text [] ∙ ap (λ (s : Reading). read_from (0 + length text) s []) e)))
-unclosed-told (fails f) text e before none = absurd (not-stuck text f e before)
+unclosed-reported (fails f) text e before none = absurd (not-stuck text f e before)
 
-pub told : (text : List ℕ) (f : TextFault) → IsFault text f → reading text ≡ fails f
-told text (Unclosed at) h = unclosed-told (so_far text) text refl h.before h.none ∙ ap (λ (n : ℕ). fails (Unclosed n)) (sym h.length_is)
-told text (Unexpected at) h = ap reading h.whole ∙ unexpected-told (so_far h.pre) h.pre h.b at h.rest refl h.before h.behind h.told
-told text (OutOfRange at) h = ap reading h.whole ∙ range-told h.pre h.b at h.rest h.told
-told text (TooDeep at) h = ap reading h.whole ∙ depth-told h.pre h.b h.rest h.told.1 ∙ ap (λ (n : ℕ). fails (TooDeep n)) (sym h.told.0)
-told text (AtomTooLong at) h = ap reading h.whole ∙ atom-told h.pre h.b at h.rest h.told
-told text Memory h = absurd h.told
+pub reported : (text : List ℕ) (f : TextFault) → IsFault text f → reading text ≡ fails f
+reported text (Unclosed at) h = unclosed-reported (so_far text) text refl h.before h.none ∙ ap (λ (n : ℕ). fails (Unclosed n)) (sym h.length_is)
+reported text (Unexpected at) h = ap reading h.whole ∙ unexpected-reported (so_far h.pre) h.pre h.b at h.rest refl h.before h.after h.fault
+reported text (OutOfRange at) h = ap reading h.whole ∙ range-reported h.pre h.b at h.rest h.fault
+reported text (TooDeep at) h = ap reading h.whole ∙ depth-reported h.pre h.b h.rest h.fault.1 ∙ ap (λ (n : ℕ). fails (TooDeep n)) (sym h.fault.0)
+reported text (AtomTooLong at) h = ap reading h.whole ∙ atom-reported h.pre h.b at h.rest h.fault
+reported text Memory h = absurd h.fault
 
 -- a call that returns the result of the automaton returns a term at the front of the text, or the fault of the text
 pub returned-front : (text : List ℕ) (r : Result (Term × ℕ) TextFault) → ReaderReturns (reading text) r → IfOk r (λ (x : Term × ℕ). Front text x.0 x.1)
@@ -246,8 +246,8 @@ returned-front text (Err f) e = tt
 pub returned-fault : (text : List ℕ) (r : Result (Term × ℕ) TextFault) → ReaderReturns (reading text) r → IfErr r (λ (f : TextFault). IsFaultOrMemory text f)
 returned-fault text (Ok x) e = tt
 returned-fault text (Err Memory) e = tt
-returned-fault text (Err (Unexpected at)) e = faulted text (Unexpected at) e
-returned-fault text (Err (Unclosed at)) e = faulted text (Unclosed at) e
-returned-fault text (Err (OutOfRange at)) e = faulted text (OutOfRange at) e
-returned-fault text (Err (TooDeep at)) e = faulted text (TooDeep at) e
-returned-fault text (Err (AtomTooLong at)) e = faulted text (AtomTooLong at) e
+returned-fault text (Err (Unexpected at)) e = row-holds text (Unexpected at) e
+returned-fault text (Err (Unclosed at)) e = row-holds text (Unclosed at) e
+returned-fault text (Err (OutOfRange at)) e = row-holds text (OutOfRange at) e
+returned-fault text (Err (TooDeep at)) e = row-holds text (TooDeep at) e
+returned-fault text (Err (AtomTooLong at)) e = row-holds text (AtomTooLong at) e

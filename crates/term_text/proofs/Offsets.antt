@@ -104,18 +104,18 @@ prefix-ends p (b ∷ bs) = by-test (p b)
     (λ d. ap (λ (k : ℕ). begins p (drop k (b ∷ bs))) (prefix-none p b bs d) ∙ d)
 
 -- after its digits a number is what its kind says
-pub number-behind : (at start v : ℕ) (kind : Number) (os : List OpenBracket) (rest : List ℕ) → begins is_digit rest ≡ false
+pub number-after : (at start v : ℕ) (kind : Number) (os : List OpenBracket) (rest : List ℕ) → begins is_digit rest ≡ false
     → read_from at (reads_on (number kind start v) os) rest ≡ read_from at (counted at kind v os) rest
-number-behind at start v (integer below) [] [] h = refl
-number-behind at start v (integer below) (o ∷ os) [] h = refl
-number-behind at start v pid os [] h = refl
-number-behind at start v identifier os [] h = refl
-number-behind at start v (byte bs) os [] h = refl
-number-behind at start v (integer below) [] (b ∷ rest) h = ap (λ (s : Reading). read_from (at + 1) s rest) (if-false _ _ _ h)
-number-behind at start v (integer below) (o ∷ os) (b ∷ rest) h = ap (λ (s : Reading). read_from (at + 1) s rest) (if-false _ _ _ h)
-number-behind at start v pid os (b ∷ rest) h = ap (λ (s : Reading). read_from (at + 1) s rest) (if-false _ _ _ h)
-number-behind at start v identifier os (b ∷ rest) h = ap (λ (s : Reading). read_from (at + 1) s rest) (if-false _ _ _ h)
-number-behind at start v (byte bs) os (b ∷ rest) h = ap (λ (s : Reading). read_from (at + 1) s rest) (if-false _ _ _ h)
+number-after at start v (integer below) [] [] h = refl
+number-after at start v (integer below) (o ∷ os) [] h = refl
+number-after at start v pid os [] h = refl
+number-after at start v identifier os [] h = refl
+number-after at start v (byte bs) os [] h = refl
+number-after at start v (integer below) [] (b ∷ rest) h = ap (λ (s : Reading). read_from (at + 1) s rest) (if-false _ _ _ h)
+number-after at start v (integer below) (o ∷ os) (b ∷ rest) h = ap (λ (s : Reading). read_from (at + 1) s rest) (if-false _ _ _ h)
+number-after at start v pid os (b ∷ rest) h = ap (λ (s : Reading). read_from (at + 1) s rest) (if-false _ _ _ h)
+number-after at start v identifier os (b ∷ rest) h = ap (λ (s : Reading). read_from (at + 1) s rest) (if-false _ _ _ h)
+number-after at start v (byte bs) os (b ∷ rest) h = ap (λ (s : Reading). read_from (at + 1) s rest) (if-false _ _ _ h)
 
 -- the first digit
 digit-first : (at start b : ℕ) (kind : Number) (os : List OpenBracket) (bs : List ℕ) → is_digit b ≡ true
@@ -136,7 +136,7 @@ number-here at start kind os (b ∷ bs) d h =
     digit-first at start b kind os bs d
     ∙ read-number (at + 1) start (b - 48) kind os bs fits
     ∙ number-same start kind os (at + 1 + prefix_len is_digit bs) (at + prefix_len is_digit (b ∷ bs)) (spelled (b - 48) bs) (spelled 0 (b ∷ bs)) _ _ (omega (arith, c)) (sym v) (sym (ap (λ (k : ℕ). drop k (b ∷ bs)) c ∙ drop-past (prefix_len is_digit bs) b bs))
-    ∙ number-behind _ start _ kind os _ (prefix-ends is_digit (b ∷ bs))
+    ∙ number-after _ start _ kind os _ (prefix-ends is_digit (b ∷ bs))
 
 pub number-past : (at start : ℕ) (kind : Number) (os : List OpenBracket) (bs : List ℕ) → begins is_digit bs ≡ true → 9 ≤ max_magnitude kind → max_magnitude kind < spelled 0 bs
     → read_from at (reads_on (digit kind start) os) bs ≡ fails (OutOfRange start)
@@ -174,15 +174,15 @@ pub number-fails : (text : List ℕ) (at start : ℕ) (kind : Number) (os : List
 number-fails text at start kind os h d nine far = number-past at start kind os (drop at text) (begins_at is_digit text at h ∙ d) nine far
 
 -- signs at the end of the text, and before another byte
-pub signs-end : (text cs : List ℕ) (place i : ℕ) (goal : Expect) (os : List OpenBracket) → i < length cs → length text ≤ place
-    → read_from place (expect place (drop i cs) goal os) (drop place text) ≡ fails (Unclosed place)
-signs-end text cs place i goal os h k = ends-at text place _ k ∙ at_drop_more (λ (xs : List ℕ). end place (expect place xs goal os)) cs i 0 h
+pub signs-end : (text cs : List ℕ) (offset i : ℕ) (goal : Expect) (os : List OpenBracket) → i < length cs → length text ≤ offset
+    → read_from offset (expect offset (drop i cs) goal os) (drop offset text) ≡ fails (Unclosed offset)
+signs-end text cs offset i goal os h k = ends-at text offset _ k ∙ at_drop_more (λ (xs : List ℕ). end offset (expect offset xs goal os)) cs i 0 h
 
-pub signs-wrong : (text cs : List ℕ) (place i : ℕ) (goal : Expect) (os : List OpenBracket) → i < length cs → place < length text → (get_or text place 0 == get_or cs i 0) ≡ false
-    → read_from place (expect place (drop i cs) goal os) (drop place text) ≡ fails (Unexpected place)
-signs-wrong text cs place i goal os h k e =
-    fails-at text place (expect place (drop i cs) goal os) (Unexpected place) k
-    (at_drop_more (λ (xs : List ℕ). take_byte place (expect place xs goal os) (get_or text place 0)) cs i 0 h ∙ if-false _ _ _ e)
+pub signs-wrong : (text cs : List ℕ) (offset i : ℕ) (goal : Expect) (os : List OpenBracket) → i < length cs → offset < length text → (get_or text offset 0 == get_or cs i 0) ≡ false
+    → read_from offset (expect offset (drop i cs) goal os) (drop offset text) ≡ fails (Unexpected offset)
+signs-wrong text cs offset i goal os h k e =
+    fails-at text offset (expect offset (drop i cs) goal os) (Unexpected offset) k
+    (at_drop_more (λ (xs : List ℕ). take_byte offset (expect offset xs goal os) (get_or text offset 0)) cs i 0 h ∙ if-false _ _ _ e)
 
 -- what is read from z on is read from s on, if s reaches z
 pub reads_along : (text : List ℕ) (at n : ℕ) (s z : Reading) (os : List OpenBracket) (r : Result (Term × ℕ) TextFault) → Reaches text at s n z → Reads text n z os r → Reads text at s os r
