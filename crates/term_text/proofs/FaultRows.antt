@@ -8,11 +8,11 @@ use Rattle.term_text.specs.declared.fault.TextFault.{TextFault}
 use Rattle.term_text.specs.declared.fault.TextFault.TheVariants.{OutOfRange, TooDeep, AtomTooLong}
 use Rattle.term_text.specs.declared.quote_form.QuoteForm.{QuoteForm}
 use Rattle.term_text.specs.declared.quote_form.QuoteForm.TheVariants as form
-use Rattle.term_text.specs.Text.{is_blank, is_digit, is_small, is_name, begins, spelled}
+use Rattle.term_text.specs.Text.{is_blank, is_digit, is_lowercase, is_name, begins, spelled}
 use Rattle.term_text.specs.inside.Reader.{OpenBracket, Number, integer, pid, identifier, byte, digits, wants, digit, name, quoted, signs, angle, opened_binary, wants_byte, after_byte, after, Reading, reads_on, fails, opening, quote, admits, take_byte, read_from, reading}
 use Rattle.term_text.specs.Faults.{AwaitsItem, fresh, further, AwaitsTerm, AwaitsByte, opened, comma, LeadsNumber, number_start, PastRange, PastAtom, plain_form, quoted_form, PastDepth, a_term, a_character}
 use Rattle.term_text.specs.Grammar.{opening_sign}
-use Rattle.term_text.proofs.FirstBytes.{begin-out_of_levels, begin-minus, begin-quoted, begin-string, begin-angle, begin-identifier, begin-name}
+use Rattle.term_text.proofs.FirstBytes.{begin-out-of-levels, begin-minus, begin-quoted, begin-string, begin-angle, begin-identifier, begin-name}
 use Rattle.term_text.proofs.Binaries.{opened-digit-here, wants-digit-here}
 use Rattle.term_text.proofs.Blanks.{wants-ignores, opened_binary_ignores, wants_byte_ignores, after_byte_ignores, after-ignores}
 use Rattle.term_text.proofs.Names.{read-long-name}
@@ -86,7 +86,7 @@ pub depth-reported : (pre : List ℕ) (b : ℕ) (rest : List ℕ) → PastDepth 
 depth-reported pre b rest (a_term os h starts) =
     let arrived = here-run 0 os pre (b ∷ rest) h in
     let levels = here-len 0 os pre h in
-    arrived.runs ∙ wants-first (length pre) arrived.opened os b (fails (TooDeep (length pre))) rest starts (begin-out_of_levels (length pre) os b starts (omega (arith, levels))) ∙ read-fails (length pre + 1) (TooDeep (length pre)) rest
+    arrived.runs ∙ wants-first (length pre) arrived.opened os b (fails (TooDeep (length pre))) rest starts (begin-out-of-levels (length pre) os b starts (omega (arith, levels))) ∙ read-fails (length pre + 1) (TooDeep (length pre)) rest
 depth-reported pre b rest (a_character os lead e h char other) =
     let arrived = here-run 1 os lead (34 ∷ b ∷ rest) h in
     let levels = here-len 1 os lead h in
@@ -105,7 +105,7 @@ count-more p (c ∷ s) t h = let q = and_parts (p c) (list_all p s) h in prefix-
 pub atom-reported : (pre : List ℕ) (b start : ℕ) (rest : List ℕ) → PastAtom pre b start → reading (pre ++ b ∷ rest) ≡ fails (AtomTooLong start)
 atom-reported pre b start rest (plain_form os k lead s e h st small names long named) = plain-reported s e small names long
   where
-    plain-reported : (s : List ℕ) → pre ≡ lead ++ s → begins is_small s ≡ true → list_all is_name s ≡ true → length s ≡ 255 → reading (pre ++ b ∷ rest) ≡ fails (AtomTooLong start)
+    plain-reported : (s : List ℕ) → pre ≡ lead ++ s → begins is_lowercase s ≡ true → list_all is_name s ≡ true → length s ≡ 255 → reading (pre ++ b ∷ rest) ≡ fails (AtomTooLong start)
     plain-reported [] e small names long = absurd (false≢true small)
     plain-reported (c ∷ t) e small names long =
         let arrived = here-run (suc k) os lead (c ∷ (t ++ b ∷ rest)) h in

@@ -8,51 +8,51 @@ use Rattle.term_text.specs.declared.fault.TextFault.TheVariants.{Unexpected, Unc
 use Rattle.term_text.specs.declared.quote_form.QuoteForm.TheVariants as form
 use Rattle.term_text.specs.inside.Reader.{OpenBracket, integer, identifier, digits, wants, digit, number, name, quoted, signs, angle, after, Reading, reads_on, fails, opening, bracket, put, begin, read_from}
 use Rattle.term_text.specs.inside.Parts.{Reaches, Reads}
-use Rattle.term_text.specs.Text.{is_blank, is_digit, is_small, begins, begins_term, closes}
+use Rattle.term_text.specs.Text.{is_blank, is_digit, is_lowercase, begins, begins_term, closes}
 use Rattle.term_text.proofs.Offsets.{if-true, if-false, read-fails, read-at, fails-at, ends-at, begins_at, nat-le-true}
 
 pub begin-unexpected : (at : ℕ) (os : List OpenBracket) (b : ℕ) → begins_term b ≡ false → begin at os b ≡ fails (Unexpected at)
 unfolding begin
 begin-unexpected at os b h = if-false _ _ _ h
 
-pub begin-out_of_levels : (at : ℕ) (os : List OpenBracket) (b : ℕ) → begins_term b ≡ true → 128 ≤ length os → begin at os b ≡ fails (TooDeep at)
+pub begin-out-of-levels : (at : ℕ) (os : List OpenBracket) (b : ℕ) → begins_term b ≡ true → 128 ≤ length os → begin at os b ≡ fails (TooDeep at)
 unfolding begin
-begin-out_of_levels at os b h k = if-true _ _ _ h ∙ if-true _ _ _ (nat-le-true 128 (length os) k)
+begin-out-of-levels at os b h k = if-true _ _ _ h ∙ if-true _ _ _ (nat-le-true 128 (length os) k)
 
 pub begin-brace : (at : ℕ) (os : List OpenBracket) → length os < 128 → begin at os 123 ≡ reads_on (wants true) (opening false ∷ os)
-unfolding begin begins_term is_small is_digit
+unfolding begin begins_term is_lowercase is_digit
 begin-brace at os h = rw (lt-leb 128 (length os) h) refl
 
 pub begin-square : (at : ℕ) (os : List OpenBracket) → length os < 128 → begin at os 91 ≡ reads_on (wants true) (opening true ∷ os)
-unfolding begin begins_term is_small is_digit
+unfolding begin begins_term is_lowercase is_digit
 begin-square at os h = rw (lt-leb 128 (length os) h) refl
 
 pub begin-minus : (at : ℕ) (os : List OpenBracket) → length os < 128 → begin at os 45 ≡ reads_on (digit (integer true) at) os
-unfolding begin begins_term is_small is_digit
+unfolding begin begins_term is_lowercase is_digit
 begin-minus at os h = rw (lt-leb 128 (length os) h) refl
 
 pub begin-quoted : (at : ℕ) (os : List OpenBracket) → length os < 128 → begin at os 39 ≡ reads_on (quoted (form.Atom at) []) os
-unfolding begin begins_term is_small is_digit
+unfolding begin begins_term is_lowercase is_digit
 begin-quoted at os h = rw (lt-leb 128 (length os) h) refl
 
 pub begin-string : (at : ℕ) (os : List OpenBracket) → length os < 128 → begin at os 34 ≡ reads_on (quoted form.String []) os
-unfolding begin begins_term is_small is_digit
+unfolding begin begins_term is_lowercase is_digit
 begin-string at os h = rw (lt-leb 128 (length os) h) refl
 
 pub begin-angle : (at : ℕ) (os : List OpenBracket) → length os < 128 → begin at os 60 ≡ reads_on angle os
-unfolding begin begins_term is_small is_digit
+unfolding begin begins_term is_lowercase is_digit
 begin-angle at os h = rw (lt-leb 128 (length os) h) refl
 
 pub begin-identifier : (at : ℕ) (os : List OpenBracket) → length os < 128 → begin at os 35 ≡ reads_on (signs (84 ∷ 105 ∷ 100 ∷ 60 ∷ []) (digits identifier)) os
-unfolding begin begins_term is_small is_digit
+unfolding begin begins_term is_lowercase is_digit
 begin-identifier at os h = rw (lt-leb 128 (length os) h) refl
 
 pub begin-digit : (at : ℕ) (os : List OpenBracket) (b : ℕ) → length os < 128 → is_digit b ≡ true → begin at os b ≡ reads_on (number (integer false) at (b - 48)) os
-unfolding begin begins_term is_small is_digit
+unfolding begin begins_term is_lowercase is_digit
 begin-digit at os b k h = grind arith
 
-pub begin-name : (at : ℕ) (os : List OpenBracket) (b : ℕ) → length os < 128 → is_small b ≡ true → begin at os b ≡ reads_on (name at (b ∷ [])) os
-unfolding begin begins_term is_small is_digit
+pub begin-name : (at : ℕ) (os : List OpenBracket) (b : ℕ) → length os < 128 → is_lowercase b ≡ true → begin at os b ≡ reads_on (name at (b ∷ [])) os
+unfolding begin begins_term is_lowercase is_digit
 begin-name at os b k h = grind arith
 
 either : (a b : Bool) → a ≡ false → b ≡ false → (a || b) ≡ false
@@ -64,15 +64,15 @@ last-of true b h k = absurd (true≢false h)
 last-of false b h k = k
 
 -- what else a term can begin with
-pub begins-small : (b : ℕ) → begins_term b ≡ true → (b == 123) ≡ false → (b == 91) ≡ false → (b == 45) ≡ false → (b == 39) ≡ false → (b == 34) ≡ false → (b == 60) ≡ false → (b == 35) ≡ false → is_digit b ≡ false → is_small b ≡ true
+pub begins-small : (b : ℕ) → begins_term b ≡ true → (b == 123) ≡ false → (b == 91) ≡ false → (b == 45) ≡ false → (b == 39) ≡ false → (b == 34) ≡ false → (b == 60) ≡ false → (b == 35) ≡ false → is_digit b ≡ false → is_lowercase b ≡ true
 unfolding begins_term
-begins-small b h b1 b2 b3 b4 b5 b6 b7 d = last-of _ (is_small b) (either _ _ (either _ _ (either _ _ (either _ _ (either _ _ (either _ _ (either _ _ b1 b2) b3) b4) b5) b6) b7) d) h
+begins-small b h b1 b2 b3 b4 b5 b6 b7 d = last-of _ (is_lowercase b) (either _ _ (either _ _ (either _ _ (either _ _ (either _ _ (either _ _ (either _ _ b1 b2) b3) b4) b5) b6) b7) d) h
 
 pub begun : (text : List ℕ) (at : ℕ) (os : List OpenBracket) (b : ℕ) (z : Reading) (r : Result (Term × ℕ) TextFault) → begin at os b ≡ z → Reads text (at + 1) z os r → Reads text (at + 1) (begin at os b) os r
 begun text at os b z r e h = let P : Reading → Type 0 = λ s. Reads text (at + 1) s os r in subst P (sym e) h
 
-pub out_of_levels-room : (k r : ℕ) → k + r ≡ 128 → (r ≡ 0 → ⊥) → (r == 1) ≡ nat_le 127 k
-out_of_levels-room k r e h = grind (arith, nat_tests)
+pub out-of-levels-room : (k r : ℕ) → k + r ≡ 128 → (r ≡ 0 → ⊥) → (r == 1) ≡ nat_le 127 k
+out-of-levels-room k r e h = grind (arith, nat_tests)
 
 here : (p : ℕ → Bool) (v : Bool) (text : List ℕ) (offset : ℕ) → offset < length text → begins p (drop offset text) ≡ v → p (get_or text offset 0) ≡ v
 here p v text offset h e = sym (begins_at p text offset h) ∙ e

@@ -9,7 +9,7 @@ use Rattle.ets_term.specs.declared.term.Term.TheVariants.{Atom}
 use Rattle.term_text.specs.declared.fault.TextFault.TheVariants.{AtomTooLong}
 use Rattle.term_text.specs.inside.Reader.{OpenBracket, name, Reading, reads_on, fails, put, read_from}
 use Rattle.term_text.specs.inside.Parts.{Reaches}
-use Rattle.term_text.specs.Text.{is_digit, is_small, is_name, begins}
+use Rattle.term_text.specs.Text.{is_digit, is_lowercase, is_name, begins}
 use Rattle.term_text.proofs.Offsets.{by-test, if-true, if-false, read-fails, prefix-more, prefix-none, prefix-ends, drop-past}
 
 is-255 : (n : ℕ) → (n == 255) ≡ true → n ≡ 255
@@ -68,15 +68,15 @@ name-after at start cs (o ∷ os) [] h = refl
 name-after at start cs [] (b ∷ bs) h = ap (λ (s : Reading). read_from (at + 1) s bs) (if-false _ _ _ h)
 name-after at start cs (o ∷ os) (b ∷ bs) h = ap (λ (s : Reading). read_from (at + 1) s bs) (if-false _ _ _ h)
 
-pub small-is-name : (b : ℕ) → is_small b ≡ true → is_name b ≡ true
+pub small-is-name : (b : ℕ) → is_lowercase b ≡ true → is_name b ≡ true
 unfolding is_name
 small-is-name b h = rw h refl
 
 -- the first character, and the others
-first-name : (text : List ℕ) (at : ℕ) → at < length text → is_small (get_or text at 0) ≡ true → prefix_len is_name (drop at text) ≡ prefix_len is_name (drop (at + 1) text) + 1
+first-name : (text : List ℕ) (at : ℕ) → at < length text → is_lowercase (get_or text at 0) ≡ true → prefix_len is_name (drop at text) ≡ prefix_len is_name (drop (at + 1) text) + 1
 first-name text at h d = at_drop_more (prefix_len is_name) text at 0 h ∙ prefix-more is_name (get_or text at 0) (drop (at + 1) text) (small-is-name _ d)
 
-pub name-reaches : (text : List ℕ) (at n : ℕ) (os : List OpenBracket) → at < length text → is_small (get_or text at 0) ≡ true → n ≡ at + prefix_len is_name (drop at text) → n - at ≤ 255
+pub name-reaches : (text : List ℕ) (at n : ℕ) (os : List OpenBracket) → at < length text → is_lowercase (get_or text at 0) ≡ true → n ≡ at + prefix_len is_name (drop at text) → n - at ≤ 255
     → Reaches text (at + 1) (reads_on (name at (get_or text at 0 ∷ [])) os) n (put os (Atom (take (n - at) (drop at text))) n)
 name-reaches text at n os h d e few =
     let b = get_or text at 0 in
@@ -92,14 +92,14 @@ name-reaches text at n os h d e few =
     ∙ ap (λ (m : ℕ). read_from m (put os (Atom (b ∷ take k bs)) m) (drop m text)) (sym len)
     ∙ ap (λ (cs : List ℕ). read_from n (put os (Atom cs) n) (drop n text)) taken
 
-pub name-fails : (text : List ℕ) (at n : ℕ) (os : List OpenBracket) → at < length text → is_small (get_or text at 0) ≡ true → n ≡ at + prefix_len is_name (drop at text) → 255 < n - at
+pub name-fails : (text : List ℕ) (at n : ℕ) (os : List OpenBracket) → at < length text → is_lowercase (get_or text at 0) ≡ true → n ≡ at + prefix_len is_name (drop at text) → 255 < n - at
     → read_from (at + 1) (reads_on (name at (get_or text at 0 ∷ [])) os) (drop (at + 1) text) ≡ fails (AtomTooLong at)
 name-fails text at n os h d e far =
     let c = first-name text at h d in
     read-long-name (at + 1) at (get_or text at 0 ∷ []) os (drop (at + 1) text) (omega arith) (omega (arith, c, e, far))
 
 is-character-name : (b : ℕ) → is_name b ≡ true → is_character b ≡ true
-unfolding is_name is_small is_digit
+unfolding is_name is_lowercase is_digit
 is-character-name b h = grind (arith, nat_tests)
 
 names-are-characters : (bs : List ℕ) → list_all is_character (take (prefix_len is_name bs) bs) ≡ true

@@ -5,7 +5,7 @@ use Rattle.ets_term.specs.declared.term.Term.TheVariants.{Int, Atom, Pid, Tid, B
 use Rattle.term_text.specs.declared.fault.TextFault.{TextFault}
 use Rattle.term_text.specs.declared.quote_form.QuoteForm.{QuoteForm}
 use Rattle.term_text.specs.declared.quote_form.QuoteForm.TheVariants as form
-use Rattle.term_text.specs.Text.{is_blank, is_digit, is_small, is_name, closes}
+use Rattle.term_text.specs.Text.{is_blank, is_digit, is_lowercase, is_name, closes}
 use Rattle.term_text.specs.inside.Reader.{OpenBracket, Number, integer, pid, identifier, byte, Expect, whole, digits, Mode, wants, digit, number, name, quoted, escaped, signs, angle, opened_binary, wants_byte, after_byte, after_string, after, Reading, reads_on, found, fails, signed, with_term, bracket, put, expect, next_sign, begin, next_after, next_unless_found, next_opened, next_after_byte, next_after_number, next_digit, quote, unquoted, admits, next, take_byte, read_from, reading}
 use Rattle.term_text.specs.Prefixes.{state, so_far, HasNoFault, GoesOn}
 use Rattle.term_text.proofs.Offsets.{if-true, if-false, read-fails}
@@ -126,7 +126,7 @@ not-digit true = refl
 not-digit false = refl
 
 not-name : (square : Bool) → is_name (closer square) ≡ false
-unfolding is_name is_small is_digit closer
+unfolding is_name is_lowercase is_digit closer
 not-name true = refl
 not-name false = refl
 

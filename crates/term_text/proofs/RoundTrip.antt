@@ -25,7 +25,7 @@ use Rattle.term_text.specs.Grammar.{SpellsNumber, SpellsQuoted, SpellsBytes, Spe
 use Rattle.term_text.specs.inside.Reader.{Number, integer, pid, identifier, byte, max_magnitude}
 use Rattle.term_text.specs.Printed.{is_plain, escaped, atom_text, row_text, printed}
 use Rattle.term_text.specs.RoundTrip.{ReadsBack}
-use Rattle.term_text.specs.Text.{is_digit, is_small, is_name, begins, spelled}
+use Rattle.term_text.specs.Text.{is_digit, is_lowercase, is_name, begins, spelled}
 use Rattle.term_text.proofs.Offsets.{by-test, if-true, if-false}
 use Rattle.term_text.proofs.Printed.{printed-Int, printed-Atom, printed-Pid, printed-Tid, printed-Tuple, printed-List, printed-Binary}
 use Rattle.term_text.proofs.Spelled.{front-read}
@@ -81,7 +81,7 @@ quoted-on t ds (c ∷ s) sp h =
 
 atom-spelled : (k : ℕ) (s : List ℕ) → IsAtomText s → Spells (suc k) (atom_text s) (Atom s)
 atom-spelled k s h = by-test (is_plain s)
-    (λ e. let q = and_parts (begins is_small s) (list_all is_name s) e in
+    (λ e. let q = and_parts (begins is_lowercase s) (list_all is_name s) e in
     subst (λ (w : List ℕ). Spells (suc k) w (Atom s)) (sym (if-true _ _ _ e)) (plain_atom k s q.0 q.1 h.short))
     (λ e. subst (λ (w : List ℕ). Spells (suc k) w (Atom s)) (sym (if-false _ _ _ e)) (quoted_atom k (flat_map escaped s) s (quoted-on [] [] s none h.each) h.short))
 

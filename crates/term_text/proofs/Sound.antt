@@ -6,7 +6,7 @@ use Rattle.ets_term.specs.declared.term.Term.{Term}
 use Rattle.ets_term.specs.declared.term.Term.TheVariants.{Int, Atom}
 use Rattle.term_text.specs.declared.fault.TextFault.{TextFault}
 use Rattle.term_text.specs.declared.fault.TextFault.TheVariants.{OutOfRange, AtomTooLong}
-use Rattle.term_text.specs.Text.{is_blank, is_digit, is_small, is_name, begins}
+use Rattle.term_text.specs.Text.{is_blank, is_digit, is_lowercase, is_name, begins}
 use Rattle.term_text.specs.inside.Reader.{OpenBracket, integer, byte, Mode, wants, digit, number, name, quoted, escaped, signs, angle, opened_binary, wants_byte, after_byte, after_string, after, Reading, reads_on, found, fails, signed, max_magnitude, next, end, read_from, reading}
 use Rattle.term_text.specs.Faults.{plain_form}
 use Rattle.term_text.specs.Grammar.{Spells, Ends, Front, plain_atom}
@@ -19,7 +19,7 @@ use Rattle.term_text.proofs.SoundNumbers.{byte-holds, bytes-blank, digit-holds, 
 use Rattle.term_text.proofs.SoundQuotes.{escaped-holds, quoted-holds}
 use Rattle.term_text.proofs.SoundTerms.{after-holds, after-form, unless-found-holds, front-of, sign-holds}
 
-name-ends : (cs : List ℕ) (b : ℕ) (rest : List ℕ) → begins is_small cs ≡ true → is_name b ≡ false → Ends cs (b ∷ rest)
+name-ends : (cs : List ℕ) (b : ℕ) (rest : List ℕ) → begins is_lowercase cs ≡ true → is_name b ≡ false → Ends cs (b ∷ rest)
 name-ends [] b rest h n = absurd (false≢true h)
 name-ends (c ∷ cs) b rest h n = (λ e. absurd (false≢true (sym (small-no-number c h) ∙ e)), λ e. n)
 
@@ -44,7 +44,7 @@ next-holds at (number kind start n) os pre b len (s, ds, bef, a, num, st) = hold
     (λ d. number-holds at kind n os pre s ds b len bef a num d)
 next-holds at (name start cs) os pre b len (a, small, names, few, st) = holds-if (is_name b) _ _
     (λ d. holds-if (length cs == 255) _ _ (λ e. noticed pre b (AtomTooLong start) (plain_form os a.k a.p cs a.cut a.here st small names (is-byte (length cs) 255 e) d))
-    (λ e. record { meaning = (at_more os pre cs (cs ++ b ∷ []) b a refl, begins-more is_small cs (b ∷ []) small, all-more is_name cs b names d, name-room cs b few e, st) }))
+    (λ e. record { meaning = (at_more os pre cs (cs ++ b ∷ []) b a refl, begins-more is_lowercase cs (b ∷ []) small, all-more is_name cs b names d, name-room cs b few e, st) }))
     (λ d. unless-found-holds at os pre cs (Atom cs) b a len (plain_atom a.k cs small names few) (λ rest. name-ends cs b rest small d))
 next-holds at (quoted q cs) os pre b len (s, body, lead, a, sp, ok, starts) = quoted-holds at q cs os pre s body b len lead a sp ok starts
 next-holds at (escaped q cs) os pre b len (s, body, lead, a, sp, ok, starts) = escaped-holds at q cs os pre s body b len lead a sp ok starts

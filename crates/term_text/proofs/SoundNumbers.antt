@@ -6,7 +6,7 @@ use Rattle.std.proofs.lemmas.List.{append-nil}
 use Rattle.std.specs.List.{list_all}
 use Rattle.ets_term.specs.declared.term.Term.TheVariants.{Int, Pid, Tid, Binary}
 use Rattle.term_text.specs.declared.fault.TextFault.TheVariants.{Unexpected}
-use Rattle.term_text.specs.Text.{is_blank, is_digit, is_small, begins, spelled}
+use Rattle.term_text.specs.Text.{is_blank, is_digit, is_lowercase, begins, spelled}
 use Rattle.term_text.specs.inside.Reader.{OpenBracket, Number, integer, pid, identifier, byte, whole, signed, max_magnitude, next_after_byte, next_after_number, next_digit}
 use Rattle.term_text.specs.Faults.{AwaitsByte, opened, comma, LeadsNumber, number_start}
 use Rattle.term_text.specs.Grammar.{AreBlanks, SpellsNumber, SpellsBytes, Spells, Ends, first, more, positive, negative, pid_form, identifier_form, bytes}
@@ -64,10 +64,10 @@ byte-holds at bs os pre row blanks b len a sp bl = holds-if (is_blank b) _ _
     (angle-text _)))
 
 -- an integer ends where no digit follows
-integer-ends : (s : List ℕ) (b : ℕ) (rest : List ℕ) → begins is_small s ≡ false → is_digit b ≡ false → Ends s (b ∷ rest)
+integer-ends : (s : List ℕ) (b : ℕ) (rest : List ℕ) → begins is_lowercase s ≡ false → is_digit b ≡ false → Ends s (b ∷ rest)
 integer-ends s b rest h d = (λ e. d, λ e. absurd (false≢true (sym h ∙ e)))
 
-digits-no-small : (ds : List ℕ) → begins is_digit ds ≡ true → begins is_small ds ≡ false
+digits-no-small : (ds : List ℕ) → begins is_digit ds ≡ true → begins is_lowercase ds ≡ false
 digits-no-small [] h = refl
 digits-no-small (b ∷ ds) h = digit-no-small b h
 
@@ -75,9 +75,9 @@ pub integer-spelled : (below : Bool) (k : ℕ) (s ds : List ℕ) (n : ℕ) → L
 integer-spelled true k s ds n e num = let P : List ℕ → Type 0 = λ w. Spells (suc k) (w ++ ds) (Int (signed true n)) in subst P (sym e) (negative k ds n num)
 integer-spelled false k s ds n e num = let P : List ℕ → Type 0 = λ w. Spells (suc k) (w ++ ds) (Int (signed false n)) in subst P (sym e) (positive k ds n num)
 
-integer-no-small : (below : Bool) (s ds : List ℕ) (n : ℕ) → LeadsNumber (integer below) s → SpellsNumber (integer below) ds n → begins is_small (s ++ ds) ≡ false
-integer-no-small true s ds n e num = ap (λ (w : List ℕ). begins is_small (w ++ ds)) e ∙ minus-no-small
-integer-no-small false s ds n e num = ap (λ (w : List ℕ). begins is_small (w ++ ds)) e ∙ digits-no-small ds num.some
+integer-no-small : (below : Bool) (s ds : List ℕ) (n : ℕ) → LeadsNumber (integer below) s → SpellsNumber (integer below) ds n → begins is_lowercase (s ++ ds) ≡ false
+integer-no-small true s ds n e num = ap (λ (w : List ℕ). begins is_lowercase (w ++ ds)) e ∙ minus-no-small
+integer-no-small false s ds n e num = ap (λ (w : List ℕ). begins is_lowercase (w ++ ds)) e ∙ digits-no-small ds num.some
 
 pub number-holds : (at : ℕ) (kind : Number) (n : ℕ) (os : List OpenBracket) (pre s ds : List ℕ) (b : ℕ) → at ≡ length pre → LeadsNumber kind s → At os pre (s ++ ds) → SpellsNumber kind ds n → is_digit b ≡ false
     → Holds (pre ++ b ∷ []) (next_after_number at kind n os b)

@@ -4,7 +4,7 @@ use Rattle.std.proofs.Common.{ℕ, ◌≡◌, refl, ap, sym, subst, ◌∙◌, �
 use Rattle.std.proofs.lemmas.List.{append-nil}
 use Rattle.ets_term.specs.declared.term.Term.{Term}
 use Rattle.term_text.specs.declared.fault.TextFault.TheVariants.{Unexpected}
-use Rattle.term_text.specs.Text.{is_blank, is_digit, is_small, closes}
+use Rattle.term_text.specs.Text.{is_blank, is_digit, is_lowercase, closes}
 use Rattle.term_text.specs.inside.Reader.{OpenBracket, Number, integer, pid, identifier, byte, Expect, whole, digits, with_term, bracket, put, expect, next_sign, next_after, next_unless_found}
 use Rattle.term_text.specs.Faults.{AwaitsItem, fresh, further, LeadsNumber, number_start}
 use Rattle.term_text.specs.Grammar.{AreBlanks, opening_sign, closing_sign, Spells, SpellsRow, Ends, Front, full_bracket, first_term, more_terms}
@@ -12,7 +12,7 @@ use Rattle.term_text.proofs.Meaning.{At, Behind, Closed, Holds, IsFramed, Leads,
 use Rattle.term_text.proofs.Signs.{close-is, is-byte}
 
 -- a byte that begins no integer and no unquoted atom
-closed-by : (c : ℕ) (s rest : List ℕ) → (is_digit c || (c == 45)) ≡ false → is_small c ≡ false → Ends (c ∷ s) rest
+closed-by : (c : ℕ) (s rest : List ℕ) → (is_digit c || (c == 45)) ≡ false → is_lowercase c ≡ false → Ends (c ∷ s) rest
 closed-by c s rest h k = (λ e. absurd (false≢true (sym h ∙ e)), λ e. absurd (false≢true (sym k ∙ e)))
 
 pub front-of : (pre p s : List ℕ) (t : Term) (n : ℕ) (rest : List ℕ) → pre ≡ p ++ s → AreBlanks p → Spells 128 s t → n ≡ length pre → Ends s rest → Front (pre ++ rest) t n
@@ -56,24 +56,24 @@ put-holds [] pre s t n a sp len ends = record { meaning = λ rest. front-of pre 
 put-holds (o ∷ os) pre s t n a sp len ends = record { meaning = term-after o os pre s t a sp }
 
 pub open-closed : (square : Bool) (s rest : List ℕ) → Ends (opening_sign square ∷ s) rest
-unfolding is_digit is_small
+unfolding is_digit is_lowercase
 open-closed true s rest = closed-by 91 s rest refl refl
 open-closed false s rest = closed-by 123 s rest refl refl
 
 pub quote-closed : (s rest : List ℕ) → Ends (39 ∷ s) rest
-unfolding is_digit is_small
+unfolding is_digit is_lowercase
 quote-closed s rest = closed-by 39 s rest refl refl
 
 pub string-closed : (s rest : List ℕ) → Ends (34 ∷ s) rest
-unfolding is_digit is_small
+unfolding is_digit is_lowercase
 string-closed s rest = closed-by 34 s rest refl refl
 
 angle-closed : (s rest : List ℕ) → Ends (60 ∷ s) rest
-unfolding is_digit is_small
+unfolding is_digit is_lowercase
 angle-closed s rest = closed-by 60 s rest refl refl
 
 hash-closed : (s rest : List ℕ) → Ends (35 ∷ s) rest
-unfolding is_digit is_small
+unfolding is_digit is_lowercase
 hash-closed s rest = closed-by 35 s rest refl refl
 
 -- a byte after a term in a bracket
@@ -113,11 +113,11 @@ closed-more [] t c = absurd (omega (arith, c.some))
 closed-more (b ∷ s) t c = record { some = omega arith; no-number = c.no-number; no-name = c.no-name }
 
 pub angle-text : (s : List ℕ) → Closed (60 ∷ s)
-unfolding is_digit is_small
+unfolding is_digit is_lowercase
 angle-text s = record { some = omega arith; no-number = refl; no-name = refl }
 
 pub hash-text : (s : List ℕ) → Closed (35 ∷ s)
-unfolding is_digit is_small
+unfolding is_digit is_lowercase
 hash-text s = record { some = omega arith; no-number = refl; no-name = refl }
 
 -- the offset after the bytes of a form

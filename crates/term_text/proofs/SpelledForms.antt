@@ -6,7 +6,7 @@ use Rattle.std.specs.List.{list_all, prefix_len}
 use Rattle.ets_term.specs.declared.term.Term.{Term}
 use Rattle.ets_term.specs.declared.term.Term.TheVariants.{Atom}
 use Rattle.term_text.specs.inside.Parts.{counted}
-use Rattle.term_text.specs.Text.{is_digit, is_small, is_name, begins_term, begins}
+use Rattle.term_text.specs.Text.{is_digit, is_lowercase, is_name, begins_term, begins}
 use Rattle.term_text.specs.inside.Reader.{OpenBracket, Number, integer, whole, wants, digit, number, name, Reading, reads_on, put, expect, begin, read_from}
 use Rattle.term_text.specs.Grammar.{SpellsNumber, Ends}
 use Rattle.term_text.proofs.FirstBytes.{begin-digit, begin-name}
@@ -29,7 +29,7 @@ digits-wanted at opened os (b ∷ s) rest room h =
 name-same-end : (os : List OpenBracket) (m n : ℕ) (cs ds xs ys : List ℕ) → m ≡ n → cs ≡ ds → xs ≡ ys → read_from m (put os (Atom cs) m) xs ≡ read_from n (put os (Atom ds) n) ys
 name-same-end os m n cs ds xs ys e f g = cc
 
-pub name-text : (at : ℕ) (opened : Bool) (os : List OpenBracket) (s rest : List ℕ) (fin : ℕ) → length os < 128 → begins is_small s ≡ true → list_all is_name s ≡ true → length s ≤ 255 → begins is_name rest ≡ false → fin ≡ at + length s
+pub name-text : (at : ℕ) (opened : Bool) (os : List OpenBracket) (s rest : List ℕ) (fin : ℕ) → length os < 128 → begins is_lowercase s ≡ true → list_all is_name s ≡ true → length s ≤ 255 → begins is_name rest ≡ false → fin ≡ at + length s
     → read_from at (reads_on (wants opened) os) (s ++ rest) ≡ read_from fin (put os (Atom s) fin) rest
 name-text at opened os [] rest fin room h names few k e = absurd (false≢true h)
 name-text at opened os (b ∷ s) rest fin room h names few k e =

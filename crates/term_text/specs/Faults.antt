@@ -8,7 +8,7 @@ use Rattle.term_text.specs.declared.fault.TextFault.{TextFault}
 use Rattle.term_text.specs.declared.fault.TextFault.TheVariants.{Unexpected, Unclosed, OutOfRange, TooDeep, AtomTooLong, Memory}
 use Rattle.term_text.specs.Forms.{OpenBracket, Number, integer, pid, identifier, byte, max_magnitude}
 use Rattle.term_text.specs.Grammar.{AreBlanks, SpellsNumber, SpellsQuoted, SpellsBytes, SpellsRow, opening_sign, Front}
-use Rattle.term_text.specs.Text.{apostrophe, quotation_mark, is_digit, is_small, is_name, begins, begins_term}
+use Rattle.term_text.specs.Text.{apostrophe, quotation_mark, is_digit, is_lowercase, is_name, begins, begins_term}
 
 -- inner is the text in a bracket after the terms ts, up to where the next must begin
 pub data AwaitsItem (k : ℕ) : List Term → List ℕ → Type 0 where
@@ -61,8 +61,9 @@ pub record PastRange (pre : List ℕ) (b start : ℕ) : Type 0 where
 
 -- an atom too long: b begins one character too many of the atom that begins at `start`
 pub data PastAtom (pre : List ℕ) (b start : ℕ) : Type 0 where
-  plain_form : (os : List OpenBracket) (k : ℕ) (lead s : List ℕ) → pre ≡ lead ++ s → AwaitsTerm (suc k) os lead → start ≡ length lead
-      → IsTrue (begins is_small s) → IsTrue (list_all is_name s) → length s ≡ max_characters → is_name b ≡ true
+  plain_form : (os : List OpenBracket) (k : ℕ) (lead s : List ℕ) → pre ≡ lead ++ s
+      → AwaitsTerm (suc k) os lead → start ≡ length lead
+      → IsTrue (begins is_lowercase s) → IsTrue (list_all is_name s) → length s ≡ max_characters → is_name b ≡ true
       → PastAtom pre b start
   quoted_form : (os : List OpenBracket) (k : ℕ) (lead s cs : List ℕ) → pre ≡ lead ++ (codes "'" ++ s)
       → AwaitsTerm (suc k) os lead → start ≡ length lead

@@ -6,7 +6,7 @@ use Rattle.ets_term.specs.declared.term.Term.{Term}
 use Rattle.ets_term.specs.declared.term.Term.TheVariants.{Int, Atom, Pid, Tid, Binary, List as ListOf}
 use Rattle.ets_term.specs.Depth.{max_depth}
 use Rattle.term_text.specs.Forms.{Number, integer, pid, identifier, byte, signed, max_magnitude, code, bracket}
-use Rattle.term_text.specs.Text.{apostrophe, quotation_mark, is_blank, is_digit, is_small, is_name, begins, spelled}
+use Rattle.term_text.specs.Text.{apostrophe, quotation_mark, is_blank, is_digit, is_lowercase, is_name, begins, spelled}
 
 -- each byte is blank
 abbrev pub AreBlanks : List ℕ → Type 0
@@ -49,7 +49,7 @@ mutual
     positive : (k : ℕ) (s : List ℕ) (n : ℕ) → SpellsNumber (integer false) s n → Spells (suc k) s (Int (signed false n))
     negative : (k : ℕ) (s : List ℕ) (n : ℕ) → SpellsNumber (integer true) s n
         → Spells (suc k) (codes "-" ++ s) (Int (signed true n))
-    plain_atom : (k : ℕ) (s : List ℕ) → IsTrue (begins is_small s) → IsTrue (list_all is_name s)
+    plain_atom : (k : ℕ) (s : List ℕ) → IsTrue (begins is_lowercase s) → IsTrue (list_all is_name s)
         → length s ≤ max_characters → Spells (suc k) s (Atom s)
     quoted_atom : (k : ℕ) (s cs : List ℕ) → SpellsQuoted apostrophe s cs → length cs ≤ max_characters
         → Spells (suc k) (codes "'" ++ (s ++ codes "'")) (Atom cs)
@@ -88,7 +88,7 @@ mutual
 abbrev pub Ends : List ℕ → List ℕ → Type 0
 Ends s rest =
     (begins (λ b. is_digit b || (b == 45)) s ≡ true → begins is_digit rest ≡ false)
-    × (begins is_small s ≡ true → begins is_name rest ≡ false)
+    × (begins is_lowercase s ≡ true → begins is_name rest ≡ false)
 
 -- the first n bytes of the text are blanks and a spelling of the term, of at most max_depth levels, that ends there
 pub record Front (text : List ℕ) (t : Term) (n : ℕ) : Type 0 where

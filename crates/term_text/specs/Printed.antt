@@ -4,11 +4,11 @@ use Rattle.std.specs.Fmt.{signed_decimal}
 use Rattle.std.specs.List.{list_all, flat_map}
 use Rattle.ets_term.specs.declared.term.Term.{Term, fold-Term}
 use Rattle.ets_term.specs.declared.term.Term.TheOpen.{Term-F}
-use Rattle.term_text.specs.Text.{is_small, is_name, begins}
+use Rattle.term_text.specs.Text.{is_lowercase, is_name, begins}
 
 -- a lowercase letter, then letters, digits, `_` and `@`: an atom that needs no quotes
 abbrev pub is_plain : List ℕ → Bool
-is_plain s = begins is_small s && list_all is_name s
+is_plain s = begins is_lowercase s && list_all is_name s
 
 -- a character between single quotes: a `\` precedes a quote and a `\`
 abbrev pub escaped : ℕ → List ℕ

@@ -10,12 +10,12 @@ unfoldable pub is_digit : ℕ → Bool
 is_digit b = nat_le 48 b && nat_le b 57
 
 -- `a` to `z`
-unfoldable pub is_small : ℕ → Bool
-is_small b = nat_le 97 b && nat_le b 122
+unfoldable pub is_lowercase : ℕ → Bool
+is_lowercase b = nat_le 97 b && nat_le b 122
 
 -- the bytes after the first in an unquoted atom: letters, digits, `_` and `@`
 unfoldable pub is_name : ℕ → Bool
-is_name b = is_small b || (nat_le 65 b && nat_le b 90) || is_digit b || (b == 95) || (b == 64)
+is_name b = is_lowercase b || (nat_le 65 b && nat_le b 90) || is_digit b || (b == 95) || (b == 64)
 
 -- the quotes of an atom and of a string
 abbrev pub apostrophe : ℕ
@@ -32,7 +32,7 @@ closes square b = if square then b == 93 else b == 125
 unfoldable pub begins_term : ℕ → Bool
 begins_term b =
     (b == 123) || (b == 91) || (b == 45) || (b == 39) || (b == 34) || (b == 60) || (b == 35)
-    || is_digit b || is_small b
+    || is_digit b || is_lowercase b
 
 -- the decimal number of the digits at the front, after those of n
 abbrev pub spelled : ℕ → List ℕ → ℕ

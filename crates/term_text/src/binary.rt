@@ -90,7 +90,8 @@ fn pid_at(text: &[u8], at: usize) -> Result<(Term, usize), TextFault>
 pub(crate) fn identifier_at(text: &[u8], at: usize) -> Result<(Term, usize), TextFault>
     requires { at ≤ length text.now }
     ensures within { EndsWithin text.now at result }
-    ensures reads { (os : List OpenBracket) → Reads text.now at (expect at (codes "Tid<") (digits identifier) os) os result }
+    ensures reads { (os : List OpenBracket)
+        → Reads text.now at (expect at (codes "Tid<") (digits identifier) os) os result }
 {
     let first = literal_at(text, at, b"Tid<")?;
     let (n, next) = number_at(text, first, first, u32::MAX as Magnitude)?;

@@ -4,7 +4,7 @@ ghost use Rattle.ets_term.specs.Character.{is_character};
 ghost use Rattle.std.specs.List.{prefix_len};
 ghost use Rattle.term_text.specs.inside.Reader.{Reading};
 ghost use Rattle.term_text.specs.inside.Parts.{IgnoresBlanks, Reaches};
-ghost use Rattle.term_text.specs.Text.{is_blank, is_digit, is_small, is_name, begins_term, begins};
+ghost use Rattle.term_text.specs.Text.{is_blank, is_digit, is_lowercase, is_name, begins_term, begins};
 
 /// Returns whether the byte is a space, tab, line feed or carriage return.
 #[tactic(auto, unfolding(crate::specs::Text::is_blank))]
@@ -23,9 +23,9 @@ pub fn is_digit_byte(b: u8) -> bool
 }
 
 /// Returns whether the byte is a letter from `a` to `z`, as a name begins with.
-#[tactic(auto, unfolding(crate::specs::Text::is_small))]
-pub fn is_small_byte(b: u8) -> bool
-    ensures { result ≡ is_small b }
+#[tactic(auto, unfolding(crate::specs::Text::is_lowercase))]
+pub fn is_lowercase_byte(b: u8) -> bool
+    ensures { result ≡ is_lowercase b }
 {
     b >= b'a' && b <= b'z'
 }
@@ -35,7 +35,7 @@ pub fn is_small_byte(b: u8) -> bool
 pub fn is_name_byte(b: u8) -> bool
     ensures { result ≡ is_name b }
 {
-    is_small_byte(b) || (b >= b'A' && b <= b'Z') || is_digit_byte(b) || b == b'_' || b == b'@'
+    is_lowercase_byte(b) || (b >= b'A' && b <= b'Z') || is_digit_byte(b) || b == b'_' || b == b'@'
 }
 
 /// Returns whether a term can begin with the byte.
@@ -51,7 +51,7 @@ pub(crate) fn is_first_byte(b: u8) -> bool
         || b == b'<'
         || b == b'#'
         || is_digit_byte(b)
-        || is_small_byte(b)
+        || is_lowercase_byte(b)
 }
 
 /// Returns whether the byte is printable ASCII, from the space to the tilde.

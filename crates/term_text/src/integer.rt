@@ -39,7 +39,8 @@ pub(crate) fn integer_at(
 ) -> Result<(Term, usize), TextFault>
     requires { at ≤ length text.now }
     ensures within { EndsWithin text.now at result }
-    ensures reads { (os : List OpenBracket) → Reads text.now at (reads_on (digit (integer negative) start) os) os result }
+    ensures reads { (os : List OpenBracket)
+        → Reads text.now at (reads_on (digit (integer negative) start) os) os result }
 {
     let (n, end) = number_at(text, at, start, integer_limit(negative))?;
     Ok((Term::Int(signed_value(negative, n)), end))

@@ -31,7 +31,7 @@ mod quoted;
 mod reading;
 mod sink;
 
-pub use bytes::{is_character_byte, is_digit_byte, is_name_byte, is_small_byte};
+pub use bytes::{is_character_byte, is_digit_byte, is_lowercase_byte, is_name_byte};
 pub use fault::TextFault;
 pub use laws::{
     faults_are_noticed_first, faults_say_why, found_exactly_where_spelled,

@@ -2,7 +2,7 @@
 ghost use Rattle.std.specs.Prelude.{◌≡◌, ◌+◌, ◌≤◌, ◌<◌, ◌∷◌, [], List, true, length, IfOk, slice_index};
 ghost use Rattle.term_text.specs.inside.Reader.{OpenBracket, name, reads_on};
 ghost use Rattle.term_text.specs.inside.Parts.{EndsWithin, Reads};
-ghost use Rattle.term_text.specs.Text.{is_small};
+ghost use Rattle.term_text.specs.Text.{is_lowercase};
 
 use crate::bytes::past_name;
 use crate::fault::TextFault;
@@ -12,7 +12,7 @@ use std::alloc::Global;
 /// Reads the atom that begins with a lowercase letter at this offset.
 pub(crate) fn name_at(alloc: Global, text: &[u8], at: usize) -> Result<(Term, usize), TextFault>
     requires within { at < length text.now }
-    requires small { is_small (slice_index text.now at) ≡ true }
+    requires small { is_lowercase (slice_index text.now at) ≡ true }
     ensures within { EndsWithin text.now at result }
     ensures reads { (os : List OpenBracket)
         → Reads text.now (at + 1) (reads_on (name at (slice_index text.now at ∷ [])) os) os result }

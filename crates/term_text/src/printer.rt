@@ -7,7 +7,7 @@ ghost use Rattle.term_text.specs.Printed.{printed, row_text, is_plain, escaped, 
 ghost use Rattle.term_text.specs.Sent.{AppendsOrFront};
 ghost use Rattle.term_text.specs.Text.{is_name};
 
-use crate::bytes::{is_name_byte, is_small_byte};
+use crate::bytes::{is_lowercase_byte, is_name_byte};
 use crate::sink::Sink;
 use ets_term::{Atom, Integer, Term};
 use itoa::Buffer;
@@ -113,7 +113,7 @@ fn is_plain_text(bytes: &[u8]) -> bool
 {
     match bytes {
         [] => false,
-        [b, ..] => is_small_byte(*b) && are_name_bytes(bytes),
+        [b, ..] => is_lowercase_byte(*b) && are_name_bytes(bytes),
     }
 }
 

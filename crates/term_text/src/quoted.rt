@@ -93,7 +93,8 @@ pub(crate) fn quoted_atom_at(
 ) -> Result<(Term, usize), TextFault>
     requires { at < length text.now }
     ensures within { EndsWithin text.now at result }
-    ensures reads { (os : List OpenBracket) → Reads text.now (at + 1) (reads_on (quoted (form.Atom at) []) os) os result }
+    ensures reads { (os : List OpenBracket)
+        → Reads text.now (at + 1) (reads_on (quoted (form.Atom at) []) os) os result }
 {
     let (chars, end) = quoted_at(alloc, text, at + 1, QuoteForm::Atom(at), false)?;
     let name = Atom::of_bytes(alloc, chars.as_slice())?;

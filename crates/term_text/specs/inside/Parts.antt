@@ -75,13 +75,16 @@ IsShort q n = Unit {0}
 
 -- whether one more character, after n, is refused
 abbrev pub Refuses : ℕ → QuoteForm → ℕ → Bool → Option TextFault → Type 0
-Refuses at q n out_of_levels None = (os : List OpenBracket) (s : Reading) → IsOutOfLevels q out_of_levels os → admits at q n os s ≡ s
-Refuses at q n out_of_levels (Some f) = (os : List OpenBracket) (s : Reading) → IsOutOfLevels q out_of_levels os → admits at q n os s ≡ fails f
+Refuses at q n out_of_levels None =
+    (os : List OpenBracket) (s : Reading) → IsOutOfLevels q out_of_levels os → admits at q n os s ≡ s
+Refuses at q n out_of_levels (Some f) =
+    (os : List OpenBracket) (s : Reading) → IsOutOfLevels q out_of_levels os → admits at q n os s ≡ fails f
 
 -- reads the character at the byte at, after a `\`
 abbrev pub ReadsEscaped : List ℕ → ℕ → QuoteForm → Result (ℕ × ℕ) TextFault → Type 0
 ReadsEscaped text at q (Ok x) =
-    (cs : List ℕ) (os : List OpenBracket) → Reaches text at (reads_on (escaped q cs) os) x.1 (reads_on (quoted q (cs ++ x.0 ∷ [])) os)
+    (cs : List ℕ) (os : List OpenBracket)
+    → Reaches text at (reads_on (escaped q cs) os) x.1 (reads_on (quoted q (cs ++ x.0 ∷ [])) os)
 ReadsEscaped text at q (Err f) =
     (cs : List ℕ) (os : List OpenBracket) → ReaderFails f (read_from at (reads_on (escaped q cs) os) (drop at text))
 
@@ -97,9 +100,11 @@ ReadsCharacter text at q out_of_levels n (Err f) =
 -- reads the characters from the byte at on, and the closing quote
 abbrev pub ReadsQuoted : List ℕ → ℕ → QuoteForm → Bool → Result (List ℕ × ℕ) TextFault → Type 0
 ReadsQuoted text at q out_of_levels (Ok x) =
-    (os : List OpenBracket) → IsOutOfLevels q out_of_levels os → Reaches text at (reads_on (quoted q []) os) x.1 (unquoted x.1 q x.0 os)
+    (os : List OpenBracket) → IsOutOfLevels q out_of_levels os
+    → Reaches text at (reads_on (quoted q []) os) x.1 (unquoted x.1 q x.0 os)
 ReadsQuoted text at q out_of_levels (Err f) =
-    (os : List OpenBracket) → IsOutOfLevels q out_of_levels os → ReaderFails f (read_from at (reads_on (quoted q []) os) (drop at text))
+    (os : List OpenBracket) → IsOutOfLevels q out_of_levels os
+    → ReaderFails f (read_from at (reads_on (quoted q []) os) (drop at text))
 
 -- reads the bytes of a binary, of which the first must begin at the byte at
 abbrev pub ReadsBytes : List ℕ → ℕ → Result (List ℕ × ℕ) TextFault → Type 0

@@ -16,7 +16,7 @@ form_at-returns-then-not-is_first_byte-clause-reads t c = λ os e.
 
 pub form_at-returns-then-levels_left-eq0-clause-reads : goal.form_at-returns-then-levels_left-eq0-clause-reads
 form_at-returns-then-levels_left-eq0-clause-reads t c = λ os e.
-    begins.begins-fault c.args.text.now c.args.at os (get_or c.args.text.now c.args.at 0) (TooDeep c.args.at) (begins.begin-out_of_levels c.args.at os (get_or c.args.text.now c.args.at 0) (search rules) (omega (arith, e)))
+    begins.begins-fault c.args.text.now c.args.at os (get_or c.args.text.now c.args.at 0) (TooDeep c.args.at) (begins.begin-out-of-levels c.args.at os (get_or c.args.text.now c.args.at 0) (search rules) (omega (arith, e)))
 
 pub form_at-returns-in-123-clause-reads : goal.form_at-returns-in-123-clause-reads
 form_at-returns-in-123-clause-reads t c = λ os e.
@@ -41,7 +41,7 @@ form_at-returns-in-39-clause-reads t c = λ os e.
 pub form_at-returns-in-34-clause-reads : goal.form_at-returns-in-34-clause-reads
 form_at-returns-in-34-clause-reads t c = λ os e.
     let at = c.args.at in
-    begins.begun c.args.text.now at os (get_or c.args.text.now at 0) _ c.string_at.result (ap (begin at os) c.in-34.is ∙ begins.begin-string at os (omega (arith, e))) (c.string_at.ensures.reads os (begins.out_of_levels-room (length os) c.args.levels_left e (search rules)))
+    begins.begun c.args.text.now at os (get_or c.args.text.now at 0) _ c.string_at.result (ap (begin at os) c.in-34.is ∙ begins.begin-string at os (omega (arith, e))) (c.string_at.ensures.reads os (begins.out-of-levels-room (length os) c.args.levels_left e (search rules)))
 
 pub form_at-returns-in-60-clause-reads : goal.form_at-returns-in-60-clause-reads
 form_at-returns-in-60-clause-reads t c = λ os e.
