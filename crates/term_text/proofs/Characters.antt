@@ -6,7 +6,7 @@ use Rattle.term_text.specs.declared.fault.TextFault.TheVariants.{Unexpected, Mem
 use Rattle.term_text.specs.declared.quote_form.QuoteForm.{QuoteForm}
 use Rattle.term_text.specs.inside.Reader.{OpenBracket, quoted, escaped, Reading, reads_on, fails, quote, admits, read_from}
 use Rattle.term_text.specs.Reading.{ReaderFails}
-use Rattle.term_text.specs.inside.Parts.{Refuses, ReadsCharacter}
+use Rattle.term_text.specs.inside.Parts.{RefusesNext, ReadsCharacter}
 use Rattle.term_text.proofs.Offsets.{by-test, fails-at, if-true, if-false}
 
 either-false : (a b : Bool) → a ≡ false → b ≡ false → (a || b) ≡ false
@@ -26,7 +26,7 @@ pub no-character : (text : List ℕ) (at : ℕ) (q : QuoteForm) (cs : List ℕ) 
 no-character text at q cs os h a b d = fails-at text at (reads_on (quoted q cs) os) (Unexpected at) h (if-false _ _ _ a ∙ if-false _ _ _ b ∙ if-false _ _ _ d)
 
 pub refused : (text : List ℕ) (at : ℕ) (q : QuoteForm) (out_of_levels : Bool) (n : ℕ) (f : TextFault) → at < length text → (get_or text at 0 == quote q) ≡ false → ((get_or text at 0 == 92) ≡ false → is_character (get_or text at 0) ≡ true)
-    → Refuses at q n out_of_levels (Some f) → ReadsCharacter text at q out_of_levels n (Err f)
+    → RefusesNext at q n out_of_levels (Some f) → ReadsCharacter text at q out_of_levels n (Err f)
 refused text at q out_of_levels n f h a d r = λ cs os len level.
     let s : Reading = reads_on (quoted q cs) os in
     let failed : (z : Reading) → admits at q (length cs) os z ≡ fails f = λ z. ap (λ (k : ℕ). admits at q k os z) len ∙ r os z level in

@@ -8,8 +8,8 @@ use Rattle.ets_term.specs.declared.term.Term.TheVariants.{Int, Atom}
 use Rattle.term_text.specs.declared.fault.TextFault.{TextFault}
 use Rattle.term_text.specs.declared.fault.TextFault.TheVariants.{Unexpected, Unclosed, OutOfRange, TooDeep, AtomTooLong, Memory}
 use Rattle.term_text.specs.inside.Reader.{OpenBracket, integer, Mode, number, name, wants, Reading, reads_on, found, fails, signed, put, next, take_byte, ending, closed, read_from, reading}
-use Rattle.term_text.specs.Prefixes.{state, so_far, HasNoFault, GoesOn}
-use Rattle.term_text.specs.Faults.{FaultMeans, IsFaultAt, Continues, EndsEarly, IsFault, IsFaultOrMemory}
+use Rattle.term_text.specs.Prefixes.{state, so_far, HasNoFault, CanReachTerm}
+use Rattle.term_text.specs.Faults.{FaultMeans, IsFaultAt, CanBeCompleted, EndsEarly, IsFault, IsFaultOrMemory}
 use Rattle.term_text.specs.Reading.{ReaderReturns}
 use Rattle.term_text.specs.Grammar.{Front}
 use Rattle.term_text.proofs.Prefixes.{goes-on, stuck, read-append}
@@ -19,11 +19,11 @@ use Rattle.term_text.proofs.Meaning.{MeansIn, Means}
 use Rattle.term_text.proofs.Sound.{next-holds, sound}
 use Rattle.term_text.proofs.Spelled.{front-read}
 
-continues : (bs : List ℕ) → GoesOn bs → Continues bs
+continues : (bs : List ℕ) → CanReachTerm bs → CanBeCompleted bs
 continues bs (more, t, n, e) = (more, t, n, sound (bs ++ more) t n e)
 
 -- a text that can be completed has no fault
-not-stuck : (bs : List ℕ) (f : TextFault) → so_far bs ≡ fails f → Continues bs → ⊥
+not-stuck : (bs : List ℕ) (f : TextFault) → so_far bs ≡ fails f → CanBeCompleted bs → ⊥
 not-stuck bs f e (more, t, n, front) = no-fault t n f (sym (front-read (bs ++ more) t n front) ∙ stuck bs f more e)
   where
     no-fault : (t : Term) (n : ℕ) (f : TextFault) → found t n ≡ fails f → ⊥
@@ -186,13 +186,13 @@ only-unexpected pre b at (TooDeep n) s fault = absurd (fault.2 s.1)
 only-unexpected pre b at (AtomTooLong n) s fault = absurd (fault.3 n s)
 only-unexpected pre b at Memory s fault = absurd s
 
-goes-further : (bs : List ℕ) (mode : Mode) (os : List OpenBracket) → so_far bs ≡ reads_on mode os → Continues bs
+goes-further : (bs : List ℕ) (mode : Mode) (os : List OpenBracket) → so_far bs ≡ reads_on mode os → CanBeCompleted bs
 goes-further bs mode os e = continues bs (goes-on bs (fault-free-so bs mode os e))
 
-has-found : (bs : List ℕ) (t : Term) (n : ℕ) → so_far bs ≡ found t n → Continues bs
+has-found : (bs : List ℕ) (t : Term) (n : ℕ) → so_far bs ≡ found t n → CanBeCompleted bs
 has-found bs t n e = continues bs (goes-on bs (subst HasNoFault (sym e) tt))
 
-byte-reported : (z : Reading) (pre : List ℕ) (b at : ℕ) (rest : List ℕ) → so_far (pre ++ b ∷ []) ≡ z → Means (pre ++ b ∷ []) z → (Continues (pre ++ b ∷ []) → ⊥) → IsFaultAt pre b (Unexpected at) → reading (pre ++ b ∷ rest) ≡ fails (Unexpected at)
+byte-reported : (z : Reading) (pre : List ℕ) (b at : ℕ) (rest : List ℕ) → so_far (pre ++ b ∷ []) ≡ z → Means (pre ++ b ∷ []) z → (CanBeCompleted (pre ++ b ∷ []) → ⊥) → IsFaultAt pre b (Unexpected at) → reading (pre ++ b ∷ rest) ≡ fails (Unexpected at)
 byte-reported (reads_on mode os) pre b at rest e meaning after fault = absurd (after (goes-further (pre ++ b ∷ []) mode os e))
 byte-reported (found t n) pre b at rest e meaning after fault = absurd (after (has-found (pre ++ b ∷ []) t n e))
 byte-reported (fails f) pre b at rest e meaning after fault =
@@ -201,7 +201,7 @@ byte-reported (fails f) pre b at rest e meaning after fault =
 found-more : (pre : List ℕ) (b : ℕ) (t : Term) (n : ℕ) → so_far pre ≡ found t n → so_far (pre ++ b ∷ []) ≡ found t n
 found-more pre b t n e = state-more 0 (reads_on (wants false) []) pre b ∙ ap (λ (s : Reading). take_byte (0 + length pre) s b) e
 
-unexpected-reported : (z : Reading) (pre : List ℕ) (b at : ℕ) (rest : List ℕ) → so_far pre ≡ z → Continues pre → (Continues (pre ++ b ∷ []) → ⊥) → IsFaultAt pre b (Unexpected at) → reading (pre ++ b ∷ rest) ≡ fails (Unexpected at)
+unexpected-reported : (z : Reading) (pre : List ℕ) (b at : ℕ) (rest : List ℕ) → so_far pre ≡ z → CanBeCompleted pre → (CanBeCompleted (pre ++ b ∷ []) → ⊥) → IsFaultAt pre b (Unexpected at) → reading (pre ++ b ∷ rest) ≡ fails (Unexpected at)
 unexpected-reported (reads_on mode os) pre b at rest e before after fault =
     byte-reported (next (length pre) mode os b) pre b at rest (next-state pre mode os b e) (next-holds (length pre) mode os pre b refl (means-so-far pre mode os e)).meaning after fault
 unexpected-reported (found t n) pre b at rest e before after fault = absurd (after (has-found (pre ++ b ∷ []) t n (found-more pre b t n e)))
@@ -224,7 +224,7 @@ end-reported (fails f) text mode os e r none = r ∙ ap fails (end-fault (length
 reading-end : (text : List ℕ) (mode : Mode) (os : List OpenBracket) → so_far text ≡ reads_on mode os → reading text ≡ ending (length text) mode os
 reading-end text mode os e = ap reading (sym (append-nil text)) ∙ reading-from text [] mode os e
 
-unclosed-reported : (z : Reading) (text : List ℕ) → so_far text ≡ z → Continues text → ((t : Term) (n : ℕ) → Front text t n → ⊥) → reading text ≡ fails (Unclosed (length text))
+unclosed-reported : (z : Reading) (text : List ℕ) → so_far text ≡ z → CanBeCompleted text → ((t : Term) (n : ℕ) → Front text t n → ⊥) → reading text ≡ fails (Unclosed (length text))
 unclosed-reported (reads_on mode os) text e before none = end-reported (ending (length text) mode os) text mode os refl (reading-end text mode os e) none
 unclosed-reported (found t n) text e before none =
     absurd (none t n (sound text t n (ap reading (sym (append-nil text)) ∙ read-append 0 (reads_on (wants false) []) text [] ∙ ap (λ (s : Reading). read_from (0 + length text) s []) e)))

@@ -7,7 +7,7 @@ use Rattle.term_text.specs.declared.fault.TextFault.{TextFault}
 use Rattle.term_text.specs.declared.fault.TextFault.TheVariants.{Unexpected, Unclosed, TooDeep}
 use Rattle.term_text.specs.declared.quote_form.QuoteForm.TheVariants as form
 use Rattle.term_text.specs.inside.Reader.{OpenBracket, integer, identifier, digits, wants, digit, number, name, quoted, signs, angle, after, Reading, reads_on, fails, opening, bracket, put, begin, read_from}
-use Rattle.term_text.specs.inside.Parts.{Reaches, Reads}
+use Rattle.term_text.specs.inside.Parts.{Reaches, ReadsTerm}
 use Rattle.term_text.specs.Text.{is_blank, is_digit, is_lowercase, begins, begins_term, closes}
 use Rattle.term_text.proofs.Offsets.{if-true, if-false, read-fails, read-at, fails-at, ends-at, begins_at, nat-le-true}
 
@@ -68,8 +68,8 @@ pub begins-small : (b : ℕ) → begins_term b ≡ true → (b == 123) ≡ false
 unfolding begins_term
 begins-small b h b1 b2 b3 b4 b5 b6 b7 d = last-of _ (is_lowercase b) (either _ _ (either _ _ (either _ _ (either _ _ (either _ _ (either _ _ (either _ _ b1 b2) b3) b4) b5) b6) b7) d) h
 
-pub begun : (text : List ℕ) (at : ℕ) (os : List OpenBracket) (b : ℕ) (z : Reading) (r : Result (Term × ℕ) TextFault) → begin at os b ≡ z → Reads text (at + 1) z os r → Reads text (at + 1) (begin at os b) os r
-begun text at os b z r e h = let P : Reading → Type 0 = λ s. Reads text (at + 1) s os r in subst P (sym e) h
+pub begun : (text : List ℕ) (at : ℕ) (os : List OpenBracket) (b : ℕ) (z : Reading) (r : Result (Term × ℕ) TextFault) → begin at os b ≡ z → ReadsTerm text (at + 1) z os r → ReadsTerm text (at + 1) (begin at os b) os r
+begun text at os b z r e h = let P : Reading → Type 0 = λ s. ReadsTerm text (at + 1) s os r in subst P (sym e) h
 
 pub out-of-levels-room : (k r : ℕ) → k + r ≡ 128 → (r ≡ 0 → ⊥) → (r == 1) ≡ nat_le 127 k
 out-of-levels-room k r e h = grind (arith, nat_tests)

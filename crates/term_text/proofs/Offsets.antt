@@ -8,7 +8,7 @@ use Rattle.term_text.specs.declared.fault.TextFault.{TextFault}
 use Rattle.term_text.specs.declared.fault.TextFault.TheVariants.{Unexpected, Unclosed, OutOfRange}
 use Rattle.term_text.specs.inside.Reader.{OpenBracket, Number, integer, pid, identifier, byte, Expect, wants, digit, number, Reading, reads_on, found, fails, max_magnitude, take_byte, end, read_from, reading, expect}
 use Rattle.term_text.specs.Reading.{ReaderFails, ReaderReturns}
-use Rattle.term_text.specs.inside.Parts.{Reaches, Reads, counted}
+use Rattle.term_text.specs.inside.Parts.{Reaches, ReadsTerm, counted}
 use Rattle.term_text.specs.Text.{is_digit, spelled, begins}
 use Rattle.term_text.proofs.Numbers.{spelled_grows, digit-small}
 
@@ -185,11 +185,11 @@ signs-wrong text cs offset i goal os h k e =
     (at_drop_more (λ (xs : List ℕ). take_byte offset (expect offset xs goal os) (get_or text offset 0)) cs i 0 h ∙ if-false _ _ _ e)
 
 -- what is read from z on is read from s on, if s reaches z
-pub reads_along : (text : List ℕ) (at n : ℕ) (s z : Reading) (os : List OpenBracket) (r : Result (Term × ℕ) TextFault) → Reaches text at s n z → Reads text n z os r → Reads text at s os r
+pub reads_along : (text : List ℕ) (at n : ℕ) (s z : Reading) (os : List OpenBracket) (r : Result (Term × ℕ) TextFault) → Reaches text at s n z → ReadsTerm text n z os r → ReadsTerm text at s os r
 reads_along text at n s z os (Ok x) e h = e ∙ h
 reads_along text at n s z os (Err f) e h = fails-along f _ _ e h
 
 -- what is read outside brackets is the result of the text
-pub reads-gives : (text : List ℕ) (r : Result (Term × ℕ) TextFault) → Reads text 0 (reads_on (wants false) []) [] r → ReaderReturns (reading text) r
+pub reads-gives : (text : List ℕ) (r : Result (Term × ℕ) TextFault) → ReadsTerm text 0 (reads_on (wants false) []) [] r → ReaderReturns (reading text) r
 reads-gives text (Ok x) h = h ∙ read-found x.1 x.0 x.1 (drop x.1 text)
 reads-gives text (Err f) h = h

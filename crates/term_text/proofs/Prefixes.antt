@@ -7,7 +7,7 @@ use Rattle.term_text.specs.declared.quote_form.QuoteForm.{QuoteForm}
 use Rattle.term_text.specs.declared.quote_form.QuoteForm.TheVariants as form
 use Rattle.term_text.specs.Text.{is_blank, is_digit, is_lowercase, is_name, closes}
 use Rattle.term_text.specs.inside.Reader.{OpenBracket, Number, integer, pid, identifier, byte, Expect, whole, digits, Mode, wants, digit, number, name, quoted, escaped, signs, angle, opened_binary, wants_byte, after_byte, after_string, after, Reading, reads_on, found, fails, signed, with_term, bracket, put, expect, next_sign, begin, next_after, next_unless_found, next_opened, next_after_byte, next_after_number, next_digit, quote, unquoted, admits, next, take_byte, read_from, reading}
-use Rattle.term_text.specs.Prefixes.{state, so_far, HasNoFault, GoesOn}
+use Rattle.term_text.specs.Prefixes.{state, so_far, HasNoFault, CanReachTerm}
 use Rattle.term_text.proofs.Offsets.{if-true, if-false, read-fails}
 use Rattle.term_text.proofs.FirstBytes.{begin-digit}
 
@@ -240,7 +240,7 @@ read-append at s [] more = ap (λ (k : ℕ). read_from k s more) (omega arith)
 read-append at s (b ∷ bs) more = read-append (at + 1) (take_byte at s b) bs more ∙ ap (λ (k : ℕ). read_from k (state (at + 1) (take_byte at s b) bs) more) (omega arith)
 
 -- up to a fault the text can be completed to a term
-pub goes-on : (bs : List ℕ) → HasNoFault (so_far bs) → GoesOn bs
+pub goes-on : (bs : List ℕ) → HasNoFault (so_far bs) → CanReachTerm bs
 goes-on bs h = let r = can-end (0 + length bs) (so_far bs) (state-in 0 (reads_on (wants false) []) bs (omega arith)) h in (r.0, r.1, r.2, read-append 0 (reads_on (wants false) []) bs r.0 ∙ r.3)
 
 -- from the fault on it cannot

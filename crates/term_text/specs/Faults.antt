@@ -93,8 +93,8 @@ IsFaultAt pre b (Unexpected at) =
 IsFaultAt pre b f = FaultMeans pre b f
 
 -- the bytes can be completed to a text that begins with a term
-abbrev pub Continues : List ℕ → Type 0
-Continues bs = (more : List ℕ) × (t : Term) × (n : ℕ) × Front (bs ++ more) t n
+abbrev pub CanBeCompleted : List ℕ → Type 0
+CanBeCompleted bs = (more : List ℕ) × (t : Term) × (n : ℕ) × Front (bs ++ more) t n
 
 -- the text can be completed up to the byte b, but not with it
 pub record IsNoticed (text : List ℕ) (f : TextFault) : Type 0 where
@@ -102,14 +102,14 @@ pub record IsNoticed (text : List ℕ) (f : TextFault) : Type 0 where
   pub b : ℕ
   pub rest : List ℕ
   pub whole : text ≡ pre ++ b ∷ rest
-  pub before : Continues pre
-  pub after : Continues (pre ++ b ∷ []) → ⊥
+  pub before : CanBeCompleted pre
+  pub after : CanBeCompleted (pre ++ b ∷ []) → ⊥
   pub fault : IsFaultAt pre b f
 
 -- the text can be completed, but does not begin with a term
 pub record EndsEarly (text : List ℕ) (at : ℕ) : Type 0 where
   pub length_is : at ≡ length text
-  pub before : Continues text
+  pub before : CanBeCompleted text
   pub none : (t : Term) (n : ℕ) → Front text t n → ⊥
 
 -- the fault of a text

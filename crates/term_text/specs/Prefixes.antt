@@ -19,5 +19,5 @@ HasNoFault (found t n) = Unit {0}
 HasNoFault (fails f) = ⊥
 
 -- the bytes can be completed to a text that is read as a term
-abbrev pub GoesOn : List ℕ → Type 0
-GoesOn bs = (more : List ℕ) × (t : Term) × (n : ℕ) × (reading (bs ++ more) ≡ found t n)
+abbrev pub CanReachTerm : List ℕ → Type 0
+CanReachTerm bs = (more : List ℕ) × (t : Term) × (n : ℕ) × (reading (bs ++ more) ≡ found t n)

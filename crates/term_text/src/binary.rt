@@ -1,7 +1,7 @@
 //! Reads binaries, pids and table identifiers.
 ghost use Rattle.std.specs.Prelude.{◌≡◌, ◌+◌, ◌≤◌, ◌<◌, ◌∷◌, [], List, true, length, IfOk, codes};
 ghost use Rattle.term_text.specs.inside.Reader.{OpenBracket, byte, digit, quoted, reads_on, opened_binary, angle, expect, digits, pid, identifier};
-ghost use Rattle.term_text.specs.inside.Parts.{EndsWithin, Reads, ReadsBytes};
+ghost use Rattle.term_text.specs.inside.Parts.{EndsWithin, ReadsTerm, ReadsBytes};
 ghost use Rattle.term_text.specs.declared.quote_form.QuoteForm.TheVariants as form;
 
 use crate::bytes::{byte_is, digit_at, past_blanks};
@@ -36,7 +36,7 @@ fn bytes_at(alloc: Global, text: &[u8], at: usize) -> Result<(Items<u8>, usize),
 fn byte_binary_at(alloc: Global, text: &[u8], at: usize) -> Result<(Term, usize), TextFault>
     requires { at ≤ length text.now }
     ensures within { EndsWithin text.now at result }
-    ensures reads { (os : List OpenBracket) → Reads text.now at (reads_on (digit (byte []) at) os) os result }
+    ensures reads { (os : List OpenBracket) → ReadsTerm text.now at (reads_on (digit (byte []) at) os) os result }
 {
     let (bytes, offset) = bytes_at(alloc, text, at)?;
     let end = literal_at(text, offset, b">>")?;
@@ -48,7 +48,7 @@ fn byte_binary_at(alloc: Global, text: &[u8], at: usize) -> Result<(Term, usize)
 fn string_binary_at(alloc: Global, text: &[u8], at: usize) -> Result<(Term, usize), TextFault>
     requires { at ≤ length text.now }
     ensures within { EndsWithin text.now at result }
-    ensures reads { (os : List OpenBracket) → Reads text.now at (reads_on (quoted form.Binary []) os) os result }
+    ensures reads { (os : List OpenBracket) → ReadsTerm text.now at (reads_on (quoted form.Binary []) os) os result }
 {
     let (bytes, next) = quoted_at(alloc, text, at, QuoteForm::Binary, false)?;
     let offset = past_blanks(text, next);
@@ -61,7 +61,7 @@ fn string_binary_at(alloc: Global, text: &[u8], at: usize) -> Result<(Term, usiz
 fn binary_at(alloc: Global, text: &[u8], at: usize) -> Result<(Term, usize), TextFault>
     requires { at ≤ length text.now }
     ensures within { EndsWithin text.now at result }
-    ensures reads { (os : List OpenBracket) → Reads text.now at (reads_on opened_binary os) os result }
+    ensures reads { (os : List OpenBracket) → ReadsTerm text.now at (reads_on opened_binary os) os result }
 {
     let start = past_blanks(text, at);
     if byte_is(text, start, b'"') {
@@ -78,7 +78,7 @@ fn binary_at(alloc: Global, text: &[u8], at: usize) -> Result<(Term, usize), Tex
 fn pid_at(text: &[u8], at: usize) -> Result<(Term, usize), TextFault>
     requires { at ≤ length text.now }
     ensures within { EndsWithin text.now at result }
-    ensures reads { (os : List OpenBracket) → Reads text.now at (expect at (codes ".") (digits pid) os) os result }
+    ensures reads { (os : List OpenBracket) → ReadsTerm text.now at (expect at (codes ".") (digits pid) os) os result }
 {
     let first = literal_at(text, at, b".")?;
     let (n, next) = number_at(text, first, first, u32::MAX as Magnitude)?;
@@ -91,7 +91,7 @@ pub(crate) fn identifier_at(text: &[u8], at: usize) -> Result<(Term, usize), Tex
     requires { at ≤ length text.now }
     ensures within { EndsWithin text.now at result }
     ensures reads { (os : List OpenBracket)
-        → Reads text.now at (expect at (codes "Tid<") (digits identifier) os) os result }
+        → ReadsTerm text.now at (expect at (codes "Tid<") (digits identifier) os) os result }
 {
     let first = literal_at(text, at, b"Tid<")?;
     let (n, next) = number_at(text, first, first, u32::MAX as Magnitude)?;
@@ -103,7 +103,7 @@ pub(crate) fn identifier_at(text: &[u8], at: usize) -> Result<(Term, usize), Tex
 pub(crate) fn angle_at(alloc: Global, text: &[u8], at: usize) -> Result<(Term, usize), TextFault>
     requires { at ≤ length text.now }
     ensures within { EndsWithin text.now at result }
-    ensures reads { (os : List OpenBracket) → Reads text.now at (reads_on angle os) os result }
+    ensures reads { (os : List OpenBracket) → ReadsTerm text.now at (reads_on angle os) os result }
 {
     if at >= text.len() {
         return Err(TextFault::Unclosed(at));

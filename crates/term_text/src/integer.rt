@@ -1,7 +1,7 @@
 //! Reads integers.
 ghost use Rattle.std.specs.Prelude.{◌≡◌, ◌≤◌, List, length, IfOk};
 ghost use Rattle.term_text.specs.inside.Reader.{OpenBracket, integer, digit, reads_on, signed, max_magnitude};
-ghost use Rattle.term_text.specs.inside.Parts.{EndsWithin, Reads};
+ghost use Rattle.term_text.specs.inside.Parts.{EndsWithin, ReadsTerm};
 
 use crate::fault::TextFault;
 use crate::number::{Magnitude, number_at};
@@ -40,7 +40,7 @@ pub(crate) fn integer_at(
     requires { at ≤ length text.now }
     ensures within { EndsWithin text.now at result }
     ensures reads { (os : List OpenBracket)
-        → Reads text.now at (reads_on (digit (integer negative) start) os) os result }
+        → ReadsTerm text.now at (reads_on (digit (integer negative) start) os) os result }
 {
     let (n, end) = number_at(text, at, start, integer_limit(negative))?;
     Ok((Term::Int(signed_value(negative, n)), end))

@@ -1,7 +1,7 @@
 //! The laws that tie the reader to the grammar and to the table of faults.
 ghost use Rattle.std.specs.Prelude.{◌≡◌, ◌++◌, ℕ, List};
 ghost use Rattle.term_text.specs.Faults.{IsFault};
-ghost use Rattle.term_text.specs.Prefixes.{GoesOn, HasNoFault, so_far};
+ghost use Rattle.term_text.specs.Prefixes.{CanReachTerm, HasNoFault, so_far};
 ghost use Rattle.term_text.specs.inside.Reader.{fails, found, reading};
 ghost use Rattle.term_text.specs.Grammar.{Front};
 ghost use Rattle.term_text.specs.RoundTrip.{ReadsBack};
@@ -10,7 +10,7 @@ ghost use Rattle.term_text.specs.declared.fault.TextFault.{TextFault};
 
 /// A fault is noticed at the earliest byte: what comes before it can be completed to a term, and with it nothing can.
 pub fn faults_are_noticed_first()
-    ensures before { (bs : List ℕ) → HasNoFault (so_far bs) → GoesOn bs }
+    ensures before { (bs : List ℕ) → HasNoFault (so_far bs) → CanReachTerm bs }
     ensures from { (bs : List ℕ) (f : TextFault) (more : List ℕ) → so_far bs ≡ fails f
         → reading (bs ++ more) ≡ fails f }
 {}

@@ -1,7 +1,7 @@
 //! Reads atoms without quotes.
 ghost use Rattle.std.specs.Prelude.{◌≡◌, ◌+◌, ◌≤◌, ◌<◌, ◌∷◌, [], List, true, length, IfOk, slice_index};
 ghost use Rattle.term_text.specs.inside.Reader.{OpenBracket, name, reads_on};
-ghost use Rattle.term_text.specs.inside.Parts.{EndsWithin, Reads};
+ghost use Rattle.term_text.specs.inside.Parts.{EndsWithin, ReadsTerm};
 ghost use Rattle.term_text.specs.Text.{is_lowercase};
 
 use crate::bytes::past_name;
@@ -15,7 +15,7 @@ pub(crate) fn name_at(alloc: Global, text: &[u8], at: usize) -> Result<(Term, us
     requires small { is_lowercase (slice_index text.now at) ≡ true }
     ensures within { EndsWithin text.now at result }
     ensures reads { (os : List OpenBracket)
-        → Reads text.now (at + 1) (reads_on (name at (slice_index text.now at ∷ [])) os) os result }
+        → ReadsTerm text.now (at + 1) (reads_on (name at (slice_index text.now at ∷ [])) os) os result }
 {
     let end = past_name(text, at);
     if end - at > MAX_CHARACTERS {

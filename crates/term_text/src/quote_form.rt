@@ -1,6 +1,6 @@
 ghost use Rattle.std.specs.Prelude.{◌≡◌, ◌+◌, None};
 ghost use Rattle.term_text.specs.inside.Reader.{quote};
-ghost use Rattle.term_text.specs.inside.Parts.{IsShort, Refuses};
+ghost use Rattle.term_text.specs.inside.Parts.{IsShort, RefusesNext};
 
 use crate::fault::TextFault;
 use ets_term::MAX_CHARACTERS;
@@ -29,7 +29,7 @@ impl QuoteForm {
 
     /// Returns the fault of one more character at this offset, after `n` others, or `None` if the form allows it.
     pub(crate) fn fault_of_next(self, at: usize, n: usize, out_of_levels: bool) -> Option<TextFault>
-        ensures refuses { Refuses at self n out_of_levels result }
+        ensures refuses { RefusesNext at self n out_of_levels result }
         ensures short { result ≡ None → IsShort self n → IsShort self (n + 1) }
     {
         match self {

@@ -3,7 +3,7 @@ ghost use Rattle.std.specs.Prelude.{◌≡◌, ◌+◌, ◌≤◌, ◌<◌, ◌=
 ghost use Rattle.std.specs.List.{list_all};
 ghost use Rattle.ets_term.specs.Character.{is_character};
 ghost use Rattle.term_text.specs.inside.Reader.{code, quote, OpenBracket, quoted, reads_on};
-ghost use Rattle.term_text.specs.inside.Parts.{EndsWithin, ReadsEscaped, ReadsCharacter, IsShort, ReadsQuoted, Reads, IsOutOfLevels};
+ghost use Rattle.term_text.specs.inside.Parts.{EndsWithin, ReadsEscaped, ReadsCharacter, IsShort, ReadsQuoted, ReadsTerm, IsOutOfLevels};
 ghost use Rattle.term_text.specs.declared.quote_form.QuoteForm.TheVariants as form;
 
 use crate::bytes::is_character_byte;
@@ -94,7 +94,7 @@ pub(crate) fn quoted_atom_at(
     requires { at < length text.now }
     ensures within { EndsWithin text.now at result }
     ensures reads { (os : List OpenBracket)
-        → Reads text.now (at + 1) (reads_on (quoted (form.Atom at) []) os) os result }
+        → ReadsTerm text.now (at + 1) (reads_on (quoted (form.Atom at) []) os) os result }
 {
     let (chars, end) = quoted_at(alloc, text, at + 1, QuoteForm::Atom(at), false)?;
     let name = Atom::of_bytes(alloc, chars.as_slice())?;
@@ -111,7 +111,7 @@ pub(crate) fn string_at(
     requires { at ≤ length text.now }
     ensures within { EndsWithin text.now at result }
     ensures reads { (os : List OpenBracket) → IsOutOfLevels form.String out_of_levels os
-        → Reads text.now at (reads_on (quoted form.String []) os) os result }
+        → ReadsTerm text.now at (reads_on (quoted form.String []) os) os result }
 {
     let (chars, end) = quoted_at(alloc, text, at, QuoteForm::String, out_of_levels)?;
     let codes = codes_of(alloc, chars.as_slice())?;

@@ -4,7 +4,7 @@ ghost use Rattle.term_text.specs.inside.Reader.{OpenBracket, wants, reads_on, op
 ghost use Rattle.term_text.specs.Faults.{IsFaultOrMemory};
 ghost use Rattle.term_text.specs.Grammar.{Front};
 ghost use Rattle.term_text.specs.Reading.{ReaderReturns};
-ghost use Rattle.term_text.specs.inside.Parts.{EndsWithin, Reads, is_square};
+ghost use Rattle.term_text.specs.inside.Parts.{EndsWithin, ReadsTerm, is_square};
 
 use crate::binary::{angle_at, identifier_at};
 use crate::bracket::Bracket;
@@ -48,7 +48,7 @@ fn term_at(
     requires { at ≤ length text.now }
     ensures within { EndsWithin text.now at result }
     ensures reads { (os : List OpenBracket) → length os + levels_left ≡ MAX_DEPTH
-        → Reads text.now at (reads_on (wants false) os) os result }
+        → ReadsTerm text.now at (reads_on (wants false) os) os result }
 {
     let start = past_blanks(text, at);
     if start >= text.len() {
@@ -68,7 +68,7 @@ fn form_at(
     requires { at < length text.now }
     ensures within { EndsWithin text.now at result }
     ensures reads { (os : List OpenBracket) → length os + levels_left ≡ MAX_DEPTH
-        → Reads text.now (at + 1) (begin at os (slice_index text.now at)) os result }
+        → ReadsTerm text.now (at + 1) (begin at os (slice_index text.now at)) os result }
 {
     let b = text[at];
     if !is_first_byte(b) {
@@ -107,7 +107,7 @@ fn bracket_at(
     requires { at ≤ length text.now }
     ensures within { EndsWithin text.now at result }
     ensures reads { (os : List OpenBracket) → length os + 1 + levels_left ≡ MAX_DEPTH
-        → Reads text.now at (reads_on (wants true) (opening (is_square bracket) ∷ os)) os result }
+        → ReadsTerm text.now at (reads_on (wants true) (opening (is_square bracket) ∷ os)) os result }
 {
     let mut items = Items::new(alloc);
     let mut offset = past_blanks(text, at);

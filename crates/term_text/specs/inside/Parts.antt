@@ -23,9 +23,9 @@ abbrev pub Reaches : List ℕ → ℕ → Reading → ℕ → Reading → Type 0
 Reaches text at s n z = read_from at s (drop at text) ≡ read_from n z (drop n text)
 
 -- from s before the byte at, the automaton reaches the end of a term in these brackets, or fails
-abbrev pub Reads : List ℕ → ℕ → Reading → List OpenBracket → Result (Term × ℕ) TextFault → Type 0
-Reads text at s os (Ok x) = Reaches text at s x.1 (put os x.0 x.1)
-Reads text at s os (Err f) = ReaderFails f (read_from at s (drop at text))
+abbrev pub ReadsTerm : List ℕ → ℕ → Reading → List OpenBracket → Result (Term × ℕ) TextFault → Type 0
+ReadsTerm text at s os (Ok x) = Reaches text at s x.1 (put os x.0 x.1)
+ReadsTerm text at s os (Err f) = ReaderFails f (read_from at s (drop at text))
 
 -- after the digits of a number, which end before the byte n
 abbrev pub counted : ℕ → Number → ℕ → List OpenBracket → Reading
@@ -74,10 +74,10 @@ IsShort (form.Atom start) n = n ≤ max_characters
 IsShort q n = Unit {0}
 
 -- whether one more character, after n, is refused
-abbrev pub Refuses : ℕ → QuoteForm → ℕ → Bool → Option TextFault → Type 0
-Refuses at q n out_of_levels None =
+abbrev pub RefusesNext : ℕ → QuoteForm → ℕ → Bool → Option TextFault → Type 0
+RefusesNext at q n out_of_levels None =
     (os : List OpenBracket) (s : Reading) → IsOutOfLevels q out_of_levels os → admits at q n os s ≡ s
-Refuses at q n out_of_levels (Some f) =
+RefusesNext at q n out_of_levels (Some f) =
     (os : List OpenBracket) (s : Reading) → IsOutOfLevels q out_of_levels os → admits at q n os s ≡ fails f
 
 -- reads the character at the byte at, after a `\`
