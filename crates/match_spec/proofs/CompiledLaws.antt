@@ -8,78 +8,79 @@ use Rattle.ets_term.specs.declared.term.Term.TheVariants.{Atom}
 use Rattle.ets_term.specs.Data.{Data, int, atom, pid, tid, tuple, list, binary, Row, no_terms, term, row_of}
 use Rattle.ets_term.specs.Order.{row_len}
 use Rattle.ets_term.specs.laws.Exact.{term_of}
+use Rattle.match_spec.specs.declared.expression.Connective.{Connective}
 use Rattle.match_spec.specs.declared.expression.function.Function.{Function}
 use Rattle.match_spec.specs.declared.expression.Expression.{Expression, the_lemmas}
 use Rattle.match_spec.specs.declared.expression.Expression.TheOpen.{Expression-F}
-use Rattle.match_spec.specs.declared.expression.Expression.TheVariants.{Constant, Object, Bindings as Bound, Variable, Tuple, List as Terms, Apply, Join, Decide}
-use Rattle.match_spec.specs.inside.CompiledExpressions.{expression_value, expression_step, all_of, joined_of, apply_of, decide, expression_of, expressions_of, name_expression, called, decide_else, apply_else}
-use Rattle.match_spec.specs.inside.FirstPlaces.{FirstPlaces, way_in, places_of, first_of}
+use Rattle.match_spec.specs.declared.expression.Expression.TheVariants.{Constant, Object, Bindings as Bound, Variable, Tuple, List as Terms, Apply, Strict, ShortCircuit}
+use Rattle.match_spec.specs.inside.CompiledExpressions.{expression_value, expression_step, all_of, strict_of, apply_of, short_circuit_of, expression_of, expressions_of, name_expression, call_expression, short_circuit_else, apply_else}
+use Rattle.match_spec.specs.inside.FirstPaths.{FirstPaths, first_path, paths_of, first_paths_of}
 use Rattle.match_spec.specs.Functions.{apply, truth}
-use Rattle.match_spec.specs.Names.{function_of, decides, stops_at, is_function}
-use Rattle.match_spec.specs.Patterns.{Bindings, values, candidates}
-use Rattle.match_spec.specs.Places.{Place, at}
-use Rattle.match_spec.specs.Expressions.{value, all_values, joined, decided, name_value, decided_or, joined_or, applied, is_expression, are_expressions, is_constant, is_bound}
+use Rattle.match_spec.specs.Names.{function_of, strict_connective, short_circuit_connective, is_function}
+use Rattle.match_spec.specs.Patterns.{Bindings, values, occurrences}
+use Rattle.match_spec.specs.Paths.{Path, subterm_at}
+use Rattle.match_spec.specs.Expressions.{value, all_values, strict_value, short_circuit_value, name_value, short_circuit_or, strict_or, call_value, is_expression, are_expressions, is_constant, is_bound}
 use Rattle.match_spec.specs.Variables.{variable, variables}
 use Rattle.match_spec.proofs.BoolLaws.{both-true, none-is_some}
-use Rattle.match_spec.proofs.FitLaws.{parts_at-first}
-use Rattle.match_spec.proofs.PlaceLaws.{found, way_in-first}
+use Rattle.match_spec.proofs.FitLaws.{subterms_at-first}
+use Rattle.match_spec.proofs.PathLaws.{found, first_path-first}
 use Rattle.match_spec.proofs.TreeLaws.{data_of-term_of, data_of-Atom}
 
-module _ (places : List Place) where
+module _ (paths : List Path) where
   abbrev pub of_at : Expression → Data → Option Data
-  of_at = expression_value places
+  of_at = expression_value paths
 
-  of-Constant : (t : Term) → of_at (Constant t) ≡ expression_step places (Expression-F.Constant t)
+  of-Constant : (t : Term) → of_at (Constant t) ≡ expression_step paths (Expression-F.Constant t)
   of-Constant t = search (rules, the_lemmas)
 
-  of-Object : of_at Object ≡ expression_step places Expression-F.Object
+  of-Object : of_at Object ≡ expression_step paths Expression-F.Object
   of-Object = search (rules, the_lemmas)
 
-  of-Bindings : of_at Bound ≡ expression_step places Expression-F.Bindings
+  of-Bindings : of_at Bound ≡ expression_step paths Expression-F.Bindings
   of-Bindings = search (rules, the_lemmas)
 
-  of-Variable : (place : Place) → of_at (Variable place) ≡ expression_step places (Expression-F.Variable place)
-  of-Variable place = search (rules, the_lemmas)
+  of-Variable : (path : Path) → of_at (Variable path) ≡ expression_step paths (Expression-F.Variable path)
+  of-Variable path = search (rules, the_lemmas)
 
-  of-Tuple : (es : List Expression) → of_at (Tuple es) ≡ expression_step places (Expression-F.Tuple (map of_at es))
+  of-Tuple : (es : List Expression) → of_at (Tuple es) ≡ expression_step paths (Expression-F.Tuple (map of_at es))
   of-Tuple es = search (rules, the_lemmas)
 
-  of-List : (es : List Expression) → of_at (Terms es) ≡ expression_step places (Expression-F.List (map of_at es))
+  of-List : (es : List Expression) → of_at (Terms es) ≡ expression_step paths (Expression-F.List (map of_at es))
   of-List es = search (rules, the_lemmas)
 
-  pub of-Apply : (g : Function) (es : List Expression) → of_at (Apply g es) ≡ expression_step places (Expression-F.Apply g (map of_at es))
+  pub of-Apply : (g : Function) (es : List Expression) → of_at (Apply g es) ≡ expression_step paths (Expression-F.Apply g (map of_at es))
   of-Apply g es = search (rules, the_lemmas)
 
-  of-Join : (decisive : Bool) (es : List Expression) → of_at (Join decisive es) ≡ expression_step places (Expression-F.Join decisive (map of_at es))
-  of-Join decisive es = search (rules, the_lemmas)
+  of-Strict : (connective : Connective) (es : List Expression) → of_at (Strict connective es) ≡ expression_step paths (Expression-F.Strict connective (map of_at es))
+  of-Strict connective es = search (rules, the_lemmas)
 
-  of-Decide : (stop : Bool) (es : List Expression) → of_at (Decide stop es) ≡ expression_step places (Expression-F.Decide stop (map of_at es))
-  of-Decide stop es = search (rules, the_lemmas)
+  of-ShortCircuit : (connective : Connective) (es : List Expression) → of_at (ShortCircuit connective es) ≡ expression_step paths (Expression-F.ShortCircuit connective (map of_at es))
+  of-ShortCircuit connective es = search (rules, the_lemmas)
 
 past_false : (a c d : Bool) → a ≡ false → ((a && c) || d) ≡ true → d ≡ true
 past_false a c d e h = rw e at h
 
 module _ (head object : Data) where
   abbrev b : Bindings
-  b = candidates head object
+  b = occurrences head object
 
-  abbrev first : FirstPlaces
-  first = first_of head
+  abbrev first : FirstPaths
+  first = first_paths_of head
 
-  abbrev ps : List Place
-  ps = places_of first
+  abbrev ps : List Path
+  ps = paths_of first
 
   abbrev pub of : Expression → Data → Option Data
   of = expression_value ps
 
   named : (a : List ℕ) (o : Option ℕ) → is_bound (variables head) o ≡ true → of (name_expression first a o) object ≡ name_value b object a o
-  named a (Some n) h = ap (λ f. f object) (of-Variable ps (way_in first n)) ∙ ap (λ (w : Place). Some (at w object)) (way_in-first head n) ∙ sym (found head object n (variables head) h)
+  named a (Some n) h = ap (λ f. f object) (of-Variable ps (first_path first n)) ∙ ap (λ (w : Path). Some (subterm_at w object)) (first_path-first head n) ∙ sym (found head object n (variables head) h)
   named a None h = by (bytes_eq a (codes "$_")) (bytes_eq a (codes "$$"))
     where
       by : (c d : Bool) → of (if c then Object else if d then Bound else Constant (Atom a)) object
           ≡ (if c then Some object else if d then Some (list (row_of (values b))) else Some (atom a))
       by true d = ap (λ f. f object) (of-Object ps)
-      by false true = ap (λ f. f object) (of-Bindings ps) ∙ ap (λ ds. Some (list (row_of ds))) (parts_at-first head object)
+      by false true = ap (λ f. f object) (of-Bindings ps) ∙ ap (λ ds. Some (list (row_of ds))) (subterms_at-first head object)
       by false false = ap (λ f. f object) (of-Constant ps (Atom a)) ∙ ap Some (data_of-Atom a)
 
   constant : (d : Data) → of (Constant (term_of d)) object ≡ Some d
@@ -109,33 +110,33 @@ module _ (head object : Data) where
   given es (Some g) h each all = ap (λ f. f object) (of-Apply ps g (xs es)) ∙ each g ∙ ap (option_and_then (apply g)) all
 
   applies : (f : List ℕ) (es : Row) → is_some (function_of f (row_len es)) ≡ true → all_of (map of (xs es)) object ≡ all_values b object es
-      → of (apply_else (function_of f (row_len es)) (xs es)) object ≡ applied f (row_len es) (all_values b object es)
+      → of (apply_else (function_of f (row_len es)) (xs es)) object ≡ call_value f (row_len es) (all_values b object es)
   applies f no_terms h all = cc
   applies f (term e no_terms) h all = given (term e no_terms) _ h (λ g. one g (of (expression_of first e)) _ refl) all
   applies f (term e (term x no_terms)) h all = given (term e (term x no_terms)) _ h (λ g. two g (of (expression_of first e)) (of (expression_of first x)) _ _ refl refl) all
   applies f (term e (term x (term y es))) h all = absurd (none-is_some _ (none_of_three f (row_len es)) h)
 
   module _ (f : List ℕ) (es : Row) (all : all_of (map of (xs es)) object ≡ all_values b object es)
-      (joins : (decisive : Bool) → joined_of decisive (map of (xs es)) object ≡ joined b object decisive es)
-      (stops : (stop : Bool) → decide stop (map of (xs es)) object ≡ decided b object stop es) where
-    by_kind : (o p : Option Bool) → (((is_some o || is_some p) && nat_lt 0 (row_len es)) || is_some (function_of f (row_len es))) ≡ true
-        → of (decide_else o p (function_of f (row_len es)) (xs es)) object
-        ≡ decided_or o (λ stop. decided b object stop es) (joined_or p (λ decisive. joined b object decisive es) (applied f (row_len es) (all_values b object es)))
-    by_kind (Some stop) p h = ap (λ v. v object) (of-Decide ps stop (xs es)) ∙ stops stop
-    by_kind None (Some decisive) h = ap (λ v. v object) (of-Join ps decisive (xs es)) ∙ ap (option_map truth) (joins decisive)
+      (joins : (connective : Connective) → strict_of connective (map of (xs es)) object ≡ strict_value b object connective es)
+      (stops : (connective : Connective) → short_circuit_of connective (map of (xs es)) object ≡ short_circuit_value b object connective es) where
+    by_kind : (o p : Option Connective) → (((is_some o || is_some p) && nat_lt 0 (row_len es)) || is_some (function_of f (row_len es))) ≡ true
+        → of (short_circuit_else o p (function_of f (row_len es)) (xs es)) object
+        ≡ short_circuit_or o (λ connective. short_circuit_value b object connective es) (strict_or p (λ connective. strict_value b object connective es) (call_value f (row_len es) (all_values b object es)))
+    by_kind (Some connective) p h = ap (λ v. v object) (of-ShortCircuit ps connective (xs es)) ∙ stops connective
+    by_kind None (Some connective) h = ap (λ v. v object) (of-Strict ps connective (xs es)) ∙ ap (option_map truth) (joins connective)
     by_kind None None h = applies f es h all
 
-    not_constant : is_function f (row_len es) ≡ true → of (called f (row_len es) (xs es)) object
-        ≡ decided_or (stops_at f) (λ stop. decided b object stop es) (joined_or (decides f) (λ decisive. joined b object decisive es) (applied f (row_len es) (all_values b object es)))
-    not_constant h = by_kind (stops_at f) (decides f) h
+    not_constant : is_function f (row_len es) ≡ true → of (call_expression f (row_len es) (xs es)) object
+        ≡ short_circuit_or (short_circuit_connective f) (λ connective. short_circuit_value b object connective es) (strict_or (strict_connective f) (λ connective. strict_value b object connective es) (call_value f (row_len es) (all_values b object es)))
+    not_constant h = by_kind (short_circuit_connective f) (strict_connective f) h
 
   abbrev ns : List ℕ
   ns = variables head
 
   application : (f : List ℕ) (es : Row) → (is_constant f (row_len es) || (is_function f (row_len es) && are_expressions ns es)) ≡ true
       → (are_expressions ns es ≡ true → all_of (map of (xs es)) object ≡ all_values b object es)
-      → ((decisive : Bool) → are_expressions ns es ≡ true → joined_of decisive (map of (xs es)) object ≡ joined b object decisive es)
-      → ((stop : Bool) → are_expressions ns es ≡ true → decide stop (map of (xs es)) object ≡ decided b object stop es)
+      → ((connective : Connective) → are_expressions ns es ≡ true → strict_of connective (map of (xs es)) object ≡ strict_value b object connective es)
+      → ((connective : Connective) → are_expressions ns es ≡ true → short_circuit_of connective (map of (xs es)) object ≡ short_circuit_value b object connective es)
       → of (expression_of first (tuple (term (atom f) es))) object ≡ value b object (tuple (term (atom f) es))
   application f no_terms h all joins stops = let p = both-true _ _ h in not_constant f no_terms (all p.1) (λ s. joins s p.1) (λ s. stops s p.1) p.0
   application f (term e (term x es)) h all joins stops =
@@ -145,8 +146,8 @@ module _ (head object : Data) where
   application f (term e no_terms) h all joins stops = by (bytes_eq f (codes "const")) h
     where
       by : (c : Bool) → (c || (is_function f (row_len (term e no_terms)) && are_expressions ns (term e no_terms))) ≡ true
-          → of (if c then Constant (term_of e) else called f (row_len (term e no_terms)) (xs (term e no_terms))) object
-          ≡ (if c then Some e else decided_or (stops_at f) (λ stop. decided b object stop (term e no_terms)) (joined_or (decides f) (λ decisive. joined b object decisive (term e no_terms)) (applied f (row_len (term e no_terms)) (all_values b object (term e no_terms)))))
+          → of (if c then Constant (term_of e) else call_expression f (row_len (term e no_terms)) (xs (term e no_terms))) object
+          ≡ (if c then Some e else short_circuit_or (short_circuit_connective f) (λ connective. short_circuit_value b object connective (term e no_terms)) (strict_or (strict_connective f) (λ connective. strict_value b object connective (term e no_terms)) (call_value f (row_len (term e no_terms)) (all_values b object (term e no_terms)))))
       by true i = constant e
       by false i = let p = both-true _ _ i in not_constant f (term e no_terms) (all p.1) (λ s. joins s p.1) (λ s. stops s p.1) p.0
 
@@ -161,7 +162,7 @@ module _ (head object : Data) where
     compiled (tuple no_terms) h = cc
     compiled (tuple (term (tuple es) no_terms)) h = ap (λ f. f object) (of-Tuple ps _) ∙ ap (option_map (λ ds. tuple (row_of ds))) (all_compiled es h)
     compiled (tuple (term (tuple es) (term x xs))) h = cc
-    compiled (tuple (term (atom f) es)) h = application f es h (all_compiled es) (λ decisive. join_compiled decisive es) (λ stop. decide_compiled stop es)
+    compiled (tuple (term (atom f) es)) h = application f es h (all_compiled es) (λ connective. strict_compiled connective es) (λ connective. short_circuit_compiled connective es)
     compiled (tuple (term (int n) es)) h = cc
     compiled (tuple (term (pid n) es)) h = cc
     compiled (tuple (term (tid n) es)) h = cc
@@ -172,11 +173,11 @@ module _ (head object : Data) where
     all_compiled no_terms h = refl
     all_compiled (term e es) h = let p = both-true _ _ h in rw (compiled e p.0, all_compiled es p.1) refl
 
-    pub join_compiled : (decisive : Bool) (es : Row) → are_expressions ns es ≡ true → joined_of decisive (map of (xs es)) object ≡ joined b object decisive es
-    join_compiled decisive no_terms h = refl
-    join_compiled decisive (term e es) h = let p = both-true _ _ h in rw (compiled e p.0, join_compiled decisive es p.1) refl
+    pub strict_compiled : (connective : Connective) (es : Row) → are_expressions ns es ≡ true → strict_of connective (map of (xs es)) object ≡ strict_value b object connective es
+    strict_compiled connective no_terms h = refl
+    strict_compiled connective (term e es) h = let p = both-true _ _ h in rw (compiled e p.0, strict_compiled connective es p.1) refl
 
-    pub decide_compiled : (stop : Bool) (es : Row) → are_expressions ns es ≡ true → decide stop (map of (xs es)) object ≡ decided b object stop es
-    decide_compiled stop no_terms h = refl
-    decide_compiled stop (term e no_terms) h = let p = both-true _ _ h in rw (compiled e p.0) refl
-    decide_compiled stop (term e (term x es)) h = let p = both-true _ _ h in rw (compiled e p.0, decide_compiled stop (term x es) p.1) refl
+    pub short_circuit_compiled : (connective : Connective) (es : Row) → are_expressions ns es ≡ true → short_circuit_of connective (map of (xs es)) object ≡ short_circuit_value b object connective es
+    short_circuit_compiled connective no_terms h = refl
+    short_circuit_compiled connective (term e no_terms) h = let p = both-true _ _ h in rw (compiled e p.0) refl
+    short_circuit_compiled connective (term e (term x es)) h = let p = both-true _ _ h in rw (compiled e p.0, short_circuit_compiled connective (term x es) p.1) refl

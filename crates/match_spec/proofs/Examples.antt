@@ -44,8 +44,8 @@ same_twice = refl
 not_twice : option_map values (bindings_of (t (v1 ∷ v1 ∷ [])) (t (atom (codes "y") ∷ atom (codes "z") ∷ []))) ≡ None
 not_twice = refl
 
-in_order : option_map values (bindings_of (t (v2 ∷ v0 ∷ [])) (t (atom (codes "y") ∷ atom (codes "z") ∷ []))) ≡ Some (atom (codes "z") ∷ atom (codes "y") ∷ [])
-in_order = refl
+paths_by_number : option_map values (bindings_of (t (v2 ∷ v0 ∷ [])) (t (atom (codes "y") ∷ atom (codes "z") ∷ []))) ≡ Some (atom (codes "z") ∷ atom (codes "y") ∷ [])
+paths_by_number = refl
 
 abbrev clause : Data → List Data → List Data → Data
 clause head conditions body = t (head ∷ l conditions ∷ l body ∷ [])

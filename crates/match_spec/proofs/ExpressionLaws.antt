@@ -9,8 +9,8 @@ use Rattle.ets_term.specs.Order.{row_len}
 use Rattle.ets_term.specs.laws.Exact.{term_of, back, data_of-Tuple, data_of-List}
 use Rattle.match_spec.specs.declared.expression.Expression.{Expression}
 use Rattle.match_spec.specs.declared.expression.Expression.TheVariants.{Constant, Object, Tuple as Parts}
-use Rattle.match_spec.specs.inside.CompiledExpressions.{expression_of, expressions_of, constant_else, called}
-use Rattle.match_spec.specs.inside.FirstPlaces.{FirstPlaces}
+use Rattle.match_spec.specs.inside.CompiledExpressions.{expression_of, expressions_of, constant_else, call_expression}
+use Rattle.match_spec.specs.inside.FirstPaths.{FirstPaths}
 use Rattle.match_spec.specs.Expressions.{is_expression, are_expressions, is_constant}
 use Rattle.match_spec.specs.Names.{is_function}
 use Rattle.match_spec.specs.Specifications.{clause_parts}
@@ -20,12 +20,12 @@ pub row_len_of : (ts : List Term) → row_len (row_of (map data_of ts)) ≡ leng
 row_len_of [] = refl
 row_len_of (t ∷ ts) = ap suc (row_len_of ts)
 
-module _ (first : FirstPlaces) where
+module _ (first : FirstPaths) where
   abbrev pub of : List Term → Expression
   of ts = expression_of first (tuple (row_of (map data_of ts)))
 
   abbrev pub application_of : List ℕ → List Term → Expression
-  application_of f ts = constant_else f (row_of (map data_of ts)) (called f (length ts) (expressions_of first (row_of (map data_of ts))))
+  application_of f ts = constant_else f (row_of (map data_of ts)) (call_expression f (length ts) (expressions_of first (row_of (map data_of ts))))
 
   pub of-nothing : (ts : List Term) → length ts ≡ 0 → Object ≡ of ts
   of-nothing [] h = refl
@@ -74,8 +74,8 @@ constant_else-named f (u ∷ []) e h = rw h refl
 constant_else-named f (u ∷ v ∷ ts) e h = refl
 
 -- all behind the first
-pub behind-whole : (ts : List Term) → take (length ts - 1) (drop 1 ts) ≡ drop 1 ts
-behind-whole ts = grind (arith, common_steps)
+pub rest-whole : (ts : List Term) → take (length ts - 1) (drop 1 ts) ≡ drop 1 ts
+rest-whole ts = grind (arith, common_steps)
 
 module _ (ns : List ℕ) where
   abbrev pub is : List Term → Bool

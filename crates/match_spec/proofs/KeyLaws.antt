@@ -11,20 +11,20 @@ use Rattle.ets_term.specs.laws.Exact.{data_of-exact}
 use Rattle.ets_term.specs.laws.Ordered.{order_exact}
 use Rattle.match_spec.specs.BoundKeys.{is_ground, are_ground, bound_key, clause_key, all_bind, spec_key, IsKeyOfMatches, IsKeyOfResults}
 use Rattle.match_spec.specs.Functions.{row_element, tuple_element}
-use Rattle.match_spec.specs.Patterns.{Bindings, matches, row_matches, name_matches, alike, candidates, bindings_of}
-use Rattle.match_spec.specs.Places.{value_at}
-use Rattle.match_spec.specs.Specifications.{RawClause, clause_parts, counted_or, result_or, first_result, result_of}
+use Rattle.match_spec.specs.Patterns.{Bindings, matches, row_matches, name_matches, equal_terms, occurrences, bindings_of}
+use Rattle.match_spec.specs.Paths.{value_at}
+use Rattle.match_spec.specs.Specifications.{RawClause, clause_parts, clause_result_or, result_or, first_result, result_of}
 use Rattle.match_spec.specs.Variables.{variable}
 use Rattle.match_spec.proofs.BoolLaws.{both-true, clash, same_Some, None-Some}
 use Rattle.match_spec.proofs.ListLaws.{element_at_tree}
 
-pub alike-exact : (d e : Data) → alike d e ≡ true → d ≡ e
-alike-exact d e h = order_exact d e ((Equal-is (data_order d e)).0 h)
+pub equal_terms-exact : (d e : Data) → equal_terms d e ≡ true → d ≡ e
+equal_terms-exact d e h = order_exact d e ((Equal-is (data_order d e)).0 h)
 
 module _ (b : ℕ → Option Data) where
   named : (a : List ℕ) (t : Data) (any : Bool) (o : Option ℕ) → (not any && not (is_some o)) ≡ true → (any || name_matches b a o t) ≡ true → atom a ≡ t
   named a t true o g h = cc
-  named a t false None g h = alike-exact (atom a) t h
+  named a t false None g h = equal_terms-exact (atom a) t h
   named a t false (Some n) g h = cc
 
   mutual
@@ -33,7 +33,7 @@ module _ (b : ℕ → Option Data) where
     ground-alone (atom a) t g h = named a t (bytes_eq a (codes "_")) (variable a) g h
     ground-alone (tuple ps) (tuple ts) g h = ap tuple (grounds-alone ps ts g h)
     ground-alone (list ps) (list ts) g h = ap list (grounds-alone ps ts g h)
-    ground-alone p t g h = alike-exact p t h
+    ground-alone p t g h = equal_terms-exact p t h
 
     grounds-alone : (ps ts : Row) → are_ground ps ≡ true → row_matches b ps ts ≡ true → ps ≡ ts
     grounds-alone no_terms no_terms g h = refl
@@ -81,7 +81,7 @@ module _ (keypos : ℕ) where
       by (suc i) (list n) t h e = absurd (None-Some e)
       by (suc i) (binary n) t h e = absurd (None-Some e)
 
-  matched : (p t : Data) (c : Bool) → is_some (if c then Some (candidates p t) else None) ≡ true → c ≡ true
+  matched : (p t : Data) (c : Bool) → is_some (if c then Some (occurrences p t) else None) ≡ true → c ≡ true
   matched p t true h = refl
   matched p t false h = h
 
@@ -107,13 +107,13 @@ module _ (keypos : ℕ) where
     clause_has None rest e f h = absurd (None-Some e)
     clause_has (Some c) rest e f h = by (bindings_of c.head t) refl h
       where
-        by : (o : Option Bindings) → bindings_of c.head t ≡ o → is_some (counted_or o t c rest) ≡ true → Has
+        by : (o : Option Bindings) → bindings_of c.head t ≡ o → is_some (clause_result_or o t c rest) ≡ true → Has
         by None q i = f i
         by (Some b) q i = match_key c.head t k e (ap is_some q)
 
-    same_key : (o : Option Data) → option_map_or (alike k) o false ≡ true → o ≡ Some k
+    same_key : (o : Option Data) → option_map_or (equal_terms k) o false ≡ true → o ≡ Some k
     same_key None h = absurd (clash h refl)
-    same_key (Some d) h = ap Some (sym (alike-exact k d h))
+    same_key (Some d) h = ap Some (sym (equal_terms-exact k d h))
 
     clauses_have : (cs : Row) → all_bind keypos k cs ≡ true → is_some (first_result cs t) ≡ true → Has
     clauses_have no_terms a h = absurd (clash h refl)

@@ -8,7 +8,7 @@ pub mod ListLaws
 pub mod MatchLaws
 pub mod NumberLaws
 pub mod PartLaws
-pub mod PlaceLaws
+pub mod PathLaws
 pub mod SpecLaws
 pub mod TreeLaws
 pub mod ValueLaws

@@ -4,14 +4,14 @@ use Rattle.std.proofs.lemmas.Slice.Eq.{bytes_eq-Decides}
 use Rattle.std.specs.Option.{option_map, option_or}
 use Rattle.std.specs.Str.{bytes_eq}
 use Rattle.ets_term.specs.Data.{Data, int, atom, pid, tid, tuple, list, binary, Row, no_terms, term}
-use Rattle.match_spec.specs.Patterns.{Bindings, binding, Match, matches, row_matches, name_matches, is_just, candidates, bindings_of, values, IsBindings}
+use Rattle.match_spec.specs.Patterns.{Bindings, binding, Match, matches, row_matches, name_matches, is_bound_to, occurrences, bindings_of, values, IsBindings}
 use Rattle.match_spec.specs.laws.Bindings.{AreTheBindings}
-use Rattle.match_spec.specs.Places.{Place, at, parts, element_or, place_of, place_from, is_number, value_at}
-use Rattle.match_spec.specs.Variables.{numbers_in, numbers, row_numbers, variable, variables}
+use Rattle.match_spec.specs.Paths.{Path, subterm_at, parts, element_or, path_of, path_from, is_number, value_at}
+use Rattle.match_spec.specs.Variables.{numbers_in, variable_numbers, row_variable_numbers, variable, variables}
 use Rattle.match_spec.proofs.BoolLaws.{both-true, or-left, or-right, or-cases, clash, same_Some, None-Some}
 use Rattle.match_spec.proofs.NumberLaws.{has, has-append, has-fold, same_number, itself, Rising, fold-rising, above-apart, above-rising}
-use Rattle.match_spec.proofs.PlaceLaws.{found}
-use Rattle.match_spec.proofs.KeyLaws.{alike-exact}
+use Rattle.match_spec.proofs.PathLaws.{found}
+use Rattle.match_spec.proofs.KeyLaws.{equal_terms-exact}
 
 unnumbered : (n : ℕ) → variable (codes "_") ≡ Some n → ⊥
 unnumbered n h = cc
@@ -24,56 +24,56 @@ no_underscore a n h = by (bytes_eq a (codes "_")) refl
     by false e = refl
 
 module _ (b : ℕ → Option Data) (n : ℕ) where
-  just : (o : Option Data) (t : Data) → is_just o t ≡ true → o ≡ Some t
+  just : (o : Option Data) (t : Data) → is_bound_to o t ≡ true → o ≡ Some t
   just None t h = cc
-  just (Some u) t h = ap Some (alike-exact u t h)
+  just (Some u) t h = ap Some (equal_terms-exact u t h)
 
-  here : (a : List ℕ) (t : Data) (o : Option ℕ) (place : Place) → variable a ≡ o → (if is_number n o then Some [] else None) ≡ Some place → (bytes_eq a (codes "_") || name_matches b a o t) ≡ true → b n ≡ Some (at place t)
-  here a t None place v p h = cc
-  here a t (Some m) place v p h = by (n == m) refl p
+  here : (a : List ℕ) (t : Data) (o : Option ℕ) (path : Path) → variable a ≡ o → (if is_number n o then Some [] else None) ≡ Some path → (bytes_eq a (codes "_") || name_matches b a o t) ≡ true → b n ≡ Some (subterm_at path t)
+  here a t None path v p h = cc
+  here a t (Some m) path v p h = by (n == m) refl p
     where
-      by : (c : Bool) → (n == m) ≡ c → (if c then Some [] else None) ≡ Some place → b n ≡ Some (at place t)
+      by : (c : Bool) → (n == m) ≡ c → (if c then Some [] else None) ≡ Some path → b n ≡ Some (subterm_at path t)
       by true e q =
-          ap b (same_number n m e) ∙ just (b m) t (rw (no_underscore a m v) at h) ∙ ap (λ (w : Place). Some (at w t)) (same_Some q)
+          ap b (same_number n m e) ∙ just (b m) t (rw (no_underscore a m v) at h) ∙ ap (λ (w : Path). Some (subterm_at w t)) (same_Some q)
       by false e q = cc
 
   mutual
-    pub follow : (p t : Data) (place : Place) → place_of n p ≡ Some place → matches b p t ≡ true → b n ≡ Some (at place t)
-    follow (atom a) t place e h = here a t (variable a) place refl e h
-    follow (tuple ps) (tuple ts) place e h = follow_row ps ts (tuple ts) 0 place e h (λ j. rw zero-add refl)
-    follow (list ps) (list ts) place e h = follow_row ps ts (list ts) 0 place e h (λ j. rw zero-add refl)
-    follow (tuple ps) (int x) place e h = cc
-    follow (tuple ps) (atom x) place e h = cc
-    follow (tuple ps) (pid x) place e h = cc
-    follow (tuple ps) (tid x) place e h = cc
-    follow (tuple ps) (list x) place e h = cc
-    follow (tuple ps) (binary x) place e h = cc
-    follow (list ps) (int x) place e h = cc
-    follow (list ps) (atom x) place e h = cc
-    follow (list ps) (pid x) place e h = cc
-    follow (list ps) (tid x) place e h = cc
-    follow (list ps) (tuple x) place e h = cc
-    follow (list ps) (binary x) place e h = cc
-    follow (int x) t place e h = cc
-    follow (pid x) t place e h = cc
-    follow (tid x) t place e h = cc
-    follow (binary x) t place e h = cc
+    pub follow : (p t : Data) (path : Path) → path_of n p ≡ Some path → matches b p t ≡ true → b n ≡ Some (subterm_at path t)
+    follow (atom a) t path e h = here a t (variable a) path refl e h
+    follow (tuple ps) (tuple ts) path e h = follow_row ps ts (tuple ts) 0 path e h (λ j. rw zero-add refl)
+    follow (list ps) (list ts) path e h = follow_row ps ts (list ts) 0 path e h (λ j. rw zero-add refl)
+    follow (tuple ps) (int x) path e h = cc
+    follow (tuple ps) (atom x) path e h = cc
+    follow (tuple ps) (pid x) path e h = cc
+    follow (tuple ps) (tid x) path e h = cc
+    follow (tuple ps) (list x) path e h = cc
+    follow (tuple ps) (binary x) path e h = cc
+    follow (list ps) (int x) path e h = cc
+    follow (list ps) (atom x) path e h = cc
+    follow (list ps) (pid x) path e h = cc
+    follow (list ps) (tid x) path e h = cc
+    follow (list ps) (tuple x) path e h = cc
+    follow (list ps) (binary x) path e h = cc
+    follow (int x) t path e h = cc
+    follow (pid x) t path e h = cc
+    follow (tid x) t path e h = cc
+    follow (binary x) t path e h = cc
 
-    follow_row : (ps ts : Row) (whole : Data) (i : ℕ) (place : Place) → place_from n i ps ≡ Some place → row_matches b ps ts ≡ true
-        → ((j : ℕ) → element_or (parts whole) (i + j) whole ≡ element_or ts j whole) → b n ≡ Some (at place whole)
-    follow_row no_terms ts whole i place e h elements = cc
-    follow_row (term p ps) no_terms whole i place e h elements = cc
-    follow_row (term p ps) (term t ts) whole i place e h elements =
+    follow_row : (ps ts : Row) (whole : Data) (i : ℕ) (path : Path) → path_from n i ps ≡ Some path → row_matches b ps ts ≡ true
+        → ((j : ℕ) → element_or (parts whole) (i + j) whole ≡ element_or ts j whole) → b n ≡ Some (subterm_at path whole)
+    follow_row no_terms ts whole i path e h elements = cc
+    follow_row (term p ps) no_terms whole i path e h elements = cc
+    follow_row (term p ps) (term t ts) whole i path e h elements =
         let both = both-true _ _ h in
-        either (place_of n p) refl e
-        (λ inner is. follow p t inner is both.0 ∙ ap (λ d. Some (at inner d)) (sym (rw add-zero at (elements 0))))
-        (λ rest. follow_row ps ts whole (suc i) place rest both.1 (λ j. subst (λ m. element_or (parts whole) m whole ≡ element_or ts j whole) (omega arith) (elements (suc j))))
+        either (path_of n p) refl e
+        (λ inner is. follow p t inner is both.0 ∙ ap (λ d. Some (subterm_at inner d)) (sym (rw add-zero at (elements 0))))
+        (λ rest. follow_row ps ts whole (suc i) path rest both.1 (λ j. subst (λ m. element_or (parts whole) m whole ≡ element_or ts j whole) (omega arith) (elements (suc j))))
       where
-        either : (o : Option Place) → place_of n p ≡ o → option_or (option_map (λ q. i ∷ q) o) (place_from n (suc i) ps) ≡ Some place
-            → ((inner : Place) → place_of n p ≡ Some inner → b n ≡ Some (at inner (element_or (parts whole) i whole)))
-            → (place_from n (suc i) ps ≡ Some place → b n ≡ Some (at place whole)) → b n ≡ Some (at place whole)
+        either : (o : Option Path) → path_of n p ≡ o → option_or (option_map (λ q. i ∷ q) o) (path_from n (suc i) ps) ≡ Some path
+            → ((inner : Path) → path_of n p ≡ Some inner → b n ≡ Some (subterm_at inner (element_or (parts whole) i whole)))
+            → (path_from n (suc i) ps ≡ Some path → b n ≡ Some (subterm_at path whole)) → b n ≡ Some (subterm_at path whole)
         either None o-is q in_first in_rest = in_rest q
-        either (Some inner) o-is q in_first in_rest = in_first inner o-is ∙ ap (λ (w : Place). Some (at w whole)) (same_Some q)
+        either (Some inner) o-is q in_first in_rest = in_first inner o-is ∙ ap (λ (w : Path). Some (subterm_at w whole)) (same_Some q)
 
 -- two ways to bind that agree on the variables of a pattern match alike
 module _ (f g : ℕ → Option Data) where
@@ -88,26 +88,26 @@ module _ (f g : ℕ → Option Data) where
 
   alike_names : (a : List ℕ) (t : Data) (o : Option ℕ) → Agree (numbers_in o) → name_matches f a o t ≡ name_matches g a o t
   alike_names a t None h = refl
-  alike_names a t (Some n) h = ap (λ u. is_just u t) (h n (or-left _ _ (itself n)))
+  alike_names a t (Some n) h = ap (λ u. is_bound_to u t) (h n (or-left _ _ (itself n)))
 
   mutual
-    pub matches_alike : (p t : Data) → Agree (numbers p) → matches f p t ≡ matches g p t
+    pub matches_alike : (p t : Data) → Agree (variable_numbers p) → matches f p t ≡ matches g p t
     matches_alike (atom a) t h = ap (λ c. bytes_eq a (codes "_") || c) (alike_names a t (variable a) h)
     matches_alike (tuple ps) (tuple ts) h = rows_alike ps ts h
     matches_alike (list ps) (list ts) h = rows_alike ps ts h
     matches_alike p t h = refl
 
-    rows_alike : (ps ts : Row) → Agree (row_numbers ps) → row_matches f ps ts ≡ row_matches g ps ts
+    rows_alike : (ps ts : Row) → Agree (row_variable_numbers ps) → row_matches f ps ts ≡ row_matches g ps ts
     rows_alike no_terms ts h = refl
     rows_alike (term p ps) no_terms h = refl
-    rows_alike (term p ps) (term t ts) h = λ i. matches_alike p t (first_part (numbers p) (row_numbers ps) h) i && rows_alike ps ts (second_part (numbers p) (row_numbers ps) h) i
+    rows_alike (term p ps) (term t ts) h = λ i. matches_alike p t (first_part (variable_numbers p) (row_variable_numbers ps) h) i && rows_alike ps ts (second_part (variable_numbers p) (row_variable_numbers ps) h) i
 
 -- the variables of a pattern are its numbers
-has-variables : (p : Data) (n : ℕ) → has (numbers p) n ≡ true → has (variables p) n ≡ true
-has-variables p n h = has-fold (numbers p) [] n ∙ or-left _ _ h
+has-variables : (p : Data) (n : ℕ) → has (variable_numbers p) n ≡ true → has (variables p) n ≡ true
+has-variables p n h = has-fold (variable_numbers p) [] n ∙ or-left _ _ h
 
-pub has-numbers : (p : Data) (n : ℕ) → has (variables p) n ≡ true → has (numbers p) n ≡ true
-has-numbers p n h = drop_false _ (sym (has-fold (numbers p) [] n) ∙ h)
+pub has-variable_numbers : (p : Data) (n : ℕ) → has (variables p) n ≡ true → has (variable_numbers p) n ≡ true
+has-variable_numbers p n h = drop_false _ (sym (has-fold (variable_numbers p) [] n) ∙ h)
   where
     drop_false : (a : Bool) → (a || false) ≡ true → a ≡ true
     drop_false true e = refl
@@ -123,16 +123,16 @@ some-map f None = refl
 some-map f (Some x) = refl
 
 module _ (n : ℕ) where
-  name_placed : (o : Option ℕ) → has (numbers_in o) n ≡ true → is_some {T = Place} (if is_number n o then Some [] else None) ≡ true
+  name_placed : (o : Option ℕ) → has (numbers_in o) n ≡ true → is_some {T = Path} (if is_number n o then Some [] else None) ≡ true
   name_placed None h = h
   name_placed (Some m) h = by (n == m) h
     where
-      by : (c : Bool) → (c || false) ≡ true → is_some {T = Place} (if c then Some [] else None) ≡ true
+      by : (c : Bool) → (c || false) ≡ true → is_some {T = Path} (if c then Some [] else None) ≡ true
       by true e = refl
       by false e = e
 
   mutual
-    pub placed : (p : Data) → has (numbers p) n ≡ true → is_some (place_of n p) ≡ true
+    pub placed : (p : Data) → has (variable_numbers p) n ≡ true → is_some (path_of n p) ≡ true
     placed (atom a) h = name_placed (variable a) h
     placed (tuple ps) h = row_placed 0 ps h
     placed (list ps) h = row_placed 0 ps h
@@ -141,11 +141,11 @@ module _ (n : ℕ) where
     placed (tid x) h = h
     placed (binary x) h = h
 
-    row_placed : (i : ℕ) (ps : Row) → has (row_numbers ps) n ≡ true → is_some (place_from n i ps) ≡ true
+    row_placed : (i : ℕ) (ps : Row) → has (row_variable_numbers ps) n ≡ true → is_some (path_from n i ps) ≡ true
     row_placed i no_terms h = h
     row_placed i (term p ps) h =
-        some-or (option_map (λ q. i ∷ q) (place_of n p)) (place_from n (suc i) ps)
-        (or-cases _ _ _ _ (sym (has-append (numbers p) (row_numbers ps) n) ∙ h) (λ e. some-map (λ q. i ∷ q) (place_of n p) ∙ placed p e) (row_placed (suc i) ps))
+        some-or (option_map (λ q. i ∷ q) (path_of n p)) (path_from n (suc i) ps)
+        (or-cases _ _ _ _ (sym (has-append (variable_numbers p) (row_variable_numbers ps) n) ∙ h) (λ e. some-map (λ q. i ∷ q) (path_of n p) ∙ placed p e) (row_placed (suc i) ps))
 
 found_value : (pattern t : Data) (n : ℕ) (ns : List ℕ) → has ns n ≡ true → binding (map (λ m. (m, value_at pattern t m)) ns) n ≡ Some (value_at pattern t n)
 found_value pattern t n ns h = found pattern t n ns h
@@ -158,20 +158,20 @@ bindings_of-sound pattern t b h = by (matches (λ n. Some (value_at pattern t n)
     keys [] = refl
     keys (n ∷ ns) = ap (λ ms. n ∷ ms) (keys ns)
 
-    by : (c : Bool) → matches (λ n. Some (value_at pattern t n)) pattern t ≡ c → (if c then Some (candidates pattern t) else None) ≡ Some b → Match pattern t b
+    by : (c : Bool) → matches (λ n. Some (value_at pattern t n)) pattern t ≡ c → (if c then Some (occurrences pattern t) else None) ≡ Some b → Match pattern t b
     by false e q = cc
     by true e q = subst (Match pattern t) (same_Some q) (record {
       fits = matches_alike _ _ pattern t (λ n m. found_value pattern t n (variables pattern) (has-variables pattern n m)) ∙ e;
-      its = keys (variables pattern);
+      bound = keys (variables pattern);
     })
 
 -- where a term matches by some bindings, the function gives some
-pub bindings_of-complete : (pattern t : Data) (b : Bindings) → Match pattern t b → bindings_of pattern t ≡ Some (candidates pattern t)
-bindings_of-complete pattern t b m = rw (matches_alike (λ n. Some (value_at pattern t n)) (binding b) pattern t (λ n h. stands n (place_of n pattern) refl (placed n pattern h)) ∙ m.fits) refl
+pub bindings_of-complete : (pattern t : Data) (b : Bindings) → Match pattern t b → bindings_of pattern t ≡ Some (occurrences pattern t)
+bindings_of-complete pattern t b m = rw (matches_alike (λ n. Some (value_at pattern t n)) (binding b) pattern t (λ n h. stands n (path_of n pattern) refl (placed n pattern h)) ∙ m.fits) refl
   where
-    stands : (n : ℕ) (o : Option Place) → place_of n pattern ≡ o → is_some o ≡ true → Some (value_at pattern t n) ≡ binding b n
+    stands : (n : ℕ) (o : Option Path) → path_of n pattern ≡ o → is_some o ≡ true → Some (value_at pattern t n) ≡ binding b n
     stands n None e h = cc
-    stands n (Some place) e h = ap (λ (w : Option Place). Some (at (unwrap_or w []) t)) e ∙ sym (follow (binding b) n pattern t place e m.fits)
+    stands n (Some path) e h = ap (λ (w : Option Path). Some (subterm_at (unwrap_or w []) t)) e ∙ sym (follow (binding b) n pattern t path e m.fits)
 
 module _ (v : ℕ → Data) where
   -- bindings whose numbers rise are what they bind
@@ -190,15 +190,15 @@ module _ (v : ℕ → Data) where
           by false q = rw q at (h n (or-right _ _ e))
 
 -- by whatever bindings a term matches, they are those
-pub bindings_of-only : (pattern t : Data) (b : Bindings) → Match pattern t b → b ≡ candidates pattern t
+pub bindings_of-only : (pattern t : Data) (b : Bindings) → Match pattern t b → b ≡ occurrences pattern t
 bindings_of-only pattern t b m =
-    rebuilt (value_at pattern t) b (subst Rising (sym m.its) (fold-rising (numbers pattern) [] tt))
-    (λ n e. sym (stands n (place_of n pattern) refl (placed n pattern (has-numbers pattern n (subst (λ ns. has ns n ≡ true) m.its e)))))
-    ∙ ap (map (λ n. (n, value_at pattern t n))) m.its
+    rebuilt (value_at pattern t) b (subst Rising (sym m.bound) (fold-rising (variable_numbers pattern) [] tt))
+    (λ n e. sym (stands n (path_of n pattern) refl (placed n pattern (has-variable_numbers pattern n (subst (λ ns. has ns n ≡ true) m.bound e)))))
+    ∙ ap (map (λ n. (n, value_at pattern t n))) m.bound
   where
-    stands : (n : ℕ) (o : Option Place) → place_of n pattern ≡ o → is_some o ≡ true → Some (value_at pattern t n) ≡ binding b n
+    stands : (n : ℕ) (o : Option Path) → path_of n pattern ≡ o → is_some o ≡ true → Some (value_at pattern t n) ≡ binding b n
     stands n None e h = cc
-    stands n (Some place) e h = ap (λ (w : Option Place). Some (at (unwrap_or w []) t)) e ∙ sym (follow (binding b) n pattern t place e m.fits)
+    stands n (Some path) e h = ap (λ (w : Option Path). Some (subterm_at (unwrap_or w []) t)) e ∙ sym (follow (binding b) n pattern t path e m.fits)
 
 pub are_the_bindings : (pattern t : Data) → AreTheBindings pattern t (bindings_of pattern t)
 are_the_bindings pattern t = by (bindings_of pattern t) refl

@@ -2,7 +2,7 @@
 use Rattle.std.proofs.Common.{◌≡◌, ℕ, zero, suc, ◌<◌, ◌≤◌, ◌&&◌, Bool, true, false, List, [], ◌∷◌, map, length, get_or, drop, None, refl, arith}
 use Rattle.ets_term.specs.declared.term.Term.{Term}
 use Rattle.ets_term.specs.Data.{Data, row_of, data_of}
-use Rattle.match_spec.specs.Places.{element_or, place_of, place_from}
+use Rattle.match_spec.specs.Paths.{element_or, path_of, path_from}
 use Rattle.match_spec.specs.inside.CompiledPatterns.{all_fit}
 
 pub element_or-get : (ts : List Term) (i : ℕ) (t : Term) (d : Data) → i < length ts → data_of (get_or ts i t) ≡ element_or (row_of (map data_of ts)) i d
@@ -27,8 +27,8 @@ all_fit-lengths (f ∷ fs) object [] h = refl
 all_fit-lengths (f ∷ fs) object (t ∷ ts) h = and_both (f object (data_of t)) _ (all_fit-lengths fs object ts (λ e. h (omega arith)))
 
 -- past a part without the variable
-pub place_from-next : (n : ℕ) (ts : List Term) (i k : ℕ) (t : Term) → i < length ts → place_of n (data_of (get_or ts i t)) ≡ None
-    → place_from n (suc k) (row_of (map data_of (drop (suc i) ts))) ≡ place_from n k (row_of (map data_of (drop i ts)))
-place_from-next n [] i k t h e = absurd (omega arith)
-place_from-next n (u ∷ us) zero k t h e = rw e refl
-place_from-next n (u ∷ us) (suc i) k t h e = place_from-next n us i k t (omega arith) e
+pub path_from-next : (n : ℕ) (ts : List Term) (i k : ℕ) (t : Term) → i < length ts → path_of n (data_of (get_or ts i t)) ≡ None
+    → path_from n (suc k) (row_of (map data_of (drop (suc i) ts))) ≡ path_from n k (row_of (map data_of (drop i ts)))
+path_from-next n [] i k t h e = absurd (omega arith)
+path_from-next n (u ∷ us) zero k t h e = rw e refl
+path_from-next n (u ∷ us) (suc i) k t h e = path_from-next n us i k t (omega arith) e

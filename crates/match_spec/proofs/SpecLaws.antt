@@ -9,69 +9,69 @@ use Rattle.ets_term.specs.laws.Exact.{data_of-List}
 use Rattle.ets_term.specs.Order.{row_len}
 use Rattle.match_spec.specs.declared.spec.check.ClauseParts.{ClauseParts}
 use Rattle.match_spec.specs.declared.spec.clause.Clause.{Clause}
-use Rattle.match_spec.specs.inside.CompiledClauses.{parts_seen, counts, hold_of, last_of, outcome_by, first_counted, clause_of, clause_else, clauses_from, clauses_of}
+use Rattle.match_spec.specs.inside.CompiledClauses.{raw_clause_of, applies, all_hold_of, last_value_of, body_value_by, result_of_first, clause_of, clause_else, clauses_from, clauses_of}
 use Rattle.match_spec.specs.inside.CompiledExpressions.{expression_value, expressions_of}
-use Rattle.match_spec.specs.inside.FirstPlaces.{FirstPlaces, numbers_of, places_of, first_of}
-use Rattle.match_spec.specs.Patterns.{matches, candidates, bindings_of}
-use Rattle.match_spec.specs.Places.{value_at}
-use Rattle.match_spec.specs.Specifications.{RawClause, clause_parts, is_good, is_good_by, is_clause, are_clauses, is_spec, hold, last_value, outcome, counted_or, result_or, first_result, result_of}
+use Rattle.match_spec.specs.inside.FirstPaths.{FirstPaths, numbers_of, paths_of, first_paths_of}
+use Rattle.match_spec.specs.Patterns.{matches, occurrences, bindings_of}
+use Rattle.match_spec.specs.Paths.{value_at}
+use Rattle.match_spec.specs.Specifications.{RawClause, clause_parts, is_good, is_good_by, is_clause, are_clauses, is_spec, all_hold, last_value, body_value, clause_result_or, result_or, first_result, result_of}
 use Rattle.match_spec.specs.Expressions.{are_expressions}
 use Rattle.match_spec.specs.Variables.{variables}
 use Rattle.match_spec.proofs.BoolLaws.{both-true}
 use Rattle.match_spec.proofs.CompiledLaws.{compiled}
 use Rattle.match_spec.proofs.FitLaws.{fits-pattern}
-use Rattle.match_spec.proofs.PlaceLaws.{numbers_of-first}
+use Rattle.match_spec.proofs.PathLaws.{numbers_of-first}
 
 module _ (head object : Data) where
-  hold_compiled : (es : Row) → are_expressions (variables head) es ≡ true → hold_of (map (expression_value (places_of (first_of head))) (expressions_of (first_of head) es)) object ≡ hold (candidates head object) object es
+  hold_compiled : (es : Row) → are_expressions (variables head) es ≡ true → all_hold_of (map (expression_value (paths_of (first_paths_of head))) (expressions_of (first_paths_of head) es)) object ≡ all_hold (occurrences head object) object es
   hold_compiled no_terms h = refl
   hold_compiled (term e es) h = let p = both-true _ _ h in rw (compiled head object e p.0, hold_compiled es p.1) refl
 
-  last_compiled : (es : Row) → are_expressions (variables head) es ≡ true → last_of (map (expression_value (places_of (first_of head))) (expressions_of (first_of head) es)) object ≡ last_value (candidates head object) object es
+  last_compiled : (es : Row) → are_expressions (variables head) es ≡ true → last_value_of (map (expression_value (paths_of (first_paths_of head))) (expressions_of (first_paths_of head) es)) object ≡ last_value (occurrences head object) object es
   last_compiled no_terms h = refl
   last_compiled (term e no_terms) h = let p = both-true _ _ h in compiled head object e p.0
   last_compiled (term e (term x es)) h = let p = both-true _ _ h in rw (compiled head object e p.0, last_compiled (term x es) p.1) refl
 
 module _ (object : Data) where
-  clause_result : (c : RawClause) (cs : List Clause) (rest : Option Data) → is_good c ≡ true → first_counted cs object ≡ rest → first_counted (clause_of c ∷ cs) object ≡ counted_or (bindings_of c.head object) object c rest
+  clause_result : (c : RawClause) (cs : List Clause) (rest : Option Data) → is_good c ≡ true → result_of_first cs object ≡ rest → result_of_first (clause_of c ∷ cs) object ≡ clause_result_or (bindings_of c.head object) object c rest
   clause_result c cs rest good e =
       let p = both-true _ _ (both-true _ _ good).1 in
       rw (fits-pattern c.head object, hold_compiled c.head object c.conditions p.0, last_compiled c.head object c.body p.1, e) (by (matches (λ n. Some (value_at c.head object n)) c.head object))
     where
-      by : (m : Bool) → (if m && hold (candidates c.head object) object c.conditions then Some (outcome (candidates c.head object) object c.body) else rest)
-          ≡ counted_or (if m then Some (candidates c.head object) else None) object c rest
+      by : (m : Bool) → (if m && all_hold (occurrences c.head object) object c.conditions then Some (body_value (occurrences c.head object) object c.body) else rest)
+          ≡ clause_result_or (if m then Some (occurrences c.head object) else None) object c rest
       by true = refl
       by false = refl
 
-  clause_else_result : (o : Option RawClause) (cs : List Clause) (rest : Option Data) → option_map_or is_good o false ≡ true → first_counted cs object ≡ rest → first_counted (clause_else o cs) object ≡ result_or o object rest
+  clause_else_result : (o : Option RawClause) (cs : List Clause) (rest : Option Data) → option_map_or is_good o false ≡ true → result_of_first cs object ≡ rest → result_of_first (clause_else o cs) object ≡ result_or o object rest
   clause_else_result None cs rest good e = e
   clause_else_result (Some c) cs rest good e = clause_result c cs rest good e
 
-  from : (cs : Row) → are_clauses cs ≡ true → first_counted (clauses_from cs) object ≡ first_result cs object
+  from : (cs : Row) → are_clauses cs ≡ true → result_of_first (clauses_from cs) object ≡ first_result cs object
   from no_terms h = refl
   from (term c cs) h = let p = both-true _ _ h in clause_else_result (clause_parts c) (clauses_from cs) (first_result cs object) p.0 (from cs p.1)
 
-  pub first_counted-spec : (spec : Data) → is_spec spec ≡ true → first_counted (clauses_of spec) object ≡ result_of spec object
-  first_counted-spec (list cs) h = from cs (both-true _ _ h).1
-  first_counted-spec (int n) h = refl
-  first_counted-spec (atom a) h = refl
-  first_counted-spec (pid n) h = refl
-  first_counted-spec (tid n) h = refl
-  first_counted-spec (tuple ds) h = refl
-  first_counted-spec (binary s) h = refl
+  pub result_of_first-spec : (spec : Data) → is_spec spec ≡ true → result_of_first (clauses_of spec) object ≡ result_of spec object
+  result_of_first-spec (list cs) h = from cs (both-true _ _ h).1
+  result_of_first-spec (int n) h = refl
+  result_of_first-spec (atom a) h = refl
+  result_of_first-spec (pid n) h = refl
+  result_of_first-spec (tid n) h = refl
+  result_of_first-spec (tuple ds) h = refl
+  result_of_first-spec (binary s) h = refl
 
 -- the clause that counts, and past one that does not
-pub first_counted-here : (cs : List Clause) (i : ℕ) (c : Clause) (object : Data) → i < length cs → get_or cs i c ≡ c → counts c object ≡ true
-    → first_counted (drop i cs) object ≡ Some (outcome_by c object)
-first_counted-here [] i c object h is e = absurd (omega arith)
-first_counted-here (a ∷ cs) zero c object h is e = rw (is, e) refl
-first_counted-here (a ∷ cs) (suc i) c object h is e = first_counted-here cs i c object (omega arith) is e
+pub result_of_first-here : (cs : List Clause) (i : ℕ) (c : Clause) (object : Data) → i < length cs → get_or cs i c ≡ c → applies c object ≡ true
+    → result_of_first (drop i cs) object ≡ Some (body_value_by c object)
+result_of_first-here [] i c object h is e = absurd (omega arith)
+result_of_first-here (a ∷ cs) zero c object h is e = rw (is, e) refl
+result_of_first-here (a ∷ cs) (suc i) c object h is e = result_of_first-here cs i c object (omega arith) is e
 
-pub first_counted-next : (cs : List Clause) (i : ℕ) (c : Clause) (object : Data) → i < length cs → get_or cs i c ≡ c → counts c object ≡ false
-    → first_counted (drop (suc i) cs) object ≡ first_counted (drop i cs) object
-first_counted-next [] i c object h is e = absurd (omega arith)
-first_counted-next (a ∷ cs) zero c object h is e = rw (is, e) refl
-first_counted-next (a ∷ cs) (suc i) c object h is e = first_counted-next cs i c object (omega arith) is e
+pub result_of_first-next : (cs : List Clause) (i : ℕ) (c : Clause) (object : Data) → i < length cs → get_or cs i c ≡ c → applies c object ≡ false
+    → result_of_first (drop (suc i) cs) object ≡ result_of_first (drop i cs) object
+result_of_first-next [] i c object h is e = absurd (omega arith)
+result_of_first-next (a ∷ cs) zero c object h is e = rw (is, e) refl
+result_of_first-next (a ∷ cs) (suc i) c object h is e = result_of_first-next cs i c object (omega arith) is e
 
 and_true : (a b : Bool) → a ≡ true → b ≡ true → (a && b) ≡ true
 and_true true b h i = i
@@ -89,8 +89,8 @@ pub clauses_of-list : (t : Term) (ts : List Term) → t ≡ Lst ts → clauses_f
 clauses_of-list t ts e = rw (e, data_of-List ts) refl
 
 -- a term is a clause where its parts are good
-pub is_clause-parts : (d : Data) (o : Option ClauseParts) (parts : ClauseParts) (first : FirstPlaces) (b : Bool) → option_map parts_seen o ≡ clause_parts d → o ≡ Some parts → first ≡ first_of (data_of parts.head.now)
-    → b ≡ is_good_by (numbers_of first) (parts_seen parts) → is_clause d ≡ b
+pub is_clause-parts : (d : Data) (o : Option ClauseParts) (parts : ClauseParts) (first : FirstPaths) (b : Bool) → option_map raw_clause_of o ≡ clause_parts d → o ≡ Some parts → first ≡ first_paths_of (data_of parts.head.now)
+    → b ≡ is_good_by (numbers_of first) (raw_clause_of parts) → is_clause d ≡ b
 is_clause-parts d o parts first b p q f e =
-    ap (λ (w : Option RawClause). option_map_or is_good w false) (sym p ∙ ap (option_map parts_seen) q)
-    ∙ sym (e ∙ ap (λ ns. is_good_by ns (parts_seen parts)) (ap numbers_of f ∙ numbers_of-first (data_of parts.head.now)))
+    ap (λ (w : Option RawClause). option_map_or is_good w false) (sym p ∙ ap (option_map raw_clause_of) q)
+    ∙ sym (e ∙ ap (λ ns. is_good_by ns (raw_clause_of parts)) (ap numbers_of f ∙ numbers_of-first (data_of parts.head.now)))

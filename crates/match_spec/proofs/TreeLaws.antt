@@ -7,7 +7,7 @@ use Rattle.ets_term.specs.declared.term.Term.TheVariants.{Int, Atom}
 use Rattle.ets_term.specs.Data.{Data, int, atom, pid, tid, tuple, list, binary, Row, no_terms, term, row_of, data_of}
 use Rattle.ets_term.specs.laws.Exact.{term_of, terms_of, data_of-Tuple, data_of-List}
 use Rattle.ets_term.specs.laws.Ordered.{order_total}
-use Rattle.match_spec.specs.Patterns.{alike}
+use Rattle.match_spec.specs.Patterns.{equal_terms}
 
 pub data_of-Atom : (a : List ℕ) → data_of (Atom a) ≡ atom a
 data_of-Atom a = search (rules, the_lemmas)
@@ -30,5 +30,5 @@ mutual
   row_of-terms_of (term d ds) = λ i. term (data_of-term_of d i) (row_of-terms_of ds i)
 
 -- a term is built like itself
-pub alike-refl : (d : Data) → alike d d ≡ true
-alike-refl d = (Equal-is _).1 (tied_itself order_total d)
+pub equal_terms-refl : (d : Data) → equal_terms d d ≡ true
+equal_terms-refl d = (Equal-is _).1 (tied_itself order_total d)

@@ -6,7 +6,7 @@ use Rattle.ets_term.specs.Data.{Data, atom, tuple, list, Row, no_terms, term, da
 use Rattle.ets_term.specs.Depth.{element_at}
 use Rattle.ets_term.specs.declared.term.Term.{Term}
 use Rattle.match_spec.specs.Functions.{tuple_element}
-use Rattle.match_spec.specs.Patterns.{alike, bindings_of}
+use Rattle.match_spec.specs.Patterns.{equal_terms, bindings_of}
 use Rattle.match_spec.specs.Specifications.{clause_parts, result_of}
 use Rattle.match_spec.specs.Variables.{variable}
 
@@ -32,7 +32,7 @@ clause_key keypos clause = option_and_then (λ parts. bound_key keypos parts.hea
 
 abbrev pub all_bind : ℕ → Data → Row → Bool
 all_bind keypos key no_terms = true
-all_bind keypos key (term c cs) = option_map_or (alike key) (clause_key keypos c) false && all_bind keypos key cs
+all_bind keypos key (term c cs) = option_map_or (equal_terms key) (clause_key keypos c) false && all_bind keypos key cs
 
 -- the key that the heads of all clauses bind
 abbrev pub spec_key : ℕ → Data → Option Data

@@ -5,8 +5,10 @@ use Rattle.std.specs.Option.{option_and_then}
 use Rattle.std.specs.Str.{bytes_eq}
 use Rattle.ets_term.specs.Data.{Data, atom, tuple, list, Row, no_terms, term, row_of}
 use Rattle.ets_term.specs.Order.{row_len}
+use Rattle.match_spec.specs.declared.expression.Connective.{Connective}
+use Rattle.match_spec.specs.declared.expression.Connective.TheVariants.{And, Or}
 use Rattle.match_spec.specs.Functions.{apply, boolean, truth}
-use Rattle.match_spec.specs.Names.{function_of, decides, stops_at, is_function}
+use Rattle.match_spec.specs.Names.{function_of, strict_connective, short_circuit_connective, is_function}
 use Rattle.match_spec.specs.Patterns.{Bindings, binding, values}
 use Rattle.match_spec.specs.Variables.{variable}
 
@@ -19,27 +21,31 @@ name_value b object a None =
     else if bytes_eq a (codes "$$") then Some (list (row_of (values b)))
     else Some (atom a)
 
-abbrev pub is_stop : Bool → Bool → Bool
-is_stop true x = x
-is_stop false true = false
-is_stop false false = true
+-- whether a connective is decided by one argument of this truth: `and` by false, `or` by true
+abbrev pub decides : Connective → Bool → Bool
+decides And x = not x
+decides Or x = x
 
--- one that decides is enough
-abbrev pub join : Bool → Bool → Bool → Bool
-join true x y = x || y
-join false x y = x && y
+-- what a connective of no arguments gives
+abbrev pub neutral : Connective → Bool
+neutral And = true
+neutral Or = false
+
+abbrev pub combine : Connective → Bool → Bool → Bool
+combine And x y = x && y
+combine Or x y = x || y
 
 -- the function with a name and a number of arguments, at the values of all arguments
-abbrev pub applied : List ℕ → ℕ → Option (List Data) → Option Data
-applied f n ds = option_and_then (λ g. option_and_then (apply g) ds) (function_of f n)
+abbrev pub call_value : List ℕ → ℕ → Option (List Data) → Option Data
+call_value f n ds = option_and_then (λ g. option_and_then (apply g) ds) (function_of f n)
 
-abbrev pub joined_or : Option Bool → (Bool → Option Bool) → Option Data → Option Data
-joined_or None joined otherwise = otherwise
-joined_or (Some decisive) joined otherwise = option_map truth (joined decisive)
+abbrev pub strict_or : Option Connective → (Connective → Option Bool) → Option Data → Option Data
+strict_or None value_by otherwise = otherwise
+strict_or (Some connective) value_by otherwise = option_map truth (value_by connective)
 
-abbrev pub decided_or : Option Bool → (Bool → Option Data) → Option Data → Option Data
-decided_or None decided otherwise = otherwise
-decided_or (Some stop) decided otherwise = decided stop
+abbrev pub short_circuit_or : Option Connective → (Connective → Option Data) → Option Data → Option Data
+short_circuit_or None value_by otherwise = otherwise
+short_circuit_or (Some connective) value_by otherwise = value_by connective
 
 -- `{const,T}` is T, which is not looked into
 abbrev pub constant_or : List ℕ → Row → Option Data → Option Data
@@ -53,9 +59,9 @@ abbrev mutual
   value b object (list es) = option_map (λ ds. list (row_of ds)) (all_values b object es)
   value b object (tuple (term (tuple es) no_terms)) = option_map (λ ds. tuple (row_of ds)) (all_values b object es)
   value b object (tuple (term (atom f) es)) =
-      constant_or f es (decided_or (stops_at f) (λ stop. decided b object stop es)
-      (joined_or (decides f) (λ decisive. joined b object decisive es)
-      (applied f (row_len es) (all_values b object es))))
+      constant_or f es (short_circuit_or (short_circuit_connective f) (λ connective. short_circuit_value b object connective es)
+      (strict_or (strict_connective f) (λ connective. strict_value b object connective es)
+      (call_value f (row_len es) (all_values b object es))))
   value b object (tuple es) = None
   value b object d = Some d
 
@@ -66,20 +72,20 @@ abbrev mutual
       option_and_then (λ d. option_map (λ ds. d ∷ ds) (all_values b object es)) (value b object e)
 
   -- `and` and `or`: whether one decides; all are evaluated, and each must be a boolean
-  pub joined : Bindings → Data → Bool → Row → Option Bool
-  joined b object decisive no_terms = Some (not decisive)
-  joined b object decisive (term e es) =
+  pub strict_value : Bindings → Data → Connective → Row → Option Bool
+  strict_value b object connective no_terms = Some (neutral connective)
+  strict_value b object connective (term e es) =
       option_and_then
-      (λ d. option_and_then (λ x. option_map (join decisive x) (joined b object decisive es)) (boolean d))
+      (λ d. option_and_then (λ x. option_map (combine connective x) (strict_value b object connective es)) (boolean d))
       (value b object e)
 
   -- `andalso` and `orelse`: from the left, up to the first boolean that decides; what is behind it is not evaluated
-  pub decided : Bindings → Data → Bool → Row → Option Data
-  decided b object stop no_terms = None
-  decided b object stop (term e no_terms) = option_and_then (λ d. option_map (λ x. d) (boolean d)) (value b object e)
-  decided b object stop (term e es) =
+  pub short_circuit_value : Bindings → Data → Connective → Row → Option Data
+  short_circuit_value b object connective no_terms = None
+  short_circuit_value b object connective (term e no_terms) = option_and_then (λ d. option_map (λ x. d) (boolean d)) (value b object e)
+  short_circuit_value b object connective (term e es) =
       option_and_then
-      (λ d. option_and_then (λ x. if is_stop stop x then Some d else decided b object stop es) (boolean d))
+      (λ d. option_and_then (λ x. if decides connective x then Some d else short_circuit_value b object connective es) (boolean d))
       (value b object e)
 
 abbrev pub is_constant : List ℕ → ℕ → Bool

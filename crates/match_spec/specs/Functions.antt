@@ -7,14 +7,14 @@ use Rattle.std.specs.Str.{bytes_eq}
 use Rattle.ets_term.specs.Data.{Data, int, atom, pid, tid, tuple, list, binary, Row, no_terms, term}
 use Rattle.ets_term.specs.Integers.{in_range}
 use Rattle.ets_term.specs.Order.{data_order, row_len}
-use Rattle.match_spec.specs.declared.expression.arithmetic.Operation.{Operation}
-use Rattle.match_spec.specs.declared.expression.arithmetic.Operation.TheVariants.{Add, Subtract, Multiply, Divide, Remainder}
-use Rattle.match_spec.specs.declared.expression.comparison.Comparison.{Comparison}
-use Rattle.match_spec.specs.declared.expression.comparison.Comparison.TheVariants.{Greater, GreaterOrEqual, Less, LessOrEqual, Equal, NotEqual}
+use Rattle.match_spec.specs.declared.expression.arithmetic.ArithmeticOp.{ArithmeticOp}
+use Rattle.match_spec.specs.declared.expression.arithmetic.ArithmeticOp.TheVariants.{Add, Subtract, Multiply, Divide, Remainder}
+use Rattle.match_spec.specs.declared.expression.comparison.ComparisonOp.{ComparisonOp}
+use Rattle.match_spec.specs.declared.expression.comparison.ComparisonOp.TheVariants.{Greater, GreaterOrEqual, Less, LessOrEqual, Equal, NotEqual}
 use Rattle.match_spec.specs.declared.expression.function.Function.{Function}
 use Rattle.match_spec.specs.declared.expression.function.Function.TheVariants.{Is, Not, Abs, Hd, Tl, Length, Size, Xor, Element, Calculate, Compare}
-use Rattle.match_spec.specs.declared.expression.guards.Kind.{Kind}
-use Rattle.match_spec.specs.declared.expression.guards.Kind.TheVariants.{Atom, Integer, List as AnyList, Tuple, Binary, Pid, Reference}
+use Rattle.match_spec.specs.declared.expression.guards.GuardKind.{GuardKind}
+use Rattle.match_spec.specs.declared.expression.guards.GuardKind.TheVariants.{Atom, Integer, List as AnyList, Tuple, Binary, Pid, Reference}
 
 abbrev pub truth : Bool → Data
 truth true = atom (codes "true")
@@ -27,7 +27,7 @@ boolean (atom a) =
 boolean d = None
 
 -- a table identifier is a reference
-abbrev pub is_kind : Kind → Data → Bool
+abbrev pub is_kind : GuardKind → Data → Bool
 is_kind Atom (atom a) = true
 is_kind Integer (int n) = true
 is_kind AnyList (list ds) = true
@@ -37,25 +37,25 @@ is_kind Pid (pid n) = true
 is_kind Reference (tid n) = true
 is_kind k d = false
 
-abbrev pub differ : Bool → Bool → Bool
-differ true b = not b
-differ false b = b
+abbrev pub xor : Bool → Bool → Bool
+xor true b = not b
+xor false b = b
 
 abbrev pub exclusive : Option Bool → Option Bool → Option Bool
-exclusive a b = option_and_then (λ x. option_map (differ x) b) a
+exclusive a b = option_and_then (λ x. option_map (xor x) b) a
 
 -- outside the range of integers there is none; a quotient is cut toward zero, and a remainder has the sign of the left
 -- operand; by zero there is neither
-abbrev pub calculate : Operation → ℤ → ℤ → Option ℤ
+abbrev pub calculate : ArithmeticOp → ℤ → ℤ → Option ℤ
 calculate Add m n = in_range (m +ℤ n)
 calculate Subtract m n = in_range (m -ℤ n)
 calculate Multiply m n = in_range (m *ℤ n)
 calculate Divide m n = if is_eq (int_cmp n (pos 0)) then None else in_range (int_div m n)
 calculate Remainder m n = if is_eq (int_cmp n (pos 0)) then None else in_range (int_rem m n)
 
-abbrev pub calculated : Operation → Data → Data → Option Data
-calculated op (int m) (int n) = option_map int (calculate op m n)
-calculated op d e = None
+abbrev pub eval_arithmetic : ArithmeticOp → Data → Data → Option Data
+eval_arithmetic op (int m) (int n) = option_map int (calculate op m n)
+eval_arithmetic op d e = None
 
 abbrev pub absolute : Data → Option Data
 absolute (int n) = option_map int (in_range (pos (unsigned_abs n)))
@@ -97,7 +97,7 @@ element (int (pos n)) d = tuple_element n d
 element n d = None
 
 -- whether two terms that stand in this order compare so
-abbrev pub compares : Comparison → Ordering → Bool
+abbrev pub compares : ComparisonOp → Ordering → Bool
 compares Greater o = is_gt o
 compares GreaterOrEqual o = is_ge o
 compares Less o = is_lt o
@@ -116,6 +116,6 @@ apply Length (d ∷ []) = list_length d
 apply Size (d ∷ []) = size d
 apply Xor (d ∷ e ∷ []) = option_map truth (exclusive (boolean d) (boolean e))
 apply Element (d ∷ e ∷ []) = element d e
-apply (Calculate op) (d ∷ e ∷ []) = calculated op d e
+apply (Calculate op) (d ∷ e ∷ []) = eval_arithmetic op d e
 apply (Compare c) (d ∷ e ∷ []) = Some (truth (compares c (data_order d e)))
 apply f ds = None

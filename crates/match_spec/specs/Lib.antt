@@ -3,7 +3,7 @@ pub mod Expressions
 pub mod Functions
 pub mod Names
 pub mod Patterns
-pub mod Places
+pub mod Paths
 pub mod Specifications
 pub mod Variables
 pub mod inside

@@ -1,17 +1,19 @@
 -- The names of functions (ERTS User's Guide, Match Specifications in Erlang).
 use Rattle.std.specs.Prelude.{ℕ, ◌==◌, ◌&&◌, ◌||◌, nat_lt, Bool, true, false, if◌then◌else◌, List, Option, Some, None, is_some, codes}
 use Rattle.std.specs.Str.{bytes_eq}
-use Rattle.match_spec.specs.declared.expression.arithmetic.Operation.{Operation}
-use Rattle.match_spec.specs.declared.expression.arithmetic.Operation.TheVariants.{Add, Subtract, Multiply, Divide, Remainder}
-use Rattle.match_spec.specs.declared.expression.comparison.Comparison.{Comparison}
-use Rattle.match_spec.specs.declared.expression.comparison.Comparison.TheVariants.{Greater, GreaterOrEqual, Less, LessOrEqual, Equal, NotEqual}
+use Rattle.match_spec.specs.declared.expression.Connective.{Connective}
+use Rattle.match_spec.specs.declared.expression.Connective.TheVariants.{And, Or}
+use Rattle.match_spec.specs.declared.expression.arithmetic.ArithmeticOp.{ArithmeticOp}
+use Rattle.match_spec.specs.declared.expression.arithmetic.ArithmeticOp.TheVariants.{Add, Subtract, Multiply, Divide, Remainder}
+use Rattle.match_spec.specs.declared.expression.comparison.ComparisonOp.{ComparisonOp}
+use Rattle.match_spec.specs.declared.expression.comparison.ComparisonOp.TheVariants.{Greater, GreaterOrEqual, Less, LessOrEqual, Equal, NotEqual}
 use Rattle.match_spec.specs.declared.expression.function.Function.{Function}
 use Rattle.match_spec.specs.declared.expression.function.Function.TheVariants.{Is, Not, Abs, Hd, Tl, Length, Size, Xor, Element, Calculate, Compare}
-use Rattle.match_spec.specs.declared.expression.guards.Kind.{Kind}
-use Rattle.match_spec.specs.declared.expression.guards.Kind.TheVariants.{Atom, Integer, List as AnyList, Tuple, Binary, Pid, Reference}
+use Rattle.match_spec.specs.declared.expression.guards.GuardKind.{GuardKind}
+use Rattle.match_spec.specs.declared.expression.guards.GuardKind.TheVariants.{Atom, Integer, List as AnyList, Tuple, Binary, Pid, Reference}
 
-abbrev pub kind_named : List ℕ → Option Kind
-kind_named f =
+abbrev pub guard_kind_of : List ℕ → Option GuardKind
+guard_kind_of f =
     if bytes_eq f (codes "is_atom") then Some Atom
     else if bytes_eq f (codes "is_integer") || bytes_eq f (codes "is_number") then Some Integer
     else if bytes_eq f (codes "is_list") then Some AnyList
@@ -21,8 +23,8 @@ kind_named f =
     else if bytes_eq f (codes "is_reference") then Some Reference
     else None
 
-abbrev pub operation_named : List ℕ → Option Operation
-operation_named f =
+abbrev pub arithmetic_op_of : List ℕ → Option ArithmeticOp
+arithmetic_op_of f =
     if bytes_eq f (codes "+") then Some Add
     else if bytes_eq f (codes "-") then Some Subtract
     else if bytes_eq f (codes "*") then Some Multiply
@@ -30,8 +32,8 @@ operation_named f =
     else if bytes_eq f (codes "rem") then Some Remainder
     else None
 
-abbrev pub comparison_named : List ℕ → Option Comparison
-comparison_named f =
+abbrev pub comparison_op_of : List ℕ → Option ComparisonOp
+comparison_op_of f =
     if bytes_eq f (codes ">") then Some Greater
     else if bytes_eq f (codes ">=") then Some GreaterOrEqual
     else if bytes_eq f (codes "<") then Some Less
@@ -40,20 +42,20 @@ comparison_named f =
     else if bytes_eq f (codes "=/=") || bytes_eq f (codes "/=") then Some NotEqual
     else None
 
-abbrev pub is_or : Option Kind → Option Function → Option Function
+abbrev pub is_or : Option GuardKind → Option Function → Option Function
 is_or None f = f
 is_or (Some k) f = Some (Is k)
 
-abbrev pub calculate_or : Option Operation → Option Function → Option Function
+abbrev pub calculate_or : Option ArithmeticOp → Option Function → Option Function
 calculate_or None f = f
 calculate_or (Some op) f = Some (Calculate op)
 
-abbrev pub compare_or : Option Comparison → Option Function → Option Function
+abbrev pub compare_or : Option ComparisonOp → Option Function → Option Function
 compare_or None f = f
 compare_or (Some c) f = Some (Compare c)
 
 abbrev pub one_argument : List ℕ → Option Function
-one_argument f = is_or (kind_named f) (
+one_argument f = is_or (guard_kind_of f) (
     if bytes_eq f (codes "not") then Some Not
     else if bytes_eq f (codes "abs") then Some Abs
     else if bytes_eq f (codes "hd") then Some Hd
@@ -63,7 +65,7 @@ one_argument f = is_or (kind_named f) (
     else None)
 
 abbrev pub two_arguments : List ℕ → Option Function
-two_arguments f = compare_or (comparison_named f) (calculate_or (operation_named f) (
+two_arguments f = compare_or (comparison_op_of f) (calculate_or (arithmetic_op_of f) (
     if bytes_eq f (codes "xor") then Some Xor
     else if bytes_eq f (codes "element") then Some Element
     else None))
@@ -76,14 +78,15 @@ function_of f n =
     else None
 
 -- what decides a connective that evaluates all: one `false` an `and`, one `true` an `or`
-abbrev pub decides : List ℕ → Option Bool
-decides f = if bytes_eq f (codes "and") then Some false else if bytes_eq f (codes "or") then Some true else None
+abbrev pub strict_connective : List ℕ → Option Connective
+strict_connective f =
+    if bytes_eq f (codes "and") then Some And else if bytes_eq f (codes "or") then Some Or else None
 
 -- where a connective stops that does not: `andalso` at `false`, `orelse` at `true`
-abbrev pub stops_at : List ℕ → Option Bool
-stops_at f =
-    if bytes_eq f (codes "andalso") then Some false else if bytes_eq f (codes "orelse") then Some true else None
+abbrev pub short_circuit_connective : List ℕ → Option Connective
+short_circuit_connective f =
+    if bytes_eq f (codes "andalso") then Some And else if bytes_eq f (codes "orelse") then Some Or else None
 
 -- whether there is such a function; the connectives take one argument or more
 abbrev pub is_function : List ℕ → ℕ → Bool
-is_function f n = ((is_some (stops_at f) || is_some (decides f)) && nat_lt 0 n) || is_some (function_of f n)
+is_function f n = ((is_some (short_circuit_connective f) || is_some (strict_connective f)) && nat_lt 0 n) || is_some (function_of f n)

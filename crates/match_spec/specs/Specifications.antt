@@ -52,9 +52,9 @@ is_true (atom a) = bytes_eq a (codes "true")
 is_true d = false
 
 -- whether all conditions give true; one that fails does not
-abbrev pub hold : Bindings → Data → Row → Bool
-hold b object no_terms = true
-hold b object (term c cs) = option_map_or is_true (value b object c) false && hold b object cs
+abbrev pub all_hold : Bindings → Data → Row → Bool
+all_hold b object no_terms = true
+all_hold b object (term c cs) = option_map_or is_true (value b object c) false && all_hold b object cs
 
 -- the value of the last expression, None where one fails
 abbrev pub last_value : Bindings → Data → Row → Option Data
@@ -63,17 +63,17 @@ last_value b object (term e no_terms) = value b object e
 last_value b object (term e es) = option_and_then (λ d. last_value b object es) (value b object e)
 
 -- the value of the last expression of a body, or `'EXIT'` if one of them fails
-abbrev pub outcome : Bindings → Data → Row → Data
-outcome b object body = unwrap_or (last_value b object body) (atom (codes "EXIT"))
+abbrev pub body_value : Bindings → Data → Row → Data
+body_value b object body = unwrap_or (last_value b object body) (atom (codes "EXIT"))
 
-abbrev pub counted_or : Option Bindings → Data → RawClause → Option Data → Option Data
-counted_or None object c otherwise = otherwise
-counted_or (Some b) object c otherwise =
-    if hold b object c.conditions then Some (outcome b object c.body) else otherwise
+abbrev pub clause_result_or : Option Bindings → Data → RawClause → Option Data → Option Data
+clause_result_or None object c otherwise = otherwise
+clause_result_or (Some b) object c otherwise =
+    if all_hold b object c.conditions then Some (body_value b object c.body) else otherwise
 
 abbrev pub result_or : Option RawClause → Data → Option Data → Option Data
 result_or None object otherwise = otherwise
-result_or (Some c) object otherwise = counted_or (bindings_of c.head object) object c otherwise
+result_or (Some c) object otherwise = clause_result_or (bindings_of c.head object) object c otherwise
 
 -- the first clause counts whose head matches and whose conditions hold
 abbrev pub first_result : Row → Data → Option Data

@@ -1,4 +1,4 @@
 pub mod CompiledClauses
 pub mod CompiledExpressions
 pub mod CompiledPatterns
-pub mod FirstPlaces
+pub mod FirstPaths

@@ -28,7 +28,7 @@ fn ground_or_none(key: &Term) -> Option<&Term>
 
 /// The key that the heads of all clauses bind.
 #[tactic(auto, using(crate::proofs::KeyLaws::key_of_first, crate::proofs::KeyLaws::key_of_no_first, crate::proofs::KeyLaws::key_of_nothing))]
-pub(crate) fn bound_by_all(clauses: &[Term], keypos: Position) -> Option<&Term>
+pub(crate) fn common_bound_key(clauses: &[Term], keypos: Position) -> Option<&Term>
     ensures { option_map data_of (option_copied result) ≡ spec_key keypos (list (row_of (map data_of clauses.now))) }
 {
     if clauses.is_empty() {

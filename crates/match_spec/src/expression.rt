@@ -11,7 +11,14 @@ pub(crate) mod lists;
 use crate::expression::function::Function;
 use ets_term::{Items, Term};
 
-/// An expression. A variable is its place in the object.
+/// A connective of booleans. One `false` decides `And`, and one `true` decides `Or`.
+#[derive(Clone, Copy)]
+pub(crate) enum Connective {
+    And,
+    Or,
+}
+
+/// A compiled expression. A variable is compiled to a path into the object.
 #[derive(Drop)]
 pub(crate) enum Expression {
     Constant(Term),
@@ -23,8 +30,8 @@ pub(crate) enum Expression {
     Tuple(Items<Expression>),
     List(Items<Expression>),
     Apply(Function, Items<Expression>),
-    /// `and`, which one false decides, and `or`, which one true decides.
-    Join(bool, Items<Expression>),
-    /// `andalso`, which stops at false, and `orelse`, which stops at true.
-    Decide(bool, Items<Expression>),
+    /// `and` and `or`, which evaluate all arguments.
+    Strict(Connective, Items<Expression>),
+    /// `andalso` and `orelse`, which stop at the first argument that decides.
+    ShortCircuit(Connective, Items<Expression>),
 }

@@ -7,13 +7,13 @@ ghost use Rattle.match_spec.specs.Specifications.{is_pattern};
 
 pub(crate) mod compile;
 pub(crate) mod part;
-pub(crate) mod place;
+pub(crate) mod path;
 
 use crate::bound_key::bound_part;
 use crate::fault::SpecFault;
 use crate::pattern::compile::part_of;
 use crate::pattern::part::{Part, fits};
-use crate::pattern::place::{copies_at, first_places, in_order};
+use crate::pattern::path::{clone_subterms, first_paths, paths_by_number};
 use ets_term::{Items, Position, Term};
 use std::alloc::{AllocError, Global};
 use std::marker::Model;
@@ -21,9 +21,9 @@ use std::marker::Model;
 /// A pattern. Contracts see it as the term that it was made from.
 #[derive(Drop)]
 pub struct Pattern {
-    whole: Term,
+    source: Term,
     part: Part,
-    places: Items<Items<usize>>,
+    paths: Items<Items<usize>>,
 }
 
 impl Model for Pattern {
@@ -36,9 +36,9 @@ impl Model for Pattern {
 
     ghost coded = { term.the_row.coded };
 
-    ghost view = { λ p. p.whole };
+    ghost view = { λ p. p.source };
 
-    ghost invariant = { λ p. IsCompiled (data_of p.whole) p.part p.places };
+    ghost invariant = { λ p. IsCompiled (data_of p.source) p.part p.paths };
 }
 
 impl Pattern {
@@ -50,23 +50,23 @@ impl Pattern {
         if !is_pattern(term) {
             return Err(SpecFault::Badarg);
         }
-        let first = first_places(alloc, term)?;
-        let mut here = Vec::new(alloc);
+        let first = first_paths(alloc, term)?;
+        let mut current_path = Vec::new(alloc);
         Ok(Pattern {
-            whole: term.try_clone(alloc)?,
-            part: part_of(alloc, term, &first, &mut here)?,
-            places: in_order(alloc, &first)?,
+            source: term.try_clone(alloc)?,
+            part: part_of(alloc, term, &first, &mut current_path)?,
+            paths: paths_by_number(alloc, &first)?,
         })
     }
 
     /// The values of its variables, in order of their numbers, by which the term matches it; None where it does not.
     pub fn bindings(&self, alloc: Global, term: &Term) -> Result<Option<Vec<Term>>, AllocError>
-        ensures places { IfOk result (λ found. option_map (λ v. map data_of v.items) found
+        ensures paths { IfOk result (λ found. option_map (λ v. map data_of v.items) found
             ≡ option_map values (bindings_of (data_of self.now) (data_of term.now))) }
         ensures matches { IfOk result (λ found. IsBindings (data_of self.now) (data_of term.now)
             (option_map (λ v. map data_of v.items) found)) }
     {
-        self.found(alloc, term)
+        self.find_bindings(alloc, term)
     }
 
     /// Whether the term matches it, without memory.
@@ -82,10 +82,10 @@ impl Pattern {
         ensures { IfOk result (λ v. Some (map data_of v.items)
             ≡ option_map values (bindings_of (data_of self.now) (data_of term.now))) }
     {
-        copies_at(alloc, self.places.as_slice(), term)
+        clone_subterms(alloc, self.paths.as_slice(), term)
     }
 
-    fn found(&self, alloc: Global, term: &Term) -> Result<Option<Vec<Term>>, AllocError>
+    fn find_bindings(&self, alloc: Global, term: &Term) -> Result<Option<Vec<Term>>, AllocError>
         ensures { IfOk result (λ found. option_map (λ v. map data_of v.items) found
             ≡ option_map values (bindings_of (data_of self.now) (data_of term.now))) }
     {
@@ -101,7 +101,7 @@ impl Pattern {
         ensures key { option_map data_of (option_copied result) ≡ bound_key keypos (data_of self.now) }
         ensures every { IfSome result (λ key. IsKeyOfMatches keypos (data_of self.now) key.now) }
     {
-        bound_part(&self.whole, keypos)
+        bound_part(&self.source, keypos)
     }
 }
 

@@ -3,20 +3,20 @@ ghost use Rattle.std.specs.Option.{option_map, option_map_or};
 ghost use Rattle.ets_term.specs.Data.{list, data_of, row_of};
 ghost use Rattle.match_spec.specs.BoundKeys.{spec_key, IsKeyOfResults};
 ghost use Rattle.match_spec.specs.Specifications.{is_true, is_spec, is_clause, are_clauses, is_good, result_of};
-ghost use Rattle.match_spec.specs.inside.CompiledClauses.{clauses_of, clauses_from, clause_of, clause_by, parts_seen};
-ghost use Rattle.match_spec.specs.inside.FirstPlaces.{first_of};
+ghost use Rattle.match_spec.specs.inside.CompiledClauses.{clauses_of, clauses_from, clause_of, clause_with, raw_clause_of};
+ghost use Rattle.match_spec.specs.inside.FirstPaths.{first_paths_of};
 
 pub(crate) mod check;
 pub(crate) mod clause;
 pub(crate) mod conditions;
 
-use crate::bound_key::bound_by_all;
+use crate::bound_key::common_bound_key;
 use crate::expression::compile::expressions_of;
 use crate::fault::SpecFault;
 use crate::pattern::compile::part_of;
-use crate::pattern::place::{FirstPlaces, first_places, in_order};
+use crate::pattern::path::{FirstPaths, first_paths, paths_by_number};
 use crate::spec::check::{ClauseParts, clause_parts, is_good};
-use crate::spec::clause::{Clause, first_counted, first_is_true};
+use crate::spec::clause::{Clause, first_result_is_true, result_of_first};
 use ets_term::{Items, Position, Term};
 use std::alloc::{AllocError, Global};
 use std::marker::Model;
@@ -24,7 +24,7 @@ use std::marker::Model;
 /// A match specification. Contracts see it as the term that it was made from.
 #[derive(Drop)]
 pub struct Spec {
-    whole: Term,
+    source: Term,
     clauses: Items<Clause>,
 }
 
@@ -38,9 +38,9 @@ impl Model for Spec {
 
     ghost coded = { term.the_row.coded };
 
-    ghost view = { λ s. s.whole };
+    ghost view = { λ s. s.source };
 
-    ghost invariant = { λ s. IsCompiledSpec (data_of s.whole) s.clauses };
+    ghost invariant = { λ s. IsCompiledSpec (data_of s.source) s.clauses };
 }
 
 impl Spec {
@@ -58,7 +58,7 @@ impl Spec {
         }
         let clauses = clauses_of(alloc, terms.as_slice())?;
         Ok(Spec {
-            whole: term.try_clone(alloc)?,
+            source: term.try_clone(alloc)?,
             clauses,
         })
     }
@@ -67,7 +67,7 @@ impl Spec {
     pub fn result(&self, alloc: Global, object: &Term) -> Result<Option<Term>, AllocError>
         ensures { IfOk result (λ given. option_map data_of given ≡ result_of (data_of self.now) (data_of object.now)) }
     {
-        first_counted(alloc, self.clauses.as_slice(), object)
+        result_of_first(alloc, self.clauses.as_slice(), object)
     }
 
     /// Whether it gives `true` for the object.
@@ -75,7 +75,7 @@ impl Spec {
         ensures { IfOk result (λ b. b
             ≡ option_map_or is_true (result_of (data_of self.now) (data_of object.now)) false) }
     {
-        first_is_true(alloc, self.clauses.as_slice(), object)
+        first_result_is_true(alloc, self.clauses.as_slice(), object)
     }
 
     /// The key of every object for which it gives something, where the heads of all clauses have the same element at
@@ -84,8 +84,8 @@ impl Spec {
         ensures key { option_map data_of (option_copied result) ≡ spec_key keypos (data_of self.now) }
         ensures every { IfSome result (λ key. IsKeyOfResults keypos (data_of self.now) key.now) }
     {
-        match &self.whole {
-            Term::List(clauses) => bound_by_all(clauses.as_slice(), keypos),
+        match &self.source {
+            Term::List(clauses) => common_bound_key(clauses.as_slice(), keypos),
             _ => None,
         }
     }
@@ -112,20 +112,24 @@ fn clause_of(alloc: Global, term: &Term) -> Result<Clause, SpecFault>
     let Some(parts) = clause_parts(term) else {
         return Err(SpecFault::Badarg);
     };
-    let first = first_places(alloc, parts.head)?;
+    let first = first_paths(alloc, parts.head)?;
     if !is_good(parts, &first) {
         return Err(SpecFault::Badarg);
     }
-    Ok(compiled(alloc, parts, &first)?)
+    Ok(compile_clause(alloc, parts, &first)?)
 }
 
-fn compiled(alloc: Global, parts: ClauseParts, first: &FirstPlaces) -> Result<Clause, AllocError>
-    ensures { IfOk result (λ c. c ≡ clause_by first.now.entries (parts_seen parts.entry)) }
+fn compile_clause(
+    alloc: Global,
+    parts: ClauseParts,
+    first: &FirstPaths,
+) -> Result<Clause, AllocError>
+    ensures { IfOk result (λ c. c ≡ clause_with first.now.entries (raw_clause_of parts.entry)) }
 {
-    let mut here = Vec::new(alloc);
+    let mut current_path = Vec::new(alloc);
     Ok(Clause {
-        head: part_of(alloc, parts.head, first, &mut here)?,
-        places: in_order(alloc, first)?,
+        head: part_of(alloc, parts.head, first, &mut current_path)?,
+        paths: paths_by_number(alloc, first)?,
         conditions: expressions_of(alloc, parts.conditions, 0, first)?,
         body: expressions_of(alloc, parts.body, 0, first)?,
     })

@@ -7,50 +7,50 @@ use Rattle.match_spec.specs.declared.spec.clause.Clause.{Clause}
 use Rattle.match_spec.specs.Specifications.{is_true, RawClause, clause_parts, is_spec}
 use Rattle.match_spec.specs.inside.CompiledExpressions.{expression_value, expressions_of}
 use Rattle.match_spec.specs.inside.CompiledPatterns.{part_fits, part_of}
-use Rattle.match_spec.specs.inside.FirstPlaces.{FirstPlaces, places_of, first_of}
+use Rattle.match_spec.specs.inside.FirstPaths.{FirstPaths, paths_of, first_paths_of}
 
-abbrev pub hold_of : List (Data → Option Data) → Data → Bool
-hold_of [] object = true
-hold_of (f ∷ fs) object = option_map_or is_true (f object) false && hold_of fs object
+abbrev pub all_hold_of : List (Data → Option Data) → Data → Bool
+all_hold_of [] object = true
+all_hold_of (f ∷ fs) object = option_map_or is_true (f object) false && all_hold_of fs object
 
-abbrev pub last_of : List (Data → Option Data) → Data → Option Data
-last_of [] object = None
-last_of (f ∷ []) object = f object
-last_of (f ∷ g ∷ fs) object = option_and_then (λ d. last_of (g ∷ fs) object) (f object)
+abbrev pub last_value_of : List (Data → Option Data) → Data → Option Data
+last_value_of [] object = None
+last_value_of (f ∷ []) object = f object
+last_value_of (f ∷ g ∷ fs) object = option_and_then (λ d. last_value_of (g ∷ fs) object) (f object)
 
-abbrev pub outcome_of : List (Data → Option Data) → Data → Data
-outcome_of fs object = unwrap_or (last_of fs object) (atom (codes "EXIT"))
+abbrev pub body_value_of : List (Data → Option Data) → Data → Data
+body_value_of fs object = unwrap_or (last_value_of fs object) (atom (codes "EXIT"))
 
 -- the value of a clause's body
-abbrev pub outcome_by : Clause → Data → Data
-outcome_by c object = outcome_of (map (expression_value c.places) c.body) object
+abbrev pub body_value_by : Clause → Data → Data
+body_value_by c object = body_value_of (map (expression_value c.paths) c.body) object
 
-abbrev pub counts : Clause → Data → Bool
-counts c object = part_fits c.head object object && hold_of (map (expression_value c.places) c.conditions) object
+abbrev pub applies : Clause → Data → Bool
+applies c object = part_fits c.head object object && all_hold_of (map (expression_value c.paths) c.conditions) object
 
-abbrev pub first_counted : List Clause → Data → Option Data
-first_counted [] object = None
-first_counted (c ∷ cs) object = if counts c object then Some (outcome_by c object) else first_counted cs object
+abbrev pub result_of_first : List Clause → Data → Option Data
+result_of_first [] object = None
+result_of_first (c ∷ cs) object = if applies c object then Some (body_value_by c object) else result_of_first cs object
 
 -- the three parts of a clause, as the program has them
-abbrev pub parts_seen : ClauseParts → RawClause
-parts_seen c = record {
+abbrev pub raw_clause_of : ClauseParts → RawClause
+raw_clause_of c = record {
   head = data_of c.head.now;
   conditions = row_of (map data_of c.conditions.now);
   body = row_of (map data_of c.body.now);
 }
 
 -- a clause, compiled, where the head's first places are these
-abbrev pub clause_by : FirstPlaces → RawClause → Clause
-clause_by first c = record {
+abbrev pub clause_with : FirstPaths → RawClause → Clause
+clause_with first c = record {
   head = part_of first [] c.head;
-  places = places_of first;
+  paths = paths_of first;
   conditions = expressions_of first c.conditions;
   body = expressions_of first c.body;
 }
 
 abbrev pub clause_of : RawClause → Clause
-clause_of c = clause_by (first_of c.head) c
+clause_of c = clause_with (first_paths_of c.head) c
 
 abbrev pub clause_else : Option RawClause → List Clause → List Clause
 clause_else None cs = cs
@@ -68,4 +68,4 @@ clauses_of d = []
 -- what is kept of a specification
 pub record IsCompiledSpec (spec : Data) (clauses : List Clause) : Type 0 where
   pub good : is_spec spec ≡ true
-  pub its : clauses ≡ clauses_of spec
+  pub compiled : clauses ≡ clauses_of spec

@@ -5,28 +5,29 @@ use Rattle.std.specs.Option.{option_and_then}
 use Rattle.ets_term.specs.Data.{Data, atom, tuple, list, Row, no_terms, term, row_of, data_of}
 use Rattle.match_spec.specs.declared.expression.Expression.{Expression, fold-Expression}
 use Rattle.match_spec.specs.declared.expression.Expression.TheOpen.{Expression-F}
-use Rattle.match_spec.specs.declared.expression.Expression.TheVariants.{Constant, Object, Bindings, Variable, Tuple, List as Terms, Apply, Join, Decide}
+use Rattle.match_spec.specs.declared.expression.Expression.TheVariants.{Constant, Object, Bindings, Variable, Tuple, List as Terms, Apply, Strict, ShortCircuit}
+use Rattle.match_spec.specs.declared.expression.Connective.{Connective}
 use Rattle.match_spec.specs.declared.expression.function.Function.{Function}
-use Rattle.match_spec.specs.declared.expression.evaluate.Value.{Value}
-use Rattle.match_spec.specs.declared.expression.evaluate.Value.TheVariants.{Lent, Made}
+use Rattle.match_spec.specs.declared.expression.evaluate.ExprValue.{ExprValue}
+use Rattle.match_spec.specs.declared.expression.evaluate.ExprValue.TheVariants.{Borrowed, Owned}
 use Rattle.ets_term.specs.declared.term.Term.TheVariants.{Atom}
 use Rattle.ets_term.specs.Order.{row_len}
 use Rattle.ets_term.specs.laws.Exact.{term_of}
-use Rattle.match_spec.specs.Expressions.{is_stop, join}
+use Rattle.match_spec.specs.Expressions.{decides, neutral, combine}
 use Rattle.match_spec.specs.Functions.{apply, boolean, truth}
-use Rattle.match_spec.specs.Names.{function_of, decides, stops_at}
-use Rattle.match_spec.specs.Places.{Place, at}
+use Rattle.match_spec.specs.Names.{function_of, strict_connective, short_circuit_connective}
+use Rattle.match_spec.specs.Paths.{Path, subterm_at}
 use Rattle.match_spec.specs.Variables.{variable}
-use Rattle.match_spec.specs.inside.FirstPlaces.{FirstPlaces, way_in}
+use Rattle.match_spec.specs.inside.FirstPaths.{FirstPaths, first_path}
 
 -- a value, whether lent or made
-abbrev pub seen : Value → Data
-seen (Lent t) = data_of t.now
-seen (Made t) = data_of t
+abbrev pub value_data : ExprValue → Data
+value_data (Borrowed t) = data_of t.now
+value_data (Owned t) = data_of t
 
 -- what stands at the places of an object
-abbrev pub parts_at : List Place → Data → List Data
-parts_at places object = map (λ place. at place object) places
+abbrev pub subterms_at : List Path → Data → List Data
+subterms_at paths object = map (λ path. subterm_at path object) paths
 
 abbrev pub all_of : List (Data → Option Data) → Data → Option (List Data)
 all_of [] object = Some []
@@ -38,39 +39,39 @@ apply_of g (x ∷ y ∷ []) object =
     option_and_then (λ d. option_and_then (λ e. apply g (d ∷ e ∷ [])) (y object)) (x object)
 apply_of g fs object = None
 
-abbrev pub joined_of : Bool → List (Data → Option Data) → Data → Option Bool
-joined_of decisive [] object = Some (not decisive)
-joined_of decisive (f ∷ fs) object =
+abbrev pub strict_of : Connective → List (Data → Option Data) → Data → Option Bool
+strict_of connective [] object = Some (neutral connective)
+strict_of connective (f ∷ fs) object =
     option_and_then
-    (λ d. option_and_then (λ x. option_map (join decisive x) (joined_of decisive fs object)) (boolean d))
+    (λ d. option_and_then (λ x. option_map (combine connective x) (strict_of connective fs object)) (boolean d))
     (f object)
 
 -- from the left, up to the first boolean that decides
-abbrev pub decide : Bool → List (Data → Option Data) → Data → Option Data
-decide stop [] object = None
-decide stop (f ∷ []) object = option_and_then (λ d. option_map (λ x. d) (boolean d)) (f object)
-decide stop (f ∷ g ∷ fs) object =
+abbrev pub short_circuit_of : Connective → List (Data → Option Data) → Data → Option Data
+short_circuit_of connective [] object = None
+short_circuit_of connective (f ∷ []) object = option_and_then (λ d. option_map (λ x. d) (boolean d)) (f object)
+short_circuit_of connective (f ∷ g ∷ fs) object =
     option_and_then
-    (λ d. option_and_then (λ x. if is_stop stop x then Some d else decide stop (g ∷ fs) object) (boolean d))
+    (λ d. option_and_then (λ x. if decides connective x then Some d else short_circuit_of connective (g ∷ fs) object) (boolean d))
     (f object)
 
-abbrev pub expression_step : List Place → Expression-F (Data → Option Data) → Data → Option Data
-expression_step places (Expression-F.Constant t) object = Some (data_of t)
-expression_step places Expression-F.Object object = Some object
-expression_step places Expression-F.Bindings object = Some (list (row_of (parts_at places object)))
-expression_step places (Expression-F.Variable place) object = Some (at place object)
-expression_step places (Expression-F.Tuple fs) object = option_map (λ ds. tuple (row_of ds)) (all_of fs object)
-expression_step places (Expression-F.List fs) object = option_map (λ ds. list (row_of ds)) (all_of fs object)
-expression_step places (Expression-F.Apply f fs) object = apply_of f fs object
-expression_step places (Expression-F.Join decisive fs) object = option_map truth (joined_of decisive fs object)
-expression_step places (Expression-F.Decide stop fs) object = decide stop fs object
+abbrev pub expression_step : List Path → Expression-F (Data → Option Data) → Data → Option Data
+expression_step paths (Expression-F.Constant t) object = Some (data_of t)
+expression_step paths Expression-F.Object object = Some object
+expression_step paths Expression-F.Bindings object = Some (list (row_of (subterms_at paths object)))
+expression_step paths (Expression-F.Variable path) object = Some (subterm_at path object)
+expression_step paths (Expression-F.Tuple fs) object = option_map (λ ds. tuple (row_of ds)) (all_of fs object)
+expression_step paths (Expression-F.List fs) object = option_map (λ ds. list (row_of ds)) (all_of fs object)
+expression_step paths (Expression-F.Apply f fs) object = apply_of f fs object
+expression_step paths (Expression-F.Strict connective fs) object = option_map truth (strict_of connective fs object)
+expression_step paths (Expression-F.ShortCircuit connective fs) object = short_circuit_of connective fs object
 
 -- the value of a compiled expression, where the variables of the head stand at these places
-abbrev pub expression_value : List Place → Expression → Data → Option Data
-expression_value places = fold-Expression (Data → Option Data) (expression_step places)
+abbrev pub expression_value : List Path → Expression → Data → Option Data
+expression_value paths = fold-Expression (Data → Option Data) (expression_step paths)
 
-abbrev pub name_expression : FirstPlaces → List ℕ → Option ℕ → Expression
-name_expression first a (Some n) = Variable (way_in first n)
+abbrev pub name_expression : FirstPaths → List ℕ → Option ℕ → Expression
+name_expression first a (Some n) = Variable (first_path first n)
 name_expression first a None =
     if bytes_eq a (codes "$_") then Object
     else if bytes_eq a (codes "$$") then Bindings
@@ -85,28 +86,28 @@ abbrev pub apply_else : Option Function → List Expression → Expression
 apply_else None es = Object
 apply_else (Some g) es = Apply g es
 
-abbrev pub join_else : Option Bool → Option Function → List Expression → Expression
-join_else None g es = apply_else g es
-join_else (Some decisive) g es = Join decisive es
+abbrev pub strict_else : Option Connective → Option Function → List Expression → Expression
+strict_else None g es = apply_else g es
+strict_else (Some connective) g es = Strict connective es
 
-abbrev pub decide_else : Option Bool → Option Bool → Option Function → List Expression → Expression
-decide_else None decisive g es = join_else decisive g es
-decide_else (Some stop) decisive g es = Decide stop es
+abbrev pub short_circuit_else : Option Connective → Option Connective → Option Function → List Expression → Expression
+short_circuit_else None strict g es = strict_else strict g es
+short_circuit_else (Some connective) strict g es = ShortCircuit connective es
 
 -- an application of the function of a name to a number of arguments
-abbrev pub called : List ℕ → ℕ → List Expression → Expression
-called f n es = decide_else (stops_at f) (decides f) (function_of f n) es
+abbrev pub call_expression : List ℕ → ℕ → List Expression → Expression
+call_expression f n es = short_circuit_else (short_circuit_connective f) (strict_connective f) (function_of f n) es
 
 abbrev mutual
   -- an expression, compiled, where the head's first places are these; what is refused may be compiled to anything
-  pub expression_of : FirstPlaces → Data → Expression
+  pub expression_of : FirstPaths → Data → Expression
   expression_of first (atom a) = name_expression first a (variable a)
   expression_of first (list es) = Terms (expressions_of first es)
   expression_of first (tuple (term (tuple es) no_terms)) = Tuple (expressions_of first es)
-  expression_of first (tuple (term (atom f) es)) = constant_else f es (called f (row_len es) (expressions_of first es))
+  expression_of first (tuple (term (atom f) es)) = constant_else f es (call_expression f (row_len es) (expressions_of first es))
   expression_of first (tuple es) = Object
   expression_of first d = Constant (term_of d)
 
-  pub expressions_of : FirstPlaces → Row → List Expression
+  pub expressions_of : FirstPaths → Row → List Expression
   expressions_of first no_terms = []
   expressions_of first (term e es) = expression_of first e ∷ expressions_of first es

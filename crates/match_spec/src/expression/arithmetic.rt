@@ -2,14 +2,14 @@
 ghost use Rattle.std.specs.Prelude.{◌≡◌};
 ghost use Rattle.std.specs.Option.{option_map};
 ghost use Rattle.ets_term.specs.Data.{int, data_of};
-ghost use Rattle.match_spec.specs.Functions.{calculate, calculated, absolute, count};
-ghost use Rattle.match_spec.specs.Names.{operation_named};
+ghost use Rattle.match_spec.specs.Functions.{calculate, eval_arithmetic, absolute, count};
+ghost use Rattle.match_spec.specs.Names.{arithmetic_op_of};
 
 use ets_term::{Integer, Term};
 
 /// An operation on two integers.
 #[derive(Clone, Copy)]
-pub(crate) enum Operation {
+pub(crate) enum ArithmeticOp {
     Add,
     Subtract,
     Multiply,
@@ -18,27 +18,27 @@ pub(crate) enum Operation {
 }
 
 /// The operation of this name.
-pub(crate) fn operation_named(name: &str) -> Option<Operation>
-    ensures { result ≡ operation_named name.now }
+pub(crate) fn arithmetic_op_of(name: &str) -> Option<ArithmeticOp>
+    ensures { result ≡ arithmetic_op_of name.now }
 {
     if name == "+" {
-        Some(Operation::Add)
+        Some(ArithmeticOp::Add)
     } else if name == "-" {
-        Some(Operation::Subtract)
+        Some(ArithmeticOp::Subtract)
     } else if name == "*" {
-        Some(Operation::Multiply)
+        Some(ArithmeticOp::Multiply)
     } else if name == "div" {
-        Some(Operation::Divide)
+        Some(ArithmeticOp::Divide)
     } else if name == "rem" {
-        Some(Operation::Remainder)
+        Some(ArithmeticOp::Remainder)
     } else {
         None
     }
 }
 
 /// What the operation gives for two integers, if it is in their range.
-pub(crate) fn calculated(operation: Operation, x: &Term, y: &Term) -> Option<Term>
-    ensures { option_map data_of result ≡ calculated operation (data_of x.now) (data_of y.now) }
+pub(crate) fn eval_arithmetic(operation: ArithmeticOp, x: &Term, y: &Term) -> Option<Term>
+    ensures { option_map data_of result ≡ eval_arithmetic operation (data_of x.now) (data_of y.now) }
 {
     match (x, y) {
         (Term::Int(m), Term::Int(n)) => number(calculate(operation, *m, *n)),
@@ -46,21 +46,21 @@ pub(crate) fn calculated(operation: Operation, x: &Term, y: &Term) -> Option<Ter
     }
 }
 
-fn calculate(operation: Operation, m: Integer, n: Integer) -> Option<Integer>
+fn calculate(operation: ArithmeticOp, m: Integer, n: Integer) -> Option<Integer>
     ensures { result ≡ calculate operation m n }
 {
     match operation {
-        Operation::Add => m.checked_add(n),
-        Operation::Subtract => m.checked_sub(n),
-        Operation::Multiply => m.checked_mul(n),
-        Operation::Divide => m.checked_div(n),
-        Operation::Remainder => remainder(m, n),
+        ArithmeticOp::Add => m.checked_add(n),
+        ArithmeticOp::Subtract => m.checked_sub(n),
+        ArithmeticOp::Multiply => m.checked_mul(n),
+        ArithmeticOp::Divide => m.checked_div(n),
+        ArithmeticOp::Remainder => remainder(m, n),
     }
 }
 
 // The least integer has no quotient by -1, but a remainder.
 fn remainder(m: Integer, n: Integer) -> Option<Integer>
-    ensures { result ≡ calculate Operation.Remainder m n }
+    ensures { result ≡ calculate ArithmeticOp.Remainder m n }
 {
     if n == -1 {
         return Some(0);

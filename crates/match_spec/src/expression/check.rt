@@ -3,16 +3,16 @@ ghost use Rattle.std.specs.Prelude.{◌≡◌, ◌&&◌, ◌||◌, drop, map};
 ghost use Rattle.ets_term.specs.Data.{tuple, data_of, row_of};
 ghost use Rattle.match_spec.specs.Expressions.{is_expression, are_expressions, is_constant, is_bound};
 ghost use Rattle.match_spec.specs.Names.{is_function};
-ghost use Rattle.match_spec.specs.inside.FirstPlaces.{numbers_of};
+ghost use Rattle.match_spec.specs.inside.FirstPaths.{numbers_of};
 
-use crate::expression::function::{decides, function_of, stops_at};
-use crate::pattern::place::FirstPlaces;
+use crate::expression::function::{function_of, short_circuit_connective, strict_connective};
+use crate::pattern::path::FirstPaths;
 use crate::variable::variable;
 use ets_term::Term;
 
 /// Whether the term is an expression, where the head binds these variables.
 #[cycle(checked)]
-pub(crate) fn is_expression(term: &Term, first: &FirstPlaces) -> bool
+pub(crate) fn is_expression(term: &Term, first: &FirstPaths) -> bool
     ensures { result ≡ is_expression (numbers_of first.now.entries) (data_of term.now) }
 {
     match term {
@@ -23,8 +23,8 @@ pub(crate) fn is_expression(term: &Term, first: &FirstPlaces) -> bool
     }
 }
 
-#[tactic(auto, using(crate::proofs::PlaceLaws::is_bound_lookup))]
-fn is_bound(number: Option<u32>, first: &FirstPlaces) -> bool
+#[tactic(auto, using(crate::proofs::PathLaws::is_bound_lookup))]
+fn is_bound(number: Option<u32>, first: &FirstPaths) -> bool
     ensures { result ≡ is_bound (numbers_of first.now.entries) number }
 {
     match number {
@@ -35,7 +35,7 @@ fn is_bound(number: Option<u32>, first: &FirstPlaces) -> bool
 
 /// Whether those from the one at `start` on are expressions.
 #[cycle(checked)]
-pub(crate) fn are_expressions(terms: &[Term], start: usize, first: &FirstPlaces) -> bool
+pub(crate) fn are_expressions(terms: &[Term], start: usize, first: &FirstPaths) -> bool
     ensures { result ≡ are_expressions (numbers_of first.now.entries) (row_of (map data_of (drop start terms.now))) }
 {
     for i in start..terms.len() {
@@ -47,7 +47,7 @@ pub(crate) fn are_expressions(terms: &[Term], start: usize, first: &FirstPlaces)
 }
 
 #[cycle(checked)]
-fn is_tuple_expression(terms: &[Term], first: &FirstPlaces) -> bool
+fn is_tuple_expression(terms: &[Term], first: &FirstPaths) -> bool
     ensures { result ≡ is_expression (numbers_of first.now.entries) (tuple (row_of (map data_of terms.now))) }
 {
     if terms.is_empty() {
@@ -85,6 +85,6 @@ fn is_constant(name: &str, count: usize) -> bool
 fn is_function(name: &str, count: usize) -> bool
     ensures { result ≡ is_function name.now count }
 {
-    ((stops_at(name).is_some() || decides(name).is_some()) && count > 0)
+    ((short_circuit_connective(name).is_some() || strict_connective(name).is_some()) && count > 0)
         || function_of(name, count).is_some()
 }

@@ -3,13 +3,13 @@ ghost use Rattle.std.specs.Prelude.{◌≡◌};
 ghost use Rattle.ets_term.specs.Data.{data_of};
 ghost use Rattle.ets_term.specs.Order.{data_order};
 ghost use Rattle.match_spec.specs.Functions.{compares};
-ghost use Rattle.match_spec.specs.Names.{comparison_named};
+ghost use Rattle.match_spec.specs.Names.{comparison_op_of};
 
 use ets_term::Term;
 
 /// A comparison of two terms.
 #[derive(Clone, Copy)]
-pub(crate) enum Comparison {
+pub(crate) enum ComparisonOp {
     Greater,
     GreaterOrEqual,
     Less,
@@ -19,37 +19,37 @@ pub(crate) enum Comparison {
 }
 
 /// The comparison of this name.
-pub(crate) fn comparison_named(name: &str) -> Option<Comparison>
-    ensures { result ≡ comparison_named name.now }
+pub(crate) fn comparison_op_of(name: &str) -> Option<ComparisonOp>
+    ensures { result ≡ comparison_op_of name.now }
 {
     if name == ">" {
-        Some(Comparison::Greater)
+        Some(ComparisonOp::Greater)
     } else if name == ">=" {
-        Some(Comparison::GreaterOrEqual)
+        Some(ComparisonOp::GreaterOrEqual)
     } else if name == "<" {
-        Some(Comparison::Less)
+        Some(ComparisonOp::Less)
     } else if name == "=<" {
-        Some(Comparison::LessOrEqual)
+        Some(ComparisonOp::LessOrEqual)
     } else if name == "=:=" || name == "==" {
-        Some(Comparison::Equal)
+        Some(ComparisonOp::Equal)
     } else if name == "=/=" || name == "/=" {
-        Some(Comparison::NotEqual)
+        Some(ComparisonOp::NotEqual)
     } else {
         None
     }
 }
 
 /// Whether the two terms compare so.
-pub(crate) fn compares(comparison: Comparison, x: &Term, y: &Term) -> bool
+pub(crate) fn compares(comparison: ComparisonOp, x: &Term, y: &Term) -> bool
     ensures { result ≡ compares comparison (data_order (data_of x.now) (data_of y.now)) }
 {
     let order = x.cmp_terms(y);
     match comparison {
-        Comparison::Greater => order.is_gt(),
-        Comparison::GreaterOrEqual => order.is_ge(),
-        Comparison::Less => order.is_lt(),
-        Comparison::LessOrEqual => order.is_le(),
-        Comparison::Equal => order.is_eq(),
-        Comparison::NotEqual => order.is_ne(),
+        ComparisonOp::Greater => order.is_gt(),
+        ComparisonOp::GreaterOrEqual => order.is_ge(),
+        ComparisonOp::Less => order.is_lt(),
+        ComparisonOp::LessOrEqual => order.is_le(),
+        ComparisonOp::Equal => order.is_eq(),
+        ComparisonOp::NotEqual => order.is_ne(),
     }
 }

@@ -2,11 +2,11 @@
 ghost use Rattle.std.specs.Prelude.{◌≡◌, drop, length, map, IfOk};
 ghost use Rattle.ets_term.specs.Data.{tuple, data_of, row_of};
 ghost use Rattle.match_spec.specs.Variables.{variable};
-ghost use Rattle.match_spec.specs.inside.CompiledExpressions.{expression_of, expressions_of, name_expression, constant_else, called};
+ghost use Rattle.match_spec.specs.inside.CompiledExpressions.{expression_of, expressions_of, name_expression, constant_else, call_expression};
 
 use crate::expression::Expression;
-use crate::expression::function::{decides, function_of, stops_at};
-use crate::pattern::place::{FirstPlaces, way_in};
+use crate::expression::function::{function_of, short_circuit_connective, strict_connective};
+use crate::pattern::path::{FirstPaths, first_path};
 use crate::variable::variable;
 use ets_term::{Atom, Items, Term};
 use std::alloc::{AllocError, Global};
@@ -17,7 +17,7 @@ use std::alloc::{AllocError, Global};
 pub(crate) fn expression_of(
     alloc: Global,
     term: &Term,
-    first: &FirstPlaces,
+    first: &FirstPaths,
 ) -> Result<Expression, AllocError>
     ensures { IfOk result (λ e. e ≡ expression_of first.now.entries (data_of term.now)) }
 {
@@ -43,7 +43,7 @@ pub(crate) fn expressions_of(
     alloc: Global,
     terms: &[Term],
     start: usize,
-    first: &FirstPlaces,
+    first: &FirstPaths,
 ) -> Result<Items<Expression>, AllocError>
     ensures { IfOk result (λ es. es ≡ expressions_of first.now.entries (row_of (map data_of (drop start terms.now)))) }
 {
@@ -58,7 +58,7 @@ pub(crate) fn expressions_of(
 fn tuple_expression(
     alloc: Global,
     terms: &[Term],
-    first: &FirstPlaces,
+    first: &FirstPaths,
 ) -> Result<Expression, AllocError>
     ensures { IfOk result (λ e. e ≡ expression_of first.now.entries (tuple (row_of (map data_of terms.now)))) }
 {
@@ -81,16 +81,12 @@ fn tuple_expression(
     }
 }
 
-fn name_expression(
-    alloc: Global,
-    name: &Atom,
-    first: &FirstPlaces,
-) -> Result<Expression, AllocError>
+fn name_expression(alloc: Global, name: &Atom, first: &FirstPaths) -> Result<Expression, AllocError>
     ensures { IfOk result (λ e. e ≡ name_expression first.now.entries name.now (variable name.now)) }
 {
     let text = name.text();
     if let Some(number) = variable(text.as_bytes()) {
-        return Ok(Expression::Variable(Items::from_vec(way_in(first, number).to_vec(alloc)?)));
+        return Ok(Expression::Variable(Items::from_vec(first_path(first, number).to_vec(alloc)?)));
     }
     if text == "$_" {
         return Ok(Expression::Object);
@@ -109,22 +105,22 @@ fn application(
 ) -> Result<Expression, AllocError>
     ensures { IfOk result (λ e. e
         ≡ constant_else name.now (row_of (map data_of arguments.now))
-        (called name.now (length arguments.now) compiled)) }
+        (call_expression name.now (length arguments.now) compiled)) }
 {
     if arguments.len() == 1 && name == "const" {
         return Ok(Expression::Constant(arguments[0].try_clone(alloc)?));
     }
-    Ok(called(name, arguments.len(), compiled))
+    Ok(call_expression(name, arguments.len(), compiled))
 }
 
-fn called(name: &str, count: usize, compiled: Items<Expression>) -> Expression
-    ensures { result ≡ called name.now count compiled }
+fn call_expression(name: &str, count: usize, compiled: Items<Expression>) -> Expression
+    ensures { result ≡ call_expression name.now count compiled }
 {
-    if let Some(stop) = stops_at(name) {
-        return Expression::Decide(stop, compiled);
+    if let Some(connective) = short_circuit_connective(name) {
+        return Expression::ShortCircuit(connective, compiled);
     }
-    if let Some(decisive) = decides(name) {
-        return Expression::Join(decisive, compiled);
+    if let Some(connective) = strict_connective(name) {
+        return Expression::Strict(connective, compiled);
     }
     match function_of(name, count) {
         Some(function) => Expression::Apply(function, compiled),

@@ -2,58 +2,58 @@
 ghost use Rattle.std.specs.Prelude.{◌≡◌, [], ◌∷◌, Some, map, IfOk, IfSome};
 ghost use Rattle.std.specs.Option.{option_map, option_and_then};
 ghost use Rattle.ets_term.specs.Data.{data_of};
-ghost use Rattle.match_spec.specs.Expressions.{join};
+ghost use Rattle.match_spec.specs.Expressions.{neutral, combine, decides};
 ghost use Rattle.match_spec.specs.Functions.{apply, boolean, head, element};
-ghost use Rattle.match_spec.specs.inside.CompiledExpressions.{seen, expression_value, all_of, joined_of, apply_of, decide};
+ghost use Rattle.match_spec.specs.inside.CompiledExpressions.{value_data, expression_value, all_of, strict_of, apply_of, short_circuit_of};
 
-use crate::expression::Expression;
-use crate::expression::function::{Function, made_of_one, made_of_two};
+use crate::expression::function::{Function, eval_binary, eval_unary};
 use crate::expression::guards::{boolean, truth};
 use crate::expression::lists::{element, head};
-use crate::pattern::place::{at, copies_at};
+use crate::expression::{Connective, Expression};
+use crate::pattern::path::{clone_subterms, subterm_at};
 use ets_term::{Items, Term};
 use std::alloc::{AllocError, Global};
 
 /// A value: a part of the object or of the expression, or one that was made.
 #[derive(Drop)]
-pub(crate) enum Value<'a> {
-    Lent(&'a Term),
-    Made(Term),
+pub(crate) enum ExprValue<'a> {
+    Borrowed(&'a Term),
+    Owned(Term),
 }
 
-impl<'a> Value<'a> {
+impl<'a> ExprValue<'a> {
     pub(crate) fn term(&self) -> &Term
-        ensures { data_of result.now ≡ seen self.now }
+        ensures { data_of result.now ≡ value_data self.now }
     {
         match self {
-            Value::Lent(term) => term,
-            Value::Made(term) => term,
+            ExprValue::Borrowed(term) => term,
+            ExprValue::Owned(term) => term,
         }
     }
 
     pub(crate) fn into_term(self, alloc: Global) -> Result<Term, AllocError>
-        ensures { IfOk result (λ t. data_of t ≡ seen self.entry) }
+        ensures { IfOk result (λ t. data_of t ≡ value_data self.entry) }
     {
         match self {
-            Value::Lent(term) => Ok(term.try_clone(alloc)?),
-            Value::Made(term) => Ok(term),
+            ExprValue::Borrowed(term) => Ok(term.try_clone(alloc)?),
+            ExprValue::Owned(term) => Ok(term),
         }
     }
 }
 
 /// The value of an expression that stands in it or in the object, None where it is to be made.
-pub(crate) fn lent<'a>(
+pub(crate) fn borrowed_value<'a>(
     expression: &'a Expression,
-    places: &[Items<usize>],
+    paths: &[Items<usize>],
     object: &'a Term,
 ) -> Option<&'a Term>
     ensures { IfSome result (λ term.
-        expression_value places.now expression.now (data_of object.now) ≡ Some (data_of term.now)) }
+        expression_value paths.now expression.now (data_of object.now) ≡ Some (data_of term.now)) }
 {
     match expression {
         Expression::Constant(term) => Some(term),
         Expression::Object => Some(object),
-        Expression::Variable(place) => Some(at(place.as_slice(), object)),
+        Expression::Variable(path) => Some(subterm_at(path.as_slice(), object)),
         _ => None,
     }
 }
@@ -63,14 +63,14 @@ pub(crate) fn lent<'a>(
 pub(crate) fn value_of<'a>(
     alloc: Global,
     expression: &'a Expression,
-    places: &[Items<usize>],
+    paths: &[Items<usize>],
     object: &'a Term,
-) -> Result<Option<Value<'a>>, AllocError>
-    ensures { IfOk result (λ v. option_map seen v ≡ expression_value places.now expression.now (data_of object.now)) }
+) -> Result<Option<ExprValue<'a>>, AllocError>
+    ensures { IfOk result (λ v. option_map value_data v ≡ expression_value paths.now expression.now (data_of object.now)) }
 {
-    match lent(expression, places, object) {
-        Some(term) => Ok(Some(Value::Lent(term))),
-        None => evaluate(alloc, expression, places, object),
+    match borrowed_value(expression, paths, object) {
+        Some(term) => Ok(Some(ExprValue::Borrowed(term))),
+        None => evaluate(alloc, expression, paths, object),
     }
 }
 
@@ -79,45 +79,48 @@ pub(crate) fn value_of<'a>(
 pub(crate) fn evaluate<'a>(
     alloc: Global,
     expression: &'a Expression,
-    places: &[Items<usize>],
+    paths: &[Items<usize>],
     object: &'a Term,
-) -> Result<Option<Value<'a>>, AllocError>
-    ensures { IfOk result (λ v. option_map seen v ≡ expression_value places.now expression.now (data_of object.now)) }
+) -> Result<Option<ExprValue<'a>>, AllocError>
+    ensures { IfOk result (λ v. option_map value_data v ≡ expression_value paths.now expression.now (data_of object.now)) }
 {
     match expression {
-        Expression::Constant(term) => Ok(Some(Value::Lent(term))),
-        Expression::Object => Ok(Some(Value::Lent(object))),
+        Expression::Constant(term) => Ok(Some(ExprValue::Borrowed(term))),
+        Expression::Object => Ok(Some(ExprValue::Borrowed(object))),
         Expression::Bindings => {
-            let bindings = Items::from_vec(copies_at(alloc, places, object)?);
-            Ok(Some(Value::Made(Term::List(bindings))))
+            let bindings = Items::from_vec(clone_subterms(alloc, paths, object)?);
+            Ok(Some(ExprValue::Owned(Term::List(bindings))))
         }
-        Expression::Variable(place) => Ok(Some(Value::Lent(at(place.as_slice(), object)))),
-        Expression::Tuple(parts) => match evaluate_all(alloc, parts.as_slice(), places, object)? {
-            Some(terms) => Ok(Some(Value::Made(Term::Tuple(terms)))),
+        Expression::Variable(path) => Ok(Some(ExprValue::Borrowed(subterm_at(
+            path.as_slice(),
+            object,
+        )))),
+        Expression::Tuple(parts) => match evaluate_all(alloc, parts.as_slice(), paths, object)? {
+            Some(terms) => Ok(Some(ExprValue::Owned(Term::Tuple(terms)))),
             None => Ok(None),
         },
-        Expression::List(parts) => match evaluate_all(alloc, parts.as_slice(), places, object)? {
-            Some(terms) => Ok(Some(Value::Made(Term::List(terms)))),
+        Expression::List(parts) => match evaluate_all(alloc, parts.as_slice(), paths, object)? {
+            Some(terms) => Ok(Some(ExprValue::Owned(Term::List(terms)))),
             None => Ok(None),
         },
-        Expression::Apply(function, arguments) => applied(
+        Expression::Apply(function, arguments) => eval_call(
             alloc,
             *function,
             arguments.as_slice(),
-            places,
+            paths,
             object,
         ),
-        Expression::Join(decisive, arguments) => {
-            match joined(alloc, *decisive, arguments.as_slice(), places, object)? {
-                Some(b) => Ok(Some(Value::Made(truth(alloc, b)?))),
+        Expression::Strict(connective, arguments) => {
+            match eval_strict(alloc, *connective, arguments.as_slice(), paths, object)? {
+                Some(b) => Ok(Some(ExprValue::Owned(truth(alloc, b)?))),
                 None => Ok(None),
             }
         }
-        Expression::Decide(stop, arguments) => decided(
+        Expression::ShortCircuit(connective, arguments) => eval_short_circuit(
             alloc,
-            *stop,
+            *connective,
             arguments.as_slice(),
-            places,
+            paths,
             object,
         ),
     }
@@ -128,15 +131,15 @@ pub(crate) fn evaluate<'a>(
 fn evaluate_all(
     alloc: Global,
     expressions: &[Expression],
-    places: &[Items<usize>],
+    paths: &[Items<usize>],
     object: &Term,
 ) -> Result<Option<Items<Term>>, AllocError>
     ensures { IfOk result (λ terms. option_map (map data_of) terms
-        ≡ all_of (map (expression_value places.now) expressions.now) (data_of object.now)) }
+        ≡ all_of (map (expression_value paths.now) expressions.now) (data_of object.now)) }
 {
     let mut terms = Vec::with_capacity(alloc, expressions.len())?;
     for expression in expressions {
-        match evaluate(alloc, expression, places, object)? {
+        match evaluate(alloc, expression, paths, object)? {
             Some(value) => terms.push(value.into_term(alloc)?)?,
             None => return Ok(None),
         }
@@ -145,28 +148,28 @@ fn evaluate_all(
 }
 
 #[cycle(evaluate)]
-fn applied<'a>(
+fn eval_call<'a>(
     alloc: Global,
     function: Function,
     arguments: &'a [Expression],
-    places: &[Items<usize>],
+    paths: &[Items<usize>],
     object: &'a Term,
-) -> Result<Option<Value<'a>>, AllocError>
-    ensures { IfOk result (λ v. option_map seen v
-        ≡ apply_of function (map (expression_value places.now) arguments.now) (data_of object.now)) }
+) -> Result<Option<ExprValue<'a>>, AllocError>
+    ensures { IfOk result (λ v. option_map value_data v
+        ≡ apply_of function (map (expression_value paths.now) arguments.now) (data_of object.now)) }
 {
     match arguments {
         [only] => {
-            let Some(x) = evaluate(alloc, only, places, object)? else {
+            let Some(x) = evaluate(alloc, only, paths, object)? else {
                 return Ok(None);
             };
             apply_to_one(alloc, function, x)
         }
         [first, second] => {
-            let Some(x) = evaluate(alloc, first, places, object)? else {
+            let Some(x) = evaluate(alloc, first, paths, object)? else {
                 return Ok(None);
             };
-            let Some(y) = evaluate(alloc, second, places, object)? else {
+            let Some(y) = evaluate(alloc, second, paths, object)? else {
                 return Ok(None);
             };
             apply_to_two(alloc, function, x, y)
@@ -177,37 +180,58 @@ fn applied<'a>(
 
 // `and` and `or`: whether one decides, where all are booleans.
 #[cycle(evaluate)]
-fn joined(
+fn eval_strict(
     alloc: Global,
-    decisive: bool,
+    connective: Connective,
     arguments: &[Expression],
-    places: &[Items<usize>],
+    paths: &[Items<usize>],
     object: &Term,
 ) -> Result<Option<bool>, AllocError>
     ensures { IfOk result (λ b. b
-        ≡ joined_of decisive (map (expression_value places.now) arguments.now) (data_of object.now)) }
+        ≡ strict_of connective (map (expression_value paths.now) arguments.now) (data_of object.now)) }
 {
-    let mut all = !decisive;
+    let mut all = neutral(connective);
     for argument in arguments {
-        match truth_of(evaluate(alloc, argument, places, object)?) {
-            Some(truth) => all = join(decisive, all, truth),
+        match truth_of(evaluate(alloc, argument, paths, object)?) {
+            Some(truth) => all = combine(connective, all, truth),
             None => return Ok(None),
         }
     }
     Ok(Some(all))
 }
 
-fn join(decisive: bool, x: bool, y: bool) -> bool
-    ensures { result ≡ join decisive x y }
+fn neutral(connective: Connective) -> bool
+    ensures { result ≡ neutral connective }
 {
-    if decisive { x || y } else { x && y }
+    match connective {
+        Connective::And => true,
+        Connective::Or => false,
+    }
+}
+
+fn combine(connective: Connective, x: bool, y: bool) -> bool
+    ensures { result ≡ combine connective x y }
+{
+    match connective {
+        Connective::And => x && y,
+        Connective::Or => x || y,
+    }
+}
+
+fn decides(connective: Connective, truth: bool) -> bool
+    ensures { result ≡ decides connective truth }
+{
+    match connective {
+        Connective::And => !truth,
+        Connective::Or => truth,
+    }
 }
 
 // Drops a value. A drop that stands in a loop would repeat all its cases in each goal behind it.
-pub(crate) fn discard(_value: Value) {}
+pub(crate) fn discard(_value: ExprValue) {}
 
-fn truth_of(value: Option<Value>) -> Option<bool>
-    ensures { result ≡ option_and_then boolean (option_map seen value.entry) }
+fn truth_of(value: Option<ExprValue>) -> Option<bool>
+    ensures { result ≡ option_and_then boolean (option_map value_data value.entry) }
 {
     match value {
         Some(value) => boolean(value.term()),
@@ -217,24 +241,24 @@ fn truth_of(value: Option<Value>) -> Option<bool>
 
 // `andalso` and `orelse`: from the left, up to the first boolean that decides.
 #[cycle(evaluate)]
-fn decided<'a>(
+fn eval_short_circuit<'a>(
     alloc: Global,
-    stop: bool,
+    connective: Connective,
     arguments: &'a [Expression],
-    places: &[Items<usize>],
+    paths: &[Items<usize>],
     object: &'a Term,
-) -> Result<Option<Value<'a>>, AllocError>
-    ensures { IfOk result (λ v. option_map seen v
-        ≡ decide stop (map (expression_value places.now) arguments.now) (data_of object.now)) }
+) -> Result<Option<ExprValue<'a>>, AllocError>
+    ensures { IfOk result (λ v. option_map value_data v
+        ≡ short_circuit_of connective (map (expression_value paths.now) arguments.now) (data_of object.now)) }
 {
     for i in 0..arguments.len() {
-        let Some(x) = evaluate(alloc, &arguments[i], places, object)? else {
+        let Some(x) = evaluate(alloc, &arguments[i], paths, object)? else {
             return Ok(None);
         };
         let Some(truth) = boolean(x.term()) else {
             return Ok(None);
         };
-        if truth == stop || i + 1 == arguments.len() {
+        if decides(connective, truth) || i + 1 == arguments.len() {
             return Ok(Some(x));
         }
         discard(x);
@@ -242,11 +266,11 @@ fn decided<'a>(
     Ok(None)
 }
 
-fn made<'a>(term: Option<Term>) -> Option<Value<'a>>
-    ensures { option_map seen result ≡ option_map data_of term }
+fn owned_value<'a>(term: Option<Term>) -> Option<ExprValue<'a>>
+    ensures { option_map value_data result ≡ option_map data_of term }
 {
     match term {
-        Some(term) => Some(Value::Made(term)),
+        Some(term) => Some(ExprValue::Owned(term)),
         None => None,
     }
 }
@@ -254,59 +278,59 @@ fn made<'a>(term: Option<Term>) -> Option<Value<'a>>
 fn apply_to_one<'a>(
     alloc: Global,
     function: Function,
-    x: Value<'a>,
-) -> Result<Option<Value<'a>>, AllocError>
-    ensures { IfOk result (λ v. option_map seen v ≡ apply function (seen x.entry ∷ [])) }
+    x: ExprValue<'a>,
+) -> Result<Option<ExprValue<'a>>, AllocError>
+    ensures { IfOk result (λ v. option_map value_data v ≡ apply function (value_data x.entry ∷ [])) }
 {
     if let Function::Hd = function {
-        return hd(alloc, x);
+        return eval_hd(alloc, x);
     }
-    Ok(made(made_of_one(alloc, function, x.term())?))
+    Ok(owned_value(eval_unary(alloc, function, x.term())?))
 }
 
 pub(crate) fn apply_to_two<'a>(
     alloc: Global,
     function: Function,
-    x: Value<'a>,
-    y: Value<'a>,
-) -> Result<Option<Value<'a>>, AllocError>
-    ensures { IfOk result (λ v. option_map seen v ≡ apply function (seen x.entry ∷ seen y.entry ∷ [])) }
+    x: ExprValue<'a>,
+    y: ExprValue<'a>,
+) -> Result<Option<ExprValue<'a>>, AllocError>
+    ensures { IfOk result (λ v. option_map value_data v ≡ apply function (value_data x.entry ∷ value_data y.entry ∷ [])) }
 {
     if let Function::Element = function {
-        return element_of(alloc, x, y);
+        return eval_element(alloc, x, y);
     }
-    Ok(made(made_of_two(alloc, function, x.term(), y.term())?))
+    Ok(owned_value(eval_binary(alloc, function, x.term(), y.term())?))
 }
 
-fn hd<'a>(alloc: Global, x: Value<'a>) -> Result<Option<Value<'a>>, AllocError>
-    ensures { IfOk result (λ v. option_map seen v ≡ head (seen x.entry)) }
+fn eval_hd<'a>(alloc: Global, x: ExprValue<'a>) -> Result<Option<ExprValue<'a>>, AllocError>
+    ensures { IfOk result (λ v. option_map value_data v ≡ head (value_data x.entry)) }
 {
     match x {
-        Value::Lent(list) => match head(list) {
-            Some(first) => Ok(Some(Value::Lent(first))),
+        ExprValue::Borrowed(list) => match head(list) {
+            Some(first) => Ok(Some(ExprValue::Borrowed(first))),
             None => Ok(None),
         },
-        Value::Made(list) => match head(&list) {
-            Some(first) => Ok(Some(Value::Made(first.try_clone(alloc)?))),
+        ExprValue::Owned(list) => match head(&list) {
+            Some(first) => Ok(Some(ExprValue::Owned(first.try_clone(alloc)?))),
             None => Ok(None),
         },
     }
 }
 
-fn element_of<'a>(
+fn eval_element<'a>(
     alloc: Global,
-    n: Value<'a>,
-    x: Value<'a>,
-) -> Result<Option<Value<'a>>, AllocError>
-    ensures { IfOk result (λ v. option_map seen v ≡ element (seen n.entry) (seen x.entry)) }
+    n: ExprValue<'a>,
+    x: ExprValue<'a>,
+) -> Result<Option<ExprValue<'a>>, AllocError>
+    ensures { IfOk result (λ v. option_map value_data v ≡ element (value_data n.entry) (value_data x.entry)) }
 {
     match x {
-        Value::Lent(tuple) => match element(n.term(), tuple) {
-            Some(part) => Ok(Some(Value::Lent(part))),
+        ExprValue::Borrowed(tuple) => match element(n.term(), tuple) {
+            Some(part) => Ok(Some(ExprValue::Borrowed(part))),
             None => Ok(None),
         },
-        Value::Made(tuple) => match element(n.term(), &tuple) {
-            Some(part) => Ok(Some(Value::Made(part.try_clone(alloc)?))),
+        ExprValue::Owned(tuple) => match element(n.term(), &tuple) {
+            Some(part) => Ok(Some(ExprValue::Owned(part.try_clone(alloc)?))),
             None => Ok(None),
         },
     }

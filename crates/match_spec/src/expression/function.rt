@@ -3,11 +3,12 @@ ghost use Rattle.std.specs.Prelude.{◌≡◌, ◌≢◌, [], ◌∷◌, IfOk};
 ghost use Rattle.std.specs.Option.{option_map};
 ghost use Rattle.ets_term.specs.Data.{data_of};
 ghost use Rattle.match_spec.specs.Functions.{apply};
-ghost use Rattle.match_spec.specs.Names.{function_of, one_argument, two_arguments, decides, stops_at};
+ghost use Rattle.match_spec.specs.Names.{function_of, one_argument, two_arguments, strict_connective, short_circuit_connective};
 
-use crate::expression::arithmetic::{Operation, absolute, calculated, operation_named};
-use crate::expression::comparison::{Comparison, compares, comparison_named};
-use crate::expression::guards::{Kind, boolean, exclusive, is_kind, kind_named, truth};
+use crate::expression::Connective;
+use crate::expression::arithmetic::{ArithmeticOp, absolute, arithmetic_op_of, eval_arithmetic};
+use crate::expression::comparison::{ComparisonOp, compares, comparison_op_of};
+use crate::expression::guards::{GuardKind, boolean, exclusive, guard_kind_of, is_kind, truth};
 use crate::expression::lists::{list_length, size, tail};
 use ets_term::Term;
 use std::alloc::{AllocError, Global};
@@ -16,7 +17,7 @@ use std::alloc::{AllocError, Global};
 /// these.
 #[derive(Clone, Copy)]
 pub(crate) enum Function {
-    Is(Kind),
+    Is(GuardKind),
     Not,
     Abs,
     Hd,
@@ -25,8 +26,8 @@ pub(crate) enum Function {
     Size,
     Xor,
     Element,
-    Calculate(Operation),
-    Compare(Comparison),
+    Calculate(ArithmeticOp),
+    Compare(ComparisonOp),
 }
 
 /// The function with this name and number of arguments.
@@ -43,7 +44,7 @@ pub(crate) fn function_of(name: &str, count: usize) -> Option<Function>
 fn one_argument(name: &str) -> Option<Function>
     ensures { result ≡ one_argument name.now }
 {
-    if let Some(kind) = kind_named(name) {
+    if let Some(kind) = guard_kind_of(name) {
         Some(Function::Is(kind))
     } else if name == "not" {
         Some(Function::Not)
@@ -65,9 +66,9 @@ fn one_argument(name: &str) -> Option<Function>
 fn two_arguments(name: &str) -> Option<Function>
     ensures { result ≡ two_arguments name.now }
 {
-    if let Some(comparison) = comparison_named(name) {
+    if let Some(comparison) = comparison_op_of(name) {
         Some(Function::Compare(comparison))
-    } else if let Some(operation) = operation_named(name) {
+    } else if let Some(operation) = arithmetic_op_of(name) {
         Some(Function::Calculate(operation))
     } else if name == "xor" {
         Some(Function::Xor)
@@ -78,34 +79,34 @@ fn two_arguments(name: &str) -> Option<Function>
     }
 }
 
-/// What decides the connective of this name, which evaluates all its arguments.
-pub(crate) fn decides(name: &str) -> Option<bool>
-    ensures { result ≡ decides name.now }
+/// Returns the connective of a name that evaluates all arguments.
+pub(crate) fn strict_connective(name: &str) -> Option<Connective>
+    ensures { result ≡ strict_connective name.now }
 {
     if name == "and" {
-        Some(false)
+        Some(Connective::And)
     } else if name == "or" {
-        Some(true)
+        Some(Connective::Or)
     } else {
         None
     }
 }
 
-/// Where the connective of this name stops, which does not evaluate what stands behind.
-pub(crate) fn stops_at(name: &str) -> Option<bool>
-    ensures { result ≡ stops_at name.now }
+/// Returns the connective of a name that stops at the first argument that decides.
+pub(crate) fn short_circuit_connective(name: &str) -> Option<Connective>
+    ensures { result ≡ short_circuit_connective name.now }
 {
     if name == "andalso" {
-        Some(false)
+        Some(Connective::And)
     } else if name == "orelse" {
-        Some(true)
+        Some(Connective::Or)
     } else {
         None
     }
 }
 
 /// What a function of one argument makes, where its value is no part of the argument's.
-pub(crate) fn made_of_one(
+pub(crate) fn eval_unary(
     alloc: Global,
     function: Function,
     x: &Term,
@@ -128,7 +129,7 @@ pub(crate) fn made_of_one(
 }
 
 /// What a function of two arguments makes, where its value is no part of theirs.
-pub(crate) fn made_of_two(
+pub(crate) fn eval_binary(
     alloc: Global,
     function: Function,
     x: &Term,
@@ -142,7 +143,7 @@ pub(crate) fn made_of_two(
             Some(b) => Ok(Some(truth(alloc, b)?)),
             None => Ok(None),
         },
-        Function::Calculate(operation) => Ok(calculated(operation, x, y)),
+        Function::Calculate(operation) => Ok(eval_arithmetic(operation, x, y)),
         Function::Compare(comparison) => Ok(Some(truth(alloc, compares(comparison, x, y))?)),
         _ => Ok(None),
     }

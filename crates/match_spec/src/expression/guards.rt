@@ -2,14 +2,14 @@
 ghost use Rattle.std.specs.Prelude.{◌≡◌, IfOk};
 ghost use Rattle.ets_term.specs.Data.{data_of};
 ghost use Rattle.match_spec.specs.Functions.{truth, boolean, is_kind, exclusive};
-ghost use Rattle.match_spec.specs.Names.{kind_named};
+ghost use Rattle.match_spec.specs.Names.{guard_kind_of};
 
 use ets_term::{Atom, Term};
 use std::alloc::{AllocError, Global};
 
 /// A kind of terms. A reference is a table identifier.
 #[derive(Clone, Copy)]
-pub(crate) enum Kind {
+pub(crate) enum GuardKind {
     Atom,
     Integer,
     List,
@@ -20,40 +20,40 @@ pub(crate) enum Kind {
 }
 
 /// The kind for which the function of this name tests.
-pub(crate) fn kind_named(name: &str) -> Option<Kind>
-    ensures { result ≡ kind_named name.now }
+pub(crate) fn guard_kind_of(name: &str) -> Option<GuardKind>
+    ensures { result ≡ guard_kind_of name.now }
 {
     if name == "is_atom" {
-        Some(Kind::Atom)
+        Some(GuardKind::Atom)
     } else if name == "is_integer" || name == "is_number" {
-        Some(Kind::Integer)
+        Some(GuardKind::Integer)
     } else if name == "is_list" {
-        Some(Kind::List)
+        Some(GuardKind::List)
     } else if name == "is_tuple" {
-        Some(Kind::Tuple)
+        Some(GuardKind::Tuple)
     } else if name == "is_binary" {
-        Some(Kind::Binary)
+        Some(GuardKind::Binary)
     } else if name == "is_pid" {
-        Some(Kind::Pid)
+        Some(GuardKind::Pid)
     } else if name == "is_reference" {
-        Some(Kind::Reference)
+        Some(GuardKind::Reference)
     } else {
         None
     }
 }
 
 /// Whether the term is of the kind.
-pub(crate) fn is_kind(kind: Kind, term: &Term) -> bool
+pub(crate) fn is_kind(kind: GuardKind, term: &Term) -> bool
     ensures { result ≡ is_kind kind (data_of term.now) }
 {
     match (kind, term) {
-        (Kind::Atom, Term::Atom(_)) => true,
-        (Kind::Integer, Term::Int(_)) => true,
-        (Kind::List, Term::List(_)) => true,
-        (Kind::Tuple, Term::Tuple(_)) => true,
-        (Kind::Binary, Term::Binary(_)) => true,
-        (Kind::Pid, Term::Pid(_)) => true,
-        (Kind::Reference, Term::Tid(_)) => true,
+        (GuardKind::Atom, Term::Atom(_)) => true,
+        (GuardKind::Integer, Term::Int(_)) => true,
+        (GuardKind::List, Term::List(_)) => true,
+        (GuardKind::Tuple, Term::Tuple(_)) => true,
+        (GuardKind::Binary, Term::Binary(_)) => true,
+        (GuardKind::Pid, Term::Pid(_)) => true,
+        (GuardKind::Reference, Term::Tid(_)) => true,
         _ => false,
     }
 }

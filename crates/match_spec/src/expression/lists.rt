@@ -23,13 +23,13 @@ pub(crate) fn tail(alloc: Global, term: &Term) -> Result<Option<Term>, AllocErro
     ensures { IfOk result (λ t. option_map data_of t ≡ tail (data_of term.now)) }
 {
     match term {
-        Term::List(items) => behind_first(alloc, items.as_slice()),
+        Term::List(items) => tail_items(alloc, items.as_slice()),
         _ => Ok(None),
     }
 }
 
 #[tactic(auto, using(crate::proofs::ListLaws::tail_of))]
-fn behind_first(alloc: Global, items: &[Term]) -> Result<Option<Term>, AllocError>
+fn tail_items(alloc: Global, items: &[Term]) -> Result<Option<Term>, AllocError>
     ensures { IfOk result (λ t. option_map data_of t ≡ tail (list (row_of (map data_of items.now)))) }
 {
     if items.is_empty() {
@@ -76,13 +76,13 @@ pub(crate) fn element<'a>(n: &Term, tuple: &'a Term) -> Option<&'a Term>
     ensures { option_map data_of (option_copied result) ≡ element (data_of n.now) (data_of tuple.now) }
 {
     match n {
-        Term::Int(n) => numbered(*n, tuple),
+        Term::Int(n) => nth_element(*n, tuple),
         _ => None,
     }
 }
 
 #[tactic(auto, using(crate::proofs::ListLaws::element_at_tree))]
-fn numbered(n: Integer, tuple: &Term) -> Option<&Term>
+fn nth_element(n: Integer, tuple: &Term) -> Option<&Term>
     ensures { option_map data_of (option_copied result) ≡ element (int n) (data_of tuple.now) }
 {
     match Position::try_from(n) {

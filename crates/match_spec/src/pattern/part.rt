@@ -3,18 +3,18 @@ ghost use Rattle.std.specs.Prelude.{◌≡◌, map};
 ghost use Rattle.ets_term.specs.Data.{data_of, row_of};
 ghost use Rattle.match_spec.specs.inside.CompiledPatterns.{part_fits, all_fit};
 
-use crate::pattern::place::at;
+use crate::pattern::path::subterm_at;
 use ets_term::{Items, Term};
 
 /// A part of a pattern. A variable is `Anything` at its first place; at the others it is compared with what stands
 /// there.
 #[derive(Drop)]
 pub(crate) enum Part {
-    Anything,
-    Again(Items<usize>),
+    Wildcard,
+    Repeated(Items<usize>),
     Tuple(Items<Part>),
     List(Items<Part>),
-    Constant(Term),
+    Literal(Term),
 }
 
 /// Whether the part of the object fits.
@@ -23,8 +23,8 @@ pub(crate) fn fits(part: &Part, object: &Term, term: &Term) -> bool
     ensures { result ≡ part_fits part.now (data_of object.now) (data_of term.now) }
 {
     match (part, term) {
-        (Part::Anything, _) => true,
-        (Part::Again(place), _) => *at(place.as_slice(), object) == *term,
+        (Part::Wildcard, _) => true,
+        (Part::Repeated(path), _) => *subterm_at(path.as_slice(), object) == *term,
         (Part::Tuple(parts), Term::Tuple(items)) => all_fit(
             parts.as_slice(),
             object,
@@ -35,7 +35,7 @@ pub(crate) fn fits(part: &Part, object: &Term, term: &Term) -> bool
             object,
             items.as_slice(),
         ),
-        (Part::Constant(constant), _) => *constant == *term,
+        (Part::Literal(literal), _) => *literal == *term,
         _ => false,
     }
 }
@@ -48,7 +48,7 @@ fn all_fit(parts: &[Part], object: &Term, terms: &[Term]) -> bool
         return false;
     }
     for i in 0..parts.len() {
-        if !fits_here(&parts[i], object, &terms[i]) {
+        if !element_fits(&parts[i], object, &terms[i]) {
             return false;
         }
     }
@@ -58,11 +58,11 @@ fn all_fit(parts: &[Part], object: &Term, terms: &[Term]) -> bool
 // The same, with no call for a part that fits whatever stands there.
 #[inline(always)]
 #[cycle(fits)]
-fn fits_here(part: &Part, object: &Term, term: &Term) -> bool
+fn element_fits(part: &Part, object: &Term, term: &Term) -> bool
     ensures { result ≡ part_fits part.now (data_of object.now) (data_of term.now) }
 {
     match part {
-        Part::Anything => true,
+        Part::Wildcard => true,
         _ => fits(part, object, term),
     }
 }

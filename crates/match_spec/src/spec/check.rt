@@ -4,12 +4,12 @@ ghost use Rattle.std.specs.Option.{option_map};
 ghost use Rattle.ets_term.specs.Data.{tuple, data_of, row_of};
 ghost use Rattle.ets_term.specs.Order.{row_len};
 ghost use Rattle.match_spec.specs.Specifications.{clause_parts, is_good_by};
-ghost use Rattle.match_spec.specs.inside.CompiledClauses.{parts_seen};
-ghost use Rattle.match_spec.specs.inside.FirstPlaces.{numbers_of};
+ghost use Rattle.match_spec.specs.inside.CompiledClauses.{raw_clause_of};
+ghost use Rattle.match_spec.specs.inside.FirstPaths.{numbers_of};
 
 use crate::expression::check::are_expressions;
 use crate::pattern::is_pattern;
-use crate::pattern::place::FirstPlaces;
+use crate::pattern::path::FirstPaths;
 use ets_term::Term;
 
 /// The three parts of a clause.
@@ -22,7 +22,7 @@ pub(crate) struct ClauseParts<'a> {
 
 /// The parts of the clause, where it has the form of one.
 pub(crate) fn clause_parts(term: &Term) -> Option<ClauseParts>
-    ensures { option_map parts_seen result ≡ clause_parts (data_of term.now) }
+    ensures { option_map raw_clause_of result ≡ clause_parts (data_of term.now) }
 {
     match term {
         Term::Tuple(parts) => three_parts(parts.as_slice()),
@@ -31,7 +31,7 @@ pub(crate) fn clause_parts(term: &Term) -> Option<ClauseParts>
 }
 
 fn three_parts(parts: &[Term]) -> Option<ClauseParts>
-    ensures { option_map parts_seen result ≡ clause_parts (tuple (row_of (map data_of parts.now))) }
+    ensures { option_map raw_clause_of result ≡ clause_parts (tuple (row_of (map data_of parts.now))) }
 {
     if parts.len() != 3 {
         return None;
@@ -50,8 +50,8 @@ fn three_parts(parts: &[Term]) -> Option<ClauseParts>
 }
 
 /// Whether the parts are good, where the head binds these variables.
-pub(crate) fn is_good(parts: ClauseParts, first: &FirstPlaces) -> bool
-    ensures { result ≡ is_good_by (numbers_of first.now.entries) (parts_seen parts.entry) }
+pub(crate) fn is_good(parts: ClauseParts, first: &FirstPaths) -> bool
+    ensures { result ≡ is_good_by (numbers_of first.now.entries) (raw_clause_of parts.entry) }
 {
     let conditions = are_expressions(parts.conditions, 0, first);
     let body = are_expressions(parts.body, 0, first);

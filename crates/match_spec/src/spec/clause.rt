@@ -3,13 +3,13 @@ ghost use Rattle.std.specs.Prelude.{◌≡◌, false, map, option_copied, IfOk};
 ghost use Rattle.std.specs.Option.{option_map, option_map_or};
 ghost use Rattle.ets_term.specs.Data.{data_of};
 ghost use Rattle.match_spec.specs.Specifications.{is_true};
-ghost use Rattle.match_spec.specs.inside.CompiledClauses.{counts, last_of, outcome_by, first_counted};
-ghost use Rattle.match_spec.specs.inside.CompiledExpressions.{seen, expression_value};
+ghost use Rattle.match_spec.specs.inside.CompiledClauses.{applies, last_value_of, body_value_by, result_of_first};
+ghost use Rattle.match_spec.specs.inside.CompiledExpressions.{value_data, expression_value};
 
 use crate::expression::Expression;
-use crate::expression::evaluate::{Value, discard, value_of};
+use crate::expression::evaluate::{ExprValue, discard, value_of};
 use crate::pattern::part::{Part, fits};
-use crate::spec::conditions::{hold, is_true};
+use crate::spec::conditions::{all_hold, is_true};
 use ets_term::{Atom, Items, Term};
 use std::alloc::{AllocError, Global};
 
@@ -17,80 +17,80 @@ use std::alloc::{AllocError, Global};
 #[derive(Drop)]
 pub(crate) struct Clause {
     pub(crate) head: Part,
-    pub(crate) places: Items<Items<usize>>,
+    pub(crate) paths: Items<Items<usize>>,
     pub(crate) conditions: Items<Expression>,
     pub(crate) body: Items<Expression>,
 }
 
 /// What the first of the clauses gives that counts, if one does.
 #[inline(always)]
-pub(crate) fn first_counted(
+pub(crate) fn result_of_first(
     alloc: Global,
     clauses: &[Clause],
     object: &Term,
 ) -> Result<Option<Term>, AllocError>
-    ensures { IfOk result (λ t. option_map data_of t ≡ first_counted clauses.now (data_of object.now)) }
+    ensures { IfOk result (λ t. option_map data_of t ≡ result_of_first clauses.now (data_of object.now)) }
 {
-    match counted(alloc, clauses, object)? {
-        Some(clause) => Ok(Some(outcome(alloc, clause, object)?)),
+    match first_matching(alloc, clauses, object)? {
+        Some(clause) => Ok(Some(body_value(alloc, clause, object)?)),
         None => Ok(None),
     }
 }
 
 /// Whether that is `true`. No atom is made for it.
-pub(crate) fn first_is_true(
+pub(crate) fn first_result_is_true(
     alloc: Global,
     clauses: &[Clause],
     object: &Term,
 ) -> Result<bool, AllocError>
-    ensures { IfOk result (λ b. b ≡ option_map_or is_true (first_counted clauses.now (data_of object.now)) false) }
+    ensures { IfOk result (λ b. b ≡ option_map_or is_true (result_of_first clauses.now (data_of object.now)) false) }
 {
-    match counted(alloc, clauses, object)? {
-        Some(clause) => Ok(is_outcome_true(alloc, clause, object)?),
+    match first_matching(alloc, clauses, object)? {
+        Some(clause) => Ok(body_is_true(alloc, clause, object)?),
         None => Ok(false),
     }
 }
 
 // The first of the clauses that counts.
 #[inline(always)]
-fn counted<'a>(
+fn first_matching<'a>(
     alloc: Global,
     clauses: &'a [Clause],
     object: &Term,
 ) -> Result<Option<&'a Clause>, AllocError>
-    ensures { IfOk result (λ c. option_map (λ clause. outcome_by clause (data_of object.now)) (option_copied c)
-        ≡ first_counted clauses.now (data_of object.now)) }
+    ensures { IfOk result (λ c. option_map (λ clause. body_value_by clause (data_of object.now)) (option_copied c)
+        ≡ result_of_first clauses.now (data_of object.now)) }
 {
     for clause in clauses {
-        if counts(alloc, clause, object)? {
+        if applies(alloc, clause, object)? {
             return Ok(Some(clause));
         }
     }
     Ok(None)
 }
 
-fn counts(alloc: Global, clause: &Clause, object: &Term) -> Result<bool, AllocError>
-    ensures { IfOk result (λ b. b ≡ counts clause.now (data_of object.now)) }
+fn applies(alloc: Global, clause: &Clause, object: &Term) -> Result<bool, AllocError>
+    ensures { IfOk result (λ b. b ≡ applies clause.now (data_of object.now)) }
 {
     if !fits(&clause.head, object, object) {
         return Ok(false);
     }
-    hold(
+    all_hold(
         alloc,
         clause.conditions.as_slice(),
-        clause.places.as_slice(),
+        clause.paths.as_slice(),
         object,
     )
 }
 
 #[inline(never)]
-fn outcome(alloc: Global, clause: &Clause, object: &Term) -> Result<Term, AllocError>
-    ensures { IfOk result (λ t. data_of t ≡ outcome_by clause.now (data_of object.now)) }
+fn body_value(alloc: Global, clause: &Clause, object: &Term) -> Result<Term, AllocError>
+    ensures { IfOk result (λ t. data_of t ≡ body_value_by clause.now (data_of object.now)) }
 {
     match last_value(
         alloc,
         clause.body.as_slice(),
-        clause.places.as_slice(),
+        clause.paths.as_slice(),
         object,
     )? {
         Some(value) => Ok(value.into_term(alloc)?),
@@ -98,14 +98,14 @@ fn outcome(alloc: Global, clause: &Clause, object: &Term) -> Result<Term, AllocE
     }
 }
 
-#[tactic(auto, using(crate::proofs::ValueLaws::is_true_outcome))]
-fn is_outcome_true(alloc: Global, clause: &Clause, object: &Term) -> Result<bool, AllocError>
-    ensures { IfOk result (λ b. b ≡ is_true (outcome_by clause.now (data_of object.now))) }
+#[tactic(auto, using(crate::proofs::ValueLaws::is_true_body_value))]
+fn body_is_true(alloc: Global, clause: &Clause, object: &Term) -> Result<bool, AllocError>
+    ensures { IfOk result (λ b. b ≡ is_true (body_value_by clause.now (data_of object.now))) }
 {
     let value = last_value(
         alloc,
         clause.body.as_slice(),
-        clause.places.as_slice(),
+        clause.paths.as_slice(),
         object,
     )?;
     Ok(is_true(value))
@@ -115,14 +115,14 @@ fn is_outcome_true(alloc: Global, clause: &Clause, object: &Term) -> Result<bool
 fn last_value<'a>(
     alloc: Global,
     body: &'a [Expression],
-    places: &[Items<usize>],
+    paths: &[Items<usize>],
     object: &'a Term,
-) -> Result<Option<Value<'a>>, AllocError>
-    ensures { IfOk result (λ v. option_map seen v
-        ≡ last_of (map (expression_value places.now) body.now) (data_of object.now)) }
+) -> Result<Option<ExprValue<'a>>, AllocError>
+    ensures { IfOk result (λ v. option_map value_data v
+        ≡ last_value_of (map (expression_value paths.now) body.now) (data_of object.now)) }
 {
     for i in 0..body.len() {
-        let Some(x) = value_of(alloc, &body[i], places, object)? else {
+        let Some(x) = value_of(alloc, &body[i], paths, object)? else {
             return Ok(None);
         };
         if i + 1 == body.len() {

@@ -3,7 +3,7 @@ use Rattle.std.proofs.lemmas.Bool.Decides.{nat_tests}
 use Rattle.ets_term.specs.declared.term.Term.{Term}
 use Rattle.ets_term.specs.Data.{data_of, row_of}
 use Rattle.match_spec.specs.Expressions.{are_expressions}
-use Rattle.match_spec.specs.inside.FirstPlaces.{numbers_of}
+use Rattle.match_spec.specs.inside.FirstPaths.{numbers_of}
 use Rattle.match_spec.proofs.ExpressionLaws.{is-tuple, is-tuples, is-atom, is-other}
 use Rattle.match_spec.proofs.expression.check.+checked.Goals as goal
 

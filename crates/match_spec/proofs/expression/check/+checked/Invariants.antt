@@ -1,7 +1,7 @@
 use Rattle.std.proofs.Common.{◌≡◌, map, drop}
 use Rattle.ets_term.specs.Data.{data_of, row_of}
 use Rattle.match_spec.specs.Expressions.{are_expressions}
-use Rattle.match_spec.specs.inside.FirstPlaces.{numbers_of}
+use Rattle.match_spec.specs.inside.FirstPaths.{numbers_of}
 use Rattle.match_spec.proofs.expression.check.+checked.Given as goal
 
 abbrev pub invariant-are_expressions-loop-i : goal.invariant-are_expressions-loop-i

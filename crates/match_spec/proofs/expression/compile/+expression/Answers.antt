@@ -5,7 +5,7 @@ use Rattle.match_spec.specs.declared.expression.Expression.TheVariants.{Tuple}
 use Rattle.match_spec.specs.inside.CompiledExpressions.{expressions_of}
 use Rattle.ets_term.specs.Data.{data_of, row_of}
 use Rattle.std.proofs.Common.{map}
-use Rattle.match_spec.proofs.ExpressionLaws.{of-tuple, of-tuples, of-atom, of-other, behind-whole}
+use Rattle.match_spec.proofs.ExpressionLaws.{of-tuple, of-tuples, of-atom, of-other, rest-whole}
 use Rattle.match_spec.proofs.expression.compile.+expression.Goals as goal
 
 pub tuple_expression-returns-in_ok-expressions_of-in-Tuple : goal.tuple_expression-returns-in_ok-expressions_of-in-Tuple
@@ -21,7 +21,7 @@ tuple_expression-returns-else-terms-eq1 t c =
 pub tuple_expression-returns-in_ok-compiled-in-Atom : goal.tuple_expression-returns-in_ok-compiled-in-Atom
 tuple_expression-returns-in_ok-compiled-in-Atom t c =
     let some : 0 < length c.args.terms.now = grind (arith, nat_tests) in
-    rw (← of-atom c.args.first.now.entries c.args.terms.now c.index-terms-0.result c.in-Atom.name some (sym c.index-terms-0.is) c.in-Atom.is, ← c.text.ensures.text, ← c.in_ok-compiled-in-Atom.ensures) (rw (behind-whole c.args.terms.now) at c.application.ensures)
+    rw (← of-atom c.args.first.now.entries c.args.terms.now c.index-terms-0.result c.in-Atom.name some (sym c.index-terms-0.is) c.in-Atom.is, ← c.text.ensures.text, ← c.in_ok-compiled-in-Atom.ensures) (rw (rest-whole c.args.terms.now) at c.application.ensures)
 
 pub tuple_expression-returns-in_default : goal.tuple_expression-returns-in_default
 tuple_expression-returns-in_default t c =

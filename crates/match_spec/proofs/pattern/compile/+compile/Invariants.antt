@@ -5,5 +5,5 @@ use Rattle.match_spec.proofs.pattern.compile.+compile.Given as goal
 
 abbrev pub invariant-parts_of-loop-i : goal.invariant-parts_of-loop-i
 invariant-parts_of-loop-i l =
-    (l.here.items ≡ l.initial.here.items)
-    × (l.compiled.items ++ parts_from l.first.entries l.initial.here.items l.i (row_of (map data_of (drop l.i l.parts))) ≡ parts_from l.first.entries l.initial.here.items 0 (row_of (map data_of l.parts)))
+    (l.current_path.items ≡ l.initial.current_path.items)
+    × (l.compiled.items ++ parts_from l.first.entries l.initial.current_path.items l.i (row_of (map data_of (drop l.i l.parts))) ≡ parts_from l.first.entries l.initial.current_path.items 0 (row_of (map data_of l.parts)))

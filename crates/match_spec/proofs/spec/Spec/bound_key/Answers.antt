@@ -8,6 +8,6 @@ use Rattle.match_spec.proofs.spec.Spec.bound_key.Goals as goal
 
 pub returns-in-List-clause-every : goal.returns-in-List-clause-every
 returns-in-List-clause-every c =
-    rw (← c.self.view_is) (every_result c.args.keypos (data_of c.self.inside.whole) c.bound_by_all.result
-    (c.bound_by_all.ensures ∙ ap (λ (ts : List Term). spec_key c.args.keypos (list (row_of (map data_of ts)))) c.as_slice.ensures
+    rw (← c.self.view_is) (every_result c.args.keypos (data_of c.self.inside.source) c.common_bound_key.result
+    (c.common_bound_key.ensures ∙ ap (λ (ts : List Term). spec_key c.args.keypos (list (row_of (map data_of ts)))) c.as_slice.ensures
     ∙ ap (spec_key c.args.keypos) (sym (ap data_of c.in-List.is ∙ data_of-List _))))

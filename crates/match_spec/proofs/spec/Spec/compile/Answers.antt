@@ -14,7 +14,7 @@ returns-clause-good c =
 pub invariant_of-result : goal.invariant_of-result
 invariant_of-result c = record {
   good = ap (λ (t : Term). is_spec (data_of t)) c.in_ok-try_clone.ensures ∙ returns-clause-good c;
-  its =
+  compiled =
       c.in_ok-clauses.ensures.made ∙ ap (λ (ts : List Term). clauses_from (row_of (map data_of ts))) c.as_slice.ensures
       ∙ clauses_of-list _ _ c.in-List.is ∙ ap (λ (t : Term). clauses_of (data_of t)) (sym c.in_ok-try_clone.ensures);
 }

@@ -1,7 +1,7 @@
 use Rattle.std.proofs.Common.{ap, ◌∙◌}
 use Rattle.ets_term.specs.Data.{data_of}
 use Rattle.match_spec.proofs.PartLaws.{element_or-get, element_or-past}
-use Rattle.match_spec.proofs.pattern.place.item_or.Goals as goal
+use Rattle.match_spec.proofs.pattern.path.item_or.Goals as goal
 
 pub returns-then-i-items : goal.returns-then-i-items
 returns-then-i-items c = ap data_of c.index-items-i.is ∙ element_or-get _ _ _ _ c.if-i-items.true

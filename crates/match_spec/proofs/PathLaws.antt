@@ -1,0 +1,207 @@
+-- The first places that the program collects are those of the pattern's variables.
+use Rattle.std.proofs.Common.{◌≡◌, ℕ, suc, nat_lt, ◌==◌, ◌||◌, ◌++◌, cond, is_some, map, fold, unwrap_or, Bool, true, false, if◌then◌else◌, List, [], ◌∷◌, Option, Some, None, refl, sym, ap, subst, ◌∙◌, arith}
+use Rattle.std.proofs.lemmas.Bool.Decides.{nat_tests}
+use Rattle.std.proofs.lemmas.List.{append-nil, append_assoc}
+use Rattle.std.proofs.lemmas.List.Sums.{fold-append}
+use Rattle.std.specs.BTreeMap.{insert_entry}
+use Rattle.std.specs.Cmp.{unsigned_ties}
+use Rattle.std.specs.List.{list_any}
+use Rattle.std.specs.Map.{lookup}
+use Rattle.std.specs.Option.{option_map, option_or}
+use Rattle.std.specs.Ordering.{nat_cmp}
+use Rattle.ets_term.specs.Data.{Data, int, atom, pid, tid, tuple, list, binary, Row, no_terms, term}
+use Rattle.match_spec.specs.Expressions.{is_bound}
+use Rattle.match_spec.specs.Patterns.{Bindings}
+use Rattle.match_spec.specs.Paths.{Path, is_number, path_of, path_from, variable_path, value_at}
+use Rattle.match_spec.specs.Variables.{numbers_in, variable_numbers, row_variable_numbers, variable, variables, put}
+use Rattle.match_spec.specs.inside.FirstPaths.{FirstPaths, path_in, first_path, numbers_of, paths_of, insert_unless, record_path, add_first_paths, add_first_paths_from, first_paths_of}
+use Rattle.match_spec.proofs.BoolLaws.{or-right, clash}
+use Rattle.match_spec.proofs.NumberLaws.{has, same_number, itself, Rising, put-rising, put-there, above-apart, above-rising}
+
+abbrev at_number : FirstPaths → ℕ → Option Path
+at_number first n = lookup (λ m. n == m) first
+
+path_in-number : (first : FirstPaths) (n : ℕ) → path_in first n ≡ at_number first n
+path_in-number first n = ap (λ (test : ℕ → Bool). lookup test first) (λ i m. sym (unsigned_ties n m) i)
+
+has-lookup : (first : FirstPaths) (n : ℕ) → is_some (at_number first n) ≡ has (numbers_of first) n
+has-lookup [] n = refl
+has-lookup (e ∷ es) n = by (n == e.0) (has-lookup es n)
+  where
+    by : (c : Bool) → is_some (at_number es n) ≡ has (numbers_of es) n → is_some (cond c (Some e.1) (at_number es n)) ≡ (c || has (numbers_of es) n)
+    by true rest = refl
+    by false rest = rest
+
+pub is_bound_lookup : (first : FirstPaths) (n : ℕ) → is_some (path_in first n) ≡ is_bound (numbers_of first) (Some n)
+is_bound_lookup first n = ap is_some (path_in-number first n) ∙ has-lookup first n
+
+module _ (n : ℕ) (current_path : Path) where
+  below : (m : ℕ) → nat_lt n m ≡ true → (n == m) ≡ false
+  below m h = grind (arith, nat_tests)
+
+  abbrev entered : FirstPaths → FirstPaths
+  entered es = insert_entry nat_cmp es n current_path
+
+  -- a new number goes to its place among the numbers
+  variable_numbers-entered : (es : FirstPaths) → at_number es n ≡ None → numbers_of (entered es) ≡ put n (numbers_of es)
+  variable_numbers-entered [] h = refl
+  variable_numbers-entered (e ∷ es) h = by (nat_lt n e.0) (n == e.0) refl refl h (variable_numbers-entered es)
+    where
+      by : (less same : Bool) → nat_lt n e.0 ≡ less → (n == e.0) ≡ same → cond same (Some e.1) (at_number es n) ≡ None → (at_number es n ≡ None → numbers_of (entered es) ≡ put n (numbers_of es))
+          → numbers_of (entered (e ∷ es)) ≡ put n (e.0 ∷ numbers_of es)
+      by true true l s q rest = cc
+      by true false l s q rest = rw (l, s) refl
+      by false true l s q rest = cc
+      by false false l s q rest = rw (l, s) (ap (λ ns. e.0 ∷ ns) (rest q))
+
+  -- and the others stay where they are
+  lookup-entered : (es : FirstPaths) (m : ℕ) → at_number es n ≡ None → at_number (entered es) m ≡ cond (m == n) (Some current_path) (at_number es m)
+  lookup-entered [] m h = refl
+  lookup-entered (e ∷ es) m h = by (nat_lt n e.0) (n == e.0) refl refl h (lookup-entered es m)
+    where
+      swap : (c d : Bool) → (m == n) ≡ c → (m == e.0) ≡ d → (n == e.0) ≡ false → cond d (Some e.1) (cond c (Some current_path) (at_number es m)) ≡ cond c (Some current_path) (cond d (Some e.1) (at_number es m))
+      swap true true p q r = absurd (clash (subst (λ k. (k == e.0) ≡ true) (same_number m n p) q) r)
+      swap true false p q r = refl
+      swap false true p q r = refl
+      swap false false p q r = refl
+
+      by : (less same : Bool) → nat_lt n e.0 ≡ less → (n == e.0) ≡ same → cond same (Some e.1) (at_number es n) ≡ None → (at_number es n ≡ None → at_number (entered es) m ≡ cond (m == n) (Some current_path) (at_number es m))
+          → at_number (entered (e ∷ es)) m ≡ cond (m == n) (Some current_path) (at_number (e ∷ es) m)
+      by less true l s q rest = cc
+      by true false l s q rest = rw l refl
+      by false false l s q rest = rw (l, s) (ap (cond (m == e.0) (Some e.1)) (rest q) ∙ swap (m == n) (m == e.0) refl refl s)
+
+or-None : {X : Type 0} (x : Option X) → option_or x None ≡ x
+or-None None = refl
+or-None (Some x) = refl
+
+or-or : {X : Type 0} (x y z : Option X) → option_or (option_or x y) z ≡ option_or x (option_or y z)
+or-or None y z = refl
+or-or (Some x) y z = refl
+
+map-or : {X Y : Type 0} (f : X → Y) (x y : Option X) → option_map f (option_or x y) ≡ option_or (option_map f x) (option_map f y)
+map-or f None y = refl
+map-or f (Some x) y = refl
+
+abbrev below_here : Path → Option Path → Option Path
+below_here current_path = option_map (λ path. current_path ++ path)
+
+module _ (m : ℕ) where
+  lookup-record_path : (current_path : Path) (first : FirstPaths) (o : Option ℕ) → at_number (record_path current_path first o) m ≡ option_or (at_number first m) (if is_number m o then Some current_path else None)
+  lookup-record_path current_path first None = sym (or-None _)
+  lookup-record_path current_path first (Some n) = by (path_in first n) refl (m == n) refl
+    where
+      by : (o : Option Path) → path_in first n ≡ o → (c : Bool) → (m == n) ≡ c → at_number (insert_unless o first n current_path) m ≡ option_or (at_number first m) (if c then Some current_path else None)
+      by (Some p) e true q = rw (same_number m n q, sym (path_in-number first n) ∙ e) refl
+      by (Some p) e false q = sym (or-None _)
+      by None e true q = lookup-entered n current_path first m (sym (path_in-number first n) ∙ e) ∙ rw (q, ap (at_number first) (same_number m n q) ∙ sym (path_in-number first n) ∙ e) refl
+      by None e false q = lookup-entered n current_path first m (sym (path_in-number first n) ∙ e) ∙ rw q (sym (or-None _))
+
+  at_here : (current_path : Path) (c : Bool) → (if c then Some current_path else None) ≡ below_here current_path (if c then Some [] else None)
+  at_here current_path true = ap Some (sym (append-nil current_path))
+  at_here current_path false = refl
+
+  inside : (current_path : Path) (i : ℕ) (o : Option Path) → below_here (current_path ++ i ∷ []) o ≡ below_here current_path (option_map (λ path. i ∷ path) o)
+  inside current_path i None = refl
+  inside current_path i (Some path) = ap Some (append_assoc current_path (i ∷ []) path)
+
+  mutual
+    lookup-first : (current_path : Path) (first : FirstPaths) (p : Data) → at_number (add_first_paths current_path first p) m ≡ option_or (at_number first m) (below_here current_path (path_of m p))
+    lookup-first current_path first (atom a) = lookup-record_path current_path first (variable a) ∙ ap (option_or (at_number first m)) (at_here current_path (is_number m (variable a)))
+    lookup-first current_path first (tuple ps) = lookup-from current_path 0 first ps
+    lookup-first current_path first (list ps) = lookup-from current_path 0 first ps
+    lookup-first current_path first (int n) = sym (or-None _)
+    lookup-first current_path first (pid n) = sym (or-None _)
+    lookup-first current_path first (tid n) = sym (or-None _)
+    lookup-first current_path first (binary s) = sym (or-None _)
+
+    lookup-from : (current_path : Path) (i : ℕ) (first : FirstPaths) (ps : Row) → at_number (add_first_paths_from current_path i first ps) m ≡ option_or (at_number first m) (below_here current_path (path_from m i ps))
+    lookup-from current_path i first no_terms = sym (or-None _)
+    lookup-from current_path i first (term p ps) =
+        lookup-from current_path (suc i) (add_first_paths (current_path ++ i ∷ []) first p) ps
+        ∙ ap (λ o. option_or o (below_here current_path (path_from m (suc i) ps))) (lookup-first (current_path ++ i ∷ []) first p)
+        ∙ or-or (at_number first m) (below_here (current_path ++ i ∷ []) (path_of m p)) (below_here current_path (path_from m (suc i) ps))
+        ∙ ap (option_or (at_number first m)) (ap (λ o. option_or o (below_here current_path (path_from m (suc i) ps))) (inside current_path i (path_of m p)) ∙ sym (map-or (λ path. current_path ++ path) (option_map (λ path. i ∷ path) (path_of m p)) (path_from m (suc i) ps)))
+
+abbrev putting : List ℕ → ℕ → List ℕ
+putting ms n = put n ms
+
+variable_numbers-record_path : (current_path : Path) (first : FirstPaths) (o : Option ℕ) → Rising (numbers_of first) → numbers_of (record_path current_path first o) ≡ fold putting (numbers_of first) (numbers_in o)
+variable_numbers-record_path current_path first None a = refl
+variable_numbers-record_path current_path first (Some n) a = by (path_in first n) refl
+  where
+    by : (o : Option Path) → path_in first n ≡ o → numbers_of (insert_unless o first n current_path) ≡ put n (numbers_of first)
+    by (Some p) e = sym (put-there n _ a (sym (has-lookup first n) ∙ ap is_some (sym (path_in-number first n) ∙ e)))
+    by None e = variable_numbers-entered n current_path first (sym (path_in-number first n) ∙ e)
+
+rising-fold : (ns acc : List ℕ) → Rising acc → Rising (fold putting acc ns)
+rising-fold [] acc a = a
+rising-fold (n ∷ ns) acc a = rising-fold ns (put n acc) (put-rising n acc a)
+
+mutual
+  variable_numbers-first : (current_path : Path) (first : FirstPaths) (p : Data) → Rising (numbers_of first) → numbers_of (add_first_paths current_path first p) ≡ fold putting (numbers_of first) (variable_numbers p)
+  variable_numbers-first current_path first (atom a) r = variable_numbers-record_path current_path first (variable a) r
+  variable_numbers-first current_path first (tuple ps) r = variable_numbers-from current_path 0 first ps r
+  variable_numbers-first current_path first (list ps) r = variable_numbers-from current_path 0 first ps r
+  variable_numbers-first current_path first (int n) r = refl
+  variable_numbers-first current_path first (pid n) r = refl
+  variable_numbers-first current_path first (tid n) r = refl
+  variable_numbers-first current_path first (binary s) r = refl
+
+  variable_numbers-from : (current_path : Path) (i : ℕ) (first : FirstPaths) (ps : Row) → Rising (numbers_of first) → numbers_of (add_first_paths_from current_path i first ps) ≡ fold putting (numbers_of first) (row_variable_numbers ps)
+  variable_numbers-from current_path i first no_terms r = refl
+  variable_numbers-from current_path i first (term p ps) r =
+      let same = variable_numbers-first (current_path ++ i ∷ []) first p r in
+      variable_numbers-from current_path (suc i) (add_first_paths (current_path ++ i ∷ []) first p) ps (subst Rising (sym same) (rising-fold (variable_numbers p) _ r))
+      ∙ ap (λ ms. fold putting ms (row_variable_numbers ps)) same ∙ sym (fold-append putting (numbers_of first) (variable_numbers p) (row_variable_numbers ps))
+
+-- the places of entries whose numbers rise are what is looked up at them
+paths_at : (f : ℕ → Path) (es : FirstPaths) → Rising (numbers_of es) → ((n : ℕ) → has (numbers_of es) n ≡ true → f n ≡ unwrap_or (at_number es n) []) → paths_of es ≡ map f (numbers_of es)
+paths_at f [] r h = refl
+paths_at f (e ∷ es) r h = λ i. here_is i ∷ paths_at f es (above-rising e.0 _ r) others i
+  where
+    here_is : e.1 ≡ f e.0
+    here_is = sym (h e.0 (rw (itself e.0) refl) ∙ rw (itself e.0) refl)
+
+    others : (n : ℕ) → has (numbers_of es) n ≡ true → f n ≡ unwrap_or (at_number es n) []
+    others n q = by (n == e.0) refl
+      where
+        by : (c : Bool) → (n == e.0) ≡ c → f n ≡ unwrap_or (at_number es n) []
+        by true s = absurd (clash (subst (λ m. has (numbers_of es) m ≡ true) (same_number n e.0 s) q) (above-apart e.0 _ r))
+        by false s = h n (or-right _ _ q) ∙ rw s refl
+
+module _ (pattern : Data) where
+  same_path : (o : Option Path) → below_here [] o ≡ o
+  same_path None = refl
+  same_path (Some path) = refl
+
+  pub number-first : (n : ℕ) → at_number (first_paths_of pattern) n ≡ path_of n pattern
+  number-first n = lookup-first n [] [] pattern ∙ same_path (path_of n pattern)
+
+  pub path_in-first : (n : ℕ) → path_in (first_paths_of pattern) n ≡ path_of n pattern
+  path_in-first n = path_in-number (first_paths_of pattern) n ∙ number-first n
+
+  pub first_path-first : (n : ℕ) → first_path (first_paths_of pattern) n ≡ variable_path pattern n
+  first_path-first n = ap (λ (o : Option Path). unwrap_or o []) (path_in-first n)
+
+  pub numbers_of-first : numbers_of (first_paths_of pattern) ≡ variables pattern
+  numbers_of-first = variable_numbers-first [] [] pattern tt
+
+  pub paths_of-first : paths_of (first_paths_of pattern) ≡ map (variable_path pattern) (variables pattern)
+  paths_of-first =
+      paths_at (variable_path pattern) (first_paths_of pattern) (subst Rising (sym numbers_of-first) (rising-fold (variable_numbers pattern) [] tt)) (λ n h. ap (λ (o : Option Path). unwrap_or o []) (sym (number-first n)))
+      ∙ ap (map (variable_path pattern)) numbers_of-first
+
+module _ (head object : Data) where
+  abbrev pub found_in : List ℕ → Bindings
+  found_in ns = map (λ n. (n, value_at head object n)) ns
+
+  found_here : (n m : ℕ) (ms : List ℕ) (c : Bool) → (n == m) ≡ c → (c || list_any (λ k. n == k) ms) ≡ true
+      → (list_any (λ k. n == k) ms ≡ true → lookup (λ k. n == k) (found_in ms) ≡ Some (value_at head object n))
+      → lookup (λ k. n == k) (found_in (m ∷ ms)) ≡ Some (value_at head object n)
+  found_here n m ms true e h rest = rw e (ap (λ k. Some (value_at head object k)) (sym (same_number n m e)))
+  found_here n m ms false e h rest = rw e (rest h)
+
+  pub found : (n : ℕ) (ns : List ℕ) → list_any (λ m. n == m) ns ≡ true → lookup (λ m. n == m) (found_in ns) ≡ Some (value_at head object n)
+  found n [] h = cc
+  found n (m ∷ ms) h = found_here n m ms (n == m) refl h (found n ms)

@@ -1,0 +1,144 @@
+// Places in terms, and the first places of a pattern's variables.
+ghost use Rattle.std.specs.Prelude.{◌≡◌, [], ◌∷◌, map, IfOk, OnOk};
+ghost use Rattle.ets_term.specs.Data.{data_of, row_of};
+ghost use Rattle.match_spec.specs.Paths.{subterm_at, element_or};
+ghost use Rattle.match_spec.specs.inside.CompiledExpressions.{subterms_at};
+ghost use Rattle.match_spec.specs.inside.FirstPaths.{add_first_paths, add_first_paths_from, first_paths_of, record_path, paths_of, first_path};
+
+use crate::variable::variable;
+use ets_term::{Items, Term};
+use std::alloc::{AllocError, Global};
+use std::collections::BTreeMap;
+
+/// The first places of a pattern's variables, by number.
+pub(crate) type FirstPaths = BTreeMap<u32, Items<usize>>;
+
+/// The part of the term at the place; where the way ends before, what it has come to.
+pub(crate) fn subterm_at<'a>(path: &[usize], term: &'a Term) -> &'a Term
+    ensures { data_of result.now ≡ subterm_at path.now (data_of term.now) }
+{
+    let mut part = term;
+    for i in path {
+        part = element_or(part, *i);
+    }
+    part
+}
+
+fn element_or(term: &Term, i: usize) -> &Term
+    ensures { data_of result.now ≡ subterm_at (i ∷ []) (data_of term.now) }
+{
+    match term {
+        Term::Tuple(items) => item_or(items.as_slice(), i, term),
+        Term::List(items) => item_or(items.as_slice(), i, term),
+        _ => term,
+    }
+}
+
+fn item_or<'a>(items: &'a [Term], i: usize, term: &'a Term) -> &'a Term
+    ensures { data_of result.now ≡ element_or (row_of (map data_of items.now)) i (data_of term.now) }
+{
+    if i < items.len() { &items[i] } else { term }
+}
+
+/// Copies of what stands at the places.
+pub(crate) fn clone_subterms(
+    alloc: Global,
+    paths: &[Items<usize>],
+    term: &Term,
+) -> Result<Vec<Term>, AllocError>
+    ensures { IfOk result (λ parts. map data_of parts.items ≡ subterms_at paths.now (data_of term.now)) }
+{
+    let mut parts = Vec::with_capacity(alloc, paths.len())?;
+    for path in paths {
+        parts.push(subterm_at(path.as_slice(), term).try_clone(alloc)?)?;
+    }
+    Ok(parts)
+}
+
+/// The first places of the pattern's variables, each looked up once.
+pub(crate) fn first_paths(alloc: Global, pattern: &Term) -> Result<FirstPaths, AllocError>
+    ensures { IfOk result (λ first. first.entries ≡ first_paths_of (data_of pattern.now)) }
+{
+    let mut current_path = Vec::new(alloc);
+    let mut first = BTreeMap::new(alloc);
+    collect(alloc, pattern, &mut current_path, &mut first)?;
+    Ok(first)
+}
+
+#[cycle(collect)]
+fn collect(
+    alloc: Global,
+    part: &Term,
+    current_path: &mut Vec<usize>,
+    first: &mut FirstPaths,
+) -> Result<(), AllocError>
+    ensures paths { OnOk result (first.new.entries ≡ add_first_paths current_path.old.items first.old.entries (data_of part.now)) }
+    ensures current_path { OnOk result (current_path.new.items ≡ current_path.old.items) }
+{
+    match part {
+        Term::Atom(name) => match variable(name.text().as_bytes()) {
+            Some(number) => record_path(alloc, number, current_path.as_slice(), first),
+            None => Ok(()),
+        },
+        Term::Tuple(parts) => collect_all(alloc, parts.as_slice(), current_path, first),
+        Term::List(parts) => collect_all(alloc, parts.as_slice(), current_path, first),
+        _ => Ok(()),
+    }
+}
+
+#[cycle(collect)]
+fn collect_all(
+    alloc: Global,
+    parts: &[Term],
+    current_path: &mut Vec<usize>,
+    first: &mut FirstPaths,
+) -> Result<(), AllocError>
+    ensures paths { OnOk result (first.new.entries
+        ≡ add_first_paths_from current_path.old.items 0 first.old.entries (row_of (map data_of parts.now))) }
+    ensures current_path { OnOk result (current_path.new.items ≡ current_path.old.items) }
+{
+    for i in 0..parts.len() {
+        current_path.push(i)?;
+        collect(alloc, &parts[i], current_path, first)?;
+        current_path.pop();
+    }
+    Ok(())
+}
+
+fn record_path(
+    alloc: Global,
+    number: u32,
+    current_path: &[usize],
+    first: &mut FirstPaths,
+) -> Result<(), AllocError>
+    ensures { OnOk result (first.new.entries ≡ record_path current_path.now first.old.entries (Some number)) }
+{
+    if !first.contains_key(&number) {
+        first.insert(number, Items::from_vec(current_path.to_vec(alloc)?))?;
+    }
+    Ok(())
+}
+
+/// The first place of the variable; no way at all where it is not there.
+pub(crate) fn first_path(first: &FirstPaths, number: u32) -> &[usize]
+    ensures { result.now ≡ first_path first.now.entries number }
+{
+    match first.get(&number) {
+        Some(path) => path.as_slice(),
+        None => &[],
+    }
+}
+
+/// The places, in order of number.
+pub(crate) fn paths_by_number(
+    alloc: Global,
+    first: &FirstPaths,
+) -> Result<Items<Items<usize>>, AllocError>
+    ensures { IfOk result (λ paths. paths ≡ paths_of first.now.entries) }
+{
+    let mut paths = Vec::with_capacity(alloc, first.len())?;
+    for path in first.values() {
+        paths.push(Items::from_vec(path.as_slice().to_vec(alloc)?))?;
+    }
+    Ok(Items::from_vec(paths))
+}
