@@ -34,7 +34,7 @@ pub none-is_some : {X : Type 0} (o : Option X) → o ≡ None → is_some o ≡ 
 none-is_some None e h = cc
 none-is_some (Some x) e h = cc
 
--- a fact of what an `Ok` holds leads to another
+-- what follows from a fact about the value of an `Ok`
 pub IfOk-map : {T E : Type 0} (r : Result T E) (P Q : T → Type 0) → ((x : T) → P x → Q x) → IfOk r P → IfOk r Q
 IfOk-map (Ok x) P Q f h = f x h
 IfOk-map (Err e) P Q f h = h

@@ -30,7 +30,7 @@ module _ (paths : List Path) where
   abbrev pub of_at : Expression → Data → Option Data
   of_at = expression_value paths
 
-  of-Constant : (t : Term) → of_at (Constant t) ≡ expression_step paths (Expression-F.Constant t)
+  pub of-Constant : (t : Term) → of_at (Constant t) ≡ expression_step paths (Expression-F.Constant t)
   of-Constant t = search (rules, the_lemmas)
 
   of-Object : of_at Object ≡ expression_step paths Expression-F.Object
@@ -39,7 +39,7 @@ module _ (paths : List Path) where
   of-Bindings : of_at Bound ≡ expression_step paths Expression-F.Bindings
   of-Bindings = search (rules, the_lemmas)
 
-  of-Variable : (path : Path) → of_at (Variable path) ≡ expression_step paths (Expression-F.Variable path)
+  pub of-Variable : (path : Path) → of_at (Variable path) ≡ expression_step paths (Expression-F.Variable path)
   of-Variable path = search (rules, the_lemmas)
 
   of-Tuple : (es : List Expression) → of_at (Tuple es) ≡ expression_step paths (Expression-F.Tuple (map of_at es))

@@ -37,7 +37,7 @@ v0 = atom (codes "$0")
 abbrev any : Data
 any = atom (codes "_")
 
--- a variable stands for the same term at each of its places; bindings come in order of number
+-- a variable matches the same term at each of its occurrences; bindings are in order of number
 same_twice : option_map values (bindings_of (t (v1 ∷ v1 ∷ [])) (t (atom (codes "x") ∷ atom (codes "x") ∷ []))) ≡ Some (atom (codes "x") ∷ [])
 same_twice = refl
 
@@ -56,7 +56,7 @@ spec head conditions body = l (clause head conditions body ∷ [])
 abbrev b2 : Data
 b2 = t (atom (codes "b") ∷ numeral 2 ∷ [])
 
--- conditions, and what fails
+-- conditions, and expressions that fail
 above_one : result_of (spec (t (v1 ∷ v2 ∷ [])) (t (atom (codes ">") ∷ v2 ∷ numeral 1 ∷ []) ∷ []) (atom (codes "$$") ∷ [])) b2 ≡ Some (l (atom (codes "b") ∷ numeral 2 ∷ []))
 above_one = refl
 
@@ -72,7 +72,7 @@ empty_spec = refl
 unbound : is_spec (spec v1 [] (v2 ∷ [])) ≡ false
 unbound = refl
 
--- the least integer, and what is not evaluated
+-- the least integer, and arguments that are not evaluated
 least : Data
 least = int (negsuc (2 ^ 127 - 1))
 
@@ -91,7 +91,7 @@ and_also = refl
 and_all : body (atom (codes "and") ∷ atom (codes "false") ∷ t (atom (codes "hd") ∷ l [] ∷ []) ∷ []) ≡ Some (atom (codes "EXIT"))
 and_all = refl
 
--- the first clause that counts
+-- the first matching clause
 first_or_second : Data
 first_or_second = l (clause (t (v1 ∷ any ∷ [])) (t (atom (codes "=:=") ∷ v1 ∷ a ∷ []) ∷ []) (atom (codes "first") ∷ []) ∷ clause any [] (atom (codes "second") ∷ []) ∷ [])
 

@@ -73,7 +73,7 @@ constant_else-named f [] e h = refl
 constant_else-named f (u ∷ []) e h = rw h refl
 constant_else-named f (u ∷ v ∷ ts) e h = refl
 
--- all behind the first
+-- all terms after the first
 pub rest-whole : (ts : List Term) → take (length ts - 1) (drop 1 ts) ≡ drop 1 ts
 rest-whole ts = grind (arith, common_steps)
 

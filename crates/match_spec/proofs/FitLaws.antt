@@ -1,4 +1,4 @@
--- An object fits a compiled pattern exactly where it matches the pattern by what stands at the first places.
+-- An object fits a compiled pattern exactly if it matches the pattern by the subterms at the first paths.
 use Rattle.std.proofs.Common.{◌≡◌, ℕ, suc, ◌+◌, ◌&&◌, ◌||◌, Bool, true, false, if◌then◌else◌, List, [], ◌∷◌, ◌++◌, Option, Some, None, is_some, map, codes, rules, refl, sym, ap, subst, ◌∙◌, arith, add-zero, zero-add}
 use Rattle.std.proofs.lemmas.Slice.Eq.{bytes_eq-Decides}
 use Rattle.std.specs.Option.{option_map}
@@ -24,7 +24,7 @@ fits-Wildcard = search (rules, the_lemmas)
 fits-Repeated : (path : Path) → part_fits (Repeated path) ≡ part_step (Part-F.Repeated path)
 fits-Repeated path = search (rules, the_lemmas)
 
-fits-Tuple : (ps : List Part) → part_fits (Tuple ps) ≡ part_step (Part-F.Tuple (map part_fits ps))
+pub fits-Tuple : (ps : List Part) → part_fits (Tuple ps) ≡ part_step (Part-F.Tuple (map part_fits ps))
 fits-Tuple ps = search (rules, the_lemmas)
 
 fits-List : (ps : List Part) → part_fits (Terms ps) ≡ part_step (Part-F.List (map part_fits ps))
@@ -37,7 +37,7 @@ subterm_at-snoc : (path : Path) (i : ℕ) (t : Data) → subterm_at (path ++ i �
 subterm_at-snoc [] i t = refl
 subterm_at-snoc (j ∷ path) i t = subterm_at-snoc path i (element_or (parts t) j t)
 
--- the same constant, whatever kind
+-- a literal of any kind
 fits-constant : (d object t : Data) → part_fits (Literal (term_of d)) object t ≡ equal_terms d t
 fits-constant d object t = ap (λ f. f object t) (fits-Literal (term_of d)) ∙ ap (λ e. equal_terms e t) (data_of-term_of d)
 
@@ -52,51 +52,51 @@ module _ (pattern object : Data) where
   abbrev first : FirstPaths
   first = first_paths_of pattern
 
-  module _ (current_path : Path) (t : Data) (stands : subterm_at current_path object ≡ t) where
-    fit_repeated : (path : Path) (same : Bool) → bytes_eq path current_path ≡ same → part_fits (if same then Wildcard else Repeated path) object t ≡ equal_terms (subterm_at path object) t
+  module _ (current : Path) (t : Data) (stands : subterm_at current object ≡ t) where
+    fit_repeated : (path : Path) (same : Bool) → bytes_eq path current ≡ same → part_fits (if same then Wildcard else Repeated path) object t ≡ equal_terms (subterm_at path object) t
     fit_repeated path true e =
-        ap (λ f. f object t) fits-Wildcard ∙ sym (ap (λ q. equal_terms (subterm_at q object) t) ((bytes_eq-Decides path current_path).0 e) ∙ ap (λ d. equal_terms d t) stands ∙ equal_terms-refl t)
+        ap (λ f. f object t) fits-Wildcard ∙ sym (ap (λ q. equal_terms (subterm_at q object) t) ((bytes_eq-Decides path current).0 e) ∙ ap (λ d. equal_terms d t) stands ∙ equal_terms-refl t)
     fit_repeated path false e = ap (λ f. f object t) (fits-Repeated path)
 
-    fit_variable : (a : List ℕ) (o : Option ℕ) → part_fits (name_part first current_path a o) object t ≡ name_matches b a o t
+    fit_variable : (a : List ℕ) (o : Option ℕ) → part_fits (name_part first current a o) object t ≡ name_matches b a o t
     fit_variable a None = fits-constant (atom a) object t
     fit_variable a (Some n) = fit_repeated (first_path first n) _ refl ∙ ap (λ (q : Path). equal_terms (subterm_at q object) t) (first_path-first pattern n)
 
-    fit_name : (a : List ℕ) (any : Bool) → part_fits (if any then Wildcard else name_part first current_path a (variable a)) object t ≡ (any || name_matches b a (variable a) t)
+    fit_name : (a : List ℕ) (any : Bool) → part_fits (if any then Wildcard else name_part first current a (variable a)) object t ≡ (any || name_matches b a (variable a) t)
     fit_name a true = ap (λ f. f object t) fits-Wildcard
     fit_name a false = fit_variable a (variable a)
 
   mutual
-    fit : (current_path : Path) (p t : Data) → subterm_at current_path object ≡ t → part_fits (part_of first current_path p) object t ≡ matches b p t
-    fit current_path (atom a) t e = fit_name current_path t e a (bytes_eq a (codes "_"))
-    fit current_path (tuple ps) (tuple ts) e =
-        ap (λ f. f object (tuple ts)) (fits-Tuple _) ∙ fit_row current_path 0 ps ts (tuple ts) (λ j. rw zero-add (subterm_at-snoc current_path j object ∙ ap (λ d. element_or (parts d) j d) e))
-    fit current_path (list ps) (list ts) e =
-        ap (λ f. f object (list ts)) (fits-List _) ∙ fit_row current_path 0 ps ts (list ts) (λ j. rw zero-add (subterm_at-snoc current_path j object ∙ ap (λ d. element_or (parts d) j d) e))
-    fit current_path (tuple ps) (int n) e = ap (λ f. f object (int n)) (fits-Tuple _)
-    fit current_path (tuple ps) (atom n) e = ap (λ f. f object (atom n)) (fits-Tuple _)
-    fit current_path (tuple ps) (pid n) e = ap (λ f. f object (pid n)) (fits-Tuple _)
-    fit current_path (tuple ps) (tid n) e = ap (λ f. f object (tid n)) (fits-Tuple _)
-    fit current_path (tuple ps) (list n) e = ap (λ f. f object (list n)) (fits-Tuple _)
-    fit current_path (tuple ps) (binary n) e = ap (λ f. f object (binary n)) (fits-Tuple _)
-    fit current_path (list ps) (int n) e = ap (λ f. f object (int n)) (fits-List _)
-    fit current_path (list ps) (atom n) e = ap (λ f. f object (atom n)) (fits-List _)
-    fit current_path (list ps) (pid n) e = ap (λ f. f object (pid n)) (fits-List _)
-    fit current_path (list ps) (tid n) e = ap (λ f. f object (tid n)) (fits-List _)
-    fit current_path (list ps) (tuple n) e = ap (λ f. f object (tuple n)) (fits-List _)
-    fit current_path (list ps) (binary n) e = ap (λ f. f object (binary n)) (fits-List _)
-    fit current_path (int n) t e = fits-constant (int n) object t
-    fit current_path (pid n) t e = fits-constant (pid n) object t
-    fit current_path (tid n) t e = fits-constant (tid n) object t
-    fit current_path (binary s) t e = fits-constant (binary s) object t
+    fit : (current : Path) (p t : Data) → subterm_at current object ≡ t → part_fits (part_of first current p) object t ≡ matches b p t
+    fit current (atom a) t e = fit_name current t e a (bytes_eq a (codes "_"))
+    fit current (tuple ps) (tuple ts) e =
+        ap (λ f. f object (tuple ts)) (fits-Tuple _) ∙ fit_row current 0 ps ts (tuple ts) (λ j. rw zero-add (subterm_at-snoc current j object ∙ ap (λ d. element_or (parts d) j d) e))
+    fit current (list ps) (list ts) e =
+        ap (λ f. f object (list ts)) (fits-List _) ∙ fit_row current 0 ps ts (list ts) (λ j. rw zero-add (subterm_at-snoc current j object ∙ ap (λ d. element_or (parts d) j d) e))
+    fit current (tuple ps) (int n) e = ap (λ f. f object (int n)) (fits-Tuple _)
+    fit current (tuple ps) (atom n) e = ap (λ f. f object (atom n)) (fits-Tuple _)
+    fit current (tuple ps) (pid n) e = ap (λ f. f object (pid n)) (fits-Tuple _)
+    fit current (tuple ps) (tid n) e = ap (λ f. f object (tid n)) (fits-Tuple _)
+    fit current (tuple ps) (list n) e = ap (λ f. f object (list n)) (fits-Tuple _)
+    fit current (tuple ps) (binary n) e = ap (λ f. f object (binary n)) (fits-Tuple _)
+    fit current (list ps) (int n) e = ap (λ f. f object (int n)) (fits-List _)
+    fit current (list ps) (atom n) e = ap (λ f. f object (atom n)) (fits-List _)
+    fit current (list ps) (pid n) e = ap (λ f. f object (pid n)) (fits-List _)
+    fit current (list ps) (tid n) e = ap (λ f. f object (tid n)) (fits-List _)
+    fit current (list ps) (tuple n) e = ap (λ f. f object (tuple n)) (fits-List _)
+    fit current (list ps) (binary n) e = ap (λ f. f object (binary n)) (fits-List _)
+    fit current (int n) t e = fits-constant (int n) object t
+    fit current (pid n) t e = fits-constant (pid n) object t
+    fit current (tid n) t e = fits-constant (tid n) object t
+    fit current (binary s) t e = fits-constant (binary s) object t
 
-    fit_row : (current_path : Path) (i : ℕ) (ps ts : Row) (d : Data) → ((j : ℕ) → subterm_at (current_path ++ (i + j) ∷ []) object ≡ element_or ts j d)
-        → all_fit (map part_fits (parts_from first current_path i ps)) object ts ≡ row_matches b ps ts
-    fit_row current_path i no_terms no_terms d h = refl
-    fit_row current_path i no_terms (term t ts) d h = refl
-    fit_row current_path i (term p ps) no_terms d h = refl
-    fit_row current_path i (term p ps) (term t ts) d h = λ k. fit (current_path ++ i ∷ []) p t (rw add-zero at (h 0)) k
-        && fit_row current_path (suc i) ps ts d (λ j. subst (λ m. subterm_at (current_path ++ m ∷ []) object ≡ element_or ts j d) (omega arith) (h (suc j))) k
+    fit_row : (current : Path) (i : ℕ) (ps ts : Row) (d : Data) → ((j : ℕ) → subterm_at (current ++ (i + j) ∷ []) object ≡ element_or ts j d)
+        → all_fit (map part_fits (parts_from first current i ps)) object ts ≡ row_matches b ps ts
+    fit_row current i no_terms no_terms d h = refl
+    fit_row current i no_terms (term t ts) d h = refl
+    fit_row current i (term p ps) no_terms d h = refl
+    fit_row current i (term p ps) (term t ts) d h = λ k. fit (current ++ i ∷ []) p t (rw add-zero at (h 0)) k
+        && fit_row current (suc i) ps ts d (λ j. subst (λ m. subterm_at (current ++ m ∷ []) object ≡ element_or ts j d) (omega arith) (h (suc j))) k
 
   -- the whole object
   pub fits-pattern : part_fits (part_of first [] pattern) object object ≡ matches b pattern object
@@ -106,7 +106,7 @@ module _ (pattern object : Data) where
   values-occurrences [] = refl
   values-occurrences (n ∷ ns) = ap (λ ds. value_at pattern object n ∷ ds) (values-occurrences ns)
 
-  -- what stands at the places is what is bound
+  -- the subterms at the paths are the values of the bindings
   pub subterms_at-first : subterms_at (paths_of first) object ≡ values (occurrences pattern object)
   subterms_at-first = ap (λ (paths : List Path). subterms_at paths object) (paths_of-first pattern) ∙ values-occurrences (variables pattern)
 

@@ -1,4 +1,4 @@
--- What a part without variables matches, and the keys of what matches.
+-- What a ground part of a pattern matches, and the keys of objects that match.
 use Rattle.std.proofs.Common.{◌≡◌, ℕ, zero, suc, ◌<◌, length, get_or, drop, map, arith, [], ◌∷◌, ◌&&◌, ◌||◌, not, Bool, true, false, if◌then◌else◌, List, Option, Some, None, is_some, codes, Bor, option_copied, IfSome, refl, sym, ap, subst, ◌∙◌}
 use Rattle.std.specs.Cmp.{Equal-is}
 use Rattle.std.specs.Option.{option_map, option_and_then, option_map_or}
@@ -28,7 +28,7 @@ module _ (b : ℕ → Option Data) where
   named a t false (Some n) g h = cc
 
   mutual
-    -- it matches itself alone
+    -- a ground part matches itself alone
     pub ground-alone : (p t : Data) → is_ground p ≡ true → matches b p t ≡ true → p ≡ t
     ground-alone (atom a) t g h = named a t (bytes_eq a (codes "_")) (variable a) g h
     ground-alone (tuple ps) (tuple ts) g h = ap tuple (grounds-alone ps ts g h)
@@ -53,7 +53,7 @@ kept (Some d) k h = by (is_ground d) refl h
     by false e q = absurd (None-Some q)
 
 module _ (b : ℕ → Option Data) (k : Data) (ground : is_ground k ≡ true) where
-  -- where a row matches, a part that is ground stands in both
+  -- if a list of data matches, its ground elements are equal in both
   row_has : (ps ts : Row) (i : ℕ) → row_matches b ps ts ≡ true → row_element ps i ≡ Some k → row_element ts i ≡ Some k
   row_has no_terms ts i h e = absurd (None-Some e)
   row_has (term p ps) no_terms i h e = cc
@@ -85,7 +85,7 @@ module _ (keypos : ℕ) where
   matched p t true h = refl
   matched p t false h = h
 
-  -- what a pattern binds stands in every object that matches
+  -- every object that matches has the key that the pattern binds
   match_key : (p t k : Data) → bound_key keypos p ≡ Some k → is_some (bindings_of p t) ≡ true → tuple_element keypos t ≡ Some k
   match_key p t k e h = let q = kept (tuple_element keypos p) k e in key-alone (λ n. Some (value_at p t n)) p t k (matched p t _ h) q.0 q.1
 
@@ -128,7 +128,7 @@ module _ (keypos : ℕ) where
         by true e q = (q, subst (λ x. all_bind keypos x cs ≡ true) (same_Some q) e)
         by false e q = absurd (None-Some q)
 
-    -- what all clauses bind stands in every object for which one of them counts
+    -- every object that some clause applies to has the key that all clauses bind
     result_key : (spec : Data) → spec_key keypos spec ≡ Some k → is_some (result_of spec t) ≡ true → Has
     result_key (list (term c cs)) e h =
         let q = all_kept (clause_key keypos c) cs e in clause_has (clause_parts c) (first_result cs t) q.0 (clauses_have cs q.1) h
@@ -143,7 +143,7 @@ module _ (keypos : ℕ) where
   pub is_key_of_results : (spec : Data) (key : Term) → spec_key keypos spec ≡ Some (data_of key) → IsKeyOfResults keypos spec key
   is_key_of_results spec key e = λ object h. term_key object key (result_key (data_of object) (data_of key) spec e h)
 
--- the same of what a call answers
+-- the same for the key that `bound_key` returns
 pub every_match : (keypos : ℕ) (p : Data) (r : Option (Bor Term)) → option_map data_of (option_copied r) ≡ bound_key keypos p → IfSome r (λ key. IsKeyOfMatches keypos p key.now)
 every_match keypos p None e = tt
 every_match keypos p (Some key) e = is_key_of_matches keypos p key.now (sym e)

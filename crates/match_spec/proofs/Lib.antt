@@ -9,6 +9,7 @@ pub mod MatchLaws
 pub mod NumberLaws
 pub mod PartLaws
 pub mod PathLaws
+pub mod QuickLaws
 pub mod SpecLaws
 pub mod TreeLaws
 pub mod ValueLaws

@@ -54,7 +54,7 @@ module _ (i : ℕ) (t : Term) where
   by_kind (list ds) e = nothing _ i (ap elements e ∙ elements-List (terms_of ds)) ∙ rw (e, data_of-List (terms_of ds)) refl
   by_kind (binary s) e = nothing _ i (ap elements e ∙ elements-Binary s) ∙ rw e (search (rules, the_lemmas))
 
--- element n of a term is that of its tree
+-- element n of a term is element n of its tree
 pub element_at_tree : (n : ℕ) (t : Term) → option_map data_of (element_at n t) ≡ tuple_element n (data_of t)
 element_at_tree zero t = refl
 element_at_tree (suc i) t =

@@ -1,4 +1,4 @@
--- Where a term matches by some bindings, each variable of the pattern is bound to what stands at its first place.
+-- If a term matches by some bindings, each variable of the pattern is bound to the subterm at its first path.
 use Rattle.std.proofs.Common.{◌≡◌, ℕ, suc, ◌+◌, ◌==◌, ◌&&◌, ◌||◌, ◌++◌, is_some, map, unwrap_or, Bool, true, false, if◌then◌else◌, List, [], ◌∷◌, Option, Some, None, codes, refl, sym, ap, subst, ◌∙◌, arith, zero-add, add-zero}
 use Rattle.std.proofs.lemmas.Slice.Eq.{bytes_eq-Decides}
 use Rattle.std.specs.Option.{option_map, option_or}
@@ -75,7 +75,7 @@ module _ (b : ℕ → Option Data) (n : ℕ) where
         either None o-is q in_first in_rest = in_rest q
         either (Some inner) o-is q in_first in_rest = in_first inner o-is ∙ ap (λ (w : Path). Some (subterm_at w whole)) (same_Some q)
 
--- two ways to bind that agree on the variables of a pattern match alike
+-- bindings that agree on the variables of a pattern match the same terms
 module _ (f g : ℕ → Option Data) where
   abbrev Agree : List ℕ → Type 0
   Agree ns = (n : ℕ) → has ns n ≡ true → f n ≡ g n
@@ -113,7 +113,7 @@ has-variable_numbers p n h = drop_false _ (sym (has-fold (variable_numbers p) []
     drop_false true e = refl
     drop_false false e = e
 
--- each has a first place
+-- each variable has a first path
 some-or : {X : Type 0} (a b : Option X) → (is_some a || is_some b) ≡ true → is_some (option_or a b) ≡ true
 some-or None b h = h
 some-or (Some x) b h = refl
@@ -150,7 +150,7 @@ module _ (n : ℕ) where
 found_value : (pattern t : Data) (n : ℕ) (ns : List ℕ) → has ns n ≡ true → binding (map (λ m. (m, value_at pattern t m)) ns) n ≡ Some (value_at pattern t n)
 found_value pattern t n ns h = found pattern t n ns h
 
--- what the function by places gives is a match
+-- the bindings at the first paths are a match
 pub bindings_of-sound : (pattern t : Data) (b : Bindings) → bindings_of pattern t ≡ Some b → Match pattern t b
 bindings_of-sound pattern t b h = by (matches (λ n. Some (value_at pattern t n)) pattern t) refl h
   where
@@ -165,7 +165,7 @@ bindings_of-sound pattern t b h = by (matches (λ n. Some (value_at pattern t n)
       bound = keys (variables pattern);
     })
 
--- where a term matches by some bindings, the function gives some
+-- if a term matches by some bindings, it matches by those at the first paths
 pub bindings_of-complete : (pattern t : Data) (b : Bindings) → Match pattern t b → bindings_of pattern t ≡ Some (occurrences pattern t)
 bindings_of-complete pattern t b m = rw (matches_alike (λ n. Some (value_at pattern t n)) (binding b) pattern t (λ n h. stands n (path_of n pattern) refl (placed n pattern h)) ∙ m.fits) refl
   where
@@ -174,7 +174,7 @@ bindings_of-complete pattern t b m = rw (matches_alike (λ n. Some (value_at pat
     stands n (Some path) e h = ap (λ (w : Option Path). Some (subterm_at (unwrap_or w []) t)) e ∙ sym (follow (binding b) n pattern t path e m.fits)
 
 module _ (v : ℕ → Data) where
-  -- bindings whose numbers rise are what they bind
+  -- bindings in order of number are determined by the value of each variable
   rebuilt : (b : Bindings) → Rising (map (λ (x : ℕ × Data). x.0) b) → ((n : ℕ) → has (map (λ (x : ℕ × Data). x.0) b) n ≡ true → binding b n ≡ Some (v n)) → b ≡ map (λ n. (n, v n)) (map (λ (x : ℕ × Data). x.0) b)
   rebuilt [] a h = refl
   rebuilt (x ∷ b) a h = λ i. (x.0, here_is i) ∷ rebuilt b (above-rising x.0 _ a) others i
@@ -189,7 +189,7 @@ module _ (v : ℕ → Data) where
           by true q = absurd (clash (subst (λ m. has (map (λ (x : ℕ × Data). x.0) b) m ≡ true) (same_number n x.0 q) e) (above-apart x.0 _ a))
           by false q = rw q at (h n (or-right _ _ e))
 
--- by whatever bindings a term matches, they are those
+-- all bindings by which a term matches are those at the first paths
 pub bindings_of-only : (pattern t : Data) (b : Bindings) → Match pattern t b → b ≡ occurrences pattern t
 bindings_of-only pattern t b m =
     rebuilt (value_at pattern t) b (subst Rising (sym m.bound) (fold-rising (variable_numbers pattern) [] tt))

@@ -1,4 +1,4 @@
--- Numbers in lists, and lists of numbers that rise.
+-- Numbers in lists, and lists of numbers in ascending order.
 use Rattle.std.proofs.Common.{◌≡◌, ℕ, ◌<◌, nat_lt, ◌==◌, ◌||◌, ◌++◌, fold, Bool, true, false, if◌then◌else◌, List, [], ◌∷◌, refl, ap, ◌∙◌, arith}
 use Rattle.std.proofs.lemmas.Bool.Decides.{nat_tests}
 use Rattle.std.specs.List.{list_any}
@@ -11,7 +11,7 @@ same_number n m h = grind (arith, nat_tests)
 pub itself : (n : ℕ) → (n == n) ≡ true
 itself n = grind (arith, nat_tests)
 
--- whether a number stands in a list
+-- whether a number is in a list
 abbrev pub has : List ℕ → ℕ → Bool
 has ns n = list_any (λ m. n == m) ns
 
@@ -19,7 +19,7 @@ pub has-append : (xs ys : List ℕ) (n : ℕ) → has (xs ++ ys) n ≡ (has xs n
 has-append [] ys n = refl
 has-append (x ∷ xs) ys n = ap (λ c. (n == x) || c) (has-append xs ys n) ∙ or_assoc (n == x) (has xs n) (has ys n)
 
--- putting a number in adds that number alone
+-- inserting a number adds that number alone
 pub has-put : (m : ℕ) (ms : List ℕ) (n : ℕ) → has (put m ms) n ≡ ((n == m) || has ms n)
 has-put m [] n = refl
 has-put m (k ∷ ks) n = by (m == k) (nat_lt m k) refl (has-put m ks n)
@@ -48,7 +48,7 @@ has-fold (m ∷ ns) acc n = has-fold ns (put m acc) n ∙ ap (λ c. has ns n || 
     turn false true c = refl
     turn false false c = refl
 
--- numbers that rise, all above one
+-- numbers in ascending order, all greater than a number
 abbrev pub Above : ℕ → List ℕ → Type 0
 Above m [] = Unit {0}
 Above m (k ∷ ks) = (m < k) × Above k ks
@@ -108,7 +108,7 @@ above-has m (k ∷ ks) n a h = by (n == k) refl h (above-has k ks n a.1)
     by true e q more = let same = same_number n k e in omega (arith, a.0, same)
     by false e q more = let above = more q in omega (arith, a.0, above)
 
--- a number that is there is not put in again
+-- inserting a number that is present changes nothing
 pub put-there : (n : ℕ) (ks : List ℕ) → Rising ks → has ks n ≡ true → put n ks ≡ ks
 put-there n [] a h = cc
 put-there n (k ∷ ks) a h = by (n == k) refl h (put-there n ks (above-rising k ks a))

@@ -1,4 +1,4 @@
--- Elements of rows, and rows of another length.
+-- Elements of data lists, and data lists of another length.
 use Rattle.std.proofs.Common.{◌≡◌, ℕ, zero, suc, ◌<◌, ◌≤◌, ◌&&◌, Bool, true, false, List, [], ◌∷◌, map, length, get_or, drop, None, refl, arith}
 use Rattle.ets_term.specs.declared.term.Term.{Term}
 use Rattle.ets_term.specs.Data.{Data, row_of, data_of}
@@ -26,7 +26,7 @@ all_fit-lengths [] object (t ∷ ts) h = refl
 all_fit-lengths (f ∷ fs) object [] h = refl
 all_fit-lengths (f ∷ fs) object (t ∷ ts) h = and_both (f object (data_of t)) _ (all_fit-lengths fs object ts (λ e. h (omega arith)))
 
--- past a part without the variable
+-- the path of a variable that the element at i does not have
 pub path_from-next : (n : ℕ) (ts : List Term) (i k : ℕ) (t : Term) → i < length ts → path_of n (data_of (get_or ts i t)) ≡ None
     → path_from n (suc k) (row_of (map data_of (drop (suc i) ts))) ≡ path_from n k (row_of (map data_of (drop i ts)))
 path_from-next n [] i k t h e = absurd (omega arith)

@@ -1,4 +1,4 @@
--- The first places that the program collects are those of the pattern's variables.
+-- The collected paths are the first paths of the pattern's variables.
 use Rattle.std.proofs.Common.{◌≡◌, ℕ, suc, nat_lt, ◌==◌, ◌||◌, ◌++◌, cond, is_some, map, fold, unwrap_or, Bool, true, false, if◌then◌else◌, List, [], ◌∷◌, Option, Some, None, refl, sym, ap, subst, ◌∙◌, arith}
 use Rattle.std.proofs.lemmas.Bool.Decides.{nat_tests}
 use Rattle.std.proofs.lemmas.List.{append-nil, append_assoc}
@@ -35,14 +35,14 @@ has-lookup (e ∷ es) n = by (n == e.0) (has-lookup es n)
 pub is_bound_lookup : (first : FirstPaths) (n : ℕ) → is_some (path_in first n) ≡ is_bound (numbers_of first) (Some n)
 is_bound_lookup first n = ap is_some (path_in-number first n) ∙ has-lookup first n
 
-module _ (n : ℕ) (current_path : Path) where
+module _ (n : ℕ) (current : Path) where
   below : (m : ℕ) → nat_lt n m ≡ true → (n == m) ≡ false
   below m h = grind (arith, nat_tests)
 
   abbrev entered : FirstPaths → FirstPaths
-  entered es = insert_entry nat_cmp es n current_path
+  entered es = insert_entry nat_cmp es n current
 
-  -- a new number goes to its place among the numbers
+  -- a new number is inserted in order
   variable_numbers-entered : (es : FirstPaths) → at_number es n ≡ None → numbers_of (entered es) ≡ put n (numbers_of es)
   variable_numbers-entered [] h = refl
   variable_numbers-entered (e ∷ es) h = by (nat_lt n e.0) (n == e.0) refl refl h (variable_numbers-entered es)
@@ -54,19 +54,19 @@ module _ (n : ℕ) (current_path : Path) where
       by false true l s q rest = cc
       by false false l s q rest = rw (l, s) (ap (λ ns. e.0 ∷ ns) (rest q))
 
-  -- and the others stay where they are
-  lookup-entered : (es : FirstPaths) (m : ℕ) → at_number es n ≡ None → at_number (entered es) m ≡ cond (m == n) (Some current_path) (at_number es m)
+  -- and the paths of the others stay
+  lookup-entered : (es : FirstPaths) (m : ℕ) → at_number es n ≡ None → at_number (entered es) m ≡ cond (m == n) (Some current) (at_number es m)
   lookup-entered [] m h = refl
   lookup-entered (e ∷ es) m h = by (nat_lt n e.0) (n == e.0) refl refl h (lookup-entered es m)
     where
-      swap : (c d : Bool) → (m == n) ≡ c → (m == e.0) ≡ d → (n == e.0) ≡ false → cond d (Some e.1) (cond c (Some current_path) (at_number es m)) ≡ cond c (Some current_path) (cond d (Some e.1) (at_number es m))
+      swap : (c d : Bool) → (m == n) ≡ c → (m == e.0) ≡ d → (n == e.0) ≡ false → cond d (Some e.1) (cond c (Some current) (at_number es m)) ≡ cond c (Some current) (cond d (Some e.1) (at_number es m))
       swap true true p q r = absurd (clash (subst (λ k. (k == e.0) ≡ true) (same_number m n p) q) r)
       swap true false p q r = refl
       swap false true p q r = refl
       swap false false p q r = refl
 
-      by : (less same : Bool) → nat_lt n e.0 ≡ less → (n == e.0) ≡ same → cond same (Some e.1) (at_number es n) ≡ None → (at_number es n ≡ None → at_number (entered es) m ≡ cond (m == n) (Some current_path) (at_number es m))
-          → at_number (entered (e ∷ es)) m ≡ cond (m == n) (Some current_path) (at_number (e ∷ es) m)
+      by : (less same : Bool) → nat_lt n e.0 ≡ less → (n == e.0) ≡ same → cond same (Some e.1) (at_number es n) ≡ None → (at_number es n ≡ None → at_number (entered es) m ≡ cond (m == n) (Some current) (at_number es m))
+          → at_number (entered (e ∷ es)) m ≡ cond (m == n) (Some current) (at_number (e ∷ es) m)
       by less true l s q rest = cc
       by true false l s q rest = rw l refl
       by false false l s q rest = rw (l, s) (ap (cond (m == e.0) (Some e.1)) (rest q) ∙ swap (m == n) (m == e.0) refl refl s)
@@ -84,78 +84,78 @@ map-or f None y = refl
 map-or f (Some x) y = refl
 
 abbrev below_here : Path → Option Path → Option Path
-below_here current_path = option_map (λ path. current_path ++ path)
+below_here current = option_map (λ path. current ++ path)
 
 module _ (m : ℕ) where
-  lookup-record_path : (current_path : Path) (first : FirstPaths) (o : Option ℕ) → at_number (record_path current_path first o) m ≡ option_or (at_number first m) (if is_number m o then Some current_path else None)
-  lookup-record_path current_path first None = sym (or-None _)
-  lookup-record_path current_path first (Some n) = by (path_in first n) refl (m == n) refl
+  lookup-record_path : (current : Path) (first : FirstPaths) (o : Option ℕ) → at_number (record_path current first o) m ≡ option_or (at_number first m) (if is_number m o then Some current else None)
+  lookup-record_path current first None = sym (or-None _)
+  lookup-record_path current first (Some n) = by (path_in first n) refl (m == n) refl
     where
-      by : (o : Option Path) → path_in first n ≡ o → (c : Bool) → (m == n) ≡ c → at_number (insert_unless o first n current_path) m ≡ option_or (at_number first m) (if c then Some current_path else None)
+      by : (o : Option Path) → path_in first n ≡ o → (c : Bool) → (m == n) ≡ c → at_number (insert_unless o first n current) m ≡ option_or (at_number first m) (if c then Some current else None)
       by (Some p) e true q = rw (same_number m n q, sym (path_in-number first n) ∙ e) refl
       by (Some p) e false q = sym (or-None _)
-      by None e true q = lookup-entered n current_path first m (sym (path_in-number first n) ∙ e) ∙ rw (q, ap (at_number first) (same_number m n q) ∙ sym (path_in-number first n) ∙ e) refl
-      by None e false q = lookup-entered n current_path first m (sym (path_in-number first n) ∙ e) ∙ rw q (sym (or-None _))
+      by None e true q = lookup-entered n current first m (sym (path_in-number first n) ∙ e) ∙ rw (q, ap (at_number first) (same_number m n q) ∙ sym (path_in-number first n) ∙ e) refl
+      by None e false q = lookup-entered n current first m (sym (path_in-number first n) ∙ e) ∙ rw q (sym (or-None _))
 
-  at_here : (current_path : Path) (c : Bool) → (if c then Some current_path else None) ≡ below_here current_path (if c then Some [] else None)
-  at_here current_path true = ap Some (sym (append-nil current_path))
-  at_here current_path false = refl
+  at_here : (current : Path) (c : Bool) → (if c then Some current else None) ≡ below_here current (if c then Some [] else None)
+  at_here current true = ap Some (sym (append-nil current))
+  at_here current false = refl
 
-  inside : (current_path : Path) (i : ℕ) (o : Option Path) → below_here (current_path ++ i ∷ []) o ≡ below_here current_path (option_map (λ path. i ∷ path) o)
-  inside current_path i None = refl
-  inside current_path i (Some path) = ap Some (append_assoc current_path (i ∷ []) path)
+  inside : (current : Path) (i : ℕ) (o : Option Path) → below_here (current ++ i ∷ []) o ≡ below_here current (option_map (λ path. i ∷ path) o)
+  inside current i None = refl
+  inside current i (Some path) = ap Some (append_assoc current (i ∷ []) path)
 
   mutual
-    lookup-first : (current_path : Path) (first : FirstPaths) (p : Data) → at_number (add_first_paths current_path first p) m ≡ option_or (at_number first m) (below_here current_path (path_of m p))
-    lookup-first current_path first (atom a) = lookup-record_path current_path first (variable a) ∙ ap (option_or (at_number first m)) (at_here current_path (is_number m (variable a)))
-    lookup-first current_path first (tuple ps) = lookup-from current_path 0 first ps
-    lookup-first current_path first (list ps) = lookup-from current_path 0 first ps
-    lookup-first current_path first (int n) = sym (or-None _)
-    lookup-first current_path first (pid n) = sym (or-None _)
-    lookup-first current_path first (tid n) = sym (or-None _)
-    lookup-first current_path first (binary s) = sym (or-None _)
+    lookup-first : (current : Path) (first : FirstPaths) (p : Data) → at_number (add_first_paths current first p) m ≡ option_or (at_number first m) (below_here current (path_of m p))
+    lookup-first current first (atom a) = lookup-record_path current first (variable a) ∙ ap (option_or (at_number first m)) (at_here current (is_number m (variable a)))
+    lookup-first current first (tuple ps) = lookup-from current 0 first ps
+    lookup-first current first (list ps) = lookup-from current 0 first ps
+    lookup-first current first (int n) = sym (or-None _)
+    lookup-first current first (pid n) = sym (or-None _)
+    lookup-first current first (tid n) = sym (or-None _)
+    lookup-first current first (binary s) = sym (or-None _)
 
-    lookup-from : (current_path : Path) (i : ℕ) (first : FirstPaths) (ps : Row) → at_number (add_first_paths_from current_path i first ps) m ≡ option_or (at_number first m) (below_here current_path (path_from m i ps))
-    lookup-from current_path i first no_terms = sym (or-None _)
-    lookup-from current_path i first (term p ps) =
-        lookup-from current_path (suc i) (add_first_paths (current_path ++ i ∷ []) first p) ps
-        ∙ ap (λ o. option_or o (below_here current_path (path_from m (suc i) ps))) (lookup-first (current_path ++ i ∷ []) first p)
-        ∙ or-or (at_number first m) (below_here (current_path ++ i ∷ []) (path_of m p)) (below_here current_path (path_from m (suc i) ps))
-        ∙ ap (option_or (at_number first m)) (ap (λ o. option_or o (below_here current_path (path_from m (suc i) ps))) (inside current_path i (path_of m p)) ∙ sym (map-or (λ path. current_path ++ path) (option_map (λ path. i ∷ path) (path_of m p)) (path_from m (suc i) ps)))
+    lookup-from : (current : Path) (i : ℕ) (first : FirstPaths) (ps : Row) → at_number (add_first_paths_from current i first ps) m ≡ option_or (at_number first m) (below_here current (path_from m i ps))
+    lookup-from current i first no_terms = sym (or-None _)
+    lookup-from current i first (term p ps) =
+        lookup-from current (suc i) (add_first_paths (current ++ i ∷ []) first p) ps
+        ∙ ap (λ o. option_or o (below_here current (path_from m (suc i) ps))) (lookup-first (current ++ i ∷ []) first p)
+        ∙ or-or (at_number first m) (below_here (current ++ i ∷ []) (path_of m p)) (below_here current (path_from m (suc i) ps))
+        ∙ ap (option_or (at_number first m)) (ap (λ o. option_or o (below_here current (path_from m (suc i) ps))) (inside current i (path_of m p)) ∙ sym (map-or (λ path. current ++ path) (option_map (λ path. i ∷ path) (path_of m p)) (path_from m (suc i) ps)))
 
 abbrev putting : List ℕ → ℕ → List ℕ
 putting ms n = put n ms
 
-variable_numbers-record_path : (current_path : Path) (first : FirstPaths) (o : Option ℕ) → Rising (numbers_of first) → numbers_of (record_path current_path first o) ≡ fold putting (numbers_of first) (numbers_in o)
-variable_numbers-record_path current_path first None a = refl
-variable_numbers-record_path current_path first (Some n) a = by (path_in first n) refl
+variable_numbers-record_path : (current : Path) (first : FirstPaths) (o : Option ℕ) → Rising (numbers_of first) → numbers_of (record_path current first o) ≡ fold putting (numbers_of first) (numbers_in o)
+variable_numbers-record_path current first None a = refl
+variable_numbers-record_path current first (Some n) a = by (path_in first n) refl
   where
-    by : (o : Option Path) → path_in first n ≡ o → numbers_of (insert_unless o first n current_path) ≡ put n (numbers_of first)
+    by : (o : Option Path) → path_in first n ≡ o → numbers_of (insert_unless o first n current) ≡ put n (numbers_of first)
     by (Some p) e = sym (put-there n _ a (sym (has-lookup first n) ∙ ap is_some (sym (path_in-number first n) ∙ e)))
-    by None e = variable_numbers-entered n current_path first (sym (path_in-number first n) ∙ e)
+    by None e = variable_numbers-entered n current first (sym (path_in-number first n) ∙ e)
 
 rising-fold : (ns acc : List ℕ) → Rising acc → Rising (fold putting acc ns)
 rising-fold [] acc a = a
 rising-fold (n ∷ ns) acc a = rising-fold ns (put n acc) (put-rising n acc a)
 
 mutual
-  variable_numbers-first : (current_path : Path) (first : FirstPaths) (p : Data) → Rising (numbers_of first) → numbers_of (add_first_paths current_path first p) ≡ fold putting (numbers_of first) (variable_numbers p)
-  variable_numbers-first current_path first (atom a) r = variable_numbers-record_path current_path first (variable a) r
-  variable_numbers-first current_path first (tuple ps) r = variable_numbers-from current_path 0 first ps r
-  variable_numbers-first current_path first (list ps) r = variable_numbers-from current_path 0 first ps r
-  variable_numbers-first current_path first (int n) r = refl
-  variable_numbers-first current_path first (pid n) r = refl
-  variable_numbers-first current_path first (tid n) r = refl
-  variable_numbers-first current_path first (binary s) r = refl
+  variable_numbers-first : (current : Path) (first : FirstPaths) (p : Data) → Rising (numbers_of first) → numbers_of (add_first_paths current first p) ≡ fold putting (numbers_of first) (variable_numbers p)
+  variable_numbers-first current first (atom a) r = variable_numbers-record_path current first (variable a) r
+  variable_numbers-first current first (tuple ps) r = variable_numbers-from current 0 first ps r
+  variable_numbers-first current first (list ps) r = variable_numbers-from current 0 first ps r
+  variable_numbers-first current first (int n) r = refl
+  variable_numbers-first current first (pid n) r = refl
+  variable_numbers-first current first (tid n) r = refl
+  variable_numbers-first current first (binary s) r = refl
 
-  variable_numbers-from : (current_path : Path) (i : ℕ) (first : FirstPaths) (ps : Row) → Rising (numbers_of first) → numbers_of (add_first_paths_from current_path i first ps) ≡ fold putting (numbers_of first) (row_variable_numbers ps)
-  variable_numbers-from current_path i first no_terms r = refl
-  variable_numbers-from current_path i first (term p ps) r =
-      let same = variable_numbers-first (current_path ++ i ∷ []) first p r in
-      variable_numbers-from current_path (suc i) (add_first_paths (current_path ++ i ∷ []) first p) ps (subst Rising (sym same) (rising-fold (variable_numbers p) _ r))
+  variable_numbers-from : (current : Path) (i : ℕ) (first : FirstPaths) (ps : Row) → Rising (numbers_of first) → numbers_of (add_first_paths_from current i first ps) ≡ fold putting (numbers_of first) (row_variable_numbers ps)
+  variable_numbers-from current i first no_terms r = refl
+  variable_numbers-from current i first (term p ps) r =
+      let same = variable_numbers-first (current ++ i ∷ []) first p r in
+      variable_numbers-from current (suc i) (add_first_paths (current ++ i ∷ []) first p) ps (subst Rising (sym same) (rising-fold (variable_numbers p) _ r))
       ∙ ap (λ ms. fold putting ms (row_variable_numbers ps)) same ∙ sym (fold-append putting (numbers_of first) (variable_numbers p) (row_variable_numbers ps))
 
--- the places of entries whose numbers rise are what is looked up at them
+-- paths in order of number are the results of looking up each number
 paths_at : (f : ℕ → Path) (es : FirstPaths) → Rising (numbers_of es) → ((n : ℕ) → has (numbers_of es) n ≡ true → f n ≡ unwrap_or (at_number es n) []) → paths_of es ≡ map f (numbers_of es)
 paths_at f [] r h = refl
 paths_at f (e ∷ es) r h = λ i. here_is i ∷ paths_at f es (above-rising e.0 _ r) others i

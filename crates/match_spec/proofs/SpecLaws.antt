@@ -1,4 +1,4 @@
--- A compiled specification gives what the specification gives.
+-- A compiled match specification gives the same results as the term.
 use Rattle.std.proofs.Common.{◌≡◌, ◌==◌, ℕ, zero, suc, ◌<◌, ◌&&◌, Bool, true, false, if◌then◌else◌, List, [], ◌∷◌, Option, Some, None, map, length, get_or, drop, nat_lt, refl, sym, ap, ◌∙◌, arith}
 use Rattle.std.proofs.lemmas.Bool.Decides.{nat_tests}
 use Rattle.std.specs.Option.{option_map, option_map_or}
@@ -60,7 +60,7 @@ module _ (object : Data) where
   result_of_first-spec (tuple ds) h = refl
   result_of_first-spec (binary s) h = refl
 
--- the clause that counts, and past one that does not
+-- the clause that applies, and a clause that does not
 pub result_of_first-here : (cs : List Clause) (i : ℕ) (c : Clause) (object : Data) → i < length cs → get_or cs i c ≡ c → applies c object ≡ true
     → result_of_first (drop i cs) object ≡ Some (body_value_by c object)
 result_of_first-here [] i c object h is e = absurd (omega arith)
@@ -80,7 +80,7 @@ and_true false b h i = cc
 positive : (n : ℕ) → nat_lt 0 (suc n) ≡ true
 positive n = grind (arith, nat_tests)
 
--- a list of good clauses, not empty, is a specification
+-- a nonempty list of good clauses is a match specification
 pub is_spec-list : (t : Term) (ts : List Term) → t ≡ Lst ts → (length ts == 0) ≡ false → are_clauses (row_of (map data_of ts)) ≡ true → is_spec (data_of t) ≡ true
 is_spec-list t [] e n a = cc
 is_spec-list t (c ∷ cs) e n a = rw (e, data_of-List (c ∷ cs)) (and_true (nat_lt 0 (row_len (row_of (map data_of (c ∷ cs))))) _ (positive _) a)
@@ -88,7 +88,7 @@ is_spec-list t (c ∷ cs) e n a = rw (e, data_of-List (c ∷ cs)) (and_true (nat
 pub clauses_of-list : (t : Term) (ts : List Term) → t ≡ Lst ts → clauses_from (row_of (map data_of ts)) ≡ clauses_of (data_of t)
 clauses_of-list t ts e = rw (e, data_of-List ts) refl
 
--- a term is a clause where its parts are good
+-- a term is a clause if its parts are good
 pub is_clause-parts : (d : Data) (o : Option ClauseParts) (parts : ClauseParts) (first : FirstPaths) (b : Bool) → option_map raw_clause_of o ≡ clause_parts d → o ≡ Some parts → first ≡ first_paths_of (data_of parts.head.now)
     → b ≡ is_good_by (numbers_of first) (raw_clause_of parts) → is_clause d ≡ b
 is_clause-parts d o parts first b p q f e =

@@ -29,6 +29,6 @@ mutual
   row_of-terms_of no_terms = refl
   row_of-terms_of (term d ds) = λ i. term (data_of-term_of d i) (row_of-terms_of ds i)
 
--- a term is built like itself
+-- a term equals itself
 pub equal_terms-refl : (d : Data) → equal_terms d d ≡ true
 equal_terms-refl d = (Equal-is _).1 (tied_itself order_total d)

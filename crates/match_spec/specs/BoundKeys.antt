@@ -1,4 +1,4 @@
--- The keys that patterns and specifications bind.
+-- The keys that patterns and match specifications bind.
 use Rattle.std.specs.Prelude.{◌≡◌, ℕ, ◌&&◌, not, Bool, true, false, if◌then◌else◌, Option, Some, None, is_some, codes}
 use Rattle.std.specs.Option.{option_and_then, option_map_or}
 use Rattle.std.specs.Str.{bytes_eq}
@@ -22,7 +22,7 @@ abbrev mutual
   are_ground no_terms = true
   are_ground (term p ps) = is_ground p && are_ground ps
 
--- the key's part of a pattern, where it has neither a variable nor `'_'`
+-- the element at keypos of a pattern, if it has neither a variable nor `'_'`
 abbrev pub bound_key : ℕ → Data → Option Data
 bound_key keypos pattern =
     option_and_then (λ key. if is_ground key then Some key else None) (tuple_element keypos pattern)
@@ -45,7 +45,7 @@ abbrev pub IsKeyOfMatches : ℕ → Data → Term → Type 0
 IsKeyOfMatches keypos pattern key =
     (object : Term) → is_some (bindings_of pattern (data_of object)) ≡ true → element_at keypos object ≡ Some key
 
--- every object for which the specification gives something has this key
+-- every object for which the match specification gives a result has this key
 abbrev pub IsKeyOfResults : ℕ → Data → Term → Type 0
 IsKeyOfResults keypos spec key =
     (object : Term) → is_some (result_of spec (data_of object)) ≡ true → element_at keypos object ≡ Some key

@@ -12,8 +12,7 @@ use Rattle.match_spec.specs.Names.{function_of, strict_connective, short_circuit
 use Rattle.match_spec.specs.Patterns.{Bindings, binding, values}
 use Rattle.match_spec.specs.Variables.{variable}
 
--- what an atom is for an expression: a variable its binding, `'$_'` the object, `'$$'` the list of bindings, else
--- itself
+-- the value of an atom: of a variable its binding, of `'$_'` the object, of `'$$'` the list of bindings, else itself
 abbrev pub name_value : Bindings → Data → List ℕ → Option ℕ → Option Data
 name_value b object a (Some n) = binding b n
 name_value b object a None =
@@ -35,7 +34,7 @@ abbrev pub combine : Connective → Bool → Bool → Bool
 combine And x y = x && y
 combine Or x y = x || y
 
--- the function with a name and a number of arguments, at the values of all arguments
+-- the value of the function of a name and a number of arguments, at the values of all arguments
 abbrev pub call_value : List ℕ → ℕ → Option (List Data) → Option Data
 call_value f n ds = option_and_then (λ g. option_and_then (apply g) ds) (function_of f n)
 
@@ -47,31 +46,32 @@ abbrev pub short_circuit_or : Option Connective → (Connective → Option Data)
 short_circuit_or None value_by otherwise = otherwise
 short_circuit_or (Some connective) value_by otherwise = value_by connective
 
--- `{const,T}` is T, which is not looked into
+-- `{const,T}` is T, which is not evaluated
 abbrev pub constant_or : List ℕ → Row → Option Data → Option Data
 constant_or f (term e no_terms) otherwise = if bytes_eq f (codes "const") then Some e else otherwise
 constant_or f es otherwise = otherwise
 
 abbrev mutual
-  -- the value of an expression, None where it fails
+  -- the value of an expression, or None if it fails
   pub value : Bindings → Data → Data → Option Data
   value b object (atom a) = name_value b object a (variable a)
   value b object (list es) = option_map (λ ds. list (row_of ds)) (all_values b object es)
   value b object (tuple (term (tuple es) no_terms)) = option_map (λ ds. tuple (row_of ds)) (all_values b object es)
   value b object (tuple (term (atom f) es)) =
-      constant_or f es (short_circuit_or (short_circuit_connective f) (λ connective. short_circuit_value b object connective es)
+      constant_or f es (
+      short_circuit_or (short_circuit_connective f) (λ connective. short_circuit_value b object connective es)
       (strict_or (strict_connective f) (λ connective. strict_value b object connective es)
       (call_value f (row_len es) (all_values b object es))))
   value b object (tuple es) = None
   value b object d = Some d
 
-  -- the values of all, None where one fails
+  -- the values of all expressions, or None if one fails
   pub all_values : Bindings → Data → Row → Option (List Data)
   all_values b object no_terms = Some []
   all_values b object (term e es) =
       option_and_then (λ d. option_map (λ ds. d ∷ ds) (all_values b object es)) (value b object e)
 
-  -- `and` and `or`: whether one decides; all are evaluated, and each must be a boolean
+  -- `and` and `or`: all arguments are evaluated, and each must be a boolean
   pub strict_value : Bindings → Data → Connective → Row → Option Bool
   strict_value b object connective no_terms = Some (neutral connective)
   strict_value b object connective (term e es) =
@@ -79,13 +79,15 @@ abbrev mutual
       (λ d. option_and_then (λ x. option_map (combine connective x) (strict_value b object connective es)) (boolean d))
       (value b object e)
 
-  -- `andalso` and `orelse`: from the left, up to the first boolean that decides; what is behind it is not evaluated
+  -- `andalso` and `orelse`: from the left, up to the first boolean that decides; the rest is not evaluated
   pub short_circuit_value : Bindings → Data → Connective → Row → Option Data
   short_circuit_value b object connective no_terms = None
-  short_circuit_value b object connective (term e no_terms) = option_and_then (λ d. option_map (λ x. d) (boolean d)) (value b object e)
+  short_circuit_value b object connective (term e no_terms) =
+      option_and_then (λ d. option_map (λ x. d) (boolean d)) (value b object e)
   short_circuit_value b object connective (term e es) =
       option_and_then
-      (λ d. option_and_then (λ x. if decides connective x then Some d else short_circuit_value b object connective es) (boolean d))
+      (λ d. option_and_then
+      (λ x. if decides connective x then Some d else short_circuit_value b object connective es) (boolean d))
       (value b object e)
 
 abbrev pub is_constant : List ℕ → ℕ → Bool
@@ -96,7 +98,7 @@ is_bound ns None = true
 is_bound ns (Some n) = list_any (λ m. n == m) ns
 
 abbrev mutual
-  -- whether a term is an expression, where the head binds these variables
+  -- whether a term is an expression, if the head binds these variables
   pub is_expression : List ℕ → Data → Bool
   is_expression ns (atom a) = is_bound ns (variable a)
   is_expression ns (list es) = are_expressions ns es

@@ -1,4 +1,4 @@
--- The functions of expressions (ERTS User's Guide, Match Specifications in Erlang). None: the application fails.
+-- The functions of expressions (ERTS User's Guide, Match Specifications in Erlang). None means that the call fails.
 use Rattle.std.specs.Prelude.{ℕ, zero, suc, ℤ, pos, length, not, int_div, int_rem, ◌+ℤ◌, ◌-ℤ◌, ◌*ℤ◌, unsigned_abs, Bool, true, false, if◌then◌else◌, List, [], ◌∷◌, Option, Some, None, option_map, codes}
 use Rattle.std.specs.Option.{option_and_then}
 use Rattle.std.specs.declared.cmp.Ordering.{Ordering}
@@ -44,8 +44,8 @@ xor false b = b
 abbrev pub exclusive : Option Bool → Option Bool → Option Bool
 exclusive a b = option_and_then (λ x. option_map (xor x) b) a
 
--- outside the range of integers there is none; a quotient is cut toward zero, and a remainder has the sign of the left
--- operand; by zero there is neither
+-- None if the result is outside the range of integers; a quotient is cut toward zero, and a remainder has the sign of
+-- the left operand; division by zero fails
 abbrev pub calculate : ArithmeticOp → ℤ → ℤ → Option ℤ
 calculate Add m n = in_range (m +ℤ n)
 calculate Subtract m n = in_range (m -ℤ n)
@@ -76,7 +76,7 @@ abbrev pub list_length : Data → Option Data
 list_length (list ds) = count (row_len ds)
 list_length d = None
 
--- the elements of a tuple, or the bytes of a binary
+-- the number of elements of a tuple, or of bytes of a binary
 abbrev pub size : Data → Option Data
 size (tuple ds) = count (row_len ds)
 size (binary s) = count (length s)
@@ -96,7 +96,7 @@ abbrev pub element : Data → Data → Option Data
 element (int (pos n)) d = tuple_element n d
 element n d = None
 
--- whether two terms that stand in this order compare so
+-- whether a comparison holds for two terms of this order
 abbrev pub compares : ComparisonOp → Ordering → Bool
 compares Greater o = is_gt o
 compares GreaterOrEqual o = is_ge o
@@ -105,7 +105,7 @@ compares LessOrEqual o = is_le o
 compares Equal o = is_eq o
 compares NotEqual o = is_ne o
 
--- the value of a function at values
+-- the value of a function at the values of its arguments
 abbrev pub apply : Function → List Data → Option Data
 apply (Is k) (d ∷ []) = Some (truth (is_kind k d))
 apply Not (d ∷ []) = option_map (λ b. truth (not b)) (boolean d)

@@ -70,23 +70,25 @@ two_arguments f = compare_or (comparison_op_of f) (calculate_or (arithmetic_op_o
     else if bytes_eq f (codes "element") then Some Element
     else None))
 
--- the function with this name and number of arguments
+-- the function of a name and a number of arguments
 abbrev pub function_of : List ℕ → ℕ → Option Function
 function_of f n =
     if n == 1 then one_argument f
     else if n == 2 then two_arguments f
     else None
 
--- what decides a connective that evaluates all: one `false` an `and`, one `true` an `or`
+-- the connective of a name that evaluates all arguments
 abbrev pub strict_connective : List ℕ → Option Connective
 strict_connective f =
     if bytes_eq f (codes "and") then Some And else if bytes_eq f (codes "or") then Some Or else None
 
--- where a connective stops that does not: `andalso` at `false`, `orelse` at `true`
+-- the connective of a name that stops at the first argument that decides
 abbrev pub short_circuit_connective : List ℕ → Option Connective
 short_circuit_connective f =
     if bytes_eq f (codes "andalso") then Some And else if bytes_eq f (codes "orelse") then Some Or else None
 
--- whether there is such a function; the connectives take one argument or more
+-- whether a name with a number of arguments is a function; `and`, `or`, `andalso` and `orelse` take one or more
 abbrev pub is_function : List ℕ → ℕ → Bool
-is_function f n = ((is_some (short_circuit_connective f) || is_some (strict_connective f)) && nat_lt 0 n) || is_some (function_of f n)
+is_function f n =
+    ((is_some (short_circuit_connective f) || is_some (strict_connective f)) && nat_lt 0 n)
+    || is_some (function_of f n)

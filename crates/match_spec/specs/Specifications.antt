@@ -25,13 +25,13 @@ clause_parts (tuple (term head (term (list conditions) (term (list body) no_term
     Some (record { head = head; conditions = conditions; body = body })
 clause_parts d = None
 
--- the head is a pattern, the conditions are expressions of these variables, and the body is one expression or more
+-- the head is a pattern, the conditions are expressions of these variables, and the body is at least one expression
 abbrev pub is_good_by : List ℕ → RawClause → Bool
 is_good_by ns c =
     (is_pattern c.head && nat_lt 0 (row_len c.body))
     && (are_expressions ns c.conditions && are_expressions ns c.body)
 
--- the variables of the head are those that it binds
+-- the head binds its variables
 abbrev pub is_good : RawClause → Bool
 is_good c = is_good_by (variables c.head) c
 
@@ -42,7 +42,7 @@ abbrev pub are_clauses : Row → Bool
 are_clauses no_terms = true
 are_clauses (term c cs) = is_clause c && are_clauses cs
 
--- a specification is a list, not empty, of clauses `{Head,Conditions,Body}`
+-- a match specification is a nonempty list of clauses `{Head,Conditions,Body}`
 abbrev pub is_spec : Data → Bool
 is_spec (list cs) = nat_lt 0 (row_len cs) && are_clauses cs
 is_spec d = false
@@ -51,12 +51,12 @@ abbrev pub is_true : Data → Bool
 is_true (atom a) = bytes_eq a (codes "true")
 is_true d = false
 
--- whether all conditions give true; one that fails does not
+-- whether all conditions give true; a condition that fails does not
 abbrev pub all_hold : Bindings → Data → Row → Bool
 all_hold b object no_terms = true
 all_hold b object (term c cs) = option_map_or is_true (value b object c) false && all_hold b object cs
 
--- the value of the last expression, None where one fails
+-- the value of the last expression, or None if one fails
 abbrev pub last_value : Bindings → Data → Row → Option Data
 last_value b object no_terms = None
 last_value b object (term e no_terms) = value b object e
@@ -75,12 +75,12 @@ abbrev pub result_or : Option RawClause → Data → Option Data → Option Data
 result_or None object otherwise = otherwise
 result_or (Some c) object otherwise = clause_result_or (bindings_of c.head object) object c otherwise
 
--- the first clause counts whose head matches and whose conditions hold
+-- the result of the first clause whose head matches and whose conditions hold
 abbrev pub first_result : Row → Data → Option Data
 first_result no_terms object = None
 first_result (term c cs) object = result_or (clause_parts c) object (first_result cs object)
 
--- what a specification gives for an object, None where no clause counts
+-- the result of a match specification for an object, or None if no clause applies
 abbrev pub result_of : Data → Data → Option Data
 result_of (list cs) object = first_result cs object
 result_of d object = None

@@ -2,3 +2,4 @@ pub mod CompiledClauses
 pub mod CompiledExpressions
 pub mod CompiledPatterns
 pub mod FirstPaths
+pub mod QuickTests

@@ -1,4 +1,4 @@
-// The keys that patterns bind.
+// The keys that patterns and match specifications bind.
 ghost use Rattle.std.specs.Prelude.{◌≡◌, if◌then◌else◌, Some, None, map, drop, option_copied};
 ghost use Rattle.std.specs.Option.{option_map};
 ghost use Rattle.ets_term.specs.Data.{atom, list, data_of, row_of};
@@ -8,7 +8,7 @@ use crate::spec::check::clause_parts;
 use crate::variable::variable;
 use ets_term::{Position, Term};
 
-/// The element of the pattern at `keypos`, where it has neither a variable nor `'_'`.
+/// Returns the element of the pattern at `keypos`, if it has neither a variable nor `'_'`.
 #[tactic(auto, using(crate::proofs::KeyLaws::key_of_element, crate::proofs::KeyLaws::key_of_none))]
 pub(crate) fn bound_part(pattern: &Term, keypos: Position) -> Option<&Term>
     ensures { option_map data_of (option_copied result) ≡ bound_key keypos (data_of pattern.now) }
@@ -26,7 +26,7 @@ fn ground_or_none(key: &Term) -> Option<&Term>
     if is_ground(key) { Some(key) } else { None }
 }
 
-/// The key that the heads of all clauses bind.
+/// Returns the key that the heads of all clauses bind.
 #[tactic(auto, using(crate::proofs::KeyLaws::key_of_first, crate::proofs::KeyLaws::key_of_no_first, crate::proofs::KeyLaws::key_of_nothing))]
 pub(crate) fn common_bound_key(clauses: &[Term], keypos: Position) -> Option<&Term>
     ensures { option_map data_of (option_copied result) ≡ spec_key keypos (list (row_of (map data_of clauses.now))) }
@@ -52,7 +52,7 @@ fn key_if_all_bind<'a>(clauses: &[Term], keypos: Position, key: &'a Term) -> Opt
     }
 }
 
-// Whether the clauses behind the first bind this key.
+// Checks whether all clauses after the first bind this key.
 fn all_bind(clauses: &[Term], keypos: Position, key: &Term) -> bool
     ensures { result ≡ all_bind keypos (data_of key.now) (row_of (map data_of (drop 1 clauses.now))) }
 {

@@ -1,19 +1,21 @@
-//! A pattern or a specification is refused exactly where it has not the form of one, and else answers exactly what its
-//! definition says of the raw terms.
+//! Compiles patterns and match specifications from terms, and computes exactly the bindings and results that their
+//! definitions give for the raw terms.
 //!
-//! *Guarantee.* `Pattern::bindings` gives the only bindings by which an object matches, or None where there are none,
-//! and `Spec::result` what the first clause that counts gives. Where `bound_key` gives a key, every object that matches
-//! has it.
+//! *Guarantee.* `compile` refuses a term exactly if it is not a pattern or match specification. `Pattern::bindings`
+//! returns the only bindings by which a term matches, or `None` if it does not match. `Spec::result` returns the result
+//! of the first clause that applies. If `bound_key` returns a key, every object that matches has it.
 //!
-//! *Weakness.* A result is made anew for each object, and `'$$'` copies all bindings.
+//! *Weakness.* Each result is a new term, and `'$$'` copies all bindings.
 //!
-//! *Mechanism.* What is compiled keeps the raw term beside it, and contracts see that term alone. A variable is
-//! compiled to the place of its first occurrence in the pattern, so bindings are read where they stand in the object,
-//! nothing is written while an object is tried, and nothing is taken from memory before there is an answer.
+//! *Mechanism.* A compiled pattern or match specification keeps its raw term, and contracts see that term alone. A
+//! variable is compiled to the path of its first occurrence in the pattern. Bindings are read in the object by these
+//! paths. Matching an object writes nothing and takes no memory until a value is made. A match specification of one
+//! clause keeps a quick test of one element, which rejects most objects before the clause is tried.
 //!
-//! *Limits.* Variables are numbered up to 100,000,000.
+//! *Limits.* Variables have numbers up to 100,000,000.
 //!
-//! The ERTS User's Guide, Match Specifications in Erlang; docs/match_specifications.md has an example of each function.
+//! The meaning follows the ERTS User's Guide, chapter Match Specifications in Erlang. `docs/match-specifications.md`
+//! has an example of each function.
 #![tactic(auto)]
 
 mod bound_key;

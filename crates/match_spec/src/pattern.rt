@@ -18,7 +18,7 @@ use ets_term::{Items, Position, Term};
 use std::alloc::{AllocError, Global};
 use std::marker::Model;
 
-/// A pattern. Contracts see it as the term that it was made from.
+/// A compiled pattern. Contracts see it as its term.
 #[derive(Drop)]
 pub struct Pattern {
     source: Term,
@@ -42,7 +42,8 @@ impl Model for Pattern {
 }
 
 impl Pattern {
-    /// The pattern that the term is. Only atoms and tuples are patterns; any other term is `Badarg`.
+    /// Compiles a pattern. Atoms and tuples are patterns; any other term is `Badarg`. Fails with `Memory` if an
+    /// allocation fails.
     pub fn compile(alloc: Global, term: &Term) -> Result<Pattern, SpecFault>
         ensures same { IfOk result (λ p. p ≡ term.now) }
         ensures badarg { IsErrOf result SpecFault.Badarg ↔ (is_pattern (data_of term.now) ≡ false) }
@@ -59,9 +60,10 @@ impl Pattern {
         })
     }
 
-    /// The values of its variables, in order of their numbers, by which the term matches it; None where it does not.
+    /// Returns the values of the variables by which the term matches, in order of their numbers, or `None` if it does
+    /// not match. Fails if an allocation fails.
     pub fn bindings(&self, alloc: Global, term: &Term) -> Result<Option<Vec<Term>>, AllocError>
-        ensures paths { IfOk result (λ found. option_map (λ v. map data_of v.items) found
+        ensures values { IfOk result (λ found. option_map (λ v. map data_of v.items) found
             ≡ option_map values (bindings_of (data_of self.now) (data_of term.now))) }
         ensures matches { IfOk result (λ found. IsBindings (data_of self.now) (data_of term.now)
             (option_map (λ v. map data_of v.items) found)) }
@@ -69,14 +71,15 @@ impl Pattern {
         self.find_bindings(alloc, term)
     }
 
-    /// Whether the term matches it, without memory.
+    /// Checks whether the term matches. Takes no memory.
     pub fn fits(&self, term: &Term) -> bool
         ensures { result ≡ is_some (bindings_of (data_of self.now) (data_of term.now)) }
     {
         fits(&self.part, term, term)
     }
 
-    /// The values of its variables, in order of their numbers, by which a term matches it that does.
+    /// Returns the values of the variables, in order of their numbers, for a term that matches. Fails if an allocation
+    /// fails.
     pub fn values_in(&self, alloc: Global, term: &Term) -> Result<Vec<Term>, AllocError>
         requires { is_some (bindings_of (data_of self.now) (data_of term.now)) ≡ true }
         ensures { IfOk result (λ v. Some (map data_of v.items)
@@ -95,8 +98,8 @@ impl Pattern {
         Ok(Some(self.values_in(alloc, term)?))
     }
 
-    /// The key of every object that matches it, where its element at `keypos`, counted from 1, has neither a variable
-    /// nor `'_'`.
+    /// Returns the element of the pattern at `keypos`, from 1, if it has neither a variable nor `'_'`. Every object
+    /// that matches has this key.
     pub fn bound_key(&self, keypos: Position) -> Option<&Term>
         ensures key { option_map data_of (option_copied result) ≡ bound_key keypos (data_of self.now) }
         ensures every { IfSome result (λ key. IsKeyOfMatches keypos (data_of self.now) key.now) }

@@ -1,4 +1,4 @@
-ghost use Rattle.std.specs.Prelude.{◌≡◌, [], ◌∷◌, ◌++◌, true, false, map, option_copied, IfOk, OnOk, IfSome, IsErrOf};
+ghost use Rattle.std.specs.Prelude.{◌≡◌, [], ◌∷◌, ◌++◌, true, false, None, map, option_copied, IfOk, OnOk, IfSome, IsErrOf};
 ghost use Rattle.std.specs.Option.{option_map, option_map_or};
 ghost use Rattle.ets_term.specs.Data.{list, data_of, row_of};
 ghost use Rattle.match_spec.specs.BoundKeys.{spec_key, IsKeyOfResults};
@@ -9,6 +9,7 @@ ghost use Rattle.match_spec.specs.inside.FirstPaths.{first_paths_of};
 pub(crate) mod check;
 pub(crate) mod clause;
 pub(crate) mod conditions;
+pub(crate) mod quick;
 
 use crate::bound_key::common_bound_key;
 use crate::expression::compile::expressions_of;
@@ -17,22 +18,24 @@ use crate::pattern::compile::part_of;
 use crate::pattern::path::{FirstPaths, first_paths, paths_by_number};
 use crate::spec::check::{ClauseParts, clause_parts, is_good};
 use crate::spec::clause::{Clause, first_result_is_true, result_of_first};
+use crate::spec::quick::{QuickTest, quick_test};
 use ets_term::{Items, Position, Term};
 use std::alloc::{AllocError, Global};
 use std::marker::Model;
 
-/// A match specification. Contracts see it as the term that it was made from.
+/// A compiled match specification. Contracts see it as its term.
 #[derive(Drop)]
 pub struct Spec {
     source: Term,
     clauses: Items<Clause>,
+    quick: Option<QuickTest>,
 }
 
 impl Model for Spec {
     ghost use Rattle.ets_term.specs.contracts.term.Term as term;
     ghost use Rattle.ets_term.specs.declared.term.Term as declared;
     ghost use Rattle.ets_term.specs.Data.{data_of};
-    ghost use Rattle.match_spec.specs.inside.CompiledClauses.{IsCompiledSpec};
+    ghost use Rattle.match_spec.specs.inside.QuickTests.{IsCompiledSpec};
 
     ghost Value = { declared.Term };
 
@@ -40,11 +43,12 @@ impl Model for Spec {
 
     ghost view = { λ s. s.source };
 
-    ghost invariant = { λ s. IsCompiledSpec (data_of s.source) s.clauses };
+    ghost invariant = { λ s. IsCompiledSpec (data_of s.source) s.clauses s.quick };
 }
 
 impl Spec {
-    /// The specification that the term is. A term that is none, wherever it has its fault, is `Badarg`.
+    /// Compiles a match specification. Any other term is `Badarg`, also if only its last clause is at fault. Fails
+    /// with `Memory` if an allocation fails.
     pub fn compile(alloc: Global, term: &Term) -> Result<Spec, SpecFault>
         ensures same { IfOk result (λ s. s ≡ term.now) }
         ensures good { OnOk result (is_spec (data_of term.now) ≡ true) }
@@ -57,29 +61,48 @@ impl Spec {
             return Err(SpecFault::Badarg);
         }
         let clauses = clauses_of(alloc, terms.as_slice())?;
+        let quick = quick_test(clauses.as_slice());
         Ok(Spec {
             source: term.try_clone(alloc)?,
             clauses,
+            quick,
         })
     }
 
-    /// What it gives for the object, None where no clause counts.
+    /// Returns the result for an object, or `None` if no clause applies. A failing body gives `'EXIT'`. Fails if an
+    /// allocation fails.
     pub fn result(&self, alloc: Global, object: &Term) -> Result<Option<Term>, AllocError>
         ensures { IfOk result (λ given. option_map data_of given ≡ result_of (data_of self.now) (data_of object.now)) }
     {
+        if self.rejects(object) {
+            return Ok(None);
+        }
         result_of_first(alloc, self.clauses.as_slice(), object)
     }
 
-    /// Whether it gives `true` for the object.
+    /// Checks whether the result for an object is the atom `true`. Fails if an allocation fails.
     pub fn is_true(&self, alloc: Global, object: &Term) -> Result<bool, AllocError>
         ensures { IfOk result (λ b. b
             ≡ option_map_or is_true (result_of (data_of self.now) (data_of object.now)) false) }
     {
+        if self.rejects(object) {
+            return Ok(false);
+        }
         first_result_is_true(alloc, self.clauses.as_slice(), object)
     }
 
-    /// The key of every object for which it gives something, where the heads of all clauses have the same element at
-    /// `keypos`, counted from 1, with neither a variable nor `'_'` in it.
+    #[inline(always)]
+    fn rejects(&self, object: &Term) -> bool
+        ensures { result ≡ true → result_of (data_of self.now) (data_of object.now) ≡ None }
+    {
+        match &self.quick {
+            Some(quick) => quick.rejects(object),
+            None => false,
+        }
+    }
+
+    /// Returns the element at `keypos`, from 1, of the heads of all clauses, if it is the same in all and has neither a
+    /// variable nor `'_'`. Every object with a result has this key.
     pub fn bound_key(&self, keypos: Position) -> Option<&Term>
         ensures key { option_map data_of (option_copied result) ≡ spec_key keypos (data_of self.now) }
         ensures every { IfSome result (λ key. IsKeyOfResults keypos (data_of self.now) key.now) }

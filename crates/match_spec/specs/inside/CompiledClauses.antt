@@ -1,10 +1,10 @@
--- Compiled specifications. They are no part of what a specification means.
-use Rattle.std.specs.Prelude.{◌≡◌, ◌&&◌, Bool, true, false, if◌then◌else◌, List, [], ◌∷◌, Option, Some, None, map, unwrap_or, codes}
+-- Compiled match specifications. They are no part of what a match specification means.
+use Rattle.std.specs.Prelude.{◌&&◌, Bool, true, false, if◌then◌else◌, List, [], ◌∷◌, Option, Some, None, map, unwrap_or, codes}
 use Rattle.std.specs.Option.{option_map_or, option_and_then}
 use Rattle.ets_term.specs.Data.{Data, atom, list, Row, no_terms, term, row_of, data_of}
 use Rattle.match_spec.specs.declared.spec.check.ClauseParts.{ClauseParts}
 use Rattle.match_spec.specs.declared.spec.clause.Clause.{Clause}
-use Rattle.match_spec.specs.Specifications.{is_true, RawClause, clause_parts, is_spec}
+use Rattle.match_spec.specs.Specifications.{is_true, RawClause, clause_parts}
 use Rattle.match_spec.specs.inside.CompiledExpressions.{expression_value, expressions_of}
 use Rattle.match_spec.specs.inside.CompiledPatterns.{part_fits, part_of}
 use Rattle.match_spec.specs.inside.FirstPaths.{FirstPaths, paths_of, first_paths_of}
@@ -32,7 +32,7 @@ abbrev pub result_of_first : List Clause → Data → Option Data
 result_of_first [] object = None
 result_of_first (c ∷ cs) object = if applies c object then Some (body_value_by c object) else result_of_first cs object
 
--- the three parts of a clause, as the program has them
+-- the three parts of a clause, from the program's references
 abbrev pub raw_clause_of : ClauseParts → RawClause
 raw_clause_of c = record {
   head = data_of c.head.now;
@@ -40,7 +40,7 @@ raw_clause_of c = record {
   body = row_of (map data_of c.body.now);
 }
 
--- a clause, compiled, where the head's first places are these
+-- compiles a clause by the head's first paths
 abbrev pub clause_with : FirstPaths → RawClause → Clause
 clause_with first c = record {
   head = part_of first [] c.head;
@@ -60,12 +60,7 @@ abbrev pub clauses_from : Row → List Clause
 clauses_from no_terms = []
 clauses_from (term c cs) = clause_else (clause_parts c) (clauses_from cs)
 
--- the clauses of a specification, compiled
+-- compiles the clauses of a match specification
 abbrev pub clauses_of : Data → List Clause
 clauses_of (list cs) = clauses_from cs
 clauses_of d = []
-
--- what is kept of a specification
-pub record IsCompiledSpec (spec : Data) (clauses : List Clause) : Type 0 where
-  pub good : is_spec spec ≡ true
-  pub compiled : clauses ≡ clauses_of spec

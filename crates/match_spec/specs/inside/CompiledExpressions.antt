@@ -20,12 +20,12 @@ use Rattle.match_spec.specs.Paths.{Path, subterm_at}
 use Rattle.match_spec.specs.Variables.{variable}
 use Rattle.match_spec.specs.inside.FirstPaths.{FirstPaths, first_path}
 
--- a value, whether lent or made
+-- the data of a value, borrowed or owned
 abbrev pub value_data : ExprValue → Data
 value_data (Borrowed t) = data_of t.now
 value_data (Owned t) = data_of t
 
--- what stands at the places of an object
+-- the subterms of an object at paths
 abbrev pub subterms_at : List Path → Data → List Data
 subterms_at paths object = map (λ path. subterm_at path object) paths
 
@@ -46,13 +46,14 @@ strict_of connective (f ∷ fs) object =
     (λ d. option_and_then (λ x. option_map (combine connective x) (strict_of connective fs object)) (boolean d))
     (f object)
 
--- from the left, up to the first boolean that decides
+-- evaluates from the left, up to the first argument that decides
 abbrev pub short_circuit_of : Connective → List (Data → Option Data) → Data → Option Data
 short_circuit_of connective [] object = None
 short_circuit_of connective (f ∷ []) object = option_and_then (λ d. option_map (λ x. d) (boolean d)) (f object)
 short_circuit_of connective (f ∷ g ∷ fs) object =
     option_and_then
-    (λ d. option_and_then (λ x. if decides connective x then Some d else short_circuit_of connective (g ∷ fs) object) (boolean d))
+    (λ d. option_and_then
+    (λ x. if decides connective x then Some d else short_circuit_of connective (g ∷ fs) object) (boolean d))
     (f object)
 
 abbrev pub expression_step : List Path → Expression-F (Data → Option Data) → Data → Option Data
@@ -66,7 +67,7 @@ expression_step paths (Expression-F.Apply f fs) object = apply_of f fs object
 expression_step paths (Expression-F.Strict connective fs) object = option_map truth (strict_of connective fs object)
 expression_step paths (Expression-F.ShortCircuit connective fs) object = short_circuit_of connective fs object
 
--- the value of a compiled expression, where the variables of the head stand at these places
+-- the value of a compiled expression, if the head binds its variables at these paths
 abbrev pub expression_value : List Path → Expression → Data → Option Data
 expression_value paths = fold-Expression (Data → Option Data) (expression_step paths)
 
@@ -81,7 +82,7 @@ abbrev pub constant_else : List ℕ → Row → Expression → Expression
 constant_else f (term e no_terms) otherwise = if bytes_eq f (codes "const") then Constant (term_of e) else otherwise
 constant_else f es otherwise = otherwise
 
--- a function that is none does not come, since it is refused
+-- an unknown function is refused before, so its compiled form does not matter
 abbrev pub apply_else : Option Function → List Expression → Expression
 apply_else None es = Object
 apply_else (Some g) es = Apply g es
@@ -94,17 +95,18 @@ abbrev pub short_circuit_else : Option Connective → Option Connective → Opti
 short_circuit_else None strict g es = strict_else strict g es
 short_circuit_else (Some connective) strict g es = ShortCircuit connective es
 
--- an application of the function of a name to a number of arguments
+-- a call of the function of a name with a number of arguments
 abbrev pub call_expression : List ℕ → ℕ → List Expression → Expression
 call_expression f n es = short_circuit_else (short_circuit_connective f) (strict_connective f) (function_of f n) es
 
 abbrev mutual
-  -- an expression, compiled, where the head's first places are these; what is refused may be compiled to anything
+  -- compiles an expression by the head's first paths; the compiled form of a refused expression does not matter
   pub expression_of : FirstPaths → Data → Expression
   expression_of first (atom a) = name_expression first a (variable a)
   expression_of first (list es) = Terms (expressions_of first es)
   expression_of first (tuple (term (tuple es) no_terms)) = Tuple (expressions_of first es)
-  expression_of first (tuple (term (atom f) es)) = constant_else f es (call_expression f (row_len es) (expressions_of first es))
+  expression_of first (tuple (term (atom f) es)) =
+      constant_else f es (call_expression f (row_len es) (expressions_of first es))
   expression_of first (tuple es) = Object
   expression_of first d = Constant (term_of d)
 

@@ -29,27 +29,27 @@ part_step _ object t = false
 abbrev pub part_fits : Part → Data → Data → Bool
 part_fits = fold-Part (Data → Data → Bool) part_step
 
--- a variable is compared with what stands at its first place
+-- at its first path a variable matches anything; at other paths it must equal the subterm at the first path
 abbrev pub variable_part : Path → Path → Part
-variable_part current_path path = if bytes_eq path current_path then Wildcard else Repeated path
+variable_part current path = if bytes_eq path current then Wildcard else Repeated path
 
 abbrev pub name_part : FirstPaths → Path → List ℕ → Option ℕ → Part
-name_part first current_path a None = Literal (Atom a)
-name_part first current_path a (Some n) = variable_part current_path (first_path first n)
+name_part first current a None = Literal (Atom a)
+name_part first current a (Some n) = variable_part current (first_path first n)
 
 abbrev mutual
-  -- the part of a pattern that stands here, compiled, where the first places are these
+  -- compiles the part of a pattern at the current path
   pub part_of : FirstPaths → Path → Data → Part
-  part_of first current_path (atom a) = if bytes_eq a (codes "_") then Wildcard else name_part first current_path a (variable a)
-  part_of first current_path (tuple ps) = Tuple (parts_from first current_path 0 ps)
-  part_of first current_path (list ps) = Terms (parts_from first current_path 0 ps)
-  part_of first current_path d = Literal (term_of d)
+  part_of first current (atom a) = if bytes_eq a (codes "_") then Wildcard else name_part first current a (variable a)
+  part_of first current (tuple ps) = Tuple (parts_from first current 0 ps)
+  part_of first current (list ps) = Terms (parts_from first current 0 ps)
+  part_of first current d = Literal (term_of d)
 
   pub parts_from : FirstPaths → Path → ℕ → Row → List Part
-  parts_from first current_path i no_terms = []
-  parts_from first current_path i (term p ps) = part_of first (current_path ++ i ∷ []) p ∷ parts_from first current_path (suc i) ps
+  parts_from first current i no_terms = []
+  parts_from first current i (term p ps) = part_of first (current ++ i ∷ []) p ∷ parts_from first current (suc i) ps
 
--- what is kept of a pattern: it compiled, and the first places of its variables, in order of number
+-- the invariant of a `Pattern`: its compiled part, and the first paths of its variables, in order of number
 pub record IsCompiled (pattern : Data) (part : Part) (paths : List Path) : Type 0 where
   pub part_compiled : part ≡ part_of (first_paths_of pattern) [] pattern
   pub paths_compiled : paths ≡ paths_of (first_paths_of pattern)

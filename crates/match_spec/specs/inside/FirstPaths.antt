@@ -1,4 +1,4 @@
--- The first places of a pattern's variables as the program collects them: pairs whose numbers rise.
+-- The first paths of a pattern's variables as the program collects them: pairs in order of number.
 use Rattle.std.specs.Prelude.{ℕ, suc, List, [], ◌∷◌, ◌++◌, Option, Some, None, map, unwrap_or}
 use Rattle.std.specs.BTreeMap.{is_at, insert_entry}
 use Rattle.std.specs.Map.{lookup}
@@ -13,7 +13,7 @@ FirstPaths = List (ℕ × Path)
 abbrev pub path_in : FirstPaths → ℕ → Option Path
 path_in first n = lookup (is_at (nat_cmp n)) first
 
--- the same; no way at all for a variable that is not there
+-- the first path of a variable; empty for a variable that the pattern does not have
 abbrev pub first_path : FirstPaths → ℕ → Path
 first_path first n = unwrap_or (path_in first n) []
 
@@ -23,27 +23,28 @@ numbers_of first = map (λ (x : ℕ × Path). x.0) first
 abbrev pub paths_of : FirstPaths → List Path
 paths_of first = map (λ (x : ℕ × Path). x.1) first
 
--- a further place of a variable changes nothing
+-- a further path of a variable changes nothing
 abbrev pub insert_unless : Option Path → FirstPaths → ℕ → Path → FirstPaths
-insert_unless (Some path) first n current_path = first
-insert_unless None first n current_path = insert_entry nat_cmp first n current_path
+insert_unless (Some path) first n current = first
+insert_unless None first n current = insert_entry nat_cmp first n current
 
 abbrev pub record_path : Path → FirstPaths → Option ℕ → FirstPaths
-record_path current_path first None = first
-record_path current_path first (Some n) = insert_unless (path_in first n) first n current_path
+record_path current first None = first
+record_path current first (Some n) = insert_unless (path_in first n) first n current
 
 abbrev mutual
-  -- with those of the part of a pattern that stands here
+  -- adds the first paths in the part of a pattern at the current path
   pub add_first_paths : Path → FirstPaths → Data → FirstPaths
-  add_first_paths current_path first (atom a) = record_path current_path first (variable a)
-  add_first_paths current_path first (tuple ps) = add_first_paths_from current_path 0 first ps
-  add_first_paths current_path first (list ps) = add_first_paths_from current_path 0 first ps
-  add_first_paths current_path first d = first
+  add_first_paths current first (atom a) = record_path current first (variable a)
+  add_first_paths current first (tuple ps) = add_first_paths_from current 0 first ps
+  add_first_paths current first (list ps) = add_first_paths_from current 0 first ps
+  add_first_paths current first d = first
 
   pub add_first_paths_from : Path → ℕ → FirstPaths → Row → FirstPaths
-  add_first_paths_from current_path i first no_terms = first
-  add_first_paths_from current_path i first (term p ps) = add_first_paths_from current_path (suc i) (add_first_paths (current_path ++ i ∷ []) first p) ps
+  add_first_paths_from current i first no_terms = first
+  add_first_paths_from current i first (term p ps) =
+      add_first_paths_from current (suc i) (add_first_paths (current ++ i ∷ []) first p) ps
 
--- of a whole pattern
+-- the first paths of a whole pattern
 abbrev pub first_paths_of : Data → FirstPaths
 first_paths_of pattern = add_first_paths [] [] pattern

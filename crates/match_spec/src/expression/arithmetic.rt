@@ -1,4 +1,4 @@
-// Operations on integers.
+// Arithmetic of integers.
 ghost use Rattle.std.specs.Prelude.{◌≡◌};
 ghost use Rattle.std.specs.Option.{option_map};
 ghost use Rattle.ets_term.specs.Data.{int, data_of};
@@ -7,7 +7,7 @@ ghost use Rattle.match_spec.specs.Names.{arithmetic_op_of};
 
 use ets_term::{Integer, Term};
 
-/// An operation on two integers.
+/// An arithmetic operator on two integers.
 #[derive(Clone, Copy)]
 pub(crate) enum ArithmeticOp {
     Add,
@@ -17,7 +17,7 @@ pub(crate) enum ArithmeticOp {
     Remainder,
 }
 
-/// The operation of this name.
+/// Returns the operator of this name.
 pub(crate) fn arithmetic_op_of(name: &str) -> Option<ArithmeticOp>
     ensures { result ≡ arithmetic_op_of name.now }
 {
@@ -36,7 +36,7 @@ pub(crate) fn arithmetic_op_of(name: &str) -> Option<ArithmeticOp>
     }
 }
 
-/// What the operation gives for two integers, if it is in their range.
+/// Applies the operator to two integers. Returns `None` for other terms, or if the result is out of range.
 pub(crate) fn eval_arithmetic(operation: ArithmeticOp, x: &Term, y: &Term) -> Option<Term>
     ensures { option_map data_of result ≡ eval_arithmetic operation (data_of x.now) (data_of y.now) }
 {
@@ -58,7 +58,7 @@ fn calculate(operation: ArithmeticOp, m: Integer, n: Integer) -> Option<Integer>
     }
 }
 
-// The least integer has no quotient by -1, but a remainder.
+// Returns the remainder. The least integer has no quotient by -1, but a remainder.
 fn remainder(m: Integer, n: Integer) -> Option<Integer>
     ensures { result ≡ calculate ArithmeticOp.Remainder m n }
 {
@@ -68,7 +68,7 @@ fn remainder(m: Integer, n: Integer) -> Option<Integer>
     m.checked_rem(n)
 }
 
-/// The absolute value of an integer, if it is in their range.
+/// Returns the absolute value of an integer, or `None` if it is out of range.
 pub(crate) fn absolute(x: &Term) -> Option<Term>
     ensures { option_map data_of result ≡ absolute (data_of x.now) }
 {
@@ -78,7 +78,7 @@ pub(crate) fn absolute(x: &Term) -> Option<Term>
     }
 }
 
-/// The integer that a number of things is.
+/// Returns a count as an integer.
 pub(crate) fn count(n: usize) -> Option<Term>
     ensures { option_map data_of result ≡ count n }
 {

@@ -1,4 +1,4 @@
-// Whether a term is an expression.
+// The check of expressions.
 ghost use Rattle.std.specs.Prelude.{◌≡◌, ◌&&◌, ◌||◌, drop, map};
 ghost use Rattle.ets_term.specs.Data.{tuple, data_of, row_of};
 ghost use Rattle.match_spec.specs.Expressions.{is_expression, are_expressions, is_constant, is_bound};
@@ -10,7 +10,7 @@ use crate::pattern::path::FirstPaths;
 use crate::variable::variable;
 use ets_term::Term;
 
-/// Whether the term is an expression, where the head binds these variables.
+/// Checks whether the term is an expression, if the head binds these variables.
 #[cycle(checked)]
 pub(crate) fn is_expression(term: &Term, first: &FirstPaths) -> bool
     ensures { result ≡ is_expression (numbers_of first.now.entries) (data_of term.now) }
@@ -33,7 +33,7 @@ fn is_bound(number: Option<u32>, first: &FirstPaths) -> bool
     }
 }
 
-/// Whether those from the one at `start` on are expressions.
+/// Checks whether the terms from index `start` on are expressions.
 #[cycle(checked)]
 pub(crate) fn are_expressions(terms: &[Term], start: usize, first: &FirstPaths) -> bool
     ensures { result ≡ are_expressions (numbers_of first.now.entries) (row_of (map data_of (drop start terms.now))) }

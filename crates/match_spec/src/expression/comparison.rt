@@ -1,13 +1,14 @@
-// Comparisons, all in the one order of terms.
+// Comparisons, all by the order of terms.
 ghost use Rattle.std.specs.Prelude.{◌≡◌};
-ghost use Rattle.ets_term.specs.Data.{data_of};
+ghost use Rattle.ets_term.specs.Data.{int, data_of};
 ghost use Rattle.ets_term.specs.Order.{data_order};
 ghost use Rattle.match_spec.specs.Functions.{compares};
 ghost use Rattle.match_spec.specs.Names.{comparison_op_of};
 
-use ets_term::Term;
+use ets_term::{Integer, Term};
+use std::cmp::Ordering;
 
-/// A comparison of two terms.
+/// A comparison operator.
 #[derive(Clone, Copy)]
 pub(crate) enum ComparisonOp {
     Greater,
@@ -18,7 +19,7 @@ pub(crate) enum ComparisonOp {
     NotEqual,
 }
 
-/// The comparison of this name.
+/// Returns the comparison operator of this name.
 pub(crate) fn comparison_op_of(name: &str) -> Option<ComparisonOp>
     ensures { result ≡ comparison_op_of name.now }
 {
@@ -39,11 +40,25 @@ pub(crate) fn comparison_op_of(name: &str) -> Option<ComparisonOp>
     }
 }
 
-/// Whether the two terms compare so.
+/// Compares two terms.
 pub(crate) fn compares(comparison: ComparisonOp, x: &Term, y: &Term) -> bool
     ensures { result ≡ compares comparison (data_order (data_of x.now) (data_of y.now)) }
 {
-    let order = x.cmp_terms(y);
+    order_satisfies(comparison, x.cmp_terms(y))
+}
+
+/// Compares two integers. Unlike `compares`, it needs no terms.
+#[inline(always)]
+pub(crate) fn compares_integers(comparison: ComparisonOp, m: Integer, n: Integer) -> bool
+    ensures { result ≡ compares comparison (data_order (int m) (int n)) }
+{
+    order_satisfies(comparison, m.cmp(&n))
+}
+
+#[inline(always)]
+fn order_satisfies(comparison: ComparisonOp, order: Ordering) -> bool
+    ensures { result ≡ compares comparison order }
+{
     match comparison {
         ComparisonOp::Greater => order.is_gt(),
         ComparisonOp::GreaterOrEqual => order.is_ge(),

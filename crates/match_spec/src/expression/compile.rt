@@ -1,4 +1,4 @@
-// From an expression to its compiled form.
+// The compilation of expressions.
 ghost use Rattle.std.specs.Prelude.{◌≡◌, drop, length, map, IfOk};
 ghost use Rattle.ets_term.specs.Data.{tuple, data_of, row_of};
 ghost use Rattle.match_spec.specs.Variables.{variable};
@@ -11,7 +11,7 @@ use crate::variable::variable;
 use ets_term::{Atom, Items, Term};
 use std::alloc::{AllocError, Global};
 
-/// The expression, compiled, where the variables of the head stand at these places.
+/// Compiles an expression by the first paths of the head's variables.
 #[cycle(expression)]
 #[tactic(auto, using(ets_term::specs::laws::Exact::back))]
 pub(crate) fn expression_of(
@@ -37,7 +37,7 @@ pub(crate) fn expression_of(
     }
 }
 
-/// The expressions from the one at `start` on, compiled.
+/// Compiles the expressions from index `start` on.
 #[cycle(expression)]
 pub(crate) fn expressions_of(
     alloc: Global,

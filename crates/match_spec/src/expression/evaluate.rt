@@ -1,4 +1,4 @@
-// The values of compiled expressions.
+// The evaluation of compiled expressions.
 ghost use Rattle.std.specs.Prelude.{◌≡◌, [], ◌∷◌, Some, map, IfOk, IfSome};
 ghost use Rattle.std.specs.Option.{option_map, option_and_then};
 ghost use Rattle.ets_term.specs.Data.{data_of};
@@ -14,7 +14,15 @@ use crate::pattern::path::{clone_subterms, subterm_at};
 use ets_term::{Items, Term};
 use std::alloc::{AllocError, Global};
 
-/// A value: a part of the object or of the expression, or one that was made.
+/// What expressions are evaluated in: the object, and the first paths of the variables that the head binds.
+#[derive(Clone, Copy)]
+pub(crate) struct Env<'a> {
+    pub(crate) alloc: Global,
+    pub(crate) paths: &'a [Items<usize>],
+    pub(crate) object: &'a Term,
+}
+
+/// A value of an expression: borrowed from the object or the expression, or made.
 #[derive(Drop)]
 pub(crate) enum ExprValue<'a> {
     Borrowed(&'a Term),
@@ -41,106 +49,88 @@ impl<'a> ExprValue<'a> {
     }
 }
 
-/// The value of an expression that stands in it or in the object, None where it is to be made.
-pub(crate) fn borrowed_value<'a>(
-    expression: &'a Expression,
-    paths: &[Items<usize>],
-    object: &'a Term,
-) -> Option<&'a Term>
+/// Returns the value of an expression if it is a part of the object or of the expression, or `None` if it must be
+/// made.
+pub(crate) fn borrowed_value<'a>(env: Env<'a>, expression: &'a Expression) -> Option<&'a Term>
     ensures { IfSome result (λ term.
-        expression_value paths.now expression.now (data_of object.now) ≡ Some (data_of term.now)) }
+        expression_value env.entry.paths.now expression.now (data_of env.entry.object.now) ≡ Some (data_of term.now)) }
 {
     match expression {
         Expression::Constant(term) => Some(term),
-        Expression::Object => Some(object),
-        Expression::Variable(path) => Some(subterm_at(path.as_slice(), object)),
+        Expression::Object => Some(env.object),
+        Expression::Variable(path) => Some(subterm_at(path.as_slice(), env.object)),
         _ => None,
     }
 }
 
-/// The value of the expression for the object, None where it fails. A part of the object costs no call of `evaluate`.
+/// Returns the value of the expression, or `None` if it fails. Does not call `evaluate` for a borrowed value.
 #[inline(always)]
 pub(crate) fn value_of<'a>(
-    alloc: Global,
+    env: Env<'a>,
     expression: &'a Expression,
-    paths: &[Items<usize>],
-    object: &'a Term,
 ) -> Result<Option<ExprValue<'a>>, AllocError>
-    ensures { IfOk result (λ v. option_map value_data v ≡ expression_value paths.now expression.now (data_of object.now)) }
+    ensures { IfOk result (λ v. option_map value_data v
+        ≡ expression_value env.entry.paths.now expression.now (data_of env.entry.object.now)) }
 {
-    match borrowed_value(expression, paths, object) {
+    match borrowed_value(env, expression) {
         Some(term) => Ok(Some(ExprValue::Borrowed(term))),
-        None => evaluate(alloc, expression, paths, object),
+        None => evaluate(env, expression),
     }
 }
 
-/// The value of the expression for the object, None where it fails.
+/// Returns the value of the expression for the object, or `None` if it fails.
 #[cycle(evaluate)]
 pub(crate) fn evaluate<'a>(
-    alloc: Global,
+    env: Env<'a>,
     expression: &'a Expression,
-    paths: &[Items<usize>],
-    object: &'a Term,
 ) -> Result<Option<ExprValue<'a>>, AllocError>
-    ensures { IfOk result (λ v. option_map value_data v ≡ expression_value paths.now expression.now (data_of object.now)) }
+    ensures { IfOk result (λ v. option_map value_data v
+        ≡ expression_value env.entry.paths.now expression.now (data_of env.entry.object.now)) }
 {
     match expression {
         Expression::Constant(term) => Ok(Some(ExprValue::Borrowed(term))),
-        Expression::Object => Ok(Some(ExprValue::Borrowed(object))),
+        Expression::Object => Ok(Some(ExprValue::Borrowed(env.object))),
         Expression::Bindings => {
-            let bindings = Items::from_vec(clone_subterms(alloc, paths, object)?);
+            let bindings = Items::from_vec(clone_subterms(env.alloc, env.paths, env.object)?);
             Ok(Some(ExprValue::Owned(Term::List(bindings))))
         }
         Expression::Variable(path) => Ok(Some(ExprValue::Borrowed(subterm_at(
             path.as_slice(),
-            object,
+            env.object,
         )))),
-        Expression::Tuple(parts) => match evaluate_all(alloc, parts.as_slice(), paths, object)? {
+        Expression::Tuple(parts) => match evaluate_all(env, parts.as_slice())? {
             Some(terms) => Ok(Some(ExprValue::Owned(Term::Tuple(terms)))),
             None => Ok(None),
         },
-        Expression::List(parts) => match evaluate_all(alloc, parts.as_slice(), paths, object)? {
+        Expression::List(parts) => match evaluate_all(env, parts.as_slice())? {
             Some(terms) => Ok(Some(ExprValue::Owned(Term::List(terms)))),
             None => Ok(None),
         },
-        Expression::Apply(function, arguments) => eval_call(
-            alloc,
-            *function,
-            arguments.as_slice(),
-            paths,
-            object,
-        ),
+        Expression::Apply(function, arguments) => eval_call(env, *function, arguments.as_slice()),
         Expression::Strict(connective, arguments) => {
-            match eval_strict(alloc, *connective, arguments.as_slice(), paths, object)? {
-                Some(b) => Ok(Some(ExprValue::Owned(truth(alloc, b)?))),
+            match eval_strict(env, *connective, arguments.as_slice())? {
+                Some(b) => Ok(Some(ExprValue::Owned(truth(env.alloc, b)?))),
                 None => Ok(None),
             }
         }
         Expression::ShortCircuit(connective, arguments) => eval_short_circuit(
-            alloc,
+            env,
             *connective,
             arguments.as_slice(),
-            paths,
-            object,
         ),
     }
 }
 
-// The values of all, None where one fails.
+// Returns the values of all expressions, or `None` if one fails.
 #[cycle(evaluate)]
-fn evaluate_all(
-    alloc: Global,
-    expressions: &[Expression],
-    paths: &[Items<usize>],
-    object: &Term,
-) -> Result<Option<Items<Term>>, AllocError>
+fn evaluate_all(env: Env, expressions: &[Expression]) -> Result<Option<Items<Term>>, AllocError>
     ensures { IfOk result (λ terms. option_map (map data_of) terms
-        ≡ all_of (map (expression_value paths.now) expressions.now) (data_of object.now)) }
+        ≡ all_of (map (expression_value env.entry.paths.now) expressions.now) (data_of env.entry.object.now)) }
 {
-    let mut terms = Vec::with_capacity(alloc, expressions.len())?;
+    let mut terms = Vec::with_capacity(env.alloc, expressions.len())?;
     for expression in expressions {
-        match evaluate(alloc, expression, paths, object)? {
-            Some(value) => terms.push(value.into_term(alloc)?)?,
+        match evaluate(env, expression)? {
+            Some(value) => terms.push(value.into_term(env.alloc)?)?,
             None => return Ok(None),
         }
     }
@@ -149,50 +139,47 @@ fn evaluate_all(
 
 #[cycle(evaluate)]
 fn eval_call<'a>(
-    alloc: Global,
+    env: Env<'a>,
     function: Function,
     arguments: &'a [Expression],
-    paths: &[Items<usize>],
-    object: &'a Term,
 ) -> Result<Option<ExprValue<'a>>, AllocError>
     ensures { IfOk result (λ v. option_map value_data v
-        ≡ apply_of function (map (expression_value paths.now) arguments.now) (data_of object.now)) }
+        ≡ apply_of function (map (expression_value env.entry.paths.now) arguments.now) (data_of env.entry.object.now)) }
 {
     match arguments {
         [only] => {
-            let Some(x) = evaluate(alloc, only, paths, object)? else {
+            let Some(x) = evaluate(env, only)? else {
                 return Ok(None);
             };
-            apply_to_one(alloc, function, x)
+            apply_to_one(env.alloc, function, x)
         }
         [first, second] => {
-            let Some(x) = evaluate(alloc, first, paths, object)? else {
+            let Some(x) = evaluate(env, first)? else {
                 return Ok(None);
             };
-            let Some(y) = evaluate(alloc, second, paths, object)? else {
+            let Some(y) = evaluate(env, second)? else {
                 return Ok(None);
             };
-            apply_to_two(alloc, function, x, y)
+            apply_to_two(env.alloc, function, x, y)
         }
         _ => Ok(None),
     }
 }
 
-// `and` and `or`: whether one decides, where all are booleans.
+// Evaluates `and` or `or`: all arguments, each of which must be a boolean.
 #[cycle(evaluate)]
 fn eval_strict(
-    alloc: Global,
+    env: Env,
     connective: Connective,
     arguments: &[Expression],
-    paths: &[Items<usize>],
-    object: &Term,
 ) -> Result<Option<bool>, AllocError>
     ensures { IfOk result (λ b. b
-        ≡ strict_of connective (map (expression_value paths.now) arguments.now) (data_of object.now)) }
+        ≡ strict_of connective (map (expression_value env.entry.paths.now) arguments.now)
+        (data_of env.entry.object.now)) }
 {
     let mut all = neutral(connective);
     for argument in arguments {
-        match truth_of(evaluate(alloc, argument, paths, object)?) {
+        match truth_of(evaluate(env, argument)?) {
             Some(truth) => all = combine(connective, all, truth),
             None => return Ok(None),
         }
@@ -227,7 +214,7 @@ fn decides(connective: Connective, truth: bool) -> bool
     }
 }
 
-// Drops a value. A drop that stands in a loop would repeat all its cases in each goal behind it.
+// Drops a value. A drop inside a loop would repeat all its cases in each later goal.
 pub(crate) fn discard(_value: ExprValue) {}
 
 fn truth_of(value: Option<ExprValue>) -> Option<bool>
@@ -239,20 +226,19 @@ fn truth_of(value: Option<ExprValue>) -> Option<bool>
     }
 }
 
-// `andalso` and `orelse`: from the left, up to the first boolean that decides.
+// Evaluates `andalso` or `orelse`: from the left, up to the first boolean that decides.
 #[cycle(evaluate)]
 fn eval_short_circuit<'a>(
-    alloc: Global,
+    env: Env<'a>,
     connective: Connective,
     arguments: &'a [Expression],
-    paths: &[Items<usize>],
-    object: &'a Term,
 ) -> Result<Option<ExprValue<'a>>, AllocError>
     ensures { IfOk result (λ v. option_map value_data v
-        ≡ short_circuit_of connective (map (expression_value paths.now) arguments.now) (data_of object.now)) }
+        ≡ short_circuit_of connective (map (expression_value env.entry.paths.now) arguments.now)
+        (data_of env.entry.object.now)) }
 {
     for i in 0..arguments.len() {
-        let Some(x) = evaluate(alloc, &arguments[i], paths, object)? else {
+        let Some(x) = evaluate(env, &arguments[i])? else {
             return Ok(None);
         };
         let Some(truth) = boolean(x.term()) else {
@@ -294,7 +280,8 @@ pub(crate) fn apply_to_two<'a>(
     x: ExprValue<'a>,
     y: ExprValue<'a>,
 ) -> Result<Option<ExprValue<'a>>, AllocError>
-    ensures { IfOk result (λ v. option_map value_data v ≡ apply function (value_data x.entry ∷ value_data y.entry ∷ [])) }
+    ensures { IfOk result (λ v. option_map value_data v
+        ≡ apply function (value_data x.entry ∷ value_data y.entry ∷ [])) }
 {
     if let Function::Element = function {
         return eval_element(alloc, x, y);

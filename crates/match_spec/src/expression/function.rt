@@ -1,4 +1,4 @@
-// The functions of expressions, by name and by what they give.
+// The functions of expressions: their names and values.
 ghost use Rattle.std.specs.Prelude.{◌≡◌, ◌≢◌, [], ◌∷◌, IfOk};
 ghost use Rattle.std.specs.Option.{option_map};
 ghost use Rattle.ets_term.specs.Data.{data_of};
@@ -13,8 +13,7 @@ use crate::expression::lists::{list_length, size, tail};
 use ets_term::Term;
 use std::alloc::{AllocError, Global};
 
-/// A function that is applied to the values of all its arguments. The connectives but `not` and `xor` are none of
-/// these.
+/// A function of the values of all its arguments. `and`, `or`, `andalso` and `orelse` are not among these.
 #[derive(Clone, Copy)]
 pub(crate) enum Function {
     Is(GuardKind),
@@ -30,7 +29,7 @@ pub(crate) enum Function {
     Compare(ComparisonOp),
 }
 
-/// The function with this name and number of arguments.
+/// Returns the function of this name and number of arguments.
 pub(crate) fn function_of(name: &str, count: usize) -> Option<Function>
     ensures { result ≡ function_of name.now count }
 {
@@ -105,7 +104,7 @@ pub(crate) fn short_circuit_connective(name: &str) -> Option<Connective>
     }
 }
 
-/// What a function of one argument makes, where its value is no part of the argument's.
+/// Computes a function of one argument whose value is not an element of the argument. Returns `None` if the call fails.
 pub(crate) fn eval_unary(
     alloc: Global,
     function: Function,
@@ -128,7 +127,7 @@ pub(crate) fn eval_unary(
     }
 }
 
-/// What a function of two arguments makes, where its value is no part of theirs.
+/// Computes a function of two arguments whose value is not an element of them. Returns `None` if the call fails.
 pub(crate) fn eval_binary(
     alloc: Global,
     function: Function,

@@ -1,4 +1,4 @@
-// Booleans, and the tests of a term's kind.
+// Booleans, and the type tests.
 ghost use Rattle.std.specs.Prelude.{◌≡◌, IfOk};
 ghost use Rattle.ets_term.specs.Data.{data_of};
 ghost use Rattle.match_spec.specs.Functions.{truth, boolean, is_kind, exclusive};
@@ -7,7 +7,7 @@ ghost use Rattle.match_spec.specs.Names.{guard_kind_of};
 use ets_term::{Atom, Term};
 use std::alloc::{AllocError, Global};
 
-/// A kind of terms. A reference is a table identifier.
+/// The kind of terms that a guard tests for. A reference is a table identifier.
 #[derive(Clone, Copy)]
 pub(crate) enum GuardKind {
     Atom,
@@ -19,7 +19,7 @@ pub(crate) enum GuardKind {
     Reference,
 }
 
-/// The kind for which the function of this name tests.
+/// Returns the kind that the function of this name tests for.
 pub(crate) fn guard_kind_of(name: &str) -> Option<GuardKind>
     ensures { result ≡ guard_kind_of name.now }
 {
@@ -42,7 +42,7 @@ pub(crate) fn guard_kind_of(name: &str) -> Option<GuardKind>
     }
 }
 
-/// Whether the term is of the kind.
+/// Checks whether the term is of the kind.
 pub(crate) fn is_kind(kind: GuardKind, term: &Term) -> bool
     ensures { result ≡ is_kind kind (data_of term.now) }
 {
@@ -58,7 +58,7 @@ pub(crate) fn is_kind(kind: GuardKind, term: &Term) -> bool
     }
 }
 
-/// The atom `true` or `false`.
+/// Makes the atom `true` or `false`.
 pub(crate) fn truth(alloc: Global, b: bool) -> Result<Term, AllocError>
     ensures { IfOk result (λ t. data_of t ≡ truth b) }
 {
@@ -68,7 +68,7 @@ pub(crate) fn truth(alloc: Global, b: bool) -> Result<Term, AllocError>
     Ok(Term::Atom(Atom::of_bytes(alloc, b"false")?))
 }
 
-/// What boolean the term is, if it is one.
+/// Reads a boolean, if the term is one.
 pub(crate) fn boolean(term: &Term) -> Option<bool>
     ensures { result ≡ boolean (data_of term.now) }
 {
@@ -85,7 +85,7 @@ pub(crate) fn boolean(term: &Term) -> Option<bool>
     }
 }
 
-/// Whether one of two booleans is true and the other false.
+/// Computes `xor` of two booleans.
 pub(crate) fn exclusive(x: Option<bool>, y: Option<bool>) -> Option<bool>
     ensures { result ≡ exclusive x y }
 {

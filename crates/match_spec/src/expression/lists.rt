@@ -1,4 +1,4 @@
-// Parts of lists and tuples, and how many there are.
+// Elements and sizes of lists and tuples.
 ghost use Rattle.std.specs.Prelude.{◌≡◌, drop, map, IfOk, option_copied};
 ghost use Rattle.std.specs.Option.{option_map};
 ghost use Rattle.ets_term.specs.Data.{int, list, data_of, row_of};
@@ -8,7 +8,7 @@ use crate::expression::arithmetic::count;
 use ets_term::{Integer, Items, Position, Term};
 use std::alloc::{AllocError, Global};
 
-/// The first element of a list.
+/// Returns the first element of a list.
 pub(crate) fn head(term: &Term) -> Option<&Term>
     ensures { option_map data_of (option_copied result) ≡ head (data_of term.now) }
 {
@@ -18,7 +18,7 @@ pub(crate) fn head(term: &Term) -> Option<&Term>
     }
 }
 
-/// The list of the elements behind the first.
+/// Makes the list of the elements after the first.
 pub(crate) fn tail(alloc: Global, term: &Term) -> Result<Option<Term>, AllocError>
     ensures { IfOk result (λ t. option_map data_of t ≡ tail (data_of term.now)) }
 {
@@ -48,7 +48,7 @@ fn copies_from(alloc: Global, items: &[Term], start: usize) -> Result<Items<Term
     Ok(Items::from_vec(copies))
 }
 
-/// How many elements a list has.
+/// Counts the elements of a list.
 #[tactic(auto, using(crate::proofs::ListLaws::list_length_of))]
 pub(crate) fn list_length(term: &Term) -> Option<Term>
     ensures { option_map data_of result ≡ list_length (data_of term.now) }
@@ -59,7 +59,7 @@ pub(crate) fn list_length(term: &Term) -> Option<Term>
     }
 }
 
-/// How many elements a tuple, or bytes a binary has.
+/// Counts the elements of a tuple, or the bytes of a binary.
 #[tactic(auto, using(crate::proofs::ListLaws::size_of_tuple))]
 pub(crate) fn size(term: &Term) -> Option<Term>
     ensures { option_map data_of result ≡ size (data_of term.now) }
@@ -71,7 +71,7 @@ pub(crate) fn size(term: &Term) -> Option<Term>
     }
 }
 
-/// Element n of the tuple, where n is an integer.
+/// Returns element `n` of a tuple, from 1, if `n` is an integer.
 pub(crate) fn element<'a>(n: &Term, tuple: &'a Term) -> Option<&'a Term>
     ensures { option_map data_of (option_copied result) ≡ element (data_of n.now) (data_of tuple.now) }
 {

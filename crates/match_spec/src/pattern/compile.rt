@@ -10,7 +10,7 @@ use crate::variable::variable;
 use ets_term::{Atom, Items, Term};
 use std::alloc::{AllocError, Global};
 
-/// The part of the pattern that stands here, compiled.
+/// Compiles the part of the pattern at the current path.
 #[cycle(compile)]
 #[tactic(auto, using(ets_term::specs::laws::Exact::back))]
 pub(crate) fn part_of(

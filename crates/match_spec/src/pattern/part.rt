@@ -1,4 +1,4 @@
-// Compiled patterns.
+// The parts of compiled patterns.
 ghost use Rattle.std.specs.Prelude.{◌≡◌, map};
 ghost use Rattle.ets_term.specs.Data.{data_of, row_of};
 ghost use Rattle.match_spec.specs.inside.CompiledPatterns.{part_fits, all_fit};
@@ -6,8 +6,8 @@ ghost use Rattle.match_spec.specs.inside.CompiledPatterns.{part_fits, all_fit};
 use crate::pattern::path::subterm_at;
 use ets_term::{Items, Term};
 
-/// A part of a pattern. A variable is `Anything` at its first place; at the others it is compared with what stands
-/// there.
+/// A part of a compiled pattern. A variable is a `Wildcard` at its first occurrence, and `Repeated` later, with the
+/// path of the first.
 #[derive(Drop)]
 pub(crate) enum Part {
     Wildcard,
@@ -17,7 +17,7 @@ pub(crate) enum Part {
     Literal(Term),
 }
 
-/// Whether the part of the object fits.
+/// Checks whether a subterm of the object fits the part.
 #[cycle(fits)]
 pub(crate) fn fits(part: &Part, object: &Term, term: &Term) -> bool
     ensures { result ≡ part_fits part.now (data_of object.now) (data_of term.now) }
@@ -55,7 +55,7 @@ fn all_fit(parts: &[Part], object: &Term, terms: &[Term]) -> bool
     true
 }
 
-// The same, with no call for a part that fits whatever stands there.
+// Like `fits`, without a call for a wildcard.
 #[inline(always)]
 #[cycle(fits)]
 fn element_fits(part: &Part, object: &Term, term: &Term) -> bool

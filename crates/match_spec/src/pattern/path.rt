@@ -1,4 +1,4 @@
-// Places in terms, and the first places of a pattern's variables.
+// Paths in terms, and the first paths of a pattern's variables.
 ghost use Rattle.std.specs.Prelude.{◌≡◌, [], ◌∷◌, map, IfOk, OnOk};
 ghost use Rattle.ets_term.specs.Data.{data_of, row_of};
 ghost use Rattle.match_spec.specs.Paths.{subterm_at, element_or};
@@ -10,10 +10,10 @@ use ets_term::{Items, Term};
 use std::alloc::{AllocError, Global};
 use std::collections::BTreeMap;
 
-/// The first places of a pattern's variables, by number.
+/// The path of the first occurrence of each variable of a pattern, by number.
 pub(crate) type FirstPaths = BTreeMap<u32, Items<usize>>;
 
-/// The part of the term at the place; where the way ends before, what it has come to.
+/// Returns the subterm at a path, or the last one reached if the path leaves the term.
 pub(crate) fn subterm_at<'a>(path: &[usize], term: &'a Term) -> &'a Term
     ensures { data_of result.now ≡ subterm_at path.now (data_of term.now) }
 {
@@ -40,7 +40,7 @@ fn item_or<'a>(items: &'a [Term], i: usize, term: &'a Term) -> &'a Term
     if i < items.len() { &items[i] } else { term }
 }
 
-/// Copies of what stands at the places.
+/// Clones the subterms at the paths.
 pub(crate) fn clone_subterms(
     alloc: Global,
     paths: &[Items<usize>],
@@ -55,7 +55,7 @@ pub(crate) fn clone_subterms(
     Ok(parts)
 }
 
-/// The first places of the pattern's variables, each looked up once.
+/// Collects the first paths of the pattern's variables.
 pub(crate) fn first_paths(alloc: Global, pattern: &Term) -> Result<FirstPaths, AllocError>
     ensures { IfOk result (λ first. first.entries ≡ first_paths_of (data_of pattern.now)) }
 {
@@ -72,7 +72,8 @@ fn collect(
     current_path: &mut Vec<usize>,
     first: &mut FirstPaths,
 ) -> Result<(), AllocError>
-    ensures paths { OnOk result (first.new.entries ≡ add_first_paths current_path.old.items first.old.entries (data_of part.now)) }
+    ensures paths { OnOk result (first.new.entries
+        ≡ add_first_paths current_path.old.items first.old.entries (data_of part.now)) }
     ensures current_path { OnOk result (current_path.new.items ≡ current_path.old.items) }
 {
     match part {
@@ -119,7 +120,7 @@ fn record_path(
     Ok(())
 }
 
-/// The first place of the variable; no way at all where it is not there.
+/// Returns the first path of the variable, empty if the pattern does not have it.
 pub(crate) fn first_path(first: &FirstPaths, number: u32) -> &[usize]
     ensures { result.now ≡ first_path first.now.entries number }
 {
@@ -129,7 +130,7 @@ pub(crate) fn first_path(first: &FirstPaths, number: u32) -> &[usize]
     }
 }
 
-/// The places, in order of number.
+/// Copies the paths, in order of the numbers of their variables.
 pub(crate) fn paths_by_number(
     alloc: Global,
     first: &FirstPaths,

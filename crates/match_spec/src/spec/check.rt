@@ -1,5 +1,5 @@
-// The parts of a clause, and whether they are good.
-ghost use Rattle.std.specs.Prelude.{◌≡◌, ◌&&◌, nat_lt, map};
+// The parts of a clause, and the check of them.
+ghost use Rattle.std.specs.Prelude.{◌≡◌, nat_lt, map};
 ghost use Rattle.std.specs.Option.{option_map};
 ghost use Rattle.ets_term.specs.Data.{tuple, data_of, row_of};
 ghost use Rattle.ets_term.specs.Order.{row_len};
@@ -12,7 +12,7 @@ use crate::pattern::is_pattern;
 use crate::pattern::path::FirstPaths;
 use ets_term::Term;
 
-/// The three parts of a clause.
+/// The three parts of a clause, as terms.
 #[derive(Clone, Copy)]
 pub(crate) struct ClauseParts<'a> {
     pub(crate) head: &'a Term,
@@ -20,7 +20,7 @@ pub(crate) struct ClauseParts<'a> {
     pub(crate) body: &'a [Term],
 }
 
-/// The parts of the clause, where it has the form of one.
+/// Splits a clause into its parts, if it has the form of one.
 pub(crate) fn clause_parts(term: &Term) -> Option<ClauseParts>
     ensures { option_map raw_clause_of result ≡ clause_parts (data_of term.now) }
 {
@@ -49,24 +49,13 @@ fn three_parts(parts: &[Term]) -> Option<ClauseParts>
     })
 }
 
-/// Whether the parts are good, where the head binds these variables.
+/// Checks the parts of a clause whose head binds these variables.
 pub(crate) fn is_good(parts: ClauseParts, first: &FirstPaths) -> bool
     ensures { result ≡ is_good_by (numbers_of first.now.entries) (raw_clause_of parts.entry) }
 {
     let conditions = are_expressions(parts.conditions, 0, first);
     let body = are_expressions(parts.body, 0, first);
-    all_four(
-        is_pattern(parts.head),
-        is_nonempty(parts.body),
-        conditions,
-        body,
-    )
-}
-
-fn all_four(a: bool, b: bool, c: bool, d: bool) -> bool
-    ensures { result ≡ ((a && b) && (c && d)) }
-{
-    (a && b) && (c && d)
+    (is_pattern(parts.head) && is_nonempty(parts.body)) && (conditions && body)
 }
 
 #[tactic(auto, using(crate::proofs::ExpressionLaws::row_len_of))]

@@ -7,13 +7,13 @@ ghost use Rattle.match_spec.specs.inside.CompiledClauses.{applies, last_value_of
 ghost use Rattle.match_spec.specs.inside.CompiledExpressions.{value_data, expression_value};
 
 use crate::expression::Expression;
-use crate::expression::evaluate::{ExprValue, discard, value_of};
+use crate::expression::evaluate::{Env, ExprValue, discard, value_of};
 use crate::pattern::part::{Part, fits};
 use crate::spec::conditions::{all_hold, is_true};
 use ets_term::{Atom, Items, Term};
 use std::alloc::{AllocError, Global};
 
-/// A clause. The places are where the variables of its head stand, in order of number.
+/// A compiled clause. `paths` are the first paths of the variables of its head, in order of number.
 #[derive(Drop)]
 pub(crate) struct Clause {
     pub(crate) head: Part,
@@ -22,7 +22,7 @@ pub(crate) struct Clause {
     pub(crate) body: Items<Expression>,
 }
 
-/// What the first of the clauses gives that counts, if one does.
+/// Returns the result of the first matching clause, if one matches.
 #[inline(always)]
 pub(crate) fn result_of_first(
     alloc: Global,
@@ -37,7 +37,7 @@ pub(crate) fn result_of_first(
     }
 }
 
-/// Whether that is `true`. No atom is made for it.
+/// Checks whether that result is `true`, without making its atom.
 pub(crate) fn first_result_is_true(
     alloc: Global,
     clauses: &[Clause],
@@ -51,7 +51,7 @@ pub(crate) fn first_result_is_true(
     }
 }
 
-// The first of the clauses that counts.
+// Returns the first clause that applies to the object.
 #[inline(always)]
 fn first_matching<'a>(
     alloc: Global,
@@ -75,24 +75,25 @@ fn applies(alloc: Global, clause: &Clause, object: &Term) -> Result<bool, AllocE
     if !fits(&clause.head, object, object) {
         return Ok(false);
     }
-    all_hold(
+    all_hold(env_of(alloc, clause, object), clause.conditions.as_slice())
+}
+
+fn env_of<'a>(alloc: Global, clause: &'a Clause, object: &'a Term) -> Env<'a>
+    ensures paths { result.paths.now ≡ clause.now.paths }
+    ensures object { result.object.now ≡ object.now }
+{
+    Env {
         alloc,
-        clause.conditions.as_slice(),
-        clause.paths.as_slice(),
+        paths: clause.paths.as_slice(),
         object,
-    )
+    }
 }
 
 #[inline(never)]
 fn body_value(alloc: Global, clause: &Clause, object: &Term) -> Result<Term, AllocError>
     ensures { IfOk result (λ t. data_of t ≡ body_value_by clause.now (data_of object.now)) }
 {
-    match last_value(
-        alloc,
-        clause.body.as_slice(),
-        clause.paths.as_slice(),
-        object,
-    )? {
+    match last_value(env_of(alloc, clause, object), clause.body.as_slice())? {
         Some(value) => Ok(value.into_term(alloc)?),
         None => Ok(Term::Atom(Atom::of_bytes(alloc, b"EXIT")?)),
     }
@@ -102,27 +103,17 @@ fn body_value(alloc: Global, clause: &Clause, object: &Term) -> Result<Term, All
 fn body_is_true(alloc: Global, clause: &Clause, object: &Term) -> Result<bool, AllocError>
     ensures { IfOk result (λ b. b ≡ is_true (body_value_by clause.now (data_of object.now))) }
 {
-    let value = last_value(
-        alloc,
-        clause.body.as_slice(),
-        clause.paths.as_slice(),
-        object,
-    )?;
+    let value = last_value(env_of(alloc, clause, object), clause.body.as_slice())?;
     Ok(is_true(value))
 }
 
-// The value of the last of these expressions, None where one of them fails or there is none.
-fn last_value<'a>(
-    alloc: Global,
-    body: &'a [Expression],
-    paths: &[Items<usize>],
-    object: &'a Term,
-) -> Result<Option<ExprValue<'a>>, AllocError>
+// Returns the value of the last expression, or `None` if an expression fails or there is none.
+fn last_value<'a>(env: Env<'a>, body: &'a [Expression]) -> Result<Option<ExprValue<'a>>, AllocError>
     ensures { IfOk result (λ v. option_map value_data v
-        ≡ last_value_of (map (expression_value paths.now) body.now) (data_of object.now)) }
+        ≡ last_value_of (map (expression_value env.entry.paths.now) body.now) (data_of env.entry.object.now)) }
 {
     for i in 0..body.len() {
-        let Some(x) = value_of(alloc, &body[i], paths, object)? else {
+        let Some(x) = value_of(env, &body[i])? else {
             return Ok(None);
         };
         if i + 1 == body.len() {

@@ -9,109 +9,92 @@ ghost use Rattle.match_spec.specs.inside.CompiledExpressions.{value_data, apply_
 
 use crate::expression::Expression;
 use crate::expression::comparison::compares;
-use crate::expression::evaluate::{ExprValue, apply_to_two, borrowed_value, evaluate, value_of};
+use crate::expression::evaluate::{
+    Env, ExprValue, apply_to_two, borrowed_value, evaluate, value_of,
+};
 use crate::expression::function::Function;
-use ets_term::{Items, Term};
+use ets_term::Term;
 use std::alloc::{AllocError, Global};
 
-/// Whether all conditions give true.
-pub(crate) fn all_hold(
-    alloc: Global,
-    conditions: &[Expression],
-    paths: &[Items<usize>],
-    object: &Term,
-) -> Result<bool, AllocError>
-    ensures { IfOk result (λ b. b ≡ all_hold_of (map (expression_value paths.now) conditions.now) (data_of object.now)) }
+/// Checks whether all conditions give `true`.
+pub(crate) fn all_hold(env: Env, conditions: &[Expression]) -> Result<bool, AllocError>
+    ensures { IfOk result (λ b. b
+        ≡ all_hold_of (map (expression_value env.entry.paths.now) conditions.now) (data_of env.entry.object.now)) }
 {
     for condition in conditions {
-        if !condition_holds(alloc, condition, paths, object)? {
+        if !condition_holds(env, condition)? {
             return Ok(false);
         }
     }
     Ok(true)
 }
 
-// Whether the condition gives true. A comparison answers at once, without an atom for its answer.
+// Checks whether a condition gives `true`. A comparison makes no atom for its answer.
 #[tactic(auto, using(crate::proofs::ValueLaws::expression_value_of_two))]
-fn condition_holds(
-    alloc: Global,
-    condition: &Expression,
-    paths: &[Items<usize>],
-    object: &Term,
-) -> Result<bool, AllocError>
+fn condition_holds(env: Env, condition: &Expression) -> Result<bool, AllocError>
     ensures { IfOk result (λ b. b
-        ≡ option_map_or is_true (expression_value paths.now condition.now (data_of object.now)) false) }
+        ≡ option_map_or is_true
+        (expression_value env.entry.paths.now condition.now (data_of env.entry.object.now)) false) }
 {
     if let Expression::Apply(function, arguments) = condition {
         if let [first, second] = arguments.as_slice() {
-            return binary_condition_holds(alloc, *function, first, second, paths, object);
+            return binary_condition_holds(env, *function, first, second);
         }
     }
-    general_condition_holds(alloc, condition, paths, object)
+    general_condition_holds(env, condition)
 }
 
-// A condition of any other form. Not inlined: a comparison has no value to let go.
+// Checks a condition of any other form. Not inlined: a comparison has no value to drop.
 #[inline(never)]
-fn general_condition_holds(
-    alloc: Global,
-    condition: &Expression,
-    paths: &[Items<usize>],
-    object: &Term,
-) -> Result<bool, AllocError>
+fn general_condition_holds(env: Env, condition: &Expression) -> Result<bool, AllocError>
     ensures { IfOk result (λ b. b
-        ≡ option_map_or is_true (expression_value paths.now condition.now (data_of object.now)) false) }
+        ≡ option_map_or is_true
+        (expression_value env.entry.paths.now condition.now (data_of env.entry.object.now)) false) }
 {
-    Ok(is_true(evaluate(alloc, condition, paths, object)?))
+    Ok(is_true(evaluate(env, condition)?))
 }
 
-// Parts that stand in the object or the expression are compared where they stand.
+// Checks a condition of two operands. Borrowed operands are compared in place.
 #[tactic(auto, using(crate::proofs::ValueLaws::is_true_truth))]
 fn binary_condition_holds(
-    alloc: Global,
+    env: Env,
     function: Function,
     first: &Expression,
     second: &Expression,
-    paths: &[Items<usize>],
-    object: &Term,
 ) -> Result<bool, AllocError>
     ensures { IfOk result (λ b. b
         ≡ option_map_or is_true (apply_of function
-        (expression_value paths.now first.now ∷ expression_value paths.now second.now ∷ [])
-        (data_of object.now)) false) }
+        (expression_value env.entry.paths.now first.now ∷ expression_value env.entry.paths.now second.now ∷ [])
+        (data_of env.entry.object.now)) false) }
 {
     if let Function::Compare(comparison) = function {
-        if let (Some(x), Some(y)) = (
-            borrowed_value(first, paths, object),
-            borrowed_value(second, paths, object),
-        ) {
+        if let (Some(x), Some(y)) = (borrowed_value(env, first), borrowed_value(env, second)) {
             return Ok(compares(comparison, x, y));
         }
     }
-    owned_operands_hold(alloc, function, first, second, paths, object)
+    owned_operands_hold(env, function, first, second)
 }
 
-// The same, where a part is to be made. Not inlined, for the same reason.
+// Checks a condition with an operand that must be made. Not inlined: borrowed operands have no value to drop.
 #[inline(never)]
 fn owned_operands_hold(
-    alloc: Global,
+    env: Env,
     function: Function,
     first: &Expression,
     second: &Expression,
-    paths: &[Items<usize>],
-    object: &Term,
 ) -> Result<bool, AllocError>
     ensures { IfOk result (λ b. b
         ≡ option_map_or is_true (apply_of function
-        (expression_value paths.now first.now ∷ expression_value paths.now second.now ∷ [])
-        (data_of object.now)) false) }
+        (expression_value env.entry.paths.now first.now ∷ expression_value env.entry.paths.now second.now ∷ [])
+        (data_of env.entry.object.now)) false) }
 {
-    let Some(x) = value_of(alloc, first, paths, object)? else {
+    let Some(x) = value_of(env, first)? else {
         return Ok(false);
     };
-    let Some(y) = value_of(alloc, second, paths, object)? else {
+    let Some(y) = value_of(env, second)? else {
         return Ok(false);
     };
-    values_hold(alloc, function, x, y)
+    values_hold(env.alloc, function, x, y)
 }
 
 #[tactic(auto, using(crate::proofs::ValueLaws::is_true_truth))]
@@ -121,7 +104,8 @@ fn values_hold(
     x: ExprValue,
     y: ExprValue,
 ) -> Result<bool, AllocError>
-    ensures { IfOk result (λ b. b ≡ option_map_or is_true (apply function (value_data x.entry ∷ value_data y.entry ∷ [])) false) }
+    ensures { IfOk result (λ b. b
+        ≡ option_map_or is_true (apply function (value_data x.entry ∷ value_data y.entry ∷ [])) false) }
 {
     if let Function::Compare(comparison) = function {
         return Ok(compares(comparison, x.term(), y.term()));
@@ -129,7 +113,7 @@ fn values_hold(
     Ok(is_true(apply_to_two(alloc, function, x, y)?))
 }
 
-/// Whether it is the atom `true`.
+/// Checks whether the value is the atom `true`.
 pub(crate) fn is_true(value: Option<ExprValue>) -> bool
     ensures { result ≡ option_map_or is_true (option_map value_data value.entry) false }
 {

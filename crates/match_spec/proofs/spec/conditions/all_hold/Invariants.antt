@@ -5,4 +5,4 @@ use Rattle.match_spec.specs.inside.CompiledExpressions.{expression_value}
 use Rattle.match_spec.proofs.spec.conditions.all_hold.Given as goal
 
 abbrev pub invariant-loop-condition : goal.invariant-loop-condition
-invariant-loop-condition l = all_hold_of (map (expression_value l.paths) (drop l.condition-index l.conditions)) (data_of l.object) ≡ all_hold_of (map (expression_value l.paths) l.conditions) (data_of l.object)
+invariant-loop-condition l = all_hold_of (map (expression_value l.env.paths.now) (drop l.condition-index l.conditions)) (data_of l.env.object.now) ≡ all_hold_of (map (expression_value l.env.paths.now) l.conditions) (data_of l.env.object.now)

@@ -1,0 +1,142 @@
+// A quick test, which rejects most objects before the first clause is tried.
+ghost use Rattle.std.specs.Prelude.{◌≡◌, [], ◌∷◌, false, map, IfSome};
+ghost use Rattle.ets_term.specs.Data.{tuple, data_of, row_of};
+ghost use Rattle.match_spec.specs.inside.QuickTests.{rejects, rejects_element, IsComparison, IsNecessary, RejectsClause, RejectsAll};
+
+use crate::expression::Expression;
+use crate::expression::comparison::{ComparisonOp, compares_integers};
+use crate::expression::function::Function;
+use crate::pattern::part::Part;
+use crate::spec::clause::Clause;
+use ets_term::{Integer, Term};
+
+/// A necessary condition of a clause: the object is a tuple of `len` elements, and its element at `index`, from 0, is not
+/// an integer or compares with `value`.
+#[derive(Clone, Copy)]
+pub(crate) struct QuickTest {
+    pub(crate) len: usize,
+    pub(crate) index: usize,
+    pub(crate) comparison: ComparisonOp,
+    pub(crate) value: Integer,
+}
+
+impl QuickTest {
+    /// Checks whether the object fails the test.
+    #[inline(always)]
+    pub(crate) fn rejects(&self, object: &Term) -> bool
+        ensures { result ≡ rejects self.now (data_of object.now) }
+    {
+        match object {
+            Term::Tuple(items) => self.rejects_items(items.as_slice()),
+            _ => true,
+        }
+    }
+
+    #[inline(always)]
+    #[tactic(auto, using(crate::proofs::QuickLaws::rejects_length, crate::proofs::QuickLaws::rejects_by_element, crate::proofs::QuickLaws::rejects_nothing))]
+    fn rejects_items(&self, items: &[Term]) -> bool
+        ensures { result ≡ rejects self.now (tuple (row_of (map data_of items.now))) }
+    {
+        if items.len() != self.len {
+            return true;
+        }
+        if self.index >= items.len() {
+            return false;
+        }
+        self.rejects_element(&items[self.index])
+    }
+
+    #[inline(always)]
+    fn rejects_element(&self, element: &Term) -> bool
+        ensures { result ≡ rejects_element self.now (data_of element.now) }
+    {
+        match element {
+            Term::Int(n) => !compares_integers(self.comparison, *n, self.value),
+            _ => false,
+        }
+    }
+}
+
+/// Returns a quick test for a single clause whose head is a tuple and whose first condition compares an element with an
+/// integer.
+pub(crate) fn quick_test(clauses: &[Clause]) -> Option<QuickTest>
+    ensures { IfSome result (λ q. RejectsAll q clauses.now) }
+{
+    match clauses {
+        [clause] => clause_test(clause),
+        _ => None,
+    }
+}
+
+fn clause_test(clause: &Clause) -> Option<QuickTest>
+    ensures { IfSome result (λ q. RejectsClause q clause.now) }
+{
+    match &clause.head {
+        Part::Tuple(parts) => conditions_test(parts.len(), clause.conditions.as_slice()),
+        _ => None,
+    }
+}
+
+fn conditions_test(len: usize, conditions: &[Expression]) -> Option<QuickTest>
+    ensures { IfSome result (λ q. (q.len ≡ len) × IsNecessary q conditions.now) }
+{
+    match conditions {
+        [condition, ..] => condition_test(len, condition),
+        _ => None,
+    }
+}
+
+fn condition_test(len: usize, condition: &Expression) -> Option<QuickTest>
+    ensures { IfSome result (λ q. (q.len ≡ len) × IsComparison q condition.now) }
+{
+    let Expression::Apply(function, arguments) = condition else {
+        return None;
+    };
+    let Function::Compare(comparison) = function else {
+        return None;
+    };
+    let [element, constant] = arguments.as_slice() else {
+        return None;
+    };
+    let Some(index) = element_index(element) else {
+        return None;
+    };
+    let Some(value) = integer_constant(constant) else {
+        return None;
+    };
+    Some(QuickTest {
+        len,
+        index,
+        comparison: *comparison,
+        value,
+    })
+}
+
+// Returns the index of the element that an expression reads in the object.
+fn element_index(expression: &Expression) -> Option<usize>
+    ensures { IfSome result (λ i. expression.now ≡ Expression.Variable (i ∷ [])) }
+{
+    match expression {
+        Expression::Variable(path) => single_index(path.as_slice()),
+        _ => None,
+    }
+}
+
+#[tactic(auto, using(crate::proofs::QuickLaws::single))]
+fn single_index(path: &[usize]) -> Option<usize>
+    ensures { IfSome result (λ i. path.now ≡ i ∷ []) }
+{
+    if path.len() != 1 {
+        return None;
+    }
+    Some(path[0])
+}
+
+fn integer_constant(expression: &Expression) -> Option<Integer>
+    ensures { IfSome result (λ n. expression.now ≡ Expression.Constant (Term.Int n)) }
+{
+    match expression {
+        Expression::Constant(Term::Int(n)) => Some(*n),
+        _ => None,
+    }
+}
