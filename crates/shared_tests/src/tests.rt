@@ -17,6 +17,7 @@ mod joining;
 mod keeper;
 mod keeping;
 mod meeting;
+mod numbering;
 mod serving;
 
 /// The call of this name, with the terms of this list.

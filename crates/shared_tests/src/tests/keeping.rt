@@ -10,7 +10,16 @@ use std::sync::Wait;
 use std::sync::ledger::{Blank, Ledger};
 use std::test::Fail;
 
-const NINE: &str = "[t,[{1},{2},{3},{4},{5},{6},{7},{8},{9}]]";
+/// The arguments that make a table, and those that give it nine objects.
+const TABLE: [&str; 2] = [
+    "[t,[named_table]]",
+    "[t,[{1},{2},{3},{4},{5},{6},{7},{8},{9}]]",
+];
+
+const OTHER: [&str; 2] = [
+    "[u,[named_table]]",
+    "[u,[{1},{2},{3},{4},{5},{6},{7},{8},{9}]]",
+];
 
 /// The client makes a table, and gives it nine objects.
 fn fill<L: Ledger, R: Wait>(
@@ -18,32 +27,31 @@ fn fill<L: Ledger, R: Wait>(
     alloc: Global,
     shared: &Shared<L, Fnv>,
     client: &mut Client<L>,
+    table: [&str; 2],
 ) -> Result<(), Fail> {
-    let _name = client.ask(rt, shared, &call(alloc, "new", "[t,[named_table]]")?)?;
-    let _true = client.ask(rt, shared, &call(alloc, "insert", NINE)?)?;
+    let [new, objects] = table;
+    let _name = client.ask(rt, shared, &call(alloc, "new", new)?)?;
+    let _true = client.ask(rt, shared, &call(alloc, "insert", objects)?)?;
     Ok(())
 }
 
-/// How many due steps are done in 3, 9 and 9 turns.
+/// How many due steps are done in 3, 9 and 9 turns, and of another table in 9.
 fn kept<L: Ledger, R: Wait>(
     rt: &R,
     alloc: Global,
     shared: &Shared<L, Fnv>,
-) -> Result<(u32, u32, u32), Fail> {
+) -> Result<[u32; 4], Fail> {
     let mut clients = joined(rt, alloc, shared, 1)?;
-    fill(rt, alloc, shared, clients.first_mut().ok_or("a client")?)?;
-    Ok((
-        keep(rt, shared, 3),
-        keep(rt, shared, 9),
-        keep(rt, shared, 9),
-    ))
+    let client = clients.first_mut().ok_or("a client")?;
+    fill(rt, alloc, shared, client, TABLE)?;
+    let three = keep(rt, shared, 3);
+    let rest = keep(rt, shared, 9);
+    let none = keep(rt, shared, 9);
+    fill(rt, alloc, shared, client, OTHER)?;
+    Ok([three, rest, none, keep(rt, shared, 9)])
 }
 
-fn due_steps<L: Ledger, R: Wait>(
-    rt: &R,
-    alloc: Global,
-    blank: Blank,
-) -> Result<(u32, u32, u32), Fail>
+fn due_steps<L: Ledger, R: Wait>(rt: &R, alloc: Global, blank: Blank) -> Result<[u32; 4], Fail>
     requires name { blank.name ≡ L.name }
     requires parts { blank.parts ≡ L.parts }
     requires enough { blank.parts ≡ 2 }
@@ -59,7 +67,7 @@ fn due_steps<L: Ledger, R: Wait>(
 fn due_steps_are_done_in_turns(rt: HostRuntime) -> Result<(), Fail> {
     assert_eq!(rt;
         due_steps::<Brand, _>(&rt, rt.alloc(), Blank::new(2))?,
-        (3, 1, 0)
+        [3, 1, 0, 4]
     );
     Ok(())
 }

@@ -1,4 +1,4 @@
-// A server does what it is asked, and pending steps, and threads may ask it at once.
+// A server does what it is asked, and what is due, and threads may ask it at once.
 ghost use Rattle.std.specs.Prelude.{◌≡◌};
 ghost use Rattle.std.specs.Thread.{IsSync};
 
@@ -13,7 +13,16 @@ use std::test::Fail;
 use std::thread;
 use std::thread::Threads;
 
-const NINE: &str = "[t,[{1},{2},{3},{4},{5},{6},{7},{8},{9}]]";
+/// The arguments that make a table, and those that give it nine objects.
+const TABLE: [&str; 2] = [
+    "[t,[named_table]]",
+    "[t,[{1},{2},{3},{4},{5},{6},{7},{8},{9}]]",
+];
+
+const OTHER: [&str; 2] = [
+    "[u,[named_table]]",
+    "[u,[{1},{2},{3},{4},{5},{6},{7},{8},{9}]]",
+];
 
 /// The only number of one.
 fn drawn(alloc: Global) -> Result<Drawn, Fail> {
@@ -28,13 +37,28 @@ fn fill<B: Room, R: Wait>(
     alloc: Global,
     server: &Server<B, Fnv>,
     caller: &mut Caller<B>,
+    table: [&str; 2],
 ) -> Result<(), Fail> {
-    caller.ask(rt, server, call(alloc, "new", "[t,[named_table]]")?)?;
-    caller.ask(rt, server, call(alloc, "insert", NINE)?)?;
+    let [new, objects] = table;
+    caller.ask(rt, server, call(alloc, "new", new)?)?;
+    caller.ask(rt, server, call(alloc, "insert", objects)?)?;
     Ok(())
 }
 
-/// Returns whether the process asks in vain once it has ended.
+/// Whether four steps are due behind nine insertions, of which three turns leave one, and nine turns none.
+fn is_kept<B: Room, R: Wait>(
+    rt: &R,
+    alloc: Global,
+    server: &Server<B, Fnv>,
+    caller: &mut Caller<B>,
+) -> Result<bool, Fail> {
+    fill(rt, alloc, server, caller, TABLE)?;
+    let three = server.keep(rt, 3) == 3 && server.keep(rt, 9) == 1 && server.keep(rt, 9) == 0;
+    fill(rt, alloc, server, caller, OTHER)?;
+    Ok(three && server.keep(rt, 9) == 4)
+}
+
+/// Whether the process asks in vain once it has ended.
 fn is_silent<B: Room, R: Wait>(
     rt: &R,
     alloc: Global,
@@ -46,8 +70,7 @@ fn is_silent<B: Room, R: Wait>(
     Ok(matches!(late, Reply::NoProcess))
 }
 
-/// Returns whether four steps are pending after nine insertions, three turns leave one, and a process that has ended
-/// asks in vain.
+/// Whether due steps are done, and a process that has ended asks in vain.
 fn is_asked<B: Room, R: Wait>(
     rt: &R,
     alloc: Global,
@@ -55,12 +78,11 @@ fn is_asked<B: Room, R: Wait>(
     drawn: Drawn,
 ) -> Result<bool, Fail> {
     let mut caller = server.client(rt, drawn).map_err(|_| "a caller")?;
-    fill(rt, alloc, server, &mut caller)?;
-    let kept = server.keep(rt, 3) == 3 && server.keep(rt, 9) == 1 && server.keep(rt, 9) == 0;
+    let kept = is_kept(rt, alloc, server, &mut caller)?;
     Ok(kept && is_silent(rt, alloc, server, &mut caller)?)
 }
 
-/// Returns whether it is so of a server with these limits.
+/// Whether it is so of a server with these limits.
 fn is_served<B: Room, R: Wait>(
     rt: &R,
     alloc: Global,

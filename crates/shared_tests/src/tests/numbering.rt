@@ -1,0 +1,127 @@
+// Four clients run at once, and the gate is called before and after each job, by the numbers of client and job.
+ghost use Rattle.std.specs.Prelude.{◌≡◌};
+
+use super::{asks, done, entries_of, joined, limits};
+use ets_term::Fnv;
+use node_shared::{Client, Gate, Job, Shared, run_clients};
+use std::alloc::Global;
+use std::marker::Brand;
+use std::sync::Wait;
+use std::sync::atomic::{AtomicU64, Ordering};
+use std::sync::ledger::{Blank, Ledger};
+use std::test::Fail;
+use std::thread::Threads;
+
+/// For each client a number whose digits are the calls of the gate, in order: before job 0, after it, before job 1 and after it are
+/// 1, 2, 3 and 4.
+#[derive(Drop)]
+struct Log {
+    zero: AtomicU64,
+    one: AtomicU64,
+    two: AtomicU64,
+    three: AtomicU64,
+    others: AtomicU64,
+}
+
+impl Log {
+    fn new() -> Log {
+        Log {
+            zero: AtomicU64::new(0),
+            one: AtomicU64::new(0),
+            two: AtomicU64::new(0),
+            three: AtomicU64::new(0),
+            others: AtomicU64::new(0),
+        }
+    }
+
+    fn note(&self, client: usize, digit: usize) {
+        match client {
+            0 => push_digit(&self.zero, digit),
+            1 => push_digit(&self.one, digit),
+            2 => push_digit(&self.two, digit),
+            3 => push_digit(&self.three, digit),
+            _ => push_digit(&self.others, digit),
+        }
+    }
+
+    /// The numbers of the clients 0 to 3, and of all others.
+    fn digits(&self) -> [u64; 5] {
+        [
+            self.zero.load(Ordering::SeqCst),
+            self.one.load(Ordering::SeqCst),
+            self.two.load(Ordering::SeqCst),
+            self.three.load(Ordering::SeqCst),
+            self.others.load(Ordering::SeqCst),
+        ]
+    }
+}
+
+fn push_digit(number: &AtomicU64, digit: usize) {
+    let digits = number.load(Ordering::SeqCst).wrapping_mul(10);
+    number.store(digits.wrapping_add(digit as u64), Ordering::SeqCst);
+}
+
+impl Gate for Log {
+    fn before(&self, client: usize, call: usize) {
+        self.note(client, call.wrapping_mul(2).wrapping_add(1));
+    }
+
+    fn after(&self, client: usize, call: usize) {
+        self.note(client, call.wrapping_mul(2).wrapping_add(2));
+    }
+}
+
+/// Clients with their jobs: one for the first, two for the second, and so on.
+fn more_for_each<L: Ledger>(
+    alloc: Global,
+    clients: Vec<Client<L>>,
+) -> Result<Vec<(Client<L>, Vec<Job>)>, Fail> {
+    const CALLS: [(&str, &str); 4] = [
+        ("receive", "[]"),
+        ("receive", "[]"),
+        ("receive", "[]"),
+        ("receive", "[]"),
+    ];
+    let mut work = Vec::with_capacity(alloc, clients.len())?;
+    for (number, client) in clients.into_iter().enumerate() {
+        let jobs = asks(alloc, &CALLS[..(number + 1).min(4)])?;
+        work.push((client, jobs))?;
+    }
+    Ok(work)
+}
+
+/// Runs four clients, and notes each call of the gate.
+fn run_noted<L: Ledger + Send + Sync, R: Threads + Wait + Sync>(
+    rt: &R,
+    alloc: Global,
+    shared: &Shared<L, Fnv>,
+    log: &Log,
+) -> Result<Vec<Client<L>>, Fail> {
+    let clients = joined(rt, alloc, shared, 4)?;
+    let work = more_for_each(alloc, clients)?;
+    done(alloc, run_clients(rt, alloc, shared, work, log)?)
+}
+
+/// The calls of the gate, and how many entries the last client has.
+fn noted<L: Ledger + Send + Sync, R: Threads + Wait + Sync>(
+    rt: &R,
+    alloc: Global,
+    blank: Blank,
+) -> Result<([u64; 5], usize), Fail>
+    requires name { blank.name ≡ L.name }
+    requires parts { blank.parts ≡ L.parts }
+    requires enough { blank.parts ≡ 5 }
+{
+    let shared = Shared::<L, Fnv>::new(alloc, blank, limits(4), Fnv);
+    let log = Log::new();
+    let clients = run_noted(rt, alloc, &shared, &log)?;
+    Ok((log.digits(), entries_of(shared, clients, 3)?))
+}
+
+#[test]
+fn the_gate_is_called_before_and_after_each_job(rt: HostRuntime) -> Result<(), Fail> {
+    let (calls, entries) = noted::<Brand, _>(&rt, rt.alloc(), Blank::new(5))?;
+    assert_eq!(rt; calls, [12, 1_234, 123_456, 12_345_678, 0]);
+    assert_eq!(rt; entries, 5);
+    Ok(())
+}
