@@ -1,4 +1,5 @@
-// A run that goes on when memory runs out: with memory it leaves out nothing.
+// Runs of refused steps too: one that stops at the first step without memory, and one that goes past it. Where there is memory,
+// each step is answered.
 use super::Event::{Ask, End, Enrol, Grow, Ready};
 use super::{Row, is, step};
 use crate::tests::kept;
@@ -82,4 +83,65 @@ fn wrong_of_new(alloc: Global, rows: &[Row]) -> Result<Option<usize>, AllocError
 #[test]
 fn every_step_is_answered_where_there_is_memory(rt: HostRuntime) {
     assert_eq!(rt; wrong_of_new(rt.alloc(), &LIFE), Ok(None));
+}
+
+/// A process that starts twice and ends twice.
+const TWICE: [Row; 4] = [
+    (Enrol(0), "<0"),
+    (Enrol(0), "** badarg"),
+    (End(0), "true"),
+    (End(0), "** noproc"),
+];
+
+/// The place of the first row whose step has another reply in a run that stops without memory, or none.
+fn wrong_reply(
+    alloc: Global,
+    rows: &[Row],
+    replies: &[Reply],
+) -> Result<Option<usize>, AllocError> {
+    for (place, (_, wanted)) in rows.iter().enumerate() {
+        let Some(reply) = replies.get(place) else {
+            return Ok(Some(place));
+        };
+        if !is(alloc, reply, *wanted)? {
+            return Ok(Some(place));
+        }
+    }
+    Ok(None)
+}
+
+/// The same of a run by a node.
+fn wrong_run(
+    alloc: Global,
+    node: &mut Node<Fnv>,
+    rows: &[Row],
+) -> Result<Option<usize>, AllocError> {
+    let steps = steps_of(alloc, rows)?;
+    let ran = node.run(steps.as_slice());
+    drop(steps);
+    match ran {
+        Ok(replies) => {
+            let place = wrong_reply(alloc, rows, replies.as_slice());
+            drop(replies);
+            place
+        }
+        Err(fault) => {
+            drop(fault);
+            Ok(Some(0))
+        }
+    }
+}
+
+/// The same of a run by a new node.
+fn wrong_run_of_new(alloc: Global, rows: &[Row]) -> Result<Option<usize>, AllocError> {
+    let mut node = Node::new(alloc, Limits::usual(), Fnv);
+    let place = wrong_run(alloc, &mut node, rows);
+    drop(node);
+    place
+}
+
+#[test]
+fn a_run_answers_refused_steps(rt: HostRuntime) {
+    assert_eq!(rt; wrong_run_of_new(rt.alloc(), &TWICE), Ok(None));
+    assert_eq!(rt; wrong_run_of_new(rt.alloc(), &LIFE), Ok(None));
 }
