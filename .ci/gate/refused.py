@@ -1,4 +1,5 @@
-"""Makes the scripts whose lines are refused memory, and lists the calls that take none, for .ci/refusals."""
+"""Makes the scripts whose lines are refused memory, and lists the calls that take none and the lines that give back what they took,
+for .ci/refusals."""
 import re
 from dataclasses import dataclass
 
@@ -188,3 +189,66 @@ whereis(t) info(t,name) info(t,named_table) info(t,owner) info(t,protection) inf
 info(t,fixed) receive() no_call(t)""".split()
 OF_SET = "lookup_element(t,a,2) update_counter(t,a,1) update_counter(t,a,{2,1,0,0}) update_element(t,a,{2,5}) update_element(t,c,{2,5})".split()
 FREE = [free("set", [*OF_ANY, *OF_SET]), free("bag", OF_ANY), free("duplicate_bag", OF_ANY)]
+
+
+TEXTS = listed(f'{{{it},"a text that has memory of its own"}}' for it in range(20))
+# Lines that leave no table, object, fix or message behind: a name, the lines before them, the lines, in which NUMBER is that of the
+# round, and the number of blocks that a round may leave allocated: the name of a process, which is never forgotten.
+ROUNDS = [
+    ("a deleted table", ["spawn p"], ["p new(t,[named_table])", f"p insert(t,{TEXTS})", "p delete(t)"], 0),
+    ("a deleted table without a name", ["spawn p"], ["p new(t,[bag])", f"p insert(#Tid<NUMBER>,{TEXTS})", "p delete(#Tid<NUMBER>)"], 0),
+    ("deleted objects", ["spawn p", "p new(t,[named_table])"], [f"p insert(t,{TEXTS})", "p delete_all_objects(t)"], 0),
+    (
+        "objects that are taken or chosen",
+        ["spawn p", "p new(t,[named_table,bag])"],
+        [
+            f"p insert(t,{TEXTS})",
+            "p insert(t,[{1,2},{1,{1,2,[]}},{3,4}])",
+            "p take(t,1)",
+            "p match_delete(t,{3,'_'})",
+            "p select_delete(t,[{{'$1','_'},[{'<','$1',10}],[true]}])",
+            "p tab2list(t)",
+            "p match_delete(t,'_')",
+        ],
+        0,
+    ),
+    (
+        "updates",
+        ["spawn p", "p new(t,[named_table])"],
+        ["p insert(t,{a,1,[a,text]})", "p update_element(t,a,{3,[a,{b},c]})", "p update_counter(t,[b,{1}],{2,1},{x,0})", "p delete(t,[b,{1}])"],
+        0,
+    ),
+    (
+        "fixes",
+        ["spawn p", "p new(t,[named_table])"],
+        ["p safe_fixtable(t,true)", f"p insert(t,{TEXTS})", "p delete(t,1)", "p match_delete(t,'_')", "p safe_fixtable(t,false)"],
+        0,
+    ),
+    (
+        "messages",
+        ["spawn p", "spawn q"],
+        ["p new(t,[named_table,{heir,<0.1.0>,[some,data]}])", "p give_away(t,<0.1.0>,[other,data])", "q receive()", "q delete(t)"],
+        0,
+    ),
+    (
+        "processes that end",
+        ["spawn q"],
+        [
+            "spawn pNUMBER",
+            "pNUMBER new(t,[named_table,{heir,<0.0.0>,[some,data]}])",
+            "pNUMBER new(u,[])",
+            f"pNUMBER insert(t,{TEXTS})",
+            "q safe_fixtable(t,true)",
+            "exit pNUMBER",
+            "q receive()",
+            "q delete(t)",
+        ],
+        1,
+    ),
+    (
+        "refused lines",
+        ["spawn p", "p new(t,[named_table])"],
+        ["p lookup(t,[a,b,[c,", "p insert(t,[{a,b},{[c]},[]])", "p select(t,[{'_',[],[{a}]}])", "nobody lookup(t,{a,[b]})", f"p {'x' * 300}"],
+        0,
+    ),
+]

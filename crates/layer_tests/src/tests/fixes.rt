@@ -9,6 +9,7 @@ use std::process::Abort;
 use table_ops::{Kind, Table};
 
 mod calls;
+mod free;
 mod held;
 mod refused;
 mod walks;

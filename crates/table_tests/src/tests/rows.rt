@@ -8,6 +8,7 @@ use std::alloc::{AllocError, Global};
 use std::process::Abort;
 
 mod calls;
+mod free;
 mod growth;
 mod hashes;
 mod refused;

@@ -1,0 +1,74 @@
+// Calls that take no memory, while none is there: `.ci/refusals` refuses each allocation between two marks.
+use super::*;
+
+/// More bytes than any machine has. A request of so many is refused, and marks for `.ci/refusals` where a part begins or ends that
+/// takes no memory.
+const MARK: usize = 1 << 60;
+
+fn mark(alloc: Global) -> bool {
+    Vec::<u8>::with_capacity(alloc, MARK).is_err()
+}
+
+/// A walk by `first_lookup` and `next_lookup`: how many keys it gives, and how many objects these have.
+fn walked<R: Rows>(table: &Walked<R>) -> (usize, usize) {
+    let (mut keys, mut objects) = (0, 0);
+    let mut at = table.first_lookup();
+    for _ in 0..table.slots() {
+        let Some((key, own)) = at else { break };
+        keys += 1;
+        objects += own.len();
+        at = table.next_lookup(key).unwrap_or(None);
+    }
+    (keys, objects)
+}
+
+/// Whether a deleted key is passed over, and its slot goes with the last fix: of process 1, that of process 0 gone before.
+fn walks_and_releases<R: Rows>(table: &mut Walked<R>) -> bool {
+    let whole = walked(table) == (3, 3);
+    delete(table, 2);
+    let passed = walked(table) == (2, 2) && table.slots() == 3;
+    table.release_all(0);
+    let held = table.is_fixed() && table.slots() == 3;
+    table.release_all(1);
+    whole && passed && held && !table.is_fixed() && table.slots() == 2
+}
+
+/// The keys 1 to 3, and two fixes of process 0 and one of process 1.
+fn fill<R: Rows>(alloc: Global, table: &mut Walked<R>) -> Option<()> {
+    for key in 1..4 {
+        let _ = insert(alloc, table, key, key)?;
+    }
+    table.fix(0).ok()?;
+    table.fix(0).ok()?;
+    table.fix(1).ok()
+}
+
+fn is_free<R: Rows>(alloc: Global, table: &mut Walked<R>) -> Option<bool> {
+    fill(alloc, table)?;
+    delete(table, 3);
+    let _ = insert(alloc, table, 3, 3)?;
+    let began = mark(alloc);
+    let done = walks_and_releases(table);
+    let ended = mark(alloc);
+    Some(began && done && ended)
+}
+
+fn is_free_of_plain(alloc: Global) -> Option<bool> {
+    let mut table = plain(alloc, Kind::Bag);
+    let free = is_free(alloc, &mut table);
+    drop(table);
+    free
+}
+
+fn is_free_of_split(alloc: Global) -> Option<bool> {
+    let mut table = split(alloc, Kind::Set)?;
+    let free = is_free(alloc, &mut table);
+    drop(table);
+    free
+}
+
+#[test]
+fn walks_and_releases_take_no_memory(rt: HostRuntime) {
+    assert_eq!(rt; is_free_of_plain(rt.alloc()), Some(true));
+    assert_eq!(rt; is_free_of_split(rt.alloc()), Some(true));
+}

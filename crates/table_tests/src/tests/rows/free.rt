@@ -1,0 +1,120 @@
+// Calls that take no memory, while none is there: `.ci/refusals` refuses each allocation between two marks.
+use super::*;
+
+/// More bytes than any machine has. A request of so many is refused, and marks for `.ci/refusals` where a part begins or ends that
+/// takes no memory.
+const MARK: usize = 1 << 60;
+
+fn mark(alloc: Global) -> bool {
+    Vec::<u8>::with_capacity(alloc, MARK).is_err()
+}
+
+/// The keys 1 to 4, each with itself as its object.
+fn fill<R: Rows>(rows: &mut R, alloc: Global) -> Result<(), AllocError> {
+    for key in 1..5 {
+        insert(rows, alloc, key, key)?;
+    }
+    rows.grow()?;
+    rows.ready(1)?;
+    Ok(())
+}
+
+/// The integer that is the first object of a slot, or 0.
+fn first_of(slot: Option<(&Term, &[Term])>) -> Integer {
+    match slot {
+        Some((_key, objects)) => number_of(objects.first()),
+        None => 0,
+    }
+}
+
+fn number_of(object: Option<&Term>) -> Integer {
+    match object {
+        Some(Term::Int(value)) => *value,
+        _ => 0,
+    }
+}
+
+/// The first objects of all slots, added up.
+fn sum<R: Rows>(rows: &R) -> Integer {
+    let mut all = first_of(rows.first_at());
+    for key in 1..5 {
+        let key = Term::Int(key);
+        if let Some(slot) = rows.next_at(&key) {
+            all = all.wrapping_add(first_of(slot));
+        }
+        drop(key);
+    }
+    all
+}
+
+/// Calls that take no memory: the object of 1 becomes 10, the slots of 2 and of all keys go. Returns the sums between.
+fn calls<R: Rows>(rows: &mut R, alloc: Global) -> [Integer; 4] {
+    let before = sum(rows);
+    let one = Term::Int(1);
+    let was = kept_of(rows.replace(&one, Chain::one(alloc, Term::Int(10))));
+    drop(one);
+    let replaced = sum(rows);
+    let gone = remove(rows, 2);
+    let removed = sum(rows);
+    rows.clear(true);
+    rows.purge();
+    if was != Kept::Object(1) || gone != Kept::Object(2) {
+        return [0; 4];
+    }
+    [before, replaced, removed, rows.len() as Integer]
+}
+
+/// Whether the calls do what they should between two marks.
+fn is_free<R: Rows>(rows: &mut R, alloc: Global) -> Result<bool, AllocError> {
+    fill(rows, alloc)?;
+    let began = mark(alloc);
+    let sums = calls(rows, alloc);
+    let ended = mark(alloc);
+    Ok(began && ended && sums == [10, 19, 17, 0])
+}
+
+fn is_free_of_plain(alloc: Global) -> Result<bool, AllocError> {
+    let mut rows = PlainRows::new(alloc);
+    let free = is_free(&mut rows, alloc);
+    drop(rows);
+    free
+}
+
+fn is_free_of_split(alloc: Global) -> Result<bool, AllocError> {
+    let mut rows = SplitRows::new(alloc, Fnv)?;
+    let free = is_free(&mut rows, alloc);
+    drop(rows);
+    free
+}
+
+#[test]
+fn rows_take_no_memory(rt: HostRuntime) {
+    assert!(rt; is_free_of_plain(rt.alloc()) == Ok(true));
+    assert!(rt; is_free_of_split(rt.alloc()) == Ok(true));
+}
+
+/// Whether a counted search finds a key and misses another between two marks.
+fn is_counted(rows: &SplitRows<Fnv>, alloc: Global) -> bool {
+    let (three, nine) = (Term::Int(3), Term::Int(9));
+    let mut steps = Steps::new();
+    let began = mark(alloc);
+    let found = rows.get_counted(&three, &mut steps).is_some();
+    let missed = rows.get_counted(&nine, &mut steps).is_none();
+    let ended = mark(alloc);
+    drop((three, nine));
+    began && found && missed && ended && steps.count() > 0
+}
+
+fn searches_free(alloc: Global) -> Result<bool, AllocError> {
+    let mut rows = SplitRows::new(alloc, Fnv)?;
+    let filled = fill(&mut rows, alloc);
+    let counted = is_counted(&rows, alloc);
+    drop(rows);
+    filled?;
+    Ok(counted)
+}
+
+#[test]
+fn counted_searches_take_no_memory(rt: HostRuntime) {
+    assert!(rt; searches_free(rt.alloc()) == Ok(true));
+}
