@@ -5,7 +5,12 @@ use std::process::Abort;
 
 /// FNV-1a of 32 bits, as its authors have it.
 fn fnv_1a(bytes: &[u8]) -> u32 {
-    let mut hash = 0x811c9dc5_u32;
+    fnv_1a_from(0x811c9dc5, bytes)
+}
+
+/// The hash of some bytes and of these behind them, where `hash` is that of the first.
+fn fnv_1a_from(hash: u32, bytes: &[u8]) -> u32 {
+    let mut hash = hash;
     for byte in bytes {
         hash = (hash ^ u32::from(*byte)).wrapping_mul(0x01000193);
     }
@@ -41,6 +46,23 @@ fn hash_of_an_integer(number: Integer) -> u32 {
     let hash = Fnv.hash32(&term);
     drop(term);
     hash
+}
+
+/// Whether the crate's hash of the atom of each text is that of its encoding, which ends with the text.
+fn are_hashed_as_atoms(alloc: Global, rows: &[(&'static str, u32)]) -> bool {
+    for (text, _) in rows {
+        let front = fnv_1a(&[2, text.len() as u8]);
+        let whole = fnv_1a_from(front, text.as_bytes());
+        if hash_of_an_atom(alloc, *text) != Some(whole) {
+            return false;
+        }
+    }
+    true
+}
+
+#[test]
+fn atoms_of_the_published_texts(rt: HostRuntime) {
+    assert!(rt; are_hashed_as_atoms(rt.alloc(), &PUBLISHED));
 }
 
 /// The encodings of 1 and of -2^64-1: a byte for the kind, then 16 with the high one first.

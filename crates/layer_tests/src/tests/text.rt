@@ -9,7 +9,7 @@ use ets_term::Term;
 use std::alloc::{AllocError, Global};
 use std::io::{self, Error, ErrorKind, Write};
 use std::process::Abort;
-use term_text::{WriteFault, print_term, read_term, read_term_bytes, write_term};
+use term_text::{WriteFault, print_term, read_term, read_term_bytes, write_bytes, write_term};
 
 fn printed(alloc: Global, term: &Term, taken: usize) -> Result<String, AllocError> {
     let mut text = String::new(alloc);
@@ -330,7 +330,29 @@ fn a_fault_leaves_a_front_of_the_text(rt: HostRuntime) {
     assert!(rt; is_written(rt.alloc(), "{a,'B',[<0.1.0>,#Tid<2>],<<1,2>>,-3}"));
 }
 
-/// Returns whether a writer that takes nothing is a fault.
+/// Whether 100,000 bytes are written to a writer that takes 1,000 at a time.
+fn is_written_in_parts(alloc: Global) -> Result<bool, AllocError> {
+    let text = long_text(alloc, "", "0123456789", 10_000, "")?;
+    let mut out = Failing {
+        taken: Vec::new(alloc),
+        most: 1_000,
+        left: 100,
+    };
+    let written = write_bytes(text.as_bytes(), &mut out);
+    let done = written.is_ok();
+    drop(written);
+    let whole = out.taken.as_slice() == text.as_bytes() && out.left == 0;
+    drop(out);
+    drop(text);
+    Ok(done && whole)
+}
+
+#[test]
+fn a_writer_may_take_a_hundredth(rt: HostRuntime) {
+    assert!(rt; is_written_in_parts(rt.alloc()) == Ok(true));
+}
+
+/// Whether a writer that takes nothing is a fault.
 fn is_stuck(alloc: Global) -> bool {
     let mut stuck = Failing {
         taken: Vec::new(alloc),

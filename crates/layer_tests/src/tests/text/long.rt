@@ -1,5 +1,5 @@
 //! Long and deep texts with known terms.
-use super::long_text;
+use super::{long_text, writes};
 use ets_term::{MAX_DEPTH, Term};
 use std::alloc::{AllocError, Global};
 use term_text::{TextFault, print_term, read_term};
@@ -7,16 +7,17 @@ use term_text::{TextFault, print_term, read_term};
 /// One more than each power of two up to 1,024, and 70,000.
 const COUNTS: [usize; 12] = [2, 3, 5, 9, 17, 33, 65, 129, 257, 513, 1_025, 70_000];
 
+/// Whether a term is printed as this text, and written to a writer.
 fn is_printed(alloc: Global, term: &Term, printed: &str) -> Result<bool, AllocError> {
     let mut out = String::new(alloc);
     let done = print_term(alloc, term, &mut out);
     let same = out.as_str() == printed;
     drop(out);
     done?;
-    Ok(same)
+    Ok(same && writes(alloc, term, printed))
 }
 
-/// Returns whether the text is that of a term, to its last byte, which is printed so.
+/// Whether the text is that of a term, to its last byte, which is printed and written so.
 fn is_read_whole(alloc: Global, text: &str, printed: &str) -> Result<bool, AllocError> {
     match read_term(alloc, text) {
         Ok((term, taken)) => {
