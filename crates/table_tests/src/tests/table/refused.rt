@@ -1,13 +1,15 @@
 // Out of memory. Run with each allocation refused in turn: `rt try --test --fail-alloc N`. A step that was refused
 // memory has changed nothing: the table has what it had, and the step answers when it is done again as if it had been
 // done once. Where the refused allocation is one of a test's own, it is made again.
-use super::steps::every;
+use super::steps::{count_of, every};
+use super::terms::{below, under};
 use super::{MEMORY, Step, answer, plain};
 use bucket_table::{Rows, SplitRows};
 use ets_term::{AllSame, Fnv, Integer, KeyHash};
+use match_spec::{Pattern, Spec};
 use std::alloc::Global;
 use std::process::Abort;
-use table_ops::{Kind, Table};
+use table_ops::{Kind, Steps, Table};
 
 const LIFE: [(Step, Integer); 26] = [
     (Step::InsertTwo(1, 1, 2, 2), 1),
@@ -134,4 +136,59 @@ fn refused_steps_of_split_rows(rt: HostRuntime) {
         wrong_split(rt.alloc(), AllSame, Kind::Bag, &BAG_LIFE),
         None
     );
+}
+
+/// Runs the six counted searches, of which the last two delete, and returns how often a counter fell. It stays where a search
+/// runs out of memory.
+fn falls<R: Rows>(
+    table: &mut Table<R>,
+    pattern: &Pattern,
+    spec: &Spec,
+    looks: &mut Steps,
+) -> usize {
+    let mut counts = [looks.count(); 7];
+    let _ = count_of(table.matches_counted(pattern, looks).ok());
+    counts[1] = looks.count();
+    let _ = count_of(table.match_objects_counted(pattern, looks).ok());
+    counts[2] = looks.count();
+    let _ = count_of(table.select_counted(spec, looks).ok());
+    counts[3] = looks.count();
+    let _ = table.select_count_counted(spec, looks);
+    counts[4] = looks.count();
+    let _ = table.match_delete_counted(pattern, false, looks);
+    counts[5] = looks.count();
+    let _ = table.select_delete_counted(spec, false, looks);
+    counts[6] = looks.count();
+    counts.windows(2).filter(|pair| pair[0] > pair[1]).count()
+}
+
+/// The same by the pattern of a key, and the specification that chooses the objects below it.
+fn falls_under<R: Rows>(alloc: Global, table: &mut Table<R>, key: Integer) -> Option<usize> {
+    let mut looks = Steps::new();
+    looks.tick();
+    let pattern = under(alloc, key)?;
+    let Some(spec) = below(alloc, key) else {
+        drop(pattern);
+        return None;
+    };
+    let falls = falls(table, &pattern, &spec, &mut looks);
+    drop(spec);
+    drop(pattern);
+    Some(falls)
+}
+
+/// The same of a table of four objects, or of as many as there was memory for.
+fn falls_of_four(alloc: Global) -> usize {
+    let mut table = plain(alloc, Kind::Set, 1, 9);
+    for key in 1..5 {
+        let _ = answer(alloc, &mut table, Step::Insert(key, key));
+    }
+    let falls = falls_under(alloc, &mut table, 4);
+    drop(table);
+    falls.unwrap_or(0)
+}
+
+#[test]
+fn counters_never_fall(rt: HostRuntime) {
+    assert_eq!(rt; falls_of_four(rt.alloc()), 0);
 }
