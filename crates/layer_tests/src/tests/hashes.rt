@@ -1,4 +1,4 @@
-//! FNV-1a; compared with a plain reading of it.
+//! FNV-1a, compared with a plain implementation of it.
 use ets_term::{Atom, Fnv, Integer, KeyHash, Term};
 use std::alloc::Global;
 use std::process::Abort;
@@ -8,7 +8,7 @@ fn fnv_1a(bytes: &[u8]) -> u32 {
     fnv_1a_from(0x811c9dc5, bytes)
 }
 
-/// The hash of some bytes and of these behind them, where `hash` is that of the first.
+/// Continues a hash with further bytes.
 fn fnv_1a_from(hash: u32, bytes: &[u8]) -> u32 {
     let mut hash = hash;
     for byte in bytes {
@@ -48,7 +48,7 @@ fn hash_of_an_integer(number: Integer) -> u32 {
     hash
 }
 
-/// Whether the crate's hash of the atom of each text is that of its encoding, which ends with the text.
+/// Returns whether the crate's hash of the atom of each text is that of its encoding, which ends with the text.
 fn are_hashed_as_atoms(alloc: Global, rows: &[(&'static str, u32)]) -> bool {
     for (text, _) in rows {
         let front = fnv_1a(&[2, text.len() as u8]);

@@ -330,7 +330,7 @@ fn a_fault_leaves_a_front_of_the_text(rt: HostRuntime) {
     assert!(rt; is_written(rt.alloc(), "{a,'B',[<0.1.0>,#Tid<2>],<<1,2>>,-3}"));
 }
 
-/// Whether 100,000 bytes are written to a writer that takes 1,000 at a time.
+/// Returns whether 100,000 bytes are written to a writer that takes 1,000 at a time.
 fn is_written_in_parts(alloc: Global) -> Result<bool, AllocError> {
     let text = long_text(alloc, "", "0123456789", 10_000, "")?;
     let mut out = Failing {

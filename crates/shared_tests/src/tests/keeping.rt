@@ -35,7 +35,7 @@ fn fill<L: Ledger, R: Wait>(
     Ok(())
 }
 
-/// How many due steps are done in 3, 9 and 9 turns, and of another table in 9.
+/// Returns how many pending steps are done in 3, 9 and 9 turns, and then in 9 turns for another table.
 fn kept<L: Ledger, R: Wait>(
     rt: &R,
     alloc: Global,

@@ -1,4 +1,4 @@
-// Four clients run at once, and the gate is called before and after each job, by the numbers of client and job.
+// Four clients run at once. `Gate` is called before and after each job, with the numbers of client and job.
 ghost use Rattle.std.specs.Prelude.{◌≡◌};
 
 use super::{asks, done, entries_of, joined, limits};
@@ -12,8 +12,8 @@ use std::sync::ledger::{Blank, Ledger};
 use std::test::Fail;
 use std::thread::Threads;
 
-/// For each client a number whose digits are the calls of the gate, in order: before job 0, after it, before job 1 and after it are
-/// 1, 2, 3 and 4.
+/// Has a number for each client. Its digits are the calls of `Gate`, in order: `before` and `after` are 1 and 2 for
+/// job 0, 3 and 4 for job 1.
 #[derive(Drop)]
 struct Log {
     zero: AtomicU64,
@@ -44,7 +44,7 @@ impl Log {
         }
     }
 
-    /// The numbers of the clients 0 to 3, and of all others.
+    /// Returns the numbers of the clients 0 to 3, and of all others.
     fn digits(&self) -> [u64; 5] {
         [
             self.zero.load(Ordering::SeqCst),
@@ -71,7 +71,7 @@ impl Gate for Log {
     }
 }
 
-/// Clients with their jobs: one for the first, two for the second, and so on.
+/// Returns clients with their jobs: one for the first, two for the second, and so on.
 fn more_for_each<L: Ledger>(
     alloc: Global,
     clients: Vec<Client<L>>,
@@ -90,7 +90,7 @@ fn more_for_each<L: Ledger>(
     Ok(work)
 }
 
-/// Runs four clients, and notes each call of the gate.
+/// Runs four clients, and notes each call of `Gate`.
 fn run_noted<L: Ledger + Send + Sync, R: Threads + Wait + Sync>(
     rt: &R,
     alloc: Global,
@@ -102,7 +102,7 @@ fn run_noted<L: Ledger + Send + Sync, R: Threads + Wait + Sync>(
     done(alloc, run_clients(rt, alloc, shared, work, log)?)
 }
 
-/// The calls of the gate, and how many entries the last client has.
+/// Returns the calls of `Gate`, and the number of entries of the last client.
 fn noted<L: Ledger + Send + Sync, R: Threads + Wait + Sync>(
     rt: &R,
     alloc: Global,

@@ -1,4 +1,4 @@
-// A server does what it is asked, and what is due, and threads may ask it at once.
+// A server does the steps of its callers and pending growth steps, and threads may ask it at the same time.
 ghost use Rattle.std.specs.Prelude.{◌≡◌};
 ghost use Rattle.std.specs.Thread.{IsSync};
 
@@ -45,7 +45,7 @@ fn fill<B: Room, R: Wait>(
     Ok(())
 }
 
-/// Whether four steps are due behind nine insertions, of which three turns leave one, and nine turns none.
+/// Returns whether four steps are pending after nine insertions: three turns leave one, and nine turns none.
 fn is_kept<B: Room, R: Wait>(
     rt: &R,
     alloc: Global,
@@ -70,7 +70,7 @@ fn is_silent<B: Room, R: Wait>(
     Ok(matches!(late, Reply::NoProcess))
 }
 
-/// Whether due steps are done, and a process that has ended asks in vain.
+/// Returns whether pending steps are done, and a process that has ended asks in vain.
 fn is_asked<B: Room, R: Wait>(
     rt: &R,
     alloc: Global,

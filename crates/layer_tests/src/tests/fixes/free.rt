@@ -1,15 +1,15 @@
-// Calls that take no memory, while none is there: `.ci/refusals` refuses each allocation between two marks.
+// Calls that take no memory: `.ci/refusals` refuses each allocation between two marks.
 use super::*;
 
-/// More bytes than any machine has. A request of so many is refused, and marks for `.ci/refusals` where a part begins or ends that
-/// takes no memory.
+/// More bytes than any machine has. Each request for these is refused. For `.ci/refusals` it marks the begin or the
+/// end of a part that takes no memory.
 const MARK: usize = 1 << 60;
 
 fn mark(alloc: Global) -> bool {
     Vec::<u8>::with_capacity(alloc, MARK).is_err()
 }
 
-/// A walk by `first_lookup` and `next_lookup`: how many keys it gives, and how many objects these have.
+/// Walks by `first_lookup` and `next_lookup`. Returns the number of keys and of their objects.
 fn walked<R: Rows>(table: &Walked<R>) -> (usize, usize) {
     let (mut keys, mut objects) = (0, 0);
     let mut at = table.first_lookup();
@@ -22,7 +22,7 @@ fn walked<R: Rows>(table: &Walked<R>) -> (usize, usize) {
     (keys, objects)
 }
 
-/// Whether a deleted key is passed over, and its slot goes with the last fix: of process 1, that of process 0 gone before.
+/// Returns whether a walk skips a deleted key, whose slot goes when both processes have released their fixes.
 fn walks_and_releases<R: Rows>(table: &mut Walked<R>) -> bool {
     let whole = walked(table) == (3, 3);
     delete(table, 2);
@@ -33,7 +33,7 @@ fn walks_and_releases<R: Rows>(table: &mut Walked<R>) -> bool {
     whole && passed && held && !table.is_fixed() && table.slots() == 2
 }
 
-/// The keys 1 to 3, and two fixes of process 0 and one of process 1.
+/// Inserts the keys 1 to 3, and fixes the table twice for process 0 and once for process 1.
 fn fill<R: Rows>(alloc: Global, table: &mut Walked<R>) -> Option<()> {
     for key in 1..4 {
         let _ = insert(alloc, table, key, key)?;

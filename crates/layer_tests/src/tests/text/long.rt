@@ -7,7 +7,7 @@ use term_text::{TextFault, print_term, read_term};
 /// One more than each power of two up to 1,024, and 70,000.
 const COUNTS: [usize; 12] = [2, 3, 5, 9, 17, 33, 65, 129, 257, 513, 1_025, 70_000];
 
-/// Whether a term is printed as this text, and written to a writer.
+/// Returns whether a term is printed as this text, and written so too.
 fn is_printed(alloc: Global, term: &Term, printed: &str) -> Result<bool, AllocError> {
     let mut out = String::new(alloc);
     let done = print_term(alloc, term, &mut out);
@@ -17,7 +17,7 @@ fn is_printed(alloc: Global, term: &Term, printed: &str) -> Result<bool, AllocEr
     Ok(same && writes(alloc, term, printed))
 }
 
-/// Whether the text is that of a term, to its last byte, which is printed and written so.
+/// Returns whether a text is the whole text of a term, and `printed` is how the term is printed and written.
 fn is_read_whole(alloc: Global, text: &str, printed: &str) -> Result<bool, AllocError> {
     match read_term(alloc, text) {
         Ok((term, taken)) => {

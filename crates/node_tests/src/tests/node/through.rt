@@ -1,5 +1,4 @@
-// Runs of refused steps too: one that stops at the first step without memory, and one that goes past it. Where there is memory,
-// each step is answered.
+// `run` and `run_through` answer each step, a refused one too, if there is memory.
 use super::Event::{Ask, End, Enrol, Grow, Ready};
 use super::{Row, is, step};
 use crate::tests::kept;
@@ -85,7 +84,7 @@ fn every_step_is_answered_where_there_is_memory(rt: HostRuntime) {
     assert_eq!(rt; wrong_of_new(rt.alloc(), &LIFE), Ok(None));
 }
 
-/// A process that starts twice and ends twice.
+/// Starts a process twice and ends it twice.
 const TWICE: [Row; 4] = [
     (Enrol(0), "<0"),
     (Enrol(0), "** badarg"),
@@ -93,7 +92,7 @@ const TWICE: [Row; 4] = [
     (End(0), "** noproc"),
 ];
 
-/// The place of the first row whose step has another reply in a run that stops without memory, or none.
+/// Returns the place of the first row whose reply in a run is another one, or none.
 fn wrong_reply(
     alloc: Global,
     rows: &[Row],
@@ -110,7 +109,7 @@ fn wrong_reply(
     Ok(None)
 }
 
-/// The same of a run by a node.
+/// Runs the steps of these rows, and returns the place of the first wrong reply, or none.
 fn wrong_run(
     alloc: Global,
     node: &mut Node<Fnv>,
@@ -132,7 +131,7 @@ fn wrong_run(
     }
 }
 
-/// The same of a run by a new node.
+/// Does so with a new node.
 fn wrong_run_of_new(alloc: Global, rows: &[Row]) -> Result<Option<usize>, AllocError> {
     let mut node = Node::new(alloc, Limits::usual(), Fnv);
     let place = wrong_run(alloc, &mut node, rows);

@@ -1,15 +1,15 @@
-// Calls that take no memory, while none is there: `.ci/refusals` refuses each allocation between two marks.
+// Calls that take no memory: `.ci/refusals` refuses each allocation between two marks.
 use super::*;
 
-/// More bytes than any machine has. A request of so many is refused, and marks for `.ci/refusals` where a part begins or ends that
-/// takes no memory.
+/// More bytes than any machine has. Each request for these is refused. For `.ci/refusals` it marks the begin or the
+/// end of a part that takes no memory.
 const MARK: usize = 1 << 60;
 
 fn mark(alloc: Global) -> bool {
     Vec::<u8>::with_capacity(alloc, MARK).is_err()
 }
 
-/// The keys 1 to 4, each with itself as its object.
+/// Inserts the keys 1 to 4, each with itself as its object.
 fn fill<R: Rows>(rows: &mut R, alloc: Global) -> Result<(), AllocError> {
     for key in 1..5 {
         insert(rows, alloc, key, key)?;
@@ -19,7 +19,7 @@ fn fill<R: Rows>(rows: &mut R, alloc: Global) -> Result<(), AllocError> {
     Ok(())
 }
 
-/// The integer that is the first object of a slot, or 0.
+/// Returns the integer that is the first object of a slot, or 0.
 fn first_of(slot: Option<(&Term, &[Term])>) -> Integer {
     match slot {
         Some((_key, objects)) => number_of(objects.first()),
@@ -34,7 +34,7 @@ fn number_of(object: Option<&Term>) -> Integer {
     }
 }
 
-/// The first objects of all slots, added up.
+/// Returns the sum of the first objects of all slots.
 fn sum<R: Rows>(rows: &R) -> Integer {
     let mut all = first_of(rows.first_at());
     for key in 1..5 {
@@ -47,7 +47,8 @@ fn sum<R: Rows>(rows: &R) -> Integer {
     all
 }
 
-/// Calls that take no memory: the object of 1 becomes 10, the slots of 2 and of all keys go. Returns the sums between.
+/// Replaces the object of key 1 by 10, removes key 2, and then removes all keys. Returns the sums between these
+/// calls, and last the number of slots.
 fn calls<R: Rows>(rows: &mut R, alloc: Global) -> [Integer; 4] {
     let before = sum(rows);
     let one = Term::Int(1);
@@ -64,7 +65,7 @@ fn calls<R: Rows>(rows: &mut R, alloc: Global) -> [Integer; 4] {
     [before, replaced, removed, rows.len() as Integer]
 }
 
-/// Whether the calls do what they should between two marks.
+/// Returns whether the calls do what they should between two marks.
 fn is_free<R: Rows>(rows: &mut R, alloc: Global) -> Result<bool, AllocError> {
     fill(rows, alloc)?;
     let began = mark(alloc);
@@ -93,7 +94,7 @@ fn rows_take_no_memory(rt: HostRuntime) {
     assert!(rt; is_free_of_split(rt.alloc()) == Ok(true));
 }
 
-/// Whether a counted search finds a key and misses another between two marks.
+/// Returns whether a counted search finds a key and misses another between two marks.
 fn is_counted(rows: &SplitRows<Fnv>, alloc: Global) -> bool {
     let (three, nine) = (Term::Int(3), Term::Int(9));
     let mut steps = Steps::new();

@@ -138,8 +138,7 @@ fn refused_steps_of_split_rows(rt: HostRuntime) {
     );
 }
 
-/// Runs the six counted searches, of which the last two delete, and returns how often a counter fell. It stays where a search
-/// runs out of memory.
+/// Runs the six counted searches, of which the last two delete. Returns how many of them lowered the counter.
 fn falls<R: Rows>(
     table: &mut Table<R>,
     pattern: &Pattern,
@@ -162,7 +161,7 @@ fn falls<R: Rows>(
     counts.windows(2).filter(|pair| pair[0] > pair[1]).count()
 }
 
-/// The same by the pattern of a key, and the specification that chooses the objects below it.
+/// Does so with the pattern of a key and the specification that chooses the objects below it.
 fn falls_under<R: Rows>(alloc: Global, table: &mut Table<R>, key: Integer) -> Option<usize> {
     let mut looks = Steps::new();
     looks.tick();
@@ -177,7 +176,7 @@ fn falls_under<R: Rows>(alloc: Global, table: &mut Table<R>, key: Integer) -> Op
     Some(falls)
 }
 
-/// The same of a table of four objects, or of as many as there was memory for.
+/// Does so on a table of four objects, or of fewer if memory runs out.
 fn falls_of_four(alloc: Global) -> usize {
     let mut table = plain(alloc, Kind::Set, 1, 9);
     for key in 1..5 {
