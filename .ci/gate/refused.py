@@ -192,7 +192,7 @@ FREE = [free("set", [*OF_ANY, *OF_SET]), free("bag", OF_ANY), free("duplicate_ba
 
 
 TEXTS = listed(f'{{{it},"a text that has memory of its own"}}' for it in range(20))
-# Lines that leave no table, object, fix or message behind: a name, the lines before them, the lines, in which NUMBER is that of the
+# Lines that delete each table, object, fix and message that they make: a name, the lines before them, the lines, in which NUMBER is that of the
 # round, and the number of blocks that a round may leave allocated: the name of a process, which is never forgotten.
 ROUNDS = [
     ("a deleted table", ["spawn p"], ["p new(t,[named_table])", f"p insert(t,{TEXTS})", "p delete(t)"], 0),

@@ -5,7 +5,7 @@ ghost use Rattle.std.specs.Thread.{IsSync};
 use super::{call, limits, two_seats};
 use ets_term::{Fnv, Integer, KeyHash, Term};
 use node_core::{Call, Limits, Reply};
-use node_shared::{Caller, Drawn, Opening, Pids, Room, Server};
+use node_shared::{Caller, Drawn, JoinFault, Opening, Room, Server};
 use std::alloc::Global;
 use std::marker::Brand;
 use std::sync::Wait;
@@ -24,11 +24,11 @@ const OTHER: [&str; 2] = [
     "[u,[{1},{2},{3},{4},{5},{6},{7},{8},{9}]]",
 ];
 
-/// The only number of one.
-fn drawn(alloc: Global) -> Result<Drawn, Fail> {
-    let (pids, mut seats) = Pids::open(alloc, 1).map_err(|_| "numbers")?;
-    let seat = seats.pop().ok_or("a seat")?;
-    Ok(pids.draw(seat))
+/// Draws two numbers.
+fn drawn(alloc: Global) -> Result<(Drawn, Drawn), Fail> {
+    let (pids, one, other) = two_seats(alloc)?;
+    let one = pids.draw(one);
+    Ok((one, pids.draw(other)))
 }
 
 /// The caller makes a table, and gives it nine objects.
@@ -70,15 +70,22 @@ fn is_silent<B: Room, R: Wait>(
     Ok(matches!(late, Reply::NoProcess))
 }
 
-/// Returns whether pending steps are done, and a process that has ended asks in vain.
+/// Returns whether the server refuses to start the process of a number, since there are as many as the limit allows.
+fn is_past_the_limit<B: Room, R: Wait>(rt: &R, server: &Server<B, Fnv>, drawn: Drawn) -> bool {
+    let joined = server.client(rt, drawn);
+    matches!(&joined, Err(JoinFault::Refused(Reply::SystemLimit, _)))
+}
+
+/// Returns whether pending steps are done, a second process is refused, and a process that has ended asks in vain.
 fn is_asked<B: Room, R: Wait>(
     rt: &R,
     alloc: Global,
     server: &Server<B, Fnv>,
-    drawn: Drawn,
+    drawn: (Drawn, Drawn),
 ) -> Result<bool, Fail> {
-    let mut caller = server.client(rt, drawn).map_err(|_| "a caller")?;
-    let kept = is_kept(rt, alloc, server, &mut caller)?;
+    let (one, other) = drawn;
+    let mut caller = server.client(rt, one).map_err(|_| "a caller")?;
+    let kept = is_past_the_limit(rt, server, other) && is_kept(rt, alloc, server, &mut caller)?;
     Ok(kept && is_silent(rt, alloc, server, &mut caller)?)
 }
 
@@ -88,7 +95,7 @@ fn is_served<B: Room, R: Wait>(
     alloc: Global,
     opening: Opening,
     limits: Limits,
-    drawn: Drawn,
+    drawn: (Drawn, Drawn),
 ) -> Result<bool, Fail>
     requires table { opening.word.shared.table_id ≡ B.table }
     requires limits { limits ≡ B.limits }
