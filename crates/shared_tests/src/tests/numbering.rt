@@ -1,7 +1,7 @@
 // Four clients run at once. `Gate` is called before and after each job, with the numbers of client and job.
 ghost use Rattle.std.specs.Prelude.{◌≡◌};
 
-use super::{asks, done, entries_of, joined, limits};
+use super::{call, done, entries_of, joined, limits};
 use ets_term::Fnv;
 use node_shared::{Client, Gate, Job, Shared, run_clients};
 use std::alloc::Global;
@@ -71,21 +71,24 @@ impl Gate for Log {
     }
 }
 
+fn receives(alloc: Global, count: usize) -> Result<Vec<Job>, Fail> {
+    let mut jobs = Vec::new(alloc);
+    for _ in 0..count {
+        jobs.push(Job::Ask(call(alloc, "receive", "[]")?))?;
+    }
+    Ok(jobs)
+}
+
 /// Returns clients with their jobs: one for the first, two for the second, and so on.
 fn more_for_each<L: Ledger>(
     alloc: Global,
     clients: Vec<Client<L>>,
 ) -> Result<Vec<(Client<L>, Vec<Job>)>, Fail> {
-    const CALLS: [(&str, &str); 4] = [
-        ("receive", "[]"),
-        ("receive", "[]"),
-        ("receive", "[]"),
-        ("receive", "[]"),
-    ];
     let mut work = Vec::with_capacity(alloc, clients.len())?;
-    for (number, client) in clients.into_iter().enumerate() {
-        let jobs = asks(alloc, &CALLS[..(number + 1).min(4)])?;
-        work.push((client, jobs))?;
+    let mut count = 0usize;
+    for client in clients {
+        count = count.wrapping_add(1);
+        work.push((client, receives(alloc, count)?))?;
     }
     Ok(work)
 }

@@ -73,7 +73,9 @@ fn is_silent<B: Room, R: Wait>(
 /// Returns whether the server refuses to start the process of a number, since there are as many as the limit allows.
 fn is_past_the_limit<B: Room, R: Wait>(rt: &R, server: &Server<B, Fnv>, drawn: Drawn) -> bool {
     let joined = server.client(rt, drawn);
-    matches!(&joined, Err(JoinFault::Refused(Reply::SystemLimit, _)))
+    let is_past = matches!(&joined, Err(JoinFault::Refused(Reply::SystemLimit, _)));
+    drop(joined);
+    is_past
 }
 
 /// Returns whether pending steps are done, a second process is refused, and a process that has ended asks in vain.

@@ -11,12 +11,13 @@ fn mark(alloc: Global) -> bool {
 
 /// Walks by `first_lookup` and `next_lookup`. Returns the number of keys and of their objects.
 fn walked<R: Rows>(table: &Walked<R>) -> (usize, usize) {
-    let (mut keys, mut objects) = (0, 0);
+    let mut keys = 0usize;
+    let mut objects = 0usize;
     let mut at = table.first_lookup();
     for _ in 0..table.slots() {
         let Some((key, own)) = at else { break };
-        keys += 1;
-        objects += own.len();
+        keys = keys.wrapping_add(1);
+        objects = objects.wrapping_add(own.len());
         at = table.next_lookup(key).unwrap_or(None);
     }
     (keys, objects)
@@ -35,7 +36,8 @@ fn walks_and_releases<R: Rows>(table: &mut Walked<R>) -> bool {
 
 /// Inserts the keys 1 to 3, and fixes the table twice for process 0 and once for process 1.
 fn fill<R: Rows>(alloc: Global, table: &mut Walked<R>) -> Option<()> {
-    for key in 1..4 {
+    for key in 1..4u32 {
+        let key = Integer::from(key);
         let _ = insert(alloc, table, key, key)?;
     }
     table.fix(0).ok()?;

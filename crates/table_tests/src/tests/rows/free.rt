@@ -11,7 +11,8 @@ fn mark(alloc: Global) -> bool {
 
 /// Inserts the keys 1 to 4, each with itself as its object.
 fn fill<R: Rows>(rows: &mut R, alloc: Global) -> Result<(), AllocError> {
-    for key in 1..5 {
+    for key in 1..5u32 {
+        let key = Integer::from(key);
         insert(rows, alloc, key, key)?;
     }
     rows.grow()?;
@@ -37,8 +38,8 @@ fn number_of(object: Option<&Term>) -> Integer {
 /// Returns the sum of the first objects of all slots.
 fn sum<R: Rows>(rows: &R) -> Integer {
     let mut all = first_of(rows.first_at());
-    for key in 1..5 {
-        let key = Term::Int(key);
+    for key in 1..5u32 {
+        let key = Term::Int(Integer::from(key));
         if let Some(slot) = rows.next_at(&key) {
             all = all.wrapping_add(first_of(slot));
         }
