@@ -352,7 +352,7 @@ fn a_writer_may_take_a_hundredth(rt: HostRuntime) {
     assert!(rt; is_written_in_parts(rt.alloc()) == Ok(true));
 }
 
-/// Whether a writer that takes nothing is a fault.
+/// Returns whether a writer that takes nothing is a fault.
 fn is_stuck(alloc: Global) -> bool {
     let mut stuck = Failing {
         taken: Vec::new(alloc),

@@ -58,7 +58,7 @@ fn is_kept<B: Room, R: Wait>(
     Ok(three && server.keep(rt, 9) == 4)
 }
 
-/// Whether the process asks in vain once it has ended.
+/// Returns whether the process asks in vain once it has ended.
 fn is_silent<B: Room, R: Wait>(
     rt: &R,
     alloc: Global,
@@ -91,7 +91,7 @@ fn is_asked<B: Room, R: Wait>(
     Ok(kept && is_silent(rt, alloc, server, &mut caller)?)
 }
 
-/// Whether it is so of a server with these limits.
+/// Returns whether it is so of a server with these limits.
 fn is_served<B: Room, R: Wait>(
     rt: &R,
     alloc: Global,
