@@ -50,6 +50,7 @@ fn apply_one(elements: &mut Items<Term>, op: Op) -> Result<Term, CounterFault>
 pub fn update_counter(alloc: Global, object: &mut Term, ops: &Ops) -> Result<Term, CounterFault>
     ensures done { AnswersAs result (apply_ops ops.now object.old) object.new }
     ensures badarg { FailsJustAs result CounterFault.Badarg (apply_ops ops.now object.old) }
+    // A list may run out of memory before the limit is found.
     ensures limit { FailsOnlyAs result CounterFault.SystemLimit (apply_ops ops.now object.old) }
     ensures kept { OnErr result (object.new ≡ object.old) }
     ensures room { is_one ops.now ≡ true → ¬ IsErrOf result CounterFault.Memory }

@@ -36,6 +36,7 @@ pub fn read_element_specs(
 ) -> Result<ElementSpecs, CounterFault>
     ensures read { IfOk result (λ specs. specs_of keypos term.now ≡ Some specs) }
     ensures badarg { IsErrOf result CounterFault.Badarg → specs_of keypos term.now ≡ None }
+    // A list may run out of memory before a pair of a wrong form is read.
     ensures one { is_list term.now ≡ false → specs_of keypos term.now ≡ None → IsErrOf result CounterFault.Badarg }
     ensures limit { ¬ IsErrOf result CounterFault.SystemLimit }
 {

@@ -27,6 +27,7 @@ pub fn new_value(op: Op, value: Integer) -> Option<Integer>
         Some(threshold) => match sum {
             Some(sum) if is_past(op.increment, threshold.value, sum) => Some(threshold.set_value),
             Some(sum) => Some(sum),
+            // The sum is out of range, and so past the threshold.
             None => Some(threshold.set_value),
         },
     }
