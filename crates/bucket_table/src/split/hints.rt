@@ -1,4 +1,4 @@
-ghost use Rattle.std.specs.Prelude.{◌≡◌, ◌⊎◌, ◌/◌, [], Some, None, IfOk, IfSome, replicate};
+ghost use Rattle.std.specs.Prelude.{◌≡◌, ◌⊎◌, ◌<◌, ◌/◌, ◌^◌, [], Some, None, IfOk, IfSome, replicate};
 ghost use Rattle.bucket_table.specs.inside.Intervals.{IsNearestBelow};
 
 mod first;
@@ -45,6 +45,14 @@ impl Hints {
             rehash_index: 0,
             interval_bits: SPLIT_KEY_BITS - 4,
         })
+    }
+
+    /// Returns the interval of a split key.
+    pub fn interval_of(&self, split_key: u64) -> usize
+        requires { self.now.interval_bits < 64 }
+        ensures { result ≡ split_key / 2 ^ self.now.interval_bits }
+    {
+        (split_key >> self.interval_bits) as usize
     }
 
     /// Returns the first item of the nearest lower interval whose hint has one, down to the interval `floor`. It

@@ -20,7 +20,7 @@ impl<H: KeyHash + Copy + Drop> SplitIndex<H> {
     {
         self.list.known();
         let _count = steps.count();
-        let interval = (item_key(hash) >> self.hints.interval_bits) as usize;
+        let interval = self.hints.interval_of(item_key(hash));
         match hint_at(&self.hints.current, interval) {
             Some(Some(first)) => self.find_from(first, hash, key, steps),
             Some(None) => None,
@@ -37,7 +37,7 @@ impl<H: KeyHash + Copy + Drop> SplitIndex<H> {
     {
         self.list.known();
         let _count = steps.count();
-        let interval = (item_key(hash) >> self.hints.interval_bits) as usize;
+        let interval = self.hints.interval_of(item_key(hash));
         match hint_at(&self.hints.previous, interval / 2) {
             Some(Some(first)) => self.find_from(first, hash, key, steps),
             Some(None) => None,
@@ -54,8 +54,8 @@ impl<H: KeyHash + Copy + Drop> SplitIndex<H> {
     {
         self.list.known();
         let (bucket, start) = self.bucket_start(hash);
-        let floor = (dummy_key(bucket) >> self.hints.interval_bits) as usize;
-        let interval = (item_key(hash) >> self.hints.interval_bits) as usize;
+        let floor = self.hints.interval_of(dummy_key(bucket));
+        let interval = self.hints.interval_of(item_key(hash));
         match self.hints.nearest_below(floor, interval) {
             Some(first) => self.find_from(first, hash, key, steps),
             None => self.find_from(start, hash, key, steps),

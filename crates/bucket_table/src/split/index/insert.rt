@@ -33,7 +33,7 @@ impl<H: KeyHash + Copy + Drop> SplitIndex<H> {
         let before = self.search_start(hash);
         let start = self.hints.refresh(&self.list, split_key, before);
         let is_first = self.hints.is_new_first(&self.list, split_key);
-        let interval = (split_key >> self.hints.interval_bits) as usize;
+        let interval = self.hints.interval_of(split_key);
         let at = self.list.insert_item(start, split_key, key, objects);
         set_first(&mut self.hints.current, is_first, interval, at);
     }

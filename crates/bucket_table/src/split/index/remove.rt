@@ -41,7 +41,7 @@ impl<H: KeyHash + Copy + Drop> SplitIndex<H> {
         self.list.known();
         let split_key = self.list.key(at);
         self.hints.rehash_interval(&self.list, split_key);
-        let interval = (split_key >> self.hints.interval_bits) as usize;
+        let interval = self.hints.interval_of(split_key);
         let hint = self.hints.hint_after_removal(&self.list, interval, at);
         let slot = self.list.unlink(start, at);
         replace_first(&mut self.hints.current, interval, at, hint);

@@ -20,14 +20,14 @@ impl<H: KeyHash + Copy + Drop> SplitIndex<H> {
     {
         self.list.known();
         let split_key = item_key(hash);
-        let interval = (split_key >> self.hints.interval_bits) as usize;
+        let interval = self.hints.interval_of(split_key);
         if let Some(Some(first)) = hint_at(&self.hints.current, interval) {
             if self.list.key(first) < split_key {
                 return first;
             }
         }
         let (bucket, start) = self.bucket_start(hash);
-        let floor = (dummy_key(bucket) >> self.hints.interval_bits) as usize;
+        let floor = self.hints.interval_of(dummy_key(bucket));
         match self.hints.nearest_below(floor, interval) {
             Some(first) => first,
             None => start,
@@ -43,11 +43,9 @@ impl<H: KeyHash + Copy + Drop> SplitIndex<H> {
         self.list.known();
         let split_key = dummy_key(bucket);
         let (near, start) = self.nearest_ready(bucket);
-        let floor = (dummy_key(near) >> self.hints.interval_bits) as usize;
-        match self
-            .hints
-            .nearest_below(floor, (split_key >> self.hints.interval_bits) as usize)
-        {
+        let floor = self.hints.interval_of(dummy_key(near));
+        let interval = self.hints.interval_of(split_key);
+        match self.hints.nearest_below(floor, interval) {
             Some(first) => first,
             None => start,
         }
