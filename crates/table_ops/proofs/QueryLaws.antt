@@ -1,4 +1,4 @@
--- Answers and counts over objects, one more at a time, and the walk over the slots.
+-- Results and counts over objects as a scan goes on, and the scan over the slots.
 use Rattle.std.proofs.Common.{◌≡◌, ℕ, zero, suc, ◌+◌, ◌-◌, ◌<◌, ◌≤◌, ◌^◌, Bool, true, false, not, cond, List, [], ◌∷◌, ◌++◌, Option, None, Some, refl, sym, ap, subst, ◌∙◌, length, take, drop, slice_get, map, filter, true≢false, append_assoc, length-append, arith}
 use Rattle.std.specs.Prelude.{min}
 use Rattle.std.proofs.lemmas.List.{append-nil}
@@ -15,7 +15,7 @@ use Rattle.table_ops.specs.Queries.{also, answers, chosen_count}
 use Rattle.table_ops.specs.Read.{all_objects}
 use Rattle.table_ops.specs.inside.Counted.{IsCounted}
 use Rattle.table_ops.proofs.ReadLaws.{objects-push}
-use Rattle.table_ops.proofs.StoreLaws.{take-one}
+use Rattle.table_ops.proofs.InsertLaws.{take-one}
 
 pub take-next : (xs : List Term) (i : ℕ) (x : Term) → slice_get xs i ≡ Some x → take (i + 1) xs ≡ take i xs ++ x ∷ []
 take-next xs i x h = let next : i + 1 ≡ suc i = omega arith in ap (λ n. take n xs) next ∙ take-one xs i x h
@@ -29,11 +29,11 @@ module _ (give : Term → Option Data) where
   answers-append [] ys = refl
   answers-append (x ∷ xs) ys = ap (also (give x)) (answers-append xs ys) ∙ also-on (give x) (answers give xs) (answers give ys)
 
-  -- one object more
+  -- one more object
   pub answers-next : (xs : List Term) (i : ℕ) (x : Term) → slice_get xs i ≡ Some x → answers give (take (i + 1) xs) ≡ answers give (take i xs) ++ also (give x) []
   answers-next xs i x h = ap (answers give) (take-next xs i x h) ∙ answers-append (take i xs) (x ∷ [])
 
-  -- one slot more
+  -- one more slot
   pub answers-slot : (slots : List Slot) (i : ℕ) (s : Slot) → slice_get slots i ≡ Some s → answers give (all_objects (take (i + 1) slots)) ≡ answers give (all_objects (take i slots)) ++ answers give s.1
   answers-slot slots i s h = ap (answers give) (objects-push slots i s h) ∙ answers-append (all_objects (take i slots)) s.1
 
@@ -65,12 +65,12 @@ module _ (choose : Term → Bool) where
   chosen-take (suc i) [] = omega arith
   chosen-take (suc i) (x ∷ xs) = omega (arith, more-at (choose x) x (filter choose (take i xs)), chosen-few-at (choose x) x, chosen-take i xs)
 
--- all objects are as many as are counted
+-- the number of all objects is the count of objects
 pub objects-count : (slots : List Slot) → length (all_objects slots) ≡ object_count slots
 objects-count [] = refl
 objects-count (s ∷ ss) = omega (arith, length-append s.1 (all_objects ss), objects-count ss)
 
--- so those that are chosen are fewer than a table may have
+-- fewer objects are chosen than 2 ^ 32
 pub chosen-below : (choose : Term → Bool) (kind : Kind) (keypos limit count n : ℕ) (slots : List Slot) → IsCounted kind keypos limit count slots → n ≡ chosen_count choose (all_objects slots) → n < 2 ^ 32
 chosen-below choose kind keypos limit count n slots i e = omega (arith, e, chosen-few choose (all_objects slots), objects-count slots, i.counted, i.within, i.few)
 
@@ -86,7 +86,7 @@ count-within slots zero = omega arith
 count-within [] (suc i) = omega arith
 count-within (s ∷ ss) (suc i) = omega (arith, count-within ss i)
 
--- looks
+-- counts of tested objects
 pub ticks-none : (n : ℕ) → n < 2 ^ 64 → n ≡ ticks 0 n
 ticks-none n h = omega (arith, h)
 
@@ -146,7 +146,7 @@ module _ (key_at : ℕ → Option Term) (slots : List Slot) (distinct : HasDisti
       let is : key ≡ s.0 = same_Some _ _ (sym own ∙ h.key) in
       same_Some _ _ (sym found ∙ ap (objects_of slots) is ∙ (at-place slots i s.0 s.1 distinct h.at).found)
 
-  -- the slot that is passed, and those behind it
+  -- the next slot, and those after it
   pub passed-here : (place : ℕ) (key : Term) (objects : List Term) → IsFirstPlace key_at (drop i slots) (Some place) → key_at place ≡ Some key → objects_of slots key ≡ Some objects
       → drop i slots ≡ (key, objects) ∷ drop (i + 1) slots
   passed-here place key objects f own found =
@@ -157,7 +157,7 @@ module _ (key_at : ℕ → Option Term) (slots : List Slot) (distinct : HasDisti
       let rest : drop (i + 1) slots ≡ f.rest = ap (λ n. drop n slots) (sym next) ∙ drop-next slots i f.slot f.rest f.is in
       f.is ∙ ap (λ (k : Term). (k, f.slot.1) ∷ f.rest) (sym is) ∙ ap (λ (os : List Term). (key, os) ∷ f.rest) (sym all) ∙ ap (λ (l : List Slot). (key, objects) ∷ l) (sym rest)
 
--- lists that grow twice
+-- a list that grows twice
 pub joined : {X : Type 0} (old mid new d e f : List X) → mid ≡ old ++ d → new ≡ mid ++ e → f ≡ d ++ e → new ≡ old ++ f
 joined old mid new d e f p q r = q ∙ ap (λ l. l ++ e) p ∙ append_assoc old d e ∙ ap (λ l. old ++ l) (sym r)
 

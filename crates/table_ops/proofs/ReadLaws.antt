@@ -1,4 +1,4 @@
--- Elements at a position, and all objects, one more at a time.
+-- Elements at a position, and all objects, as the list grows by one.
 use Rattle.std.proofs.Common.{◌≡◌, ℕ, zero, suc, ◌+◌, ◌<◌, List, [], ◌∷◌, ◌++◌, Option, None, Some, refl, sym, ap, ◌∙◌, length, take, slice_get, append_assoc, add-one, arith}
 use Rattle.std.proofs.lemmas.List.{append-nil}
 use Rattle.std.specs.Option.{option_map, option_and_then}
@@ -7,7 +7,7 @@ use Rattle.ets_term.specs.declared.term.Term.TheVariants.{List as list_term}
 use Rattle.ets_term.specs.Depth.{element_at}
 use Rattle.bucket_table.specs.Slots.{Slot}
 use Rattle.table_ops.specs.declared.kind.Kind.TheVariants.{Bag}
-use Rattle.table_ops.specs.Read.{all_objects, elements_at, element_told}
+use Rattle.table_ops.specs.Read.{all_objects, elements_at, lookup_element}
 
 more-at : (o : Option Term) (r : Option (List Term)) (x : Term) (xs : List Term) → o ≡ Some x → r ≡ Some xs → option_and_then (λ e. option_map (λ es. e ∷ es) r) o ≡ Some (x ∷ xs)
 more-at None r x xs h g = cc
@@ -19,7 +19,7 @@ some-at None r xs h = cc
 some-at (Some e) None xs h = cc
 some-at (Some e) (Some es) xs h = let a : e ∷ es ≡ xs = cc in (e, es, refl, refl, a)
 
--- one element more
+-- one more element
 pub elements-push : (position : ℕ) (objects : List Term) (es : List Term) (object e : Term) → elements_at position objects ≡ Some es → element_at position object ≡ Some e → elements_at position (objects ++ object ∷ []) ≡ Some (es ++ e ∷ [])
 elements-push position [] es object e h g = let none : es ≡ [] = cc in more-at (element_at position object) (Some []) e [] g refl ∙ (λ i. Some (sym none i ++ e ∷ []))
 elements-push position (o ∷ os) es object e h g =
@@ -41,11 +41,11 @@ elements-none position (o ∷ os) zero object h g = let is : o ≡ object = cc i
 elements-none position (o ∷ os) (suc i) object h g = none-rest (element_at position o) (elements_at position os) (elements-none position os i object h g)
 
 -- one of the objects has no such element
-pub told-none : (position : ℕ) (objects : List Term) (i : ℕ) (object : Term) → slice_get objects i ≡ Some object → element_at position object ≡ None → element_told Bag position objects ≡ None
+pub told-none : (position : ℕ) (objects : List Term) (i : ℕ) (object : Term) → slice_get objects i ≡ Some object → element_at position object ≡ None → lookup_element Bag position objects ≡ None
 told-none position [] i object h g = cc
 told-none position (o ∷ os) i object h g = ap (option_map list_term) (elements-none position (o ∷ os) i object h g)
 
-pub told-all : (position : ℕ) (objects : List Term) (es : List Term) → 0 < length objects → elements_at position objects ≡ Some es → element_told Bag position objects ≡ Some (list_term es)
+pub told-all : (position : ℕ) (objects : List Term) (es : List Term) → 0 < length objects → elements_at position objects ≡ Some es → lookup_element Bag position objects ≡ Some (list_term es)
 told-all position [] es some h = absurd (omega (arith, some))
 told-all position (o ∷ os) es some h = ap (option_map list_term) h
 

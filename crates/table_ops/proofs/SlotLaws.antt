@@ -1,4 +1,4 @@
--- Reading, writing and taking away the slot of a key.
+-- To read, set and remove the slot of a key.
 use Rattle.std.proofs.Common.{◌≡◌, Bool, true, false, cond, List, [], ◌∷◌, ◌++◌, None, Some, refl, sym, ap, ◌∙◌}
 use Rattle.std.specs.Map.{lookup, set_value, remove_entry}
 use Rattle.ets_term.specs.declared.term.Term.{Term}
@@ -63,7 +63,7 @@ module _ {K X : Type 0} (t : K → Bool) where
   remove_entry-set_value [] v = refl
   remove_entry-set_value (e ∷ es) v = remove_set_at (t e.0) e es v (remove_entry-set_value es v) refl
 
--- a new slot that is taken away again leaves the slots as they were
+-- to insert and then remove a slot restores the slots
 pub without-Enters : (old new : List Slot) (k : Term) (c : List Term) → Enters old k c new → objects_of old k ≡ None → without new k ≡ old
 without-Enters old new k c a h =
     ap (remove_entry (same k)) a.after

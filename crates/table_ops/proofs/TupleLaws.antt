@@ -1,4 +1,4 @@
--- A tuple some of whose elements are others.
+-- A tuple with some of its elements replaced.
 use Rattle.std.proofs.Common.{◌≡◌, ◌⊎◌, inl, inr, ℕ, zero, suc, ◌+◌, ◌<◌, ◌≤◌, false, List, [], ◌∷◌, Some, refl, sym, ap, subst, ◌∙◌, map, slice_get, slice_set, arith, rules}
 use Rattle.std.specs.Prelude.{nat_lt, nat_le}
 use Rattle.std.proofs.lemmas.Bool.Decides.{nat_tests}
@@ -43,7 +43,7 @@ one-deep (Term-F.Binary n) es h = search (rules, the_lemmas, h)
 pub depth-of : (t : Term) → Deep t
 depth-of = ind-Term Deep (λ x y e. subst (λ (z : Term-F Term). Deep (roll-Term z)) e (one-deep y))
 
--- an element that may stand in a stored object
+-- an element whose depth allows it in an object
 abbrev pub Fits : Term → Type 0
 Fits t = nat_le MAX_DEPTH (depth t) ≡ false
 
@@ -83,7 +83,7 @@ shallow-Tuple es fit =
     let few = largest-few 127 es (λ i e at. let below = not-reached MAX_DEPTH (depth e) (fit i e at) in omega (arith, below)) in
     ap (nat_lt MAX_DEPTH) (depth-Tuple es) ∙ is-not-over MAX_DEPTH (largest (map depth es)) (omega (arith, few))
 
--- an element of a tuple with another element is that one, or was there
+-- an element of a tuple with one element replaced is the new one, or was there
 pub get-set : (es : List Term) (j i : ℕ) (v e : Term) → slice_get (slice_set es j v) i ≡ Some e → ((i ≡ j) × (e ≡ v)) ⊎ ((i ≡ j → ⊥) × (slice_get es i ≡ Some e))
 get-set [] j i v e h = cc
 get-set (x ∷ xs) zero zero v e h = let is : v ≡ e = cc in inl (refl, sym is)

@@ -1,4 +1,4 @@
--- The one object at a place, taken out, updated and put back.
+-- The only object at a place, taken out, updated and put back.
 use Rattle.std.proofs.Common.{◌≡◌, ◌⊎◌, inl, inr, ℕ, ◌+◌, ◌≤◌, Bool, true, false, ◌&&◌, List, [], ◌∷◌, ◌++◌, Option, None, Some, unwrap_or, Result, Ok, Err, refl, sym, ap, subst, ◌∙◌, length, true≢false, arith}
 use Rattle.std.specs.Prelude.{IfOk, OnOk, OnErr, IfErr, IsErrOf, is_ok, nat_lt}
 use Rattle.ets_term.specs.declared.term.Term.{Term}
@@ -15,22 +15,22 @@ use Rattle.counters.specs.declared.ops.Ops.{Ops}
 use Rattle.ets_term.specs.Depth.{is_too_deep}
 use Rattle.table_ops.specs.declared.kind.Kind.{Kind}
 use Rattle.table_ops.specs.declared.kind.Kind.TheVariants.{Set, Bag, DuplicateBag}
-use Rattle.table_ops.specs.Content.{Content, key_of, objects_under, AreSlots, IsSlot, IsStored, IsKept}
-use Rattle.table_ops.specs.Put.{add, Writes, Puts}
+use Rattle.table_ops.specs.Content.{Content, key_of, objects_under, AreSlots, IsSlot, IsObjectOfKey, FitsKind}
+use Rattle.table_ops.specs.Put.{add, SetsObjects, Puts}
 use Rattle.table_ops.specs.declared.refusal.Refusal.{Refusal}
 use Rattle.table_ops.specs.declared.refusal.Refusal.TheVariants.{Badarg, SystemLimit, Memory}
-use Rattle.table_ops.specs.Refusals.{Change, Comes}
-use Rattle.table_ops.specs.Update.{refusal_of, is_set, ops_open, specs_open, is_good, Starts, CountsUnder, UpdatesCounter, with_true, WritesUnder, UpdatesElement}
+use Rattle.table_ops.specs.Refusals.{Change, Refines}
+use Rattle.table_ops.specs.Update.{refusal_of, is_set, ops_avoid_key, specs_avoid_key, default_is_object, InsertsDefault, UpdatesOrInsertsCounter, UpdatesCounter, with_true, UpdatesOrInsertsElement, UpdatesElement}
 use Rattle.table_ops.specs.inside.Counted.{IsCounted}
-use Rattle.table_ops.specs.inside.Updated.{CountsAt, WritesAt, StartsAt}
-use Rattle.table_ops.proofs.Counts.{count-set, count-writes, written}
-use Rattle.table_ops.proofs.KeptLaws.{slot-of, slots-set, slots-puts}
+use Rattle.table_ops.specs.inside.Updated.{UpdatesCounterAt, UpdatesElementAt, InsertsDefaultAt}
+use Rattle.table_ops.proofs.CountLaws.{count-set, count-writes, written}
+use Rattle.table_ops.proofs.InvariantLaws.{slot-of, slots-set, slots-puts}
 use Rattle.table_ops.proofs.PutLaws.{add-none, own-in, set-in}
 use Rattle.table_ops.proofs.SlotLaws.{set_value-twice, set_value-same, lookup-set_value}
-use Rattle.table_ops.proofs.StoreLaws.{is-below, is-not-below, above, not-above, full_at, room_at}
-use Rattle.table_ops.proofs.UpdatedLaws.{Keeps, counted-keeps, written-keeps}
+use Rattle.table_ops.proofs.InsertLaws.{is-below, is-not-below, above, not-above, full_at, room_at}
+use Rattle.table_ops.proofs.UpdateKeepsLaws.{KeepsKey, counted-keeps, written-keeps}
 
--- the one object that was handed back is the one that was there
+-- the object that was taken out is the object of the slot
 pub only : (slots : List Slot) (at : Option Term) (was object : Term) → objects_in slots at ≡ Some (was ∷ []) → objects_in slots at ≡ Some (object ∷ []) → object ≡ was
 only slots at was object h e = let same : Some (was ∷ []) ≡ Some (object ∷ []) = sym h ∙ e in cc
 
@@ -38,7 +38,7 @@ written-in : (slots : List Slot) (at : Option Term) (v w : List Term) → object
 written-in slots None v w h = cc
 written-in slots (Some key) v w h = lookup-set_value (same key) slots v w h
 
--- where one stood, the one stands that was put in its place
+-- a slot with one object has the object that replaced it
 pub one-again : (old mid : List Slot) (at own : Option Term) (object : Term) → HasOne old at → mid ≡ with_objects_in old at (object ∷ []) → own ≡ at → HasOne mid own
 one-again old mid at own object h first same_place =
     (object, ap (objects_in mid) same_place ∙ (ap (λ l. objects_in l at) first ∙ written-in old at (h.0 ∷ []) (object ∷ []) h.1))
@@ -47,29 +47,29 @@ put-back-at : (old mid new : List Slot) (at : Option Term) (v w : List Term) →
 put-back-at old mid new None v w first second = second ∙ first
 put-back-at old mid new (Some key) v w first second = second ∙ ap (λ l. with_objects l key w) first ∙ set_value-twice (same key) old v w
 
--- what is put in the place of what was taken out
+-- to put an object where one was taken out sets the slot's objects
 pub put-back : (old mid new : List Slot) (at own : Option Term) (v w : List Term) → mid ≡ with_objects_in old at v → own ≡ at → new ≡ with_objects_in mid own w → new ≡ with_objects_in old at w
 put-back old mid new at own v w first same_place second = put-back-at old mid new at v w first (second ∙ ap (λ o. with_objects_in mid o w) same_place)
 
--- the same is put in its place
+-- to put the same object back changes nothing
 pub same-in : (old : List Slot) (at : Option Term) (c : List Term) → objects_in old at ≡ Some c → with_objects_in old at c ≡ old
 same-in old None c h = cc
 same-in old (Some key) c h = set_value-same (same key) old c h
 
 module _ (ops : Ops) (at : Option Term) (old new : List Slot) (was object : Term) (own : objects_in old at ≡ Some (was ∷ [])) (now : new ≡ with_objects_in old at (object ∷ [])) where
   pub counts-at : (r : Result Term CounterFault) → IfOk r (λ answer. updated_counters ops was ≡ Ok (object, answer)) → (IsErrOf r fault.Badarg → updated_counters ops was ≡ Err fault.Badarg)
-      → (IsErrOf r fault.SystemLimit → updated_counters ops was ≡ Err fault.SystemLimit) → OnErr r (object ≡ was) → CountsAt ops at old r new
+      → (IsErrOf r fault.SystemLimit → updated_counters ops was ≡ Err fault.SystemLimit) → OnErr r (object ≡ was) → UpdatesCounterAt ops at old r new
   counts-at (Ok answer) done badarg limit kept = (was, own, (object, done, now))
   counts-at (Err fault.Badarg) done badarg limit kept = (was, own, (badarg refl, now ∙ ap (λ t. with_objects_in old at (t ∷ [])) kept ∙ same-in old at (was ∷ []) own))
   counts-at (Err fault.SystemLimit) done badarg limit kept = (was, own, (limit refl, now ∙ ap (λ t. with_objects_in old at (t ∷ [])) kept ∙ same-in old at (was ∷ []) own))
   counts-at (Err fault.Memory) done badarg limit kept = now ∙ ap (λ t. with_objects_in old at (t ∷ [])) kept ∙ same-in old at (was ∷ []) own
 
 module _ (specs : ElementSpecs) (at : Option Term) (old new : List Slot) (was object : Term) (own : objects_in old at ≡ Some (was ∷ [])) (now : new ≡ with_objects_in old at (object ∷ [])) where
-  pub writes-at : (r : Result (Unit {0}) CounterFault) → OnOk r (updated_elements specs was ≡ Ok object) → IfErr r (λ f. updated_elements specs was ≡ Err f) → OnErr r (object ≡ was) → WritesAt specs at old r new
+  pub writes-at : (r : Result (Unit {0}) CounterFault) → OnOk r (updated_elements specs was ≡ Ok object) → IfErr r (λ f. updated_elements specs was ≡ Err f) → OnErr r (object ≡ was) → UpdatesElementAt specs at old r new
   writes-at (Ok tt) done refused kept = (was, own, (object, done, now))
   writes-at (Err f) done refused kept = (was, own, (refused, now ∙ ap (λ t. with_objects_in old at (t ∷ [])) kept ∙ same-in old at (was ∷ []) own))
 
--- of the one object of a key in a set
+-- the only object of a key in a set
 module _ (kind : Kind) (keypos limit count : ℕ) (old new : List Slot) (key : Term) (at : Option Term) (is : at ≡ Some key) (set : is_set kind ≡ true) (i : IsCounted kind keypos limit count old) where
   pub one-there : has_objects (objects_under old key) ≡ true → HasOne old at
   one-there h = by (objects_of old key) refl h
@@ -90,18 +90,18 @@ module _ (kind : Kind) (keypos limit count : ℕ) (old new : List Slot) (key : T
           let one = of-one c (few-of kind c set (slot-of kind keypos old key c i.slots_are e)) g in
           (one.0, ap (objects_in old) is ∙ e ∙ ap Some one.1)
 
-  kept-one : (k : Kind) (object : Term) → is_set k ≡ true → IsKept k (object ∷ [])
+  kept-one : (k : Kind) (object : Term) → is_set k ≡ true → FitsKind k (object ∷ [])
   kept-one Set object e = omega arith
   kept-one Bag object e = absurd (true≢false (sym e))
   kept-one DuplicateBag object e = absurd (true≢false (sym e))
 
-  -- another object in its place
-  pub one-counted : (was object : Term) → objects_in old at ≡ Some (was ∷ []) → Keeps keypos was object → new ≡ with_objects_in old at (object ∷ []) → IsCounted kind keypos limit count new
+  -- another object replaces it
+  pub one-counted : (was object : Term) → objects_in old at ≡ Some (was ∷ []) → KeepsKey keypos was object → new ≡ with_objects_in old at (object ∷ []) → IsCounted kind keypos limit count new
   one-counted was object own keeps now =
       let had = own-in old at key (was ∷ []) is own in
       let slots = set-in old new at key (object ∷ []) is now in
       let slot = slot-of kind keypos old key (was ∷ []) i.slots_are had in
-      let stored : IsStored keypos key object = record { its_key = keeps.key ∙ slot.stored.0.its_key; shallow = keeps.shallow slot.stored.0.shallow } in
+      let stored : IsObjectOfKey keypos key object = record { its_key = keeps.key ∙ slot.stored.0.its_key; shallow = keeps.shallow slot.stored.0.shallow } in
       let here : IsSlot kind keypos (key, object ∷ []) = record { key = slot.key; stored = (stored, tt); kept = kept-one kind object set } in
       record {
         counted = omega (arith, i.counted, ap object_count slots, count-set (same key) old (was ∷ []) (object ∷ []) had);
@@ -110,27 +110,27 @@ module _ (kind : Kind) (keypos limit count : ℕ) (old new : List Slot) (key : T
         slots_are = subst (AreSlots kind keypos) (sym slots) (slots-set kind keypos old key (object ∷ []) i.slots_are here);
       }
 
-  pub counted-at : (ops : Ops) (r : Result Term CounterFault) → ops_open keypos ops ≡ true → CountsAt ops at old r new → IsCounted kind keypos limit count new
+  pub counted-at : (ops : Ops) (r : Result Term CounterFault) → ops_avoid_key keypos ops ≡ true → UpdatesCounterAt ops at old r new → IsCounted kind keypos limit count new
   counted-at ops (Ok answer) may c = one-counted c.0 c.2.0 c.1 (counted-keeps keypos ops c.0 c.2.0 answer may c.2.1) c.2.2
   counted-at ops (Err fault.Badarg) may c = subst (IsCounted kind keypos limit count) (sym c.2.1) i
   counted-at ops (Err fault.SystemLimit) may c = subst (IsCounted kind keypos limit count) (sym c.2.1) i
   counted-at ops (Err fault.Memory) may c = subst (IsCounted kind keypos limit count) (sym c) i
 
-  pub written-at : (specs : ElementSpecs) (r : Result (Unit {0}) CounterFault) → specs_open keypos specs ≡ true → WritesAt specs at old r new → IsCounted kind keypos limit count new
+  pub written-at : (specs : ElementSpecs) (r : Result (Unit {0}) CounterFault) → specs_avoid_key keypos specs ≡ true → UpdatesElementAt specs at old r new → IsCounted kind keypos limit count new
   written-at specs (Ok tt) may c = one-counted c.0 c.2.0 c.1 (written-keeps keypos specs c.0 c.2.0 may c.2.1) c.2.2
   written-at specs (Err f) may c = subst (IsCounted kind keypos limit count) (sym c.2.1) i
 
-first-put-at : (kind : Kind) (old new : List Slot) (key object : Term) (c : List Term) → objects_under old key ≡ c → c ≡ [] → Writes old key (object ∷ []) new → Puts kind old key object new
-first-put-at kind old new key object c e none w = subst (λ (l : List Term). Writes old key l new) (sym (ap (λ l. add kind l object) (e ∙ none) ∙ add-none kind object)) w
+first-put-at : (kind : Kind) (old new : List Slot) (key object : Term) (c : List Term) → objects_under old key ≡ c → c ≡ [] → SetsObjects old key (object ∷ []) new → Puts kind old key object new
+first-put-at kind old new key object c e none w = subst (λ (l : List Term). SetsObjects old key l new) (sym (ap (λ l. add kind l object) (e ∙ none) ∙ add-none kind object)) w
 
--- an object is stored under a key that has none
+-- an object is inserted under a key that has none
 pub started-counted : (kind : Kind) (keypos limit count : ℕ) (old new : List Slot) (key object : Term) → IsCounted kind keypos limit count old → objects_under old key ≡ [] → nat_lt count limit ≡ true
-    → (key_of keypos object ≡ Some key) × (is_too_deep object ≡ false) → Writes old key (object ∷ []) new → IsCounted kind keypos limit (count + 1) new
-started-counted kind keypos limit count old new key object i none room its w =
+    → (key_of keypos object ≡ Some key) × (is_too_deep object ≡ false) → SetsObjects old key (object ∷ []) new → IsCounted kind keypos limit (count + 1) new
+started-counted kind keypos limit count old new key object i none below_limit its w =
     let more = count-writes old new key (object ∷ []) w in
     record {
       counted = omega (arith, i.counted, more, ap length none);
-      within = let below = is-below count limit room in omega (arith, below);
+      within = let below = is-below count limit below_limit in omega (arith, below);
       few = i.few;
       slots_are = slots-puts kind keypos old new key object i.slots_are its.0 its.1 (first-put-at kind old new key object (objects_under old key) refl none w);
     }
@@ -139,39 +139,39 @@ abbrev stored-of : Term → Result (Term × Unit {0}) CounterFault → Term
 stored-of none (Ok stored) = stored.0
 stored-of none (Err f) = none
 
--- what a Default makes, where it is refused, and where its object is stored
-module _ {X : Type 0} (room : Bool) (key : Term) (made : Result (Term × X) CounterFault) where
-  pub fault-starts : (f : CounterFault) (slots : List Slot) → (f ≡ fault.Badarg → made ≡ Err fault.Badarg) → (f ≡ fault.SystemLimit → made ≡ Err fault.SystemLimit) → StartsAt room key made slots (Err (refusal_of f)) slots
+-- an update from a Default, if it is refused and if its object is inserted
+module _ {X : Type 0} (below_limit : Bool) (key : Term) (made : Result (Term × X) CounterFault) where
+  pub fault-starts : (f : CounterFault) (slots : List Slot) → (f ≡ fault.Badarg → made ≡ Err fault.Badarg) → (f ≡ fault.SystemLimit → made ≡ Err fault.SystemLimit) → InsertsDefaultAt below_limit key made slots (Err (refusal_of f)) slots
   fault-starts fault.Badarg slots badarg limit = (badarg refl, refl)
   fault-starts fault.SystemLimit slots badarg limit = (refl, inl (limit refl))
   fault-starts fault.Memory slots badarg limit = refl
 
   module _ (object : Term) (answer : X) (is : made ≡ Ok (object, answer)) (old new : List Slot) where
-    pub object-starts : StartsAt room key (Ok (object, tt {0})) old (Ok tt) new → StartsAt room key made old (Ok answer) new
+    pub object-starts : InsertsDefaultAt below_limit key (Ok (object, tt {0})) old (Ok tt) new → InsertsDefaultAt below_limit key made old (Ok answer) new
     object-starts s = let own : object ≡ s.0 = ap (stored-of object) s.1 in (s.0, is ∙ ap (λ (o : Term). Ok (o, answer)) own, s.2, s.3)
 
-    pub refusal-starts : (e : Refusal) → StartsAt room key (Ok (object, tt {0})) old (Err e) new → StartsAt room key made old (Err e) new
+    pub refusal-starts : (e : Refusal) → InsertsDefaultAt below_limit key (Ok (object, tt {0})) old (Err e) new → InsertsDefaultAt below_limit key made old (Err e) new
     refusal-starts Badarg s = let never = s.0 in cc
     refusal-starts SystemLimit s = (s.0, by (Ok (object, tt {0})) refl s.1)
       where
-        by : (m : Result (Term × Unit {0}) CounterFault) → m ≡ Ok (object, tt {0}) → (m ≡ Err fault.SystemLimit) ⊎ ((is_ok m ≡ true) × (room ≡ false)) → (made ≡ Err fault.SystemLimit) ⊎ ((is_ok made ≡ true) × (room ≡ false))
+        by : (m : Result (Term × Unit {0}) CounterFault) → m ≡ Ok (object, tt {0}) → (m ≡ Err fault.SystemLimit) ⊎ ((is_ok m ≡ true) × (below_limit ≡ false)) → (made ≡ Err fault.SystemLimit) ⊎ ((is_ok made ≡ true) × (below_limit ≡ false))
         by m e (inl f) = cc
         by m e (inr q) = inr (ap is_ok is, q.1)
     refusal-starts Memory s = s
 
--- a change that comes to this comes to all that it implies
-lifts : {X : Type 0} (own change : Change X Content) (old : Content) → ((r : Result X Refusal) (new : Content) → own r new → change r new) → (r : Result X Refusal) (new : Content) → Comes own old r new → Comes change old r new
+-- a result that refines a change refines each weaker one
+lifts : {X : Type 0} (own change : Change X Content) (old : Content) → ((r : Result X Refusal) (new : Content) → own r new → change r new) → (r : Result X Refusal) (new : Content) → Refines own old r new → Refines change old r new
 lifts own change old lift (Ok x) new h = lift (Ok x) new h
 lifts own change old lift (Err Badarg) new h = lift (Err Badarg) new h
 lifts own change old lift (Err SystemLimit) new h = lift (Err SystemLimit) new h
 lifts own change old lift (Err Memory) new h = h
 
--- what was made of a Default is stored under a key that has no object
+-- an object made from a Default is inserted under a key that has none
 module _ {X : Type 0} (key : Term) (old : Content) (count : ℕ) (none : objects_under old.slots key ≡ []) (counted : count ≡ object_count old.slots) where
-  made-by : (made m : Result (Term × X) CounterFault) (r : Result X Refusal) (new : Content) → made ≡ m → Starts key old m r new → Starts key old made r new
-  made-by made m r new e h = subst (λ (x : Result (Term × X) CounterFault). Starts key old x r new) (sym e) h
+  made-by : (made m : Result (Term × X) CounterFault) (r : Result X Refusal) (new : Content) → made ≡ m → InsertsDefault key old m r new → InsertsDefault key old made r new
+  made-by made m r new e h = subst (λ (x : Result (Term × X) CounterFault). InsertsDefault key old x r new) (sym e) h
 
-  full : (made : Result (Term × X) CounterFault) → is_ok made ≡ true → nat_lt count old.limit ≡ false → Starts key old made (Err SystemLimit) old
+  full : (made : Result (Term × X) CounterFault) → is_ok made ≡ true → nat_lt count old.limit ≡ false → InsertsDefault key old made (Err SystemLimit) old
   full (Err f) e no_room = absurd (true≢false (sym e))
   full (Ok made) e no_room =
       let w = written old.slots key (made.0 ∷ []) in
@@ -179,50 +179,50 @@ module _ {X : Type 0} (key : Term) (old : Content) (count : ℕ) (none : objects
       let over = is-not-below count old.limit no_room in
       (w.0, w.1, full_at (nat_lt old.limit (object_count w.0)) _ _ (above old.limit (object_count w.0) (omega (arith, more, over, counted, ap length none))) (refl, refl))
 
-  stored-comes : (made : Result (Term × X) CounterFault) (r : Result X Refusal) (slots : List Slot) → StartsAt (nat_lt count old.limit) key made old.slots r slots → Comes (Starts key old made) old r (record old { slots = slots })
+  stored-comes : (made : Result (Term × X) CounterFault) (r : Result X Refusal) (slots : List Slot) → InsertsDefaultAt (nat_lt count old.limit) key made old.slots r slots → Refines (InsertsDefault key old made) old r (record old { slots = slots })
   stored-comes made (Ok answer) slots s =
       let more = count-writes old.slots slots key (s.0 ∷ []) s.3 in
       let below = is-below count old.limit s.2 in
       made-by made (Ok (s.0, answer)) (Ok answer) (record old { slots = slots }) s.1
       (slots, s.3, room_at (nat_lt old.limit (object_count slots)) _ _ (not-above old.limit (object_count slots) (omega (arith, more, below, counted, ap length none))) (refl, refl))
   stored-comes made (Err Badarg) slots s =
-      subst (λ (l : List Slot). Starts key old made (Err Badarg) (record old { slots = l })) (sym s.1) (made-by made (Err fault.Badarg) (Err Badarg) old s.0 (refl, refl))
-  stored-comes made (Err SystemLimit) slots s = subst (λ (l : List Slot). Starts key old made (Err SystemLimit) (record old { slots = l })) (sym s.0) (by s.1)
+      subst (λ (l : List Slot). InsertsDefault key old made (Err Badarg) (record old { slots = l })) (sym s.1) (made-by made (Err fault.Badarg) (Err Badarg) old s.0 (refl, refl))
+  stored-comes made (Err SystemLimit) slots s = subst (λ (l : List Slot). InsertsDefault key old made (Err SystemLimit) (record old { slots = l })) (sym s.0) (by s.1)
     where
-      by : (made ≡ Err fault.SystemLimit) ⊎ ((is_ok made ≡ true) × (nat_lt count old.limit ≡ false)) → Starts key old made (Err SystemLimit) old
+      by : (made ≡ Err fault.SystemLimit) ⊎ ((is_ok made ≡ true) × (nat_lt count old.limit ≡ false)) → InsertsDefault key old made (Err SystemLimit) old
       by (inl e) = made-by made (Err fault.SystemLimit) (Err SystemLimit) old e (refl, refl)
       by (inr m) = full made m.0 m.1
   stored-comes made (Err Memory) slots s = ap (λ (l : List Slot). let c : Content = record old { slots = l } in c) s
 
 module _ (key : Term) (ops : Ops) (d : Term) (old : Content) (count : ℕ) (none : objects_under old.slots key ≡ []) (counted : count ≡ object_count old.slots) where
-  counts-none : (r : Result Term Refusal) (new : Content) (objects : List Term) → objects ≡ [] → Starts key old (counted_from ops (keyed old.keypos key d)) r new → CountsUnder key ops (Some d) old objects r new
+  counts-none : (r : Result Term Refusal) (new : Content) (objects : List Term) → objects ≡ [] → InsertsDefault key old (counted_from ops (keyed old.keypos key d)) r new → UpdatesOrInsertsCounter key ops (Some d) old objects r new
   counts-none r new [] e h = h
   counts-none r new (x ∷ xs) e h = cc
 
-  module _ (given : Option Term) (is : given ≡ Some d) (may : (is_set old.kind && (ops_open old.keypos ops && is_good old.keypos key given)) ≡ true) where
-    counts-lifted : (r : Result Term Refusal) (new : Content) → Starts key old (counted_from ops (keyed old.keypos key d)) r new → UpdatesCounter key ops given old r new
-    counts-lifted r new h = full_at (is_set old.kind && (ops_open old.keypos ops && is_good old.keypos key given)) _ _ may
-        (subst (λ (o : Option Term). CountsUnder key ops o old (objects_under old.slots key) r new) (sym is) (counts-none r new (objects_under old.slots key) none h))
+  module _ (given : Option Term) (is : given ≡ Some d) (may : (is_set old.kind && (ops_avoid_key old.keypos ops && default_is_object old.keypos key given)) ≡ true) where
+    counts-lifted : (r : Result Term Refusal) (new : Content) → InsertsDefault key old (counted_from ops (keyed old.keypos key d)) r new → UpdatesCounter key ops given old r new
+    counts-lifted r new h = full_at (is_set old.kind && (ops_avoid_key old.keypos ops && default_is_object old.keypos key given)) _ _ may
+        (subst (λ (o : Option Term). UpdatesOrInsertsCounter key ops o old (objects_under old.slots key) r new) (sym is) (counts-none r new (objects_under old.slots key) none h))
 
     -- the counters of a key that has no object, from a Default
-    pub started-comes : (r : Result Term Refusal) (slots : List Slot) → StartsAt (nat_lt count old.limit) key (counted_from ops (keyed old.keypos key d)) old.slots r slots → Comes (UpdatesCounter key ops given old) old r (record old { slots = slots })
+    pub started-comes : (r : Result Term Refusal) (slots : List Slot) → InsertsDefaultAt (nat_lt count old.limit) key (counted_from ops (keyed old.keypos key d)) old.slots r slots → Refines (UpdatesCounter key ops given old) old r (record old { slots = slots })
     started-comes r slots s =
-        lifts (Starts key old (counted_from ops (keyed old.keypos key d))) (UpdatesCounter key ops given old) old counts-lifted r (record old { slots = slots })
+        lifts (InsertsDefault key old (counted_from ops (keyed old.keypos key d))) (UpdatesCounter key ops given old) old counts-lifted r (record old { slots = slots })
         (stored-comes key old count none counted (counted_from ops (keyed old.keypos key d)) r slots s)
 
 module _ (key : Term) (specs : ElementSpecs) (d : Term) (old : Content) (count : ℕ) (none : objects_under old.slots key ≡ []) (counted : count ≡ object_count old.slots) where
-  writes-none : (r : Result Bool Refusal) (new : Content) (objects : List Term) → objects ≡ [] → Starts key old (with_true (written_from specs (keyed old.keypos key d))) r new → WritesUnder key specs (Some d) old objects r new
+  writes-none : (r : Result Bool Refusal) (new : Content) (objects : List Term) → objects ≡ [] → InsertsDefault key old (with_true (written_from specs (keyed old.keypos key d))) r new → UpdatesOrInsertsElement key specs (Some d) old objects r new
   writes-none r new [] e h = h
   writes-none r new (x ∷ xs) e h = cc
 
-  module _ (given : Option Term) (is : given ≡ Some d) (may : (is_set old.kind && (specs_open old.keypos specs && is_good old.keypos key given)) ≡ true) where
-    writes-lifted : (r : Result Bool Refusal) (new : Content) → Starts key old (with_true (written_from specs (keyed old.keypos key d))) r new → UpdatesElement key specs given old r new
-    writes-lifted r new h = full_at (is_set old.kind && (specs_open old.keypos specs && is_good old.keypos key given)) _ _ may
-        (subst (λ (o : Option Term). WritesUnder key specs o old (objects_under old.slots key) r new) (sym is) (writes-none r new (objects_under old.slots key) none h))
+  module _ (given : Option Term) (is : given ≡ Some d) (may : (is_set old.kind && (specs_avoid_key old.keypos specs && default_is_object old.keypos key given)) ≡ true) where
+    writes-lifted : (r : Result Bool Refusal) (new : Content) → InsertsDefault key old (with_true (written_from specs (keyed old.keypos key d))) r new → UpdatesElement key specs given old r new
+    writes-lifted r new h = full_at (is_set old.kind && (specs_avoid_key old.keypos specs && default_is_object old.keypos key given)) _ _ may
+        (subst (λ (o : Option Term). UpdatesOrInsertsElement key specs o old (objects_under old.slots key) r new) (sym is) (writes-none r new (objects_under old.slots key) none h))
 
     -- the elements of a key that has no object, from a Default
-    pub written-comes : (r : Result Bool Refusal) (slots : List Slot) → StartsAt (nat_lt count old.limit) key (with_true (written_from specs (keyed old.keypos key d))) old.slots r slots
-        → Comes (UpdatesElement key specs given old) old r (record old { slots = slots })
+    pub written-comes : (r : Result Bool Refusal) (slots : List Slot) → InsertsDefaultAt (nat_lt count old.limit) key (with_true (written_from specs (keyed old.keypos key d))) old.slots r slots
+        → Refines (UpdatesElement key specs given old) old r (record old { slots = slots })
     written-comes r slots s =
-        lifts (Starts key old (with_true (written_from specs (keyed old.keypos key d)))) (UpdatesElement key specs given old) old writes-lifted r (record old { slots = slots })
+        lifts (InsertsDefault key old (with_true (written_from specs (keyed old.keypos key d)))) (UpdatesElement key specs given old) old writes-lifted r (record old { slots = slots })
         (stored-comes key old count none counted (with_true (written_from specs (keyed old.keypos key d))) r slots s)

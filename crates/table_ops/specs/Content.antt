@@ -10,19 +10,19 @@ use Rattle.bucket_table.specs.Slots.{Slot, HasDistinctKeys, objects_of, has_obje
 use Rattle.table_ops.specs.declared.kind.Kind.{Kind}
 use Rattle.table_ops.specs.declared.kind.Kind.TheVariants.{Set, Bag, DuplicateBag}
 
--- what a table is made for, how many objects it may have, and its slots
+-- the settings of a table, with the greatest number of objects, and its slots
 pub record Content : Type 0 where
   pub kind : Kind
   pub keypos : ℕ
   pub limit : ℕ
   pub slots : List Slot
 
--- what a contract sees of a table: its content, and for each bucket of its rows whether it is ready
-pub record Tabled : Type 0 where
+-- the model state of a table: its content, and for each bucket whether it is ready
+pub record ContentState : Type 0 where
   pub content : Content
   pub buckets : List Bool
 
--- the key of an object: a tuple whose element at keypos is not '$end_of_table'; any other term is no object
+-- the key of an object; an object is a tuple whose element at keypos exists and is not '$end_of_table'
 abbrev pub key_of : ℕ → Term → Option Term
 key_of keypos object =
     option_and_then (λ key. if is_atom (codes "$end_of_table") key then None else Some key)
@@ -31,7 +31,7 @@ key_of keypos object =
 abbrev pub is_object : ℕ → Term → Bool
 is_object keypos term = is_some (key_of keypos term)
 
--- the objects of a key, oldest first; none where it has no slot
+-- the objects of a key, oldest first; none if it has no slot
 abbrev pub objects_under : List Slot → Term → List Term
 objects_under slots key = unwrap_or (objects_of slots key) []
 
@@ -39,27 +39,27 @@ objects_under slots key = unwrap_or (objects_of slots key) []
 abbrev pub is_present : List Slot → Term → Bool
 is_present slots key = has_objects (objects_under slots key)
 
--- an object is stored under its key, and is not too deep
-pub record IsStored (keypos : ℕ) (key object : Term) : Type 0 where
+-- an object has this key, and is not too deep
+pub record IsObjectOfKey (keypos : ℕ) (key object : Term) : Type 0 where
   pub its_key : key_of keypos object ≡ Some key
   pub shallow : is_too_deep object ≡ false
 
--- a set has at most one object of a key, and a bag none twice
-abbrev pub IsKept : Kind → List Term → Type 0
-IsKept Set objects = length objects ≤ 1
-IsKept Bag objects = IsDistinct same objects
-IsKept DuplicateBag objects = Unit {0}
+-- a set has at most one object of a key, and a bag has no object twice
+abbrev pub FitsKind : Kind → List Term → Type 0
+FitsKind Set objects = length objects ≤ 1
+FitsKind Bag objects = IsDistinct same objects
+FitsKind DuplicateBag objects = Unit {0}
 
--- what holds of each slot of a table, held or not
+-- the invariant of each slot of a table, tombstones included
 pub record IsSlot (kind : Kind) (keypos : ℕ) (slot : Slot) : Type 0 where
   pub key : is_atom (codes "$end_of_table") slot.0 ≡ false
-  pub stored : AllByRecursion (IsStored keypos slot.0) slot.1
-  pub kept : IsKept kind slot.1
+  pub stored : AllByRecursion (IsObjectOfKey keypos slot.0) slot.1
+  pub kept : FitsKind kind slot.1
 
 abbrev pub AreSlots : Kind → ℕ → List Slot → Type 0
 AreSlots kind keypos slots = AllByRecursion (IsSlot kind keypos) slots
 
--- what holds of the content of each table
+-- the invariant of the content of a table
 pub record IsContent (content : Content) : Type 0 where
   pub distinct : HasDistinctKeys content.slots
   pub slots : AreSlots content.kind content.keypos content.slots

@@ -1,25 +1,25 @@
--- How a call that may be refused comes out.
+-- The outcomes of a call that may be refused.
 use Rattle.std.specs.Prelude.{◌≡◌, Bool, Option, MatchOption, Result, IfOk}
 use Rattle.std.specs.Bool.{MatchBool}
 
--- the answers that a call may give, each with what it then leaves
+-- the pairs of result and new state that a call allows
 abbrev pub Outcome : Type 0 → Type 0 → Type 1
 Outcome R A = R → A → Type 0
 
--- this answer, and this after it
+-- this result, with this new state
 abbrev pub gives : {R A : Type 0} → R → A → Outcome R A
 gives answer after given new = (given ≡ answer) × (new ≡ after)
 
--- where the test holds this refusal, which changes nothing; else what follows
+-- this refusal, which changes nothing, if the test holds; else the other outcome
 abbrev pub refuse : {R A : Type 0} → A → Bool → R → Outcome R A → Outcome R A
 refuse old test refusal otherwise given new =
     MatchBool test (gives refusal old given new) (otherwise given new)
 
--- where there is none this refusal, which changes nothing; else what follows of what there is
+-- this refusal, which changes nothing, if the option is None; else the outcome for its value
 abbrev pub refuse_none : {X R A : Type 0} → A → Option X → R → (X → Outcome R A) → Outcome R A
 refuse_none old found refusal otherwise given new =
     MatchOption found (gives refusal old given new) (λ x. otherwise x given new)
 
--- the answer of a call that only want of memory refuses
-abbrev pub AnswersWith : {X E : Type 0} → Result X E → X → Type 0
-AnswersWith result wanted = IfOk result (λ answer. answer ≡ wanted)
+-- the result of a call that is refused memory only
+abbrev pub Returns : {X E : Type 0} → Result X E → X → Type 0
+Returns result wanted = IfOk result (λ answer. answer ≡ wanted)

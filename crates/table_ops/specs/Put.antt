@@ -14,21 +14,21 @@ use Rattle.table_ops.specs.Content.{Content, key_of, is_object, objects_under, i
 use Rattle.table_ops.specs.Refusals.{Change}
 use Rattle.table_ops.specs.Outcomes.{gives, refuse}
 
--- the objects of a key after one more is inserted: a set replaces, and a bag keeps one that is there at its place
+-- the objects of a key after an insertion: a set replaces, a bag keeps an equal object where it is
 abbrev pub add : Kind → List Term → Term → List Term
 add Set objects object = object ∷ []
 add Bag objects object = if list_any (same object) objects then objects else objects ++ object ∷ []
 add DuplicateBag objects object = objects ++ object ∷ []
 
--- a key gets these objects: in its slot, held or not, or in a new one at some place
-abbrev pub Writes : List Slot → Term → List Term → List Slot → Type 0
-Writes old key objects new =
+-- a key gets these objects: in its slot, tombstone or not, or in a new slot at some place
+abbrev pub SetsObjects : List Slot → Term → List Term → List Slot → Type 0
+SetsObjects old key objects new =
     MatchOption (objects_of old key) (Enters old key objects new) (λ _.
     new ≡ with_objects old key objects)
 
 -- an object is inserted under its key
 abbrev pub Puts : Kind → List Slot → Term → Term → List Slot → Type 0
-Puts kind old key object new = Writes old key (add kind (objects_under old key) object) new
+Puts kind old key object new = SetsObjects old key (add kind (objects_under old key) object) new
 
 -- objects are inserted one after another
 abbrev pub PutsAll : Kind → ℕ → List Slot → List Term → List Slot → Type 0
@@ -37,32 +37,31 @@ PutsAll kind keypos old (object ∷ objects) new =
     (key : Term) × (key_of keypos object ≡ Some key)
     × ((next : List Slot) × Puts kind old key object next × PutsAll kind keypos next objects new)
 
--- all of the objects are inserted; system limit where one is too deep, or where there would be more objects than the
--- limit
-abbrev pub Stores : {X : Type 0} → X → List Term → Content → Change X Content
-Stores done objects old =
+-- all objects are inserted; system limit if one is too deep, or if the table would pass its limit
+abbrev pub InsertsWithinLimit : {X : Type 0} → X → List Term → Content → Change X Content
+InsertsWithinLimit done objects old =
     refuse old (list_any is_too_deep objects) (Err SystemLimit) (λ r new.
     (slots : List Slot) × PutsAll old.kind old.keypos old.slots objects slots
     × refuse old (nat_lt old.limit (object_count slots)) (Err SystemLimit) (
     gives (Ok done) (record old { slots = slots })) r new)
 
--- insert(Table, Objects): badarg where one of them is no object
+-- insert(Table, Objects): badarg if one of them is no object
 abbrev pub Inserts : List Term → Content → Change (Unit {0}) Content
 Inserts objects old r new =
     MatchBool (list_all (is_object old.keypos) objects)
-    (Stores tt objects old r new)
+    (InsertsWithinLimit tt objects old r new)
     (gives (Err Badarg) old r new)
 
 -- whether the key of an object has objects
 abbrev pub is_taken : ℕ → List Slot → Term → Bool
 is_taken keypos slots object = option_map_or (is_present slots) (key_of keypos object) false
 
--- insert_new(Table, Objects): badarg where one of them is no object; false, and nothing inserted, where the key of one
--- has objects
+-- insert_new(Table, Objects): badarg if one of them is no object; false, and nothing inserted, if a key of theirs has
+-- objects
 abbrev pub InsertsNew : List Term → Content → Change Bool Content
 InsertsNew objects old r new =
     MatchBool (list_all (is_object old.keypos) objects)
     (MatchBool (list_any (is_taken old.keypos old.slots) objects)
     (gives (Ok false) old r new)
-    (Stores true objects old r new))
+    (InsertsWithinLimit true objects old r new))
     (gives (Err Badarg) old r new)

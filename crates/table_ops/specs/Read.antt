@@ -1,4 +1,4 @@
--- What the calls that change nothing answer (stdlib manual, module ets, lookup_element/3 and /4 and tab2list/1).
+-- The results of calls that change nothing (stdlib manual, module ets, lookup_element/3 and /4 and tab2list/1).
 use Rattle.std.specs.Prelude.{ℕ, ◌==◌, if◌then◌else◌, List, [], ◌∷◌, ◌++◌, Option, Some, None, option_map}
 use Rattle.std.specs.Option.{option_and_then}
 use Rattle.ets_term.specs.declared.term.Term.{Term}
@@ -8,12 +8,12 @@ use Rattle.bucket_table.specs.Slots.{Slot}
 use Rattle.table_ops.specs.declared.kind.Kind.{Kind}
 use Rattle.table_ops.specs.declared.kind.Kind.TheVariants.{Set, Bag, DuplicateBag}
 
--- all objects, in the order of the slots, and of a slot oldest first
+-- all objects, in the order of the slots, and in each slot oldest first
 abbrev pub all_objects : List Slot → List Term
 all_objects [] = []
 all_objects (slot ∷ slots) = slot.1 ++ all_objects slots
 
--- the elements at a position of tuples; None where one of them has none there
+-- the elements at a position of tuples; None if one of the tuples has no such element
 abbrev pub elements_at : ℕ → List Term → Option (List Term)
 elements_at position [] = Some []
 elements_at position (object ∷ objects) =
@@ -21,19 +21,19 @@ elements_at position (object ∷ objects) =
     option_map (λ others. element ∷ others) (elements_at position objects))
     (element_at position object)
 
--- the list of these elements
+-- the same elements, as a list term
 abbrev pub list_at : ℕ → List Term → Option Term
 list_at position objects = option_map list_term (elements_at position objects)
 
--- lookup_element(Table, Key, Position), by the objects of the key: of a set the element, of a bag the list of them;
+-- lookup_element(Table, Key, Position), by the objects of the key: for a set the element, for a bag the list of them;
 -- None is badarg
-abbrev pub element_told : Kind → ℕ → List Term → Option Term
-element_told kind position [] = None
-element_told Set position (object ∷ objects) = element_at position object
-element_told Bag position (object ∷ objects) = list_at position (object ∷ objects)
-element_told DuplicateBag position (object ∷ objects) = list_at position (object ∷ objects)
+abbrev pub lookup_element : Kind → ℕ → List Term → Option Term
+lookup_element kind position [] = None
+lookup_element Set position (object ∷ objects) = element_at position object
+lookup_element Bag position (object ∷ objects) = list_at position (object ∷ objects)
+lookup_element DuplicateBag position (object ∷ objects) = list_at position (object ∷ objects)
 
--- lookup_element(Table, Key, Position, Default): the Default where the key has no object, but no position is 0
-abbrev pub element_or : Kind → ℕ → Term → List Term → Option Term
-element_or kind position default [] = if position == 0 then None else Some default
-element_or kind position default (object ∷ objects) = element_told kind position (object ∷ objects)
+-- lookup_element(Table, Key, Position, Default): the Default if the key has no object; position 0 is always badarg
+abbrev pub lookup_element_or : Kind → ℕ → Term → List Term → Option Term
+lookup_element_or kind position default [] = if position == 0 then None else Some default
+lookup_element_or kind position default (object ∷ objects) = lookup_element kind position (object ∷ objects)

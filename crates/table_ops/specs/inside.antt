@@ -1,8 +1,8 @@
 pub mod Codes
 pub mod Counted
-pub mod Marked
-pub mod Passed
-pub mod Store
-pub mod Thinned
+pub mod DeletePlan
+pub mod Removal
+pub mod SlotsLeft
+pub mod TableRows
 pub mod Undo
 pub mod Updated

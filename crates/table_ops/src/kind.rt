@@ -1,10 +1,10 @@
-/// How many objects of one key a table keeps (stdlib manual, ets:new/2).
+/// Which objects of one key a table keeps (stdlib manual, ets:new/2).
 #[derive(Clone, Copy, PartialEq, Eq)]
 pub enum Kind {
-    /// One: another one replaces it.
+    /// One object; a new one replaces it.
     Set,
-    /// Any number, but no object twice.
+    /// Any number of objects, none of them twice.
     Bag,
-    /// Any number, the same one too.
+    /// Any number of objects, equal ones too.
     DuplicateBag,
 }

@@ -6,8 +6,8 @@ ghost use Rattle.table_ops.specs.Content.{key_of, is_object};
 
 use ets_term::{Position, Term};
 
-/// The key of an object of a table with this keypos: a tuple's element at keypos, if that is not the atom
-/// `'$end_of_table'`. None where the term is no object.
+/// Returns the key of an object: the element of the tuple at `keypos`, counted from 1. Returns `None` if the term is no
+/// object, that is, if it has no such element or the element is the atom `'$end_of_table'`.
 pub fn key_of(keypos: u32, object: &Term) -> Option<&Term>
     ensures { option_copied result ≡ key_of keypos object.now }
 {
@@ -19,7 +19,7 @@ pub fn key_of(keypos: u32, object: &Term) -> Option<&Term>
     }
 }
 
-/// Whether a term is an object of a table with this keypos.
+/// Returns whether the term is an object of a table with this keypos.
 fn is_object(keypos: u32, term: &Term) -> bool
     ensures { result ≡ is_object keypos term.now }
 {
@@ -29,22 +29,22 @@ fn is_object(keypos: u32, term: &Term) -> bool
     }
 }
 
-/// Whether each of these terms is an object of a table with this keypos.
+/// Returns whether each of the terms is an object of a table with this keypos.
 pub fn are_objects(keypos: u32, terms: &[Term]) -> bool
     ensures { result ≡ list_all (is_object keypos) terms.now }
 {
     terms.iter().all(|term| is_object(keypos, term))
 }
 
-/// Whether one of these terms is too deep to be stored.
+/// Returns whether any of the terms is too deep for an object.
 pub fn any_too_deep(terms: &[Term]) -> bool
     ensures { result ≡ list_any is_too_deep terms.now }
 {
     terms.iter().any(|term| term.is_too_deep())
 }
 
-/// Whether an object is among others.
-pub fn has(objects: &[Term], object: &Term) -> bool
+/// Returns whether an object equals one of `objects`.
+pub fn contains(objects: &[Term], object: &Term) -> bool
     ensures { result ≡ list_any (same object.now) objects.now }
 {
     objects.iter().any(|other| object == other)

@@ -1,14 +1,15 @@
 use counters::CounterFault;
+use match_spec::SpecFault;
 use std::alloc::AllocError;
 
-/// Why a call is not done; nothing has changed.
+/// Why a call is refused. A refused call changes nothing.
 #[derive(Debug, Drop, PartialEq, Eq)]
 pub enum Refusal {
-    /// An argument is not what the call takes.
+    /// An argument is not of the form that the call takes.
     Badarg,
-    /// The table would have more objects than it may, an object would be too deep, or an integer past its range.
+    /// The table would have more objects than its limit, an object would be too deep, or an integer would overflow.
     SystemLimit,
-    /// There was no memory for it.
+    /// An allocation failed.
     Memory,
 }
 
@@ -34,6 +35,20 @@ impl From<CounterFault> for Refusal {
             CounterFault::Badarg => Refusal::Badarg,
             CounterFault::SystemLimit => Refusal::SystemLimit,
             CounterFault::Memory => Refusal::Memory,
+        }
+    }
+}
+
+impl From<SpecFault> for Refusal {
+    ghost use Rattle.std.specs.Prelude.{◌≡◌};
+    ghost use Rattle.table_ops.specs.Refusals.{refusal_of_spec};
+
+    ghost from_gives = { λ f e. e ≡ refusal_of_spec f };
+
+    fn from(fault: SpecFault) -> Refusal {
+        match fault {
+            SpecFault::Badarg => Refusal::Badarg,
+            SpecFault::Memory => Refusal::Memory,
         }
     }
 }

@@ -1,4 +1,3 @@
-// The slots of rows, one behind the other.
 ghost use Rattle.std.specs.Prelude.{◌≡◌};
 ghost use Rattle.std.specs.Iterator.{YieldsFirstBy, item_count};
 
@@ -6,7 +5,7 @@ use bucket_table::{Place, Rows};
 use ets_term::Term;
 use std::marker::Model;
 
-/// The slots that are left, in their order.
+/// Iterates over the slots of rows, in their order.
 #[derive(Drop)]
 pub struct Slots<'a, R: Rows> {
     rows: &'a R,
@@ -18,7 +17,7 @@ impl<'a, R: Rows> Model for Slots<'a, R> {
     ghost use Rattle.std.specs.Prelude.{List, drop};
     ghost use Rattle.bucket_table.specs.Slots.{Slot};
     ghost use Rattle.table_ops.specs.inside.Codes.{slots_code};
-    ghost use Rattle.table_ops.specs.inside.Passed.{IsAt};
+    ghost use Rattle.table_ops.specs.inside.SlotsLeft.{SlotsInvariant};
 
     ghost Value = { List Slot };
 
@@ -26,7 +25,7 @@ impl<'a, R: Rows> Model for Slots<'a, R> {
 
     ghost view = { λ it. drop it.passed (R.content it.rows.now) };
 
-    ghost invariant = { λ it. IsAt (R.key_at it.rows.now) (R.content it.rows.now) it.passed it.at };
+    ghost invariant = { λ it. SlotsInvariant (R.key_at it.rows.now) (R.content it.rows.now) it.passed it.at };
 }
 
 impl<'a, R: Rows> Iterator for Slots<'a, R> {
@@ -47,7 +46,7 @@ impl<'a, R: Rows> Iterator for Slots<'a, R> {
     }
 }
 
-/// All slots of rows, in their order.
+/// Returns an iterator over all slots of `rows`.
 pub fn all_of<R: Rows>(rows: &R) -> Slots<'_, R>
     ensures { result ≡ R.content rows.now }
 {

@@ -4,7 +4,7 @@ ghost use Rattle.bucket_table.specs.Slots.{object_count};
 ghost use Rattle.table_ops.specs.Content.{IsContent};
 
 use crate::kind::Kind;
-use crate::store::Store;
+use crate::table_rows::TableRows;
 use bucket_table::{Growth, Readying, Rows};
 use std::alloc::{AllocError, Global};
 use std::marker::Model;
@@ -15,34 +15,34 @@ mod query;
 mod remove;
 mod update;
 
-/// One table over its rows (stdlib manual, module ets). A contract sees its `content` and the readiness of its
-/// `buckets`.
+/// One table over its rows (stdlib manual, module ets). A contract sees its `content`, and for each of its `buckets`
+/// whether it is ready.
 #[derive(Drop)]
 pub struct Table<R: Rows> {
-    store: Store<R>,
+    inner: TableRows<R>,
     count: usize,
 }
 
 impl<R: Rows> Model for Table<R> {
-    ghost use Rattle.table_ops.specs.Content.{Tabled};
-    ghost use Rattle.table_ops.specs.inside.Codes.{tabled_code};
-    ghost use Rattle.table_ops.specs.inside.Store.{content_of, Holds};
+    ghost use Rattle.table_ops.specs.Content.{ContentState};
+    ghost use Rattle.table_ops.specs.inside.Codes.{content_state_code};
+    ghost use Rattle.table_ops.specs.inside.TableRows.{content_of, TableRowsInvariant};
 
-    ghost Value = { Tabled };
+    ghost Value = { ContentState };
 
-    ghost coded = { tabled_code };
+    ghost coded = { content_state_code };
 
     ghost view = { λ t. record {
-      content = content_of R.content t.store;
-      buckets = R.readiness t.store.rows;
+      content = content_of R.content t.inner;
+      buckets = R.readiness t.inner.rows;
     } };
 
-    ghost invariant = { λ t. Holds R.content t.store t.count };
+    ghost invariant = { λ t. TableRowsInvariant R.content t.inner t.count };
 }
 
 impl<R: Rows> Table<R> {
-    /// A table over rows without slots, for at most so many objects. The key of an object is its element keypos,
-    /// counted from 1.
+    /// Makes a table over rows without slots. It takes at most `objects` objects. The key of an object is its element
+    /// at `keypos`, counted from 1.
     pub fn new(alloc: Global, rows: R, kind: Kind, keypos: u32, objects: u32) -> Self
         requires empty { R.content rows ≡ [] }
         requires keypos { 1 ≤ keypos }
@@ -50,38 +50,39 @@ impl<R: Rows> Table<R> {
             ≡ record { kind = kind; keypos = keypos; limit = objects; slots = [] } }
         ensures buckets { result.buckets ≡ R.readiness rows }
     {
-        let store = Store {
+        let inner = TableRows {
             alloc,
             kind,
             keypos,
             limit: objects,
             rows,
         };
-        Table { store, count: 0 }
+        Table { inner, count: 0 }
     }
 
-    /// The rows, for what they tell beside the calls of the table.
+    /// Returns the rows.
     pub fn rows(&self) -> &R
         ensures slots { R.content result.now ≡ self.now.content.slots }
         ensures buckets { R.readiness result.now ≡ self.now.buckets }
     {
-        &self.store.rows
+        &self.inner.rows
     }
 
+    /// Returns the kind that the table was made with.
     pub fn kind(&self) -> Kind
         ensures { result ≡ self.now.content.kind }
     {
-        self.store.kind
+        self.inner.kind
     }
 
-    /// The position of the key in each object.
+    /// Returns the position of the key in each object, from 1.
     pub fn keypos(&self) -> u32
         ensures { result ≡ self.now.content.keypos }
     {
-        self.store.keypos
+        self.inner.keypos
     }
 
-    /// How many objects there are, fewer than 4,294,967,296.
+    /// Returns the number of objects, at most 4,294,967,295.
     pub fn size(&self) -> usize
         ensures count { result ≡ object_count self.now.content.slots }
         ensures few { result < 2 ^ 32 }
@@ -89,51 +90,51 @@ impl<R: Rows> Table<R> {
         self.count
     }
 
-    /// How many slots there are, held ones too.
+    /// Returns the number of slots, tombstones included.
     pub fn slots(&self) -> usize
         ensures { result ≡ length self.now.content.slots }
     {
-        self.store.rows.len()
+        self.inner.rows.len()
     }
 
-    /// How many buckets the rows have.
+    /// Returns the number of buckets.
     pub fn buckets(&self) -> u32
         ensures { result ≡ length self.now.buckets }
     {
-        self.store.rows.buckets()
+        self.inner.rows.buckets()
     }
 
-    /// The least bucket that is not ready.
+    /// Returns the lowest bucket that is not ready.
     pub fn least(&self) -> Option<u32>
         ensures { result ≡ position not self.now.buckets }
     {
-        self.store.rows.least()
+        self.inner.rows.least()
     }
 
-    /// Doubles the buckets of the rows.
+    /// Doubles the number of buckets. The result says if it is the greatest already.
     pub fn grow(&mut self) -> Result<Growth, AllocError>
         ensures content { self.new.content ≡ self.old.content }
         ensures ok { IfOk result (λ growth.
             IsGrown R.most_buckets self.old.buckets growth self.new.buckets) }
         ensures err { OnErr result (self.new ≡ self.old) }
     {
-        self.store.rows.grow()
+        self.inner.rows.grow()
     }
 
-    /// Makes a bucket of the rows ready.
+    /// Makes a bucket ready. The result says if it was ready before or does not exist.
     pub fn ready(&mut self, bucket: u32) -> Result<Readying, AllocError>
         ensures content { self.new.content ≡ self.old.content }
         ensures ok { IfOk result (λ readying.
             IsReadied bucket self.old.buckets readying self.new.buckets) }
         ensures err { OnErr result (self.new ≡ self.old) }
     {
-        self.store.rows.ready(bucket)
+        self.inner.rows.ready(bucket)
     }
 
-    /// Tells a proof what holds of each table; it does nothing when it runs.
+    /// Gives a proof the invariant of the content. It does nothing at run time.
     pub fn known(&self)
         ensures { IsContent self.now.content }
     {
-        self.store.rows.known();
+        self.inner.rows.known();
     }
 }

@@ -1,25 +1,25 @@
 ghost use Rattle.std.specs.Prelude.{◌≡◌};
-ghost use Rattle.table_ops.specs.inside.Undo.{gain};
+ghost use Rattle.table_ops.specs.inside.Undo.{added_objects};
 
 use node_list::Chain;
 
-/// How an insertion of one object is taken back, which takes no memory.
+/// One entry of an undo log: how to undo the insertion of one object without memory.
 #[derive(Drop)]
 pub enum Undo {
     /// The key had no slot.
     NewSlot,
-    /// The key's slot had these objects.
+    /// The slot of the key had these objects.
     Objects(Chain),
-    /// The object went last.
+    /// The object was appended.
     LastObject,
-    /// The object was there.
+    /// The object was already there.
     Nothing,
 }
 
 impl Undo {
-    /// How many objects more the insertion made.
-    pub fn gain(&self) -> usize
-        ensures { result ≡ gain self.now }
+    /// Returns by how many objects the table grew: 0 or 1.
+    pub fn added_objects(&self) -> usize
+        ensures { result ≡ added_objects self.now }
     {
         match self {
             Undo::NewSlot => 1,

@@ -1,4 +1,4 @@
--- What ties a table's count to its slots.
+-- The invariant of a table's count of objects.
 use Rattle.std.specs.Prelude.{◌≡◌, ℕ, ◌≤◌, ◌<◌, ◌^◌, List}
 use Rattle.bucket_table.specs.Slots.{Slot, object_count}
 use Rattle.table_ops.specs.declared.kind.Kind.{Kind}

@@ -1,4 +1,4 @@
--- What the inner calls of an insertion do, and what taking one back does.
+-- What private calls of an insertion do, and what it does to undo one.
 use Rattle.std.specs.Prelude.{◌≡◌, ℕ, ◌+◌, ◌-◌, ◌<◌, ◌≤◌, Bool, false, List, [], ◌∷◌, length, take, unwrap_or, Option, Some, None, Result, Ok, Err}
 use Rattle.ets_term.specs.declared.term.Term.{Term}
 use Rattle.bucket_table.specs.Slots.{Slot, with_objects, without, object_count}
@@ -10,64 +10,64 @@ use Rattle.table_ops.specs.declared.undo.Undo.TheVariants.{NewSlot, Objects, Las
 use Rattle.table_ops.specs.Content.{key_of, objects_under}
 use Rattle.table_ops.specs.Put.{add, Puts, PutsAll}
 
--- something holds of a key, which there is
-abbrev pub AtKey : Option Term → (Term → Type 0) → Type 0
-AtKey None P = ⊥
-AtKey (Some key) P = P key
+-- the key exists, and P holds for it
+abbrev pub ForKey : Option Term → (Term → Type 0) → Type 0
+ForKey None P = ⊥
+ForKey (Some key) P = P key
 
--- all but the last
+-- all objects but the last
 abbrev pub but_last : List Term → List Term
 but_last objects = take (length objects - 1) objects
 
--- the slots with an insertion under a key taken back
-abbrev pub undone : Undo → Term → List Slot → List Slot
-undone NewSlot key slots = without slots key
-undone (Objects objects) key slots = with_objects slots key objects
-undone LastObject key slots = with_objects slots key (but_last (objects_under slots key))
-undone Nothing key slots = slots
+-- the slots after an insertion under a key is undone
+abbrev pub after_undo : Undo → Term → List Slot → List Slot
+after_undo NewSlot key slots = without slots key
+after_undo (Objects objects) key slots = with_objects slots key objects
+after_undo LastObject key slots = with_objects slots key (but_last (objects_under slots key))
+after_undo Nothing key slots = slots
 
-abbrev pub gain_of : List Term → ℕ
-gain_of [] = 1
-gain_of (object ∷ objects) = 0
+abbrev pub added_to : List Term → ℕ
+added_to [] = 1
+added_to (object ∷ objects) = 0
 
--- how many objects more an insertion made
-abbrev pub gain : Undo → ℕ
-gain NewSlot = 1
-gain (Objects objects) = gain_of objects
-gain LastObject = 1
-gain Nothing = 0
+-- by how many objects an insertion made the table grow
+abbrev pub added_objects : Undo → ℕ
+added_objects NewSlot = 1
+added_objects (Objects objects) = added_to objects
+added_objects LastObject = 1
+added_objects Nothing = 0
 
--- the last of these insertions is taken back first; they are those of the first of these objects
-abbrev pub undone_all : ℕ → List Undo → List Term → List Slot → List Slot
-undone_all keypos [] objects slots = slots
-undone_all keypos (undo ∷ undos) [] slots = slots
-undone_all keypos (undo ∷ undos) (object ∷ objects) slots =
-    undone undo (unwrap_or (key_of keypos object) object) (undone_all keypos undos objects slots)
+-- the slots after insertions are undone, the last one first; the log belongs to the first of these objects
+abbrev pub after_roll_back : ℕ → List Undo → List Term → List Slot → List Slot
+after_roll_back keypos [] objects slots = slots
+after_roll_back keypos (undo ∷ undos) [] slots = slots
+after_roll_back keypos (undo ∷ undos) (object ∷ objects) slots =
+    after_undo undo (unwrap_or (key_of keypos object) object) (after_roll_back keypos undos objects slots)
 
--- one object is put, where `room` says that one more fits
+-- one object is inserted; `below_limit` says whether one more object is allowed
 abbrev pub PutsOne : Bool → Kind → Term → Term → List Slot → Result Undo Refusal
     → List Slot → Type 0
-PutsOne room kind key object old (Ok undo) new =
-    Puts kind old key object new × (undone undo key new ≡ old)
-    × (object_count new ≡ object_count old + gain undo) × (room ≡ false → gain undo ≡ 0)
-PutsOne room kind key object old (Err Badarg) new = ⊥
-PutsOne room kind key object old (Err SystemLimit) new =
-    (new ≡ old) × (room ≡ false)
+PutsOne below_limit kind key object old (Ok undo) new =
+    Puts kind old key object new × (after_undo undo key new ≡ old)
+    × (object_count new ≡ object_count old + added_objects undo) × (below_limit ≡ false → added_objects undo ≡ 0)
+PutsOne below_limit kind key object old (Err Badarg) new = ⊥
+PutsOne below_limit kind key object old (Err SystemLimit) new =
+    (new ≡ old) × (below_limit ≡ false)
     × (length (add kind (objects_under old key) object) ≡ length (objects_under old key) + 1)
-PutsOne room kind key object old (Err Memory) new = new ≡ old
+PutsOne below_limit kind key object old (Err Memory) new = new ≡ old
 
--- the same, in the slot at a place, whose key is this one
+-- one object is inserted into the slot at a place, whose key this is
 abbrev pub PutsAt : Bool → Kind → Option Term → Term → List Slot → Result Undo Refusal
     → List Slot → Type 0
-PutsAt room kind at object old r new = AtKey at (λ key. PutsOne room kind key object old r new)
+PutsAt below_limit kind at object old r new = ForKey at (λ key. PutsOne below_limit kind key object old r new)
 
--- the same, under its own key
+-- one object is inserted under its own key
 abbrev pub PutsObject : Bool → Kind → ℕ → Term → List Slot → Result Undo Refusal
     → List Slot → Type 0
-PutsObject room kind keypos object old r new =
-    PutsAt room kind (key_of keypos object) object old r new
+PutsObject below_limit kind keypos object old r new =
+    PutsAt below_limit kind (key_of keypos object) object old r new
 
--- all objects are put, and it tells how many there are then
+-- all objects are inserted, and the result is how many objects the table has then
 abbrev pub PutsEach : ℕ → Kind → ℕ → List Term → List Slot → Result ℕ Refusal → List Slot → Type 0
 PutsEach limit kind keypos objects old (Ok count) new =
     PutsAll kind keypos old objects new × (count ≡ object_count new) × (count ≤ limit)

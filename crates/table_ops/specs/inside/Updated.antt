@@ -1,4 +1,4 @@
--- What the inner calls of an update do to the slot of a key.
+-- What private calls of an update do to the slot of a key.
 use Rattle.std.specs.Prelude.{◌≡◌, ◌⊎◌, Bool, true, false, List, [], ◌∷◌, Option, Some, Result, Ok, Err, is_ok}
 use Rattle.ets_term.specs.declared.term.Term.{Term}
 use Rattle.bucket_table.specs.Slots.{Slot}
@@ -11,41 +11,41 @@ use Rattle.counters.specs.declared.fault.CounterFault.TheVariants as fault
 use Rattle.counters.specs.declared.ops.Ops.{Ops}
 use Rattle.table_ops.specs.declared.refusal.Refusal.{Refusal}
 use Rattle.table_ops.specs.declared.refusal.Refusal.TheVariants.{Badarg, SystemLimit, Memory}
-use Rattle.table_ops.specs.Put.{Writes}
+use Rattle.table_ops.specs.Put.{SetsObjects}
 
--- the one object at the place of this key was this one
-abbrev pub WasOne : List Slot → Option Term → (Term → Type 0) → Type 0
-WasOne slots at P = (object : Term) × (objects_in slots at ≡ Some (object ∷ [])) × P object
+-- the slot at a place had one object, for which P holds
+abbrev pub HadOneObject : List Slot → Option Term → (Term → Type 0) → Type 0
+HadOneObject slots at P = (object : Term) × (objects_in slots at ≡ Some (object ∷ [])) × P object
 
--- the counters of the one object at a place are updated, or nothing changes
-abbrev pub CountsAt : Ops → Option Term → List Slot → Result Term CounterFault → List Slot → Type 0
-CountsAt ops at old (Ok answer) new =
-    WasOne old at (λ was.
+-- the counters of the only object at a place are updated, or nothing changes
+abbrev pub UpdatesCounterAt : Ops → Option Term → List Slot → Result Term CounterFault → List Slot → Type 0
+UpdatesCounterAt ops at old (Ok answer) new =
+    HadOneObject old at (λ was.
     (object : Term) × (updated_counters ops was ≡ Ok (object, answer))
     × (new ≡ with_objects_in old at (object ∷ [])))
-CountsAt ops at old (Err fault.Badarg) new =
-    WasOne old at (λ was. (updated_counters ops was ≡ Err fault.Badarg) × (new ≡ old))
-CountsAt ops at old (Err fault.SystemLimit) new =
-    WasOne old at (λ was. (updated_counters ops was ≡ Err fault.SystemLimit) × (new ≡ old))
-CountsAt ops at old (Err fault.Memory) new = new ≡ old
+UpdatesCounterAt ops at old (Err fault.Badarg) new =
+    HadOneObject old at (λ was. (updated_counters ops was ≡ Err fault.Badarg) × (new ≡ old))
+UpdatesCounterAt ops at old (Err fault.SystemLimit) new =
+    HadOneObject old at (λ was. (updated_counters ops was ≡ Err fault.SystemLimit) × (new ≡ old))
+UpdatesCounterAt ops at old (Err fault.Memory) new = new ≡ old
 
--- elements of the one object at a place are written, or nothing changes
-abbrev pub WritesAt : ElementSpecs → Option Term → List Slot → Result (Unit {0}) CounterFault
+-- elements of the only object at a place are set, or nothing changes
+abbrev pub UpdatesElementAt : ElementSpecs → Option Term → List Slot → Result (Unit {0}) CounterFault
     → List Slot → Type 0
-WritesAt specs at old (Ok done) new =
-    WasOne old at (λ was.
+UpdatesElementAt specs at old (Ok done) new =
+    HadOneObject old at (λ was.
     (object : Term) × (updated_elements specs was ≡ Ok object)
     × (new ≡ with_objects_in old at (object ∷ [])))
-WritesAt specs at old (Err fault) new =
-    WasOne old at (λ was. (updated_elements specs was ≡ Err fault) × (new ≡ old))
+UpdatesElementAt specs at old (Err fault) new =
+    HadOneObject old at (λ was. (updated_elements specs was ≡ Err fault) × (new ≡ old))
 
--- an object that was made is stored under a key that has none, where there is room for it
-abbrev pub StartsAt : {X : Type 0} → Bool → Term → Result (Term × X) CounterFault → List Slot
+-- the object that was made is inserted under a key that has none, if the table is below its limit
+abbrev pub InsertsDefaultAt : {X : Type 0} → Bool → Term → Result (Term × X) CounterFault → List Slot
     → Result X Refusal → List Slot → Type 0
-StartsAt room key made old (Ok answer) new =
-    (object : Term) × (made ≡ Ok (object, answer)) × (room ≡ true)
-    × Writes old key (object ∷ []) new
-StartsAt room key made old (Err Badarg) new = (made ≡ Err fault.Badarg) × (new ≡ old)
-StartsAt room key made old (Err SystemLimit) new =
-    (new ≡ old) × ((made ≡ Err fault.SystemLimit) ⊎ ((is_ok made ≡ true) × (room ≡ false)))
-StartsAt room key made old (Err Memory) new = new ≡ old
+InsertsDefaultAt below_limit key made old (Ok answer) new =
+    (object : Term) × (made ≡ Ok (object, answer)) × (below_limit ≡ true)
+    × SetsObjects old key (object ∷ []) new
+InsertsDefaultAt below_limit key made old (Err Badarg) new = (made ≡ Err fault.Badarg) × (new ≡ old)
+InsertsDefaultAt below_limit key made old (Err SystemLimit) new =
+    (new ≡ old) × ((made ≡ Err fault.SystemLimit) ⊎ ((is_ok made ≡ true) × (below_limit ≡ false)))
+InsertsDefaultAt below_limit key made old (Err Memory) new = new ≡ old

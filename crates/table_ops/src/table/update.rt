@@ -1,6 +1,6 @@
 ghost use Rattle.std.specs.Prelude.{◌≡◌, ◌&&◌, option_copied};
-ghost use Rattle.table_ops.specs.Refusals.{Comes};
-ghost use Rattle.table_ops.specs.Update.{is_set, ops_open, specs_open, is_good, may_count, may_write, UpdatesCounter, UpdatesElement};
+ghost use Rattle.table_ops.specs.Refusals.{Refines};
+ghost use Rattle.table_ops.specs.Update.{is_set, ops_avoid_key, specs_avoid_key, default_is_object, counter_is_valid, element_is_valid, UpdatesCounter, UpdatesElement};
 
 use super::Table;
 use crate::kind::Kind;
@@ -10,114 +10,129 @@ use counters::{ElementSpecs, Ops, start_counter, start_elements};
 use ets_term::Term;
 
 impl<R: Rows> Table<R> {
-    /// Updates the counters of a key's object in its place and answers the new value, or for a list of operations the
-    /// list of new values (stdlib manual, ets:update_counter/3 and /4). Where the key has no object, the Default with
-    /// the key in it is updated and stored. `Badarg` for a bag; where an operation names the key's element, or a
-    /// position that has no integer; where the Default is no object, also if it is not needed; and where the key has no
-    /// object and there is no Default. Then `SystemLimit` where a new value is past the integers, or the new object too
-    /// deep or one more than the table may have.
+    /// Updates the counters of a key's object in place and returns the new value, or the list of new values for a list
+    /// of operations (stdlib manual, ets:update_counter/3 and /4). If the key has no object, it updates the Default
+    /// with that key and inserts it.
+    ///
+    /// Refuses with `Badarg`
+    /// - a bag,
+    /// - an operation on the key's element or on a position without an integer,
+    /// - a Default that is no object, even if it is not needed,
+    /// - a key without object if there is no Default.
+    ///
+    /// Refuses with `SystemLimit` a new value that overflows, and a new object that is too deep or past the limit.
     pub fn update_counter(
         &mut self,
         key: &Term,
         ops: &Ops,
         default: Option<&Term>,
     ) -> Result<Term, Refusal>
-        ensures content { Comes
+        ensures content { Refines
             (UpdatesCounter key.now ops.now (option_copied default.entry) self.old.content)
             self.old.content result self.new.content }
         ensures buckets { self.new.buckets ≡ self.old.buckets }
     {
-        if !self.may_count(key, ops, default) {
+        if !self.counter_is_valid(key, ops, default) {
             return Err(Refusal::Badarg);
         }
-        let entry = self.store.rows.entry(key);
-        if let Some(place) = self.store.filled(key, entry) {
-            return Ok(self.store.count_at(place, ops)?);
+        let entry = self.inner.rows.entry(key);
+        if let Some(place) = self.inner.occupied_place(key, entry) {
+            return Ok(self.inner.update_counter_at(place, ops)?);
         }
         let Some(default) = default else {
             return Err(Refusal::Badarg);
         };
         let (object, answer) = start_counter(
-            self.store.alloc,
+            self.inner.alloc,
             default,
-            self.store.keypos,
+            self.inner.keypos,
             key,
             ops,
         )?;
-        let room = self.count < self.store.limit as usize;
-        self.store.start(room, entry, key, object)?;
+        let below_limit = self.count < self.inner.limit as usize;
+        self.inner.insert_default(below_limit, entry, key, object)?;
         self.count += 1;
         Ok(answer)
     }
 
-    /// Writes elements of a key's object in its place and answers `true` (stdlib manual, ets:update_element/3 and /4).
-    /// The values move into the object. Where the key has no object, they are written into the Default with the key in
-    /// it, which is stored, also for no values; without a Default it answers `false`. `Badarg` for a bag; where a value
-    /// is for the key's element; where the Default is no object, also if it is not needed; and where the object that is
-    /// written has not all the positions. Then `SystemLimit` where it would be too deep, or one more than the table may
-    /// have.
+    /// Sets elements of a key's object in place and returns `true` (stdlib manual, ets:update_element/3 and /4). If the
+    /// key has no object, it sets them in the Default with that key and inserts it, also for no values. Without a
+    /// Default it returns `false`.
+    ///
+    /// Refuses with `Badarg`
+    /// - a bag,
+    /// - a value for the key's element,
+    /// - a Default that is no object, even if it is not needed,
+    /// - a position that the object does not have.
+    ///
+    /// Refuses with `SystemLimit` an object that would be too deep or past the limit.
     pub fn update_element(
         &mut self,
         key: &Term,
         specs: ElementSpecs,
         default: Option<&Term>,
     ) -> Result<bool, Refusal>
-        ensures content { Comes
+        ensures content { Refines
             (UpdatesElement key.now specs (option_copied default.entry) self.old.content)
             self.old.content result self.new.content }
         ensures buckets { self.new.buckets ≡ self.old.buckets }
     {
-        if !self.may_write(key, &specs, default) {
+        if !self.element_is_valid(key, &specs, default) {
             return Err(Refusal::Badarg);
         }
-        let entry = self.store.rows.entry(key);
-        if let Some(place) = self.store.filled(key, entry) {
-            self.store.write_at(place, specs)?;
+        let entry = self.inner.rows.entry(key);
+        if let Some(place) = self.inner.occupied_place(key, entry) {
+            self.inner.update_element_at(place, specs)?;
             return Ok(true);
         }
         let Some(default) = default else {
             return Ok(false);
         };
-        let object = start_elements(self.store.alloc, default, self.store.keypos, key, specs)?;
-        let room = self.count < self.store.limit as usize;
-        self.store.start(room, entry, key, object)?;
+        let object = start_elements(self.inner.alloc, default, self.inner.keypos, key, specs)?;
+        let below_limit = self.count < self.inner.limit as usize;
+        self.inner.insert_default(below_limit, entry, key, object)?;
         self.count += 1;
         Ok(true)
     }
 
-    fn may_count(&self, key: &Term, ops: &Ops, default: Option<&Term>) -> bool
+    /// Returns whether `update_counter` may take these arguments.
+    fn counter_is_valid(&self, key: &Term, ops: &Ops, default: Option<&Term>) -> bool
         ensures { result
-            ≡ may_count self.now.content key.now ops.now (option_copied default.entry) }
+            ≡ counter_is_valid self.now.content key.now ops.now (option_copied default.entry) }
     {
-        self.is_set() && self.are_open(key, ops, default)
+        self.is_set() && self.ops_are_valid(key, ops, default)
     }
 
-    fn are_open(&self, key: &Term, ops: &Ops, default: Option<&Term>) -> bool
+    /// Returns whether the operations avoid the key and the Default is an object.
+    fn ops_are_valid(&self, key: &Term, ops: &Ops, default: Option<&Term>) -> bool
         ensures { result
-            ≡ (ops_open self.now.content.keypos ops.now
-            && is_good self.now.content.keypos key.now (option_copied default.entry)) }
+            ≡ (ops_avoid_key self.now.content.keypos ops.now
+            && default_is_object self.now.content.keypos key.now (option_copied default.entry)) }
     {
-        self.store.ops_open(ops) && self.store.is_good(key, default)
+        self.inner.ops_avoid_key(ops) && self.inner.default_is_object(key, default)
     }
 
-    fn may_write(&self, key: &Term, specs: &ElementSpecs, default: Option<&Term>) -> bool
+    /// Returns whether `update_element` may take these arguments.
+    fn element_is_valid(&self, key: &Term, specs: &ElementSpecs, default: Option<&Term>) -> bool
         ensures { result
-            ≡ may_write self.now.content key.now specs.now (option_copied default.entry) }
+            ≡ element_is_valid self.now.content key.now specs.now (option_copied default.entry) }
     {
-        self.is_set() && self.are_writable(key, specs, default)
+        self.is_set() && self.specs_are_valid(key, specs, default)
     }
 
-    fn are_writable(&self, key: &Term, specs: &ElementSpecs, default: Option<&Term>) -> bool
+    /// Returns whether the values avoid the key and the Default is an object.
+    fn specs_are_valid(&self, key: &Term, specs: &ElementSpecs, default: Option<&Term>) -> bool
         ensures { result
-            ≡ (specs_open self.now.content.keypos specs.now
-            && is_good self.now.content.keypos key.now (option_copied default.entry)) }
+            ≡ (specs_avoid_key self.now.content.keypos specs.now
+            && default_is_object self.now.content.keypos key.now (option_copied default.entry)) }
     {
-        self.store.specs_open(specs) && self.store.is_good(key, default)
+        self.inner.specs_avoid_key(specs) && self.inner.default_is_object(key, default)
     }
 
+    /// Returns whether the table is a set.
     fn is_set(&self) -> bool
         ensures { result ≡ is_set self.now.content.kind }
     {
-        self.store.kind == Kind::Set
+        self.inner.kind == Kind::Set
     }
 }

@@ -2,7 +2,7 @@ use Rattle.std.proofs.Common.{◌≡◌, suc, ◌+◌, ◌<◌, [], ◌∷◌, �
 use Rattle.std.proofs.lemmas.Option.{slice_get_read}
 use Rattle.table_ops.specs.Read.{elements_at}
 use Rattle.table_ops.proofs.ReadLaws.{elements-push, told-none}
-use Rattle.table_ops.proofs.StoreLaws.{take-one}
+use Rattle.table_ops.proofs.InsertLaws.{take-one}
 use Rattle.table_ops.proofs.table.lookup.elements.Goals as goal
 
 pub returns-in_default : goal.returns-in_default

@@ -1,0 +1,70 @@
+ghost use Rattle.std.specs.Prelude.{◌≡◌, ◌≤◌, ◌++◌, [], ℕ, Option, Some, length, OnOk};
+ghost use Rattle.ets_term.specs.declared.term.Term.{Term};
+ghost use Rattle.node_list.specs.Ticks.{ticks};
+ghost use Rattle.table_ops.specs.Outcomes.{Returns};
+ghost use Rattle.table_ops.specs.Queries.{chosen_count, CountsLooks};
+ghost use Rattle.table_ops.specs.inside.DeletePlan.{planned, planned_at};
+
+use crate::looks::Looks;
+use crate::partition::Partition;
+use crate::predicate::Predicate;
+use crate::trial::Trial;
+use bucket_table::Place;
+use ets_term::Term;
+use node_list::Chain;
+use std::alloc::{AllocError, Global};
+
+/// A slot that loses objects.
+#[derive(Drop)]
+pub struct SlotDelete {
+    pub place: Place,
+    /// The objects that stay.
+    pub kept: Chain,
+}
+
+/// The slots that lose objects, in their order.
+#[derive(Drop)]
+pub struct DeletePlan {
+    alloc: Global,
+    pub list: Vec<SlotDelete>,
+}
+
+impl DeletePlan {
+    /// Returns a plan that changes no slot.
+    pub fn new(alloc: Global) -> DeletePlan
+        ensures { result.list.items ≡ [] }
+    {
+        DeletePlan {
+            alloc,
+            list: Vec::new(alloc),
+        }
+    }
+
+    /// Tests the objects of a slot and plans to remove the chosen ones. Returns their number. Copies no object if all
+    /// or none are chosen.
+    pub fn plan_slot<P: Predicate>(
+        &mut self,
+        query: &Trial<'_, P>,
+        place: Place,
+        objects: &[Term],
+        looks: &mut Looks,
+    ) -> Result<usize, AllocError>
+        ensures count { Returns result (chosen_count (P.tests query.now.query.now) objects.now) }
+        ensures looks { CountsLooks result (length objects.now) looks.old looks.new }
+        ensures at_most { looks.new ≤ ticks (length objects.now) looks.old }
+        ensures at_least { looks.old ≤ looks.new }
+        ensures plan { OnOk result
+            ((key_at : ℕ → Option Term) (key : Term) → key_at place ≡ Some key
+            → planned_at key_at self.new.list.items
+            ≡ planned_at key_at self.old.list.items
+            ++ planned (P.tests query.now.query.now) (key, objects.now)) }
+    {
+        let mut partition = Partition::new(self.alloc);
+        partition.add_all(query, objects, looks)?;
+        let Partition { removed, kept, .. } = partition;
+        if removed > 0 {
+            self.list.push(SlotDelete { place, kept })?;
+        }
+        Ok(removed)
+    }
+}

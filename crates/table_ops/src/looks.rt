@@ -1,0 +1,45 @@
+ghost use Rattle.std.specs.Prelude.{◌≡◌};
+ghost use Rattle.node_list.specs.Ticks.{tick};
+
+use std::marker::Model;
+
+/// Counts the objects that searches test: one for each object and test, up to the greatest `u64`. It never falls.
+#[derive(Drop)]
+pub struct Looks {
+    count: u64,
+}
+
+impl Model for Looks {
+    ghost use Rattle.std.specs.Prelude.{ℕ};
+    ghost use Rattle.std.specs.Coded.{coded_ℕ};
+
+    ghost Value = { ℕ };
+
+    ghost coded = { coded_ℕ };
+
+    ghost view = { λ l. l.count };
+}
+
+impl Looks {
+    /// Returns a counter at 0.
+    pub fn new() -> Looks
+        ensures { result ≡ 0 }
+    {
+        Looks { count: 0 }
+    }
+
+    /// Returns the number of objects counted so far, at most the greatest `u64`.
+    pub fn count(&self) -> u64
+        ensures { result ≡ self.now }
+    {
+        self.count
+    }
+
+    /// Counts one object more, unless the count is the greatest `u64`.
+    pub(crate) fn tick(&mut self)
+        ensures { self.new ≡ tick self.old }
+    {
+        let Looks { count } = self;
+        *count = count.saturating_add(1);
+    }
+}

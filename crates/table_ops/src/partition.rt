@@ -1,0 +1,95 @@
+ghost use Rattle.std.specs.Prelude.{◌≡◌, ◌≤◌, ◌<◌, ◌^◌, ◌++◌, ◌+◌, [], take, length, OnOk};
+ghost use Rattle.node_list.specs.Ticks.{tick, ticks};
+ghost use Rattle.table_ops.specs.Queries.{CountsLooks};
+ghost use Rattle.table_ops.specs.inside.DeletePlan.{IsPartition};
+
+use crate::looks::Looks;
+use crate::predicate::Predicate;
+use crate::trial::Trial;
+use ets_term::Term;
+use node_list::Chain;
+use std::alloc::{AllocError, Global};
+
+/// The objects of one slot, split into removed and kept. Only the number of the removed ones is stored. Kept objects
+/// are stored only once one is removed.
+#[derive(Drop)]
+pub struct Partition {
+    alloc: Global,
+    pub removed: usize,
+    pub kept: Chain,
+}
+
+impl Partition {
+    /// Returns the partition of no objects.
+    pub fn new(alloc: Global) -> Partition
+        ensures removed { result.removed ≡ 0 }
+        ensures kept { result.kept ≡ [] }
+    {
+        Partition {
+            alloc,
+            removed: 0,
+            kept: Chain::new(alloc),
+        }
+    }
+
+    /// Tests all objects of a slot.
+    pub fn add_all<P: Predicate>(
+        &mut self,
+        query: &Trial<'_, P>,
+        objects: &[Term],
+        looks: &mut Looks,
+    ) -> Result<(), AllocError>
+        requires { IsPartition (P.tests query.now.query.now) [] self.old }
+        ensures partition { OnOk result (IsPartition (P.tests query.now.query.now) objects.now self.new) }
+        ensures looks { CountsLooks result (length objects.now) looks.old looks.new }
+        ensures at_most { looks.new ≤ ticks (length objects.now) looks.old }
+        ensures at_least { looks.old ≤ looks.new }
+    {
+        let _before = looks.count();
+        for i in 0..objects.len() {
+            self.add(query, objects, i, looks)?;
+        }
+        Ok(())
+    }
+
+    /// Tests the object at index `i`. Copies the kept objects before it if it is the first to be removed.
+    fn add<P: Predicate>(
+        &mut self,
+        query: &Trial<'_, P>,
+        objects: &[Term],
+        i: usize,
+        looks: &mut Looks,
+    ) -> Result<(), AllocError>
+        requires few { length objects.now < 2 ^ 64 }
+        requires within { i < length objects.now }
+        requires partition { IsPartition (P.tests query.now.query.now) (take i objects.now) self.old }
+        ensures partition { OnOk result
+            (IsPartition (P.tests query.now.query.now) (take (i + 1) objects.now) self.new) }
+        ensures looks { looks.new ≡ tick looks.old }
+    {
+        let object = &objects[i];
+        if query.chooses(self.alloc, object, looks)? {
+            if self.removed == 0 {
+                self.copy_kept(&objects[..i])?;
+                self.removed = 1;
+                return Ok(());
+            }
+            self.removed += 1;
+            return Ok(());
+        }
+        if self.removed > 0 {
+            self.kept.push(object.try_clone(self.alloc)?)?;
+        }
+        Ok(())
+    }
+
+    /// Appends copies of objects to the kept ones.
+    fn copy_kept(&mut self, objects: &[Term]) -> Result<(), AllocError>
+        ensures { OnOk result (self.new.kept ≡ self.old.kept ++ objects.now) }
+    {
+        for object in objects {
+            self.kept.push(object.try_clone(self.alloc)?)?;
+        }
+        Ok(())
+    }
+}

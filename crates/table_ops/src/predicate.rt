@@ -1,0 +1,39 @@
+ghost use Rattle.std.specs.Prelude.{Bool};
+ghost use Rattle.ets_term.specs.declared.term.Term.{Term};
+ghost use Rattle.table_ops.specs.Outcomes.{Returns};
+
+use ets_term::Term;
+use match_spec::{Pattern, Spec};
+use std::alloc::{AllocError, Global};
+
+/// Which objects a query chooses.
+pub trait Predicate {
+    /// Whether an object is chosen.
+    ghost tests: { Self → Term → Bool };
+
+    /// Returns whether an object is chosen.
+    fn test(&self, alloc: Global, object: &Term) -> Result<bool, AllocError>
+        ensures { Returns result (tests self.now object.now) };
+}
+
+/// Chooses the objects that match.
+impl Predicate for Pattern {
+    ghost use Rattle.table_ops.specs.Queries.{matches};
+
+    ghost tests = { matches };
+
+    fn test(&self, _alloc: Global, object: &Term) -> Result<bool, AllocError> {
+        Ok(self.fits(object))
+    }
+}
+
+/// Chooses the objects whose result is `true`.
+impl Predicate for Spec {
+    ghost use Rattle.table_ops.specs.Queries.{is_chosen};
+
+    ghost tests = { is_chosen };
+
+    fn test(&self, alloc: Global, object: &Term) -> Result<bool, AllocError> {
+        self.is_true(alloc, object)
+    }
+}

@@ -1,0 +1,118 @@
+ghost use Rattle.std.specs.Prelude.{◌≡◌, ◌≤◌, [], length, is_some, option_copied};
+ghost use Rattle.bucket_table.specs.Slots.{HasDistinctKeys, object_count};
+ghost use Rattle.node_list.specs.Ticks.{tick, ticks};
+ghost use Rattle.table_ops.specs.Queries.{answers, also, looks_of_key, AppendsData, CountsLooks};
+ghost use Rattle.table_ops.specs.Content.{objects_under};
+ghost use Rattle.table_ops.specs.Read.{all_objects};
+ghost use Rattle.table_ops.specs.inside.DeletePlan.{MatchesOnlyKey};
+
+use super::TableRows;
+use crate::looks::Looks;
+use crate::projection::Projection;
+use crate::slots::all_of;
+use crate::trial::Trial;
+use bucket_table::Rows;
+use ets_term::Term;
+use std::alloc::AllocError;
+
+impl<R: Rows> TableRows<R> {
+    /// Appends the results of the query for all objects to `found`. If `key` is some, only the objects of that key are
+    /// tested.
+    pub(crate) fn collect<P: Projection>(
+        &self,
+        query: &Trial<'_, P>,
+        key: Option<&Term>,
+        found: &mut Vec<Term>,
+        looks: &mut Looks,
+    ) -> Result<(), AllocError>
+        requires { MatchesOnlyKey (λ object. is_some (P.projects query.now.query.now object))
+            (option_copied key) (R.content self.now.rows) }
+        ensures answers { AppendsData result found.old.items found.new.items
+            (answers (P.projects query.now.query.now) (all_objects (R.content self.now.rows))) }
+        ensures looks { CountsLooks result
+            (looks_of_key (option_copied key.entry) (R.content self.now.rows)) looks.old looks.new }
+        ensures at_most { looks.new
+            ≤ ticks (looks_of_key (option_copied key.entry) (R.content self.now.rows)) looks.old }
+        ensures at_least { looks.old ≤ looks.new }
+    {
+        match key {
+            Some(key) => self.collect_from(query, self.objects_of(key), found, looks),
+            None => self.collect_all(query, found, looks),
+        }
+    }
+
+    /// Returns the objects of a key, oldest first.
+    pub(crate) fn objects_of(&self, key: &Term) -> &[Term]
+        ensures objects { result.now ≡ objects_under (R.content self.now.rows) key.now }
+        ensures distinct { HasDistinctKeys (R.content self.now.rows) }
+    {
+        self.rows.known();
+        match self.rows.get(key) {
+            Some(objects) => objects,
+            None => &[],
+        }
+    }
+
+    /// Appends the results for all objects.
+    #[tactic(auto, using(crate::proofs::QueryLaws::appended))]
+    fn collect_all<P: Projection>(
+        &self,
+        query: &Trial<'_, P>,
+        found: &mut Vec<Term>,
+        looks: &mut Looks,
+    ) -> Result<(), AllocError>
+        ensures answers { AppendsData result found.old.items found.new.items
+            (answers (P.projects query.now.query.now) (all_objects (R.content self.now.rows))) }
+        ensures looks { CountsLooks result (object_count (R.content self.now.rows)) looks.old looks.new }
+        ensures at_most { looks.new ≤ ticks (object_count (R.content self.now.rows)) looks.old }
+        ensures at_least { looks.old ≤ looks.new }
+    {
+        let _before = looks.count();
+        for (_, objects) in all_of(&self.rows) {
+            self.collect_from(query, objects, found, looks)?;
+            let _after = looks.count();
+        }
+        Ok(())
+    }
+
+    /// Appends the results for these objects.
+    #[inline(always)]
+    fn collect_from<P: Projection>(
+        &self,
+        query: &Trial<'_, P>,
+        objects: &[Term],
+        found: &mut Vec<Term>,
+        looks: &mut Looks,
+    ) -> Result<(), AllocError>
+        ensures answers { AppendsData result found.old.items found.new.items
+            (answers (P.projects query.now.query.now) objects.now) }
+        ensures looks { CountsLooks result (length objects.now) looks.old looks.new }
+        ensures at_most { looks.new ≤ ticks (length objects.now) looks.old }
+        ensures at_least { looks.old ≤ looks.new }
+    {
+        let _before = looks.count();
+        for object in objects {
+            self.collect_one(query, object, found, looks)?;
+        }
+        Ok(())
+    }
+
+    /// Appends the result for one object, if it has one.
+    #[inline(always)]
+    fn collect_one<P: Projection>(
+        &self,
+        query: &Trial<'_, P>,
+        object: &Term,
+        found: &mut Vec<Term>,
+        looks: &mut Looks,
+    ) -> Result<(), AllocError>
+        ensures answers { AppendsData result found.old.items found.new.items
+            (also (P.projects query.now.query.now object.now) []) }
+        ensures looks { looks.new ≡ tick looks.old }
+    {
+        if let Some(answer) = query.result_of(self.alloc, object, looks)? {
+            found.push(answer)?;
+        }
+        Ok(())
+    }
+}

@@ -1,0 +1,103 @@
+ghost use Rattle.std.specs.Prelude.{◌≡◌, ◌≤◌, ◌<◌, ◌^◌, [], ◌∷◌, length, option_copied, IfOk};
+ghost use Rattle.bucket_table.specs.Slots.{object_count};
+ghost use Rattle.node_list.specs.Ticks.{tick, ticks};
+ghost use Rattle.table_ops.specs.Outcomes.{Returns};
+ghost use Rattle.table_ops.specs.Queries.{chosen_count, looks_of_key, CountsLooks};
+ghost use Rattle.table_ops.specs.Read.{all_objects};
+ghost use Rattle.table_ops.specs.inside.DeletePlan.{MatchesOnlyKey};
+
+use super::TableRows;
+use crate::looks::Looks;
+use crate::predicate::Predicate;
+use crate::slots::all_of;
+use crate::trial::Trial;
+use bucket_table::Rows;
+use ets_term::Term;
+use std::alloc::AllocError;
+
+impl<R: Rows> TableRows<R> {
+    /// Returns the number of chosen objects. If `key` is some, only the objects of that key are tested.
+    pub(crate) fn count<P: Predicate>(
+        &self,
+        query: &Trial<'_, P>,
+        key: Option<&Term>,
+        looks: &mut Looks,
+    ) -> Result<usize, AllocError>
+        requires few { object_count (R.content self.now.rows) < 2 ^ 32 }
+        requires only_key { MatchesOnlyKey (P.tests query.now.query.now) (option_copied key)
+            (R.content self.now.rows) }
+        ensures count { Returns result
+            (chosen_count (P.tests query.now.query.now) (all_objects (R.content self.now.rows))) }
+        ensures looks { CountsLooks result
+            (looks_of_key (option_copied key.entry) (R.content self.now.rows)) looks.old looks.new }
+        ensures at_most { looks.new
+            ≤ ticks (looks_of_key (option_copied key.entry) (R.content self.now.rows)) looks.old }
+        ensures at_least { looks.old ≤ looks.new }
+    {
+        match key {
+            Some(key) => self.count_in(query, self.objects_of(key), looks),
+            None => self.count_all(query, looks),
+        }
+    }
+
+    /// Tests all objects and returns the number of chosen ones.
+    #[tactic(auto, using(crate::proofs::QueryLaws::appended))]
+    fn count_all<P: Predicate>(
+        &self,
+        query: &Trial<'_, P>,
+        looks: &mut Looks,
+    ) -> Result<usize, AllocError>
+        requires few { object_count (R.content self.now.rows) < 2 ^ 32 }
+        ensures count { Returns result
+            (chosen_count (P.tests query.now.query.now) (all_objects (R.content self.now.rows))) }
+        ensures looks { CountsLooks result (object_count (R.content self.now.rows)) looks.old looks.new }
+        ensures at_most { looks.new ≤ ticks (object_count (R.content self.now.rows)) looks.old }
+        ensures at_least { looks.old ≤ looks.new }
+    {
+        let _before = looks.count();
+        let mut total = 0;
+        for (_, objects) in all_of(&self.rows) {
+            total += self.count_in(query, objects, looks)?;
+            let _after = looks.count();
+        }
+        Ok(total)
+    }
+
+    /// Tests these objects and returns the number of chosen ones.
+    fn count_in<P: Predicate>(
+        &self,
+        query: &Trial<'_, P>,
+        objects: &[Term],
+        looks: &mut Looks,
+    ) -> Result<usize, AllocError>
+        ensures count { Returns result (chosen_count (P.tests query.now.query.now) objects.now) }
+        ensures looks { CountsLooks result (length objects.now) looks.old looks.new }
+        ensures at_most { looks.new ≤ ticks (length objects.now) looks.old }
+        ensures at_least { looks.old ≤ looks.new }
+    {
+        let _before = looks.count();
+        let mut count = 0;
+        for i in 0..objects.len() {
+            count += self.count_one(query, &objects[i], looks)?;
+        }
+        Ok(count)
+    }
+
+    /// Tests one object: returns 1 if it is chosen, else 0.
+    fn count_one<P: Predicate>(
+        &self,
+        query: &Trial<'_, P>,
+        object: &Term,
+        looks: &mut Looks,
+    ) -> Result<usize, AllocError>
+        ensures count { Returns result
+            (chosen_count (P.tests query.now.query.now) (object.now ∷ [])) }
+        ensures one { IfOk result (λ count. count ≤ 1) }
+        ensures looks { looks.new ≡ tick looks.old }
+    {
+        if query.chooses(self.alloc, object, looks)? {
+            return Ok(1);
+        }
+        Ok(0)
+    }
+}

@@ -1,0 +1,141 @@
+ghost use Rattle.std.specs.Prelude.{◌≡◌, ◌≤◌, ◌<◌, ◌^◌, ◌++◌, [], Some, true, is_some, length, option_copied, OnOk};
+ghost use Rattle.bucket_table.specs.Slots.{object_count};
+ghost use Rattle.node_list.specs.Ticks.{ticks};
+ghost use Rattle.table_ops.specs.Outcomes.{Returns};
+ghost use Rattle.table_ops.specs.Queries.{chosen_count, looks_of_key, CountsLooks};
+ghost use Rattle.table_ops.specs.Content.{objects_under};
+ghost use Rattle.table_ops.specs.Read.{all_objects};
+ghost use Rattle.table_ops.specs.inside.DeletePlan.{MatchesOnlyKey, plan_of, planned_at, with_kept, after_plan, KeepsPlacesBefore, AreInOrder};
+ghost use Rattle.table_ops.specs.inside.TableRows.{ChangesSlotsOnly};
+
+use super::TableRows;
+use crate::delete_plan::{DeletePlan, SlotDelete};
+use crate::looks::Looks;
+use crate::predicate::Predicate;
+use crate::trial::Trial;
+use bucket_table::Rows;
+use ets_term::Term;
+use std::alloc::AllocError;
+
+impl<R: Rows> TableRows<R> {
+    /// Plans the deletion of all chosen objects and returns their number. If `key` is some, only the objects of that
+    /// key are tested.
+    pub(crate) fn plan<P: Predicate>(
+        &self,
+        query: &Trial<'_, P>,
+        key: Option<&Term>,
+        plan: &mut DeletePlan,
+        looks: &mut Looks,
+    ) -> Result<usize, AllocError>
+        requires empty { plan.old.list.items ≡ [] }
+        requires few { object_count (R.content self.now.rows) < 2 ^ 32 }
+        requires only_key { MatchesOnlyKey (P.tests query.now.query.now) (option_copied key)
+            (R.content self.now.rows) }
+        ensures count { Returns result
+            (chosen_count (P.tests query.now.query.now) (all_objects (R.content self.now.rows))) }
+        ensures looks { CountsLooks result
+            (looks_of_key (option_copied key.entry) (R.content self.now.rows)) looks.old looks.new }
+        ensures at_most { looks.new
+            ≤ ticks (looks_of_key (option_copied key.entry) (R.content self.now.rows)) looks.old }
+        ensures at_least { looks.old ≤ looks.new }
+        ensures plan { OnOk result
+            (planned_at (R.key_at self.now.rows) plan.new.list.items
+            ≡ plan_of (P.tests query.now.query.now) (R.content self.now.rows)) }
+    {
+        match key {
+            Some(key) => self.plan_key(query, key, plan, looks),
+            None => self.plan_all(query, plan, looks),
+        }
+    }
+
+    /// Plans the deletion of the chosen objects of a key and returns their number.
+    fn plan_key<P: Predicate>(
+        &self,
+        query: &Trial<'_, P>,
+        key: &Term,
+        plan: &mut DeletePlan,
+        looks: &mut Looks,
+    ) -> Result<usize, AllocError>
+        requires empty { plan.old.list.items ≡ [] }
+        requires only_key { MatchesOnlyKey (P.tests query.now.query.now) (Some key.now)
+            (R.content self.now.rows) }
+        ensures count { Returns result
+            (chosen_count (P.tests query.now.query.now) (all_objects (R.content self.now.rows))) }
+        ensures looks { CountsLooks result
+            (length (objects_under (R.content self.now.rows) key.now)) looks.old looks.new }
+        ensures at_most { looks.new
+            ≤ ticks (length (objects_under (R.content self.now.rows) key.now)) looks.old }
+        ensures at_least { looks.old ≤ looks.new }
+        ensures plan { OnOk result
+            (planned_at (R.key_at self.now.rows) plan.new.list.items
+            ≡ plan_of (P.tests query.now.query.now) (R.content self.now.rows)) }
+    {
+        let _before = looks.count();
+        let Some(place) = self.find(key) else {
+            return Ok(0);
+        };
+        plan.plan_slot(query, place, self.rows.objects_at(place), looks)
+    }
+
+    /// Tests all objects, plans the deletion of the chosen ones and returns their number.
+    fn plan_all<P: Predicate>(
+        &self,
+        query: &Trial<'_, P>,
+        plan: &mut DeletePlan,
+        looks: &mut Looks,
+    ) -> Result<usize, AllocError>
+        requires few { object_count (R.content self.now.rows) < 2 ^ 32 }
+        ensures count { Returns result
+            (chosen_count (P.tests query.now.query.now) (all_objects (R.content self.now.rows))) }
+        ensures looks { CountsLooks result (object_count (R.content self.now.rows)) looks.old looks.new }
+        ensures at_most { looks.new ≤ ticks (object_count (R.content self.now.rows)) looks.old }
+        ensures at_least { looks.old ≤ looks.new }
+        ensures plan { OnOk result
+            (planned_at (R.key_at self.now.rows) plan.new.list.items
+            ≡ planned_at (R.key_at self.now.rows) plan.old.list.items
+            ++ plan_of (P.tests query.now.query.now) (R.content self.now.rows)) }
+    {
+        let _before = looks.count();
+        self.rows.known();
+        let mut total = 0;
+        let mut at = self.rows.first_place();
+        for _ in 0..self.rows.len() {
+            let Some(place) = at else { unreachable!() };
+            let (_, objects) = self.rows.slot_at(place);
+            total += plan.plan_slot(query, place, objects, looks)?;
+            at = self.rows.place_behind(place);
+        }
+        Ok(total)
+    }
+
+    /// Executes a plan, from the last slot to the first, so that the places that remain in the plan stay valid.
+    pub(crate) fn apply(&mut self, hold: bool, mut plan: DeletePlan)
+        requires { AreInOrder (R.content self.old.rows)
+            (planned_at (R.key_at self.old.rows) plan.list.items) }
+        ensures slots { R.content self.new.rows ≡ after_plan hold
+            (planned_at (R.key_at self.old.rows) plan.list.items) (R.content self.old.rows) }
+        ensures keeps { ChangesSlotsOnly R.readiness self.old self.new }
+    {
+        while let Some(delete) = plan.list.pop() {
+            self.rows.known();
+            self.apply_one(hold, delete);
+        }
+    }
+
+    /// Replaces the objects of one slot by the kept ones. Removes the slot if none is kept, unless `hold`.
+    fn apply_one(&mut self, hold: bool, delete: SlotDelete)
+        requires { is_some (R.key_at self.old.rows delete.place) ≡ true }
+        ensures slots { R.content self.new.rows ≡ with_kept hold
+            (R.key_at self.old.rows delete.place) delete.kept (R.content self.old.rows) }
+        ensures places { KeepsPlacesBefore (R.content self.old.rows)
+            (R.key_at self.old.rows) (R.key_at self.new.rows) delete.place }
+        ensures keeps { ChangesSlotsOnly R.readiness self.old self.new }
+    {
+        let SlotDelete { place, kept } = delete;
+        if hold || kept.len() > 0 {
+            let _ = self.rows.replace_at(place, kept);
+        } else {
+            let _ = self.rows.remove_at(place);
+        }
+    }
+}

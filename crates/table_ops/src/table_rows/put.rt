@@ -1,0 +1,133 @@
+ghost use Rattle.std.specs.Prelude.{◌≡◌, ◌||◌, None, IsSome};
+ghost use Rattle.bucket_table.specs.Slots.{objects_of, has_objects};
+ghost use Rattle.bucket_table.specs.Entries.{IsEntry};
+ghost use Rattle.table_ops.specs.declared.kind.Kind.TheVariants.{Set, Bag, DuplicateBag};
+ghost use Rattle.table_ops.specs.Content.{FitsKind, objects_under};
+ghost use Rattle.table_ops.specs.inside.TableRows.{ChangesSlotsOnly};
+ghost use Rattle.table_ops.specs.inside.Undo.{ForKey, PutsOne, PutsAt};
+
+use super::TableRows;
+use crate::kind::Kind;
+use crate::object::contains;
+use crate::refusal::Refusal;
+use crate::undo::Undo;
+use bucket_table::{Entry, Place, Rows};
+use ets_term::Term;
+use node_list::Chain;
+
+impl<R: Rows> TableRows<R> {
+    /// Inserts one object where the search for its key ended. `below_limit` says whether one more object is allowed.
+    pub(crate) fn put(
+        &mut self,
+        below_limit: bool,
+        entry: Entry,
+        key: &Term,
+        object: &Term,
+    ) -> Result<Undo, Refusal>
+        requires entry { IsEntry (R.content self.old.rows) (R.number self.old.rows)
+            (R.key_at self.old.rows) key.now entry }
+        requires kept { FitsKind self.old.kind (objects_under (R.content self.old.rows) key.now) }
+        ensures slots { PutsOne below_limit self.old.kind key.now object.now
+            (R.content self.old.rows) result (R.content self.new.rows) }
+        ensures keeps { ChangesSlotsOnly R.readiness self.old self.new }
+    {
+        match entry {
+            Entry::Vacant(hash) => self.put_new(below_limit, hash, key, object),
+            Entry::Occupied(place) => match self.kind {
+                Kind::Set => self.put_in_set(below_limit, place, object),
+                Kind::Bag => self.put_in_bag(below_limit, place, object),
+                Kind::DuplicateBag => self.put_last(below_limit, place, object),
+            },
+        }
+    }
+
+    /// Inserts an object with a new slot.
+    fn put_new(
+        &mut self,
+        below_limit: bool,
+        hash: u32,
+        key: &Term,
+        object: &Term,
+    ) -> Result<Undo, Refusal>
+        requires new { objects_of (R.content self.old.rows) key.now ≡ None }
+        requires hash { hash ≡ R.number self.old.rows key.now }
+        ensures slots { PutsOne below_limit self.old.kind key.now object.now
+            (R.content self.old.rows) result (R.content self.new.rows) }
+        ensures keeps { ChangesSlotsOnly R.readiness self.old self.new }
+    {
+        if !below_limit {
+            return Err(Refusal::SystemLimit);
+        }
+        let own_key = key.try_clone(self.alloc)?;
+        let copy = object.try_clone(self.alloc)?;
+        self.rows
+            .put_at(hash, own_key, Chain::one(self.alloc, copy))?;
+        Ok(Undo::NewSlot)
+    }
+
+    /// Replaces the object of a set's slot, or fills a tombstone.
+    fn put_in_set(
+        &mut self,
+        below_limit: bool,
+        place: Place,
+        object: &Term,
+    ) -> Result<Undo, Refusal>
+        requires { ForKey (R.key_at self.old.rows place) (λ key.
+            FitsKind Set (objects_under (R.content self.old.rows) key)) }
+        ensures slots { PutsAt below_limit Set (R.key_at self.old.rows place) object.now
+            (R.content self.old.rows) result (R.content self.new.rows) }
+        ensures keeps { ChangesSlotsOnly R.readiness self.old self.new }
+    {
+        if !may_insert(below_limit, self.rows.objects_at(place)) {
+            return Err(Refusal::SystemLimit);
+        }
+        let copy = object.try_clone(self.alloc)?;
+        let was = self.rows.replace_at(place, Chain::one(self.alloc, copy));
+        Ok(Undo::Objects(was))
+    }
+
+    /// Appends an object to the slot of a bag, unless it is already there.
+    fn put_in_bag(
+        &mut self,
+        below_limit: bool,
+        place: Place,
+        object: &Term,
+    ) -> Result<Undo, Refusal>
+        requires { IsSome (R.key_at self.old.rows place) }
+        ensures slots { PutsAt below_limit Bag (R.key_at self.old.rows place) object.now
+            (R.content self.old.rows) result (R.content self.new.rows) }
+        ensures keeps { ChangesSlotsOnly R.readiness self.old self.new }
+    {
+        if contains(self.rows.objects_at(place), object) {
+            return Ok(Undo::Nothing);
+        }
+        self.put_last(below_limit, place, object)
+    }
+
+    /// Appends an object to a slot.
+    fn put_last(&mut self, below_limit: bool, place: Place, object: &Term) -> Result<Undo, Refusal>
+        requires { IsSome (R.key_at self.old.rows place) }
+        ensures slots { PutsAt below_limit DuplicateBag (R.key_at self.old.rows place) object.now
+            (R.content self.old.rows) result (R.content self.new.rows) }
+        ensures keeps { ChangesSlotsOnly R.readiness self.old self.new }
+    {
+        if !below_limit {
+            return Err(Refusal::SystemLimit);
+        }
+        let copy = object.try_clone(self.alloc)?;
+        let mut objects = self.rows.replace_at(place, Chain::new(self.alloc));
+        let pushed = objects.push(copy);
+        let _ = self.rows.replace_at(place, objects);
+        let Ok(()) = pushed else {
+            return Err(Refusal::Memory);
+        };
+        Ok(Undo::LastObject)
+    }
+}
+
+/// Returns whether a set may insert an object: one more is allowed, or it replaces another.
+fn may_insert(below_limit: bool, objects: &[Term]) -> bool
+    ensures { result ≡ (below_limit || has_objects objects.now) }
+{
+    below_limit || !objects.is_empty()
+}

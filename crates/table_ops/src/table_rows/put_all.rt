@@ -1,0 +1,125 @@
+ghost use Rattle.std.specs.Prelude.{◌≡◌, ◌≤◌, ◌∷◌, [], true, false, length};
+ghost use Rattle.std.specs.List.{list_all, list_any};
+ghost use Rattle.ets_term.specs.Depth.{is_too_deep};
+ghost use Rattle.table_ops.specs.Content.{AreSlots, is_object};
+ghost use Rattle.table_ops.specs.inside.TableRows.{ChangesSlotsOnly, TableRowsInvariant};
+ghost use Rattle.table_ops.specs.inside.Undo.{PutsObject, PutsEach, after_undo, after_roll_back};
+
+use super::TableRows;
+use crate::object::key_of;
+use crate::refusal::Refusal;
+use crate::undo::Undo;
+use bucket_table::Rows;
+use ets_term::Term;
+use node_list::Chain;
+
+impl<R: Rows> TableRows<R> {
+    /// Inserts all objects of a list or none. Returns how many objects the table has then. `before` is how many it has.
+    pub(crate) fn put_list(&mut self, before: usize, objects: &[Term]) -> Result<usize, Refusal>
+        requires objects { list_all (is_object self.old.keypos) objects.now ≡ true }
+        requires holds { TableRowsInvariant R.content self.old before }
+        requires shallow { list_any is_too_deep objects.now ≡ false }
+        ensures slots { PutsEach self.old.limit self.old.kind self.old.keypos objects.now
+            (R.content self.old.rows) result (R.content self.new.rows) }
+        ensures keeps { ChangesSlotsOnly R.readiness self.old self.new }
+    {
+        match objects {
+            [object] => self.put_one(before, object),
+            _ => self.put_all(before, objects),
+        }
+    }
+
+    /// Inserts a single object, without an undo log. Returns how many objects the table has then.
+    fn put_one(&mut self, before: usize, object: &Term) -> Result<usize, Refusal>
+        requires object { is_object self.old.keypos object.now ≡ true }
+        requires holds { TableRowsInvariant R.content self.old before }
+        ensures slots { PutsEach self.old.limit self.old.kind self.old.keypos (object.now ∷ [])
+            (R.content self.old.rows) result (R.content self.new.rows) }
+        ensures keeps { ChangesSlotsOnly R.readiness self.old self.new }
+    {
+        let undo = self.put_object(before < self.limit as usize, object)?;
+        Ok(before + undo.added_objects())
+    }
+
+    /// Inserts objects one after another, and rolls back if one is refused. Returns how many the table has then.
+    fn put_all(&mut self, before: usize, objects: &[Term]) -> Result<usize, Refusal>
+        requires objects { list_all (is_object self.old.keypos) objects.now ≡ true }
+        requires holds { TableRowsInvariant R.content self.old before }
+        requires shallow { list_any is_too_deep objects.now ≡ false }
+        ensures slots { PutsEach self.old.limit self.old.kind self.old.keypos objects.now
+            (R.content self.old.rows) result (R.content self.new.rows) }
+        ensures keeps { ChangesSlotsOnly R.readiness self.old self.new }
+    {
+        let mut count = before;
+        let mut undo_log = Vec::with_capacity(self.alloc, objects.len())?;
+        for object in objects {
+            match self.put_object(count < self.limit as usize, object) {
+                Ok(undo) => {
+                    count += undo.added_objects();
+                    undo_log.push_reserved(undo);
+                }
+                Err(refusal) => {
+                    self.roll_back(objects, undo_log);
+                    return Err(refusal);
+                }
+            }
+        }
+        Ok(count)
+    }
+
+    /// Inserts one object under its key.
+    fn put_object(&mut self, below_limit: bool, object: &Term) -> Result<Undo, Refusal>
+        requires object { is_object self.old.keypos object.now ≡ true }
+        requires slots { AreSlots self.old.kind self.old.keypos (R.content self.old.rows) }
+        ensures slots { PutsObject below_limit self.old.kind self.old.keypos object.now
+            (R.content self.old.rows) result (R.content self.new.rows) }
+        ensures keeps { ChangesSlotsOnly R.readiness self.old self.new }
+    {
+        let Some(key) = key_of(self.keypos, object) else {
+            unreachable!()
+        };
+        let entry = self.rows.entry(key);
+        self.put(below_limit, entry, key, object)
+    }
+
+    /// Undoes the insertions of a log, the last one first. Its entries belong to the first of `objects`, in order.
+    fn roll_back(&mut self, objects: &[Term], mut undo_log: Vec<Undo>)
+        requires objects { list_all (is_object self.old.keypos) objects.now ≡ true }
+        requires long { length undo_log.items ≤ length objects.now }
+        ensures slots { R.content self.new.rows
+            ≡ after_roll_back self.old.keypos undo_log.items objects.now (R.content self.old.rows) }
+        ensures keeps { ChangesSlotsOnly R.readiness self.old self.new }
+    {
+        while let Some(undo) = undo_log.pop() {
+            let Some(key) = key_of(self.keypos, &objects[undo_log.len()]) else {
+                unreachable!()
+            };
+            self.undo(key, undo);
+        }
+    }
+
+    /// Undoes the last insertion under a key.
+    #[tactic(auto, using(crate::proofs::SlotLaws::slot_laws))]
+    fn undo(&mut self, key: &Term, undo: Undo)
+        ensures slots { R.content self.new.rows ≡ after_undo undo key.now (R.content self.old.rows) }
+        ensures keeps { ChangesSlotsOnly R.readiness self.old self.new }
+    {
+        let Some(place) = self.rows.find(key) else {
+            return;
+        };
+        match undo {
+            Undo::NewSlot => {
+                let _ = self.rows.remove_at(place);
+            }
+            Undo::Objects(objects) => {
+                let _ = self.rows.replace_at(place, objects);
+            }
+            Undo::LastObject => {
+                let mut objects = self.rows.replace_at(place, Chain::new(self.alloc));
+                let _ = objects.pop();
+                let _ = self.rows.replace_at(place, objects);
+            }
+            Undo::Nothing => {}
+        }
+    }
+}

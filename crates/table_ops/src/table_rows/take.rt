@@ -1,0 +1,64 @@
+ghost use Rattle.std.specs.Prelude.{◌≡◌, ◌||◌, [], Some, IsSome};
+ghost use Rattle.bucket_table.specs.Slots.{HasDistinctKeys, has_objects};
+ghost use Rattle.bucket_table.specs.Entries.{objects_in};
+ghost use Rattle.table_ops.specs.inside.TableRows.{ChangesSlotsOnly, IsPlaceOfKey};
+ghost use Rattle.table_ops.specs.inside.Removal.{after_removal, RemovesObject};
+ghost use Rattle.table_ops.specs.inside.Undo.{ForKey};
+
+use super::TableRows;
+use bucket_table::{Place, Rows};
+use ets_term::Term;
+use node_list::Chain;
+
+impl<R: Rows> TableRows<R> {
+    /// Returns the place of a key's slot, if it has one.
+    pub(crate) fn find(&self, key: &Term) -> Option<Place>
+        ensures place { IsPlaceOfKey (R.content self.now.rows) (R.key_at self.now.rows) key.now result }
+        ensures distinct { HasDistinctKeys (R.content self.now.rows) }
+    {
+        self.rows.known();
+        self.rows.find(key)
+    }
+
+    /// Removes and returns the objects of a slot. The slot stays as a tombstone if `hold`, or if it was one before.
+    pub(crate) fn remove_objects_at(&mut self, hold: bool, place: Place) -> Chain
+        requires { IsSome (R.key_at self.old.rows place) }
+        ensures objects { objects_in (R.content self.old.rows) (R.key_at self.old.rows place)
+            ≡ Some result }
+        ensures slots { ForKey (R.key_at self.old.rows place) (λ key.
+            R.content self.new.rows ≡ after_removal hold (R.content self.old.rows) key result []) }
+        ensures keeps { ChangesSlotsOnly R.readiness self.old self.new }
+    {
+        if hold || self.rows.objects_at(place).is_empty() {
+            return self.rows.replace_at(place, Chain::new(self.alloc));
+        }
+        let (_, objects) = self.rows.remove_at(place);
+        objects
+    }
+
+    /// Removes every instance of an object from a slot and returns their number. A slot that loses its last object is
+    /// removed, unless `hold`.
+    pub(crate) fn remove_object_at(&mut self, hold: bool, place: Place, object: &Term) -> usize
+        requires { IsSome (R.key_at self.old.rows place) }
+        ensures slots { ForKey (R.key_at self.old.rows place) (λ key.
+            RemovesObject hold (R.content self.old.rows) key object.now result (R.content self.new.rows)) }
+        ensures keeps { ChangesSlotsOnly R.readiness self.old self.new }
+    {
+        let mut objects = self.rows.replace_at(place, Chain::new(self.alloc));
+        let was_held = objects.len() == 0;
+        let count = objects.remove_all(object);
+        if slot_stays(hold, was_held, objects.as_slice()) {
+            let _ = self.rows.replace_at(place, objects);
+        } else {
+            let _ = self.rows.remove_at(place);
+        }
+        count
+    }
+}
+
+/// Returns whether a slot stays with these objects.
+fn slot_stays(hold: bool, was_held: bool, objects: &[Term]) -> bool
+    ensures { result ≡ (hold || has_objects objects.now || was_held) }
+{
+    hold || !objects.is_empty() || was_held
+}

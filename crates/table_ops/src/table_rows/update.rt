@@ -1,0 +1,153 @@
+ghost use Rattle.std.specs.Prelude.{◌≡◌, ◌&&◌, [], ◌∷◌, true, Some, Ok, OnOk, OnErr, option_copied};
+ghost use Rattle.std.specs.List.{list_all};
+ghost use Rattle.bucket_table.specs.Entries.{IsEntry, HasOne};
+ghost use Rattle.table_ops.specs.Put.{SetsObjects};
+ghost use Rattle.table_ops.specs.Update.{may_update, ops_avoid_key, specs_avoid_key, default_is_object};
+ghost use Rattle.table_ops.specs.inside.TableRows.{ChangesSlotsOnly, IsOccupiedPlace};
+ghost use Rattle.table_ops.specs.inside.Updated.{UpdatesCounterAt, UpdatesElementAt, InsertsDefaultAt};
+
+use super::TableRows;
+use crate::refusal::Refusal;
+use bucket_table::{Entry, Place, Rows};
+use counters::{CounterFault, ElementSpecs, Op, Ops, is_default, update_counter, update_elements};
+use ets_term::{Position, Term};
+use node_list::Chain;
+use std::alloc::AllocError;
+
+impl<R: Rows> TableRows<R> {
+    /// Returns whether an update may name a position: any from 1 on, except keypos.
+    fn may_update(&self, position: Position) -> bool
+        ensures { result ≡ may_update self.now.keypos position }
+    {
+        0 < position && position != self.keypos as Position
+    }
+
+    /// Returns whether an update may name the positions of all operations.
+    pub(crate) fn ops_avoid_key(&self, ops: &Ops) -> bool
+        ensures { result ≡ ops_avoid_key self.now.keypos ops.now }
+    {
+        match ops {
+            Ops::One(op) => self.may_update(op.position),
+            Ops::Many(ops) => self.all_avoid_key(ops.as_slice()),
+        }
+    }
+
+    /// Returns whether an update may name the positions of all operations of a list.
+    fn all_avoid_key(&self, ops: &[Op]) -> bool
+        ensures { result ≡ list_all (λ op. may_update self.now.keypos op.position) ops.now }
+    {
+        ops.iter().all(|op| self.may_update(op.position))
+    }
+
+    /// Returns whether an update may name the positions of all values.
+    pub(crate) fn specs_avoid_key(&self, specs: &ElementSpecs) -> bool
+        ensures { result ≡ specs_avoid_key self.now.keypos specs.now }
+    {
+        match specs {
+            ElementSpecs::One(spec) => self.may_update(spec.position),
+            ElementSpecs::Many(specs) => specs
+                .as_slice()
+                .iter()
+                .all(|spec| self.may_update(spec.position)),
+        }
+    }
+
+    /// Returns whether the Default is absent, or is an object with `key` at keypos.
+    pub(crate) fn default_is_object(&self, key: &Term, default: Option<&Term>) -> bool
+        ensures { result ≡ default_is_object self.now.keypos key.now (option_copied default.entry) }
+    {
+        match default {
+            Some(default) => is_default(default, self.keypos, key),
+            None => true,
+        }
+    }
+
+    /// Returns the place of the key's slot, if the slot has objects. `entry` is the result of a search for the key.
+    pub(crate) fn occupied_place(&self, key: &Term, entry: Entry) -> Option<Place>
+        requires { IsEntry (R.content self.now.rows) (R.number self.now.rows)
+            (R.key_at self.now.rows) key.now entry }
+        ensures { IsOccupiedPlace (R.content self.now.rows) (R.key_at self.now.rows) key.now result }
+    {
+        let Entry::Occupied(place) = entry else {
+            return None;
+        };
+        if self.rows.objects_at(place).is_empty() {
+            return None;
+        }
+        Some(place)
+    }
+
+    /// Updates the counters of the only object at a place.
+    pub(crate) fn update_counter_at(
+        &mut self,
+        place: Place,
+        ops: &Ops,
+    ) -> Result<Term, CounterFault>
+        requires { HasOne (R.content self.old.rows) (R.key_at self.old.rows place) }
+        ensures slots { UpdatesCounterAt ops.now (R.key_at self.old.rows place)
+            (R.content self.old.rows) result (R.content self.new.rows) }
+        ensures keeps { ChangesSlotsOnly R.readiness self.old self.new }
+    {
+        let mut object = self.rows.replace_one_at(place, Term::Int(0));
+        let counted = update_counter(self.alloc, &mut object, ops);
+        let _zero = self.rows.replace_one_at(place, object);
+        counted
+    }
+
+    /// Sets elements of the only object at a place.
+    pub(crate) fn update_element_at(
+        &mut self,
+        place: Place,
+        specs: ElementSpecs,
+    ) -> Result<(), CounterFault>
+        requires { HasOne (R.content self.old.rows) (R.key_at self.old.rows place) }
+        ensures slots { UpdatesElementAt specs (R.key_at self.old.rows place)
+            (R.content self.old.rows) result (R.content self.new.rows) }
+        ensures keeps { ChangesSlotsOnly R.readiness self.old self.new }
+    {
+        let mut object = self.rows.replace_one_at(place, Term::Int(0));
+        let written = update_elements(&mut object, specs);
+        let _zero = self.rows.replace_one_at(place, object);
+        written
+    }
+
+    /// Inserts the first object of a key. `below_limit` says whether one more object is allowed.
+    pub(crate) fn insert_default(
+        &mut self,
+        below_limit: bool,
+        entry: Entry,
+        key: &Term,
+        object: Term,
+    ) -> Result<(), Refusal>
+        requires { IsEntry (R.content self.old.rows) (R.number self.old.rows)
+            (R.key_at self.old.rows) key.now entry }
+        ensures slots { InsertsDefaultAt below_limit key.now (Ok (object, tt))
+            (R.content self.old.rows) result (R.content self.new.rows) }
+        ensures keeps { ChangesSlotsOnly R.readiness self.old self.new }
+    {
+        if !below_limit {
+            return Err(Refusal::SystemLimit);
+        }
+        self.insert_first(entry, key, object)?;
+        Ok(())
+    }
+
+    /// Inserts the first object of a key, in its tombstone or in a new slot.
+    fn insert_first(&mut self, entry: Entry, key: &Term, object: Term) -> Result<(), AllocError>
+        requires { IsEntry (R.content self.old.rows) (R.number self.old.rows)
+            (R.key_at self.old.rows) key.now entry }
+        ensures ok { OnOk result
+            (SetsObjects (R.content self.old.rows) key.now (object ∷ []) (R.content self.new.rows)) }
+        ensures err { OnErr result (R.content self.new.rows ≡ R.content self.old.rows) }
+        ensures keeps { ChangesSlotsOnly R.readiness self.old self.new }
+    {
+        let objects = Chain::one(self.alloc, object);
+        match entry {
+            Entry::Vacant(hash) => self.rows.put_at(hash, key.try_clone(self.alloc)?, objects),
+            Entry::Occupied(place) => {
+                let _ = self.rows.replace_at(place, objects);
+                Ok(())
+            }
+        }
+    }
+}
