@@ -1,4 +1,4 @@
--- Identifiers in ascending order: where one stands, and where one is put in.
+-- Identifiers in ascending order: where one is, and where one is inserted.
 use Rattle.std.proofs.Common.{◌≡◌, ℕ, ◌+◌, ◌<◌, ◌≤◌, ◌⊎◌, zero, suc, Bool, true, false, cond, List, [], ◌∷◌, ◌++◌, Ok, Err, inl, inr, refl, sym, subst, length, get_or, add-one, drop-cons, arith}
 use Rattle.std.specs.Prelude.{filter, drop}
 use Rattle.std.specs.List.{insert}
@@ -14,7 +14,7 @@ pub bounds-meet : (low high : ℕ) (ids : List ℕ) → Between low high ids →
 bounds-meet low high [] b = b
 bounds-meet low high (id ∷ ids) b = let rest = bounds-meet (suc id) high ids b.1 in omega (arith, b.0, rest)
 
--- there are no more of them than between the bounds
+-- there are at most as many as fit between the bounds
 pub few-between : (low high : ℕ) (ids : List ℕ) → Between low high ids → length ids + low ≤ high
 few-between low high [] b = omega (arith, b)
 few-between low high (id ∷ ids) b = let rest = few-between (suc id) high ids b.1 in omega (arith, b.0, rest)
@@ -27,7 +27,7 @@ pub between-lower : (low less high : ℕ) (ids : List ℕ) → less ≤ low → 
 between-lower low less high [] h b = omega (arith, b, h)
 between-lower low less high (id ∷ ids) h b = (omega (arith, h, b.0), b.1)
 
--- one that stands among them is within the bounds
+-- each identifier is within the bounds
 pub among-above : (low high : ℕ) (ids : List ℕ) (t : ℕ) → Between low high ids → Among t ids → low ≤ t
 among-above low high [] t b a = absurd a
 among-above low high (id ∷ ids) t b (inl same) = omega (arith, b.0, same)
@@ -45,7 +45,7 @@ rising low high (id ∷ ids) zero (suc j) d b le h = let above = get-above (suc 
 rising low high (id ∷ ids) (suc i) zero d b le h = absurd (omega (arith, le))
 rising low high (id ∷ ids) (suc i) (suc j) d b le h = rising (suc id) high ids i j d b.1 (omega (arith, le)) (omega (arith, h))
 
--- one that is read stands among them
+-- an identifier that is read is among them
 pub among-get : (ids : List ℕ) (k t : ℕ) → k < length ids → t ≡ get_or ids k t → Among t ids
 among-get [] k t h e = absurd (omega (arith, h))
 among-get (id ∷ ids) zero t h e = inl e
@@ -82,7 +82,7 @@ between-insert low high (x ∷ ids) (suc at) id l h b before behind =
     let last : x < id = before 0 (omega arith) (omega arith) in
     (b.0, between-insert (suc x) high ids at id (omega (arith, last)) h b.1 (λ k lt within. before (suc k) (omega (arith, lt)) (omega (arith, within))) (λ k le within. behind (suc k) (omega (arith, le)) (omega (arith, within))))
 
--- what a search and an insertion at its place come to
+-- what a search and an insertion at its place give
 pub put-in : (ids : List ℕ) (at id : ℕ) → at ≤ length ids → IsBinarySearchResult (λ t. nat_cmp t id) ids (Err at) → IsPutIn ids id (insert ids at id)
 put-in ids at id h parted = record {
   here = among-insert-here ids at id;
@@ -100,7 +100,7 @@ kept-at keep true id ids t e k a = a
 kept-at keep false id ids t e k (inl same) = absurd (cc (subst (λ x. keep x ≡ true) same k, e))
 kept-at keep false id ids t e k (inr rest) = rest
 
--- one that is kept stands among those kept
+-- an identifier that `retain` keeps is among those kept
 pub among-filter : (keep : ℕ → Bool) (ids : List ℕ) (t : ℕ) → keep t ≡ true → Among t ids → Among t (filter keep ids)
 among-filter keep [] t k a = a
 among-filter keep (id ∷ ids) t k (inl same) = kept-at keep (keep id) id ids t refl k (inl same)
@@ -114,14 +114,14 @@ pub between-filter : (keep : ℕ → Bool) (low high : ℕ) (ids : List ℕ) →
 between-filter keep low high [] b = b
 between-filter keep low high (id ∷ ids) b = left-between (keep id) low high id (filter keep ids) b.0 (between-filter keep (suc id) high ids b.1)
 
--- what is left of them from a place on
+-- the identifiers from a place on
 pub cut-at : (ids : List ℕ) (i : ℕ) → i < length ids → drop i ids ≡ get_or ids i 0 ∷ drop (i + 1) ids
 cut-at ids i h = rw (add-one, drop-cons ids i 0)
 
 pub none-left : (ids : List ℕ) (i t : ℕ) → length ids ≤ i → Among t (drop i ids) → ⊥
 none-left ids i t h a = absurd (subst (Among t) (drop_all i ids h) a)
 
--- one that stands among two lists
+-- an identifier among two lists
 pub among-either : (ids more : List ℕ) (t : ℕ) → Among t (ids ++ more) → Among t ids ⊎ Among t more
 among-either [] more t a = inr a
 among-either (id ∷ ids) more t (inl same) = inl (inl same)

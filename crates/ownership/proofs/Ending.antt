@@ -1,4 +1,4 @@
--- The end of a process: messages one by one, and that they change no process but its mailbox.
+-- The end of a process: messages are posted one by one and change nothing but mailboxes.
 use Rattle.std.proofs.Common.{◌≡◌, ◌⊎◌, ℕ, ◌+◌, ◌==◌, nat_eq, suc, Bool, true, false, cond, List, [], ◌∷◌, ◌++◌, Option, None, Some, inl, inr, refl, sym, ap, subst, true≢false, ◌∙◌, length, map, take, get_or, ◌-◌, ◌<◌, ◌≤◌, append_assoc, arith}
 use Rattle.std.proofs.lemmas.List.{take_more}
 use Rattle.std.specs.Prelude.{option_map, if◌then◌else◌}
@@ -64,7 +64,7 @@ module _ (q r : ℕ) (own new : Process) (keeps : new.lives ≡ own.lives) where
   set-lives [] h = cc
   set-lives (e ∷ es) h = at-lives (nat_eq q e.0) e es (set-lives es) h
 
--- a message changes nobody's life
+-- a message does not change who lives
 post-lives-at : (o : Option Process) (ps : Processes) (q : ℕ) (m : Term) → process_at ps q ≡ o → SameLives (option_map_or (λ process. set_value (λ k. q == k) ps (with_message process m)) o ps) ps
 post-lives-at None ps q m e r = refl
 post-lives-at (Some own) ps q m e r = set-lives q r own (with_message own m) refl ps e
@@ -122,12 +122,12 @@ posted_of-lives ps (Some m) r = post-lives ps m.0 m.1 r
 pub message-still : (before now : Processes) (p t : ℕ) (o : Option Table) → now ≡ posted_of before (message_of before p t o) → message_of before p t o ≡ message_of now p t o
 message-still before now p t o e = sym (message-same now before p t o (λ r. ap (λ ps. lives ps r) e ∙ posted_of-lives before (message_of before p t o) r))
 
--- where a table brings no message, none was posted
+-- a table without a message posted none
 pub back-none : (before now : Processes) (p t : ℕ) (o : Option Table) (table : Table) → o ≡ Some table → receiver_of now p table ≡ None → now ≡ posted_of before (message_of before p t o) → now ≡ before
 back-none before now p t o table is none e =
     e ∙ ap (posted_of before) (message-still before now p t o e ∙ ap (message_of now p t) is ∙ ap (option_map (λ (heir : Heir). (heir.pid, transfer table.head t p heir.gift))) none)
 
--- the identifiers without the last that is left
+-- the identifiers without the last
 pub take-last : (ids : List ℕ) (i : ℕ) → i < length ids → take (length ids - i) ids ≡ take (length ids - (i + 1)) ids ++ get_or ids (length ids - 1 - i) 0 ∷ []
 take-last ids i h =
     let k = length ids - (i + 1) in
@@ -136,12 +136,12 @@ take-last ids i h =
     let within : k < length ids = omega arith in
     ap (λ n. take n ids) more ∙ take_more ids k 0 within ∙ ap (λ n. take k ids ++ get_or ids n 0 ∷ []) (sym place)
 
--- ---- the tables of a process are among the identifiers, so theirs are all the messages
+-- ---- the tables of a process are among the identifiers, so all messages are those of the identifiers
 no-message : (ps : Processes) (p t : ℕ) (table : Table) → owned_by table.head p ≡ false → message_of ps p t (Some table) ≡ None
 no-message ps p t table other = ap (λ (b : Bool). option_map (λ (heir : Heir). (heir.pid, transfer table.head t p heir.gift)) (if b then living_heir ps table.head else None)) other
 
 module _ (ps : Processes) (p : ℕ) where
-  -- identifiers past the tables bring none
+  -- identifiers past the tables have no message
   none-past : (n : ℕ) (at : ℕ → Option Table) (high : ℕ) (ids : List ℕ) → ((k : ℕ) → at (n + k) ≡ None) → Between n high ids → messages_at ps p at ids ≡ []
   none-past n at high [] past b = refl
   none-past n at high (t ∷ ids) past b =
@@ -164,7 +164,7 @@ module _ (ps : Processes) (p : ℕ) where
   skip n o tables messages none rest = ap (λ m. option_map_or (λ message. message ∷ messages_from ps p (suc n) tables) m (messages_from ps p (suc n) tables)) none ∙ rest
 
   module _ (at : ℕ → Option Table) (high : ℕ) where
-    -- the tables from this identifier on, all of whose owner's are among these
+    -- the tables from this identifier on; the owner's are all among these
     abbrev AreFound : ℕ → Tables → List ℕ → Type 0
     AreFound n tables ids = ((k : ℕ) → at (n + k) ≡ table_at tables k) × ((k : ℕ) (table : Table) → table_at tables k ≡ Some table → owned_by table.head p ≡ true → Among (n + k) ids)
 
@@ -203,7 +203,7 @@ module _ (ps : Processes) (p : ℕ) where
             (no-owner n o (λ table there own. let above = among-above (suc n) high (t ∷ ids) (n + 0) (low, b.1) (found.1 0 table there own) in absurd (omega (arith, above))))
             (more (t ∷ ids) (low, b.1) (shift n o tables (t ∷ ids) (t ∷ ids) (λ k a. a) found))
 
--- ---- a process that has ended lives no more, and nobody else is changed
+-- ---- an ended process lives no more, and no other process changes
 module _ (p : ℕ) (gone : Process) (dead : gone.lives ≡ false) where
   ended-head : (c b : Bool) (q : ℕ) (e : ℕ × Process) (before after : Option Process) → (option_map_or (λ (x : Process). x.lives) after false ≡ true → option_map_or (λ (x : Process). x.lives) before false ≡ true)
       → option_map_or (λ (x : Process). x.lives) (cond c (Some (cond b gone e.1)) (cond b before after)) false ≡ true → option_map_or (λ (x : Process). x.lives) (cond c (Some e.1) before) false ≡ true

@@ -1,4 +1,4 @@
--- A new process goes last.
+-- A new process is the last.
 use Rattle.indexmap.proofs.CallerLemmas.{insert_entry-new}
 
 pub ruleset enrolling = (insert_entry-new)

@@ -1,4 +1,4 @@
--- A change of a table under its head leaves all heads as they are.
+-- A change of a table under its metadata changes no metadata.
 use Rattle.std.proofs.Common.{◌≡◌, ℕ, zero, suc, [], ◌∷◌, ◌++◌, Option, Some, refl, sym, ap, length}
 use Rattle.std.specs.Prelude.{slice_set}
 use Rattle.fixed_walk.specs.Fixed.{Fixed}
@@ -10,7 +10,7 @@ heads-same [] t table f e = refl
 heads-same (x ∷ xs) zero table f e = let same : x ≡ Some table = e in rw same refl
 heads-same (x ∷ xs) (suc t) table f e = ap (λ hs. head_of x ∷ hs) (heads-same xs t table f e)
 
--- what is written under the head of the table at a place
+-- the table at a place under the same metadata
 pub fixed-there : (tables : Tables) (t : ℕ) (table : Table) (f : Fixed) → table_at tables t ≡ Some table → slice_set tables t (Some (record table { fixed = f })) ≡ with_fixed tables t f
 fixed-there tables t table f e = ap (λ o. slice_set tables t (fixed_in o f)) (sym e)
 
@@ -33,13 +33,13 @@ pub length-heads : (tables : Tables) → length (heads tables) ≡ length tables
 length-heads [] = refl
 length-heads (x ∷ xs) = ap suc (length-heads xs)
 
--- what stands over the tables, where one place is written
+-- the metadata of the tables after one place is written
 pub heads-set : (tables : Tables) (t : ℕ) (o : Option Table) → heads (slice_set tables t o) ≡ slice_set (heads tables) t (head_of o)
 heads-set [] t o = refl
 heads-set (x ∷ xs) zero o = refl
 heads-set (x ∷ xs) (suc t) o = ap (λ hs. head_of x ∷ hs) (heads-set xs t o)
 
--- the same where it is written twice
+-- the same after two writes of one place
 pub heads-again : (tables : Tables) (t : ℕ) (d o : Option Table) → heads (slice_set (slice_set tables t d) t o) ≡ slice_set (heads tables) t (head_of o)
 heads-again [] t d o = refl
 heads-again (x ∷ xs) zero d o = refl

@@ -1,4 +1,4 @@
--- What stands beside the tables stays right at each change of them.
+-- Each change of the tables preserves the invariant of the indices.
 use Rattle.std.proofs.Common.{◌≡◌, ℕ, ◌+◌, ◌<◌, ◌≤◌, ◌⊎◌, zero, suc, true, false, List, [], ◌∷◌, ◌++◌, Option, None, Some, inl, inr, refl, sym, ap, subst, true≢false, ◌∙◌, length, set, map, arith, length-append}
 use Rattle.std.specs.Prelude.{vec_capacity, option_map}
 use Rattle.indexmap.specs.IndexMap.{get_by_text}
@@ -59,7 +59,7 @@ place-push tables o u table e = by (cases_eq u (length tables)) (cases_lt u (len
         let none : table_at (tables ++ o ∷ []) u ≡ None = get_or_past (tables ++ o ∷ []) u None beyond in
         absurd (cc (none, e))
 
--- the table under a head
+-- the table under its metadata
 headed : (o : Option Table) (head : Head) → head_of o ≡ Some head → (table : Table) × (o ≡ Some table) × (table.head ≡ head)
 headed None head e = absurd (cc)
 headed (Some table) head e = (table, refl, same_Some _ _ e)
@@ -72,12 +72,12 @@ owners-by owned tables each t head at =
 owner-at : (owned : ℕ → List ℕ) (tables : Tables) → ByOwner owned (heads tables) → (t : ℕ) (table : Table) → table_at tables t ≡ Some table → Among t (owned table.head.owner)
 owner-at owned tables by_owner t table e = by_owner t table.head (head-there tables t ∙ ap head_of e)
 
--- all tables of a process are among those that stand under it
+-- all tables of a process are among those under it in the index
 pub owned-all : (owned : ℕ → List ℕ) (tables : Tables) (p : ℕ) → ByOwner owned (heads tables) → AreOwned (owned p) p tables
 owned-all owned tables p by_owner t table e own = subst (λ q. Among t (owned q)) (same-number table.head.owner p own) (owner-at owned tables by_owner t table e)
 
 module _ (indices : Indices) (tables : Tables) (kept : IsKept indices tables) where
-  -- more is noted under owners
+  -- more tables are listed under owners
   pub kept-notes : (new : Indices) → Notes indices new → IsKept new tables
   kept-notes new notes = subst (λ (i : Indices). IsKept i tables) (sym notes.rest) (record {
     few = kept.few;
@@ -88,15 +88,15 @@ module _ (indices : Indices) (tables : Tables) (kept : IsKept indices tables) wh
     noted = kept.noted;
   })
 
-  -- others are noted as fixed
+  -- other tables are listed as fixed
   pub kept-beside : (now : Vec ℕ Global) (next : Option ℕ) → AreNoted now.items next tables → length tables ≤ vec_capacity now → IsKept (record indices { fixed = now; lent = next }) tables
   kept-beside now next noted room = record { few = kept.few; room = room; by_name = kept.by_name; by_owner = kept.by_owner; order = kept.order; noted = noted }
 
-  -- a table is lent
+  -- a table is marked dirty
   pub kept-lend : indices.lent ≡ None → (id : ℕ) → IsKept (record indices { lent = Some id }) tables
   kept-lend none id = kept-beside indices.fixed (Some id) (noted-lent indices.fixed.items id tables (subst (λ lent. AreNoted indices.fixed.items lent tables) none kept.noted)) kept.room
 
-  -- there is more room
+  -- there is more capacity
   pub kept-room : (new : Indices) → new ≡ record indices { fixed = new.fixed } → new.fixed.items ≡ indices.fixed.items → vec_capacity indices.fixed ≤ vec_capacity new.fixed → IsKept new tables
   kept-room new rest items more = subst (λ (i : Indices). IsKept i tables) (sym rest) (kept-beside new.fixed indices.lent (subst (λ ids. AreNoted ids indices.lent tables) (sym items) kept.noted) (omega (arith, kept.room, more)))
 
@@ -131,7 +131,7 @@ module _ (indices : Indices) (tables : Tables) (kept : IsKept indices tables) wh
   pub kept-same : (t : ℕ) (o : Option Table) → table_at tables t ≡ o → IsKept indices (set tables t o)
   kept-same t o at = subst (λ (ts : Tables). IsKept indices ts) (sym (ap (set tables t) (sym at) ∙ same-place tables t)) kept
 
-  -- a table that keeps its objects and fixes keeps what is noted of it
+  -- a table that keeps its objects and fixes keeps its entries
   pub noted-same : (t : ℕ) (old new : Table) → table_at tables t ≡ Some old → new.fixed ≡ old.fixed → (indices.lent ≡ Some t) ⊎ Among t indices.fixed.items ⊎ IsIdle new.fixed
   noted-same t old new at same = by (kept.noted.each t old at)
     where
@@ -140,7 +140,7 @@ module _ (indices : Indices) (tables : Tables) (kept : IsKept indices tables) wh
       by (inr (inl among)) = inr (inl among)
       by (inr (inr idle)) = inr (inr (subst IsIdle (sym same) idle))
 
-  -- the table at a place, if there is one, has another head, of the same name
+  -- the table at a place, if it exists, gets other metadata with the same name
   kept-headed : (t : ℕ) (o : Option Table) (change : Table → Table) → table_at tables t ≡ o → ((table : Table) (name : List ℕ) → is_named name (Some (change table).head) ≡ is_named name (Some table.head)) → ((table : Table) → (change table).fixed ≡ table.fixed)
       → ((table : Table) → table_at tables t ≡ Some table → Among t (ids_under indices (change table).head.owner)) → IsKept indices (set tables t (option_map change o))
   kept-headed t None change e same holds own = kept-set indices refl t None (names-none (get_by_text indices.names) tables t e kept.by_name) (λ table is. absurd (cc))
@@ -154,13 +154,13 @@ module _ (indices : Indices) (tables : Tables) (kept : IsKept indices tables) wh
   pub kept-heir : (t : ℕ) (heir : Option Heir) → IsKept indices (changed (with_heir heir) tables t)
   kept-heir t heir = kept-headed t (table_at tables t) (with_heir heir) refl (λ table name. refl) (λ table. refl) (λ table e. owner-at (ids_under indices) tables kept.by_owner t table e)
 
-  -- the table that is lent is anything under its head
+  -- the dirty table changes under its metadata
   pub kept-fixed : (t : ℕ) (table : Table) (f : Fixed) → table_at tables t ≡ Some table → indices.lent ≡ Some t → IsKept indices (set tables t (Some (record table { fixed = f })))
   kept-fixed t table f e last =
       kept-set indices refl t (Some (record table { fixed = f })) (subst (ByName (get_by_text indices.names)) (sym (heads-same tables t table f e)) kept.by_name)
       (λ it is. let same = same_Some _ _ is in subst (λ (x : Table). Among t (ids_under indices x.head.owner) × ((indices.lent ≡ Some t) ⊎ Among t indices.fixed.items ⊎ IsIdle x.fixed)) same (owner-at (ids_under indices) tables kept.by_owner t table e, inl last))
 
-  -- a table keeps its name, and a process lets go of it
+  -- a table keeps its name, and the fixes of a process are released
   pub kept-released : (p t : ℕ) (old new : Table) → table_at tables t ≡ Some old → new.fixed ≡ all_released p old.fixed → ((name : List ℕ) → is_named name (Some new.head) ≡ is_named name (Some old.head)) → Among t (ids_under indices new.head.owner)
       → IsKept indices (set tables t (Some new))
   kept-released p t old new at left same own =
@@ -195,7 +195,7 @@ module _ (indices : Indices) (tables : Tables) (kept : IsKept indices tables) wh
       each u it (inl is) = inl (last ∙ ap Some (sym is.0))
       each u it (inr there) = kept.noted.each u it there
 
--- a table that is settled and not gone keeps its name, and who owns it has it written down
+-- a table that is reassigned and not deleted keeps its name, and its owner has it in the index
 pub kept-left : (ps : Processes) (p : ℕ) (indices : Indices) (tables : Tables) → IsKept indices tables → AreBequeathed indices ps p tables → (t : ℕ) (new : Table) → table_after ps p (table_at tables t) ≡ Some new → IsKept indices (set tables t (Some new))
 kept-left ps p indices tables kept heirs t new is = by (left-over ps p (table_at tables t) new is)
   where
@@ -212,7 +212,7 @@ kept-left ps p indices tables kept heirs t new is = by (left-over ps p (table_at
         owner (inl same) = subst (λ (h : Head). Among t (ids_under indices h.owner)) (sym same.0) (owner-at (ids_under indices) tables kept.by_owner t left.table left.was)
         owner (inr passed) = subst (λ (h : Head). Among t (ids_under indices h.owner)) (sym passed.3) (heirs t left.table passed.0 left.was passed.2 passed.1)
 
--- a table of the process is settled, and its others still stand under their heirs
+-- a table of the process is reassigned, and its other tables are still under their heirs
 pub bequeathed-still : (ps : Processes) (p : ℕ) → lives ps p ≡ false → (old new : Indices) (tables : Tables) → new ≡ record old { names = new.names } → (t : ℕ) → AreBequeathed old ps p tables → AreBequeathed new ps p (set tables t (table_after ps p (table_at tables t)))
 bequeathed-still ps p dead old new tables rest t heirs u table heir at own lived = subst (λ (i : Indices). Among u (ids_under i heir.pid)) (sym rest) (by (place-set tables t _ u table at))
   where
@@ -220,7 +220,7 @@ bequeathed-still ps p dead old new tables rest t heirs u table heir at own lived
     by (inl is) = absurd (true≢false (sym own ∙ left-others ps p dead (table_at tables t) table (left-over ps p (table_at tables t) table is.1)))
     by (inr there) = heirs u table heir there own lived
 
--- nothing need stand under a process that has ended
+-- an ended process needs no entry
 pub owners-forgotten : (ps : Processes) (p : ℕ) → lives ps p ≡ false → (start tables : Tables) (old new : Indices) → Forgets p old new → ByOwner (ids_under old) (heads tables) → tables ≡ map (table_after ps p) start → ByOwner (ids_under new) (heads tables)
 owners-forgotten ps p dead start tables old new forgets by_owner is =
     owners-by (ids_under new) tables (λ t table e.
@@ -230,7 +230,7 @@ owners-forgotten ps p dead start tables old new forgets by_owner is =
 none-named : (names : List ℕ → Option ℕ) → ((name : List ℕ) → names name ≡ None) → ByName names []
 none-named names none name t = (λ found. let is : None ≡ Some t = sym (none name) ∙ found in absurd (cc), λ named. absurd (true≢false (sym named)))
 
--- where there is no table
+-- the table does not exist
 pub kept-empty : (indices : Indices) → ((name : List ℕ) → get_by_text indices.names name ≡ None) → ((p : ℕ) → ids_under indices p ≡ []) → indices.fixed.items ≡ [] → IsKept indices []
 kept-empty indices none nobody no-fixed = record {
   few = omega arith;

@@ -1,4 +1,4 @@
--- A table that keeps its name keeps the index.
+-- A table that keeps its name preserves the index by name.
 use Rattle.std.proofs.Common.{◌≡◌, ◌<◌, ◌≤◌, ◌⊎◌, ℕ, zero, suc, List, [], ◌∷◌, Option, None, Some, inl, inr, refl, sym, ap, subst, ◌∙◌, length, arith}
 use Rattle.std.specs.Prelude.{slice_set}
 use Rattle.std.proofs.lemmas.Bool.{cases_lt}
@@ -8,7 +8,7 @@ use Rattle.ownership.specs.inside.Names.{head_at, ByName}
 use Rattle.ownership.proofs.Heads.{heads-set, head-there}
 use Rattle.ownership.proofs.Naming.{names_kept, written, is_within}
 
--- a place that is not there is not written
+-- a place that does not exist is not written
 set-past : (hs : List (Option Head)) (t : ℕ) (o : Option Head) → length hs ≤ t → slice_set hs t o ≡ hs
 set-past [] t o h = refl
 set-past (x ∷ hs) zero o h = absurd (omega (arith, h))
@@ -21,7 +21,7 @@ names-stay names tables t old new was same index =
     subst (ByName names) (sym (heads-set tables t (Some new)))
     (names_kept names (heads tables) _ t (Some new.head) index (written (heads tables) t (Some new.head) (is_within (heads tables) t old.head at)) (λ name. same name ∙ ap (is_named name) (sym at)))
 
--- a place that is empty stays so
+-- an empty place stays empty
 pub names-none : (names : List ℕ → Option ℕ) (tables : Tables) (t : ℕ) → table_at tables t ≡ None → ByName names (heads tables) → ByName names (heads (slice_set tables t None))
 names-none names tables t was index = subst (ByName names) (sym (heads-set tables t None)) (by (cases_lt t (length (heads tables))))
   where

@@ -1,4 +1,4 @@
--- The index by name: what it finds, and that each change of the tables keeps it.
+-- The index by name: what it finds, and that each change of the tables preserves it.
 use Rattle.std.proofs.Common.{◌≡◌, ◌≢◌, ℕ, ◌<◌, ◌≤◌, ◌&&◌, ◌⊎◌, Bool, true, false, cond, List, [], ◌∷◌, ◌++◌, Option, None, Some, refl, sym, ap, ◌∙◌, length, set, arith, inl, inr, true≢false, length-append}
 use Rattle.std.specs.Prelude.{◌↔◌}
 use Rattle.std.specs.Str.{bytes_eq}
@@ -38,7 +38,7 @@ written tables place now within = record {
   there = λ t other. get_or-set_other tables place t now None other;
 }
 
--- where a table is, there is a place
+-- a table has a place
 pub is_within : (tables : List (Option Head)) (t : ℕ) (head : Head) → head_at tables t ≡ Some head → t < length tables
 is_within tables t head at = elim (cases_lt t (length tables)) [
   | inl within ↦ within
@@ -70,7 +70,7 @@ name-found names tables index name = by (names name) (find_named tables name) re
         cc
 
 module _ (names : List ℕ → Option ℕ) (old new : List (Option Head)) (place : ℕ) (now : Option Head) (index : ByName names old) (change : ChangesAt place now old new) where
-  -- a change of a table that keeps what it is named
+  -- a change of a table that keeps its name
   pub names_kept : ((name : List ℕ) → is_named name now ≡ is_named name (head_at old place)) → ByName names new
   names_kept same name t =
       let as_before : is_named name (head_at new t) ≡ is_named name (head_at old t) = by (cases_eq t place) in
@@ -80,7 +80,7 @@ module _ (names : List ℕ → Option ℕ) (old new : List (Option Head)) (place
       by (inl here) = ap (λ i. is_named name (head_at new i)) here ∙ ap (is_named name) change.here ∙ same name ∙ ap (λ i. is_named name (head_at old i)) (sym here)
       by (inr other) = ap (is_named name) (change.there t other)
 
--- a table more with a name that none has
+-- a table more with a free name
 module _ (names after : List ℕ → Option ℕ) (old new : List (Option Head)) (table : Head) (index : ByName names old) (change : ChangesAt (length old) (Some table) old new)
     (named : table.named ≡ true) (free : names table.name ≡ None) (updated : (q : List ℕ) → after q ≡ cond (bytes_eq table.name q) (Some (length old)) (names q)) where
   more_at : (q : List ℕ) (t : ℕ) (b : Bool) → bytes_eq table.name q ≡ b → (t ≡ length old) ⊎ (t ≡ length old → ⊥) → (after q ≡ Some t) ↔ (is_named q (head_at new t) ≡ true)

@@ -1,4 +1,4 @@
--- Tables that may be fixed: what is noted of the one that was lent, and what the end of a process makes of it.
+-- Tables that may be fixed: the entry of the dirty table, and the entries after the end of a process.
 use Rattle.std.proofs.Common.{◌≡◌, ℕ, ◌<◌, ◌⊎◌, zero, suc, List, [], ◌∷◌, None, Some, Result, Ok, Err, OnOk, IsOk, inl, inr, sym, ap, subst, ◌∙◌, length, arith}
 use Rattle.std.proofs.lemmas.Option.{same_Some}
 use Rattle.ownership.specs.World.{Table, Tables, table_at}
@@ -14,7 +14,7 @@ on-ok (Ok done) h p = p
 on-ok (Err error) h p = absurd (cc)
 
 module _ (tables : Tables) (ids : List ℕ) (last : ℕ) (table : Table) (at : table_at tables last ≡ Some table) (noted : AreNoted ids (Some last) tables) where
-  -- the table lent last is put in
+  -- the dirty table is inserted
   pub noted-put : (new : List ℕ) → IsPutIn ids last new → AreNoted new None tables
   noted-put new put = record {
     order = put.order 0 (length tables) (omega arith) (is-there tables last table at) noted.order;
@@ -37,7 +37,7 @@ module _ (tables : Tables) (ids : List ℕ) (last : ℕ) (table : Table) (at : t
       by t own there (inr (inl among)) = inr (inl among)
       by t own there (inr (inr idle)) = inr (inr idle)
 
--- another is lent
+-- another table is marked dirty
 pub noted-lent : (ids : List ℕ) (id : ℕ) (tables : Tables) → AreNoted ids None tables → AreNoted ids (Some id) tables
 noted-lent ids id tables noted = record { order = noted.order; each = λ t own there. by t own (noted.each t own there) }
   where

@@ -1,4 +1,4 @@
--- The index by owner: what is noted stays, and what the end of a process makes of it.
+-- The index by owner: entries stay, and the end of a process removes its own.
 use Rattle.std.proofs.Common.{◌≡◌, ℕ, ◌<◌, ◌⊎◌, nat_eq, Bool, true, false, cond, List, [], ◌∷◌, Option, None, Some, Result, Ok, Err, OnOk, OnErr, inl, inr, refl, sym, ap, subst, true≢false, ◌∙◌, arith}
 use Rattle.std.specs.Option.{option_map_or}
 use Rattle.std.specs.declared.alloc.Global.{Global}
@@ -19,12 +19,12 @@ own-number n = grind (arith, nat_tests)
 other-number : (m n : ℕ) → nat_eq m n ≡ false → nat_eq n m ≡ false
 other-number m n h = grind (arith, nat_tests)
 
--- more may stand under owners
+-- more tables may be under owners
 pub record AddsUnder (old new : ℕ → List ℕ) : Type 0 where
   pub more : (p t : ℕ) → Among t (old p) → Among t (new p)
   pub order : Ascend old → Ascend new
 
--- what stands in an entry of the index
+-- the tables of an entry
 abbrev pub ids_in : Option (Vec ℕ Global) → List ℕ
 ids_in entry = option_map_or (λ ids. ids.items) entry []
 
@@ -42,7 +42,7 @@ module _ (before after : ℕ → Option (Vec ℕ Global)) (owner id : ℕ) (ids 
     order-at true p e a = put.order 0 4294967296 (omega arith) below (a owner)
     order-at false p e a = a p
 
-    -- an identifier more under an owner, in a new entry or one that was there
+    -- an identifier more under an owner, in a new entry or an old one
     pub noted : AddsUnder (λ p. ids_in (before p)) (λ p. ids_in (after p))
     noted = record {
       more = λ p t a. subst (Among t) (sym (now-is p (nat_eq owner p) refl)) (more-at (nat_eq owner p) p t refl a);
@@ -56,7 +56,7 @@ module _ (before after : ℕ → Option (Vec ℕ Global)) (owner id : ℕ) (ids 
   same-at true p e s = s ∙ ap (λ q. ids_in (before q)) (same-number owner p e)
   same-at false p e s = refl
 
-  -- an entry written back as it was
+  -- an entry written back unchanged
   pub noted-same : ids.items ≡ ids_in (before owner) → AddsUnder (λ p. ids_in (before p)) (λ p. ids_in (after p))
   noted-same s =
       let same : (p : ℕ) → ids_in (after p) ≡ ids_in (before p) = λ p. now-is p (nat_eq owner p) refl ∙ same-at (nat_eq owner p) p refl s in
@@ -66,7 +66,7 @@ forgotten-at : (b : Bool) (entry : Option (Vec ℕ Global)) → ids_in (cond b N
 forgotten-at true entry = refl
 forgotten-at false entry = refl
 
--- an entry that is taken out
+-- an entry is removed
 pub forgotten : (before after : ℕ → Option (Vec ℕ Global)) (owner : ℕ) → ((q : ℕ) → after q ≡ cond (nat_eq owner q) None (before q)) → (p : ℕ) → ids_in (after p) ≡ cond (nat_eq owner p) [] (ids_in (before p))
 forgotten before after owner updated p = ap ids_in (updated p) ∙ forgotten-at (nat_eq owner p) (before p)
 
@@ -82,11 +82,11 @@ module _ (owner : ℕ) (old new : Indices) (forgets : Forgets owner old new) whe
   among-left true t ids e a = absurd (true≢false e)
   among-left false t ids e a = a
 
-  -- what stands under others stays
+  -- the entries of other owners stay
   pub forgets-others : (p t : ℕ) → nat_eq p owner ≡ false → Among t (ids_under old p) → Among t (ids_under new p)
   forgets-others p t e a = subst (Among t) (sym (forgets.gone p)) (among-left (nat_eq owner p) t (ids_under old p) (other-number p owner e) a)
 
--- the first that stands under an owner
+-- the first table under an owner
 pub put-first : (id : ℕ) → IsPutIn [] id (id ∷ [])
 put-first id = record { here = inl refl; more = λ t a. absurd a; order = λ low high l u b. (l, omega (arith, u)) }
 
@@ -100,7 +100,7 @@ notes-more old mid new first next = record {
   order = λ a. next.order (first.order a);
 }
 
--- what it comes to that one is put in, or memory is refused
+-- the result of an insertion, or memory is refused
 pub noted-either : {E : Type 0} (r : Result (Unit {0}) E) (before after : ℕ → Option (Vec ℕ Global)) (owner id : ℕ) (ids : Vec ℕ Global) → ((q : ℕ) → after q ≡ cond (nat_eq owner q) (Some ids) (before q)) → id < 4294967296
     → OnOk r (IsPutIn (ids_in (before owner)) id ids.items) → OnErr r (ids.items ≡ ids_in (before owner)) → AddsUnder (λ p. ids_in (before p)) (λ p. ids_in (after p))
 noted-either (Ok done) before after owner id ids updated below put same = noted before after owner id ids updated put below

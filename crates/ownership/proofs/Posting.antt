@@ -1,4 +1,4 @@
--- A message that is taken back leaves the processes as they were.
+-- A message that is removed again leaves the processes as they were.
 use Rattle.std.proofs.Common.{◌≡◌, ℕ, ◌==◌, Bool, true, false, cond, List, [], ◌∷◌, ◌++◌, Option, None, Some, refl, sym, ap, ◌∙◌}
 use Rattle.std.specs.Option.{option_map_or}
 use Rattle.std.specs.Prelude.{MatchOption}
@@ -39,7 +39,7 @@ post-is before p message process e = ap (λ o. option_map_or (λ own. set_value 
 post-none : (before : List (ℕ × Process)) (p : ℕ) (message : Term) → process_at before p ≡ None → post before p message ≡ before
 post-none before p message e = ap (λ o. option_map_or (λ own. set_value (λ q. p == q) before (with_message own message)) o before) e
 
--- the process that has a message more, with it taken off, is the process before
+-- a process with one more message, without its last one, is the process before
 taken_at : (o : Option Process) (before now new : List (ℕ × Process)) (p : ℕ) (message : Term) (own left : Process) → process_at before p ≡ o → now ≡ post before p message → process_at now p ≡ Some own
     → ((mailbox : List Term) (lives : Bool) → own ≡ record { lives = lives; mailbox = mailbox ++ message ∷ [] } → left ≡ record { lives = lives; mailbox = mailbox }) → new ≡ set_value (λ q. p == q) now left → new ≡ before
 taken_at None before now new p message own left e posted there took is =
@@ -58,7 +58,7 @@ pub taken : (before now new : List (ℕ × Process)) (p : ℕ) (message : Term) 
     → ((mailbox : List Term) (lives : Bool) → own ≡ record { lives = lives; mailbox = mailbox ++ message ∷ [] } → left ≡ record { lives = lives; mailbox = mailbox }) → new ≡ set_value (λ q. p == q) now left → new ≡ before
 taken before now new p message own left posted there took is = taken_at (process_at before p) before now new p message own left refl posted there took is
 
--- where there is no such process, nothing was posted
+-- if the process does not exist, nothing was posted
 absent_at : (o : Option Process) (before now : List (ℕ × Process)) (p : ℕ) (message : Term) → process_at before p ≡ o → now ≡ post before p message → process_at now p ≡ None → now ≡ before
 absent_at None before now p message e posted none = posted ∙ post-none before p message e
 absent_at (Some process) before now p message e posted none =
@@ -83,7 +83,7 @@ init-same (a ∷ xs) (b ∷ ys) x y e =
     let same = init-same xs ys x y rest in
     λ i. first i ∷ same i
 
--- what `pop` leaves of a mailbox with a message more
+-- what `pop` leaves of a mailbox with one more message
 pub popped : (o : Option Term) (old new mailbox : List Term) (message : Term) → MatchOption o ((old ≡ []) × (new ≡ [])) (λ last. old ≡ new ++ last ∷ []) → old ≡ mailbox ++ message ∷ [] → new ≡ mailbox
 popped None old new mailbox message p e = absurd (no-empty mailbox message (sym e ∙ p.0))
 popped (Some last) old new mailbox message p e = init-same new mailbox last message (sym p ∙ e)

@@ -1,4 +1,4 @@
--- Where a process has ended: the tables that are settled so far, and what stands beside them.
+-- After the end of a process: the tables reassigned so far, and the indices.
 use Rattle.std.proofs.Common.{◌≡◌, ℕ, false, List, [], ◌∷◌, ◌++◌, None, refl, sym, ap, subst, ◌∙◌, set, map, filter, arith}
 use Rattle.std.specs.Prelude.{vec_capacity}
 use Rattle.ownership.specs.declared.indices.Indices.{Indices}
@@ -27,7 +27,7 @@ settled-none now ps p tables kept lent heirs = record {
 }
 
 module _ (ps : Processes) (p : ℕ) (dead : lives ps p ≡ false) (now : Indices) where
-  -- one more is
+  -- one more table is reassigned
   pub settled-more : (ids : List ℕ) (id : ℕ) (old mid new : Tables) → Settled now ps p ids old mid → (next : Indices) → next ≡ record now { names = next.names } → IsKept next new → new ≡ set mid id (table_after ps p (table_at mid id)) → Settled next ps p (ids ++ id ∷ []) old new
   settled-more ids id old mid new settled next rest kept is = record {
     kept = kept;
@@ -38,18 +38,18 @@ module _ (ps : Processes) (p : ℕ) (dead : lives ps p ≡ false) (now : Indices
   }
 
   module _ (own : List ℕ) (old new : Tables) (owned : AreOwned own p old) (settled : Settled now ps p (own ++ now.fixed.items) old new) where
-    -- then all are
+    -- then all tables are
     pub settled-all : new ≡ map (table_after ps p) old
     settled-all = settles-all ps p dead old own now.fixed.items settled.noted owned new settled.settles
 
-    -- those that nobody fixes any more are not noted
+    -- tables that nobody fixes are not listed
     pub kept-fixed-only : (next : Indices) → next ≡ record now { fixed = next.fixed } → next.fixed.items ≡ filter (is_fixed_at new) now.fixed.items → vec_capacity next.fixed ≡ vec_capacity now.fixed → IsKept next new
     kept-fixed-only next rest items room =
         let noted : AreNoted next.fixed.items None new = subst (λ ids. AreNoted ids None new) (sym items) (noted-after ps p dead old own now.fixed.items settled.noted owned new settled-all) in
         let kept : IsKept (record now { fixed = next.fixed; lent = None }) new = kept-beside now new settled.kept next.fixed None noted (omega (arith, settled.kept.room, room)) in
         subst (λ (i : Indices). IsKept i new) (sym rest) (subst (λ l. IsKept (record now { fixed = next.fixed; lent = l }) new) (sym settled.lent) kept)
 
-    -- nothing stands under the process
+    -- no table is under the process
     pub kept-forgotten : (next last : Indices) → IsKept next new → Forgets p next last → IsKept last new
     kept-forgotten next last kept forgets = subst (λ (i : Indices). IsKept i new) (sym forgets.rest) (record {
       few = kept.few;

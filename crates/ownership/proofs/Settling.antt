@@ -1,4 +1,4 @@
--- Tables settled one by one, where the process lives no more: those that are neither its own nor noted are settled from the first.
+-- Tables reassigned one by one after the end of a process. The idle tables of other processes need no visit.
 use Rattle.std.proofs.Common.{◌≡◌, ℕ, ◌⊎◌, nat_eq, zero, suc, Bool, true, false, cond, List, [], ◌∷◌, ◌++◌, Option, None, Some, inl, inr, refl, sym, ap, subst, true≢false, ◌∙◌, length, set, map, filter}
 use Rattle.std.specs.Option.{option_map_or}
 use Rattle.std.proofs.Math.ListN.{get_or-map}
@@ -24,7 +24,7 @@ use Rattle.ownership.specs.inside.Indices.{Among, Between, IsIdle, AreNoted, Are
 use Rattle.ownership.proofs.Ascending.{among-filter, between-filter, among-either, among-left, among-right}
 use Rattle.ownership.proofs.Owning.{same-number}
 
--- ---- to let go twice is to let go once
+-- ---- to release twice is to release once
 gone-twice : (m : FixCounts) (p : ℕ) → remove (remove m p) p ≡ remove m p
 gone-twice m p = same_map nat_cmp_total nat_cmp-IsAntisymmetric _ _ (λ q. get-remove nat_cmp_total (remove m p) p q ∙ either (eq_by_cmp nat_cmp q p) q refl)
   where
@@ -43,11 +43,11 @@ released-at false f p e =
 released-twice : (p : ℕ) (f : Fixed) → all_released p (all_released p f) ≡ all_released p f
 released-twice p f = released-at (is_fixed (remove f.fixes p)) f p refl
 
--- an idle table is left as it is
+-- an idle table stays as it is
 pub idle-stays : (p : ℕ) (f : Fixed) → IsIdle f → all_released p f ≡ f
 idle-stays p f idle = sym (free-release_all p f idle.0 (λ free. idle.1))
 
--- ---- a table that is settled twice
+-- ---- a table that is reassigned twice
 module _ (ps : Processes) (p : ℕ) (dead : lives ps p ≡ false) where
   heir-lives : (head : Head) (heir : Heir) → living_heir ps head ≡ Some heir → lives ps heir.pid ≡ true
   heir-lives head heir e = by head.heir e
@@ -83,11 +83,11 @@ module _ (ps : Processes) (p : ℕ) (dead : lives ps p ≡ false) where
   settled-twice None = refl
   settled-twice (Some table) = twice-at (owned_by table.head p) table (living_heir ps table.head) refl refl
 
-  -- an idle table of another is settled
+  -- an idle table of another process needs no visit
   pub settled-idle : (table : Table) → owned_by table.head p ≡ false → IsIdle table.fixed → table_after ps p (Some table) ≡ Some table
   settled-idle table other idle = rw other (ap (λ f. Some (record table { fixed = f })) (idle-stays p table.fixed idle))
 
--- ---- lists of tables that are settled at places
+-- ---- lists of tables that are reassigned at places
 module _ (after : Option Table → Option Table) (empty : after None ≡ None) (twice : (o : Option Table) → after (after o) ≡ after o) where
   pub map-at : (tables : Tables) (t : ℕ) → map after (set tables t (after (table_at tables t))) ≡ map after tables
   map-at [] t = refl
@@ -108,7 +108,7 @@ module _ (after : Option Table → Option Table) (empty : after None ≡ None) (
   pub settled-there : (tables : Tables) (t u : ℕ) → IsSettled after tables u → IsSettled after (set tables t (after (table_at tables t))) u
   settled-there tables t u s = settled-still tables t u s (cases_eq u t)
 
-  -- one more of them is settled
+  -- one more table is reassigned
   pub settles-more : (ids : List ℕ) (id : ℕ) (old mid new : Tables) → Settles after ids old mid → new ≡ set mid id (after (table_at mid id)) → Settles after (ids ++ id ∷ []) old new
   settles-more ids id old mid new settles is = record {
     same = ap (map after) is ∙ map-at mid id ∙ settles.same;
@@ -130,12 +130,12 @@ written-again [] t d o = refl
 written-again (x ∷ tables) zero d o = refl
 written-again (x ∷ tables) (suc t) d o = ap (λ rest. x ∷ rest) (written-again tables t d o)
 
--- where all are settled nothing comes of them
+-- if all tables are reassigned, nothing changes
 all-settled : (after : Option Table → Option Table) (tables : Tables) → ((t : ℕ) → IsSettled after tables t) → map after tables ≡ tables
 all-settled after [] s = refl
 all-settled after (o ∷ tables) s = let here = s 0 in let rest = all-settled after tables (λ t. s (suc t)) in λ i. here i ∷ rest i
 
--- ---- what an end makes of the tables
+-- ---- the tables after the end of a process
 pub record Left (ps : Processes) (p : ℕ) (o : Option Table) (new : Table) : Type 0 where
   pub table : Table
   pub was : o ≡ Some table
@@ -158,7 +158,7 @@ module _ (ps : Processes) (p : ℕ) where
   left-over (Some table) new e =
       left-at (owned_by table.head p) (living_heir ps table.head) table new refl refl e
 
--- the process owns none of them
+-- the process owns no table
 pub left-others : (ps : Processes) (p : ℕ) → lives ps p ≡ false → (o : Option Table) (new : Table) → Left ps p o new → owned_by new.head p ≡ false
 left-others ps p dead o new left = by left.head
   where
@@ -174,7 +174,7 @@ released-idle-at false p f e free =
     let once : all_released p f ≡ record f { content = record f.content { slots = purged f.content.slots }; fixes = remove f.fixes p } = rw e refl in
     subst IsIdle (sym once) (e, purged-none f.content.slots)
 
--- a table of which a process has let go, and that nobody fixes any more, is idle
+-- a table is idle if the fixes of the process were its last
 pub released-idle : (p : ℕ) (f : Fixed) → is_fixed (all_released p f).fixes ≡ false → IsIdle (all_released p f)
 released-idle p f free = released-idle-at (is_fixed (remove f.fixes p)) p f refl free
 
@@ -189,7 +189,7 @@ module _ (ps : Processes) (p : ℕ) (dead : lives ps p ≡ false) (old : Tables)
       by false is (inr (inl among)) = inr (inl among)
       by false is (inr (inr idle)) = inr (inr (settled-idle ps p dead table is idle))
 
-  -- to settle its own and those that are noted is to settle all
+  -- to reassign the tables of the process and the listed ones is to reassign all
   pub settles-all : (new : Tables) → Settles (table_after ps p) (own ++ fixed) old new → new ≡ map (table_after ps p) old
   settles-all new settles = sym (all-settled (table_after ps p) new each) ∙ settles.same
     where
@@ -201,7 +201,7 @@ module _ (ps : Processes) (p : ℕ) (dead : lives ps p ≡ false) (old : Tables)
       each : (t : ℕ) → IsSettled (table_after ps p) new t
       each t = by t (settled-first t (table_at old t) refl)
 
-  -- what is noted of them afterwards
+  -- the entries afterwards
   pub noted-after : (new : Tables) → new ≡ map (table_after ps p) old → AreNoted (filter (is_fixed_at new) fixed) None new
   noted-after new is = record {
     order = subst (λ n. Between 0 n (filter (is_fixed_at new) fixed)) (sym (ap (λ (ts : Tables). length ts) is ∙ length-map old (table_after ps p))) (between-filter (is_fixed_at new) 0 (length old) fixed noted.order);

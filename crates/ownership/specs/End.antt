@@ -14,20 +14,20 @@ use Rattle.ownership.specs.Heads.{owned_by}
 use Rattle.ownership.specs.Messages.{transfer, post_all}
 use Rattle.ownership.specs.Tables.{passed_to}
 
--- the process lives no more, and its messages are gone
+-- the processes after one has ended: it lives no more, and its messages are gone
 abbrev pub ended : Processes → ℕ → Processes
 ended processes p = set_value (λ q. p == q) processes (record { lives = false; mailbox = [] })
 
--- the heir of a table, where it lives
+-- the heir of a table, if the heir lives
 abbrev pub living_heir : Processes → Head → Option Heir
 living_heir processes head =
     option_and_then (λ heir. if lives processes heir.pid then Some heir else None) head.heir
 
--- a table without the fixes of a process; held slots go once nobody fixes it
+-- a table without the fixes of a process; tombstones go when nobody fixes the table
 abbrev pub let_go : ℕ → Table → Table
 let_go p table = record table { fixed = all_released p table.fixed }
 
--- what the end leaves of a table: one of its own goes to its heir where that lives, or is gone
+-- a table after its process ended: one that it owned passes to the living heir or is deleted
 abbrev pub table_after : Processes → ℕ → Option Table → Option Table
 table_after processes p None = None
 table_after processes p (Some table) =
@@ -40,21 +40,21 @@ abbrev pub receiver_of : Processes → ℕ → Table → Option Heir
 receiver_of processes p table =
     if owned_by table.head p then living_heir processes table.head else None
 
--- the message that a table brings to it
+-- the transfer message of a table, with its receiver
 abbrev pub message_of : Processes → ℕ → ℕ → Option Table → Option (ℕ × Term)
 message_of processes p t None = None
 message_of processes p t (Some table) =
     option_map (λ heir. (heir.pid, transfer table.head t p heir.gift))
     (receiver_of processes p table)
 
--- those of the tables from this identifier on, in order of creation
+-- the transfer messages of the tables from this identifier on, in order of creation
 abbrev pub messages_from : Processes → ℕ → ℕ → Tables → List (ℕ × Term)
 messages_from processes p t [] = []
 messages_from processes p t (table ∷ tables) =
     option_map_or (λ message. message ∷ messages_from processes p (suc t) tables)
     (message_of processes p t table) (messages_from processes p (suc t) tables)
 
--- its tables have changed hands or are gone, where these processes are left
+-- the world with these processes, after the tables of a process were passed on or deleted
 abbrev pub handed_over : World → Processes → ℕ → World
 handed_over w processes p =
     record w {
@@ -62,8 +62,8 @@ handed_over w processes p =
       tables = map (table_after processes p) w.tables;
     }
 
--- the process ends: it lives no more and so is no heir; its messages and fixes go, and so do its tables, each to its
--- living heir with the message
+-- The process must live. It then lives no more, so it is no heir. Its messages and fixes are gone. Each of its tables
+-- passes to its living heir with the message, or is deleted.
 abbrev pub End : World → ℕ → Outcome (Result (Unit {0}) WorldFault) World
 End old p =
     refuse old (not (lives old.processes p)) (Err NoProcess) (

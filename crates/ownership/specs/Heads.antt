@@ -1,4 +1,4 @@
--- Who may use a table (stdlib manual, module ets, section Table Access Rights).
+-- Access to tables (stdlib manual, module ets, section Table Access Rights).
 use Rattle.std.specs.Prelude.{ℕ, ◌==◌, ◌||◌, Bool, true, false}
 use Rattle.std.specs.Option.{option_map_or}
 use Rattle.ownership.specs.declared.head.Protection.{Protection}
@@ -19,14 +19,14 @@ others_write Private = false
 abbrev pub owned_by : Head → ℕ → Bool
 owned_by head p = head.owner == p
 
--- whether a process may read the table
+-- a process may read the table
 abbrev pub may_read : Head → ℕ → Bool
 may_read head p = owned_by head p || others_read head.protection
 
--- whether a process may write to it
+-- a process may write to the table
 abbrev pub may_write : Head → ℕ → Bool
 may_write head p = owned_by head p || others_write head.protection
 
--- whether the table is there and a process may use it so
+-- the table exists, and a process has this access
 abbrev pub may : (Head → ℕ → Bool) → Tables → ℕ → ℕ → Bool
 may access tables p t = option_map_or (λ table. access table.head p) (table_at tables t) false

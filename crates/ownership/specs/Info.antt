@@ -1,4 +1,4 @@
--- What can be asked of a table (stdlib manual, module ets, info/2).
+-- Information on a table (stdlib manual, module ets, info/2).
 use Rattle.std.specs.Prelude.{ℕ, pos, Bool, true, false, if◌then◌else◌, List, Option, Some, None, codes}
 use Rattle.std.specs.Option.{option_and_then}
 use Rattle.std.specs.Str.{bytes_eq}
@@ -34,7 +34,7 @@ word_item word =
     else if bytes_eq word (codes "id") then Some item.Id
     else table_item word
 
--- the item that a term names; None where it names none
+-- the item that a term names, None for any other term
 abbrev pub item_of : Term → Option InfoItem
 item_of term = option_and_then word_item (text_of term)
 
@@ -52,12 +52,12 @@ kind_word Set = codes "set"
 kind_word Bag = codes "bag"
 kind_word DuplicateBag = codes "duplicate_bag"
 
--- the heir that was set, whether or not it lives
+-- the heir that was set, living or not
 abbrev pub heir_term : Option Heir → Term
 heir_term None = Atom (codes "none")
 heir_term (Some heir) = Pid heir.pid
 
--- what there is to say of the table with this identifier
+-- the value of an item for the table with this identifier
 abbrev pub info_of : InfoItem → ℕ → Table → Term
 info_of item.Name t table = Atom table.head.name
 info_of item.NamedTable t table = truth table.head.named

@@ -1,5 +1,4 @@
--- Mailboxes, and the message that comes with a table (stdlib manual, module ets, give_away/3 and the option heir of
--- new/2).
+-- Mailboxes and the transfer message (stdlib manual, module ets, give_away/3 and the option heir of new/2).
 use Rattle.std.specs.Prelude.{ℕ, ◌==◌, ◌++◌, Bool, if◌then◌else◌, List, [], ◌∷◌, codes}
 use Rattle.std.specs.Option.{option_map_or}
 use Rattle.std.specs.Map.{set_value}
@@ -9,11 +8,11 @@ use Rattle.ownership.specs.declared.head.Head.{Head}
 use Rattle.ownership.specs.declared.process.Process.{Process}
 use Rattle.ownership.specs.World.{Processes, process_at}
 
--- a table as `new` answered it: the name of a named table, else the identifier
+-- the answer of `new`: the name of a named table, else the identifier
 abbrev pub told : Bool → List ℕ → ℕ → Term
 told named name t = if named then Atom name else Tid t
 
--- the message that the table with this head and identifier comes with, from the owner before
+-- the transfer message of a table, from the owner before
 abbrev pub transfer : Head → ℕ → ℕ → Term → Term
 transfer head t from gift =
     Tuple (Atom (codes "ETS-TRANSFER") ∷ told head.named head.name t ∷ Pid from ∷ gift ∷ [])
@@ -22,13 +21,13 @@ transfer head t from gift =
 abbrev pub with_message : Process → Term → Process
 with_message process message = record process { mailbox = process.mailbox ++ message ∷ [] }
 
--- a message at the end of a mailbox, if there is a process of this number
+-- the processes after a message to one of them; the same if it was not enrolled
 abbrev pub post : Processes → ℕ → Term → Processes
 post processes p message =
     option_map_or (λ process. set_value (λ q. p == q) processes (with_message process message))
     (process_at processes p) processes
 
--- messages in order, each with the process that it goes to
+-- messages in order, each with its receiver
 abbrev pub post_all : Processes → List (ℕ × Term) → Processes
 post_all processes [] = processes
 post_all processes (message ∷ messages) = post_all (post processes message.0 message.1) messages
@@ -37,7 +36,7 @@ post_all processes (message ∷ messages) = post_all (post processes message.0 m
 abbrev pub mailbox_of : Processes → ℕ → List Term
 mailbox_of processes p = option_map_or (λ process. process.mailbox) (process_at processes p) []
 
--- the process has received its messages
+-- the processes after one has received its messages
 abbrev pub received : Processes → ℕ → Processes
 received processes p =
     option_map_or (λ process. set_value (λ q. p == q) processes (record process { mailbox = [] }))

@@ -1,5 +1,5 @@
--- The options of `new`, and the heirs that `setopts` sets (stdlib manual, module ets, new/2 and setopts/2): read from
--- the left, a later one overriding an earlier.
+-- The options of `new`, and the heirs that `setopts` sets (stdlib manual, module ets, new/2 and setopts/2). Options
+-- are read from the left, a later one overriding an earlier.
 use Rattle.std.specs.Prelude.{ℕ, pos, nat_le, ◌&&◌, ◌||◌, Bool, true, false, if◌then◌else◌, List, [], ◌∷◌, Option, Some, None, codes, option_map}
 use Rattle.std.specs.Option.{option_and_then}
 use Rattle.std.specs.Str.{bytes_eq}
@@ -11,7 +11,7 @@ use Rattle.ownership.specs.declared.head.Heir.{Heir}
 use Rattle.ownership.specs.declared.head.Protection.TheVariants.{Public, Protected, Private}
 use Rattle.ownership.specs.declared.options.NewOptions.{NewOptions}
 
--- what holds where no option says otherwise
+-- the options of an empty list
 abbrev pub usual : NewOptions
 usual = record { kind = Set; keypos = 1; protection = Protected; named = false; heir = None }
 
@@ -26,16 +26,16 @@ pid_form _ = None
 abbrev pub is_boolean : Term → Bool
 is_boolean term = is_atom (codes "true") term || is_atom (codes "false") term
 
--- the option {keypos,N}; None where N is no position that keys can have
+-- the option {keypos,N}; None if N is not allowed
 abbrev pub keypos_option : ℕ → NewOptions → Option NewOptions
 keypos_option n options =
     if nat_le 1 n && nat_le n 4294967295 then Some (record options { keypos = n }) else None
 
--- the words that say how the table is to be used; they change nothing
+-- words that tune the table; they change nothing
 abbrev pub tuning_word : List ℕ → NewOptions → Option NewOptions
 tuning_word word options = if bytes_eq word (codes "compressed") then Some options else None
 
--- the words that say who uses the table
+-- words that set name and protection
 abbrev pub access_word : List ℕ → NewOptions → Option NewOptions
 access_word word options =
     if bytes_eq word (codes "public") then Some (record options { protection = Public })
@@ -44,7 +44,7 @@ access_word word options =
     else if bytes_eq word (codes "named_table") then Some (record options { named = true })
     else tuning_word word options
 
--- an option that is an atom; None where it is none
+-- an option that is an atom; None if it does not exist
 abbrev pub word_option : List ℕ → NewOptions → Option NewOptions
 word_option word options =
     if bytes_eq word (codes "set") then Some (record options { kind = Set })
@@ -52,7 +52,7 @@ word_option word options =
     else if bytes_eq word (codes "duplicate_bag") then Some (record options { kind = DuplicateBag })
     else access_word word options
 
--- what {heir,none} and {heir,Pid,Data} say; None where a tuple says nothing of an heir
+-- {heir,none} or {heir,Pid,Data}; None for any other tuple
 abbrev pub heir_said : List Term → Option (Option Heir)
 heir_said (name ∷ none ∷ []) =
     if is_atom (codes "heir") name && is_atom (codes "none") none then Some None else None
@@ -62,7 +62,7 @@ heir_said (name ∷ pid ∷ gift ∷ []) =
     else None
 heir_said _ = None
 
--- the tuples that say how the table is to be used; they change nothing
+-- tuples that tune the table; they change nothing
 abbrev pub is_tuning : Term → Term → Bool
 is_tuning name value =
     if is_atom (codes "read_concurrency") name then is_boolean value
@@ -78,17 +78,17 @@ pair_option name value options =
     else if is_tuning name value then Some options
     else None
 
--- an option that is a tuple and says nothing of an heir; None where it is none
+-- an option that is a tuple without an heir; None if it does not exist
 abbrev pub plain_tuple : List Term → NewOptions → Option NewOptions
 plain_tuple (name ∷ value ∷ []) options = pair_option name value options
 plain_tuple _ options = None
 
--- what comes of a tuple, where this is what it says of an heir
+-- the options after a tuple that names this heir, or no heir
 abbrev pub tuple_saying : Option (Option Heir) → List Term → NewOptions → Option NewOptions
 tuple_saying (Some heir) elements options = Some (record options { heir = heir })
 tuple_saying None elements options = plain_tuple elements options
 
--- an option that is a tuple; None where it is none
+-- an option that is a tuple; None if it does not exist
 abbrev pub tuple_option : List Term → NewOptions → Option NewOptions
 tuple_option elements options = tuple_saying (heir_said elements) elements options
 
@@ -106,11 +106,11 @@ abbrev pub options_form : Term-F Term → Option NewOptions
 options_form (Term-F.List terms) = options_from usual terms
 options_form _ = None
 
--- the options that a term tells; None where it is no list of options
+-- the options of a term; None if it is not a list of options
 abbrev pub options_of : Term → Option NewOptions
 options_of term = options_form (out-Term term)
 
--- one entry of setopts; None where it is none
+-- one option of setopts; None for any other term
 abbrev pub heir_form : Term-F Term → Option (Option Heir)
 heir_form (Term-F.Tuple elements) = heir_said elements
 heir_form _ = None
@@ -124,7 +124,6 @@ abbrev pub heirs_form : Option Heir → Term-F Term → Option (Option Heir)
 heirs_form heir (Term-F.List terms) = heirs_from heir terms
 heirs_form heir form = heir_form form
 
--- the heir that stands after setopts, where this one stood before; None where the term is neither an entry nor a list
--- of such
+-- the heir after setopts, with the heir before; None if the term is neither an option nor a list of options
 abbrev pub heir_after : Option Heir → Term → Option (Option Heir)
 heir_after heir term = heirs_form heir (out-Term term)

@@ -1,11 +1,11 @@
--- What a call may come to.
+-- The results of a call.
 use Rattle.std.specs.Prelude.{◌≡◌, Result, Ok, Err, Option, Some, None}
 use Rattle.table_ops.specs.Outcomes.{Outcome}
 use Rattle.ownership.specs.declared.fault.WorldFault.{WorldFault}
 use Rattle.ownership.specs.declared.fault.WorldFault.TheVariants.{Badarg, SystemLimit, NoProcess, Memory}
 use Rattle.ownership.specs.World.{World}
 
--- an answer or a refusal of the outcome; or no memory, and nothing has changed
+-- an answer or a refusal of the outcome, or out of memory with the world unchanged
 abbrev pub Comes : {X : Type 0} → Outcome (Result X WorldFault) World → World
     → Outcome (Result X WorldFault) World
 Comes outcome old (Ok x) new = outcome (Ok x) new
@@ -14,7 +14,7 @@ Comes outcome old (Err SystemLimit) new = outcome (Err SystemLimit) new
 Comes outcome old (Err NoProcess) new = outcome (Err NoProcess) new
 Comes outcome old (Err Memory) new = new ≡ old
 
--- what is read of a term: this; badarg where it is nothing of the kind; or no memory
+-- the result of reading a term: this value, badarg if it is None, or out of memory
 abbrev pub Reads : {X : Type 0} → Option X → Result X WorldFault → Type 0
 Reads wanted (Ok x) = wanted ≡ Some x
 Reads wanted (Err Badarg) = wanted ≡ None

@@ -1,5 +1,5 @@
--- Processes enter; tables are made, go, and change hands (stdlib manual, module ets, new/2, delete/1, give_away/3,
--- setopts/2).
+-- Processes are enrolled; tables are created, deleted and passed on (stdlib manual, module ets, new/2, delete/1,
+-- give_away/3, setopts/2).
 use Rattle.std.specs.Prelude.{ℕ, ◌==◌, ◌&&◌, not, nat_le, true, List, [], ◌∷◌, ◌++◌, Option, Some, None, is_some, length, slice_set, option_map, Result, Ok, Err}
 use Rattle.ets_term.specs.declared.term.Term.{Term}
 use Rattle.table_ops.specs.Outcomes.{Outcome, gives, refuse, refuse_none}
@@ -14,19 +14,19 @@ use Rattle.ownership.specs.Heads.{owned_by}
 use Rattle.ownership.specs.Messages.{told, transfer, post}
 use Rattle.ownership.specs.Options.{heir_after}
 
--- a process enters the world
+-- the world after a process was enrolled
 abbrev pub after_enrol : World → ℕ → World
 after_enrol w p =
     record w { processes = w.processes ++ (p, record { lives = true; mailbox = [] }) ∷ [] }
 
--- it must be new, and there must be room for it
+-- the number must be new, and the limit not reached
 abbrev pub Enrol : World → ℕ → Outcome (Result (Unit {0}) WorldFault) World
 Enrol old p =
     refuse old (is_some (process_at old.processes p)) (Err Badarg) (
     refuse old (nat_le old.most_processes (length old.processes)) (Err SystemLimit) (
     gives (Ok tt) (after_enrol old p)))
 
--- what stands over a new table of this name with these options
+-- the metadata of a new table of this name with these options
 abbrev pub new_head : ℕ → List ℕ → NewOptions → Head
 new_head p name options =
     record {
@@ -37,12 +37,12 @@ new_head p name options =
       protection = options.protection;
     }
 
--- a table enters the world, with the next identifier
+-- the world with a new table under the next identifier
 abbrev pub with_table : World → Head → Fixed → World
 with_table w head fixed =
     record w { tables = w.tables ++ Some (record { head = head; fixed = fixed }) ∷ [] }
 
--- a new table: its name if it is a named table, else its identifier; no two named tables have one name
+-- The answer is the name of a named table, else the identifier. No two named tables have the same name.
 abbrev pub New : World → ℕ → List ℕ → NewOptions → Fixed → Outcome (Result Term WorldFault) World
 New old p name options fixed =
     refuse old (options.named && is_some (whereis old.tables name)) (Err Badarg) (
@@ -50,7 +50,7 @@ New old p name options fixed =
     gives (Ok (told options.named name (length old.tables)))
     (with_table old (new_head p name options) fixed)))
 
--- a table goes, with its name and its fixes
+-- the world without a table, its name and its fixes
 abbrev pub without_table : World → ℕ → World
 without_table w t = record w { tables = slice_set w.tables t None }
 
@@ -58,20 +58,20 @@ without_table w t = record w { tables = slice_set w.tables t None }
 abbrev pub passed_to : ℕ → Table → Table
 passed_to q table = record table { head = record table.head { owner = q } }
 
--- a table with another heir, or with none
+-- a table with another heir, or none
 abbrev pub with_heir : Option Heir → Table → Table
 with_heir heir table = record table { head = record table.head { heir = heir } }
 
--- the change of the table at a place, if there is one
+-- the tables after a change of one, if it exists
 abbrev pub changed : (Table → Table) → Tables → ℕ → Tables
 changed change tables t = slice_set tables t (option_map change (table_at tables t))
 
--- a table passes to another owner, which gets a message
+-- the world after a table passed to another owner, which gets a message
 abbrev pub passed : World → ℕ → ℕ → Term → World
 passed w t q message =
     record w { processes = post w.processes q message; tables = changed (passed_to q) w.tables t }
 
--- the owner gives the table to a living process that is not itself, which gets the message
+-- The owner gives the table to another living process, which gets the transfer message.
 abbrev pub GiveAway : World → ℕ → ℕ → ℕ → Term → Outcome (Result (Unit {0}) WorldFault) World
 GiveAway old p t q gift =
     refuse_none old (table_at old.tables t) (Err Badarg) (λ table.
@@ -80,7 +80,7 @@ GiveAway old p t q gift =
     refuse old (not (lives old.processes q)) (Err Badarg) (
     gives (Ok tt) (passed old t q (transfer table.head t p gift))))))
 
--- a table has this heir, or none
+-- the world after the heir of a table was set or removed
 abbrev pub heir_set : World → ℕ → Option Heir → World
 heir_set w t heir = record w { tables = changed (with_heir heir) w.tables t }
 

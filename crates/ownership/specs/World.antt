@@ -9,20 +9,20 @@ use Rattle.fixed_walk.specs.Fixed.{Fixed}
 use Rattle.ownership.specs.declared.head.Head.{Head}
 use Rattle.ownership.specs.declared.process.Process.{Process}
 
--- a table: what stands over it, and its objects with its fixes
+-- a table: its metadata, and its objects with its fixes
 pub record Table : Type 0 where
   pub head : Head
   pub fixed : Fixed
 
--- The tables ever made, in that order. A table's place is its identifier; the place of one that is gone stays empty.
+-- The tables ever made, in order. The place of a table is its identifier; the place of a deleted table stays empty.
 abbrev pub Tables : Type 0
 Tables = List (Option Table)
 
--- the processes ever enrolled, in that order, each with its number
+-- the processes ever enrolled, in order, each with its number
 abbrev pub Processes : Type 0
 Processes = List (ℕ × Process)
 
--- how many processes and tables there may ever be, and those that there were
+-- the limits of processes and tables, and all that were ever made
 pub record World : Type 0 where
   pub most_processes : ℕ
   pub most_tables : ℕ
@@ -47,7 +47,7 @@ table_at tables t = slice_index_or tables t None
 abbrev pub fixed_at : Tables → ℕ → Option Fixed
 fixed_at tables t = option_map (λ table. table.fixed) (table_at tables t)
 
--- what stands over each table
+-- the metadata of a table
 abbrev pub head_of : Option Table → Option Head
 head_of None = None
 head_of (Some table) = Some table.head
@@ -55,7 +55,7 @@ head_of (Some table) = Some table.head
 abbrev pub heads : Tables → List (Option Head)
 heads tables = map head_of tables
 
--- whether a table is there and is named so
+-- a table exists and has this name
 abbrev pub is_named : List ℕ → Option Head → Bool
 is_named name None = false
 is_named name (Some head) = head.named && bytes_eq name head.name
@@ -64,7 +64,7 @@ is_named name (Some head) = head.named && bytes_eq name head.name
 abbrev pub whereis : Tables → List ℕ → Option ℕ
 whereis tables name = position (is_named name) (heads tables)
 
--- the identifier of the table that a term names: the identifier of a table, or the name of a named one
+-- the identifier of the table that a term names: an identifier, or the name of a named table
 abbrev pub resolve_form : Tables → Term-F Term → Option ℕ
 resolve_form tables (Term-F.Tid t) = option_map (λ _. t) (table_at tables t)
 resolve_form tables (Term-F.Atom name) = whereis tables name
@@ -73,11 +73,11 @@ resolve_form tables _ = None
 abbrev pub resolve : Tables → Term → Option ℕ
 resolve tables term = resolve_form tables (out-Term term)
 
--- the table with these objects and fixes under the same head
+-- the table with other objects and fixes and the same metadata
 abbrev pub fixed_in : Option Table → Fixed → Option Table
 fixed_in None fixed = None
 fixed_in (Some table) fixed = Some (record table { fixed = fixed })
 
--- the tables with these objects and fixes in one of them, all else as it was
+-- the tables after the objects and fixes of one have changed
 abbrev pub with_fixed : Tables → ℕ → Fixed → Tables
 with_fixed tables t fixed = slice_set tables t (fixed_in (table_at tables t) fixed)

@@ -1,15 +1,15 @@
 use std::alloc::AllocError;
 
-/// Why a call is not done; nothing has changed.
+/// Why a call fails. The world is then unchanged.
 #[derive(Debug, Drop, PartialEq, Eq)]
 pub enum WorldFault {
-    /// An argument is not what the call takes, or the process may not do this.
+    /// An argument is not allowed, or the process may not make this call.
     Badarg,
-    /// As many processes or tables were there as there may ever be.
+    /// The greatest number of processes or tables was reached.
     SystemLimit,
-    /// The process does not live.
+    /// The process does not live: it was not enrolled, or it has ended.
     NoProcess,
-    /// There was no memory for it.
+    /// An allocation failed.
     Memory,
 }
 

@@ -3,7 +3,8 @@ ghost use Rattle.ownership.specs.Heads.{owned_by, may_read, may_write};
 
 use ets_term::{Atom, Term};
 
-/// Who uses a table besides its owner (stdlib manual, module ets, section Table Access Rights).
+/// The access that processes other than the owner have to a table (stdlib manual, module ets, section Table Access
+/// Rights).
 #[derive(Clone, Copy, Debug, PartialEq, Eq)]
 pub enum Protection {
     /// Others read and write.
@@ -14,14 +15,14 @@ pub enum Protection {
     Private,
 }
 
-/// The process that gets a table when its owner ends, and what comes with it.
+/// The process that gets a table when its owner ends, and the gift in the transfer message.
 #[derive(Drop)]
 pub struct Heir {
     pub pid: u32,
     pub gift: Term,
 }
 
-/// What a table is called, whose it is and who uses it. Only a named table answers to its name.
+/// The metadata of a table: name, owner, heir and protection. Only a named table is found by its name.
 #[derive(Drop)]
 pub struct Head {
     pub name: Atom,
@@ -32,21 +33,21 @@ pub struct Head {
 }
 
 impl Head {
-    /// Whether the table is this process's own.
+    /// Checks whether the process owns the table.
     pub fn is_owned_by(&self, pid: u32) -> bool
         ensures { result ≡ owned_by self.now pid }
     {
         pid == self.owner
     }
 
-    /// Whether the process may read the table.
+    /// Checks whether the process may read the table.
     pub fn may_read(&self, pid: u32) -> bool
         ensures { result ≡ may_read self.now pid }
     {
         self.owner == pid || self.protection != Protection::Private
     }
 
-    /// Whether the process may write to the table.
+    /// Checks whether the process may write to the table.
     pub fn may_write(&self, pid: u32) -> bool
         ensures { result ≡ may_write self.now pid }
     {

@@ -1,4 +1,4 @@
-//! What stands beside the tables: which of them a name means, which a process owns, and which may be fixed.
+//! Indices over the tables: by name, by owner, and the fixed ones.
 ghost use Rattle.std.specs.Prelude.{◌+◌, ◌<◌, ◌^◌, ◌++◌, ◌∷◌, [], Some, OnOk, OnErr, length};
 ghost use Rattle.ownership.specs.inside.Names.{IsNameFree};
 ghost use Rattle.ownership.specs.inside.Indices.{IsKept};
@@ -14,8 +14,9 @@ use bucket_table::Rows;
 use indexmap::IndexMap;
 use std::alloc::{AllocError, Global};
 
-/// The identifiers of tables, under their names, under the processes that ever came to own them, and of those that may
-/// be fixed: all that are but the one that was lent last. Each method keeps them in step with the tables.
+/// Identifiers of tables by name, by each process that ever owned them, and of the tables that may be fixed. The
+/// *dirty* table is the one borrowed for a change last. It may be fixed without being listed. Each method preserves
+/// what ties the indices to the tables.
 #[derive(Drop)]
 pub struct Indices {
     names: IndexMap<String, u32>,
@@ -25,7 +26,7 @@ pub struct Indices {
 }
 
 impl Indices {
-    /// Those of no table. It takes no memory.
+    /// Returns indices of no table. This takes no memory.
     pub fn new(alloc: Global) -> Self
         ensures { IsKept result [] }
     {
@@ -37,8 +38,8 @@ impl Indices {
         }
     }
 
-    /// Writes the next table down under its owner and its name, which must be free, with room for it among the fixed
-    /// ones. It is the one lent last.
+    /// Adds the next table under its owner and its name, and reserves capacity for it among the fixed ones. Its name
+    /// must be free. The new table becomes the dirty one.
     pub fn note<R: Rows>(
         &mut self,
         alloc: Global,

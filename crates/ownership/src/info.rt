@@ -8,33 +8,33 @@ use ets_term::{Atom, Term};
 use std::alloc::{AllocError, Global};
 use table_ops::Kind;
 
-/// What can be asked of a table (stdlib manual, ets:info/2).
+/// What `info` returns of a table (stdlib manual, ets:info/2).
 #[derive(Clone, Copy, Debug, PartialEq, Eq)]
 pub enum InfoItem {
     /// The name, as given to `new`.
     Name,
-    /// Whether it is a named table.
+    /// Whether the table is named.
     NamedTable,
     /// The owner's pid.
     Owner,
-    /// Who uses the table besides its owner.
+    /// The access of processes other than the owner.
     Protection,
-    /// The pid that was set, whether or not it lives, or `none`.
+    /// The pid that was set, living or not, or `none`.
     Heir,
     /// The identifier.
     Id,
-    /// How many objects there are.
+    /// The number of objects.
     Size,
-    /// How many objects the table keeps of one key: `type` in the manual.
+    /// The kind of the table: `type` in the manual.
     Kind,
-    /// The position of the key.
+    /// The position of the key, from 1.
     Keypos,
-    /// Whether some process fixes the table.
+    /// Whether a process fixes the table.
     Fixed,
 }
 
 impl InfoItem {
-    /// The item that a term names.
+    /// Returns the item that a term names, or `None`.
     pub fn read(term: &Term) -> Option<InfoItem>
         ensures { result ≡ item_of term.now }
     {

@@ -1,21 +1,21 @@
-//! Processes and the tables that they own: whom a table goes to when its owner ends, who may use it, and what it is
-//! called.
+//! Processes and the tables that they own: names, access, heirs, and what the end of a process does.
 //!
-//! *Guarantee.* A contract sees the processes ever enrolled, each with its mailbox, and the tables ever made, each with
-//! its head and its objects. A process that ends leaves none of its fixes, and each of its tables, in order of
-//! creation, is with its heir, who has the message, or is gone with its name. No two named tables have one name. A call
-//! that is refused, or finds no memory, has changed nothing.
+//! *Guarantee.* A contract sees the processes ever enrolled, each with its mailbox, and the tables ever made, each
+//! with its metadata and objects. A process that ends keeps no fix. Each of its tables, in order of creation, passes
+//! to its living heir, who gets the message, or is deleted with its name. No two named tables have the same name. A
+//! call that is refused or runs out of memory changes nothing.
 //!
-//! *Weakness.* The end of a process looks at the tables that it ever came to own, and at those that somebody fixes. To
-//! write one down moves those that were made later.
+//! *Weakness.* The end of a process visits the tables that it ever owned and those that are fixed. Inserting an
+//! identifier shifts the larger ones.
 //!
-//! *Mechanism.* Tables stand at the places of their identifiers. Beside them stand an index by name, one by owner, and
-//! a list of those that may be fixed: one struct, whose methods keep it in step with the tables. A table that is lent
-//! is noted there when the next one is lent, if it is fixed by then. The messages of an end are made and posted one by
-//! one, and taken back where memory is refused. A lent table can change in all but its head, and the two indices look
-//! at heads alone.
+//! *Mechanism.* Tables are in an array by identifier. One struct holds an index by name, one by owner, and a list of
+//! the tables that may be fixed. A table that is borrowed for a change becomes the *dirty* one. When the next table
+//! is borrowed, the previous one is listed if it is fixed. A borrowed table cannot change its metadata, and the other
+//! two indices depend on metadata alone. The messages of an end are created and posted one by one, and removed again
+//! if memory is refused.
 //!
-//! *Limits.* Processes and tables ever, as the world was made for; identifiers are never used again.
+//! *Limits.* The numbers of processes and tables ever made are limited, as given to `new`. Identifiers are never used
+//! again.
 #![tactic(auto)]
 
 mod fault;

@@ -10,7 +10,7 @@ use ets_term::{Atom, Items, Term};
 use indexmap::IndexMap;
 use std::alloc::{AllocError, Global};
 
-/// A table as `new` answers it: the name of a named table, else its identifier.
+/// Returns the term that names a table, as `new` does: the name of a named table, else the identifier.
 pub fn name_or_identifier(
     alloc: Global,
     named: bool,
@@ -26,7 +26,7 @@ pub fn name_or_identifier(
     }
 }
 
-/// The message with which the table of this head and identifier comes.
+/// Returns the transfer message for the table with this metadata and identifier.
 pub fn transfer(
     alloc: Global,
     head: &Head,
@@ -47,7 +47,7 @@ pub fn transfer(
     Ok(Term::Tuple(elements))
 }
 
-/// Posts a message to a process, if there is one of this number.
+/// Appends a message to the mailbox of a process, if the process was enrolled. Otherwise drops the message.
 pub fn post(
     processes: &mut IndexMap<u32, Process>,
     pid: u32,
@@ -70,7 +70,7 @@ pub fn post(
     }
 }
 
-/// Takes the message back that was posted last to a process. It takes no memory.
+/// Removes the message that was posted last to a process. This takes no memory.
 pub fn take_back(processes: &mut IndexMap<u32, Process>, pid: u32)
     ensures { (before : List (ℕ × model.Process)) (message : term.Term)
         → processes.old.entries ≡ post before pid message → processes.new.entries ≡ before }

@@ -13,7 +13,7 @@ use read::read_all;
 use std::alloc::Global;
 use table_ops::Kind;
 
-/// What a process asks of a new table.
+/// The options of a new table.
 #[derive(Drop)]
 pub struct NewOptions {
     pub kind: Kind,
@@ -24,8 +24,8 @@ pub struct NewOptions {
 }
 
 impl NewOptions {
-    /// The options in a term (stdlib manual, ets:new/2), read from the left, a later one overriding an earlier.
-    /// `Badarg` where it is no list of options.
+    /// Reads a list of options (stdlib manual, ets:new/2) from the left; a later option overrides an earlier one.
+    /// Returns `Badarg` if the term is not a list of options.
     pub fn read(alloc: Global, term: &Term) -> Result<NewOptions, WorldFault>
         ensures value { Reads (options_of term.now) result }
         ensures keypos { IfOk result (λ options. 1 ≤ options.keypos) }

@@ -8,7 +8,7 @@ use bucket_table::Rows;
 use fixed_walk::Walked;
 use std::marker::Model;
 
-/// A table with what stands over it.
+/// A table with its metadata.
 #[derive(Drop)]
 pub struct Table<R: Rows> {
     head: Head,
@@ -54,21 +54,21 @@ impl<R: Rows> Table<R> {
         &mut self.walked
     }
 
-    /// Another owner.
+    /// Sets the owner.
     pub fn pass_to(&mut self, owner: u32)
         ensures { self.new ≡ passed_to owner self.old }
     {
         self.head.owner = owner;
     }
 
-    /// Another heir, or none.
+    /// Sets or removes the heir.
     pub fn set_heir(&mut self, heir: Option<Heir>)
         ensures { self.new ≡ with_heir heir self.old }
     {
         self.head.heir = heir;
     }
 
-    /// A process has no fix any more.
+    /// Releases all fixes of a process.
     pub fn let_go(&mut self, pid: u32)
         ensures { self.new ≡ let_go pid self.old }
     {

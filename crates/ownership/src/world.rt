@@ -17,8 +17,8 @@ use indexmap::IndexMap;
 use std::alloc::Global;
 use std::marker::Model;
 
-/// Processes and the tables that they own (stdlib manual, module ets). A contract sees how many of both there may ever
-/// be, the processes ever enrolled, and the tables ever made.
+/// Processes and the tables that they own (stdlib manual, module ets). A contract sees the limits of both, the
+/// processes ever enrolled, and the tables ever made.
 #[derive(Drop)]
 pub struct World<R: Rows> {
     alloc: Global,
@@ -49,7 +49,8 @@ impl<R: Rows> Model for World<R> {
 }
 
 impl<R: Rows> World<R> {
-    /// No process and no table; so many of each may there ever be. It takes no memory.
+    /// Creates a world without processes and tables. At most `processes` and `tables` can ever be made. This takes no
+    /// memory.
     pub fn new(alloc: Global, processes: u32, tables: u32) -> Self
         ensures { result ≡ empty processes tables }
     {

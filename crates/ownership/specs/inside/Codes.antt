@@ -1,4 +1,4 @@
--- The codes of tables and of worlds: each stands for a list of numbers, so that a program's value can be seen as it.
+-- The codes of tables and worlds: each encodes a value as a list of numbers, so that a contract can see it.
 use Rattle.std.specs.Prelude.{ℕ, refl}
 use Rattle.std.specs.Coded.{Coded, code_by, coded×, coded_ℕ, coded_list, coded_option}
 use Rattle.fixed_walk.specs.Fixed.{Fixed}

@@ -1,4 +1,4 @@
--- Messages posted table by table, and tables settled one by one.
+-- Messages posted table by table, and tables reassigned one by one.
 use Rattle.std.specs.Prelude.{◌≡◌, ℕ, List, [], ◌∷◌, Option, Some, None, map}
 use Rattle.std.specs.Option.{option_map_or}
 use Rattle.ets_term.specs.declared.term.Term.{Term}
@@ -7,16 +7,16 @@ use Rattle.ownership.specs.Messages.{post, post_all}
 use Rattle.ownership.specs.End.{message_of}
 use Rattle.ownership.specs.inside.Indices.{Among}
 
--- a message is posted, if there is one
+-- the processes after a message, if there is one
 abbrev pub posted_of : Processes → Option (ℕ × Term) → Processes
 posted_of processes None = processes
 posted_of processes (Some message) = post processes message.0 message.1
 
--- the message of the table with this identifier is, if it brings one
+-- the processes after the transfer message of the table with this identifier
 abbrev pub posted_at : Processes → ℕ → Tables → ℕ → Processes
 posted_at processes p tables t = posted_of processes (message_of processes p t (table_at tables t))
 
--- the messages of these tables
+-- the transfer messages of these tables
 abbrev pub messages_at : Processes → ℕ → (ℕ → Option Table) → List ℕ → List (ℕ × Term)
 messages_at processes p at [] = []
 messages_at processes p at (t ∷ ids) =
@@ -26,11 +26,11 @@ messages_at processes p at (t ∷ ids) =
 abbrev pub posted : Processes → ℕ → Tables → List ℕ → Processes
 posted processes p tables ids = post_all processes (messages_at processes p (table_at tables) ids)
 
--- nothing more comes of the table at a place
+-- the end of the process leaves the table at a place as it is
 abbrev pub IsSettled : (Option Table → Option Table) → Tables → ℕ → Type 0
 IsSettled after tables t = after (table_at tables t) ≡ table_at tables t
 
--- these tables are settled, those that were stay so, and it comes to the same in the end
+-- These tables are reassigned, and tables reassigned before stay so. The tables after the whole end are the same.
 pub record Settles (after : Option Table → Option Table) (ids : List ℕ)
     (old new : Tables) : Type 0 where
   pub same : map after new ≡ map after old

@@ -1,4 +1,4 @@
--- What a lent table leaves behind.
+-- The world after the borrow of a table.
 use Rattle.std.specs.Prelude.{ℕ, Option}
 use Rattle.std.specs.Borrow.{Lends, LendsIf, MutBor, Fml, RattleType}
 use Rattle.bucket_table.specs.declared.rows.Rows.{Ghosts}
@@ -9,12 +9,12 @@ use Rattle.ownership.specs.contracts.world.World as world
 use Rattle.ownership.specs.World.{Table, World, with_fixed}
 
 module _ (R : RattleType) (rows : Ghosts R.Denot) where
-  -- the table keeps its head
+  -- the table keeps its metadata
   abbrev pub LendsFixed : MutBor Table → MutBor Fixed → Fml
   LendsFixed s lent =
       Lends (table.the_row R rows) (walked.the_row R rows) s lent (λ f. record s.now { fixed = f })
 
-  -- all else in the world stays
+  -- everything else in the world stays
   abbrev pub LendsTable : MutBor World → ℕ → Option (MutBor Fixed) → Fml
   LendsTable s t lent =
       LendsIf (world.the_row R rows) (walked.the_row R rows)

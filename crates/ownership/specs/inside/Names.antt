@@ -1,4 +1,4 @@
--- The index by name beside the tables. It looks at heads alone.
+-- The index by name. It depends on metadata alone.
 use Rattle.std.specs.Prelude.{◌≡◌, ◌↔◌, ℕ, true, List, Option, Some, None, IsTrue, position, slice_index_or}
 use Rattle.ownership.specs.declared.head.Head.{Head}
 use Rattle.ownership.specs.World.{Tables, is_named, whereis}
@@ -6,15 +6,15 @@ use Rattle.ownership.specs.World.{Tables, is_named, whereis}
 abbrev pub head_at : List (Option Head) → ℕ → Option Head
 head_at hs t = slice_index_or hs t None
 
--- the name of a table that is to be a named one is free
+-- if the table is to be named, its name is free
 abbrev pub IsNameFree : Tables → Head → Type 0
 IsNameFree tables head = IsTrue head.named → whereis tables head.name ≡ None
 
--- a name leads to a table exactly where the table is named so
+-- the index finds a table by a name exactly if the table has this name
 abbrev pub ByName : (List ℕ → Option ℕ) → List (Option Head) → Type 0
 ByName names hs =
     (name : List ℕ) (t : ℕ) → (names name ≡ Some t) ↔ (is_named name (head_at hs t) ≡ true)
 
--- the first place whose table is named so
+-- the first place whose table has this name
 abbrev pub find_named : List (Option Head) → List ℕ → Option ℕ
 find_named hs name = position (is_named name) hs

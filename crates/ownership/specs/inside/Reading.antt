@@ -1,11 +1,11 @@
--- How options are read one by one.
+-- Options that are read one by one.
 use Rattle.std.specs.Prelude.{◌≡◌, Bool, true, false, Result, Ok, Err, Option, Some, None, unwrap_or}
 use Rattle.ownership.specs.declared.fault.WorldFault.{WorldFault}
 use Rattle.ownership.specs.declared.fault.WorldFault.TheVariants.{Badarg, SystemLimit, NoProcess, Memory}
 use Rattle.ownership.specs.declared.head.Heir.{Heir}
 use Rattle.ownership.specs.declared.options.NewOptions.{NewOptions}
 
--- an option is read over those that stand: these are wanted, or none
+-- the result of reading an option: these options, badarg for None, or out of memory
 abbrev pub Adds : Option NewOptions → Result (Unit {0}) WorldFault → NewOptions → Type 0
 Adds wanted (Ok done) new = wanted ≡ Some new
 Adds wanted (Err Badarg) new = wanted ≡ None
@@ -13,12 +13,12 @@ Adds wanted (Err SystemLimit) new = ⊥
 Adds wanted (Err NoProcess) new = ⊥
 Adds wanted (Err Memory) new = Unit {0}
 
--- the same where it takes no memory
+-- the same without memory
 abbrev pub Sets : Option NewOptions → Bool → NewOptions → Type 0
 Sets wanted true new = wanted ≡ Some new
 Sets wanted false new = wanted ≡ None
 
--- what is said of an heir, over the one that stands
+-- the result of reading an heir, over the heir before
 abbrev pub Says : Option (Option Heir) → Option Heir
     → Result (Option (Option Heir)) WorldFault → Type 0
 Says wanted heir (Ok said) = wanted ≡ Some (unwrap_or said heir)

@@ -1,4 +1,4 @@
-// The tables that may be fixed: all that are but the one that was lent last.
+// The tables that may be fixed. The dirty table, which was borrowed for a change last, need not be listed.
 ghost use Rattle.std.specs.Prelude.{◌≡◌, ◌≤◌, ℕ, Some, None, OnOk, filter, vec_capacity};
 ghost use Rattle.ownership.specs.inside.Indices.{IsKept, ids_under, is_fixed_at};
 
@@ -9,7 +9,7 @@ use bucket_table::Rows;
 use std::alloc::AllocError;
 
 impl Indices {
-    /// Room for so many tables.
+    /// Reserves capacity for `tables` identifiers.
     pub(super) fn make_room(&mut self, tables: usize) -> Result<(), AllocError>
         ensures rest { self.new ≡ record self.old { fixed = self.new.fixed } }
         ensures items { self.new.fixed.items ≡ self.old.fixed.items }
@@ -19,7 +19,7 @@ impl Indices {
         self.fixed.reserve(tables.saturating_sub(self.fixed.len()))
     }
 
-    /// A table is lent: the one lent before is noted, where it is fixed.
+    /// Marks a table dirty. Lists the previous dirty table if it is fixed.
     pub fn lend<R: Rows>(&mut self, places: &[Option<Table<R>>], id: u32)
         requires kept { IsKept self.old places.now }
         ensures kept { IsKept self.new places.now }
@@ -34,7 +34,7 @@ impl Indices {
         self.lent = Some(id);
     }
 
-    /// No table is lent any more: the one lent last is noted, where it is fixed.
+    /// Clears the dirty mark. Lists the dirty table if it is fixed. This takes no memory.
     pub(super) fn take_back_lent<R: Rows>(&mut self, places: &[Option<Table<R>>])
         requires kept { IsKept self.old places.now }
         ensures kept { IsKept self.new places.now }
@@ -55,7 +55,7 @@ impl Indices {
         }
     }
 
-    /// Those that nobody fixes any more are no longer noted.
+    /// Removes the tables that nobody fixes.
     pub(super) fn keep_fixed<R: Rows>(&mut self, places: &[Option<Table<R>>])
         ensures rest { self.new ≡ record self.old { fixed = self.new.fixed } }
         ensures items { self.new.fixed.items

@@ -4,7 +4,7 @@ ghost use Rattle.ownership.specs.inside.Indices.{Between, IsPutIn};
 
 use std::alloc::AllocError;
 
-/// Puts one in at its place, if it is not there.
+/// Inserts `id` in ascending order, unless it is there. If memory is refused, nothing changes.
 pub fn put_in(ids: &mut Vec<u32>, id: u32) -> Result<(), AllocError>
     ensures ok { OnOk result (IsPutIn ids.old.items id ids.new.items) }
     ensures err { OnErr result (ids.new.items ≡ ids.old.items) }

@@ -12,14 +12,14 @@ use ets_term::Atom;
 use std::alloc::{AllocError, Global};
 
 impl Indices {
-    /// The identifier of the table with this name.
+    /// Returns the identifier of the table with this name, or `None`.
     pub fn find(&self, name: &Atom) -> Option<u32>
         ensures { (tables : Tables) → IsKept self.now tables → result ≡ whereis tables name.now }
     {
         self.names.get(name.text()).copied()
     }
 
-    /// Writes the next identifier down under the name of a table, if it is a named one.
+    /// Adds the next identifier under the name of a table, if the table is named.
     pub(super) fn note_name(
         &mut self,
         alloc: Global,
@@ -43,7 +43,7 @@ impl Indices {
         Ok(())
     }
 
-    /// The name of a table that goes is free again. It takes no memory.
+    /// Removes the name of a table, which is then free again. This takes no memory.
     pub fn forget(&mut self, head: &Head)
         ensures rest { self.new ≡ record self.old { names = self.new.names } }
         ensures kept { (tables : Tables) (t : ℕ) → head_of (table_at tables t) ≡ Some head.now

@@ -1,4 +1,4 @@
-// The index by owner: under each process the tables that it ever came to own, until it ends.
+// The index by owner: for each process, the tables that it ever owned, until it ends.
 ghost use Rattle.std.specs.Prelude.{◌≡◌, OnOk, IfOk};
 ghost use Rattle.ownership.specs.inside.Indices.{Among, Notes, Forgets, AreInherited, IsInherited, ids_under};
 
@@ -12,7 +12,7 @@ use indexmap::IndexMap;
 use std::alloc::{AllocError, Global};
 
 impl Indices {
-    /// Writes a table down under its owner. What stands there stays, also where memory is refused.
+    /// Adds a table under an owner. Earlier entries stay, also if memory is refused.
     pub fn note_owner(&mut self, alloc: Global, owner: u32, id: u32) -> Result<(), AllocError>
         ensures stays { Notes self.old self.new }
         ensures ok { OnOk result (Among id (ids_under self.new owner)) }
@@ -26,7 +26,7 @@ impl Indices {
         Ok(())
     }
 
-    /// The identifiers that stand under an owner.
+    /// Returns the identifiers under an owner.
     pub fn owned_by(&self, alloc: Global, owner: u32) -> Result<Vec<u32>, AllocError>
         ensures { IfOk result (λ ids. ids.items ≡ ids_under self.now owner) }
     {
@@ -37,14 +37,14 @@ impl Indices {
         Ok(ids)
     }
 
-    /// What stands under an owner goes, once it owns no table. It takes no memory.
+    /// Removes the entry of an owner. This takes no memory.
     pub(super) fn forget_owner(&mut self, owner: u32)
         ensures { Forgets owner self.old self.new }
     {
         let _ = self.owned.swap_remove(&owner);
     }
 
-    /// Writes each of these tables down under its heir, where that lives.
+    /// Adds each of these tables under its heir, if the heir lives.
     pub fn note_heirs<R: Rows>(
         &mut self,
         alloc: Global,
@@ -61,7 +61,7 @@ impl Indices {
         Ok(())
     }
 
-    /// The same of one table.
+    /// Adds one table under its heir, if the heir lives.
     fn note_heir<R: Rows>(
         &mut self,
         alloc: Global,

@@ -1,4 +1,4 @@
-// What the end of a process makes of the tables.
+// The tables after the end of a process.
 ghost use Rattle.std.specs.Prelude.{◌≡◌, ℕ, None, map, false, slice_set};
 ghost use Rattle.ownership.specs.World.{Tables, lives, table_at};
 ghost use Rattle.ownership.specs.End.{table_after};
@@ -13,9 +13,9 @@ use indexmap::IndexMap;
 use std::mem;
 
 impl Indices {
-    /// The process lives no more: its fixes go, and each of its tables, which are these, is its heir's, where that
-    /// lives and has it written down, or is gone. Only its own and those that are fixed need be looked at. It takes no
-    /// memory.
+    /// Releases the fixes of an ended process. Passes each of its tables to the living heir, or deletes it. `own`
+    /// must have all tables of the process, and each must be listed under its living heir. Only these and the fixed
+    /// tables are visited. This takes no memory.
     pub fn settle<R: Rows>(
         &mut self,
         places: &mut Vec<Option<Table<R>>>,
@@ -44,7 +44,7 @@ impl Indices {
         self.forget_owner(pid);
     }
 
-    /// The same of one of the tables.
+    /// Does the same for one table.
     fn settle_one<R: Rows>(
         &mut self,
         places: &mut Vec<Option<Table<R>>>,
@@ -68,8 +68,8 @@ impl Indices {
         places[place] = self.after(processes, pid, table);
     }
 
-    /// What it makes of one table: nobody's fixes of the process are left, and one of its own goes to its heir or is
-    /// gone.
+    /// Returns a table after its owner's end. The fixes of the process are released. A table that it owned passes to
+    /// the living heir, or is deleted.
     fn after<R: Rows>(
         &mut self,
         processes: &IndexMap<u32, Process>,

@@ -1,4 +1,4 @@
-// What options say of an heir.
+// Options that name an heir.
 ghost use Rattle.std.specs.Prelude.{◌≡◌, Option, IfOk};
 ghost use Rattle.ets_term.specs.declared.term.Term.{out-Term};
 ghost use Rattle.ownership.specs.declared.head.Heir as model;
@@ -11,7 +11,8 @@ use crate::head::Heir;
 use ets_term::Term;
 use std::alloc::{AllocError, Global};
 
-/// What a tuple says of an heir: the heir, or that there is none.
+/// Reads `{heir,none}` or `{heir,Pid,Data}`. Returns the heir, or `Some(None)` for no heir. Returns `None` for any
+/// other tuple.
 pub fn heir_said(alloc: Global, elements: &[Term]) -> Result<Option<Option<Heir>>, AllocError>
     ensures { IfOk result (λ said. said ≡ heir_said elements.now) }
 {
@@ -28,8 +29,8 @@ pub fn heir_said(alloc: Global, elements: &[Term]) -> Result<Option<Option<Heir>
     }
 }
 
-/// What the options of `setopts` say of the heir: the last of them, or nothing where there is none. `Badarg` where one
-/// says nothing of an heir.
+/// Reads the options of `setopts`. Returns the heir of the last option, or `None` for an empty list. Returns `Badarg`
+/// if an option does not name an heir.
 pub fn heir_said_by(alloc: Global, options: &Term) -> Result<Option<Option<Heir>>, WorldFault>
     ensures { (heir : Option model.Heir) → Says (heir_after heir options.now) heir result }
 {

@@ -26,14 +26,14 @@ pub fn read_all(alloc: Global, terms: &[Term]) -> Result<NewOptions, WorldFault>
     Ok(options)
 }
 
-/// Whether the term is `true` or `false`.
+/// Checks whether the term is `true` or `false`.
 fn is_boolean(term: &Term) -> bool
     ensures { result ≡ is_boolean term.now }
 {
     term.is_atom("true") || term.is_atom("false")
 }
 
-/// Whether a pair says how the table is to be used, which changes nothing.
+/// Checks whether a pair is a tuning option, which is allowed and changes nothing.
 fn is_tuning(name: &Term, value: &Term) -> bool
     ensures { result ≡ is_tuning name.now value.now }
 {
@@ -48,9 +48,10 @@ fn is_tuning(name: &Term, value: &Term) -> bool
     }
 }
 
-/// Each of these reads one more option over those that stand; false, and nothing changed, where it is none.
+/// Each of these methods reads one more option into `self`. It returns `false` or `Badarg` if the option does not
+/// exist.
 impl NewOptions {
-    /// What holds where no option says otherwise.
+    /// Returns the options of an empty list.
     fn usual() -> NewOptions
         ensures { result ≡ usual }
     {

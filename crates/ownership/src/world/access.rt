@@ -4,9 +4,10 @@ ghost use Rattle.ownership.specs.Heads.{may, owned_by, may_read, may_write};
 use super::World;
 use bucket_table::Rows;
 
-/// Who may use a table (stdlib manual, module ets, section Table Access Rights). Nobody may where there is none.
+/// Access to tables (stdlib manual, module ets, section Table Access Rights). To a table that does not exist, nobody
+/// has access.
 impl<R: Rows> World<R> {
-    /// Whether the process may read the table with this identifier.
+    /// Checks whether the process may read the table with this identifier.
     pub fn may_read(&self, pid: u32, id: u32) -> bool
         ensures { result ≡ may may_read self.now.tables pid id }
     {
@@ -16,7 +17,7 @@ impl<R: Rows> World<R> {
         }
     }
 
-    /// Whether the process may write to it.
+    /// Checks whether the process may write to the table with this identifier.
     pub fn may_write(&self, pid: u32, id: u32) -> bool
         ensures { result ≡ may may_write self.now.tables pid id }
     {
@@ -26,7 +27,7 @@ impl<R: Rows> World<R> {
         }
     }
 
-    /// Whether it is the process's own.
+    /// Checks whether the process owns the table with this identifier.
     pub fn is_owner(&self, pid: u32, id: u32) -> bool
         ensures { result ≡ may owned_by self.now.tables pid id }
     {

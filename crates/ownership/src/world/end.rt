@@ -19,9 +19,9 @@ use std::alloc::{AllocError, Global};
 use std::mem;
 
 impl<R: Rows> World<R> {
-    /// The process ends: its messages and fixes go, and each of its tables, in order of creation, goes to its heir
-    /// where that lives, with the transfer message, or is gone (stdlib manual, module ets). `NoProcess` where it does
-    /// not live.
+    /// Ends a process (stdlib manual, module ets). Its messages are dropped and its fixes released. Each of its
+    /// tables, in order of creation, passes to its living heir with the transfer message, or is deleted. Returns
+    /// `NoProcess` if the process does not live.
     pub fn end(&mut self, pid: u32) -> Result<(), WorldFault>
         ensures { Comes (End self.old pid) self.old result self.new }
     {
@@ -34,7 +34,7 @@ impl<R: Rows> World<R> {
         }
     }
 
-    /// The same of a process that lives.
+    /// Ends a process that lives.
     fn bury(&mut self, pid: u32) -> Result<(), AllocError>
         requires { lives self.old.processes pid ≡ true }
         ensures ok { OnOk result
@@ -61,7 +61,8 @@ impl<R: Rows> World<R> {
     }
 }
 
-/// The process lives no more, and its heirs have their messages; or nothing has changed.
+/// Marks the process as ended and posts the transfer messages to the heirs of its tables. If memory is refused,
+/// nothing changes.
 fn hand_over<R: Rows>(
     alloc: Global,
     processes: &mut IndexMap<u32, Process>,
@@ -87,7 +88,7 @@ fn hand_over<R: Rows>(
     Ok(())
 }
 
-/// Puts another process in the place of one.
+/// Replaces a process and returns the old one.
 fn exchange(processes: &mut IndexMap<u32, Process>, pid: u32, process: Process) -> Process
     requires { is_some (process_at processes.old.entries pid) ≡ true }
     ensures old { process_at processes.old.entries pid ≡ Some result }
@@ -99,7 +100,7 @@ fn exchange(processes: &mut IndexMap<u32, Process>, pid: u32, process: Process) 
     }
 }
 
-/// The messages of these tables are posted, all or none.
+/// Posts the transfer messages of these tables, all or none.
 fn post_all<R: Rows>(
     alloc: Global,
     processes: &mut IndexMap<u32, Process>,
@@ -120,7 +121,7 @@ fn post_all<R: Rows>(
     Ok(())
 }
 
-/// The message of one table is posted, if it brings one.
+/// Posts the transfer message of one table, if the table has a receiver.
 fn post_of<R: Rows>(
     alloc: Global,
     processes: &mut IndexMap<u32, Process>,
@@ -142,7 +143,7 @@ fn post_of<R: Rows>(
     post(processes, heir.pid, message)
 }
 
-/// The messages of these tables are taken back.
+/// Removes the transfer messages of these tables, the last first.
 fn take_all_back<R: Rows>(
     processes: &mut IndexMap<u32, Process>,
     places: &[Option<Table<R>>],
@@ -159,7 +160,7 @@ fn take_all_back<R: Rows>(
     }
 }
 
-/// The message of one table, which was posted last, is taken back.
+/// Removes the transfer message of one table, which was posted last.
 fn take_back_of<R: Rows>(
     processes: &mut IndexMap<u32, Process>,
     places: &[Option<Table<R>>],
@@ -179,7 +180,7 @@ fn take_back_of<R: Rows>(
     take_back(processes, heir.pid);
 }
 
-/// The heir that gets a table of the process.
+/// Returns the heir that gets a table of the process.
 fn receiver_of<'a, R: Rows>(
     processes: &IndexMap<u32, Process>,
     table: &'a Table<R>,
@@ -193,7 +194,7 @@ fn receiver_of<'a, R: Rows>(
     living_heir(processes, table.head())
 }
 
-/// The heir of a table, where it lives.
+/// Returns the heir of a table, if the heir lives.
 pub fn living_heir<'a>(processes: &IndexMap<u32, Process>, head: &'a Head) -> Option<&'a Heir>
     ensures { option_copied result ≡ living_heir processes.now.entries head.now }
 {

@@ -11,7 +11,7 @@ use ets_term::Items;
 use std::alloc::AllocError;
 
 impl<R: Rows> World<R> {
-    /// Whether the process was enrolled and has not ended.
+    /// Checks whether the process was enrolled and has not ended.
     pub fn lives(&self, pid: u32) -> bool
         ensures { result ≡ lives self.now.processes pid }
     {
@@ -21,15 +21,15 @@ impl<R: Rows> World<R> {
         }
     }
 
-    /// How many processes were ever enrolled.
+    /// Returns the number of processes ever enrolled.
     pub fn enrolled(&self) -> usize
         ensures { result ≡ length self.now.processes }
     {
         self.processes.len()
     }
 
-    /// The process with this number begins. `Badarg` where the number was enrolled before; `SystemLimit` where as many
-    /// were enrolled as there may ever be.
+    /// Starts the process with this number. Returns `Badarg` if the number was enrolled before, and `SystemLimit` if
+    /// the greatest number of processes was reached.
     pub fn enrol(&mut self, pid: u32) -> Result<(), WorldFault>
         ensures { Comes (Enrol self.old pid) self.old result self.new }
     {
@@ -55,7 +55,7 @@ impl<R: Rows> World<R> {
         self.enrolled() >= self.most_processes as usize
     }
 
-    /// A process enters. It must be new.
+    /// Adds a process. Its number must be new.
     #[tactic(auto, using(crate::proofs::Enrolments::enrolling))]
     fn enter(&mut self, pid: u32) -> Result<(), AllocError>
         requires { process_at self.old.processes pid ≡ None }

@@ -12,11 +12,11 @@ use bucket_table::Rows;
 use ets_term::Term;
 use std::alloc::AllocError;
 
-/// Tables change hands, and heirs are set.
+/// Changes of owners and heirs.
 impl<R: Rows> World<R> {
-    /// The owner gives its table to another process (stdlib manual, ets:give_away/3), which gets the transfer message
-    /// with the gift; the heir and the fixes stay. `Badarg` where there is no such table, it is not the process's own,
-    /// or the other does not live or is the process itself.
+    /// Gives a table of the process to another (stdlib manual, ets:give_away/3), which gets the transfer message with
+    /// the gift. The heir and the fixes stay. Returns `Badarg` if the table does not exist or `pid` does not own it.
+    /// Returns `Badarg` too if `to` is `pid` or does not live.
     pub fn give_away(&mut self, pid: u32, id: u32, to: u32, gift: &Term) -> Result<(), WorldFault>
         ensures { Comes (GiveAway self.old pid id to gift.now) self.old result self.new }
     {
@@ -31,9 +31,9 @@ impl<R: Rows> World<R> {
         Ok(())
     }
 
-    /// The owner sets the heir of its table (stdlib manual, ets:setopts/2): `{heir,none}`, `{heir,Pid,Data}`, or a list
-    /// of these, of which the last counts. `Badarg` where there is no such table, it is not the process's own, or an
-    /// entry is none of these.
+    /// Sets the heir of a table of the process (stdlib manual, ets:setopts/2). The options are `{heir,none}`,
+    /// `{heir,Pid,Data}`, or a list of these, of which the last counts. Returns `Badarg` if the table does not exist,
+    /// `pid` does not own it, or an option does not name an heir.
     pub fn set_options(&mut self, pid: u32, id: u32, options: &Term) -> Result<(), WorldFault>
         ensures { Comes (SetOptions self.old pid id options.now) self.old result self.new }
     {
@@ -51,7 +51,7 @@ impl<R: Rows> World<R> {
         }
     }
 
-    /// The table has another owner, which gets the message with it.
+    /// Passes a table to another owner, and posts the message to it.
     fn pass(&mut self, id: u32, owner: u32, message: Term) -> Result<(), AllocError>
         ensures ok { OnOk result (self.new ≡ passed self.old id owner message) }
         ensures err { OnErr result (self.new ≡ self.old) }
@@ -65,7 +65,7 @@ impl<R: Rows> World<R> {
         Ok(())
     }
 
-    /// The table has another heir, or none.
+    /// Sets or removes the heir of a table, if the table exists.
     fn set_heir(&mut self, id: u32, heir: Option<Heir>)
         ensures { self.new ≡ heir_set self.old id heir }
     {
@@ -82,7 +82,7 @@ impl<R: Rows> World<R> {
     }
 }
 
-/// The table at a place, if there is one, has another owner.
+/// Sets the owner of a table, if the table exists.
 fn pass_at<R: Rows>(places: &mut Vec<Option<Table<R>>>, id: u32, owner: u32)
     ensures { places.new.items ≡ changed (passed_to owner) places.old.items id }
 {

@@ -10,8 +10,7 @@ use ets_term::{Integer, Term};
 use std::alloc::{AllocError, Global};
 
 impl<R: Rows> World<R> {
-    /// What there is to say of the table with this identifier (stdlib manual, ets:info/2); None where there is no such
-    /// table.
+    /// Returns an item of information on a table (stdlib manual, ets:info/2), or `None` if the table does not exist.
     pub fn info(&self, id: u32, item: InfoItem) -> Result<Option<Term>, AllocError>
         ensures { IfOk result (λ told.
             told ≡ option_map (info_of item id) (table_at self.now.tables id)) }

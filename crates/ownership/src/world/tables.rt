@@ -22,14 +22,14 @@ use std::mem;
 impl<R: Rows> World<R> {
     ghost use Rattle.ownership.specs.inside.Lending.{LendsTable};
 
-    /// How many tables were ever made, which is the identifier of the next.
+    /// Returns the number of tables ever made. It is the identifier of the next table.
     pub fn made(&self) -> u32
         ensures { result ≡ length self.now.tables }
     {
         self.places.len() as u32
     }
 
-    /// What stands over the table with this identifier.
+    /// Returns the metadata of the table with this identifier, or `None`.
     pub fn head(&self, id: u32) -> Option<&Head>
         ensures { option_copied result ≡ head_of (table_at self.now.tables id) }
     {
@@ -39,14 +39,15 @@ impl<R: Rows> World<R> {
         }
     }
 
-    /// The identifier of the table with this name (stdlib manual, ets:whereis/1).
+    /// Returns the identifier of the table with this name (stdlib manual, ets:whereis/1), or `None`.
     pub fn whereis(&self, name: &Atom) -> Option<u32>
         ensures { result ≡ whereis self.now.tables name.now }
     {
         self.indices.find(name)
     }
 
-    /// The identifier of the table that a term names: a table's identifier, or the name of a named one.
+    /// Returns the identifier of the table that a term names: by its identifier, or by its name if it is a named
+    /// table.
     pub fn resolve(&self, term: &Term) -> Option<u32>
         ensures { result ≡ resolve self.now.tables term.now }
     {
@@ -60,7 +61,7 @@ impl<R: Rows> World<R> {
         }
     }
 
-    /// The table with this identifier.
+    /// Returns the table with this identifier, or `None`.
     pub fn table(&self, id: u32) -> Option<&Walked<R>>
         ensures { option_copied result ≡ fixed_at self.now.tables id }
     {
@@ -70,7 +71,7 @@ impl<R: Rows> World<R> {
         }
     }
 
-    /// The table with this identifier, for a change of it alone.
+    /// Borrows the table with this identifier for a change of its objects and fixes.
     pub fn table_mut(&mut self, id: u32) -> Option<&mut Walked<R>>
         ensures* lends { sem 𝓛 (LendsTable R.row R.Rows self.entry id result) }
         ensures value { option_copied_mut result ≡ fixed_at self.old.tables id }
@@ -81,9 +82,9 @@ impl<R: Rows> World<R> {
         Some(table.walked_mut())
     }
 
-    /// Makes a process the owner of a table (stdlib manual, ets:new/2), and answers the name of a named table, else the
-    /// identifier. `Badarg` where it is to be a named one and another has the name; `SystemLimit` where as many tables
-    /// were made as there may ever be. A table that is refused is dropped.
+    /// Creates a table of a process (stdlib manual, ets:new/2). Returns the name of a named table, else the
+    /// identifier. Returns `Badarg` if a named table has the name already, and `SystemLimit` if the greatest number
+    /// of tables was reached. A refused table is dropped.
     pub fn new_table(
         &mut self,
         pid: u32,
@@ -109,7 +110,7 @@ impl<R: Rows> World<R> {
         }
     }
 
-    /// Whether the table is to be a named one, and another has its name.
+    /// Checks whether the table is to be named and another has its name.
     fn name_is_taken(&self, options: &NewOptions, name: &Atom) -> bool
         ensures { result ≡ (options.now.named && is_some (whereis self.now.tables name.now)) }
     {
@@ -123,7 +124,7 @@ impl<R: Rows> World<R> {
         self.made() >= self.most_tables
     }
 
-    /// The same where it is not refused.
+    /// Creates a table that is not refused.
     fn own(
         &mut self,
         pid: u32,
@@ -153,7 +154,7 @@ impl<R: Rows> World<R> {
         Ok(answer)
     }
 
-    /// One more table, with the next identifier. Its name, if it is a named table, must be free.
+    /// Adds a table with the next identifier. If it is named, its name must be free.
     fn add(&mut self, table: Table<R>) -> Result<(), AllocError>
         requires free { IsNameFree self.old.tables table.head }
         requires few { length self.old.tables + 1 < 2 ^ 32 }
@@ -175,8 +176,8 @@ impl<R: Rows> World<R> {
         Ok(())
     }
 
-    /// The table with this identifier goes, with its name and its fixes (stdlib manual, ets:delete/1); nothing where
-    /// there is none. It takes no memory.
+    /// Deletes the table with this identifier, with its name and its fixes (stdlib manual, ets:delete/1). Does
+    /// nothing if it does not exist. This takes no memory.
     pub fn drop_table(&mut self, id: u32)
         ensures { self.new ≡ without_table self.old id }
     {
@@ -192,7 +193,7 @@ impl<R: Rows> World<R> {
     }
 }
 
-/// What `new` answers, and what stands over the new table.
+/// Returns the answer of `new` and the metadata of the new table.
 fn headed(
     alloc: Global,
     pid: u32,
