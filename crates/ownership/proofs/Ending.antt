@@ -13,8 +13,8 @@ use Rattle.ownership.specs.Heads.{owned_by}
 use Rattle.ownership.specs.Messages.{with_message, transfer, post, post_all}
 use Rattle.ownership.specs.Tables.{passed_to}
 use Rattle.ownership.specs.End.{living_heir, receiver_of, let_go, table_after, message_of, messages_from, ended}
-use Rattle.ownership.specs.inside.Ending.{posted, posted_of, messages_at}
-use Rattle.ownership.specs.inside.Indices.{Among, Between}
+use Rattle.ownership.specs.inside.Ending.{after_transfers, after_message, messages_at}
+use Rattle.ownership.specs.inside.Indices.{IsAmong, AscendsBetween}
 use Rattle.std.proofs.lemmas.Bool.{cases_eq}
 use Rattle.ownership.proofs.Ascending.{between-lower, among-above}
 use Rattle.ownership.proofs.Posting.{lookup-set_value}
@@ -100,32 +100,32 @@ module _ (ps : Processes) (p : ℕ) (at : ℕ → Option Table) where
       ∙ sym (append_assoc (as_list (message_of ps p i (at i))) (messages_at ps p at ids) (as_list (message_of ps p t (at t))))
       ∙ ap (λ r. r ++ as_list (message_of ps p t (at t))) (sym (listed (message_of ps p i (at i)) (messages_at ps p at ids)))
 
-one : (qs : Processes) (m : Option (ℕ × Term)) → post_all qs (as_list m) ≡ posted_of qs m
+one : (qs : Processes) (m : Option (ℕ × Term)) → post_all qs (as_list m) ≡ after_message qs m
 one qs None = refl
 one qs (Some m) = refl
 
-pub posted-lives : (ps : Processes) (p : ℕ) (tables : Tables) (ids : List ℕ) → SameLives (posted ps p tables ids) ps
+pub posted-lives : (ps : Processes) (p : ℕ) (tables : Tables) (ids : List ℕ) → SameLives (after_transfers ps p tables ids) ps
 posted-lives ps p tables ids = post_all-lives ps (messages_at ps p (table_at tables) ids)
 
 -- one table more
-pub posted-more : (ps : Processes) (p : ℕ) (tables : Tables) (ids : List ℕ) (t : ℕ) → posted ps p tables (ids ++ t ∷ []) ≡ posted_of (posted ps p tables ids) (message_of (posted ps p tables ids) p t (table_at tables t))
+pub posted-more : (ps : Processes) (p : ℕ) (tables : Tables) (ids : List ℕ) (t : ℕ) → after_transfers ps p tables (ids ++ t ∷ []) ≡ after_message (after_transfers ps p tables ids) (message_of (after_transfers ps p tables ids) p t (table_at tables t))
 posted-more ps p tables ids t =
     ap (post_all ps) (messages-push ps p (table_at tables) ids t) ∙ post_all-append ps (messages_at ps p (table_at tables) ids) (as_list (message_of ps p t (table_at tables t)))
-    ∙ one (posted ps p tables ids) (message_of ps p t (table_at tables t))
-    ∙ ap (posted_of (posted ps p tables ids)) (sym (message-same (posted ps p tables ids) ps p t (table_at tables t) (posted-lives ps p tables ids)))
+    ∙ one (after_transfers ps p tables ids) (message_of ps p t (table_at tables t))
+    ∙ ap (after_message (after_transfers ps p tables ids)) (sym (message-same (after_transfers ps p tables ids) ps p t (table_at tables t) (posted-lives ps p tables ids)))
 
-posted_of-lives : (ps : Processes) (m : Option (ℕ × Term)) → SameLives (posted_of ps m) ps
-posted_of-lives ps None r = refl
-posted_of-lives ps (Some m) r = post-lives ps m.0 m.1 r
+after_message-lives : (ps : Processes) (m : Option (ℕ × Term)) → SameLives (after_message ps m) ps
+after_message-lives ps None r = refl
+after_message-lives ps (Some m) r = post-lives ps m.0 m.1 r
 
 -- the message of a table is the same when it is posted
-pub message-still : (before now : Processes) (p t : ℕ) (o : Option Table) → now ≡ posted_of before (message_of before p t o) → message_of before p t o ≡ message_of now p t o
-message-still before now p t o e = sym (message-same now before p t o (λ r. ap (λ ps. lives ps r) e ∙ posted_of-lives before (message_of before p t o) r))
+pub message-still : (before now : Processes) (p t : ℕ) (o : Option Table) → now ≡ after_message before (message_of before p t o) → message_of before p t o ≡ message_of now p t o
+message-still before now p t o e = sym (message-same now before p t o (λ r. ap (λ ps. lives ps r) e ∙ after_message-lives before (message_of before p t o) r))
 
 -- a table without a message posted none
-pub back-none : (before now : Processes) (p t : ℕ) (o : Option Table) (table : Table) → o ≡ Some table → receiver_of now p table ≡ None → now ≡ posted_of before (message_of before p t o) → now ≡ before
+pub back-none : (before now : Processes) (p t : ℕ) (o : Option Table) (table : Table) → o ≡ Some table → receiver_of now p table ≡ None → now ≡ after_message before (message_of before p t o) → now ≡ before
 back-none before now p t o table is none e =
-    e ∙ ap (posted_of before) (message-still before now p t o e ∙ ap (message_of now p t) is ∙ ap (option_map (λ (heir : Heir). (heir.pid, transfer table.head t p heir.gift))) none)
+    e ∙ ap (after_message before) (message-still before now p t o e ∙ ap (message_of now p t) is ∙ ap (option_map (λ (heir : Heir). (heir.pid, transfer table.head t p heir.gift))) none)
 
 -- the identifiers without the last
 pub take-last : (ids : List ℕ) (i : ℕ) → i < length ids → take (length ids - i) ids ≡ take (length ids - (i + 1)) ids ++ get_or ids (length ids - 1 - i) 0 ∷ []
@@ -142,7 +142,7 @@ no-message ps p t table other = ap (λ (b : Bool). option_map (λ (heir : Heir).
 
 module _ (ps : Processes) (p : ℕ) where
   -- identifiers past the tables have no message
-  none-past : (n : ℕ) (at : ℕ → Option Table) (high : ℕ) (ids : List ℕ) → ((k : ℕ) → at (n + k) ≡ None) → Between n high ids → messages_at ps p at ids ≡ []
+  none-past : (n : ℕ) (at : ℕ → Option Table) (high : ℕ) (ids : List ℕ) → ((k : ℕ) → at (n + k) ≡ None) → AscendsBetween n high ids → messages_at ps p at ids ≡ []
   none-past n at high [] past b = refl
   none-past n at high (t ∷ ids) past b =
       let here : at t ≡ None = ap at (distance n t b.0) ∙ past (t - n) in
@@ -166,18 +166,18 @@ module _ (ps : Processes) (p : ℕ) where
   module _ (at : ℕ → Option Table) (high : ℕ) where
     -- the tables from this identifier on; the owner's are all among these
     abbrev AreFound : ℕ → Tables → List ℕ → Type 0
-    AreFound n tables ids = ((k : ℕ) → at (n + k) ≡ table_at tables k) × ((k : ℕ) (table : Table) → table_at tables k ≡ Some table → owned_by table.head p ≡ true → Among (n + k) ids)
+    AreFound n tables ids = ((k : ℕ) → at (n + k) ≡ table_at tables k) × ((k : ℕ) (table : Table) → table_at tables k ≡ Some table → owned_by table.head p ≡ true → IsAmong (n + k) ids)
 
     move : (n k : ℕ) → suc n + k ≡ n + suc k
     move n k = omega arith
 
-    shift : (n : ℕ) (o : Option Table) (tables : Tables) (ids rest : List ℕ) → ((k : ℕ) → Among (n + suc k) ids → Among (n + suc k) rest) → AreFound n (o ∷ tables) ids → AreFound (suc n) tables rest
+    shift : (n : ℕ) (o : Option Table) (tables : Tables) (ids rest : List ℕ) → ((k : ℕ) → IsAmong (n + suc k) ids → IsAmong (n + suc k) rest) → AreFound n (o ∷ tables) ids → AreFound (suc n) tables rest
     shift n o tables ids rest more found = (
       λ k. ap at (move n k) ∙ found.0 (suc k),
-      λ k table there own. subst (λ i. Among i rest) (sym (move n k)) (more k (found.1 (suc k) table there own)),
+      λ k table there own. subst (λ i. IsAmong i rest) (sym (move n k)) (more k (found.1 (suc k) table there own)),
     )
 
-    pub messages-found : (n : ℕ) (tables : Tables) (ids : List ℕ) → n + length tables ≤ high → Between n high ids → AreFound n tables ids → messages_from ps p n tables ≡ messages_at ps p at ids
+    pub messages-found : (n : ℕ) (tables : Tables) (ids : List ℕ) → n + length tables ≤ high → AscendsBetween n high ids → AreFound n tables ids → messages_from ps p n tables ≡ messages_at ps p at ids
     messages-found n [] ids fits b found = sym (none-past n at high ids found.0 b)
     messages-found n (o ∷ tables) [] fits b found =
         skip n o tables [] (no-owner n o (λ table there own. found.1 0 table there own))
@@ -187,13 +187,13 @@ module _ (ps : Processes) (p : ℕ) where
         zero-more : (n : ℕ) → n + 0 ≡ n
         zero-more n = omega arith
 
-        tail : n ≡ t → (k : ℕ) → (n + suc k ≡ t) ⊎ Among (n + suc k) ids → Among (n + suc k) ids
+        tail : n ≡ t → (k : ℕ) → (n + suc k ≡ t) ⊎ IsAmong (n + suc k) ids → IsAmong (n + suc k) ids
         tail same k (inl e) = absurd (omega (arith, same, e))
         tail same k (inr a) = a
 
-        by : (n ≡ t) ⊎ (n ≡ t → ⊥) → ((rest : List ℕ) → Between (suc n) high rest → AreFound (suc n) tables rest → messages_from ps p (suc n) tables ≡ messages_at ps p at rest) → messages_from ps p n (o ∷ tables) ≡ messages_at ps p at (t ∷ ids)
+        by : (n ≡ t) ⊎ (n ≡ t → ⊥) → ((rest : List ℕ) → AscendsBetween (suc n) high rest → AreFound (suc n) tables rest → messages_from ps p (suc n) tables ≡ messages_at ps p at rest) → messages_from ps p n (o ∷ tables) ≡ messages_at ps p at (t ∷ ids)
         by (inl same) more =
-            let rest = more ids (subst (λ i. Between (suc i) high ids) (sym same) b.1) (shift n o tables (t ∷ ids) ids (tail same) found) in
+            let rest = more ids (subst (λ i. AscendsBetween (suc i) high ids) (sym same) b.1) (shift n o tables (t ∷ ids) ids (tail same) found) in
             let here : o ≡ at t = sym (found.0 0) ∙ ap at (zero-more n ∙ same) in
             ap (λ r. option_map_or (λ message. message ∷ r) (message_of ps p n o) r) rest
             ∙ ap (λ m. option_map_or (λ message. message ∷ messages_at ps p at ids) m (messages_at ps p at ids)) (ap (λ i. message_of ps p i o) same ∙ ap (message_of ps p t) here)

@@ -17,12 +17,12 @@ use Rattle.ownership.specs.World.{Table, Tables, Processes, lives, table_at, hea
 use Rattle.ownership.specs.Tables.{passed_to, with_heir, changed}
 use Rattle.ownership.specs.Heads.{owned_by}
 use Rattle.ownership.specs.End.{living_heir, table_after}
-use Rattle.ownership.specs.inside.Names.{ByName}
-use Rattle.ownership.specs.inside.Indices.{Among, Between, ByOwner, AreOwned, AreBequeathed, AreNoted, IsIdle, IsKept, Notes, Forgets, ids_under}
+use Rattle.ownership.specs.inside.Names.{NameIndexIsExact}
+use Rattle.ownership.specs.inside.Indices.{IsAmong, AscendsBetween, OwnerIndexCovers, CoversTablesOf, HeirsOfOwnerAreIndexed, FixedAreListed, IsUnfixed, IndicesInvariant, AddsUnderOwners, RemovesOwner, ids_under}
 use Rattle.ownership.proofs.Ascending.{between-higher}
 use Rattle.ownership.proofs.Heads.{head-there, heads-same}
 use Rattle.ownership.proofs.Kept.{names-stay, names-none}
-use Rattle.ownership.proofs.Noting.{noted-lent}
+use Rattle.ownership.proofs.Noting.{noted-dirty}
 use Rattle.ownership.proofs.Owning.{same-number, forgets-others}
 use Rattle.ownership.proofs.Settling.{Left, left-over, left-others, idle-stays}
 
@@ -60,26 +60,26 @@ place-push tables o u table e = by (cases_eq u (length tables)) (cases_lt u (len
         absurd (cc (none, e))
 
 -- the table under its metadata
-headed : (o : Option Table) (head : Head) → head_of o ≡ Some head → (table : Table) × (o ≡ Some table) × (table.head ≡ head)
-headed None head e = absurd (cc)
-headed (Some table) head e = (table, refl, same_Some _ _ e)
+answer_and_metadata : (o : Option Table) (head : Head) → head_of o ≡ Some head → (table : Table) × (o ≡ Some table) × (table.head ≡ head)
+answer_and_metadata None head e = absurd (cc)
+answer_and_metadata (Some table) head e = (table, refl, same_Some _ _ e)
 
-owners-by : (owned : ℕ → List ℕ) (tables : Tables) → ((t : ℕ) (table : Table) → table_at tables t ≡ Some table → Among t (owned table.head.owner)) → ByOwner owned (heads tables)
+owners-by : (owned : ℕ → List ℕ) (tables : Tables) → ((t : ℕ) (table : Table) → table_at tables t ≡ Some table → IsAmong t (owned table.head.owner)) → OwnerIndexCovers owned (heads tables)
 owners-by owned tables each t head at =
-    let found = headed (table_at tables t) head (sym (head-there tables t) ∙ at) in
-    subst (λ (h : Head). Among t (owned h.owner)) found.2 (each t found.0 found.1)
+    let found = answer_and_metadata (table_at tables t) head (sym (head-there tables t) ∙ at) in
+    subst (λ (h : Head). IsAmong t (owned h.owner)) found.2 (each t found.0 found.1)
 
-owner-at : (owned : ℕ → List ℕ) (tables : Tables) → ByOwner owned (heads tables) → (t : ℕ) (table : Table) → table_at tables t ≡ Some table → Among t (owned table.head.owner)
+owner-at : (owned : ℕ → List ℕ) (tables : Tables) → OwnerIndexCovers owned (heads tables) → (t : ℕ) (table : Table) → table_at tables t ≡ Some table → IsAmong t (owned table.head.owner)
 owner-at owned tables by_owner t table e = by_owner t table.head (head-there tables t ∙ ap head_of e)
 
 -- all tables of a process are among those under it in the index
-pub owned-all : (owned : ℕ → List ℕ) (tables : Tables) (p : ℕ) → ByOwner owned (heads tables) → AreOwned (owned p) p tables
-owned-all owned tables p by_owner t table e own = subst (λ q. Among t (owned q)) (same-number table.head.owner p own) (owner-at owned tables by_owner t table e)
+pub owned-all : (owned : ℕ → List ℕ) (tables : Tables) (p : ℕ) → OwnerIndexCovers owned (heads tables) → CoversTablesOf (owned p) p tables
+owned-all owned tables p by_owner t table e own = subst (λ q. IsAmong t (owned q)) (same-number table.head.owner p own) (owner-at owned tables by_owner t table e)
 
-module _ (indices : Indices) (tables : Tables) (kept : IsKept indices tables) where
+module _ (indices : Indices) (tables : Tables) (kept : IndicesInvariant indices tables) where
   -- more tables are listed under owners
-  pub kept-notes : (new : Indices) → Notes indices new → IsKept new tables
-  kept-notes new notes = subst (λ (i : Indices). IsKept i tables) (sym notes.rest) (record {
+  pub kept-notes : (new : Indices) → AddsUnderOwners indices new → IndicesInvariant new tables
+  kept-notes new notes = subst (λ (i : Indices). IndicesInvariant i tables) (sym notes.rest) (record {
     few = kept.few;
     room = kept.room;
     by_name = kept.by_name;
@@ -89,25 +89,25 @@ module _ (indices : Indices) (tables : Tables) (kept : IsKept indices tables) wh
   })
 
   -- other tables are listed as fixed
-  pub kept-beside : (now : Vec ℕ Global) (next : Option ℕ) → AreNoted now.items next tables → length tables ≤ vec_capacity now → IsKept (record indices { fixed = now; lent = next }) tables
+  pub kept-beside : (now : Vec ℕ Global) (next : Option ℕ) → FixedAreListed now.items next tables → length tables ≤ vec_capacity now → IndicesInvariant (record indices { fixed = now; dirty = next }) tables
   kept-beside now next noted room = record { few = kept.few; room = room; by_name = kept.by_name; by_owner = kept.by_owner; order = kept.order; noted = noted }
 
   -- a table is marked dirty
-  pub kept-lend : indices.lent ≡ None → (id : ℕ) → IsKept (record indices { lent = Some id }) tables
-  kept-lend none id = kept-beside indices.fixed (Some id) (noted-lent indices.fixed.items id tables (subst (λ lent. AreNoted indices.fixed.items lent tables) none kept.noted)) kept.room
+  pub kept-mark_dirty : indices.dirty ≡ None → (id : ℕ) → IndicesInvariant (record indices { dirty = Some id }) tables
+  kept-mark_dirty none id = kept-beside indices.fixed (Some id) (noted-dirty indices.fixed.items id tables (subst (λ dirty. FixedAreListed indices.fixed.items dirty tables) none kept.noted)) kept.room
 
   -- there is more capacity
-  pub kept-room : (new : Indices) → new ≡ record indices { fixed = new.fixed } → new.fixed.items ≡ indices.fixed.items → vec_capacity indices.fixed ≤ vec_capacity new.fixed → IsKept new tables
-  kept-room new rest items more = subst (λ (i : Indices). IsKept i tables) (sym rest) (kept-beside new.fixed indices.lent (subst (λ ids. AreNoted ids indices.lent tables) (sym items) kept.noted) (omega (arith, kept.room, more)))
+  pub kept-room : (new : Indices) → new ≡ record indices { fixed = new.fixed } → new.fixed.items ≡ indices.fixed.items → vec_capacity indices.fixed ≤ vec_capacity new.fixed → IndicesInvariant new tables
+  kept-room new rest items more = subst (λ (i : Indices). IndicesInvariant i tables) (sym rest) (kept-beside new.fixed indices.dirty (subst (λ ids. FixedAreListed ids indices.dirty tables) (sym items) kept.noted) (omega (arith, kept.room, more)))
 
   -- the names are as good
-  pub kept-named : (new : Indices) → new ≡ record indices { names = new.names } → ByName (get_by_text new.names) (heads tables) → IsKept new tables
-  kept-named new rest by_name = subst (λ (i : Indices). IsKept i tables) (sym rest) (record { few = kept.few; room = kept.room; by_name = by_name; by_owner = kept.by_owner; order = kept.order; noted = kept.noted })
+  pub kept-named : (new : Indices) → new ≡ record indices { names = new.names } → NameIndexIsExact (get_by_text new.names) (heads tables) → IndicesInvariant new tables
+  kept-named new rest by_name = subst (λ (i : Indices). IndicesInvariant i tables) (sym rest) (record { few = kept.few; room = kept.room; by_name = by_name; by_owner = kept.by_owner; order = kept.order; noted = kept.noted })
 
   -- one place changes
-  pub kept-set : (new : Indices) → new ≡ record indices { names = new.names } → (t : ℕ) (o : Option Table) → ByName (get_by_text new.names) (heads (set tables t o))
-      → ((table : Table) → o ≡ Some table → Among t (ids_under indices table.head.owner) × ((indices.lent ≡ Some t) ⊎ Among t indices.fixed.items ⊎ IsIdle table.fixed)) → IsKept new (set tables t o)
-  kept-set new rest t o by_name here = subst (λ (i : Indices). IsKept i (set tables t o)) (sym rest) (record {
+  pub kept-set : (new : Indices) → new ≡ record indices { names = new.names } → (t : ℕ) (o : Option Table) → NameIndexIsExact (get_by_text new.names) (heads (set tables t o))
+      → ((table : Table) → o ≡ Some table → IsAmong t (ids_under indices table.head.owner) × ((indices.dirty ≡ Some t) ⊎ IsAmong t indices.fixed.items ⊎ IsUnfixed table.fixed)) → IndicesInvariant new (set tables t o)
+  kept-set new rest t o by_name here = subst (λ (i : Indices). IndicesInvariant i (set tables t o)) (sym rest) (record {
     few = omega (arith, length-set {A = Option Table}, kept.few);
     room = omega (arith, length-set {A = Option Table}, kept.room);
     by_name = by_name;
@@ -119,63 +119,63 @@ module _ (indices : Indices) (tables : Tables) (kept : IsKept indices tables) wh
     };
   })
     where
-      owner : (u : ℕ) (table : Table) → ((u ≡ t) × (o ≡ Some table)) ⊎ (table_at tables u ≡ Some table) → Among u (ids_under indices table.head.owner)
-      owner u table (inl is) = subst (λ i. Among i (ids_under indices table.head.owner)) (sym is.0) (here table is.1).0
+      owner : (u : ℕ) (table : Table) → ((u ≡ t) × (o ≡ Some table)) ⊎ (table_at tables u ≡ Some table) → IsAmong u (ids_under indices table.head.owner)
+      owner u table (inl is) = subst (λ i. IsAmong i (ids_under indices table.head.owner)) (sym is.0) (here table is.1).0
       owner u table (inr there) = owner-at (ids_under indices) tables kept.by_owner u table there
 
-      each : (u : ℕ) (table : Table) → ((u ≡ t) × (o ≡ Some table)) ⊎ (table_at tables u ≡ Some table) → (indices.lent ≡ Some u) ⊎ Among u indices.fixed.items ⊎ IsIdle table.fixed
-      each u table (inl is) = subst (λ i. (indices.lent ≡ Some i) ⊎ Among i indices.fixed.items ⊎ IsIdle table.fixed) (sym is.0) (here table is.1).1
+      each : (u : ℕ) (table : Table) → ((u ≡ t) × (o ≡ Some table)) ⊎ (table_at tables u ≡ Some table) → (indices.dirty ≡ Some u) ⊎ IsAmong u indices.fixed.items ⊎ IsUnfixed table.fixed
+      each u table (inl is) = subst (λ i. (indices.dirty ≡ Some i) ⊎ IsAmong i indices.fixed.items ⊎ IsUnfixed table.fixed) (sym is.0) (here table is.1).1
       each u table (inr there) = kept.noted.each u table there
 
   -- a place that is written as it is
-  pub kept-same : (t : ℕ) (o : Option Table) → table_at tables t ≡ o → IsKept indices (set tables t o)
-  kept-same t o at = subst (λ (ts : Tables). IsKept indices ts) (sym (ap (set tables t) (sym at) ∙ same-place tables t)) kept
+  pub kept-same : (t : ℕ) (o : Option Table) → table_at tables t ≡ o → IndicesInvariant indices (set tables t o)
+  kept-same t o at = subst (λ (ts : Tables). IndicesInvariant indices ts) (sym (ap (set tables t) (sym at) ∙ same-place tables t)) kept
 
   -- a table that keeps its objects and fixes keeps its entries
-  pub noted-same : (t : ℕ) (old new : Table) → table_at tables t ≡ Some old → new.fixed ≡ old.fixed → (indices.lent ≡ Some t) ⊎ Among t indices.fixed.items ⊎ IsIdle new.fixed
+  pub noted-same : (t : ℕ) (old new : Table) → table_at tables t ≡ Some old → new.fixed ≡ old.fixed → (indices.dirty ≡ Some t) ⊎ IsAmong t indices.fixed.items ⊎ IsUnfixed new.fixed
   noted-same t old new at same = by (kept.noted.each t old at)
     where
-      by : (indices.lent ≡ Some t) ⊎ Among t indices.fixed.items ⊎ IsIdle old.fixed → (indices.lent ≡ Some t) ⊎ Among t indices.fixed.items ⊎ IsIdle new.fixed
+      by : (indices.dirty ≡ Some t) ⊎ IsAmong t indices.fixed.items ⊎ IsUnfixed old.fixed → (indices.dirty ≡ Some t) ⊎ IsAmong t indices.fixed.items ⊎ IsUnfixed new.fixed
       by (inl is) = inl is
       by (inr (inl among)) = inr (inl among)
-      by (inr (inr idle)) = inr (inr (subst IsIdle (sym same) idle))
+      by (inr (inr idle)) = inr (inr (subst IsUnfixed (sym same) idle))
 
   -- the table at a place, if it exists, gets other metadata with the same name
-  kept-headed : (t : ℕ) (o : Option Table) (change : Table → Table) → table_at tables t ≡ o → ((table : Table) (name : List ℕ) → is_named name (Some (change table).head) ≡ is_named name (Some table.head)) → ((table : Table) → (change table).fixed ≡ table.fixed)
-      → ((table : Table) → table_at tables t ≡ Some table → Among t (ids_under indices (change table).head.owner)) → IsKept indices (set tables t (option_map change o))
-  kept-headed t None change e same holds own = kept-set indices refl t None (names-none (get_by_text indices.names) tables t e kept.by_name) (λ table is. absurd (cc))
-  kept-headed t (Some old) change e same holds own =
+  kept-answer_and_metadata : (t : ℕ) (o : Option Table) (change : Table → Table) → table_at tables t ≡ o → ((table : Table) (name : List ℕ) → is_named name (Some (change table).head) ≡ is_named name (Some table.head)) → ((table : Table) → (change table).fixed ≡ table.fixed)
+      → ((table : Table) → table_at tables t ≡ Some table → IsAmong t (ids_under indices (change table).head.owner)) → IndicesInvariant indices (set tables t (option_map change o))
+  kept-answer_and_metadata t None change e same holds own = kept-set indices refl t None (names-none (get_by_text indices.names) tables t e kept.by_name) (λ table is. absurd (cc))
+  kept-answer_and_metadata t (Some old) change e same holds own =
       kept-set indices refl t (Some (change old)) (names-stay (get_by_text indices.names) tables t old (change old) e (same old) kept.by_name)
-      (λ table is. let it = same_Some _ _ is in subst (λ (x : Table). Among t (ids_under indices x.head.owner) × ((indices.lent ≡ Some t) ⊎ Among t indices.fixed.items ⊎ IsIdle x.fixed)) it (own old e, noted-same t old (change old) e (holds old)))
+      (λ table is. let it = same_Some _ _ is in subst (λ (x : Table). IsAmong t (ids_under indices x.head.owner) × ((indices.dirty ≡ Some t) ⊎ IsAmong t indices.fixed.items ⊎ IsUnfixed x.fixed)) it (own old e, noted-same t old (change old) e (holds old)))
 
-  pub kept-passed : (t q : ℕ) → Among t (ids_under indices q) → IsKept indices (changed (passed_to q) tables t)
-  kept-passed t q own = kept-headed t (table_at tables t) (passed_to q) refl (λ table name. refl) (λ table. refl) (λ table e. own)
+  pub kept-passed : (t q : ℕ) → IsAmong t (ids_under indices q) → IndicesInvariant indices (changed (passed_to q) tables t)
+  kept-passed t q own = kept-answer_and_metadata t (table_at tables t) (passed_to q) refl (λ table name. refl) (λ table. refl) (λ table e. own)
 
-  pub kept-heir : (t : ℕ) (heir : Option Heir) → IsKept indices (changed (with_heir heir) tables t)
-  kept-heir t heir = kept-headed t (table_at tables t) (with_heir heir) refl (λ table name. refl) (λ table. refl) (λ table e. owner-at (ids_under indices) tables kept.by_owner t table e)
+  pub kept-heir : (t : ℕ) (heir : Option Heir) → IndicesInvariant indices (changed (with_heir heir) tables t)
+  kept-heir t heir = kept-answer_and_metadata t (table_at tables t) (with_heir heir) refl (λ table name. refl) (λ table. refl) (λ table e. owner-at (ids_under indices) tables kept.by_owner t table e)
 
   -- the dirty table changes under its metadata
-  pub kept-fixed : (t : ℕ) (table : Table) (f : Fixed) → table_at tables t ≡ Some table → indices.lent ≡ Some t → IsKept indices (set tables t (Some (record table { fixed = f })))
+  pub kept-fixed : (t : ℕ) (table : Table) (f : Fixed) → table_at tables t ≡ Some table → indices.dirty ≡ Some t → IndicesInvariant indices (set tables t (Some (record table { fixed = f })))
   kept-fixed t table f e last =
-      kept-set indices refl t (Some (record table { fixed = f })) (subst (ByName (get_by_text indices.names)) (sym (heads-same tables t table f e)) kept.by_name)
-      (λ it is. let same = same_Some _ _ is in subst (λ (x : Table). Among t (ids_under indices x.head.owner) × ((indices.lent ≡ Some t) ⊎ Among t indices.fixed.items ⊎ IsIdle x.fixed)) same (owner-at (ids_under indices) tables kept.by_owner t table e, inl last))
+      kept-set indices refl t (Some (record table { fixed = f })) (subst (NameIndexIsExact (get_by_text indices.names)) (sym (heads-same tables t table f e)) kept.by_name)
+      (λ it is. let same = same_Some _ _ is in subst (λ (x : Table). IsAmong t (ids_under indices x.head.owner) × ((indices.dirty ≡ Some t) ⊎ IsAmong t indices.fixed.items ⊎ IsUnfixed x.fixed)) same (owner-at (ids_under indices) tables kept.by_owner t table e, inl last))
 
   -- a table keeps its name, and the fixes of a process are released
-  pub kept-released : (p t : ℕ) (old new : Table) → table_at tables t ≡ Some old → new.fixed ≡ all_released p old.fixed → ((name : List ℕ) → is_named name (Some new.head) ≡ is_named name (Some old.head)) → Among t (ids_under indices new.head.owner)
-      → IsKept indices (set tables t (Some new))
+  pub kept-released : (p t : ℕ) (old new : Table) → table_at tables t ≡ Some old → new.fixed ≡ all_released p old.fixed → ((name : List ℕ) → is_named name (Some new.head) ≡ is_named name (Some old.head)) → IsAmong t (ids_under indices new.head.owner)
+      → IndicesInvariant indices (set tables t (Some new))
   kept-released p t old new at left same own =
       kept-set indices refl t (Some new) (names-stay (get_by_text indices.names) tables t old new at same kept.by_name)
-      (λ it is. subst (λ (x : Table). Among t (ids_under indices x.head.owner) × ((indices.lent ≡ Some t) ⊎ Among t indices.fixed.items ⊎ IsIdle x.fixed)) (same_Some _ _ is) (own, by (kept.noted.each t old at)))
+      (λ it is. subst (λ (x : Table). IsAmong t (ids_under indices x.head.owner) × ((indices.dirty ≡ Some t) ⊎ IsAmong t indices.fixed.items ⊎ IsUnfixed x.fixed)) (same_Some _ _ is) (own, by (kept.noted.each t old at)))
     where
-      by : (indices.lent ≡ Some t) ⊎ Among t indices.fixed.items ⊎ IsIdle old.fixed → (indices.lent ≡ Some t) ⊎ Among t indices.fixed.items ⊎ IsIdle new.fixed
+      by : (indices.dirty ≡ Some t) ⊎ IsAmong t indices.fixed.items ⊎ IsUnfixed old.fixed → (indices.dirty ≡ Some t) ⊎ IsAmong t indices.fixed.items ⊎ IsUnfixed new.fixed
       by (inl is) = inl is
       by (inr (inl among)) = inr (inl among)
-      by (inr (inr idle)) = inr (inr (subst IsIdle (sym (left ∙ idle-stays p old.fixed idle)) idle))
+      by (inr (inr idle)) = inr (inr (subst IsUnfixed (sym (left ∙ idle-stays p old.fixed idle)) idle))
 
   -- one table more
-  pub kept-push : (new : Indices) → new ≡ record indices { names = new.names } → (table : Table) → length tables + 1 < 4294967296 → length tables + 1 ≤ vec_capacity indices.fixed → ByName (get_by_text new.names) (heads (tables ++ Some table ∷ []))
-      → Among (length tables) (ids_under indices table.head.owner) → indices.lent ≡ Some (length tables) → IsKept new (tables ++ Some table ∷ [])
-  kept-push new rest table few room by_name own last = subst (λ (i : Indices). IsKept i (tables ++ Some table ∷ [])) (sym rest) (record {
+  pub kept-push : (new : Indices) → new ≡ record indices { names = new.names } → (table : Table) → length tables + 1 < 4294967296 → length tables + 1 ≤ vec_capacity indices.fixed → NameIndexIsExact (get_by_text new.names) (heads (tables ++ Some table ∷ []))
+      → IsAmong (length tables) (ids_under indices table.head.owner) → indices.dirty ≡ Some (length tables) → IndicesInvariant new (tables ++ Some table ∷ [])
+  kept-push new rest table few room by_name own last = subst (λ (i : Indices). IndicesInvariant i (tables ++ Some table ∷ [])) (sym rest) (record {
     few = omega (arith, length-append {A = Option Table}, few);
     room = omega (arith, length-append {A = Option Table}, room);
     by_name = by_name;
@@ -187,19 +187,19 @@ module _ (indices : Indices) (tables : Tables) (kept : IsKept indices tables) wh
     };
   })
     where
-      owner : (u : ℕ) (it : Table) → ((u ≡ length tables) × (Some table ≡ Some it)) ⊎ (table_at tables u ≡ Some it) → Among u (ids_under indices it.head.owner)
-      owner u it (inl is) = subst (λ i. Among i (ids_under indices it.head.owner)) (sym is.0) (subst (λ (x : Table). Among (length tables) (ids_under indices x.head.owner)) (same_Some _ _ is.1) own)
+      owner : (u : ℕ) (it : Table) → ((u ≡ length tables) × (Some table ≡ Some it)) ⊎ (table_at tables u ≡ Some it) → IsAmong u (ids_under indices it.head.owner)
+      owner u it (inl is) = subst (λ i. IsAmong i (ids_under indices it.head.owner)) (sym is.0) (subst (λ (x : Table). IsAmong (length tables) (ids_under indices x.head.owner)) (same_Some _ _ is.1) own)
       owner u it (inr there) = owner-at (ids_under indices) tables kept.by_owner u it there
 
-      each : (u : ℕ) (it : Table) → ((u ≡ length tables) × (Some table ≡ Some it)) ⊎ (table_at tables u ≡ Some it) → (indices.lent ≡ Some u) ⊎ Among u indices.fixed.items ⊎ IsIdle it.fixed
+      each : (u : ℕ) (it : Table) → ((u ≡ length tables) × (Some table ≡ Some it)) ⊎ (table_at tables u ≡ Some it) → (indices.dirty ≡ Some u) ⊎ IsAmong u indices.fixed.items ⊎ IsUnfixed it.fixed
       each u it (inl is) = inl (last ∙ ap Some (sym is.0))
       each u it (inr there) = kept.noted.each u it there
 
 -- a table that is reassigned and not deleted keeps its name, and its owner has it in the index
-pub kept-left : (ps : Processes) (p : ℕ) (indices : Indices) (tables : Tables) → IsKept indices tables → AreBequeathed indices ps p tables → (t : ℕ) (new : Table) → table_after ps p (table_at tables t) ≡ Some new → IsKept indices (set tables t (Some new))
+pub kept-left : (ps : Processes) (p : ℕ) (indices : Indices) (tables : Tables) → IndicesInvariant indices tables → HeirsOfOwnerAreIndexed indices ps p tables → (t : ℕ) (new : Table) → table_after ps p (table_at tables t) ≡ Some new → IndicesInvariant indices (set tables t (Some new))
 kept-left ps p indices tables kept heirs t new is = by (left-over ps p (table_at tables t) new is)
   where
-    by : Left ps p (table_at tables t) new → IsKept indices (set tables t (Some new))
+    by : Left ps p (table_at tables t) new → IndicesInvariant indices (set tables t (Some new))
     by left = kept-released indices tables kept p t left.table new left.was left.fixed (name left.head) (owner left.head)
       where
         name : (new.head ≡ left.table.head × (owned_by left.table.head p ≡ false)) ⊎ ((heir : Heir) × (living_heir ps left.table.head ≡ Some heir) × (owned_by left.table.head p ≡ true) × (new.head ≡ record left.table.head { owner = heir.pid }))
@@ -208,35 +208,35 @@ kept-left ps p indices tables kept heirs t new is = by (left-over ps p (table_at
         name (inr passed) n = ap (λ (h : Head). is_named n (Some h)) passed.3
 
         owner : (new.head ≡ left.table.head × (owned_by left.table.head p ≡ false)) ⊎ ((heir : Heir) × (living_heir ps left.table.head ≡ Some heir) × (owned_by left.table.head p ≡ true) × (new.head ≡ record left.table.head { owner = heir.pid }))
-            → Among t (ids_under indices new.head.owner)
-        owner (inl same) = subst (λ (h : Head). Among t (ids_under indices h.owner)) (sym same.0) (owner-at (ids_under indices) tables kept.by_owner t left.table left.was)
-        owner (inr passed) = subst (λ (h : Head). Among t (ids_under indices h.owner)) (sym passed.3) (heirs t left.table passed.0 left.was passed.2 passed.1)
+            → IsAmong t (ids_under indices new.head.owner)
+        owner (inl same) = subst (λ (h : Head). IsAmong t (ids_under indices h.owner)) (sym same.0) (owner-at (ids_under indices) tables kept.by_owner t left.table left.was)
+        owner (inr passed) = subst (λ (h : Head). IsAmong t (ids_under indices h.owner)) (sym passed.3) (heirs t left.table passed.0 left.was passed.2 passed.1)
 
 -- a table of the process is reassigned, and its other tables are still under their heirs
-pub bequeathed-still : (ps : Processes) (p : ℕ) → lives ps p ≡ false → (old new : Indices) (tables : Tables) → new ≡ record old { names = new.names } → (t : ℕ) → AreBequeathed old ps p tables → AreBequeathed new ps p (set tables t (table_after ps p (table_at tables t)))
-bequeathed-still ps p dead old new tables rest t heirs u table heir at own lived = subst (λ (i : Indices). Among u (ids_under i heir.pid)) (sym rest) (by (place-set tables t _ u table at))
+pub bequeathed-still : (ps : Processes) (p : ℕ) → lives ps p ≡ false → (old new : Indices) (tables : Tables) → new ≡ record old { names = new.names } → (t : ℕ) → HeirsOfOwnerAreIndexed old ps p tables → HeirsOfOwnerAreIndexed new ps p (set tables t (table_after ps p (table_at tables t)))
+bequeathed-still ps p dead old new tables rest t heirs u table heir at own lived = subst (λ (i : Indices). IsAmong u (ids_under i heir.pid)) (sym rest) (by (place-set tables t _ u table at))
   where
-    by : ((u ≡ t) × (table_after ps p (table_at tables t) ≡ Some table)) ⊎ (table_at tables u ≡ Some table) → Among u (ids_under old heir.pid)
+    by : ((u ≡ t) × (table_after ps p (table_at tables t) ≡ Some table)) ⊎ (table_at tables u ≡ Some table) → IsAmong u (ids_under old heir.pid)
     by (inl is) = absurd (true≢false (sym own ∙ left-others ps p dead (table_at tables t) table (left-over ps p (table_at tables t) table is.1)))
     by (inr there) = heirs u table heir there own lived
 
 -- an ended process needs no entry
-pub owners-forgotten : (ps : Processes) (p : ℕ) → lives ps p ≡ false → (start tables : Tables) (old new : Indices) → Forgets p old new → ByOwner (ids_under old) (heads tables) → tables ≡ map (table_after ps p) start → ByOwner (ids_under new) (heads tables)
+pub owners-forgotten : (ps : Processes) (p : ℕ) → lives ps p ≡ false → (start tables : Tables) (old new : Indices) → RemovesOwner p old new → OwnerIndexCovers (ids_under old) (heads tables) → tables ≡ map (table_after ps p) start → OwnerIndexCovers (ids_under new) (heads tables)
 owners-forgotten ps p dead start tables old new forgets by_owner is =
     owners-by (ids_under new) tables (λ t table e.
     let left : Left ps p (table_at start t) table = left-over ps p (table_at start t) table (sym (get_or-map (table_after ps p) start t None) ∙ ap (λ ts. table_at ts t) (sym is) ∙ e) in
     forgets-others p old new forgets table.head.owner t (left-others ps p dead (table_at start t) table left) (owner-at (ids_under old) tables by_owner t table e))
 
-none-named : (names : List ℕ → Option ℕ) → ((name : List ℕ) → names name ≡ None) → ByName names []
+none-named : (names : List ℕ → Option ℕ) → ((name : List ℕ) → names name ≡ None) → NameIndexIsExact names []
 none-named names none name t = (λ found. let is : None ≡ Some t = sym (none name) ∙ found in absurd (cc), λ named. absurd (true≢false (sym named)))
 
 -- the table does not exist
-pub kept-empty : (indices : Indices) → ((name : List ℕ) → get_by_text indices.names name ≡ None) → ((p : ℕ) → ids_under indices p ≡ []) → indices.fixed.items ≡ [] → IsKept indices []
+pub kept-empty : (indices : Indices) → ((name : List ℕ) → get_by_text indices.names name ≡ None) → ((p : ℕ) → ids_under indices p ≡ []) → indices.fixed.items ≡ [] → IndicesInvariant indices []
 kept-empty indices none nobody no-fixed = record {
   few = omega arith;
   room = omega arith;
   by_name = none-named (get_by_text indices.names) none;
   by_owner = λ t head at. absurd (cc);
-  order = λ p. subst (Between 0 4294967296) (sym (nobody p)) (omega arith);
-  noted = record { order = subst (Between 0 0) (sym no-fixed) (omega arith); each = λ t table at. absurd (cc) };
+  order = λ p. subst (AscendsBetween 0 4294967296) (sym (nobody p)) (omega arith);
+  noted = record { order = subst (AscendsBetween 0 0) (sym no-fixed) (omega arith); each = λ t table at. absurd (cc) };
 }

@@ -9,7 +9,7 @@ use Rattle.std.proofs.lemmas.List.Quantifiers.{position-Some}
 use Rattle.std.proofs.lemmas.Slice.Eq.{bytes_eq-Decides}
 use Rattle.ownership.specs.declared.head.Head.{Head}
 use Rattle.ownership.specs.World.{is_named}
-use Rattle.ownership.specs.inside.Names.{head_at, find_named, ByName}
+use Rattle.ownership.specs.inside.Names.{head_at, find_named, NameIndexIsExact}
 use Rattle.ownership.proofs.Places.{position-None}
 
 -- one place has changed
@@ -50,7 +50,7 @@ at_eq name own true e = (refl, (bytes_eq-Decides name own).0 e)
 at_eq name own false e = cc
 
 -- the index by name finds the table that the name means
-pub name-found : (names : List ℕ → Option ℕ) (tables : List (Option Head)) → ByName names tables → (name : List ℕ) → names name ≡ find_named tables name
+pub name-found : (names : List ℕ → Option ℕ) (tables : List (Option Head)) → NameIndexIsExact names tables → (name : List ℕ) → names name ≡ find_named tables name
 name-found names tables index name = by (names name) (find_named tables name) refl refl
   where
     by : (o w : Option ℕ) → names name ≡ o → find_named tables name ≡ w → o ≡ w
@@ -69,9 +69,9 @@ name-found names tables index name = by (names name) (find_named tables name) re
         let found = (index name i).1 (position-Some (is_named name) tables i None f).1 in
         cc
 
-module _ (names : List ℕ → Option ℕ) (old new : List (Option Head)) (place : ℕ) (now : Option Head) (index : ByName names old) (change : ChangesAt place now old new) where
+module _ (names : List ℕ → Option ℕ) (old new : List (Option Head)) (place : ℕ) (now : Option Head) (index : NameIndexIsExact names old) (change : ChangesAt place now old new) where
   -- a change of a table that keeps its name
-  pub names_kept : ((name : List ℕ) → is_named name now ≡ is_named name (head_at old place)) → ByName names new
+  pub names_kept : ((name : List ℕ) → is_named name now ≡ is_named name (head_at old place)) → NameIndexIsExact names new
   names_kept same name t =
       let as_before : is_named name (head_at new t) ≡ is_named name (head_at old t) = by (cases_eq t place) in
       ((λ found. as_before ∙ (index name t).0 found), (λ named. (index name t).1 (sym as_before ∙ named)))
@@ -81,7 +81,7 @@ module _ (names : List ℕ → Option ℕ) (old new : List (Option Head)) (place
       by (inr other) = ap (is_named name) (change.there t other)
 
 -- a table more with a free name
-module _ (names after : List ℕ → Option ℕ) (old new : List (Option Head)) (table : Head) (index : ByName names old) (change : ChangesAt (length old) (Some table) old new)
+module _ (names after : List ℕ → Option ℕ) (old new : List (Option Head)) (table : Head) (index : NameIndexIsExact names old) (change : ChangesAt (length old) (Some table) old new)
     (named : table.named ≡ true) (free : names table.name ≡ None) (updated : (q : List ℕ) → after q ≡ cond (bytes_eq table.name q) (Some (length old)) (names q)) where
   more_at : (q : List ℕ) (t : ℕ) (b : Bool) → bytes_eq table.name q ≡ b → (t ≡ length old) ⊎ (t ≡ length old → ⊥) → (after q ≡ Some t) ↔ (is_named q (head_at new t) ≡ true)
   more_at q t true same (inl here) =
@@ -107,11 +107,11 @@ module _ (names after : List ℕ → Option ℕ) (old new : List (Option Head)) 
         (λ is. now_is ∙ (index q t).1 (ap (is_named q) (sym (change.there t other)) ∙ is)),
       )
 
-  pub named_more : ByName after new
+  pub named_more : NameIndexIsExact after new
   named_more q t = more_at q t (bytes_eq table.name q) refl (cases_eq t (length old))
 
 -- a named table less
-module _ (names after : List ℕ → Option ℕ) (old new : List (Option Head)) (place : ℕ) (table : Head) (index : ByName names old) (was : head_at old place ≡ Some table) (change : ChangesAt place None old new)
+module _ (names after : List ℕ → Option ℕ) (old new : List (Option Head)) (place : ℕ) (table : Head) (index : NameIndexIsExact names old) (was : head_at old place ≡ Some table) (change : ChangesAt place None old new)
     (named : table.named ≡ true) (updated : (q : List ℕ) → after q ≡ cond (bytes_eq table.name q) None (names q)) where
   led : names table.name ≡ Some place
   led = (index table.name place).1 (ap (is_named table.name) was ∙ ap (λ n. n && bytes_eq table.name table.name) named ∙ (bytes_eq-Decides table.name table.name).1 refl)
@@ -142,5 +142,5 @@ module _ (names after : List ℕ → Option ℕ) (old new : List (Option Head)) 
         (λ is. now_is ∙ (index q t).1 (ap (is_named q) (sym (change.there t other)) ∙ is)),
       )
 
-  pub named_less : ByName after new
+  pub named_less : NameIndexIsExact after new
   named_less q t = less_at q t (bytes_eq table.name q) refl (cases_eq t place)

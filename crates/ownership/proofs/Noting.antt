@@ -2,7 +2,7 @@
 use Rattle.std.proofs.Common.{◌≡◌, ℕ, ◌<◌, ◌⊎◌, zero, suc, List, [], ◌∷◌, None, Some, Result, Ok, Err, OnOk, IsOk, inl, inr, sym, ap, subst, ◌∙◌, length, arith}
 use Rattle.std.proofs.lemmas.Option.{same_Some}
 use Rattle.ownership.specs.World.{Table, Tables, table_at}
-use Rattle.ownership.specs.inside.Indices.{Among, IsPutIn, IsIdle, AreNoted}
+use Rattle.ownership.specs.inside.Indices.{IsAmong, InsertsSorted, IsUnfixed, FixedAreListed}
 
 pub is-there : (tables : Tables) (t : ℕ) (table : Table) → table_at tables t ≡ Some table → t < length tables
 is-there [] t table e = absurd (cc)
@@ -13,34 +13,34 @@ pub on-ok : {E : Type 0} {P : Type 0} (r : Result (Unit {0}) E) → IsOk r → O
 on-ok (Ok done) h p = p
 on-ok (Err error) h p = absurd (cc)
 
-module _ (tables : Tables) (ids : List ℕ) (last : ℕ) (table : Table) (at : table_at tables last ≡ Some table) (noted : AreNoted ids (Some last) tables) where
+module _ (tables : Tables) (ids : List ℕ) (last : ℕ) (table : Table) (at : table_at tables last ≡ Some table) (noted : FixedAreListed ids (Some last) tables) where
   -- the dirty table is inserted
-  pub noted-put : (new : List ℕ) → IsPutIn ids last new → AreNoted new None tables
+  pub noted-put : (new : List ℕ) → InsertsSorted ids last new → FixedAreListed new None tables
   noted-put new put = record {
     order = put.order 0 (length tables) (omega arith) (is-there tables last table at) noted.order;
     each = λ t own there. by t own there (noted.each t own there);
   }
     where
-      by : (t : ℕ) (own : Table) → table_at tables t ≡ Some own → (Some last ≡ Some t) ⊎ Among t ids ⊎ IsIdle own.fixed → (None ≡ Some t) ⊎ Among t new ⊎ IsIdle own.fixed
-      by t own there (inl lent) = inr (inl (subst (λ i. Among i new) (same_Some _ _ lent) put.here))
+      by : (t : ℕ) (own : Table) → table_at tables t ≡ Some own → (Some last ≡ Some t) ⊎ IsAmong t ids ⊎ IsUnfixed own.fixed → (None ≡ Some t) ⊎ IsAmong t new ⊎ IsUnfixed own.fixed
+      by t own there (inl dirty) = inr (inl (subst (λ i. IsAmong i new) (same_Some _ _ dirty) put.here))
       by t own there (inr (inl among)) = inr (inl (put.more t among))
       by t own there (inr (inr idle)) = inr (inr idle)
 
   -- or it is idle
-  pub noted-idle : IsIdle table.fixed → AreNoted ids None tables
+  pub noted-idle : IsUnfixed table.fixed → FixedAreListed ids None tables
   noted-idle is = record { order = noted.order; each = λ t own there. by t own there (noted.each t own there) }
     where
-      by : (t : ℕ) (own : Table) → table_at tables t ≡ Some own → (Some last ≡ Some t) ⊎ Among t ids ⊎ IsIdle own.fixed → (None ≡ Some t) ⊎ Among t ids ⊎ IsIdle own.fixed
-      by t own there (inl lent) =
-          let same : Some own ≡ Some table = sym there ∙ ap (table_at tables) (sym (same_Some _ _ lent)) ∙ at in
-          inr (inr (subst (λ (x : Table). IsIdle x.fixed) (sym (same_Some _ _ same)) is))
+      by : (t : ℕ) (own : Table) → table_at tables t ≡ Some own → (Some last ≡ Some t) ⊎ IsAmong t ids ⊎ IsUnfixed own.fixed → (None ≡ Some t) ⊎ IsAmong t ids ⊎ IsUnfixed own.fixed
+      by t own there (inl dirty) =
+          let same : Some own ≡ Some table = sym there ∙ ap (table_at tables) (sym (same_Some _ _ dirty)) ∙ at in
+          inr (inr (subst (λ (x : Table). IsUnfixed x.fixed) (sym (same_Some _ _ same)) is))
       by t own there (inr (inl among)) = inr (inl among)
       by t own there (inr (inr idle)) = inr (inr idle)
 
 -- another table is marked dirty
-pub noted-lent : (ids : List ℕ) (id : ℕ) (tables : Tables) → AreNoted ids None tables → AreNoted ids (Some id) tables
-noted-lent ids id tables noted = record { order = noted.order; each = λ t own there. by t own (noted.each t own there) }
+pub noted-dirty : (ids : List ℕ) (id : ℕ) (tables : Tables) → FixedAreListed ids None tables → FixedAreListed ids (Some id) tables
+noted-dirty ids id tables noted = record { order = noted.order; each = λ t own there. by t own (noted.each t own there) }
   where
-    by : (t : ℕ) (own : Table) → (None ≡ Some t) ⊎ Among t ids ⊎ IsIdle own.fixed → (Some id ≡ Some t) ⊎ Among t ids ⊎ IsIdle own.fixed
-    by t own (inl lent) = absurd (cc)
+    by : (t : ℕ) (own : Table) → (None ≡ Some t) ⊎ IsAmong t ids ⊎ IsUnfixed own.fixed → (Some id ≡ Some t) ⊎ IsAmong t ids ⊎ IsUnfixed own.fixed
+    by t own (inl dirty) = absurd (cc)
     by t own (inr other) = inr other

@@ -8,7 +8,7 @@ use Rattle.ownership.specs.declared.head.Heir.{Heir}
 use Rattle.ownership.specs.World.{Table, Tables, Processes, table_at}
 use Rattle.ownership.specs.End.{living_heir}
 use Rattle.ownership.specs.declared.indices.Indices.{Indices}
-use Rattle.ownership.specs.inside.Indices.{Among, Between, IsPutIn, Notes, Forgets, Ascend, ids_under}
+use Rattle.ownership.specs.inside.Indices.{IsAmong, AscendsBetween, InsertsSorted, AddsUnderOwners, RemovesOwner, EachAscends, ids_under}
 
 pub same-number : (m n : ℕ) → nat_eq m n ≡ true → m ≡ n
 same-number m n h = grind (arith, nat_tests)
@@ -21,8 +21,8 @@ other-number m n h = grind (arith, nat_tests)
 
 -- more tables may be under owners
 pub record AddsUnder (old new : ℕ → List ℕ) : Type 0 where
-  pub more : (p t : ℕ) → Among t (old p) → Among t (new p)
-  pub order : Ascend old → Ascend new
+  pub more : (p t : ℕ) → IsAmong t (old p) → IsAmong t (new p)
+  pub order : EachAscends old → EachAscends new
 
 -- the tables of an entry
 abbrev pub ids_in : Option (Vec ℕ Global) → List ℕ
@@ -33,24 +33,24 @@ module _ (before after : ℕ → Option (Vec ℕ Global)) (owner id : ℕ) (ids 
   now-is p true e = ap ids_in (updated p) ∙ ap (λ b. ids_in (cond b (Some ids) (before p))) e
   now-is p false e = ap ids_in (updated p) ∙ ap (λ b. ids_in (cond b (Some ids) (before p))) e
 
-  module _ (put : IsPutIn (ids_in (before owner)) id ids.items) (below : id < 4294967296) where
-    more-at : (b : Bool) (p t : ℕ) → nat_eq owner p ≡ b → Among t (ids_in (before p)) → Among t (cond b ids.items (ids_in (before p)))
-    more-at true p t e a = put.more t (subst (λ q. Among t (ids_in (before q))) (sym (same-number owner p e)) a)
+  module _ (put : InsertsSorted (ids_in (before owner)) id ids.items) (below : id < 4294967296) where
+    more-at : (b : Bool) (p t : ℕ) → nat_eq owner p ≡ b → IsAmong t (ids_in (before p)) → IsAmong t (cond b ids.items (ids_in (before p)))
+    more-at true p t e a = put.more t (subst (λ q. IsAmong t (ids_in (before q))) (sym (same-number owner p e)) a)
     more-at false p t e a = a
 
-    order-at : (b : Bool) (p : ℕ) → nat_eq owner p ≡ b → Ascend (λ q. ids_in (before q)) → Between 0 4294967296 (cond b ids.items (ids_in (before p)))
+    order-at : (b : Bool) (p : ℕ) → nat_eq owner p ≡ b → EachAscends (λ q. ids_in (before q)) → AscendsBetween 0 4294967296 (cond b ids.items (ids_in (before p)))
     order-at true p e a = put.order 0 4294967296 (omega arith) below (a owner)
     order-at false p e a = a p
 
     -- an identifier more under an owner, in a new entry or an old one
     pub noted : AddsUnder (λ p. ids_in (before p)) (λ p. ids_in (after p))
     noted = record {
-      more = λ p t a. subst (Among t) (sym (now-is p (nat_eq owner p) refl)) (more-at (nat_eq owner p) p t refl a);
-      order = λ a p. subst (Between 0 4294967296) (sym (now-is p (nat_eq owner p) refl)) (order-at (nat_eq owner p) p refl a);
+      more = λ p t a. subst (IsAmong t) (sym (now-is p (nat_eq owner p) refl)) (more-at (nat_eq owner p) p t refl a);
+      order = λ a p. subst (AscendsBetween 0 4294967296) (sym (now-is p (nat_eq owner p) refl)) (order-at (nat_eq owner p) p refl a);
     }
 
-    pub noted-here : Among id (ids_in (after owner))
-    noted-here = subst (Among id) (sym (now-is owner true (own-number owner))) put.here
+    pub noted-here : IsAmong id (ids_in (after owner))
+    noted-here = subst (IsAmong id) (sym (now-is owner true (own-number owner))) put.here
 
   same-at : (b : Bool) (p : ℕ) → nat_eq owner p ≡ b → ids.items ≡ ids_in (before owner) → cond b ids.items (ids_in (before p)) ≡ ids_in (before p)
   same-at true p e s = s ∙ ap (λ q. ids_in (before q)) (same-number owner p e)
@@ -60,7 +60,7 @@ module _ (before after : ℕ → Option (Vec ℕ Global)) (owner id : ℕ) (ids 
   pub noted-same : ids.items ≡ ids_in (before owner) → AddsUnder (λ p. ids_in (before p)) (λ p. ids_in (after p))
   noted-same s =
       let same : (p : ℕ) → ids_in (after p) ≡ ids_in (before p) = λ p. now-is p (nat_eq owner p) refl ∙ same-at (nat_eq owner p) p refl s in
-      record { more = λ p t a. subst (Among t) (sym (same p)) a; order = λ a p. subst (Between 0 4294967296) (sym (same p)) (a p) }
+      record { more = λ p t a. subst (IsAmong t) (sym (same p)) a; order = λ a p. subst (AscendsBetween 0 4294967296) (sym (same p)) (a p) }
 
 forgotten-at : (b : Bool) (entry : Option (Vec ℕ Global)) → ids_in (cond b None entry) ≡ cond b [] (ids_in entry)
 forgotten-at true entry = refl
@@ -70,30 +70,30 @@ forgotten-at false entry = refl
 pub forgotten : (before after : ℕ → Option (Vec ℕ Global)) (owner : ℕ) → ((q : ℕ) → after q ≡ cond (nat_eq owner q) None (before q)) → (p : ℕ) → ids_in (after p) ≡ cond (nat_eq owner p) [] (ids_in (before p))
 forgotten before after owner updated p = ap ids_in (updated p) ∙ forgotten-at (nat_eq owner p) (before p)
 
-module _ (owner : ℕ) (old new : Indices) (forgets : Forgets owner old new) where
-  order-left : (b : Bool) (ids : List ℕ) → Between 0 4294967296 ids → Between 0 4294967296 (cond b [] ids)
+module _ (owner : ℕ) (old new : Indices) (forgets : RemovesOwner owner old new) where
+  order-left : (b : Bool) (ids : List ℕ) → AscendsBetween 0 4294967296 ids → AscendsBetween 0 4294967296 (cond b [] ids)
   order-left true ids order = omega arith
   order-left false ids order = order
 
-  pub forgets-order : Ascend (ids_under old) → Ascend (ids_under new)
-  forgets-order order p = subst (Between 0 4294967296) (sym (forgets.gone p)) (order-left (nat_eq owner p) (ids_under old p) (order p))
+  pub forgets-order : EachAscends (ids_under old) → EachAscends (ids_under new)
+  forgets-order order p = subst (AscendsBetween 0 4294967296) (sym (forgets.gone p)) (order-left (nat_eq owner p) (ids_under old p) (order p))
 
-  among-left : (b : Bool) (t : ℕ) (ids : List ℕ) → b ≡ false → Among t ids → Among t (cond b [] ids)
+  among-left : (b : Bool) (t : ℕ) (ids : List ℕ) → b ≡ false → IsAmong t ids → IsAmong t (cond b [] ids)
   among-left true t ids e a = absurd (true≢false e)
   among-left false t ids e a = a
 
   -- the entries of other owners stay
-  pub forgets-others : (p t : ℕ) → nat_eq p owner ≡ false → Among t (ids_under old p) → Among t (ids_under new p)
-  forgets-others p t e a = subst (Among t) (sym (forgets.gone p)) (among-left (nat_eq owner p) t (ids_under old p) (other-number p owner e) a)
+  pub forgets-others : (p t : ℕ) → nat_eq p owner ≡ false → IsAmong t (ids_under old p) → IsAmong t (ids_under new p)
+  forgets-others p t e a = subst (IsAmong t) (sym (forgets.gone p)) (among-left (nat_eq owner p) t (ids_under old p) (other-number p owner e) a)
 
 -- the first table under an owner
-pub put-first : (id : ℕ) → IsPutIn [] id (id ∷ [])
+pub put-first : (id : ℕ) → InsertsSorted [] id (id ∷ [])
 put-first id = record { here = inl refl; more = λ t a. absurd a; order = λ low high l u b. (l, omega (arith, u)) }
 
-pub notes-same : (indices : Indices) → Notes indices indices
+pub notes-same : (indices : Indices) → AddsUnderOwners indices indices
 notes-same indices = record { rest = refl; more = λ p t a. a; order = λ a. a }
 
-pub notes-more : (old mid new : Indices) → Notes old mid → Notes mid new → Notes old new
+pub notes-more : (old mid new : Indices) → AddsUnderOwners old mid → AddsUnderOwners mid new → AddsUnderOwners old new
 notes-more old mid new first next = record {
   rest = next.rest ∙ ap (λ (i : Indices). record i { owned = new.owned }) first.rest;
   more = λ p t a. next.more p t (first.more p t a);
@@ -102,17 +102,17 @@ notes-more old mid new first next = record {
 
 -- the result of an insertion, or memory is refused
 pub noted-either : {E : Type 0} (r : Result (Unit {0}) E) (before after : ℕ → Option (Vec ℕ Global)) (owner id : ℕ) (ids : Vec ℕ Global) → ((q : ℕ) → after q ≡ cond (nat_eq owner q) (Some ids) (before q)) → id < 4294967296
-    → OnOk r (IsPutIn (ids_in (before owner)) id ids.items) → OnErr r (ids.items ≡ ids_in (before owner)) → AddsUnder (λ p. ids_in (before p)) (λ p. ids_in (after p))
+    → OnOk r (InsertsSorted (ids_in (before owner)) id ids.items) → OnErr r (ids.items ≡ ids_in (before owner)) → AddsUnder (λ p. ids_in (before p)) (λ p. ids_in (after p))
 noted-either (Ok done) before after owner id ids updated below put same = noted before after owner id ids updated put below
 noted-either (Err error) before after owner id ids updated below put same = noted-same before after owner id ids updated same
 
-pub inherited-more : (old new : Indices) (processes : Processes) (tables : Tables) (ids rest : List ℕ) (id : ℕ) → Notes old new
-    → ((table : Table) (heir : Heir) → table_at tables id ≡ Some table → living_heir processes table.head ≡ Some heir → Among id (ids_under new heir.pid))
-    → ((t : ℕ) (table : Table) (heir : Heir) → Among t ids → table_at tables t ≡ Some table → living_heir processes table.head ≡ Some heir → Among t (id ∷ rest) ⊎ Among t (ids_under old heir.pid))
-    → (t : ℕ) (table : Table) (heir : Heir) → Among t ids → table_at tables t ≡ Some table → living_heir processes table.head ≡ Some heir → Among t rest ⊎ Among t (ids_under new heir.pid)
+pub inherited-more : (old new : Indices) (processes : Processes) (tables : Tables) (ids rest : List ℕ) (id : ℕ) → AddsUnderOwners old new
+    → ((table : Table) (heir : Heir) → table_at tables id ≡ Some table → living_heir processes table.head ≡ Some heir → IsAmong id (ids_under new heir.pid))
+    → ((t : ℕ) (table : Table) (heir : Heir) → IsAmong t ids → table_at tables t ≡ Some table → living_heir processes table.head ≡ Some heir → IsAmong t (id ∷ rest) ⊎ IsAmong t (ids_under old heir.pid))
+    → (t : ℕ) (table : Table) (heir : Heir) → IsAmong t ids → table_at tables t ≡ Some table → living_heir processes table.head ≡ Some heir → IsAmong t rest ⊎ IsAmong t (ids_under new heir.pid)
 inherited-more old new processes tables ids rest id notes here each t table heir a at lives = by (each t table heir a at lives)
   where
-    by : Among t (id ∷ rest) ⊎ Among t (ids_under old heir.pid) → Among t rest ⊎ Among t (ids_under new heir.pid)
-    by (inl (inl same)) = inr (subst (λ i. Among i (ids_under new heir.pid)) (sym same) (here table heir (ap (table_at tables) (sym same) ∙ at) lives))
+    by : IsAmong t (id ∷ rest) ⊎ IsAmong t (ids_under old heir.pid) → IsAmong t rest ⊎ IsAmong t (ids_under new heir.pid)
+    by (inl (inl same)) = inr (subst (λ i. IsAmong i (ids_under new heir.pid)) (sym same) (here table heir (ap (table_at tables) (sym same) ∙ at) lives))
     by (inl (inr more)) = inl more
     by (inr found) = inr (notes.more heir.pid t found)

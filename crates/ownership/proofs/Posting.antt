@@ -42,12 +42,12 @@ post-none before p message e = ap (λ o. option_map_or (λ own. set_value (λ q.
 -- a process with one more message, without its last one, is the process before
 taken_at : (o : Option Process) (before now new : List (ℕ × Process)) (p : ℕ) (message : Term) (own left : Process) → process_at before p ≡ o → now ≡ post before p message → process_at now p ≡ Some own
     → ((mailbox : List Term) (lives : Bool) → own ≡ record { lives = lives; mailbox = mailbox ++ message ∷ [] } → left ≡ record { lives = lives; mailbox = mailbox }) → new ≡ set_value (λ q. p == q) now left → new ≡ before
-taken_at None before now new p message own left e posted there took is =
-    let same : now ≡ before = posted ∙ post-none before p message e in
+taken_at None before now new p message own left e after_transfers there took is =
+    let same : now ≡ before = after_transfers ∙ post-none before p message e in
     let none : process_at now p ≡ None = ap (λ ps. process_at ps p) same ∙ e in
     absurd (cc (none, there))
-taken_at (Some process) before now new p message own left e posted there took is =
-    let set : now ≡ set_value (λ q. p == q) before (with_message process message) = posted ∙ post-is before p message process e in
+taken_at (Some process) before now new p message own left e after_transfers there took is =
+    let set : now ≡ set_value (λ q. p == q) before (with_message process message) = after_transfers ∙ post-is before p message process e in
     let found : process_at now p ≡ Some (with_message process message) = ap (λ ps. process_at ps p) set ∙ lookup-set_value (λ q. p == q) before process (with_message process message) e in
     let own_is : own ≡ with_message process message = cc (found, there) in
     let left_is : left ≡ process = took process.mailbox process.lives own_is in
@@ -56,18 +56,18 @@ taken_at (Some process) before now new p message own left e posted there took is
 
 pub taken : (before now new : List (ℕ × Process)) (p : ℕ) (message : Term) (own left : Process) → now ≡ post before p message → process_at now p ≡ Some own
     → ((mailbox : List Term) (lives : Bool) → own ≡ record { lives = lives; mailbox = mailbox ++ message ∷ [] } → left ≡ record { lives = lives; mailbox = mailbox }) → new ≡ set_value (λ q. p == q) now left → new ≡ before
-taken before now new p message own left posted there took is = taken_at (process_at before p) before now new p message own left refl posted there took is
+taken before now new p message own left after_transfers there took is = taken_at (process_at before p) before now new p message own left refl after_transfers there took is
 
 -- if the process does not exist, nothing was posted
 absent_at : (o : Option Process) (before now : List (ℕ × Process)) (p : ℕ) (message : Term) → process_at before p ≡ o → now ≡ post before p message → process_at now p ≡ None → now ≡ before
-absent_at None before now p message e posted none = posted ∙ post-none before p message e
-absent_at (Some process) before now p message e posted none =
-    let set : now ≡ set_value (λ q. p == q) before (with_message process message) = posted ∙ post-is before p message process e in
+absent_at None before now p message e after_transfers none = after_transfers ∙ post-none before p message e
+absent_at (Some process) before now p message e after_transfers none =
+    let set : now ≡ set_value (λ q. p == q) before (with_message process message) = after_transfers ∙ post-is before p message process e in
     let found : process_at now p ≡ Some (with_message process message) = ap (λ ps. process_at ps p) set ∙ lookup-set_value (λ q. p == q) before process (with_message process message) e in
     absurd (cc (found, none))
 
 pub absent : (before now : List (ℕ × Process)) (p : ℕ) (message : Term) → now ≡ post before p message → process_at now p ≡ None → now ≡ before
-absent before now p message posted none = absent_at (process_at before p) before now p message refl posted none
+absent before now p message after_transfers none = absent_at (process_at before p) before now p message refl after_transfers none
 
 no-empty : (xs : List Term) (x : Term) → xs ++ x ∷ [] ≡ [] → ⊥
 no-empty [] x e = cc

@@ -4,54 +4,54 @@ use Rattle.std.specs.Prelude.{vec_capacity}
 use Rattle.ownership.specs.declared.indices.Indices.{Indices}
 use Rattle.ownership.specs.World.{Tables, Processes, lives, table_at}
 use Rattle.ownership.specs.End.{table_after}
-use Rattle.ownership.specs.inside.Ending.{Settles}
-use Rattle.ownership.specs.inside.Indices.{AreBequeathed, AreNoted, AreOwned, Forgets, IsKept, is_fixed_at}
+use Rattle.ownership.specs.inside.Ending.{ReassignsTables}
+use Rattle.ownership.specs.inside.Indices.{HeirsOfOwnerAreIndexed, FixedAreListed, CoversTablesOf, RemovesOwner, IndicesInvariant, is_fixed_at}
 use Rattle.ownership.proofs.Keeping.{bequeathed-still, kept-beside, owners-forgotten}
 use Rattle.ownership.proofs.Owning.{forgets-order}
 use Rattle.ownership.proofs.Settling.{settled-twice, settles-none, settles-more, settles-all, noted-after}
 
 pub record Settled (now : Indices) (ps : Processes) (p : ℕ) (ids : List ℕ) (old new : Tables) : Type 0 where
-  pub kept : IsKept now new
-  pub lent : now.lent ≡ None
-  pub heirs : AreBequeathed now ps p new
-  pub noted : AreNoted now.fixed.items None old
-  pub settles : Settles (table_after ps p) ids old new
+  pub kept : IndicesInvariant now new
+  pub dirty : now.dirty ≡ None
+  pub heirs : HeirsOfOwnerAreIndexed now ps p new
+  pub noted : FixedAreListed now.fixed.items None old
+  pub settles : ReassignsTables (table_after ps p) ids old new
 
-pub settled-none : (now : Indices) (ps : Processes) (p : ℕ) (tables : Tables) → IsKept now tables → now.lent ≡ None → AreBequeathed now ps p tables → Settled now ps p [] tables tables
-settled-none now ps p tables kept lent heirs = record {
+pub settled-none : (now : Indices) (ps : Processes) (p : ℕ) (tables : Tables) → IndicesInvariant now tables → now.dirty ≡ None → HeirsOfOwnerAreIndexed now ps p tables → Settled now ps p [] tables tables
+settled-none now ps p tables kept dirty heirs = record {
   kept = kept;
-  lent = lent;
+  dirty = dirty;
   heirs = heirs;
-  noted = subst (λ l. AreNoted now.fixed.items l tables) lent kept.noted;
+  noted = subst (λ l. FixedAreListed now.fixed.items l tables) dirty kept.noted;
   settles = settles-none (table_after ps p) tables;
 }
 
 module _ (ps : Processes) (p : ℕ) (dead : lives ps p ≡ false) (now : Indices) where
   -- one more table is reassigned
-  pub settled-more : (ids : List ℕ) (id : ℕ) (old mid new : Tables) → Settled now ps p ids old mid → (next : Indices) → next ≡ record now { names = next.names } → IsKept next new → new ≡ set mid id (table_after ps p (table_at mid id)) → Settled next ps p (ids ++ id ∷ []) old new
+  pub settled-more : (ids : List ℕ) (id : ℕ) (old mid new : Tables) → Settled now ps p ids old mid → (next : Indices) → next ≡ record now { names = next.names } → IndicesInvariant next new → new ≡ set mid id (table_after ps p (table_at mid id)) → Settled next ps p (ids ++ id ∷ []) old new
   settled-more ids id old mid new settled next rest kept is = record {
     kept = kept;
-    lent = ap (λ (i : Indices). i.lent) rest ∙ settled.lent;
-    heirs = subst (AreBequeathed next ps p) (sym is) (bequeathed-still ps p dead now next mid rest id settled.heirs);
-    noted = subst (λ (i : Indices). AreNoted i.fixed.items None old) (sym rest) settled.noted;
+    dirty = ap (λ (i : Indices). i.dirty) rest ∙ settled.dirty;
+    heirs = subst (HeirsOfOwnerAreIndexed next ps p) (sym is) (bequeathed-still ps p dead now next mid rest id settled.heirs);
+    noted = subst (λ (i : Indices). FixedAreListed i.fixed.items None old) (sym rest) settled.noted;
     settles = settles-more (table_after ps p) refl (settled-twice ps p dead) ids id old mid new settled.settles is;
   }
 
-  module _ (own : List ℕ) (old new : Tables) (owned : AreOwned own p old) (settled : Settled now ps p (own ++ now.fixed.items) old new) where
+  module _ (own : List ℕ) (old new : Tables) (owned : CoversTablesOf own p old) (settled : Settled now ps p (own ++ now.fixed.items) old new) where
     -- then all tables are
     pub settled-all : new ≡ map (table_after ps p) old
     settled-all = settles-all ps p dead old own now.fixed.items settled.noted owned new settled.settles
 
     -- tables that nobody fixes are not listed
-    pub kept-fixed-only : (next : Indices) → next ≡ record now { fixed = next.fixed } → next.fixed.items ≡ filter (is_fixed_at new) now.fixed.items → vec_capacity next.fixed ≡ vec_capacity now.fixed → IsKept next new
+    pub kept-fixed-only : (next : Indices) → next ≡ record now { fixed = next.fixed } → next.fixed.items ≡ filter (is_fixed_at new) now.fixed.items → vec_capacity next.fixed ≡ vec_capacity now.fixed → IndicesInvariant next new
     kept-fixed-only next rest items room =
-        let noted : AreNoted next.fixed.items None new = subst (λ ids. AreNoted ids None new) (sym items) (noted-after ps p dead old own now.fixed.items settled.noted owned new settled-all) in
-        let kept : IsKept (record now { fixed = next.fixed; lent = None }) new = kept-beside now new settled.kept next.fixed None noted (omega (arith, settled.kept.room, room)) in
-        subst (λ (i : Indices). IsKept i new) (sym rest) (subst (λ l. IsKept (record now { fixed = next.fixed; lent = l }) new) (sym settled.lent) kept)
+        let noted : FixedAreListed next.fixed.items None new = subst (λ ids. FixedAreListed ids None new) (sym items) (noted-after ps p dead old own now.fixed.items settled.noted owned new settled-all) in
+        let kept : IndicesInvariant (record now { fixed = next.fixed; dirty = None }) new = kept-beside now new settled.kept next.fixed None noted (omega (arith, settled.kept.room, room)) in
+        subst (λ (i : Indices). IndicesInvariant i new) (sym rest) (subst (λ l. IndicesInvariant (record now { fixed = next.fixed; dirty = l }) new) (sym settled.dirty) kept)
 
     -- no table is under the process
-    pub kept-forgotten : (next last : Indices) → IsKept next new → Forgets p next last → IsKept last new
-    kept-forgotten next last kept forgets = subst (λ (i : Indices). IsKept i new) (sym forgets.rest) (record {
+    pub kept-forgotten : (next last : Indices) → IndicesInvariant next new → RemovesOwner p next last → IndicesInvariant last new
+    kept-forgotten next last kept forgets = subst (λ (i : Indices). IndicesInvariant i new) (sym forgets.rest) (record {
       few = kept.few;
       room = kept.room;
       by_name = kept.by_name;

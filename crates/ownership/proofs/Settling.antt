@@ -19,8 +19,8 @@ use Rattle.ownership.specs.World.{Table, Tables, Processes, table_at, lives}
 use Rattle.ownership.specs.Heads.{owned_by}
 use Rattle.ownership.specs.End.{living_heir, let_go, table_after}
 use Rattle.ownership.specs.Tables.{passed_to}
-use Rattle.ownership.specs.inside.Ending.{IsSettled, Settles}
-use Rattle.ownership.specs.inside.Indices.{Among, Between, IsIdle, AreNoted, AreOwned, is_fixed_at}
+use Rattle.ownership.specs.inside.Ending.{IsReassigned, ReassignsTables}
+use Rattle.ownership.specs.inside.Indices.{IsAmong, AscendsBetween, IsUnfixed, FixedAreListed, CoversTablesOf, is_fixed_at}
 use Rattle.ownership.proofs.Ascending.{among-filter, between-filter, among-either, among-left, among-right}
 use Rattle.ownership.proofs.Owning.{same-number}
 
@@ -44,7 +44,7 @@ released-twice : (p : ℕ) (f : Fixed) → all_released p (all_released p f) ≡
 released-twice p f = released-at (is_fixed (remove f.fixes p)) f p refl
 
 -- an idle table stays as it is
-pub idle-stays : (p : ℕ) (f : Fixed) → IsIdle f → all_released p f ≡ f
+pub idle-stays : (p : ℕ) (f : Fixed) → IsUnfixed f → all_released p f ≡ f
 idle-stays p f idle = sym (free-release_all p f idle.0 (λ free. idle.1))
 
 -- ---- a table that is reassigned twice
@@ -84,7 +84,7 @@ module _ (ps : Processes) (p : ℕ) (dead : lives ps p ≡ false) where
   settled-twice (Some table) = twice-at (owned_by table.head p) table (living_heir ps table.head) refl refl
 
   -- an idle table of another process needs no visit
-  pub settled-idle : (table : Table) → owned_by table.head p ≡ false → IsIdle table.fixed → table_after ps p (Some table) ≡ Some table
+  pub settled-idle : (table : Table) → owned_by table.head p ≡ false → IsUnfixed table.fixed → table_after ps p (Some table) ≡ Some table
   settled-idle table other idle = rw other (ap (λ f. Some (record table { fixed = f })) (idle-stays p table.fixed idle))
 
 -- ---- lists of tables that are reassigned at places
@@ -94,34 +94,34 @@ module _ (after : Option Table → Option Table) (empty : after None ≡ None) (
   map-at (o ∷ tables) zero = ap (λ x. x ∷ map after tables) (twice o)
   map-at (o ∷ tables) (suc t) = ap (λ rest. after o ∷ rest) (map-at tables t)
 
-  pub settled-here : (tables : Tables) (t : ℕ) → IsSettled after (set tables t (after (table_at tables t))) t
+  pub settled-here : (tables : Tables) (t : ℕ) → IsReassigned after (set tables t (after (table_at tables t))) t
   settled-here [] t = empty
   settled-here (o ∷ tables) zero = twice o
   settled-here (o ∷ tables) (suc t) = settled-here tables t
 
-  settled-still : (tables : Tables) (t u : ℕ) → IsSettled after tables u → (u ≡ t) ⊎ (u ≡ t → ⊥) → IsSettled after (set tables t (after (table_at tables t))) u
-  settled-still tables t u s (inl same) = subst (IsSettled after (set tables t (after (table_at tables t)))) (sym same) (settled-here tables t)
+  settled-still : (tables : Tables) (t u : ℕ) → IsReassigned after tables u → (u ≡ t) ⊎ (u ≡ t → ⊥) → IsReassigned after (set tables t (after (table_at tables t))) u
+  settled-still tables t u s (inl same) = subst (IsReassigned after (set tables t (after (table_at tables t)))) (sym same) (settled-here tables t)
   settled-still tables t u s (inr other) =
       let there = get_or-set_other tables t u (after (table_at tables t)) None other in
       ap after there ∙ s ∙ sym there
 
-  pub settled-there : (tables : Tables) (t u : ℕ) → IsSettled after tables u → IsSettled after (set tables t (after (table_at tables t))) u
+  pub settled-there : (tables : Tables) (t u : ℕ) → IsReassigned after tables u → IsReassigned after (set tables t (after (table_at tables t))) u
   settled-there tables t u s = settled-still tables t u s (cases_eq u t)
 
   -- one more table is reassigned
-  pub settles-more : (ids : List ℕ) (id : ℕ) (old mid new : Tables) → Settles after ids old mid → new ≡ set mid id (after (table_at mid id)) → Settles after (ids ++ id ∷ []) old new
+  pub settles-more : (ids : List ℕ) (id : ℕ) (old mid new : Tables) → ReassignsTables after ids old mid → new ≡ set mid id (after (table_at mid id)) → ReassignsTables after (ids ++ id ∷ []) old new
   settles-more ids id old mid new settles is = record {
     same = ap (map after) is ∙ map-at mid id ∙ settles.same;
-    here = λ t a. subst (λ (ts : Tables). IsSettled after ts t) (sym is) (by t (among-either ids (id ∷ []) t a));
-    there = λ t s. subst (λ (ts : Tables). IsSettled after ts t) (sym is) (settled-there mid id t (settles.there t s));
+    here = λ t a. subst (λ (ts : Tables). IsReassigned after ts t) (sym is) (by t (among-either ids (id ∷ []) t a));
+    there = λ t s. subst (λ (ts : Tables). IsReassigned after ts t) (sym is) (settled-there mid id t (settles.there t s));
   }
     where
-      by : (t : ℕ) → Among t ids ⊎ Among t (id ∷ []) → IsSettled after (set mid id (after (table_at mid id))) t
+      by : (t : ℕ) → IsAmong t ids ⊎ IsAmong t (id ∷ []) → IsReassigned after (set mid id (after (table_at mid id))) t
       by t (inl among) = settled-there mid id t (settles.here t among)
-      by t (inr (inl same)) = subst (IsSettled after (set mid id (after (table_at mid id)))) (sym same) (settled-here mid id)
+      by t (inr (inl same)) = subst (IsReassigned after (set mid id (after (table_at mid id)))) (sym same) (settled-here mid id)
       by t (inr (inr none)) = absurd none
 
-pub settles-none : (after : Option Table → Option Table) (tables : Tables) → Settles after [] tables tables
+pub settles-none : (after : Option Table → Option Table) (tables : Tables) → ReassignsTables after [] tables tables
 settles-none after tables = record { same = refl; here = λ t a. absurd a; there = λ t s. s }
 
 -- a place that is written twice
@@ -131,7 +131,7 @@ written-again (x ∷ tables) zero d o = refl
 written-again (x ∷ tables) (suc t) d o = ap (λ rest. x ∷ rest) (written-again tables t d o)
 
 -- if all tables are reassigned, nothing changes
-all-settled : (after : Option Table → Option Table) (tables : Tables) → ((t : ℕ) → IsSettled after tables t) → map after tables ≡ tables
+all-settled : (after : Option Table → Option Table) (tables : Tables) → ((t : ℕ) → IsReassigned after tables t) → map after tables ≡ tables
 all-settled after [] s = refl
 all-settled after (o ∷ tables) s = let here = s 0 in let rest = all-settled after tables (λ t. s (suc t)) in λ i. here i ∷ rest i
 
@@ -166,56 +166,56 @@ left-others ps p dead o new left = by left.head
     by (inl same) = ap (λ (h : Head). owned_by h p) same.0 ∙ same.1
     by (inr passed) = ap (λ (h : Head). owned_by h p) passed.3 ∙ other-pid ps p dead passed.0.pid (heir-lives ps p dead left.table.head passed.0 passed.1)
 
-released-idle-at : (b : Bool) (p : ℕ) (f : Fixed) → is_fixed (remove f.fixes p) ≡ b → is_fixed (all_released p f).fixes ≡ false → IsIdle (all_released p f)
+released-idle-at : (b : Bool) (p : ℕ) (f : Fixed) → is_fixed (remove f.fixes p) ≡ b → is_fixed (all_released p f).fixes ≡ false → IsUnfixed (all_released p f)
 released-idle-at true p f e free =
     let once : all_released p f ≡ record f { fixes = remove f.fixes p } = rw e refl in
     absurd (true≢false (sym e ∙ ap (λ (g : Fixed). is_fixed g.fixes) (sym once) ∙ free))
 released-idle-at false p f e free =
     let once : all_released p f ≡ record f { content = record f.content { slots = purged f.content.slots }; fixes = remove f.fixes p } = rw e refl in
-    subst IsIdle (sym once) (e, purged-none f.content.slots)
+    subst IsUnfixed (sym once) (e, purged-none f.content.slots)
 
 -- a table is idle if the fixes of the process were its last
-pub released-idle : (p : ℕ) (f : Fixed) → is_fixed (all_released p f).fixes ≡ false → IsIdle (all_released p f)
+pub released-idle : (p : ℕ) (f : Fixed) → is_fixed (all_released p f).fixes ≡ false → IsUnfixed (all_released p f)
 released-idle p f free = released-idle-at (is_fixed (remove f.fixes p)) p f refl free
 
-module _ (ps : Processes) (p : ℕ) (dead : lives ps p ≡ false) (old : Tables) (own fixed : List ℕ) (noted : AreNoted fixed None old) (owned : AreOwned own p old) where
-  settled-first : (t : ℕ) (o : Option Table) → table_at old t ≡ o → Among t own ⊎ Among t fixed ⊎ (table_after ps p o ≡ o)
+module _ (ps : Processes) (p : ℕ) (dead : lives ps p ≡ false) (old : Tables) (own fixed : List ℕ) (noted : FixedAreListed fixed None old) (owned : CoversTablesOf own p old) where
+  settled-first : (t : ℕ) (o : Option Table) → table_at old t ≡ o → IsAmong t own ⊎ IsAmong t fixed ⊎ (table_after ps p o ≡ o)
   settled-first t None e = inr (inr refl)
   settled-first t (Some table) e = by (owned_by table.head p) refl (noted.each t table e)
     where
-      by : (b : Bool) → owned_by table.head p ≡ b → (None ≡ Some t) ⊎ Among t fixed ⊎ IsIdle table.fixed → Among t own ⊎ Among t fixed ⊎ (table_after ps p (Some table) ≡ Some table)
+      by : (b : Bool) → owned_by table.head p ≡ b → (None ≡ Some t) ⊎ IsAmong t fixed ⊎ IsUnfixed table.fixed → IsAmong t own ⊎ IsAmong t fixed ⊎ (table_after ps p (Some table) ≡ Some table)
       by true is n = inl (owned t table e is)
-      by false is (inl lent) = absurd (cc)
+      by false is (inl dirty) = absurd (cc)
       by false is (inr (inl among)) = inr (inl among)
       by false is (inr (inr idle)) = inr (inr (settled-idle ps p dead table is idle))
 
   -- to reassign the tables of the process and the listed ones is to reassign all
-  pub settles-all : (new : Tables) → Settles (table_after ps p) (own ++ fixed) old new → new ≡ map (table_after ps p) old
+  pub settles-all : (new : Tables) → ReassignsTables (table_after ps p) (own ++ fixed) old new → new ≡ map (table_after ps p) old
   settles-all new settles = sym (all-settled (table_after ps p) new each) ∙ settles.same
     where
-      by : (t : ℕ) → Among t own ⊎ Among t fixed ⊎ (table_after ps p (table_at old t) ≡ table_at old t) → IsSettled (table_after ps p) new t
+      by : (t : ℕ) → IsAmong t own ⊎ IsAmong t fixed ⊎ (table_after ps p (table_at old t) ≡ table_at old t) → IsReassigned (table_after ps p) new t
       by t (inl mine) = settles.here t (among-left own fixed t mine)
       by t (inr (inl among)) = settles.here t (among-right own fixed t among)
       by t (inr (inr settled)) = settles.there t settled
 
-      each : (t : ℕ) → IsSettled (table_after ps p) new t
+      each : (t : ℕ) → IsReassigned (table_after ps p) new t
       each t = by t (settled-first t (table_at old t) refl)
 
   -- the entries afterwards
-  pub noted-after : (new : Tables) → new ≡ map (table_after ps p) old → AreNoted (filter (is_fixed_at new) fixed) None new
+  pub noted-after : (new : Tables) → new ≡ map (table_after ps p) old → FixedAreListed (filter (is_fixed_at new) fixed) None new
   noted-after new is = record {
-    order = subst (λ n. Between 0 n (filter (is_fixed_at new) fixed)) (sym (ap (λ (ts : Tables). length ts) is ∙ length-map old (table_after ps p))) (between-filter (is_fixed_at new) 0 (length old) fixed noted.order);
+    order = subst (λ n. AscendsBetween 0 n (filter (is_fixed_at new) fixed)) (sym (ap (λ (ts : Tables). length ts) is ∙ length-map old (table_after ps p))) (between-filter (is_fixed_at new) 0 (length old) fixed noted.order);
     each = λ t table there. each t table there (left-over ps p (table_at old t) table (sym (get_or-map (table_after ps p) old t None) ∙ ap (λ ts. table_at ts t) (sym is) ∙ there));
   }
     where
-      fixed-at : (t : ℕ) (table was : Table) → table_at new t ≡ Some table → table.fixed ≡ all_released p was.fixed → Among t fixed → (b : Bool) → is_fixed table.fixed.fixes ≡ b → Among t (filter (is_fixed_at new) fixed) ⊎ IsIdle table.fixed
+      fixed-at : (t : ℕ) (table was : Table) → table_at new t ≡ Some table → table.fixed ≡ all_released p was.fixed → IsAmong t fixed → (b : Bool) → is_fixed table.fixed.fixes ≡ b → IsAmong t (filter (is_fixed_at new) fixed) ⊎ IsUnfixed table.fixed
       fixed-at t table was there f a true e = inl (among-filter (is_fixed_at new) fixed t (ap (λ o. option_map_or (λ (x : Table). is_fixed x.fixed.fixes) o false) there ∙ e) a)
-      fixed-at t table was there f a false e = inr (subst IsIdle (sym f) (released-idle p was.fixed (ap (λ (g : Fixed). is_fixed g.fixes) (sym f) ∙ e)))
+      fixed-at t table was there f a false e = inr (subst IsUnfixed (sym f) (released-idle p was.fixed (ap (λ (g : Fixed). is_fixed g.fixes) (sym f) ∙ e)))
 
-      by : (t : ℕ) (table was : Table) → table_at new t ≡ Some table → table.fixed ≡ all_released p was.fixed → (None ≡ Some t) ⊎ Among t fixed ⊎ IsIdle was.fixed → (None ≡ Some t) ⊎ Among t (filter (is_fixed_at new) fixed) ⊎ IsIdle table.fixed
-      by t table was there f (inl lent) = absurd (cc)
+      by : (t : ℕ) (table was : Table) → table_at new t ≡ Some table → table.fixed ≡ all_released p was.fixed → (None ≡ Some t) ⊎ IsAmong t fixed ⊎ IsUnfixed was.fixed → (None ≡ Some t) ⊎ IsAmong t (filter (is_fixed_at new) fixed) ⊎ IsUnfixed table.fixed
+      by t table was there f (inl dirty) = absurd (cc)
       by t table was there f (inr (inl among)) = inr (fixed-at t table was there f among (is_fixed table.fixed.fixes) refl)
-      by t table was there f (inr (inr idle)) = inr (inr (subst IsIdle (sym (f ∙ idle-stays p was.fixed idle)) idle))
+      by t table was there f (inr (inr idle)) = inr (inr (subst IsUnfixed (sym (f ∙ idle-stays p was.fixed idle)) idle))
 
-      each : (t : ℕ) (table : Table) → table_at new t ≡ Some table → Left ps p (table_at old t) table → (None ≡ Some t) ⊎ Among t (filter (is_fixed_at new) fixed) ⊎ IsIdle table.fixed
+      each : (t : ℕ) (table : Table) → table_at new t ≡ Some table → Left ps p (table_at old t) table → (None ≡ Some t) ⊎ IsAmong t (filter (is_fixed_at new) fixed) ⊎ IsUnfixed table.fixed
       each t table there left = by t table left.table there left.fixed (noted.each t left.table left.was)

@@ -1,13 +1,13 @@
 //! Indices over the tables: by name, by owner, and the fixed ones.
 ghost use Rattle.std.specs.Prelude.{◌+◌, ◌<◌, ◌^◌, ◌++◌, ◌∷◌, [], Some, OnOk, OnErr, length};
 ghost use Rattle.ownership.specs.inside.Names.{IsNameFree};
-ghost use Rattle.ownership.specs.inside.Indices.{IsKept};
+ghost use Rattle.ownership.specs.inside.Indices.{IndicesInvariant};
 
 mod fixed;
 mod identifiers;
 mod names;
 mod owners;
-mod settle;
+mod reassign;
 
 use crate::table::Table;
 use bucket_table::Rows;
@@ -22,41 +22,41 @@ pub struct Indices {
     names: IndexMap<String, u32>,
     owned: IndexMap<u32, Vec<u32>>,
     fixed: Vec<u32>,
-    lent: Option<u32>,
+    dirty: Option<u32>,
 }
 
 impl Indices {
     /// Returns indices of no table. This takes no memory.
     pub fn new(alloc: Global) -> Self
-        ensures { IsKept result [] }
+        ensures { IndicesInvariant result [] }
     {
         Indices {
             names: IndexMap::new(alloc),
             owned: IndexMap::new(alloc),
             fixed: Vec::new(alloc),
-            lent: None,
+            dirty: None,
         }
     }
 
     /// Adds the next table under its owner and its name, and reserves capacity for it among the fixed ones. Its name
     /// must be free. The new table becomes the dirty one.
-    pub fn note<R: Rows>(
+    pub fn insert<R: Rows>(
         &mut self,
         alloc: Global,
-        places: &[Option<Table<R>>],
+        tables: &[Option<Table<R>>],
         table: &Table<R>,
     ) -> Result<(), AllocError>
-        requires kept { IsKept self.old places.now }
-        requires few { length places.now + 1 < 2 ^ 32 }
-        requires free { IsNameFree places.now table.now.head }
-        ensures ok { OnOk result (IsKept self.new (places.now ++ Some table.now ∷ [])) }
-        ensures err { OnErr result (IsKept self.new places.now) }
+        requires kept { IndicesInvariant self.old tables.now }
+        requires few { length tables.now + 1 < 2 ^ 32 }
+        requires free { IsNameFree tables.now table.now.head }
+        ensures ok { OnOk result (IndicesInvariant self.new (tables.now ++ Some table.now ∷ [])) }
+        ensures err { OnErr result (IndicesInvariant self.new tables.now) }
     {
-        let id = places.len() as u32;
-        self.lend(places, id);
-        self.make_room(places.len() + 1)?;
-        self.note_owner(alloc, table.head().owner, id)?;
-        self.note_name(alloc, table.head(), id)?;
+        let id = tables.len() as u32;
+        self.mark_dirty(tables, id);
+        self.reserve(tables.len() + 1)?;
+        self.index_owner(alloc, table.head().owner, id)?;
+        self.index_name(alloc, table.head(), id)?;
         Ok(())
     }
 }

@@ -71,7 +71,7 @@ pub fn post(
 }
 
 /// Removes the message that was posted last to a process. This takes no memory.
-pub fn take_back(processes: &mut IndexMap<u32, Process>, pid: u32)
+pub fn unpost(processes: &mut IndexMap<u32, Process>, pid: u32)
     ensures { (before : List (ℕ × model.Process)) (message : term.Term)
         → processes.old.entries ≡ post before pid message → processes.new.entries ≡ before }
 {

@@ -8,7 +8,7 @@ mod read;
 use crate::fault::WorldFault;
 use crate::head::{Heir, Protection};
 use ets_term::Term;
-pub use heir::heir_said_by;
+pub use heir::heir_in_setopts;
 use read::read_all;
 use std::alloc::Global;
 use table_ops::Kind;

@@ -55,7 +55,7 @@ impl<R: Rows> Table<R> {
     }
 
     /// Sets the owner.
-    pub fn pass_to(&mut self, owner: u32)
+    pub fn set_owner(&mut self, owner: u32)
         ensures { self.new ≡ passed_to owner self.old }
     {
         self.head.owner = owner;

@@ -25,14 +25,14 @@ pub struct World<R: Rows> {
     most_processes: u32,
     most_tables: u32,
     processes: IndexMap<u32, Process>,
-    places: Vec<Option<Table<R>>>,
+    tables: Vec<Option<Table<R>>>,
     indices: Indices,
 }
 
 impl<R: Rows> Model for World<R> {
     ghost use Rattle.ownership.specs.World.{World};
     ghost use Rattle.ownership.specs.inside.Codes.{world_code};
-    ghost use Rattle.ownership.specs.inside.Indices.{IsKept};
+    ghost use Rattle.ownership.specs.inside.Indices.{IndicesInvariant};
 
     ghost Value = { World };
 
@@ -42,10 +42,10 @@ impl<R: Rows> Model for World<R> {
       most_processes = w.most_processes;
       most_tables = w.most_tables;
       processes = w.processes.entries;
-      tables = w.places.items;
+      tables = w.tables.items;
     } };
 
-    ghost invariant = { λ w. IsKept w.indices w.places.items };
+    ghost invariant = { λ w. IndicesInvariant w.indices w.tables.items };
 }
 
 impl<R: Rows> World<R> {
@@ -59,7 +59,7 @@ impl<R: Rows> World<R> {
             most_processes: processes,
             most_tables: tables,
             processes: IndexMap::new(alloc),
-            places: Vec::new(alloc),
+            tables: Vec::new(alloc),
             indices: Indices::new(alloc),
         }
     }

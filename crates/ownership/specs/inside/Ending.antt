@@ -5,16 +5,16 @@ use Rattle.ets_term.specs.declared.term.Term.{Term}
 use Rattle.ownership.specs.World.{Table, Tables, Processes, table_at}
 use Rattle.ownership.specs.Messages.{post, post_all}
 use Rattle.ownership.specs.End.{message_of}
-use Rattle.ownership.specs.inside.Indices.{Among}
+use Rattle.ownership.specs.inside.Indices.{IsAmong}
 
 -- the processes after a message, if there is one
-abbrev pub posted_of : Processes → Option (ℕ × Term) → Processes
-posted_of processes None = processes
-posted_of processes (Some message) = post processes message.0 message.1
+abbrev pub after_message : Processes → Option (ℕ × Term) → Processes
+after_message processes None = processes
+after_message processes (Some message) = post processes message.0 message.1
 
 -- the processes after the transfer message of the table with this identifier
-abbrev pub posted_at : Processes → ℕ → Tables → ℕ → Processes
-posted_at processes p tables t = posted_of processes (message_of processes p t (table_at tables t))
+abbrev pub after_transfer_of : Processes → ℕ → Tables → ℕ → Processes
+after_transfer_of processes p tables t = after_message processes (message_of processes p t (table_at tables t))
 
 -- the transfer messages of these tables
 abbrev pub messages_at : Processes → ℕ → (ℕ → Option Table) → List ℕ → List (ℕ × Term)
@@ -23,16 +23,16 @@ messages_at processes p at (t ∷ ids) =
     option_map_or (λ message. message ∷ messages_at processes p at ids)
     (message_of processes p t (at t)) (messages_at processes p at ids)
 
-abbrev pub posted : Processes → ℕ → Tables → List ℕ → Processes
-posted processes p tables ids = post_all processes (messages_at processes p (table_at tables) ids)
+abbrev pub after_transfers : Processes → ℕ → Tables → List ℕ → Processes
+after_transfers processes p tables ids = post_all processes (messages_at processes p (table_at tables) ids)
 
 -- the end of the process leaves the table at a place as it is
-abbrev pub IsSettled : (Option Table → Option Table) → Tables → ℕ → Type 0
-IsSettled after tables t = after (table_at tables t) ≡ table_at tables t
+abbrev pub IsReassigned : (Option Table → Option Table) → Tables → ℕ → Type 0
+IsReassigned after tables t = after (table_at tables t) ≡ table_at tables t
 
 -- These tables are reassigned, and tables reassigned before stay so. The tables after the whole end are the same.
-pub record Settles (after : Option Table → Option Table) (ids : List ℕ)
+pub record ReassignsTables (after : Option Table → Option Table) (ids : List ℕ)
     (old new : Tables) : Type 0 where
   pub same : map after new ≡ map after old
-  pub here : (t : ℕ) → Among t ids → IsSettled after new t
-  pub there : (t : ℕ) → IsSettled after old t → IsSettled after new t
+  pub here : (t : ℕ) → IsAmong t ids → IsReassigned after new t
+  pub there : (t : ℕ) → IsReassigned after old t → IsReassigned after new t

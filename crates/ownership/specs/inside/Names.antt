@@ -11,8 +11,8 @@ abbrev pub IsNameFree : Tables → Head → Type 0
 IsNameFree tables head = IsTrue head.named → whereis tables head.name ≡ None
 
 -- the index finds a table by a name exactly if the table has this name
-abbrev pub ByName : (List ℕ → Option ℕ) → List (Option Head) → Type 0
-ByName names hs =
+abbrev pub NameIndexIsExact : (List ℕ → Option ℕ) → List (Option Head) → Type 0
+NameIndexIsExact names hs =
     (name : List ℕ) (t : ℕ) → (names name ≡ Some t) ↔ (is_named name (head_at hs t) ≡ true)
 
 -- the first place whose table has this name

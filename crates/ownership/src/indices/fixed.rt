@@ -1,16 +1,16 @@
 // The tables that may be fixed. The dirty table, which was borrowed for a change last, need not be listed.
 ghost use Rattle.std.specs.Prelude.{◌≡◌, ◌≤◌, ℕ, Some, None, OnOk, filter, vec_capacity};
-ghost use Rattle.ownership.specs.inside.Indices.{IsKept, ids_under, is_fixed_at};
+ghost use Rattle.ownership.specs.inside.Indices.{IndicesInvariant, ids_under, is_fixed_at};
 
 use super::Indices;
-use super::identifiers::put_in;
+use super::identifiers::insert_sorted;
 use crate::table::Table;
 use bucket_table::Rows;
 use std::alloc::AllocError;
 
 impl Indices {
     /// Reserves capacity for `tables` identifiers.
-    pub(super) fn make_room(&mut self, tables: usize) -> Result<(), AllocError>
+    pub(super) fn reserve(&mut self, tables: usize) -> Result<(), AllocError>
         ensures rest { self.new ≡ record self.old { fixed = self.new.fixed } }
         ensures items { self.new.fixed.items ≡ self.old.fixed.items }
         ensures capacity { vec_capacity self.old.fixed ≤ vec_capacity self.new.fixed }
@@ -20,56 +20,56 @@ impl Indices {
     }
 
     /// Marks a table dirty. Lists the previous dirty table if it is fixed.
-    pub fn lend<R: Rows>(&mut self, places: &[Option<Table<R>>], id: u32)
-        requires kept { IsKept self.old places.now }
-        ensures kept { IsKept self.new places.now }
-        ensures lent { self.new.lent ≡ Some id }
+    pub fn mark_dirty<R: Rows>(&mut self, tables: &[Option<Table<R>>], id: u32)
+        requires kept { IndicesInvariant self.old tables.now }
+        ensures kept { IndicesInvariant self.new tables.now }
+        ensures dirty { self.new.dirty ≡ Some id }
     {
-        if let Some(last) = self.lent {
+        if let Some(last) = self.dirty {
             if last == id {
                 return;
             }
         }
-        self.take_back_lent(places);
-        self.lent = Some(id);
+        self.flush_dirty(tables);
+        self.dirty = Some(id);
     }
 
     /// Clears the dirty mark. Lists the dirty table if it is fixed. This takes no memory.
-    pub(super) fn take_back_lent<R: Rows>(&mut self, places: &[Option<Table<R>>])
-        requires kept { IsKept self.old places.now }
-        ensures kept { IsKept self.new places.now }
-        ensures lent { self.new.lent ≡ None }
+    pub(super) fn flush_dirty<R: Rows>(&mut self, tables: &[Option<Table<R>>])
+        requires kept { IndicesInvariant self.old tables.now }
+        ensures kept { IndicesInvariant self.new tables.now }
+        ensures dirty { self.new.dirty ≡ None }
         ensures owned { (p : ℕ) → ids_under self.new p ≡ ids_under self.old p }
     {
-        let Some(last) = self.lent else {
+        let Some(last) = self.dirty else {
             return;
         };
-        self.lent = None;
-        let Some(Some(table)) = places.get(last as usize) else {
+        self.dirty = None;
+        let Some(Some(table)) = tables.get(last as usize) else {
             return;
         };
         let walked = table.walked();
         walked.known();
         if walked.is_fixed() {
-            let _ = put_in(&mut self.fixed, last);
+            let _ = insert_sorted(&mut self.fixed, last);
         }
     }
 
     /// Removes the tables that nobody fixes.
-    pub(super) fn keep_fixed<R: Rows>(&mut self, places: &[Option<Table<R>>])
+    pub(super) fn retain_fixed<R: Rows>(&mut self, tables: &[Option<Table<R>>])
         ensures rest { self.new ≡ record self.old { fixed = self.new.fixed } }
         ensures items { self.new.fixed.items
-            ≡ filter (is_fixed_at places.now) self.old.fixed.items }
+            ≡ filter (is_fixed_at tables.now) self.old.fixed.items }
         ensures capacity { vec_capacity self.new.fixed ≡ vec_capacity self.old.fixed }
     {
-        self.fixed.retain(|id| is_fixed_at(places, *id));
+        self.fixed.retain(|id| is_fixed_at(tables, *id));
     }
 }
 
-fn is_fixed_at<R: Rows>(places: &[Option<Table<R>>], id: u32) -> bool
-    ensures { result ≡ is_fixed_at places.now id }
+fn is_fixed_at<R: Rows>(tables: &[Option<Table<R>>], id: u32) -> bool
+    ensures { result ≡ is_fixed_at tables.now id }
 {
-    match places.get(id as usize) {
+    match tables.get(id as usize) {
         Some(Some(table)) => table.walked().is_fixed(),
         _ => false,
     }

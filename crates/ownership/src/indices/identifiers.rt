@@ -1,14 +1,14 @@
 // Identifiers of tables, in ascending order.
 ghost use Rattle.std.specs.Prelude.{◌≡◌, ◌<◌, ◌≤◌, ℕ, OnOk, OnErr, IsOk, vec_capacity};
-ghost use Rattle.ownership.specs.inside.Indices.{Between, IsPutIn};
+ghost use Rattle.ownership.specs.inside.Indices.{AscendsBetween, InsertsSorted};
 
 use std::alloc::AllocError;
 
 /// Inserts `id` in ascending order, unless it is there. If memory is refused, nothing changes.
-pub fn put_in(ids: &mut Vec<u32>, id: u32) -> Result<(), AllocError>
-    ensures ok { OnOk result (IsPutIn ids.old.items id ids.new.items) }
+pub fn insert_sorted(ids: &mut Vec<u32>, id: u32) -> Result<(), AllocError>
+    ensures ok { OnOk result (InsertsSorted ids.old.items id ids.new.items) }
     ensures err { OnErr result (ids.new.items ≡ ids.old.items) }
-    ensures room { (hi : ℕ) → Between 0 hi ids.old.items → id < hi
+    ensures room { (hi : ℕ) → AscendsBetween 0 hi ids.old.items → id < hi
         → hi ≤ vec_capacity ids.old → IsOk result }
     ensures capacity { vec_capacity ids.old ≤ vec_capacity ids.new }
 {

@@ -3,8 +3,8 @@ ghost use Rattle.std.specs.Prelude.{◌≡◌, ◌++◌, ◌∷◌, ℕ, [], tru
 ghost use Rattle.indexmap.specs.IndexMap.{get_by_text};
 ghost use Rattle.ownership.specs.declared.head.Head as model;
 ghost use Rattle.ownership.specs.World.{Tables, head_of, table_at, whereis};
-ghost use Rattle.ownership.specs.inside.Names.{find_named, ByName};
-ghost use Rattle.ownership.specs.inside.Indices.{IsKept};
+ghost use Rattle.ownership.specs.inside.Names.{find_named, NameIndexIsExact};
+ghost use Rattle.ownership.specs.inside.Indices.{IndicesInvariant};
 
 use super::Indices;
 use crate::head::Head;
@@ -14,13 +14,13 @@ use std::alloc::{AllocError, Global};
 impl Indices {
     /// Returns the identifier of the table with this name, or `None`.
     pub fn find(&self, name: &Atom) -> Option<u32>
-        ensures { (tables : Tables) → IsKept self.now tables → result ≡ whereis tables name.now }
+        ensures { (tables : Tables) → IndicesInvariant self.now tables → result ≡ whereis tables name.now }
     {
         self.names.get(name.text()).copied()
     }
 
     /// Adds the next identifier under the name of a table, if the table is named.
-    pub(super) fn note_name(
+    pub(super) fn index_name(
         &mut self,
         alloc: Global,
         head: &Head,
@@ -29,12 +29,12 @@ impl Indices {
         ensures rest { self.new ≡ record self.old { names = self.new.names } }
         ensures ok { OnOk result
             ((hs : List (Option model.Head)) → length hs ≡ id
-            → ByName (get_by_text self.old.names) hs
+            → NameIndexIsExact (get_by_text self.old.names) hs
             → (head.now.named ≡ true → find_named hs head.now.name ≡ None)
-            → ByName (get_by_text self.new.names) (hs ++ Some head.now ∷ [])) }
+            → NameIndexIsExact (get_by_text self.new.names) (hs ++ Some head.now ∷ [])) }
         ensures err { OnErr result
-            ((hs : List (Option model.Head)) → ByName (get_by_text self.old.names) hs
-            → ByName (get_by_text self.new.names) hs) }
+            ((hs : List (Option model.Head)) → NameIndexIsExact (get_by_text self.old.names) hs
+            → NameIndexIsExact (get_by_text self.new.names) hs) }
     {
         if head.named {
             self.names
@@ -44,10 +44,10 @@ impl Indices {
     }
 
     /// Removes the name of a table, which is then free again. This takes no memory.
-    pub fn forget(&mut self, head: &Head)
+    pub fn remove(&mut self, head: &Head)
         ensures rest { self.new ≡ record self.old { names = self.new.names } }
         ensures kept { (tables : Tables) (t : ℕ) → head_of (table_at tables t) ≡ Some head.now
-            → IsKept self.old tables → IsKept self.new (slice_set tables t None) }
+            → IndicesInvariant self.old tables → IndicesInvariant self.new (slice_set tables t None) }
     {
         if head.named {
             let _ = self.names.swap_remove(head.name.text());

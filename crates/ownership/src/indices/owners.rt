@@ -1,9 +1,9 @@
 // The index by owner: for each process, the tables that it ever owned, until it ends.
 ghost use Rattle.std.specs.Prelude.{◌≡◌, OnOk, IfOk};
-ghost use Rattle.ownership.specs.inside.Indices.{Among, Notes, Forgets, AreInherited, IsInherited, ids_under};
+ghost use Rattle.ownership.specs.inside.Indices.{IsAmong, AddsUnderOwners, RemovesOwner, HeirsAreIndexed, HeirIsIndexed, ids_under};
 
 use super::Indices;
-use super::identifiers::put_in;
+use super::identifiers::insert_sorted;
 use crate::process::Process;
 use crate::table::Table;
 use crate::world::end::living_heir;
@@ -13,12 +13,12 @@ use std::alloc::{AllocError, Global};
 
 impl Indices {
     /// Adds a table under an owner. Earlier entries stay, also if memory is refused.
-    pub fn note_owner(&mut self, alloc: Global, owner: u32, id: u32) -> Result<(), AllocError>
-        ensures stays { Notes self.old self.new }
-        ensures ok { OnOk result (Among id (ids_under self.new owner)) }
+    pub fn index_owner(&mut self, alloc: Global, owner: u32, id: u32) -> Result<(), AllocError>
+        ensures stays { AddsUnderOwners self.old self.new }
+        ensures ok { OnOk result (IsAmong id (ids_under self.new owner)) }
     {
         if let Some(ids) = self.owned.get_mut(&owner) {
-            return put_in(ids, id);
+            return insert_sorted(ids, id);
         }
         let mut ids = Vec::new(alloc);
         ids.push(id)?;
@@ -38,46 +38,46 @@ impl Indices {
     }
 
     /// Removes the entry of an owner. This takes no memory.
-    pub(super) fn forget_owner(&mut self, owner: u32)
-        ensures { Forgets owner self.old self.new }
+    pub(super) fn remove_owner(&mut self, owner: u32)
+        ensures { RemovesOwner owner self.old self.new }
     {
         let _ = self.owned.swap_remove(&owner);
     }
 
     /// Adds each of these tables under its heir, if the heir lives.
-    pub fn note_heirs<R: Rows>(
+    pub fn index_heirs<R: Rows>(
         &mut self,
         alloc: Global,
         processes: &IndexMap<u32, Process>,
-        places: &[Option<Table<R>>],
+        tables: &[Option<Table<R>>],
         ids: &[u32],
     ) -> Result<(), AllocError>
-        ensures stays { Notes self.old self.new }
-        ensures ok { OnOk result (AreInherited self.new processes.now.entries places.now ids.now) }
+        ensures stays { AddsUnderOwners self.old self.new }
+        ensures ok { OnOk result (HeirsAreIndexed self.new processes.now.entries tables.now ids.now) }
     {
         for id in ids {
-            self.note_heir(alloc, processes, places, *id)?;
+            self.index_heir(alloc, processes, tables, *id)?;
         }
         Ok(())
     }
 
     /// Adds one table under its heir, if the heir lives.
-    fn note_heir<R: Rows>(
+    fn index_heir<R: Rows>(
         &mut self,
         alloc: Global,
         processes: &IndexMap<u32, Process>,
-        places: &[Option<Table<R>>],
+        tables: &[Option<Table<R>>],
         id: u32,
     ) -> Result<(), AllocError>
-        ensures stays { Notes self.old self.new }
-        ensures ok { OnOk result (IsInherited self.new processes.now.entries places.now id) }
+        ensures stays { AddsUnderOwners self.old self.new }
+        ensures ok { OnOk result (HeirIsIndexed self.new processes.now.entries tables.now id) }
     {
-        let Some(Some(table)) = places.get(id as usize) else {
+        let Some(Some(table)) = tables.get(id as usize) else {
             return Ok(());
         };
         let Some(heir) = living_heir(processes, table.head()) else {
             return Ok(());
         };
-        self.note_owner(alloc, heir.pid, id)
+        self.index_owner(alloc, heir.pid, id)
     }
 }

@@ -4,7 +4,7 @@ ghost use Rattle.ets_term.specs.declared.term.Term.{out-Term};
 ghost use Rattle.ownership.specs.declared.head.Heir as model;
 ghost use Rattle.ownership.specs.Options.{heir_said, heir_form, heirs_from, heir_after};
 ghost use Rattle.ownership.specs.Outcomes.{Reads};
-ghost use Rattle.ownership.specs.inside.Reading.{Says};
+ghost use Rattle.ownership.specs.inside.Reading.{ReadsHeir};
 
 use crate::fault::WorldFault;
 use crate::head::Heir;
@@ -13,7 +13,7 @@ use std::alloc::{AllocError, Global};
 
 /// Reads `{heir,none}` or `{heir,Pid,Data}`. Returns the heir, or `Some(None)` for no heir. Returns `None` for any
 /// other tuple.
-pub fn heir_said(alloc: Global, elements: &[Term]) -> Result<Option<Option<Heir>>, AllocError>
+pub fn parse_heir(alloc: Global, elements: &[Term]) -> Result<Option<Option<Heir>>, AllocError>
     ensures { IfOk result (λ said. said ≡ heir_said elements.now) }
 {
     match elements {
@@ -31,31 +31,31 @@ pub fn heir_said(alloc: Global, elements: &[Term]) -> Result<Option<Option<Heir>
 
 /// Reads the options of `setopts`. Returns the heir of the last option, or `None` for an empty list. Returns `Badarg`
 /// if an option does not name an heir.
-pub fn heir_said_by(alloc: Global, options: &Term) -> Result<Option<Option<Heir>>, WorldFault>
-    ensures { (heir : Option model.Heir) → Says (heir_after heir options.now) heir result }
+pub fn heir_in_setopts(alloc: Global, options: &Term) -> Result<Option<Option<Heir>>, WorldFault>
+    ensures { (heir : Option model.Heir) → ReadsHeir (heir_after heir options.now) heir result }
 {
     match options {
-        Term::List(terms) => last_said(alloc, terms.as_slice()),
-        _ => Ok(Some(said(alloc, options)?)),
+        Term::List(terms) => parse_last_heir(alloc, terms.as_slice()),
+        _ => Ok(Some(parse_heir_option(alloc, options)?)),
     }
 }
 
-fn said(alloc: Global, option: &Term) -> Result<Option<Heir>, WorldFault>
+fn parse_heir_option(alloc: Global, option: &Term) -> Result<Option<Heir>, WorldFault>
     ensures { Reads (heir_form (out-Term option.now)) result }
 {
     let Term::Tuple(elements) = option else {
         return Err(WorldFault::Badarg);
     };
-    let said = heir_said(alloc, elements.as_slice())?;
-    said.ok_or(WorldFault::Badarg)
+    let heir = parse_heir(alloc, elements.as_slice())?;
+    heir.ok_or(WorldFault::Badarg)
 }
 
-fn last_said(alloc: Global, options: &[Term]) -> Result<Option<Option<Heir>>, WorldFault>
-    ensures { (heir : Option model.Heir) → Says (heirs_from heir options.now) heir result }
+fn parse_last_heir(alloc: Global, options: &[Term]) -> Result<Option<Option<Heir>>, WorldFault>
+    ensures { (heir : Option model.Heir) → ReadsHeir (heirs_from heir options.now) heir result }
 {
     let mut last = None;
     for option in options {
-        match said(alloc, option) {
+        match parse_heir_option(alloc, option) {
             Ok(heir) => last = Some(heir),
             Err(fault) => {
                 drop(last);

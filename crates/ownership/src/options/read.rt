@@ -2,10 +2,10 @@ ghost use Rattle.std.specs.Prelude.{◌≡◌, ◌≤◌, IfOk};
 ghost use Rattle.ets_term.specs.declared.term.Term.{out-Term};
 ghost use Rattle.ownership.specs.Options.{usual, option_form, options_from, word_option, access_word, tuning_word, tuple_option, plain_tuple, pair_option, keypos_option, is_tuning, is_boolean};
 ghost use Rattle.ownership.specs.Outcomes.{Reads};
-ghost use Rattle.ownership.specs.inside.Reading.{Adds, Sets};
+ghost use Rattle.ownership.specs.inside.Reading.{ReadsOption, SetsOption};
 
 use super::NewOptions;
-use super::heir::heir_said;
+use super::heir::parse_heir;
 use crate::fault::WorldFault;
 use crate::head::Protection;
 use ets_term::Term;
@@ -16,7 +16,7 @@ pub fn read_all(alloc: Global, terms: &[Term]) -> Result<NewOptions, WorldFault>
     ensures value { Reads (options_from usual terms.now) result }
     ensures keypos { IfOk result (λ options. 1 ≤ options.keypos) }
 {
-    let mut options = NewOptions::usual();
+    let mut options = NewOptions::default();
     for term in terms {
         if let Err(fault) = options.add(alloc, term) {
             drop(options);
@@ -52,7 +52,7 @@ fn is_tuning(name: &Term, value: &Term) -> bool
 /// exist.
 impl NewOptions {
     /// Returns the options of an empty list.
-    fn usual() -> NewOptions
+    fn default() -> NewOptions
         ensures { result ≡ usual }
     {
         NewOptions {
@@ -66,7 +66,7 @@ impl NewOptions {
 
     fn add(&mut self, alloc: Global, term: &Term) -> Result<(), WorldFault>
         requires { 1 ≤ self.old.keypos }
-        ensures value { Adds (option_form (out-Term term.now) self.old) result self.new }
+        ensures value { ReadsOption (option_form (out-Term term.now) self.old) result self.new }
         ensures keypos { 1 ≤ self.new.keypos }
     {
         let added = match term {
@@ -82,7 +82,7 @@ impl NewOptions {
 
     fn set_word(&mut self, word: &str) -> bool
         requires { 1 ≤ self.old.keypos }
-        ensures value { Sets (word_option word.now self.old) result self.new }
+        ensures value { SetsOption (word_option word.now self.old) result self.new }
         ensures keypos { 1 ≤ self.new.keypos }
     {
         if word == "set" {
@@ -99,7 +99,7 @@ impl NewOptions {
 
     fn set_access(&mut self, word: &str) -> bool
         requires { 1 ≤ self.old.keypos }
-        ensures value { Sets (access_word word.now self.old) result self.new }
+        ensures value { SetsOption (access_word word.now self.old) result self.new }
         ensures keypos { 1 ≤ self.new.keypos }
     {
         if word == "public" {
@@ -118,10 +118,10 @@ impl NewOptions {
 
     fn add_tuple(&mut self, alloc: Global, elements: &[Term]) -> Result<(), WorldFault>
         requires { 1 ≤ self.old.keypos }
-        ensures value { Adds (tuple_option elements.now self.old) result self.new }
+        ensures value { ReadsOption (tuple_option elements.now self.old) result self.new }
         ensures keypos { 1 ≤ self.new.keypos }
     {
-        if let Some(heir) = heir_said(alloc, elements)? {
+        if let Some(heir) = parse_heir(alloc, elements)? {
             self.heir = heir;
             return Ok(());
         }
@@ -133,7 +133,7 @@ impl NewOptions {
 
     fn set_tuple(&mut self, elements: &[Term]) -> bool
         requires { 1 ≤ self.old.keypos }
-        ensures value { Sets (plain_tuple elements.now self.old) result self.new }
+        ensures value { SetsOption (plain_tuple elements.now self.old) result self.new }
         ensures keypos { 1 ≤ self.new.keypos }
     {
         match elements {
@@ -144,7 +144,7 @@ impl NewOptions {
 
     fn set_pair(&mut self, name: &Term, value: &Term) -> bool
         requires { 1 ≤ self.old.keypos }
-        ensures value { Sets (pair_option name.now value.now self.old) result self.new }
+        ensures value { SetsOption (pair_option name.now value.now self.old) result self.new }
         ensures keypos { 1 ≤ self.new.keypos }
     {
         if !name.is_atom("keypos") {

@@ -4,12 +4,12 @@ ghost use Rattle.ownership.specs.World as model;
 ghost use Rattle.ownership.specs.World.{process_at, lives};
 ghost use Rattle.ownership.specs.End.{End, ended, handed_over, living_heir, receiver_of};
 ghost use Rattle.ownership.specs.Outcomes.{Comes};
-ghost use Rattle.ownership.specs.inside.Ending.{posted, posted_at};
+ghost use Rattle.ownership.specs.inside.Ending.{after_transfers, after_transfer_of};
 
 use super::World;
 use crate::fault::WorldFault;
 use crate::head::{Head, Heir};
-use crate::messages::{post, take_back, transfer};
+use crate::messages::{post, transfer, unpost};
 use crate::process::{Process, process_in};
 use crate::table::Table;
 use bucket_table::Rows;
@@ -28,60 +28,60 @@ impl<R: Rows> World<R> {
         if !self.lives(pid) {
             return Err(WorldFault::NoProcess);
         }
-        match self.bury(pid) {
+        match self.terminate(pid) {
             Ok(()) => Ok(()),
             Err(_) => Err(WorldFault::Memory),
         }
     }
 
     /// Ends a process that lives.
-    fn bury(&mut self, pid: u32) -> Result<(), AllocError>
+    fn terminate(&mut self, pid: u32) -> Result<(), AllocError>
         requires { lives self.old.processes pid ≡ true }
         ensures ok { OnOk result
             (self.new ≡ handed_over self.old (ended self.old.processes pid) pid) }
         ensures err { OnErr result (self.new ≡ self.old) }
     {
         let own = self.indices.owned_by(self.alloc, pid)?;
-        self.indices.note_heirs(
+        self.indices.index_heirs(
             self.alloc,
             &self.processes,
-            self.places.as_slice(),
+            self.tables.as_slice(),
             own.as_slice(),
         )?;
-        hand_over(
+        post_transfers(
             self.alloc,
             &mut self.processes,
-            self.places.as_slice(),
+            self.tables.as_slice(),
             own.as_slice(),
             pid,
         )?;
         self.indices
-            .settle(&mut self.places, &self.processes, own.as_slice(), pid);
+            .reassign_tables(&mut self.tables, &self.processes, own.as_slice(), pid);
         Ok(())
     }
 }
 
 /// Marks the process as ended and posts the transfer messages to the heirs of its tables. If memory is refused,
 /// nothing changes.
-fn hand_over<R: Rows>(
+fn post_transfers<R: Rows>(
     alloc: Global,
     processes: &mut IndexMap<u32, Process>,
-    places: &[Option<Table<R>>],
+    tables: &[Option<Table<R>>],
     ids: &[u32],
     pid: u32,
 ) -> Result<(), AllocError>
     requires { is_some (process_at processes.old.entries pid) ≡ true }
     ensures ok { OnOk result
-        (processes.new.entries ≡ posted (ended processes.old.entries pid) pid places.now ids.now) }
+        (processes.new.entries ≡ after_transfers (ended processes.old.entries pid) pid tables.now ids.now) }
     ensures err { OnErr result (processes.new.entries ≡ processes.old.entries) }
 {
     let none = Process {
         lives: false,
         mailbox: Items::new(alloc),
     };
-    let process = exchange(processes, pid, none);
-    if let Err(error) = post_all(alloc, processes, places, ids, pid) {
-        let _ = exchange(processes, pid, process);
+    let process = replace_process(processes, pid, none);
+    if let Err(error) = post_all(alloc, processes, tables, ids, pid) {
+        let _ = replace_process(processes, pid, process);
         return Err(error);
     }
     drop(process);
@@ -89,7 +89,7 @@ fn hand_over<R: Rows>(
 }
 
 /// Replaces a process and returns the old one.
-fn exchange(processes: &mut IndexMap<u32, Process>, pid: u32, process: Process) -> Process
+fn replace_process(processes: &mut IndexMap<u32, Process>, pid: u32, process: Process) -> Process
     requires { is_some (process_at processes.old.entries pid) ≡ true }
     ensures old { process_at processes.old.entries pid ≡ Some result }
     ensures new { processes.new.entries ≡ set_value (λ q. pid == q) processes.old.entries process }
@@ -104,17 +104,17 @@ fn exchange(processes: &mut IndexMap<u32, Process>, pid: u32, process: Process) 
 fn post_all<R: Rows>(
     alloc: Global,
     processes: &mut IndexMap<u32, Process>,
-    places: &[Option<Table<R>>],
+    tables: &[Option<Table<R>>],
     ids: &[u32],
     pid: u32,
 ) -> Result<(), AllocError>
     ensures ok { OnOk result
-        (processes.new.entries ≡ posted processes.old.entries pid places.now ids.now) }
+        (processes.new.entries ≡ after_transfers processes.old.entries pid tables.now ids.now) }
     ensures err { OnErr result (processes.new.entries ≡ processes.old.entries) }
 {
     for i in 0..ids.len() {
-        if let Err(error) = post_of(alloc, processes, places, pid, ids[i]) {
-            take_all_back(processes, places, &ids[..i], pid);
+        if let Err(error) = post_transfer(alloc, processes, tables, pid, ids[i]) {
+            unpost_all(processes, tables, &ids[..i], pid);
             return Err(error);
         }
     }
@@ -122,18 +122,18 @@ fn post_all<R: Rows>(
 }
 
 /// Posts the transfer message of one table, if the table has a receiver.
-fn post_of<R: Rows>(
+fn post_transfer<R: Rows>(
     alloc: Global,
     processes: &mut IndexMap<u32, Process>,
-    places: &[Option<Table<R>>],
+    tables: &[Option<Table<R>>],
     pid: u32,
     id: u32,
 ) -> Result<(), AllocError>
     ensures ok { OnOk result
-        (processes.new.entries ≡ posted_at processes.old.entries pid places.now id) }
+        (processes.new.entries ≡ after_transfer_of processes.old.entries pid tables.now id) }
     ensures err { OnErr result (processes.new.entries ≡ processes.old.entries) }
 {
-    let Some(Some(table)) = places.get(id as usize) else {
+    let Some(Some(table)) = tables.get(id as usize) else {
         return Ok(());
     };
     let Some(heir) = receiver_of(processes, table, pid) else {
@@ -144,40 +144,40 @@ fn post_of<R: Rows>(
 }
 
 /// Removes the transfer messages of these tables, the last first.
-fn take_all_back<R: Rows>(
+fn unpost_all<R: Rows>(
     processes: &mut IndexMap<u32, Process>,
-    places: &[Option<Table<R>>],
+    tables: &[Option<Table<R>>],
     ids: &[u32],
     pid: u32,
 )
     ensures { (before : model.Processes)
-        → processes.old.entries ≡ posted before pid places.now ids.now
+        → processes.old.entries ≡ after_transfers before pid tables.now ids.now
         → processes.new.entries ≡ before }
 {
     let len = ids.len();
     for i in 0..len {
-        take_back_of(processes, places, pid, ids[len - 1 - i]);
+        unpost_transfer(processes, tables, pid, ids[len - 1 - i]);
     }
 }
 
 /// Removes the transfer message of one table, which was posted last.
-fn take_back_of<R: Rows>(
+fn unpost_transfer<R: Rows>(
     processes: &mut IndexMap<u32, Process>,
-    places: &[Option<Table<R>>],
+    tables: &[Option<Table<R>>],
     pid: u32,
     id: u32,
 )
     ensures { (before : model.Processes)
-        → processes.old.entries ≡ posted_at before pid places.now id
+        → processes.old.entries ≡ after_transfer_of before pid tables.now id
         → processes.new.entries ≡ before }
 {
-    let Some(Some(table)) = places.get(id as usize) else {
+    let Some(Some(table)) = tables.get(id as usize) else {
         return;
     };
     let Some(heir) = receiver_of(processes, table, pid) else {
         return;
     };
-    take_back(processes, heir.pid);
+    unpost(processes, heir.pid);
 }
 
 /// Returns the heir that gets a table of the process.

@@ -39,7 +39,7 @@ impl<R: Rows> World<R> {
         if self.has_most_processes() {
             return Err(WorldFault::SystemLimit);
         }
-        self.enter(pid)?;
+        self.push_process(pid)?;
         Ok(())
     }
 
@@ -57,7 +57,7 @@ impl<R: Rows> World<R> {
 
     /// Adds a process. Its number must be new.
     #[tactic(auto, using(crate::proofs::Enrolments::enrolling))]
-    fn enter(&mut self, pid: u32) -> Result<(), AllocError>
+    fn push_process(&mut self, pid: u32) -> Result<(), AllocError>
         requires { process_at self.old.processes pid ≡ None }
         ensures ok { OnOk result (self.new ≡ after_enrol self.old pid) }
         ensures err { OnErr result (self.new ≡ self.old) }

@@ -6,7 +6,7 @@ use super::World;
 use crate::fault::WorldFault;
 use crate::head::Heir;
 use crate::messages::{post, transfer};
-use crate::options::heir_said_by;
+use crate::options::heir_in_setopts;
 use crate::table::Table;
 use bucket_table::Rows;
 use ets_term::Term;
@@ -27,7 +27,7 @@ impl<R: Rows> World<R> {
             return Err(WorldFault::Badarg);
         }
         let message = transfer(self.alloc, head, id, pid, gift)?;
-        self.pass(id, to, message)?;
+        self.transfer(id, to, message)?;
         Ok(())
     }
 
@@ -40,7 +40,7 @@ impl<R: Rows> World<R> {
         if !self.is_owner(pid, id) {
             return Err(WorldFault::Badarg);
         }
-        match heir_said_by(self.alloc, options) {
+        match heir_in_setopts(self.alloc, options) {
             Ok(Some(heir)) => {
                 self.set_heir(id, heir);
                 Ok(())
@@ -52,16 +52,16 @@ impl<R: Rows> World<R> {
     }
 
     /// Passes a table to another owner, and posts the message to it.
-    fn pass(&mut self, id: u32, owner: u32, message: Term) -> Result<(), AllocError>
+    fn transfer(&mut self, id: u32, owner: u32, message: Term) -> Result<(), AllocError>
         ensures ok { OnOk result (self.new ≡ passed self.old id owner message) }
         ensures err { OnErr result (self.new ≡ self.old) }
     {
-        if let Err(error) = self.indices.note_owner(self.alloc, owner, id) {
+        if let Err(error) = self.indices.index_owner(self.alloc, owner, id) {
             drop(message);
             return Err(error);
         }
         post(&mut self.processes, owner, message)?;
-        pass_at(&mut self.places, id, owner);
+        set_owner_at(&mut self.tables, id, owner);
         Ok(())
     }
 
@@ -70,11 +70,11 @@ impl<R: Rows> World<R> {
         ensures { self.new ≡ heir_set self.old id heir }
     {
         let place = id as usize;
-        if place >= self.places.len() {
+        if place >= self.tables.len() {
             drop(heir);
             return;
         }
-        let Some(table) = &mut self.places[place] else {
+        let Some(table) = &mut self.tables[place] else {
             drop(heir);
             return;
         };
@@ -83,15 +83,15 @@ impl<R: Rows> World<R> {
 }
 
 /// Sets the owner of a table, if the table exists.
-fn pass_at<R: Rows>(places: &mut Vec<Option<Table<R>>>, id: u32, owner: u32)
-    ensures { places.new.items ≡ changed (passed_to owner) places.old.items id }
+fn set_owner_at<R: Rows>(tables: &mut Vec<Option<Table<R>>>, id: u32, owner: u32)
+    ensures { tables.new.items ≡ changed (passed_to owner) tables.old.items id }
 {
     let place = id as usize;
-    if place >= places.len() {
+    if place >= tables.len() {
         return;
     }
-    let Some(table) = &mut places[place] else {
+    let Some(table) = &mut tables[place] else {
         return;
     };
-    table.pass_to(owner);
+    table.set_owner(owner);
 }

@@ -15,14 +15,14 @@ impl<R: Rows> World<R> {
         ensures { IfOk result (λ told.
             told ≡ option_map (info_of item id) (table_at self.now.tables id)) }
     {
-        match self.places.get(id as usize) {
-            Some(Some(table)) => Ok(Some(told(self.alloc, table, id, item)?)),
+        match self.tables.get(id as usize) {
+            Some(Some(table)) => Ok(Some(info_value(self.alloc, table, id, item)?)),
             _ => Ok(None),
         }
     }
 }
 
-fn told<R: Rows>(
+fn info_value<R: Rows>(
     alloc: Global,
     table: &Table<R>,
     id: u32,

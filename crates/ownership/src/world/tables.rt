@@ -26,14 +26,14 @@ impl<R: Rows> World<R> {
     pub fn made(&self) -> u32
         ensures { result ≡ length self.now.tables }
     {
-        self.places.len() as u32
+        self.tables.len() as u32
     }
 
     /// Returns the metadata of the table with this identifier, or `None`.
     pub fn head(&self, id: u32) -> Option<&Head>
         ensures { option_copied result ≡ head_of (table_at self.now.tables id) }
     {
-        match self.places.get(id as usize) {
+        match self.tables.get(id as usize) {
             Some(Some(table)) => Some(table.head()),
             _ => None,
         }
@@ -65,7 +65,7 @@ impl<R: Rows> World<R> {
     pub fn table(&self, id: u32) -> Option<&Walked<R>>
         ensures { option_copied result ≡ fixed_at self.now.tables id }
     {
-        match self.places.get(id as usize) {
+        match self.tables.get(id as usize) {
             Some(Some(table)) => Some(table.walked()),
             _ => None,
         }
@@ -76,8 +76,8 @@ impl<R: Rows> World<R> {
         ensures* lends { sem 𝓛 (LendsTable R.row R.Rows self.entry id result) }
         ensures value { option_copied_mut result ≡ fixed_at self.old.tables id }
     {
-        self.indices.lend(self.places.as_slice(), id);
-        let place = self.places.get_mut(id as usize)?;
+        self.indices.mark_dirty(self.tables.as_slice(), id);
+        let place = self.tables.get_mut(id as usize)?;
         let table = place.as_mut()?;
         Some(table.walked_mut())
     }
@@ -104,7 +104,7 @@ impl<R: Rows> World<R> {
             drop(table);
             return Err(WorldFault::SystemLimit);
         }
-        match self.own(pid, name, options, table) {
+        match self.create_table(pid, name, options, table) {
             Ok(answer) => Ok(answer),
             Err(_) => Err(WorldFault::Memory),
         }
@@ -125,7 +125,7 @@ impl<R: Rows> World<R> {
     }
 
     /// Creates a table that is not refused.
-    fn own(
+    fn create_table(
         &mut self,
         pid: u32,
         name: &Atom,
@@ -140,14 +140,20 @@ impl<R: Rows> World<R> {
             (self.new ≡ with_table self.old (new_head pid name.now options) table) }
         ensures err { OnErr result (self.new ≡ self.old) }
     {
-        let (answer, head) = match headed(self.alloc, pid, name, options, self.made()) {
+        let (answer, head) = match answer_and_metadata(
+            self.alloc,
+            pid,
+            name,
+            options,
+            self.made(),
+        ) {
             Ok(both) => both,
             Err(error) => {
                 drop(table);
                 return Err(error);
             }
         };
-        if let Err(error) = self.add(Table::new(head, table)) {
+        if let Err(error) = self.push_table(Table::new(head, table)) {
             drop(answer);
             return Err(error);
         }
@@ -155,24 +161,24 @@ impl<R: Rows> World<R> {
     }
 
     /// Adds a table with the next identifier. If it is named, its name must be free.
-    fn add(&mut self, table: Table<R>) -> Result<(), AllocError>
+    fn push_table(&mut self, table: Table<R>) -> Result<(), AllocError>
         requires free { IsNameFree self.old.tables table.head }
         requires few { length self.old.tables + 1 < 2 ^ 32 }
         ensures ok { OnOk result (self.new ≡ with_table self.old table.head table.fixed) }
         ensures err { OnErr result (self.new ≡ self.old) }
     {
-        if let Err(error) = self.places.reserve(1) {
+        if let Err(error) = self.tables.reserve(1) {
             drop(table);
             return Err(error);
         }
         if let Err(error) = self
             .indices
-            .note(self.alloc, self.places.as_slice(), &table)
+            .insert(self.alloc, self.tables.as_slice(), &table)
         {
             drop(table);
             return Err(error);
         }
-        self.places.push_reserved(Some(table));
+        self.tables.push_reserved(Some(table));
         Ok(())
     }
 
@@ -182,19 +188,19 @@ impl<R: Rows> World<R> {
         ensures { self.new ≡ without_table self.old id }
     {
         let place = id as usize;
-        if place >= self.places.len() {
+        if place >= self.tables.len() {
             return;
         }
-        let table = mem::replace(&mut self.places[place], None);
+        let table = mem::replace(&mut self.tables[place], None);
         if let Some(table) = table {
-            self.indices.forget(table.head());
+            self.indices.remove(table.head());
             drop(table);
         }
     }
 }
 
 /// Returns the answer of `new` and the metadata of the new table.
-fn headed(
+fn answer_and_metadata(
     alloc: Global,
     pid: u32,
     name: &Atom,

@@ -10,7 +10,7 @@ use Rattle.ownership.specs.World.{Table, World, table_at}
 use Rattle.ownership.specs.Heads.{may, owned_by}
 use Rattle.ownership.specs.Options.{heir_after}
 use Rattle.ownership.specs.Tables.{SetOptions}
-use Rattle.ownership.specs.inside.Reading.{Says}
+use Rattle.ownership.specs.inside.Reading.{ReadsHeir}
 use Rattle.ownership.proofs.world.World.set_options.Goals as goal
 
 refused_at : (old : World) (p t : ℕ) (options : Term) → may owned_by old.tables p t ≡ true → ((heir : Option Heir) → heir_after heir options ≡ None) → (o : Option Table) → table_at old.tables t ≡ o → SetOptions old p t options (Err Badarg) old
@@ -21,6 +21,6 @@ refused_at old p t options own none (Some table) e =
 
 pub returns-in-Err-Badarg : goal.returns-in-Err-Badarg
 returns-in-Err-Badarg g c =
-    let none : (heir : Option Heir) → heir_after heir c.args.options.now ≡ None = λ heir. subst (λ (r : Result (Option (Option Heir)) WorldFault). Says (heir_after heir c.args.options.now) heir r) (c.in-Err-Badarg.is ∙ ap Err c.in-Err-Badarg.field-0-is) (c.heir_said_by.ensures heir) in
+    let none : (heir : Option Heir) → heir_after heir c.args.options.now ≡ None = λ heir. subst (λ (r : Result (Option (Option Heir)) WorldFault). ReadsHeir (heir_after heir c.args.options.now) heir r) (c.in-Err-Badarg.is ∙ ap Err c.in-Err-Badarg.field-0-is) (c.heir_in_setopts.ensures heir) in
     let own : may owned_by c.args.self.now.tables c.args.pid c.args.id ≡ true = search rules in
     refused_at c.args.self.now c.args.pid c.args.id c.args.options.now own none _ refl

@@ -1,27 +1,27 @@
 use Rattle.std.proofs.Common.{◌≡◌, Option, None, Some, inl, option_map, sym, ap, subst, ◌∙◌}
 use Rattle.fixed_walk.specs.Fixed.{Fixed}
 use Rattle.ownership.specs.World.{Table, Tables, World, table_at, with_fixed}
-use Rattle.ownership.specs.inside.Indices.{IsKept}
+use Rattle.ownership.specs.inside.Indices.{IndicesInvariant}
 use Rattle.ownership.proofs.Heads.{fixed-there}
 use Rattle.ownership.proofs.Keeping.{kept-fixed, kept-same}
 use Rattle.ownership.proofs.world.World.table_mut.Goals as goal
 
 pub invariant_of-self-lent : goal.invariant_of-self-lent
 invariant_of-self-lent g c = λ w.
-    let items = c.self.inside.places.items in
+    let items = c.self.inside.tables.items in
     let at : table_at items c.args.id ≡ Some c.in_ok-table.table.now = sym (c.in_ok-place.ensures.item.3.1 None) ∙ sym c.in_ok-table.ensures.value in
-    let kept = subst (λ (ts : Tables). IsKept c.lend.new.self ts) c.as_slice.ensures.value c.lend.ensures.kept in
-    kept-fixed c.lend.new.self items kept c.args.id c.in_ok-table.table.now w at c.lend.ensures.lent
+    let kept = subst (λ (ts : Tables). IndicesInvariant c.mark_dirty.new.self ts) c.as_slice.ensures.value c.mark_dirty.ensures.kept in
+    kept-fixed c.mark_dirty.new.self items kept c.args.id c.in_ok-table.table.now w at c.mark_dirty.ensures.dirty
 
 pub invariant_of-self-in_err-table : goal.invariant_of-self-in_err-table
 invariant_of-self-in_err-table g c =
-    let items = c.self.inside.places.items in
-    let kept = subst (λ (ts : Tables). IsKept c.lend.new.self ts) c.as_slice.ensures.value c.lend.ensures.kept in
-    kept-same c.lend.new.self items kept c.args.id c.in_ok-place.place.now (sym (c.in_ok-place.ensures.item.3.1 None))
+    let items = c.self.inside.tables.items in
+    let kept = subst (λ (ts : Tables). IndicesInvariant c.mark_dirty.new.self ts) c.as_slice.ensures.value c.mark_dirty.ensures.kept in
+    kept-same c.mark_dirty.new.self items kept c.args.id c.in_ok-place.place.now (sym (c.in_ok-place.ensures.item.3.1 None))
 
 pub returns : goal.returns
 returns g c =
-    let items = c.self.inside.places.items in
+    let items = c.self.inside.tables.items in
     let at : table_at items c.args.id ≡ Some c.in_ok-table.table.now = sym (c.in_ok-place.ensures.item.3.1 None) ∙ sym c.in_ok-table.ensures.value in
     let ends : (w : Fixed) → _ = λ w.
     ap (λ tables. record { most_processes = c.self.inside.most_processes; most_tables = c.self.inside.most_tables; processes = c.self.inside.processes.entries; tables = tables }) (fixed-there items c.args.id c.in_ok-table.table.now w at)

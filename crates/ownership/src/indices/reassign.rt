@@ -1,0 +1,99 @@
+// The tables after the end of a process.
+ghost use Rattle.std.specs.Prelude.{◌≡◌, ℕ, None, map, false, slice_set};
+ghost use Rattle.ownership.specs.World.{Tables, lives, table_at};
+ghost use Rattle.ownership.specs.End.{table_after};
+ghost use Rattle.ownership.specs.inside.Indices.{IndicesInvariant, CoversTablesOf, HeirsOfOwnerAreIndexed};
+
+use super::Indices;
+use crate::process::Process;
+use crate::table::Table;
+use crate::world::end::living_heir;
+use bucket_table::Rows;
+use indexmap::IndexMap;
+use std::mem;
+
+impl Indices {
+    /// Releases the fixes of an ended process. Passes each of its tables to the living heir, or deletes it. `own`
+    /// must have all tables of the process, and each must be listed under its living heir. Only these and the fixed
+    /// tables are visited. This takes no memory.
+    pub fn reassign_tables<R: Rows>(
+        &mut self,
+        tables: &mut Vec<Option<Table<R>>>,
+        processes: &IndexMap<u32, Process>,
+        own: &[u32],
+        pid: u32,
+    )
+        requires kept { IndicesInvariant self.old tables.old.items }
+        requires dead { lives processes.now.entries pid ≡ false }
+        requires own { CoversTablesOf own.now pid tables.old.items }
+        requires heirs { HeirsOfOwnerAreIndexed self.old processes.now.entries pid tables.old.items }
+        ensures kept { IndicesInvariant self.new tables.new.items }
+        ensures after { tables.new.items
+            ≡ map (table_after processes.now.entries pid) tables.old.items }
+    {
+        self.flush_dirty(tables.as_slice());
+        for id in own {
+            self.reassign_table(tables, processes, pid, *id);
+        }
+        let fixed = self.fixed.len();
+        for i in 0..fixed {
+            let id = self.fixed[i];
+            self.reassign_table(tables, processes, pid, id);
+        }
+        self.retain_fixed(tables.as_slice());
+        self.remove_owner(pid);
+    }
+
+    /// Does the same for one table.
+    fn reassign_table<R: Rows>(
+        &mut self,
+        tables: &mut Vec<Option<Table<R>>>,
+        processes: &IndexMap<u32, Process>,
+        pid: u32,
+        id: u32,
+    )
+        requires kept { IndicesInvariant self.old tables.old.items }
+        requires heirs { HeirsOfOwnerAreIndexed self.old processes.now.entries pid tables.old.items }
+        ensures rest { self.new ≡ record self.old { names = self.new.names } }
+        ensures kept { IndicesInvariant self.new tables.new.items }
+        ensures after { tables.new.items
+            ≡ slice_set tables.old.items id
+            (table_after processes.now.entries pid (table_at tables.old.items id)) }
+    {
+        let place = id as usize;
+        if place >= tables.len() {
+            return;
+        }
+        let table = mem::replace(&mut tables[place], None);
+        tables[place] = self.table_after_exit(processes, pid, table);
+    }
+
+    /// Returns a table after its owner's end. The fixes of the process are released. A table that it owned passes to
+    /// the living heir, or is deleted.
+    fn table_after_exit<R: Rows>(
+        &mut self,
+        processes: &IndexMap<u32, Process>,
+        pid: u32,
+        table: Option<Table<R>>,
+    ) -> Option<Table<R>>
+        ensures rest { self.new ≡ record self.old { names = self.new.names } }
+        ensures after { result ≡ table_after processes.now.entries pid table }
+        ensures kept { (tables : Tables) (t : ℕ) → table_at tables t ≡ table
+            → HeirsOfOwnerAreIndexed self.old processes.now.entries pid tables → IndicesInvariant self.old tables
+            → IndicesInvariant self.new (slice_set tables t result) }
+    {
+        let mut table = table?;
+        table.let_go(pid);
+        if !table.head().is_owned_by(pid) {
+            return Some(table);
+        }
+        let heir = living_heir(processes, table.head()).map(|heir| heir.pid);
+        if let Some(heir) = heir {
+            table.set_owner(heir);
+            return Some(table);
+        }
+        self.remove(table.head());
+        drop(table);
+        None
+    }
+}
