@@ -84,7 +84,14 @@ GiveAway old p t q gift =
 abbrev pub heir_set : World → ℕ → Option Heir → World
 heir_set w t heir = record w { tables = changed (with_heir heir) w.tables t }
 
--- the owner sets the heir
+-- the owner sets or removes the heir
+abbrev pub SetHeir : World → ℕ → ℕ → Option Heir → Outcome (Result (Unit {0}) WorldFault) World
+SetHeir old p t heir =
+    refuse_none old (table_at old.tables t) (Err Badarg) (λ table.
+    refuse old (not (owned_by table.head p)) (Err Badarg) (
+    gives (Ok tt) (heir_set old t heir)))
+
+-- the owner sets the heir by options
 abbrev pub SetOptions : World → ℕ → ℕ → Term → Outcome (Result (Unit {0}) WorldFault) World
 SetOptions old p t options =
     refuse_none old (table_at old.tables t) (Err Badarg) (λ table.

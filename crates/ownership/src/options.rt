@@ -16,11 +16,11 @@ use table_ops::Kind;
 /// The options of a new table.
 #[derive(Drop)]
 pub struct NewOptions {
-    pub kind: Kind,
-    pub keypos: u32,
-    pub protection: Protection,
-    pub named: bool,
-    pub heir: Option<Heir>,
+    kind: Kind,
+    keypos: u32,
+    pub(crate) protection: Protection,
+    pub(crate) named: bool,
+    pub(crate) heir: Option<Heir>,
 }
 
 impl NewOptions {
@@ -34,5 +34,18 @@ impl NewOptions {
             Term::List(terms) => read_all(alloc, terms.as_slice()),
             _ => Err(WorldFault::Badarg),
         }
+    }
+    /// Returns the kind of the table.
+    pub fn kind(&self) -> Kind
+        ensures { result ≡ self.now.kind }
+    {
+        self.kind
+    }
+
+    /// Returns the position of the key. Options that were read have at least 1.
+    pub fn keypos(&self) -> u32
+        ensures { result ≡ self.now.keypos }
+    {
+        self.keypos
     }
 }

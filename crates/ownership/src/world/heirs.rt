@@ -1,5 +1,5 @@
 ghost use Rattle.std.specs.Prelude.{◌≡◌, OnOk, OnErr};
-ghost use Rattle.ownership.specs.Tables.{GiveAway, SetOptions, changed, heir_set, passed, passed_to};
+ghost use Rattle.ownership.specs.Tables.{GiveAway, SetHeir, SetOptions, changed, heir_set, passed, passed_to};
 ghost use Rattle.ownership.specs.Outcomes.{Comes};
 
 use super::World;
@@ -42,13 +42,26 @@ impl<R: Rows> World<R> {
         }
         match heir_in_setopts(self.alloc, options) {
             Ok(Some(heir)) => {
-                self.set_heir(id, heir);
+                self.set_heir_at(id, heir);
                 Ok(())
             }
             Ok(None) => Ok(()),
             Err(WorldFault::Badarg) => Err(WorldFault::Badarg),
             Err(_) => Err(WorldFault::Memory),
         }
+    }
+
+    /// Sets or removes the heir of a table of the process. Returns `Badarg` if the table does not exist or `pid` does
+    /// not own it. This takes no memory.
+    pub fn set_heir(&mut self, pid: u32, id: u32, heir: Option<Heir>) -> Result<(), WorldFault>
+        ensures { SetHeir self.old pid id heir result self.new }
+    {
+        if self.is_owner(pid, id) {
+            self.set_heir_at(id, heir);
+            return Ok(());
+        }
+        drop(heir);
+        Err(WorldFault::Badarg)
     }
 
     /// Passes a table to another owner, and posts the message to it.
@@ -66,7 +79,7 @@ impl<R: Rows> World<R> {
     }
 
     /// Sets or removes the heir of a table, if the table exists.
-    fn set_heir(&mut self, id: u32, heir: Option<Heir>)
+    fn set_heir_at(&mut self, id: u32, heir: Option<Heir>)
         ensures { self.new ≡ heir_set self.old id heir }
     {
         let place = id as usize;

@@ -5,7 +5,7 @@ use Rattle.ownership.specs.World.{Table, table_at}
 use Rattle.ownership.specs.Tables.{with_heir}
 use Rattle.ownership.specs.inside.Indices.{IndicesInvariant}
 use Rattle.ownership.proofs.Keeping.{kept-heir}
-use Rattle.ownership.proofs.world.World.set_heir.Goals as goal
+use Rattle.ownership.proofs.world.World.set_heir_at.Goals as goal
 
 pub invariant_of-self-2 : goal.invariant_of-self-2
 invariant_of-self-2 g c =
