@@ -5,14 +5,14 @@ use Rattle.std.specs.Prelude.{option_map, if◌then◌else◌}
 use Rattle.std.specs.Option.{option_map_or}
 use Rattle.std.specs.Map.{set_value}
 use Rattle.ets_term.specs.declared.term.Term.{Term}
-use Rattle.ownership.specs.declared.head.Head.{Head}
-use Rattle.ownership.specs.declared.head.Heir.{Heir}
+use Rattle.ownership.specs.declared.metadata.Metadata.{Metadata}
+use Rattle.ownership.specs.declared.metadata.Heir.{Heir}
 use Rattle.ownership.specs.declared.process.Process.{Process}
 use Rattle.ownership.specs.World.{Table, Tables, Processes, process_at, lives, table_at}
-use Rattle.ownership.specs.Heads.{owned_by}
-use Rattle.ownership.specs.Messages.{with_message, transfer, post, post_all}
-use Rattle.ownership.specs.Tables.{passed_to}
-use Rattle.ownership.specs.End.{living_heir, receiver_of, let_go, table_after, message_of, messages_from, ended}
+use Rattle.ownership.specs.Access.{owned_by}
+use Rattle.ownership.specs.Messages.{with_message, transfer_message, post, post_all}
+use Rattle.ownership.specs.Tables.{with_owner}
+use Rattle.ownership.specs.End.{living_heir, receiver_of, without_fixes, table_after_exit, message_of, messages_from, with_ended}
 use Rattle.ownership.specs.inside.Ending.{after_transfers, after_message, messages_at}
 use Rattle.ownership.specs.inside.Indices.{IsAmong, AscendsBetween}
 use Rattle.std.proofs.lemmas.Bool.{cases_eq}
@@ -23,22 +23,22 @@ use Rattle.ownership.proofs.Posting.{lookup-set_value}
 abbrev pub SameLives : Processes → Processes → Type 0
 SameLives ps qs = (r : ℕ) → lives ps r ≡ lives qs r
 
-pub heir-same : (ps qs : Processes) (head : Head) → SameLives ps qs → living_heir ps head ≡ living_heir qs head
-heir-same ps qs head same = by head.heir
+pub heir-same : (ps qs : Processes) (metadata : Metadata) → SameLives ps qs → living_heir ps metadata ≡ living_heir qs metadata
+heir-same ps qs metadata same = by metadata.heir
   where
-    by : (heir : Option Heir) → living_heir ps (record head { heir = heir }) ≡ living_heir qs (record head { heir = heir })
+    by : (heir : Option Heir) → living_heir ps (record metadata { heir = heir }) ≡ living_heir qs (record metadata { heir = heir })
     by None = refl
     by (Some heir) = ap (λ b. cond b (Some heir) None) (same heir.pid)
 
 pub message-same : (ps qs : Processes) (p t : ℕ) (o : Option Table) → SameLives ps qs → message_of ps p t o ≡ message_of qs p t o
 message-same ps qs p t None same = refl
-message-same ps qs p t (Some table) same = ap (λ h. option_map (λ heir. (heir.pid, transfer table.head t p heir.gift)) (if owned_by table.head p then h else None)) (heir-same ps qs table.head same)
+message-same ps qs p t (Some table) same = ap (λ h. option_map (λ heir. (heir.pid, transfer_message table.metadata t p heir.gift)) (if owned_by table.metadata p then h else None)) (heir-same ps qs table.metadata same)
 
-pub after-same : (ps qs : Processes) (p : ℕ) (o : Option Table) → SameLives ps qs → table_after ps p o ≡ table_after qs p o
+pub after-same : (ps qs : Processes) (p : ℕ) (o : Option Table) → SameLives ps qs → table_after_exit ps p o ≡ table_after_exit qs p o
 after-same ps qs p None same = refl
-after-same ps qs p (Some table) same = ap (λ h. if owned_by table.head p then option_map (λ heir. passed_to heir.pid (let_go p table)) h else Some (let_go p table)) (heir-same ps qs table.head same)
+after-same ps qs p (Some table) same = ap (λ h. if owned_by table.metadata p then option_map (λ heir. with_owner heir.pid (without_fixes p table)) h else Some (without_fixes p table)) (heir-same ps qs table.metadata same)
 
-pub all-after-same : (ps qs : Processes) (p : ℕ) (tables : Tables) → SameLives ps qs → map (table_after ps p) tables ≡ map (table_after qs p) tables
+pub all-after-same : (ps qs : Processes) (p : ℕ) (tables : Tables) → SameLives ps qs → map (table_after_exit ps p) tables ≡ map (table_after_exit qs p) tables
 all-after-same ps qs p [] same = refl
 all-after-same ps qs p (o ∷ tables) same =
     let here = after-same ps qs p o same in
@@ -46,9 +46,9 @@ all-after-same ps qs p (o ∷ tables) same =
     λ i. here i ∷ rest i
 
 module _ (q r : ℕ) (own new : Process) (keeps : new.lives ≡ own.lives) where
-  head-lives : (b : Bool) (e : ℕ × Process) (rest : Option Process) → e.1 ≡ own → option_map_or (λ (x : Process). x.lives) (cond b (Some new) rest) false ≡ option_map_or (λ (x : Process). x.lives) (cond b (Some e.1) rest) false
-  head-lives true e rest same = keeps ∙ ap (λ (x : Process). x.lives) (sym same)
-  head-lives false e rest same = refl
+  metadata-lives : (b : Bool) (e : ℕ × Process) (rest : Option Process) → e.1 ≡ own → option_map_or (λ (x : Process). x.lives) (cond b (Some new) rest) false ≡ option_map_or (λ (x : Process). x.lives) (cond b (Some e.1) rest) false
+  metadata-lives true e rest same = keeps ∙ ap (λ (x : Process). x.lives) (sym same)
+  metadata-lives false e rest same = refl
 
   tail-lives : (b : Bool) (e : ℕ × Process) (before after : Option Process) → option_map_or (λ (x : Process). x.lives) after false ≡ option_map_or (λ (x : Process). x.lives) before false
       → option_map_or (λ (x : Process). x.lives) (cond b (Some e.1) after) false ≡ option_map_or (λ (x : Process). x.lives) (cond b (Some e.1) before) false
@@ -57,7 +57,7 @@ module _ (q r : ℕ) (own new : Process) (keeps : new.lives ≡ own.lives) where
 
   at-lives : (b : Bool) (e : ℕ × Process) (es : Processes) → (process_at es q ≡ Some own → lives (set_value (λ k. q == k) es new) r ≡ lives es r) → cond b (Some e.1) (process_at es q) ≡ Some own
       → lives (cond b ((e.0, new) ∷ es) (e ∷ set_value (λ k. q == k) es new)) r ≡ lives (e ∷ es) r
-  at-lives true e es ih h = let same : e.1 ≡ own = cc in head-lives (nat_eq r e.0) e (process_at es r) same
+  at-lives true e es ih h = let same : e.1 ≡ own = cc in metadata-lives (nat_eq r e.0) e (process_at es r) same
   at-lives false e es ih h = tail-lives (nat_eq r e.0) e (process_at es r) (process_at (set_value (λ k. q == k) es new) r) (ih h)
 
   set-lives : (es : Processes) → process_at es q ≡ Some own → lives (set_value (λ k. q == k) es new) r ≡ lives es r
@@ -125,7 +125,7 @@ message-still before now p t o e = sym (message-same now before p t o (λ r. ap 
 -- a table without a message posted none
 pub back-none : (before now : Processes) (p t : ℕ) (o : Option Table) (table : Table) → o ≡ Some table → receiver_of now p table ≡ None → now ≡ after_message before (message_of before p t o) → now ≡ before
 back-none before now p t o table is none e =
-    e ∙ ap (after_message before) (message-still before now p t o e ∙ ap (message_of now p t) is ∙ ap (option_map (λ (heir : Heir). (heir.pid, transfer table.head t p heir.gift))) none)
+    e ∙ ap (after_message before) (message-still before now p t o e ∙ ap (message_of now p t) is ∙ ap (option_map (λ (heir : Heir). (heir.pid, transfer_message table.metadata t p heir.gift))) none)
 
 -- the identifiers without the last
 pub take-last : (ids : List ℕ) (i : ℕ) → i < length ids → take (length ids - i) ids ≡ take (length ids - (i + 1)) ids ++ get_or ids (length ids - 1 - i) 0 ∷ []
@@ -137,8 +137,8 @@ take-last ids i h =
     ap (λ n. take n ids) more ∙ take_more ids k 0 within ∙ ap (λ n. take k ids ++ get_or ids n 0 ∷ []) (sym place)
 
 -- ---- the tables of a process are among the identifiers, so all messages are those of the identifiers
-no-message : (ps : Processes) (p t : ℕ) (table : Table) → owned_by table.head p ≡ false → message_of ps p t (Some table) ≡ None
-no-message ps p t table other = ap (λ (b : Bool). option_map (λ (heir : Heir). (heir.pid, transfer table.head t p heir.gift)) (if b then living_heir ps table.head else None)) other
+no-message : (ps : Processes) (p t : ℕ) (table : Table) → owned_by table.metadata p ≡ false → message_of ps p t (Some table) ≡ None
+no-message ps p t table other = ap (λ (b : Bool). option_map (λ (heir : Heir). (heir.pid, transfer_message table.metadata t p heir.gift)) (if b then living_heir ps table.metadata else None)) other
 
 module _ (ps : Processes) (p : ℕ) where
   -- identifiers past the tables have no message
@@ -152,11 +152,11 @@ module _ (ps : Processes) (p : ℕ) where
       distance : (n t : ℕ) → n ≤ t → t ≡ n + (t - n)
       distance n t h = omega (arith, h)
 
-  no-owner : (t : ℕ) (o : Option Table) → ((table : Table) → o ≡ Some table → owned_by table.head p ≡ true → ⊥) → message_of ps p t o ≡ None
+  no-owner : (t : ℕ) (o : Option Table) → ((table : Table) → o ≡ Some table → owned_by table.metadata p ≡ true → ⊥) → message_of ps p t o ≡ None
   no-owner t None other = refl
-  no-owner t (Some table) other = no-message ps p t table (by (owned_by table.head p) refl)
+  no-owner t (Some table) other = no-message ps p t table (by (owned_by table.metadata p) refl)
     where
-      by : (b : Bool) → owned_by table.head p ≡ b → b ≡ false
+      by : (b : Bool) → owned_by table.metadata p ≡ b → b ≡ false
       by true e = absurd (other table refl e)
       by false e = refl
 
@@ -166,7 +166,7 @@ module _ (ps : Processes) (p : ℕ) where
   module _ (at : ℕ → Option Table) (high : ℕ) where
     -- the tables from this identifier on; the owner's are all among these
     abbrev AreFound : ℕ → Tables → List ℕ → Type 0
-    AreFound n tables ids = ((k : ℕ) → at (n + k) ≡ table_at tables k) × ((k : ℕ) (table : Table) → table_at tables k ≡ Some table → owned_by table.head p ≡ true → IsAmong (n + k) ids)
+    AreFound n tables ids = ((k : ℕ) → at (n + k) ≡ table_at tables k) × ((k : ℕ) (table : Table) → table_at tables k ≡ Some table → owned_by table.metadata p ≡ true → IsAmong (n + k) ids)
 
     move : (n k : ℕ) → suc n + k ≡ n + suc k
     move n k = omega arith
@@ -205,41 +205,41 @@ module _ (ps : Processes) (p : ℕ) where
 
 -- ---- an ended process lives no more, and no other process changes
 module _ (p : ℕ) (gone : Process) (dead : gone.lives ≡ false) where
-  ended-head : (c b : Bool) (q : ℕ) (e : ℕ × Process) (before after : Option Process) → (option_map_or (λ (x : Process). x.lives) after false ≡ true → option_map_or (λ (x : Process). x.lives) before false ≡ true)
+  ended-first : (c b : Bool) (q : ℕ) (e : ℕ × Process) (before after : Option Process) → (option_map_or (λ (x : Process). x.lives) after false ≡ true → option_map_or (λ (x : Process). x.lives) before false ≡ true)
       → option_map_or (λ (x : Process). x.lives) (cond c (Some (cond b gone e.1)) (cond b before after)) false ≡ true → option_map_or (λ (x : Process). x.lives) (cond c (Some e.1) before) false ≡ true
-  ended-head true true q e before after ih h = absurd (true≢false (sym h ∙ dead))
-  ended-head true false q e before after ih h = h
-  ended-head false true q e before after ih h = h
-  ended-head false false q e before after ih h = ih h
+  ended-first true true q e before after ih h = absurd (true≢false (sym h ∙ dead))
+  ended-first true false q e before after ih h = h
+  ended-first false true q e before after ih h = h
+  ended-first false false q e before after ih h = ih h
 
   ended-at : (b : Bool) (q : ℕ) (e : ℕ × Process) (es : Processes) → (lives (set_value (λ k. p == k) es gone) q ≡ true → lives es q ≡ true)
       → lives (cond b ((e.0, gone) ∷ es) (e ∷ set_value (λ k. p == k) es gone)) q ≡ true → lives (e ∷ es) q ≡ true
-  ended-at true q e es ih h = ended-head (nat_eq q e.0) true q e (process_at es q) (process_at es q) (λ l. l) h
-  ended-at false q e es ih h = ended-head (nat_eq q e.0) false q e (process_at es q) (process_at (set_value (λ k. p == k) es gone) q) ih h
+  ended-at true q e es ih h = ended-first (nat_eq q e.0) true q e (process_at es q) (process_at es q) (λ l. l) h
+  ended-at false q e es ih h = ended-first (nat_eq q e.0) false q e (process_at es q) (process_at (set_value (λ k. p == k) es gone) q) ih h
 
   ended-lives : (ps : Processes) (q : ℕ) → lives (set_value (λ k. p == k) ps gone) q ≡ true → lives ps q ≡ true
   ended-lives [] q h = h
   ended-lives (e ∷ es) q h = ended-at (nat_eq p e.0) q e es (ended-lives es q) h
 
 -- who lives after an end lived before
-pub ended-before : (ps : Processes) (p q : ℕ) → lives (ended ps p) q ≡ true → lives ps q ≡ true
+pub ended-before : (ps : Processes) (p q : ℕ) → lives (with_ended ps p) q ≡ true → lives ps q ≡ true
 ended-before ps p q = ended-lives p (record { lives = false; mailbox = [] }) refl ps q
 
-pub ended-dead : (ps : Processes) (p : ℕ) → lives ps p ≡ true → lives (ended ps p) p ≡ false
+pub ended-dead : (ps : Processes) (p : ℕ) → lives ps p ≡ true → lives (with_ended ps p) p ≡ false
 ended-dead ps p l = by (process_at ps p) refl
   where
-    by : (o : Option Process) → process_at ps p ≡ o → lives (ended ps p) p ≡ false
+    by : (o : Option Process) → process_at ps p ≡ o → lives (with_ended ps p) p ≡ false
     by None e = absurd (true≢false (sym l ∙ ap (λ o. option_map_or (λ (x : Process). x.lives) o false) e))
     by (Some own) e = ap (λ o. option_map_or (λ (x : Process). x.lives) o false) (lookup-set_value (λ q. p == q) ps own (record { lives = false; mailbox = [] }) e)
 
-heir-before-at : (ps : Processes) (p : ℕ) (head : Head) (own heir : Heir) (b : Bool) → lives (ended ps p) own.pid ≡ b → cond b (Some own) None ≡ Some heir → cond (lives ps own.pid) (Some own) None ≡ Some heir
-heir-before-at ps p head own heir true l e = ap (λ b. cond b (Some own) None) (ended-before ps p own.pid l) ∙ e
-heir-before-at ps p head own heir false l e = absurd (cc)
+heir-before-at : (ps : Processes) (p : ℕ) (metadata : Metadata) (own heir : Heir) (b : Bool) → lives (with_ended ps p) own.pid ≡ b → cond b (Some own) None ≡ Some heir → cond (lives ps own.pid) (Some own) None ≡ Some heir
+heir-before-at ps p metadata own heir true l e = ap (λ b. cond b (Some own) None) (ended-before ps p own.pid l) ∙ e
+heir-before-at ps p metadata own heir false l e = absurd (cc)
 
 -- an heir that lives after an end lived before
-pub heir-before : (ps : Processes) (p : ℕ) (head : Head) (heir : Heir) → living_heir (ended ps p) head ≡ Some heir → living_heir ps head ≡ Some heir
-heir-before ps p head heir e = by head.heir e
+pub heir-before : (ps : Processes) (p : ℕ) (metadata : Metadata) (heir : Heir) → living_heir (with_ended ps p) metadata ≡ Some heir → living_heir ps metadata ≡ Some heir
+heir-before ps p metadata heir e = by metadata.heir e
   where
-    by : (o : Option Heir) → living_heir (ended ps p) (record head { heir = o }) ≡ Some heir → living_heir ps (record head { heir = o }) ≡ Some heir
+    by : (o : Option Heir) → living_heir (with_ended ps p) (record metadata { heir = o }) ≡ Some heir → living_heir ps (record metadata { heir = o }) ≡ Some heir
     by None e = e
-    by (Some own) e = heir-before-at ps p head own heir (lives (ended ps p) own.pid) refl e
+    by (Some own) e = heir-before-at ps p metadata own heir (lives (with_ended ps p) own.pid) refl e

@@ -1,7 +1,7 @@
 pub mod Enrolments
 pub mod Places
 pub mod Naming
-pub mod Heads
+pub mod MetadataLaws
 pub mod Kept
 pub mod Posting
 pub mod Ascending

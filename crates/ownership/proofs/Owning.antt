@@ -4,7 +4,7 @@ use Rattle.std.specs.Option.{option_map_or}
 use Rattle.std.specs.declared.alloc.Global.{Global}
 use Rattle.std.specs.declared.vec.Vec.{Vec}
 use Rattle.std.proofs.lemmas.Bool.Decides.{nat_tests}
-use Rattle.ownership.specs.declared.head.Heir.{Heir}
+use Rattle.ownership.specs.declared.metadata.Heir.{Heir}
 use Rattle.ownership.specs.World.{Table, Tables, Processes, table_at}
 use Rattle.ownership.specs.End.{living_heir}
 use Rattle.ownership.specs.declared.indices.Indices.{Indices}
@@ -107,9 +107,9 @@ noted-either (Ok done) before after owner id ids updated below put same = noted 
 noted-either (Err error) before after owner id ids updated below put same = noted-same before after owner id ids updated same
 
 pub inherited-more : (old new : Indices) (processes : Processes) (tables : Tables) (ids rest : List ℕ) (id : ℕ) → AddsUnderOwners old new
-    → ((table : Table) (heir : Heir) → table_at tables id ≡ Some table → living_heir processes table.head ≡ Some heir → IsAmong id (ids_under new heir.pid))
-    → ((t : ℕ) (table : Table) (heir : Heir) → IsAmong t ids → table_at tables t ≡ Some table → living_heir processes table.head ≡ Some heir → IsAmong t (id ∷ rest) ⊎ IsAmong t (ids_under old heir.pid))
-    → (t : ℕ) (table : Table) (heir : Heir) → IsAmong t ids → table_at tables t ≡ Some table → living_heir processes table.head ≡ Some heir → IsAmong t rest ⊎ IsAmong t (ids_under new heir.pid)
+    → ((table : Table) (heir : Heir) → table_at tables id ≡ Some table → living_heir processes table.metadata ≡ Some heir → IsAmong id (ids_under new heir.pid))
+    → ((t : ℕ) (table : Table) (heir : Heir) → IsAmong t ids → table_at tables t ≡ Some table → living_heir processes table.metadata ≡ Some heir → IsAmong t (id ∷ rest) ⊎ IsAmong t (ids_under old heir.pid))
+    → (t : ℕ) (table : Table) (heir : Heir) → IsAmong t ids → table_at tables t ≡ Some table → living_heir processes table.metadata ≡ Some heir → IsAmong t rest ⊎ IsAmong t (ids_under new heir.pid)
 inherited-more old new processes tables ids rest id notes here each t table heir a at lives = by (each t table heir a at lives)
   where
     by : IsAmong t (id ∷ rest) ⊎ IsAmong t (ids_under old heir.pid) → IsAmong t rest ⊎ IsAmong t (ids_under new heir.pid)

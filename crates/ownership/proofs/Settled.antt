@@ -3,7 +3,7 @@ use Rattle.std.proofs.Common.{◌≡◌, ℕ, false, List, [], ◌∷◌, ◌++�
 use Rattle.std.specs.Prelude.{vec_capacity}
 use Rattle.ownership.specs.declared.indices.Indices.{Indices}
 use Rattle.ownership.specs.World.{Tables, Processes, lives, table_at}
-use Rattle.ownership.specs.End.{table_after}
+use Rattle.ownership.specs.End.{table_after_exit}
 use Rattle.ownership.specs.inside.Ending.{ReassignsTables}
 use Rattle.ownership.specs.inside.Indices.{HeirsOfOwnerAreIndexed, FixedAreListed, CoversTablesOf, RemovesOwner, IndicesInvariant, is_fixed_at}
 use Rattle.ownership.proofs.Keeping.{bequeathed-still, kept-beside, owners-forgotten}
@@ -15,7 +15,7 @@ pub record Settled (now : Indices) (ps : Processes) (p : ℕ) (ids : List ℕ) (
   pub dirty : now.dirty ≡ None
   pub heirs : HeirsOfOwnerAreIndexed now ps p new
   pub noted : FixedAreListed now.fixed.items None old
-  pub settles : ReassignsTables (table_after ps p) ids old new
+  pub settles : ReassignsTables (table_after_exit ps p) ids old new
 
 pub settled-none : (now : Indices) (ps : Processes) (p : ℕ) (tables : Tables) → IndicesInvariant now tables → now.dirty ≡ None → HeirsOfOwnerAreIndexed now ps p tables → Settled now ps p [] tables tables
 settled-none now ps p tables kept dirty heirs = record {
@@ -23,23 +23,23 @@ settled-none now ps p tables kept dirty heirs = record {
   dirty = dirty;
   heirs = heirs;
   noted = subst (λ l. FixedAreListed now.fixed.items l tables) dirty kept.noted;
-  settles = settles-none (table_after ps p) tables;
+  settles = settles-none (table_after_exit ps p) tables;
 }
 
 module _ (ps : Processes) (p : ℕ) (dead : lives ps p ≡ false) (now : Indices) where
   -- one more table is reassigned
-  pub settled-more : (ids : List ℕ) (id : ℕ) (old mid new : Tables) → Settled now ps p ids old mid → (next : Indices) → next ≡ record now { names = next.names } → IndicesInvariant next new → new ≡ set mid id (table_after ps p (table_at mid id)) → Settled next ps p (ids ++ id ∷ []) old new
+  pub settled-more : (ids : List ℕ) (id : ℕ) (old mid new : Tables) → Settled now ps p ids old mid → (next : Indices) → next ≡ record now { names = next.names } → IndicesInvariant next new → new ≡ set mid id (table_after_exit ps p (table_at mid id)) → Settled next ps p (ids ++ id ∷ []) old new
   settled-more ids id old mid new settled next rest kept is = record {
     kept = kept;
     dirty = ap (λ (i : Indices). i.dirty) rest ∙ settled.dirty;
     heirs = subst (HeirsOfOwnerAreIndexed next ps p) (sym is) (bequeathed-still ps p dead now next mid rest id settled.heirs);
     noted = subst (λ (i : Indices). FixedAreListed i.fixed.items None old) (sym rest) settled.noted;
-    settles = settles-more (table_after ps p) refl (settled-twice ps p dead) ids id old mid new settled.settles is;
+    settles = settles-more (table_after_exit ps p) refl (settled-twice ps p dead) ids id old mid new settled.settles is;
   }
 
   module _ (own : List ℕ) (old new : Tables) (owned : CoversTablesOf own p old) (settled : Settled now ps p (own ++ now.fixed.items) old new) where
     -- then all tables are
-    pub settled-all : new ≡ map (table_after ps p) old
+    pub settled-all : new ≡ map (table_after_exit ps p) old
     settled-all = settles-all ps p dead old own now.fixed.items settled.noted owned new settled.settles
 
     -- tables that nobody fixes are not listed

@@ -13,12 +13,12 @@ use Rattle.bucket_table.specs.Slots.{purged}
 use Rattle.fixed_walk.specs.Fixes.{FixCounts, is_fixed}
 use Rattle.fixed_walk.specs.Fixed.{Fixed, all_released}
 use Rattle.fixed_walk.proofs.HeldLaws.{free-release_all, purged-none}
-use Rattle.ownership.specs.declared.head.Head.{Head}
-use Rattle.ownership.specs.declared.head.Heir.{Heir}
+use Rattle.ownership.specs.declared.metadata.Metadata.{Metadata}
+use Rattle.ownership.specs.declared.metadata.Heir.{Heir}
 use Rattle.ownership.specs.World.{Table, Tables, Processes, table_at, lives}
-use Rattle.ownership.specs.Heads.{owned_by}
-use Rattle.ownership.specs.End.{living_heir, let_go, table_after}
-use Rattle.ownership.specs.Tables.{passed_to}
+use Rattle.ownership.specs.Access.{owned_by}
+use Rattle.ownership.specs.End.{living_heir, without_fixes, table_after_exit}
+use Rattle.ownership.specs.Tables.{with_owner}
 use Rattle.ownership.specs.inside.Ending.{IsReassigned, ReassignsTables}
 use Rattle.ownership.specs.inside.Indices.{IsAmong, AscendsBetween, IsUnfixed, FixedAreListed, CoversTablesOf, is_fixed_at}
 use Rattle.ownership.proofs.Ascending.{among-filter, between-filter, among-either, among-left, among-right}
@@ -49,14 +49,14 @@ idle-stays p f idle = sym (free-release_all p f idle.0 (λ free. idle.1))
 
 -- ---- a table that is reassigned twice
 module _ (ps : Processes) (p : ℕ) (dead : lives ps p ≡ false) where
-  heir-lives : (head : Head) (heir : Heir) → living_heir ps head ≡ Some heir → lives ps heir.pid ≡ true
-  heir-lives head heir e = by head.heir e
+  heir-lives : (metadata : Metadata) (heir : Heir) → living_heir ps metadata ≡ Some heir → lives ps heir.pid ≡ true
+  heir-lives metadata heir e = by metadata.heir e
     where
       at : (b : Bool) (own : Heir) → lives ps own.pid ≡ b → cond b (Some own) None ≡ Some heir → lives ps heir.pid ≡ true
       at true own l e = let same : own ≡ heir = same_Some _ _ e in ap (λ (h : Heir). lives ps h.pid) (sym same) ∙ l
       at false own l e = absurd (cc)
 
-      by : (o : Option Heir) → living_heir ps (record head { heir = o }) ≡ Some heir → lives ps heir.pid ≡ true
+      by : (o : Option Heir) → living_heir ps (record metadata { heir = o }) ≡ Some heir → lives ps heir.pid ≡ true
       by None e = absurd (cc)
       by (Some own) e = at (lives ps own.pid) own refl e
 
@@ -67,24 +67,24 @@ module _ (ps : Processes) (p : ℕ) (dead : lives ps p ≡ false) where
       by true e = let same : q ≡ p = same-number q p e in absurd (true≢false (sym l ∙ ap (lives ps) same ∙ dead))
       by false e = refl
 
-  twice-at : (b : Bool) (table : Table) (h : Option Heir) → owned_by table.head p ≡ b → living_heir ps table.head ≡ h → table_after ps p (table_after ps p (Some table)) ≡ table_after ps p (Some table)
+  twice-at : (b : Bool) (table : Table) (h : Option Heir) → owned_by table.metadata p ≡ b → living_heir ps table.metadata ≡ h → table_after_exit ps p (table_after_exit ps p (Some table)) ≡ table_after_exit ps p (Some table)
   twice-at true table None own e =
-      let once : table_after ps p (Some table) ≡ None = rw (own, e) refl in
+      let once : table_after_exit ps p (Some table) ≡ None = rw (own, e) refl in
       rw once refl
   twice-at true table (Some heir) own e =
-      let once : table_after ps p (Some table) ≡ Some (passed_to heir.pid (let_go p table)) = rw (own, e) refl in
-      let other : nat_eq heir.pid p ≡ false = other-pid heir.pid (heir-lives table.head heir e) in
-      rw once (rw other (ap (λ f. Some (record (passed_to heir.pid table) { fixed = f })) (released-twice p table.fixed)))
+      let once : table_after_exit ps p (Some table) ≡ Some (with_owner heir.pid (without_fixes p table)) = rw (own, e) refl in
+      let other : nat_eq heir.pid p ≡ false = other-pid heir.pid (heir-lives table.metadata heir e) in
+      rw once (rw other (ap (λ f. Some (record (with_owner heir.pid table) { fixed = f })) (released-twice p table.fixed)))
   twice-at false table h own e =
-      let once : table_after ps p (Some table) ≡ Some (let_go p table) = rw own refl in
+      let once : table_after_exit ps p (Some table) ≡ Some (without_fixes p table) = rw own refl in
       rw once (rw own (ap (λ f. Some (record table { fixed = f })) (released-twice p table.fixed)))
 
-  pub settled-twice : (o : Option Table) → table_after ps p (table_after ps p o) ≡ table_after ps p o
+  pub settled-twice : (o : Option Table) → table_after_exit ps p (table_after_exit ps p o) ≡ table_after_exit ps p o
   settled-twice None = refl
-  settled-twice (Some table) = twice-at (owned_by table.head p) table (living_heir ps table.head) refl refl
+  settled-twice (Some table) = twice-at (owned_by table.metadata p) table (living_heir ps table.metadata) refl refl
 
   -- an idle table of another process needs no visit
-  pub settled-idle : (table : Table) → owned_by table.head p ≡ false → IsUnfixed table.fixed → table_after ps p (Some table) ≡ Some table
+  pub settled-idle : (table : Table) → owned_by table.metadata p ≡ false → IsUnfixed table.fixed → table_after_exit ps p (Some table) ≡ Some table
   settled-idle table other idle = rw other (ap (λ f. Some (record table { fixed = f })) (idle-stays p table.fixed idle))
 
 -- ---- lists of tables that are reassigned at places
@@ -140,31 +140,31 @@ pub record Left (ps : Processes) (p : ℕ) (o : Option Table) (new : Table) : Ty
   pub table : Table
   pub was : o ≡ Some table
   pub fixed : new.fixed ≡ all_released p table.fixed
-  pub head : (new.head ≡ table.head × (owned_by table.head p ≡ false)) ⊎ ((heir : Heir) × (living_heir ps table.head ≡ Some heir) × (owned_by table.head p ≡ true) × (new.head ≡ record table.head { owner = heir.pid }))
+  pub metadata : (new.metadata ≡ table.metadata × (owned_by table.metadata p ≡ false)) ⊎ ((heir : Heir) × (living_heir ps table.metadata ≡ Some heir) × (owned_by table.metadata p ≡ true) × (new.metadata ≡ record table.metadata { owner = heir.pid }))
 
 module _ (ps : Processes) (p : ℕ) where
-  left-at : (b : Bool) (h : Option Heir) (table new : Table) → owned_by table.head p ≡ b → living_heir ps table.head ≡ h
-      → (if b then option_map (λ (heir : Heir). passed_to heir.pid (let_go p table)) h else Some (let_go p table)) ≡ Some new → Left ps p (Some table) new
+  left-at : (b : Bool) (h : Option Heir) (table new : Table) → owned_by table.metadata p ≡ b → living_heir ps table.metadata ≡ h
+      → (if b then option_map (λ (heir : Heir). with_owner heir.pid (without_fixes p table)) h else Some (without_fixes p table)) ≡ Some new → Left ps p (Some table) new
   left-at true None table new own l e = absurd (cc)
   left-at true (Some heir) table new own l e =
-      let same : passed_to heir.pid (let_go p table) ≡ new = same_Some _ _ e in
-      record { table = table; was = refl; fixed = ap (λ (t : Table). t.fixed) (sym same); head = inr (heir, l, own, ap (λ (t : Table). t.head) (sym same)) }
+      let same : with_owner heir.pid (without_fixes p table) ≡ new = same_Some _ _ e in
+      record { table = table; was = refl; fixed = ap (λ (t : Table). t.fixed) (sym same); metadata = inr (heir, l, own, ap (λ (t : Table). t.metadata) (sym same)) }
   left-at false h table new own l e =
-      let same : let_go p table ≡ new = same_Some _ _ e in
-      record { table = table; was = refl; fixed = ap (λ (t : Table). t.fixed) (sym same); head = inl (ap (λ (t : Table). t.head) (sym same), own) }
+      let same : without_fixes p table ≡ new = same_Some _ _ e in
+      record { table = table; was = refl; fixed = ap (λ (t : Table). t.fixed) (sym same); metadata = inl (ap (λ (t : Table). t.metadata) (sym same), own) }
 
-  pub left-over : (o : Option Table) (new : Table) → table_after ps p o ≡ Some new → Left ps p o new
+  pub left-over : (o : Option Table) (new : Table) → table_after_exit ps p o ≡ Some new → Left ps p o new
   left-over None new e = absurd (cc)
   left-over (Some table) new e =
-      left-at (owned_by table.head p) (living_heir ps table.head) table new refl refl e
+      left-at (owned_by table.metadata p) (living_heir ps table.metadata) table new refl refl e
 
 -- the process owns no table
-pub left-others : (ps : Processes) (p : ℕ) → lives ps p ≡ false → (o : Option Table) (new : Table) → Left ps p o new → owned_by new.head p ≡ false
-left-others ps p dead o new left = by left.head
+pub left-others : (ps : Processes) (p : ℕ) → lives ps p ≡ false → (o : Option Table) (new : Table) → Left ps p o new → owned_by new.metadata p ≡ false
+left-others ps p dead o new left = by left.metadata
   where
-    by : (new.head ≡ left.table.head × (owned_by left.table.head p ≡ false)) ⊎ ((heir : Heir) × (living_heir ps left.table.head ≡ Some heir) × (owned_by left.table.head p ≡ true) × (new.head ≡ record left.table.head { owner = heir.pid })) → owned_by new.head p ≡ false
-    by (inl same) = ap (λ (h : Head). owned_by h p) same.0 ∙ same.1
-    by (inr passed) = ap (λ (h : Head). owned_by h p) passed.3 ∙ other-pid ps p dead passed.0.pid (heir-lives ps p dead left.table.head passed.0 passed.1)
+    by : (new.metadata ≡ left.table.metadata × (owned_by left.table.metadata p ≡ false)) ⊎ ((heir : Heir) × (living_heir ps left.table.metadata ≡ Some heir) × (owned_by left.table.metadata p ≡ true) × (new.metadata ≡ record left.table.metadata { owner = heir.pid })) → owned_by new.metadata p ≡ false
+    by (inl same) = ap (λ (h : Metadata). owned_by h p) same.0 ∙ same.1
+    by (inr to_heir) = ap (λ (h : Metadata). owned_by h p) to_heir.3 ∙ other-pid ps p dead to_heir.0.pid (heir-lives ps p dead left.table.metadata to_heir.0 to_heir.1)
 
 released-idle-at : (b : Bool) (p : ℕ) (f : Fixed) → is_fixed (remove f.fixes p) ≡ b → is_fixed (all_released p f).fixes ≡ false → IsUnfixed (all_released p f)
 released-idle-at true p f e free =
@@ -179,33 +179,33 @@ pub released-idle : (p : ℕ) (f : Fixed) → is_fixed (all_released p f).fixes 
 released-idle p f free = released-idle-at (is_fixed (remove f.fixes p)) p f refl free
 
 module _ (ps : Processes) (p : ℕ) (dead : lives ps p ≡ false) (old : Tables) (own fixed : List ℕ) (noted : FixedAreListed fixed None old) (owned : CoversTablesOf own p old) where
-  settled-first : (t : ℕ) (o : Option Table) → table_at old t ≡ o → IsAmong t own ⊎ IsAmong t fixed ⊎ (table_after ps p o ≡ o)
+  settled-first : (t : ℕ) (o : Option Table) → table_at old t ≡ o → IsAmong t own ⊎ IsAmong t fixed ⊎ (table_after_exit ps p o ≡ o)
   settled-first t None e = inr (inr refl)
-  settled-first t (Some table) e = by (owned_by table.head p) refl (noted.each t table e)
+  settled-first t (Some table) e = by (owned_by table.metadata p) refl (noted.each t table e)
     where
-      by : (b : Bool) → owned_by table.head p ≡ b → (None ≡ Some t) ⊎ IsAmong t fixed ⊎ IsUnfixed table.fixed → IsAmong t own ⊎ IsAmong t fixed ⊎ (table_after ps p (Some table) ≡ Some table)
+      by : (b : Bool) → owned_by table.metadata p ≡ b → (None ≡ Some t) ⊎ IsAmong t fixed ⊎ IsUnfixed table.fixed → IsAmong t own ⊎ IsAmong t fixed ⊎ (table_after_exit ps p (Some table) ≡ Some table)
       by true is n = inl (owned t table e is)
       by false is (inl dirty) = absurd (cc)
       by false is (inr (inl among)) = inr (inl among)
       by false is (inr (inr idle)) = inr (inr (settled-idle ps p dead table is idle))
 
   -- to reassign the tables of the process and the listed ones is to reassign all
-  pub settles-all : (new : Tables) → ReassignsTables (table_after ps p) (own ++ fixed) old new → new ≡ map (table_after ps p) old
-  settles-all new settles = sym (all-settled (table_after ps p) new each) ∙ settles.same
+  pub settles-all : (new : Tables) → ReassignsTables (table_after_exit ps p) (own ++ fixed) old new → new ≡ map (table_after_exit ps p) old
+  settles-all new settles = sym (all-settled (table_after_exit ps p) new each) ∙ settles.same
     where
-      by : (t : ℕ) → IsAmong t own ⊎ IsAmong t fixed ⊎ (table_after ps p (table_at old t) ≡ table_at old t) → IsReassigned (table_after ps p) new t
+      by : (t : ℕ) → IsAmong t own ⊎ IsAmong t fixed ⊎ (table_after_exit ps p (table_at old t) ≡ table_at old t) → IsReassigned (table_after_exit ps p) new t
       by t (inl mine) = settles.here t (among-left own fixed t mine)
       by t (inr (inl among)) = settles.here t (among-right own fixed t among)
       by t (inr (inr settled)) = settles.there t settled
 
-      each : (t : ℕ) → IsReassigned (table_after ps p) new t
+      each : (t : ℕ) → IsReassigned (table_after_exit ps p) new t
       each t = by t (settled-first t (table_at old t) refl)
 
   -- the entries afterwards
-  pub noted-after : (new : Tables) → new ≡ map (table_after ps p) old → FixedAreListed (filter (is_fixed_at new) fixed) None new
+  pub noted-after : (new : Tables) → new ≡ map (table_after_exit ps p) old → FixedAreListed (filter (is_fixed_at new) fixed) None new
   noted-after new is = record {
-    order = subst (λ n. AscendsBetween 0 n (filter (is_fixed_at new) fixed)) (sym (ap (λ (ts : Tables). length ts) is ∙ length-map old (table_after ps p))) (between-filter (is_fixed_at new) 0 (length old) fixed noted.order);
-    each = λ t table there. each t table there (left-over ps p (table_at old t) table (sym (get_or-map (table_after ps p) old t None) ∙ ap (λ ts. table_at ts t) (sym is) ∙ there));
+    order = subst (λ n. AscendsBetween 0 n (filter (is_fixed_at new) fixed)) (sym (ap (λ (ts : Tables). length ts) is ∙ length-map old (table_after_exit ps p))) (between-filter (is_fixed_at new) 0 (length old) fixed noted.order);
+    each = λ t table there. each t table there (left-over ps p (table_at old t) table (sym (get_or-map (table_after_exit ps p) old t None) ∙ ap (λ ts. table_at ts t) (sym is) ∙ there));
   }
     where
       fixed-at : (t : ℕ) (table was : Table) → table_at new t ≡ Some table → table.fixed ≡ all_released p was.fixed → IsAmong t fixed → (b : Bool) → is_fixed table.fixed.fixes ≡ b → IsAmong t (filter (is_fixed_at new) fixed) ⊎ IsUnfixed table.fixed

@@ -7,44 +7,44 @@ use Rattle.table_ops.specs.Outcomes.{Outcome, gives, refuse}
 use Rattle.fixed_walk.specs.Fixed.{all_released}
 use Rattle.ownership.specs.declared.fault.WorldFault.{WorldFault}
 use Rattle.ownership.specs.declared.fault.WorldFault.TheVariants.{NoProcess}
-use Rattle.ownership.specs.declared.head.Head.{Head}
-use Rattle.ownership.specs.declared.head.Heir.{Heir}
+use Rattle.ownership.specs.declared.metadata.Metadata.{Metadata}
+use Rattle.ownership.specs.declared.metadata.Heir.{Heir}
 use Rattle.ownership.specs.World.{Table, Tables, Processes, World, lives}
-use Rattle.ownership.specs.Heads.{owned_by}
-use Rattle.ownership.specs.Messages.{transfer, post_all}
-use Rattle.ownership.specs.Tables.{passed_to}
+use Rattle.ownership.specs.Access.{owned_by}
+use Rattle.ownership.specs.Messages.{transfer_message, post_all}
+use Rattle.ownership.specs.Tables.{with_owner}
 
 -- the processes after one has ended: it lives no more, and its messages are gone
-abbrev pub ended : Processes → ℕ → Processes
-ended processes p = set_value (λ q. p == q) processes (record { lives = false; mailbox = [] })
+abbrev pub with_ended : Processes → ℕ → Processes
+with_ended processes p = set_value (λ q. p == q) processes (record { lives = false; mailbox = [] })
 
 -- the heir of a table, if the heir lives
-abbrev pub living_heir : Processes → Head → Option Heir
-living_heir processes head =
-    option_and_then (λ heir. if lives processes heir.pid then Some heir else None) head.heir
+abbrev pub living_heir : Processes → Metadata → Option Heir
+living_heir processes metadata =
+    option_and_then (λ heir. if lives processes heir.pid then Some heir else None) metadata.heir
 
 -- a table without the fixes of a process; tombstones go when nobody fixes the table
-abbrev pub let_go : ℕ → Table → Table
-let_go p table = record table { fixed = all_released p table.fixed }
+abbrev pub without_fixes : ℕ → Table → Table
+without_fixes p table = record table { fixed = all_released p table.fixed }
 
 -- a table after its process ended: one that it owned passes to the living heir or is deleted
-abbrev pub table_after : Processes → ℕ → Option Table → Option Table
-table_after processes p None = None
-table_after processes p (Some table) =
-    if owned_by table.head p
-    then option_map (λ heir. passed_to heir.pid (let_go p table)) (living_heir processes table.head)
-    else Some (let_go p table)
+abbrev pub table_after_exit : Processes → ℕ → Option Table → Option Table
+table_after_exit processes p None = None
+table_after_exit processes p (Some table) =
+    if owned_by table.metadata p
+    then option_map (λ heir. with_owner heir.pid (without_fixes p table)) (living_heir processes table.metadata)
+    else Some (without_fixes p table)
 
 -- the heir that gets a table of the process
 abbrev pub receiver_of : Processes → ℕ → Table → Option Heir
 receiver_of processes p table =
-    if owned_by table.head p then living_heir processes table.head else None
+    if owned_by table.metadata p then living_heir processes table.metadata else None
 
 -- the transfer message of a table, with its receiver
 abbrev pub message_of : Processes → ℕ → ℕ → Option Table → Option (ℕ × Term)
 message_of processes p t None = None
 message_of processes p t (Some table) =
-    option_map (λ heir. (heir.pid, transfer table.head t p heir.gift))
+    option_map (λ heir. (heir.pid, transfer_message table.metadata t p heir.gift))
     (receiver_of processes p table)
 
 -- the transfer messages of the tables from this identifier on, in order of creation
@@ -55,11 +55,11 @@ messages_from processes p t (table ∷ tables) =
     (message_of processes p t table) (messages_from processes p (suc t) tables)
 
 -- the world with these processes, after the tables of a process were passed on or deleted
-abbrev pub handed_over : World → Processes → ℕ → World
-handed_over w processes p =
+abbrev pub after_exit : World → Processes → ℕ → World
+after_exit w processes p =
     record w {
       processes = post_all processes (messages_from processes p 0 w.tables);
-      tables = map (table_after processes p) w.tables;
+      tables = map (table_after_exit processes p) w.tables;
     }
 
 -- The process must live. It then lives no more, so it is no heir. Its messages and fixes are gone. Each of its tables
@@ -67,4 +67,4 @@ handed_over w processes p =
 abbrev pub End : World → ℕ → Outcome (Result (Unit {0}) WorldFault) World
 End old p =
     refuse old (not (lives old.processes p)) (Err NoProcess) (
-    gives (Ok tt) (handed_over old (ended old.processes p) p))
+    gives (Ok tt) (after_exit old (with_ended old.processes p) p))

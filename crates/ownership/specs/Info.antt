@@ -9,9 +9,9 @@ use Rattle.bucket_table.specs.Slots.{object_count}
 use Rattle.table_ops.specs.declared.kind.Kind.{Kind}
 use Rattle.table_ops.specs.declared.kind.Kind.TheVariants.{Set, Bag, DuplicateBag}
 use Rattle.fixed_walk.specs.Fixes.{is_fixed}
-use Rattle.ownership.specs.declared.head.Heir.{Heir}
-use Rattle.ownership.specs.declared.head.Protection.{Protection}
-use Rattle.ownership.specs.declared.head.Protection.TheVariants as protection
+use Rattle.ownership.specs.declared.metadata.Heir.{Heir}
+use Rattle.ownership.specs.declared.metadata.Protection.{Protection}
+use Rattle.ownership.specs.declared.metadata.Protection.TheVariants as protection
 use Rattle.ownership.specs.declared.info.InfoItem.{InfoItem}
 use Rattle.ownership.specs.declared.info.InfoItem.TheVariants as item
 use Rattle.ownership.specs.World.{Table}
@@ -59,11 +59,11 @@ heir_term (Some heir) = Pid heir.pid
 
 -- the value of an item for the table with this identifier
 abbrev pub info_of : InfoItem → ℕ → Table → Term
-info_of item.Name t table = Atom table.head.name
-info_of item.NamedTable t table = truth table.head.named
-info_of item.Owner t table = Pid table.head.owner
-info_of item.Protection t table = Atom (protection_word table.head.protection)
-info_of item.Heir t table = heir_term table.head.heir
+info_of item.Name t table = Atom table.metadata.name
+info_of item.NamedTable t table = truth table.metadata.named
+info_of item.Owner t table = Pid table.metadata.owner
+info_of item.Protection t table = Atom (protection_word table.metadata.protection)
+info_of item.Heir t table = heir_term table.metadata.heir
 info_of item.Id t table = Tid t
 info_of item.Size t table = Int (pos (object_count table.fixed.content.slots))
 info_of item.Kind t table = Atom (kind_word table.fixed.content.kind)

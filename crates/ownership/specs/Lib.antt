@@ -1,6 +1,6 @@
 pub mod World
 pub mod Outcomes
-pub mod Heads
+pub mod Access
 pub mod Options
 pub mod Messages
 pub mod Tables

@@ -4,18 +4,18 @@ use Rattle.std.specs.Option.{option_map_or}
 use Rattle.std.specs.Map.{set_value}
 use Rattle.ets_term.specs.declared.term.Term.{Term}
 use Rattle.ets_term.specs.declared.term.Term.TheVariants.{Atom, Pid, Tid, Tuple}
-use Rattle.ownership.specs.declared.head.Head.{Head}
+use Rattle.ownership.specs.declared.metadata.Metadata.{Metadata}
 use Rattle.ownership.specs.declared.process.Process.{Process}
 use Rattle.ownership.specs.World.{Processes, process_at}
 
 -- the answer of `new`: the name of a named table, else the identifier
-abbrev pub told : Bool → List ℕ → ℕ → Term
-told named name t = if named then Atom name else Tid t
+abbrev pub name_or_identifier : Bool → List ℕ → ℕ → Term
+name_or_identifier named name t = if named then Atom name else Tid t
 
 -- the transfer message of a table, from the owner before
-abbrev pub transfer : Head → ℕ → ℕ → Term → Term
-transfer head t from gift =
-    Tuple (Atom (codes "ETS-TRANSFER") ∷ told head.named head.name t ∷ Pid from ∷ gift ∷ [])
+abbrev pub transfer_message : Metadata → ℕ → ℕ → Term → Term
+transfer_message metadata t from gift =
+    Tuple (Atom (codes "ETS-TRANSFER") ∷ name_or_identifier metadata.named metadata.name t ∷ Pid from ∷ gift ∷ [])
 
 -- the process with one more message, the newest
 abbrev pub with_message : Process → Term → Process
@@ -37,7 +37,7 @@ abbrev pub mailbox_of : Processes → ℕ → List Term
 mailbox_of processes p = option_map_or (λ process. process.mailbox) (process_at processes p) []
 
 -- the processes after one has received its messages
-abbrev pub received : Processes → ℕ → Processes
-received processes p =
+abbrev pub after_receive : Processes → ℕ → Processes
+after_receive processes p =
     option_map_or (λ process. set_value (λ q. p == q) processes (record process { mailbox = [] }))
     (process_at processes p) processes

@@ -7,13 +7,13 @@ use Rattle.ets_term.specs.declared.term.Term.{Term, out-Term}
 use Rattle.ets_term.specs.declared.term.Term.TheOpen.{Term-F}
 use Rattle.ets_term.specs.Atoms.{is_atom}
 use Rattle.table_ops.specs.declared.kind.Kind.TheVariants.{Set, Bag, DuplicateBag}
-use Rattle.ownership.specs.declared.head.Heir.{Heir}
-use Rattle.ownership.specs.declared.head.Protection.TheVariants.{Public, Protected, Private}
+use Rattle.ownership.specs.declared.metadata.Heir.{Heir}
+use Rattle.ownership.specs.declared.metadata.Protection.TheVariants.{Public, Protected, Private}
 use Rattle.ownership.specs.declared.options.NewOptions.{NewOptions}
 
 -- the options of an empty list
-abbrev pub usual : NewOptions
-usual = record { kind = Set; keypos = 1; protection = Protected; named = false; heir = None }
+abbrev pub default_options : NewOptions
+default_options = record { kind = Set; keypos = 1; protection = Protected; named = false; heir = None }
 
 abbrev pub natural_form : Term-F Term → Option ℕ
 natural_form (Term-F.Int (pos n)) = Some n
@@ -53,14 +53,14 @@ word_option word options =
     else access_word word options
 
 -- {heir,none} or {heir,Pid,Data}; None for any other tuple
-abbrev pub heir_said : List Term → Option (Option Heir)
-heir_said (name ∷ none ∷ []) =
+abbrev pub parse_heir : List Term → Option (Option Heir)
+parse_heir (name ∷ none ∷ []) =
     if is_atom (codes "heir") name && is_atom (codes "none") none then Some None else None
-heir_said (name ∷ pid ∷ gift ∷ []) =
+parse_heir (name ∷ pid ∷ gift ∷ []) =
     if is_atom (codes "heir") name
     then option_map (λ p. Some (record { pid = p; gift = gift })) (pid_form (out-Term pid))
     else None
-heir_said _ = None
+parse_heir _ = None
 
 -- tuples that tune the table; they change nothing
 abbrev pub is_tuning : Term → Term → Bool
@@ -90,7 +90,7 @@ tuple_saying None elements options = plain_tuple elements options
 
 -- an option that is a tuple; None if it does not exist
 abbrev pub tuple_option : List Term → NewOptions → Option NewOptions
-tuple_option elements options = tuple_saying (heir_said elements) elements options
+tuple_option elements options = tuple_saying (parse_heir elements) elements options
 
 abbrev pub option_form : Term-F Term → NewOptions → Option NewOptions
 option_form (Term-F.Atom word) options = word_option word options
@@ -103,7 +103,7 @@ options_from options (option ∷ rest) =
     option_and_then (λ o. options_from o rest) (option_form (out-Term option) options)
 
 abbrev pub options_form : Term-F Term → Option NewOptions
-options_form (Term-F.List terms) = options_from usual terms
+options_form (Term-F.List terms) = options_from default_options terms
 options_form _ = None
 
 -- the options of a term; None if it is not a list of options
@@ -112,7 +112,7 @@ options_of term = options_form (out-Term term)
 
 -- one option of setopts; None for any other term
 abbrev pub heir_form : Term-F Term → Option (Option Heir)
-heir_form (Term-F.Tuple elements) = heir_said elements
+heir_form (Term-F.Tuple elements) = parse_heir elements
 heir_form _ = None
 
 abbrev pub heirs_from : Option Heir → List Term → Option (Option Heir)

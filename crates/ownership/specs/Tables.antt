@@ -6,12 +6,12 @@ use Rattle.table_ops.specs.Outcomes.{Outcome, gives, refuse, refuse_none}
 use Rattle.fixed_walk.specs.Fixed.{Fixed}
 use Rattle.ownership.specs.declared.fault.WorldFault.{WorldFault}
 use Rattle.ownership.specs.declared.fault.WorldFault.TheVariants.{Badarg, SystemLimit}
-use Rattle.ownership.specs.declared.head.Head.{Head}
-use Rattle.ownership.specs.declared.head.Heir.{Heir}
+use Rattle.ownership.specs.declared.metadata.Metadata.{Metadata}
+use Rattle.ownership.specs.declared.metadata.Heir.{Heir}
 use Rattle.ownership.specs.declared.options.NewOptions.{NewOptions}
 use Rattle.ownership.specs.World.{Table, Tables, World, process_at, lives, table_at, whereis}
-use Rattle.ownership.specs.Heads.{owned_by}
-use Rattle.ownership.specs.Messages.{told, transfer, post}
+use Rattle.ownership.specs.Access.{owned_by}
+use Rattle.ownership.specs.Messages.{name_or_identifier, transfer_message, post}
 use Rattle.ownership.specs.Options.{heir_after}
 
 -- the world after a process was enrolled
@@ -27,8 +27,8 @@ Enrol old p =
     gives (Ok tt) (after_enrol old p)))
 
 -- the metadata of a new table of this name with these options
-abbrev pub new_head : ℕ → List ℕ → NewOptions → Head
-new_head p name options =
+abbrev pub new_metadata : ℕ → List ℕ → NewOptions → Metadata
+new_metadata p name options =
     record {
       name = name;
       named = options.named;
@@ -38,63 +38,63 @@ new_head p name options =
     }
 
 -- the world with a new table under the next identifier
-abbrev pub with_table : World → Head → Fixed → World
-with_table w head fixed =
-    record w { tables = w.tables ++ Some (record { head = head; fixed = fixed }) ∷ [] }
+abbrev pub with_table : World → Metadata → Fixed → World
+with_table w metadata fixed =
+    record w { tables = w.tables ++ Some (record { metadata = metadata; fixed = fixed }) ∷ [] }
 
 -- The answer is the name of a named table, else the identifier. No two named tables have the same name.
 abbrev pub New : World → ℕ → List ℕ → NewOptions → Fixed → Outcome (Result Term WorldFault) World
 New old p name options fixed =
     refuse old (options.named && is_some (whereis old.tables name)) (Err Badarg) (
     refuse old (nat_le old.most_tables (length old.tables)) (Err SystemLimit) (
-    gives (Ok (told options.named name (length old.tables)))
-    (with_table old (new_head p name options) fixed)))
+    gives (Ok (name_or_identifier options.named name (length old.tables)))
+    (with_table old (new_metadata p name options) fixed)))
 
 -- the world without a table, its name and its fixes
 abbrev pub without_table : World → ℕ → World
 without_table w t = record w { tables = slice_set w.tables t None }
 
 -- a table with another owner; the heir stays
-abbrev pub passed_to : ℕ → Table → Table
-passed_to q table = record table { head = record table.head { owner = q } }
+abbrev pub with_owner : ℕ → Table → Table
+with_owner q table = record table { metadata = record table.metadata { owner = q } }
 
 -- a table with another heir, or none
 abbrev pub with_heir : Option Heir → Table → Table
-with_heir heir table = record table { head = record table.head { heir = heir } }
+with_heir heir table = record table { metadata = record table.metadata { heir = heir } }
 
 -- the tables after a change of one, if it exists
-abbrev pub changed : (Table → Table) → Tables → ℕ → Tables
-changed change tables t = slice_set tables t (option_map change (table_at tables t))
+abbrev pub with_changed : (Table → Table) → Tables → ℕ → Tables
+with_changed change tables t = slice_set tables t (option_map change (table_at tables t))
 
 -- the world after a table passed to another owner, which gets a message
-abbrev pub passed : World → ℕ → ℕ → Term → World
-passed w t q message =
-    record w { processes = post w.processes q message; tables = changed (passed_to q) w.tables t }
+abbrev pub after_transfer : World → ℕ → ℕ → Term → World
+after_transfer w t q message =
+    record w { processes = post w.processes q message; tables = with_changed (with_owner q) w.tables t }
 
 -- The owner gives the table to another living process, which gets the transfer message.
 abbrev pub GiveAway : World → ℕ → ℕ → ℕ → Term → Outcome (Result (Unit {0}) WorldFault) World
 GiveAway old p t q gift =
     refuse_none old (table_at old.tables t) (Err Badarg) (λ table.
-    refuse old (not (owned_by table.head p)) (Err Badarg) (
+    refuse old (not (owned_by table.metadata p)) (Err Badarg) (
     refuse old (q == p) (Err Badarg) (
     refuse old (not (lives old.processes q)) (Err Badarg) (
-    gives (Ok tt) (passed old t q (transfer table.head t p gift))))))
+    gives (Ok tt) (after_transfer old t q (transfer_message table.metadata t p gift))))))
 
 -- the world after the heir of a table was set or removed
-abbrev pub heir_set : World → ℕ → Option Heir → World
-heir_set w t heir = record w { tables = changed (with_heir heir) w.tables t }
+abbrev pub after_set_heir : World → ℕ → Option Heir → World
+after_set_heir w t heir = record w { tables = with_changed (with_heir heir) w.tables t }
 
 -- the owner sets or removes the heir
 abbrev pub SetHeir : World → ℕ → ℕ → Option Heir → Outcome (Result (Unit {0}) WorldFault) World
 SetHeir old p t heir =
     refuse_none old (table_at old.tables t) (Err Badarg) (λ table.
-    refuse old (not (owned_by table.head p)) (Err Badarg) (
-    gives (Ok tt) (heir_set old t heir)))
+    refuse old (not (owned_by table.metadata p)) (Err Badarg) (
+    gives (Ok tt) (after_set_heir old t heir)))
 
 -- the owner sets the heir by options
 abbrev pub SetOptions : World → ℕ → ℕ → Term → Outcome (Result (Unit {0}) WorldFault) World
 SetOptions old p t options =
     refuse_none old (table_at old.tables t) (Err Badarg) (λ table.
-    refuse old (not (owned_by table.head p)) (Err Badarg) (
-    refuse_none old (heir_after table.head.heir options) (Err Badarg) (λ heir.
-    gives (Ok tt) (heir_set old t heir))))
+    refuse old (not (owned_by table.metadata p)) (Err Badarg) (
+    refuse_none old (heir_after table.metadata.heir options) (Err Badarg) (λ heir.
+    gives (Ok tt) (after_set_heir old t heir))))

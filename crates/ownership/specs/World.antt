@@ -6,12 +6,12 @@ use Rattle.std.specs.Str.{bytes_eq}
 use Rattle.ets_term.specs.declared.term.Term.{Term, out-Term}
 use Rattle.ets_term.specs.declared.term.Term.TheOpen.{Term-F}
 use Rattle.fixed_walk.specs.Fixed.{Fixed}
-use Rattle.ownership.specs.declared.head.Head.{Head}
+use Rattle.ownership.specs.declared.metadata.Metadata.{Metadata}
 use Rattle.ownership.specs.declared.process.Process.{Process}
 
 -- a table: its metadata, and its objects with its fixes
 pub record Table : Type 0 where
-  pub head : Head
+  pub metadata : Metadata
   pub fixed : Fixed
 
 -- The tables ever made, in order. The place of a table is its identifier; the place of a deleted table stays empty.
@@ -48,21 +48,21 @@ abbrev pub fixed_at : Tables → ℕ → Option Fixed
 fixed_at tables t = option_map (λ table. table.fixed) (table_at tables t)
 
 -- the metadata of a table
-abbrev pub head_of : Option Table → Option Head
-head_of None = None
-head_of (Some table) = Some table.head
+abbrev pub metadata_of : Option Table → Option Metadata
+metadata_of None = None
+metadata_of (Some table) = Some table.metadata
 
-abbrev pub heads : Tables → List (Option Head)
-heads tables = map head_of tables
+abbrev pub all_metadata : Tables → List (Option Metadata)
+all_metadata tables = map metadata_of tables
 
 -- a table exists and has this name
-abbrev pub is_named : List ℕ → Option Head → Bool
+abbrev pub is_named : List ℕ → Option Metadata → Bool
 is_named name None = false
-is_named name (Some head) = head.named && bytes_eq name head.name
+is_named name (Some metadata) = metadata.named && bytes_eq name metadata.name
 
 -- the identifier of the table with this name
 abbrev pub whereis : Tables → List ℕ → Option ℕ
-whereis tables name = position (is_named name) (heads tables)
+whereis tables name = position (is_named name) (all_metadata tables)
 
 -- the identifier of the table that a term names: an identifier, or the name of a named table
 abbrev pub resolve_form : Tables → Term-F Term → Option ℕ

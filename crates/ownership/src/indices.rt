@@ -48,15 +48,15 @@ impl Indices {
     ) -> Result<(), AllocError>
         requires kept { IndicesInvariant self.old tables.now }
         requires few { length tables.now + 1 < 2 ^ 32 }
-        requires free { IsNameFree tables.now table.now.head }
+        requires free { IsNameFree tables.now table.now.metadata }
         ensures ok { OnOk result (IndicesInvariant self.new (tables.now ++ Some table.now ∷ [])) }
         ensures err { OnErr result (IndicesInvariant self.new tables.now) }
     {
         let id = tables.len() as u32;
         self.mark_dirty(tables, id);
         self.reserve(tables.len() + 1)?;
-        self.index_owner(alloc, table.head().owner, id)?;
-        self.index_name(alloc, table.head(), id)?;
+        self.index_owner(alloc, table.metadata().owner, id)?;
+        self.index_name(alloc, table.metadata(), id)?;
         Ok(())
     }
 }

@@ -3,7 +3,7 @@ ghost use Rattle.ets_term.specs.Character.{IsAtomText};
 ghost use Rattle.ets_term.specs.declared.term.Term.TheVariants as term;
 ghost use Rattle.ownership.specs.Info.{item_of, word_item, table_item, truth, protection_word, kind_word, heir_term};
 
-use crate::head::{Heir, Protection};
+use crate::metadata::{Heir, Protection};
 use ets_term::{Atom, Term};
 use std::alloc::{AllocError, Global};
 use table_ops::Kind;

@@ -19,18 +19,18 @@
 #![tactic(auto)]
 
 mod fault;
-mod head;
 mod indices;
 mod info;
 mod messages;
+mod metadata;
 mod options;
 mod process;
 mod table;
 mod world;
 
 pub use fault::WorldFault;
-pub use head::{Head, Heir, Protection};
 pub use info::InfoItem;
+pub use metadata::{Heir, Metadata, Protection};
 pub use options::NewOptions;
 pub use process::Process;
 pub use world::World;

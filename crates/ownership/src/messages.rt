@@ -1,10 +1,10 @@
 // Messages to processes.
 ghost use Rattle.std.specs.Prelude.{◌≡◌, List, ℕ, OnOk, OnErr, IfOk};
-ghost use Rattle.ownership.specs.Messages.{told, transfer, post, post_all};
+ghost use Rattle.ownership.specs.Messages.{name_or_identifier, transfer_message, post, post_all};
 ghost use Rattle.ownership.specs.declared.process.Process as model;
 ghost use Rattle.ets_term.specs.declared.term.Term as term;
 
-use crate::head::Head;
+use crate::metadata::Metadata;
 use crate::process::Process;
 use ets_term::{Atom, Items, Term};
 use indexmap::IndexMap;
@@ -17,7 +17,7 @@ pub fn name_or_identifier(
     name: &Atom,
     id: u32,
 ) -> Result<Term, AllocError>
-    ensures { IfOk result (λ t. t ≡ told named name.now id) }
+    ensures { IfOk result (λ t. t ≡ name_or_identifier named name.now id) }
 {
     if named {
         Ok(Term::Atom(name.try_clone(alloc)?))
@@ -27,17 +27,17 @@ pub fn name_or_identifier(
 }
 
 /// Returns the transfer message for the table with this metadata and identifier.
-pub fn transfer(
+pub fn transfer_message(
     alloc: Global,
-    head: &Head,
+    metadata: &Metadata,
     id: u32,
     from: u32,
     gift: &Term,
 ) -> Result<Term, AllocError>
-    ensures { IfOk result (λ t. t ≡ transfer head.now id from gift.now) }
+    ensures { IfOk result (λ t. t ≡ transfer_message metadata.now id from gift.now) }
 {
     let word = Term::Atom(Atom::of_bytes(alloc, b"ETS-TRANSFER")?);
-    let table = name_or_identifier(alloc, head.named, &head.name, id)?;
+    let table = name_or_identifier(alloc, metadata.named, &metadata.name, id)?;
     let gift = gift.try_clone(alloc)?;
     let mut elements = Items::new(alloc);
     elements.push(word)?;

@@ -6,7 +6,7 @@ mod heir;
 mod read;
 
 use crate::fault::WorldFault;
-use crate::head::{Heir, Protection};
+use crate::metadata::{Heir, Protection};
 use ets_term::Term;
 pub use heir::heir_in_setopts;
 use read::read_all;

@@ -1,9 +1,9 @@
 ghost use Rattle.std.specs.Prelude.{◌≡◌};
 ghost use Rattle.std.specs.Borrow.{sem};
-ghost use Rattle.ownership.specs.Tables.{passed_to, with_heir};
-ghost use Rattle.ownership.specs.End.{let_go};
+ghost use Rattle.ownership.specs.Tables.{with_owner, with_heir};
+ghost use Rattle.ownership.specs.End.{without_fixes};
 
-use crate::head::{Head, Heir};
+use crate::metadata::{Heir, Metadata};
 use bucket_table::Rows;
 use fixed_walk::Walked;
 use std::marker::Model;
@@ -11,7 +11,7 @@ use std::marker::Model;
 /// A table with its metadata.
 #[derive(Drop)]
 pub struct Table<R: Rows> {
-    head: Head,
+    metadata: Metadata,
     walked: Walked<R>,
 }
 
@@ -23,22 +23,22 @@ impl<R: Rows> Model for Table<R> {
 
     ghost coded = { table_code };
 
-    ghost view = { λ t. record { head = t.head; fixed = t.walked } };
+    ghost view = { λ t. record { metadata = t.metadata; fixed = t.walked } };
 }
 
 impl<R: Rows> Table<R> {
     ghost use Rattle.ownership.specs.inside.Lending.{LendsFixed};
 
-    pub fn new(head: Head, walked: Walked<R>) -> Self
-        ensures { result ≡ record { head = head; fixed = walked } }
+    pub fn new(metadata: Metadata, walked: Walked<R>) -> Self
+        ensures { result ≡ record { metadata = metadata; fixed = walked } }
     {
-        Table { head, walked }
+        Table { metadata, walked }
     }
 
-    pub fn head(&self) -> &Head
-        ensures { result.now ≡ self.now.head }
+    pub fn metadata(&self) -> &Metadata
+        ensures { result.now ≡ self.now.metadata }
     {
-        &self.head
+        &self.metadata
     }
 
     pub fn walked(&self) -> &Walked<R>
@@ -56,21 +56,21 @@ impl<R: Rows> Table<R> {
 
     /// Sets the owner.
     pub fn set_owner(&mut self, owner: u32)
-        ensures { self.new ≡ passed_to owner self.old }
+        ensures { self.new ≡ with_owner owner self.old }
     {
-        self.head.owner = owner;
+        self.metadata.owner = owner;
     }
 
     /// Sets or removes the heir.
     pub fn set_heir(&mut self, heir: Option<Heir>)
         ensures { self.new ≡ with_heir heir self.old }
     {
-        self.head.heir = heir;
+        self.metadata.heir = heir;
     }
 
     /// Releases all fixes of a process.
-    pub fn let_go(&mut self, pid: u32)
-        ensures { self.new ≡ let_go pid self.old }
+    pub fn release_all(&mut self, pid: u32)
+        ensures { self.new ≡ without_fixes pid self.old }
     {
         self.walked.release_all(pid);
     }

@@ -3,15 +3,15 @@ use Rattle.std.specs.Prelude.{ℕ, refl}
 use Rattle.std.specs.Coded.{Coded, code_by, coded×, coded_ℕ, coded_list, coded_option}
 use Rattle.fixed_walk.specs.Fixed.{Fixed}
 use Rattle.fixed_walk.specs.inside.Codes.{fixed_code}
-use Rattle.ownership.specs.declared.head.Head.{Head}
-use Rattle.ownership.specs.contracts.head.Head as head
+use Rattle.ownership.specs.declared.metadata.Metadata.{Metadata}
+use Rattle.ownership.specs.contracts.metadata.Metadata as metadata
 use Rattle.ownership.specs.contracts.process.Process as process
 use Rattle.ownership.specs.World.{Table, Tables, Processes, World}
 
 abbrev pub table_code : Coded Table
 table_code =
-    code_by (Head × Fixed) (coded× head.the_row.coded fixed_code) (λ t. (t.head, t.fixed))
-    (λ p. record { head = p.0; fixed = p.1 }) (λ _. refl)
+    code_by (Metadata × Fixed) (coded× metadata.the_row.coded fixed_code) (λ t. (t.metadata, t.fixed))
+    (λ p. record { metadata = p.0; fixed = p.1 }) (λ _. refl)
 
 abbrev pub world_code : Coded World
 world_code =

@@ -5,12 +5,12 @@ use Rattle.std.specs.Map.{lookup}
 use Rattle.indexmap.specs.IndexMap.{get_by_text}
 use Rattle.fixed_walk.specs.Fixes.{is_fixed}
 use Rattle.fixed_walk.specs.Fixed.{Fixed, NoneHeld}
-use Rattle.ownership.specs.declared.head.Head.{Head}
-use Rattle.ownership.specs.declared.head.Heir.{Heir}
+use Rattle.ownership.specs.declared.metadata.Metadata.{Metadata}
+use Rattle.ownership.specs.declared.metadata.Heir.{Heir}
 use Rattle.ownership.specs.declared.indices.Indices.{Indices}
-use Rattle.ownership.specs.World.{Table, Tables, Processes, table_at, heads}
+use Rattle.ownership.specs.World.{Table, Tables, Processes, table_at, all_metadata}
 use Rattle.ownership.specs.End.{living_heir}
-use Rattle.ownership.specs.inside.Names.{head_at, NameIndexIsExact}
+use Rattle.ownership.specs.inside.Names.{metadata_at, NameIndexIsExact}
 
 abbrev pub IsAmong : ℕ → List ℕ → Type 0
 IsAmong t [] = ⊥
@@ -37,14 +37,14 @@ abbrev pub EachAscends : (ℕ → List ℕ) → Type 0
 EachAscends owned = (p : ℕ) → AscendsBetween 0 4294967296 (owned p)
 
 -- all tables of an owner are under it, and perhaps others
-abbrev pub OwnerIndexCovers : (ℕ → List ℕ) → List (Option Head) → Type 0
-OwnerIndexCovers owned hs = (t : ℕ) (head : Head) → head_at hs t ≡ Some head → IsAmong t (owned head.owner)
+abbrev pub OwnerIndexCovers : (ℕ → List ℕ) → List (Option Metadata) → Type 0
+OwnerIndexCovers owned hs = (t : ℕ) (metadata : Metadata) → metadata_at hs t ≡ Some metadata → IsAmong t (owned metadata.owner)
 
 -- all tables of an owner are among these
 abbrev pub CoversTablesOf : List ℕ → ℕ → Tables → Type 0
 CoversTablesOf ids p tables =
     (t : ℕ) (table : Table) → table_at tables t ≡ Some table
-    → (table.head.owner == p) ≡ true → IsAmong t ids
+    → (table.metadata.owner == p) ≡ true → IsAmong t ids
 
 -- more tables may be under owners, and nothing else changes
 pub record AddsUnderOwners (old new : Indices) : Type 0 where
@@ -61,20 +61,20 @@ pub record RemovesOwner (owner : ℕ) (old new : Indices) : Type 0 where
 abbrev pub HeirIsIndexed : Indices → Processes → Tables → ℕ → Type 0
 HeirIsIndexed indices processes tables t =
     (table : Table) (heir : Heir) → table_at tables t ≡ Some table
-    → living_heir processes table.head ≡ Some heir → IsAmong t (ids_under indices heir.pid)
+    → living_heir processes table.metadata ≡ Some heir → IsAmong t (ids_under indices heir.pid)
 
 -- each of these tables is under its living heir
 abbrev pub HeirsAreIndexed : Indices → Processes → Tables → List ℕ → Type 0
 HeirsAreIndexed indices processes tables ids =
     (t : ℕ) (table : Table) (heir : Heir) → IsAmong t ids → table_at tables t ≡ Some table
-    → living_heir processes table.head ≡ Some heir → IsAmong t (ids_under indices heir.pid)
+    → living_heir processes table.metadata ≡ Some heir → IsAmong t (ids_under indices heir.pid)
 
 -- each table of an owner is under its living heir
 abbrev pub HeirsOfOwnerAreIndexed : Indices → Processes → ℕ → Tables → Type 0
 HeirsOfOwnerAreIndexed indices processes p tables =
     (t : ℕ) (table : Table) (heir : Heir) → table_at tables t ≡ Some table
-    → (table.head.owner == p) ≡ true
-    → living_heir processes table.head ≡ Some heir → IsAmong t (ids_under indices heir.pid)
+    → (table.metadata.owner == p) ≡ true
+    → living_heir processes table.metadata ≡ Some heir → IsAmong t (ids_under indices heir.pid)
 
 -- nobody fixes the table, and it has no tombstones
 abbrev pub IsUnfixed : Fixed → Type 0
@@ -94,7 +94,7 @@ pub record FixedAreListed (ids : List ℕ) (dirty : Option ℕ) (tables : Tables
 pub record IndicesInvariant (indices : Indices) (tables : Tables) : Type 0 where
   pub few : length tables < 4294967296
   pub room : length tables ≤ vec_capacity indices.fixed
-  pub by_name : NameIndexIsExact (get_by_text indices.names) (heads tables)
-  pub by_owner : OwnerIndexCovers (ids_under indices) (heads tables)
+  pub by_name : NameIndexIsExact (get_by_text indices.names) (all_metadata tables)
+  pub by_owner : OwnerIndexCovers (ids_under indices) (all_metadata tables)
   pub order : EachAscends (ids_under indices)
   pub noted : FixedAreListed indices.fixed.items indices.dirty tables

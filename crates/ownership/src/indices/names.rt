@@ -1,13 +1,13 @@
 // The index by name.
 ghost use Rattle.std.specs.Prelude.{◌≡◌, ◌++◌, ◌∷◌, ℕ, [], true, List, Option, Some, None, OnOk, OnErr, length, slice_set};
 ghost use Rattle.indexmap.specs.IndexMap.{get_by_text};
-ghost use Rattle.ownership.specs.declared.head.Head as model;
-ghost use Rattle.ownership.specs.World.{Tables, head_of, table_at, whereis};
+ghost use Rattle.ownership.specs.declared.metadata.Metadata as model;
+ghost use Rattle.ownership.specs.World.{Tables, metadata_of, table_at, whereis};
 ghost use Rattle.ownership.specs.inside.Names.{find_named, NameIndexIsExact};
 ghost use Rattle.ownership.specs.inside.Indices.{IndicesInvariant};
 
 use super::Indices;
-use crate::head::Head;
+use crate::metadata::Metadata;
 use ets_term::Atom;
 use std::alloc::{AllocError, Global};
 
@@ -23,34 +23,34 @@ impl Indices {
     pub(super) fn index_name(
         &mut self,
         alloc: Global,
-        head: &Head,
+        metadata: &Metadata,
         id: u32,
     ) -> Result<(), AllocError>
         ensures rest { self.new ≡ record self.old { names = self.new.names } }
         ensures ok { OnOk result
-            ((hs : List (Option model.Head)) → length hs ≡ id
+            ((hs : List (Option model.Metadata)) → length hs ≡ id
             → NameIndexIsExact (get_by_text self.old.names) hs
-            → (head.now.named ≡ true → find_named hs head.now.name ≡ None)
-            → NameIndexIsExact (get_by_text self.new.names) (hs ++ Some head.now ∷ [])) }
+            → (metadata.now.named ≡ true → find_named hs metadata.now.name ≡ None)
+            → NameIndexIsExact (get_by_text self.new.names) (hs ++ Some metadata.now ∷ [])) }
         ensures err { OnErr result
-            ((hs : List (Option model.Head)) → NameIndexIsExact (get_by_text self.old.names) hs
+            ((hs : List (Option model.Metadata)) → NameIndexIsExact (get_by_text self.old.names) hs
             → NameIndexIsExact (get_by_text self.new.names) hs) }
     {
-        if head.named {
+        if metadata.named {
             self.names
-                .insert(String::from_str(alloc, head.name.text())?, id)?;
+                .insert(String::from_str(alloc, metadata.name.text())?, id)?;
         }
         Ok(())
     }
 
     /// Removes the name of a table, which is then free again. This takes no memory.
-    pub fn remove(&mut self, head: &Head)
+    pub fn remove(&mut self, metadata: &Metadata)
         ensures rest { self.new ≡ record self.old { names = self.new.names } }
-        ensures kept { (tables : Tables) (t : ℕ) → head_of (table_at tables t) ≡ Some head.now
+        ensures kept { (tables : Tables) (t : ℕ) → metadata_of (table_at tables t) ≡ Some metadata.now
             → IndicesInvariant self.old tables → IndicesInvariant self.new (slice_set tables t None) }
     {
-        if head.named {
-            let _ = self.names.swap_remove(head.name.text());
+        if metadata.named {
+            let _ = self.names.swap_remove(metadata.name.text());
         }
     }
 }

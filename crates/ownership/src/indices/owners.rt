@@ -75,7 +75,7 @@ impl Indices {
         let Some(Some(table)) = tables.get(id as usize) else {
             return Ok(());
         };
-        let Some(heir) = living_heir(processes, table.head()) else {
+        let Some(heir) = living_heir(processes, table.metadata()) else {
             return Ok(());
         };
         self.index_owner(alloc, heir.pid, id)

@@ -1,7 +1,7 @@
 // The tables after the end of a process.
 ghost use Rattle.std.specs.Prelude.{◌≡◌, ℕ, None, map, false, slice_set};
 ghost use Rattle.ownership.specs.World.{Tables, lives, table_at};
-ghost use Rattle.ownership.specs.End.{table_after};
+ghost use Rattle.ownership.specs.End.{table_after_exit};
 ghost use Rattle.ownership.specs.inside.Indices.{IndicesInvariant, CoversTablesOf, HeirsOfOwnerAreIndexed};
 
 use super::Indices;
@@ -29,7 +29,7 @@ impl Indices {
         requires heirs { HeirsOfOwnerAreIndexed self.old processes.now.entries pid tables.old.items }
         ensures kept { IndicesInvariant self.new tables.new.items }
         ensures after { tables.new.items
-            ≡ map (table_after processes.now.entries pid) tables.old.items }
+            ≡ map (table_after_exit processes.now.entries pid) tables.old.items }
     {
         self.flush_dirty(tables.as_slice());
         for id in own {
@@ -58,7 +58,7 @@ impl Indices {
         ensures kept { IndicesInvariant self.new tables.new.items }
         ensures after { tables.new.items
             ≡ slice_set tables.old.items id
-            (table_after processes.now.entries pid (table_at tables.old.items id)) }
+            (table_after_exit processes.now.entries pid (table_at tables.old.items id)) }
     {
         let place = id as usize;
         if place >= tables.len() {
@@ -77,22 +77,22 @@ impl Indices {
         table: Option<Table<R>>,
     ) -> Option<Table<R>>
         ensures rest { self.new ≡ record self.old { names = self.new.names } }
-        ensures after { result ≡ table_after processes.now.entries pid table }
+        ensures after { result ≡ table_after_exit processes.now.entries pid table }
         ensures kept { (tables : Tables) (t : ℕ) → table_at tables t ≡ table
             → HeirsOfOwnerAreIndexed self.old processes.now.entries pid tables → IndicesInvariant self.old tables
             → IndicesInvariant self.new (slice_set tables t result) }
     {
         let mut table = table?;
-        table.let_go(pid);
-        if !table.head().is_owned_by(pid) {
+        table.release_all(pid);
+        if !table.metadata().is_owned_by(pid) {
             return Some(table);
         }
-        let heir = living_heir(processes, table.head()).map(|heir| heir.pid);
+        let heir = living_heir(processes, table.metadata()).map(|heir| heir.pid);
         if let Some(heir) = heir {
             table.set_owner(heir);
             return Some(table);
         }
-        self.remove(table.head());
+        self.remove(table.metadata());
         drop(table);
         None
     }

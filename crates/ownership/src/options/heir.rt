@@ -1,20 +1,20 @@
 // Options that name an heir.
 ghost use Rattle.std.specs.Prelude.{◌≡◌, Option, IfOk};
 ghost use Rattle.ets_term.specs.declared.term.Term.{out-Term};
-ghost use Rattle.ownership.specs.declared.head.Heir as model;
-ghost use Rattle.ownership.specs.Options.{heir_said, heir_form, heirs_from, heir_after};
+ghost use Rattle.ownership.specs.declared.metadata.Heir as model;
+ghost use Rattle.ownership.specs.Options.{parse_heir, heir_form, heirs_from, heir_after};
 ghost use Rattle.ownership.specs.Outcomes.{Reads};
 ghost use Rattle.ownership.specs.inside.Reading.{ReadsHeir};
 
 use crate::fault::WorldFault;
-use crate::head::Heir;
+use crate::metadata::Heir;
 use ets_term::Term;
 use std::alloc::{AllocError, Global};
 
 /// Reads `{heir,none}` or `{heir,Pid,Data}`. Returns the heir, or `Some(None)` for no heir. Returns `None` for any
 /// other tuple.
 pub fn parse_heir(alloc: Global, elements: &[Term]) -> Result<Option<Option<Heir>>, AllocError>
-    ensures { IfOk result (λ said. said ≡ heir_said elements.now) }
+    ensures { IfOk result (λ said. said ≡ parse_heir elements.now) }
 {
     match elements {
         [name, none] if name.is_atom("heir") && none.is_atom("none") => Ok(Some(None)),

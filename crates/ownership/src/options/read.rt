@@ -1,19 +1,19 @@
 ghost use Rattle.std.specs.Prelude.{◌≡◌, ◌≤◌, IfOk};
 ghost use Rattle.ets_term.specs.declared.term.Term.{out-Term};
-ghost use Rattle.ownership.specs.Options.{usual, option_form, options_from, word_option, access_word, tuning_word, tuple_option, plain_tuple, pair_option, keypos_option, is_tuning, is_boolean};
+ghost use Rattle.ownership.specs.Options.{default_options, option_form, options_from, word_option, access_word, tuning_word, tuple_option, plain_tuple, pair_option, keypos_option, is_tuning, is_boolean};
 ghost use Rattle.ownership.specs.Outcomes.{Reads};
 ghost use Rattle.ownership.specs.inside.Reading.{ReadsOption, SetsOption};
 
 use super::NewOptions;
 use super::heir::parse_heir;
 use crate::fault::WorldFault;
-use crate::head::Protection;
+use crate::metadata::Protection;
 use ets_term::Term;
 use std::alloc::Global;
 use table_ops::Kind;
 
 pub fn read_all(alloc: Global, terms: &[Term]) -> Result<NewOptions, WorldFault>
-    ensures value { Reads (options_from usual terms.now) result }
+    ensures value { Reads (options_from default_options terms.now) result }
     ensures keypos { IfOk result (λ options. 1 ≤ options.keypos) }
 {
     let mut options = NewOptions::default();
@@ -53,7 +53,7 @@ fn is_tuning(name: &Term, value: &Term) -> bool
 impl NewOptions {
     /// Returns the options of an empty list.
     fn default() -> NewOptions
-        ensures { result ≡ usual }
+        ensures { result ≡ default_options }
     {
         NewOptions {
             kind: Kind::Set,

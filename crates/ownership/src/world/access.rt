@@ -1,5 +1,5 @@
 ghost use Rattle.std.specs.Prelude.{◌≡◌};
-ghost use Rattle.ownership.specs.Heads.{may, owned_by, may_read, may_write};
+ghost use Rattle.ownership.specs.Access.{may, owned_by, may_read, may_write};
 
 use super::World;
 use bucket_table::Rows;
@@ -11,8 +11,8 @@ impl<R: Rows> World<R> {
     pub fn may_read(&self, pid: u32, id: u32) -> bool
         ensures { result ≡ may may_read self.now.tables pid id }
     {
-        match self.head(id) {
-            Some(head) => head.may_read(pid),
+        match self.metadata(id) {
+            Some(metadata) => metadata.may_read(pid),
             None => false,
         }
     }
@@ -21,8 +21,8 @@ impl<R: Rows> World<R> {
     pub fn may_write(&self, pid: u32, id: u32) -> bool
         ensures { result ≡ may may_write self.now.tables pid id }
     {
-        match self.head(id) {
-            Some(head) => head.may_write(pid),
+        match self.metadata(id) {
+            Some(metadata) => metadata.may_write(pid),
             None => false,
         }
     }
@@ -31,8 +31,8 @@ impl<R: Rows> World<R> {
     pub fn is_owner(&self, pid: u32, id: u32) -> bool
         ensures { result ≡ may owned_by self.now.tables pid id }
     {
-        match self.head(id) {
-            Some(head) => head.is_owned_by(pid),
+        match self.metadata(id) {
+            Some(metadata) => metadata.is_owned_by(pid),
             None => false,
         }
     }

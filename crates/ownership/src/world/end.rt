@@ -2,14 +2,14 @@ ghost use Rattle.std.specs.Prelude.{◌≡◌, ◌==◌, Some, is_some, true, On
 ghost use Rattle.std.specs.Map.{set_value};
 ghost use Rattle.ownership.specs.World as model;
 ghost use Rattle.ownership.specs.World.{process_at, lives};
-ghost use Rattle.ownership.specs.End.{End, ended, handed_over, living_heir, receiver_of};
-ghost use Rattle.ownership.specs.Outcomes.{Comes};
+ghost use Rattle.ownership.specs.End.{End, with_ended, after_exit, living_heir, receiver_of};
+ghost use Rattle.ownership.specs.Outcomes.{Refines};
 ghost use Rattle.ownership.specs.inside.Ending.{after_transfers, after_transfer_of};
 
 use super::World;
 use crate::fault::WorldFault;
-use crate::head::{Head, Heir};
-use crate::messages::{post, transfer, unpost};
+use crate::messages::{post, transfer_message, unpost};
+use crate::metadata::{Heir, Metadata};
 use crate::process::{Process, process_in};
 use crate::table::Table;
 use bucket_table::Rows;
@@ -23,7 +23,7 @@ impl<R: Rows> World<R> {
     /// tables, in order of creation, passes to its living heir with the transfer message, or is deleted. Returns
     /// `NoProcess` if the process does not live.
     pub fn end(&mut self, pid: u32) -> Result<(), WorldFault>
-        ensures { Comes (End self.old pid) self.old result self.new }
+        ensures { Refines (End self.old pid) self.old result self.new }
     {
         if !self.lives(pid) {
             return Err(WorldFault::NoProcess);
@@ -38,7 +38,7 @@ impl<R: Rows> World<R> {
     fn terminate(&mut self, pid: u32) -> Result<(), AllocError>
         requires { lives self.old.processes pid ≡ true }
         ensures ok { OnOk result
-            (self.new ≡ handed_over self.old (ended self.old.processes pid) pid) }
+            (self.new ≡ after_exit self.old (with_ended self.old.processes pid) pid) }
         ensures err { OnErr result (self.new ≡ self.old) }
     {
         let own = self.indices.owned_by(self.alloc, pid)?;
@@ -72,7 +72,7 @@ fn post_transfers<R: Rows>(
 ) -> Result<(), AllocError>
     requires { is_some (process_at processes.old.entries pid) ≡ true }
     ensures ok { OnOk result
-        (processes.new.entries ≡ after_transfers (ended processes.old.entries pid) pid tables.now ids.now) }
+        (processes.new.entries ≡ after_transfers (with_ended processes.old.entries pid) pid tables.now ids.now) }
     ensures err { OnErr result (processes.new.entries ≡ processes.old.entries) }
 {
     let none = Process {
@@ -139,7 +139,7 @@ fn post_transfer<R: Rows>(
     let Some(heir) = receiver_of(processes, table, pid) else {
         return Ok(());
     };
-    let message = transfer(alloc, table.head(), id, pid, &heir.gift)?;
+    let message = transfer_message(alloc, table.metadata(), id, pid, &heir.gift)?;
     post(processes, heir.pid, message)
 }
 
@@ -188,17 +188,20 @@ fn receiver_of<'a, R: Rows>(
 ) -> Option<&'a Heir>
     ensures { option_copied result ≡ receiver_of processes.now.entries pid table.now }
 {
-    if !table.head().is_owned_by(pid) {
+    if !table.metadata().is_owned_by(pid) {
         return None;
     }
-    living_heir(processes, table.head())
+    living_heir(processes, table.metadata())
 }
 
 /// Returns the heir of a table, if the heir lives.
-pub fn living_heir<'a>(processes: &IndexMap<u32, Process>, head: &'a Head) -> Option<&'a Heir>
-    ensures { option_copied result ≡ living_heir processes.now.entries head.now }
+pub fn living_heir<'a>(
+    processes: &IndexMap<u32, Process>,
+    metadata: &'a Metadata,
+) -> Option<&'a Heir>
+    ensures { option_copied result ≡ living_heir processes.now.entries metadata.now }
 {
-    let Some(heir) = &head.heir else {
+    let Some(heir) = &metadata.heir else {
         return None;
     };
     match process_in(processes, heir.pid) {

@@ -1,11 +1,11 @@
 ghost use Rattle.std.specs.Prelude.{◌≡◌, OnOk, OnErr};
-ghost use Rattle.ownership.specs.Tables.{GiveAway, SetHeir, SetOptions, changed, heir_set, passed, passed_to};
-ghost use Rattle.ownership.specs.Outcomes.{Comes};
+ghost use Rattle.ownership.specs.Tables.{GiveAway, SetHeir, SetOptions, with_changed, after_set_heir, after_transfer, with_owner};
+ghost use Rattle.ownership.specs.Outcomes.{Refines};
 
 use super::World;
 use crate::fault::WorldFault;
-use crate::head::Heir;
-use crate::messages::{post, transfer};
+use crate::messages::{post, transfer_message};
+use crate::metadata::Heir;
 use crate::options::heir_in_setopts;
 use crate::table::Table;
 use bucket_table::Rows;
@@ -18,15 +18,15 @@ impl<R: Rows> World<R> {
     /// the gift. The heir and the fixes stay. Returns `Badarg` if the table does not exist or `pid` does not own it.
     /// Returns `Badarg` too if `to` is `pid` or does not live.
     pub fn give_away(&mut self, pid: u32, id: u32, to: u32, gift: &Term) -> Result<(), WorldFault>
-        ensures { Comes (GiveAway self.old pid id to gift.now) self.old result self.new }
+        ensures { Refines (GiveAway self.old pid id to gift.now) self.old result self.new }
     {
-        let Some(head) = self.head(id) else {
+        let Some(metadata) = self.metadata(id) else {
             return Err(WorldFault::Badarg);
         };
-        if !head.is_owned_by(pid) || to == pid || !self.lives(to) {
+        if !metadata.is_owned_by(pid) || to == pid || !self.lives(to) {
             return Err(WorldFault::Badarg);
         }
-        let message = transfer(self.alloc, head, id, pid, gift)?;
+        let message = transfer_message(self.alloc, metadata, id, pid, gift)?;
         self.transfer(id, to, message)?;
         Ok(())
     }
@@ -35,7 +35,7 @@ impl<R: Rows> World<R> {
     /// `{heir,Pid,Data}`, or a list of these, of which the last counts. Returns `Badarg` if the table does not exist,
     /// `pid` does not own it, or an option does not name an heir.
     pub fn set_options(&mut self, pid: u32, id: u32, options: &Term) -> Result<(), WorldFault>
-        ensures { Comes (SetOptions self.old pid id options.now) self.old result self.new }
+        ensures { Refines (SetOptions self.old pid id options.now) self.old result self.new }
     {
         if !self.is_owner(pid, id) {
             return Err(WorldFault::Badarg);
@@ -66,7 +66,7 @@ impl<R: Rows> World<R> {
 
     /// Passes a table to another owner, and posts the message to it.
     fn transfer(&mut self, id: u32, owner: u32, message: Term) -> Result<(), AllocError>
-        ensures ok { OnOk result (self.new ≡ passed self.old id owner message) }
+        ensures ok { OnOk result (self.new ≡ after_transfer self.old id owner message) }
         ensures err { OnErr result (self.new ≡ self.old) }
     {
         if let Err(error) = self.indices.index_owner(self.alloc, owner, id) {
@@ -80,7 +80,7 @@ impl<R: Rows> World<R> {
 
     /// Sets or removes the heir of a table, if the table exists.
     fn set_heir_at(&mut self, id: u32, heir: Option<Heir>)
-        ensures { self.new ≡ heir_set self.old id heir }
+        ensures { self.new ≡ after_set_heir self.old id heir }
     {
         let place = id as usize;
         if place >= self.tables.len() {
@@ -97,7 +97,7 @@ impl<R: Rows> World<R> {
 
 /// Sets the owner of a table, if the table exists.
 fn set_owner_at<R: Rows>(tables: &mut Vec<Option<Table<R>>>, id: u32, owner: u32)
-    ensures { tables.new.items ≡ changed (passed_to owner) tables.old.items id }
+    ensures { tables.new.items ≡ with_changed (with_owner owner) tables.old.items id }
 {
     let place = id as usize;
     if place >= tables.len() {

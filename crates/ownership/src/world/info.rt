@@ -12,8 +12,8 @@ use std::alloc::{AllocError, Global};
 impl<R: Rows> World<R> {
     /// Returns an item of information on a table (stdlib manual, ets:info/2), or `None` if the table does not exist.
     pub fn info(&self, id: u32, item: InfoItem) -> Result<Option<Term>, AllocError>
-        ensures { IfOk result (λ told.
-            told ≡ option_map (info_of item id) (table_at self.now.tables id)) }
+        ensures { IfOk result (λ value.
+            value ≡ option_map (info_of item id) (table_at self.now.tables id)) }
     {
         match self.tables.get(id as usize) {
             Some(Some(table)) => Ok(Some(info_value(self.alloc, table, id, item)?)),
@@ -30,14 +30,14 @@ fn info_value<R: Rows>(
 ) -> Result<Term, AllocError>
     ensures { IfOk result (λ t. t ≡ info_of item id table.now) }
 {
-    let head = table.head();
+    let metadata = table.metadata();
     let walked = table.walked();
     match item {
-        InfoItem::Name => Ok(Term::Atom(head.name.try_clone(alloc)?)),
-        InfoItem::NamedTable => truth(alloc, head.named),
-        InfoItem::Owner => Ok(Term::Pid(head.owner)),
-        InfoItem::Protection => protection_term(alloc, head.protection),
-        InfoItem::Heir => heir_term(alloc, &head.heir),
+        InfoItem::Name => Ok(Term::Atom(metadata.name.try_clone(alloc)?)),
+        InfoItem::NamedTable => truth(alloc, metadata.named),
+        InfoItem::Owner => Ok(Term::Pid(metadata.owner)),
+        InfoItem::Protection => protection_term(alloc, metadata.protection),
+        InfoItem::Heir => heir_term(alloc, &metadata.heir),
         InfoItem::Id => Ok(Term::Tid(id)),
         InfoItem::Size => Ok(Term::Int(walked.size() as Integer)),
         InfoItem::Kind => kind_term(alloc, walked.kind()),

@@ -1,5 +1,5 @@
 ghost use Rattle.std.specs.Prelude.{◌≡◌};
-ghost use Rattle.ownership.specs.Messages.{mailbox_of, received};
+ghost use Rattle.ownership.specs.Messages.{mailbox_of, after_receive};
 
 use super::World;
 use crate::process::{Process, process_in};
@@ -24,7 +24,7 @@ impl<R: Rows> World<R> {
     /// Takes these messages out of the mailbox, which is then empty. This takes no memory.
     pub fn receive(&mut self, pid: u32) -> Items<Term>
         ensures answer { result ≡ mailbox_of self.old.processes pid }
-        ensures after { self.new ≡ record self.old { processes = received self.old.processes pid } }
+        ensures after { self.new ≡ record self.old { processes = after_receive self.old.processes pid } }
     {
         take_messages(self.alloc, &mut self.processes, pid)
     }
@@ -32,7 +32,7 @@ impl<R: Rows> World<R> {
 
 fn take_messages(alloc: Global, processes: &mut IndexMap<u32, Process>, pid: u32) -> Items<Term>
     ensures answer { result ≡ mailbox_of processes.old.entries pid }
-    ensures after { processes.new.entries ≡ received processes.old.entries pid }
+    ensures after { processes.new.entries ≡ after_receive processes.old.entries pid }
 {
     let Some(process) = processes.get_mut(&pid) else {
         return Items::new(alloc);

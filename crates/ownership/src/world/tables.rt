@@ -1,16 +1,16 @@
 ghost use Rattle.std.specs.Prelude.{◌≡◌, ◌+◌, ◌<◌, ◌^◌, ◌&&◌, false, OnOk, OnErr, nat_le, length, is_some, option_copied, IfOk};
 ghost use Rattle.std.specs.Option.{option_copied_mut};
 ghost use Rattle.std.specs.Borrow.{sem};
-ghost use Rattle.ownership.specs.World.{table_at, fixed_at, head_of, whereis, resolve};
-ghost use Rattle.ownership.specs.Messages.{told};
-ghost use Rattle.ownership.specs.Tables.{New, new_head, with_table, without_table};
-ghost use Rattle.ownership.specs.Outcomes.{Comes};
+ghost use Rattle.ownership.specs.World.{table_at, fixed_at, metadata_of, whereis, resolve};
+ghost use Rattle.ownership.specs.Messages.{name_or_identifier};
+ghost use Rattle.ownership.specs.Tables.{New, new_metadata, with_table, without_table};
+ghost use Rattle.ownership.specs.Outcomes.{Refines};
 ghost use Rattle.ownership.specs.inside.Names.{IsNameFree};
 
 use super::World;
 use crate::fault::WorldFault;
-use crate::head::Head;
 use crate::messages::name_or_identifier;
+use crate::metadata::Metadata;
 use crate::options::NewOptions;
 use crate::table::Table;
 use bucket_table::Rows;
@@ -30,11 +30,11 @@ impl<R: Rows> World<R> {
     }
 
     /// Returns the metadata of the table with this identifier, or `None`.
-    pub fn head(&self, id: u32) -> Option<&Head>
-        ensures { option_copied result ≡ head_of (table_at self.now.tables id) }
+    pub fn metadata(&self, id: u32) -> Option<&Metadata>
+        ensures { option_copied result ≡ metadata_of (table_at self.now.tables id) }
     {
         match self.tables.get(id as usize) {
-            Some(Some(table)) => Some(table.head()),
+            Some(Some(table)) => Some(table.metadata()),
             _ => None,
         }
     }
@@ -92,7 +92,7 @@ impl<R: Rows> World<R> {
         options: NewOptions,
         table: Walked<R>,
     ) -> Result<Term, WorldFault>
-        ensures { Comes (New self.old pid name.now options table) self.old result self.new }
+        ensures { Refines (New self.old pid name.now options table) self.old result self.new }
     {
         if self.name_is_taken(&options, name) {
             drop(options);
@@ -135,12 +135,12 @@ impl<R: Rows> World<R> {
         requires free { (options.named && is_some (whereis self.old.tables name.now)) ≡ false }
         requires few { length self.old.tables + 1 < 2 ^ 32 }
         ensures answer { IfOk result (λ answer.
-            answer ≡ told options.named name.now (length self.old.tables)) }
+            answer ≡ name_or_identifier options.named name.now (length self.old.tables)) }
         ensures ok { OnOk result
-            (self.new ≡ with_table self.old (new_head pid name.now options) table) }
+            (self.new ≡ with_table self.old (new_metadata pid name.now options) table) }
         ensures err { OnErr result (self.new ≡ self.old) }
     {
-        let (answer, head) = match answer_and_metadata(
+        let (answer, metadata) = match answer_and_metadata(
             self.alloc,
             pid,
             name,
@@ -153,7 +153,7 @@ impl<R: Rows> World<R> {
                 return Err(error);
             }
         };
-        if let Err(error) = self.push_table(Table::new(head, table)) {
+        if let Err(error) = self.push_table(Table::new(metadata, table)) {
             drop(answer);
             return Err(error);
         }
@@ -162,9 +162,9 @@ impl<R: Rows> World<R> {
 
     /// Adds a table with the next identifier. If it is named, its name must be free.
     fn push_table(&mut self, table: Table<R>) -> Result<(), AllocError>
-        requires free { IsNameFree self.old.tables table.head }
+        requires free { IsNameFree self.old.tables table.metadata }
         requires few { length self.old.tables + 1 < 2 ^ 32 }
-        ensures ok { OnOk result (self.new ≡ with_table self.old table.head table.fixed) }
+        ensures ok { OnOk result (self.new ≡ with_table self.old table.metadata table.fixed) }
         ensures err { OnErr result (self.new ≡ self.old) }
     {
         if let Err(error) = self.tables.reserve(1) {
@@ -193,7 +193,7 @@ impl<R: Rows> World<R> {
         }
         let table = mem::replace(&mut self.tables[place], None);
         if let Some(table) = table {
-            self.indices.remove(table.head());
+            self.indices.remove(table.metadata());
             drop(table);
         }
     }
@@ -206,9 +206,9 @@ fn answer_and_metadata(
     name: &Atom,
     options: NewOptions,
     id: u32,
-) -> Result<(Term, Head), AllocError>
-    ensures answer { IfOk result (λ both. both.0 ≡ told options.named name.now id) }
-    ensures head { IfOk result (λ both. both.1 ≡ new_head pid name.now options) }
+) -> Result<(Term, Metadata), AllocError>
+    ensures answer { IfOk result (λ both. both.0 ≡ name_or_identifier options.named name.now id) }
+    ensures metadata { IfOk result (λ both. both.1 ≡ new_metadata pid name.now options) }
 {
     let NewOptions {
         named,
@@ -231,12 +231,12 @@ fn answer_and_metadata(
             return Err(error);
         }
     };
-    let head = Head {
+    let metadata = Metadata {
         name,
         named,
         owner: pid,
         heir,
         protection,
     };
-    Ok((answer, head))
+    Ok((answer, metadata))
 }

@@ -1,6 +1,6 @@
 use Rattle.std.proofs.Common.{◌≡◌, drop, Option}
 use Rattle.std.specs.Prelude.{unwrap_or}
-use Rattle.ownership.specs.declared.head.Heir.{Heir}
+use Rattle.ownership.specs.declared.metadata.Heir.{Heir}
 use Rattle.ownership.specs.Options.{heirs_from}
 use Rattle.ownership.proofs.options.heir.parse_last_heir.Given as goal
 

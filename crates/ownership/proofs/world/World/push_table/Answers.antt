@@ -16,7 +16,7 @@ insert-requires-clause-few g c =
 
 pub insert-requires-clause-free : goal.insert-requires-clause-free
 insert-requires-clause-free g c = λ named.
-    ap (λ (ts : Tables). whereis ts c.args.table.head.name) (c.as_slice.ensures.value ∙ c.reserve.ensures.items) ∙ ap (λ (v : World). whereis v.tables c.args.table.head.name) c.self.view_is ∙ c.requires.free named
+    ap (λ (ts : Tables). whereis ts c.args.table.metadata.name) (c.as_slice.ensures.value ∙ c.reserve.ensures.items) ∙ ap (λ (v : World). whereis v.tables c.args.table.metadata.name) c.self.view_is ∙ c.requires.free named
 
 pub invariant_of-self-in-Err-insert : goal.invariant_of-self-in-Err-insert
 invariant_of-self-in-Err-insert g c = subst (λ (ts : Tables). IndicesInvariant c.insert.new.self ts) c.as_slice.ensures.value c.in-Err-insert.ensures.err

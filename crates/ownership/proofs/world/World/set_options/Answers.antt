@@ -5,9 +5,9 @@ use Rattle.std.specs.Prelude.{Result}
 use Rattle.ets_term.specs.declared.term.Term.{Term}
 use Rattle.ownership.specs.declared.fault.WorldFault.{WorldFault}
 use Rattle.ownership.specs.declared.fault.WorldFault.TheVariants.{Badarg}
-use Rattle.ownership.specs.declared.head.Heir.{Heir}
+use Rattle.ownership.specs.declared.metadata.Heir.{Heir}
 use Rattle.ownership.specs.World.{Table, World, table_at}
-use Rattle.ownership.specs.Heads.{may, owned_by}
+use Rattle.ownership.specs.Access.{may, owned_by}
 use Rattle.ownership.specs.Options.{heir_after}
 use Rattle.ownership.specs.Tables.{SetOptions}
 use Rattle.ownership.specs.inside.Reading.{ReadsHeir}
@@ -16,8 +16,8 @@ use Rattle.ownership.proofs.world.World.set_options.Goals as goal
 refused_at : (old : World) (p t : ℕ) (options : Term) → may owned_by old.tables p t ≡ true → ((heir : Option Heir) → heir_after heir options ≡ None) → (o : Option Table) → table_at old.tables t ≡ o → SetOptions old p t options (Err Badarg) old
 refused_at old p t options own none None e = rw e (refl, refl)
 refused_at old p t options own none (Some table) e =
-    let mine : owned_by table.head p ≡ true = ap (λ o. option_map_or (λ (x : Table). owned_by x.head p) o false) (sym e) ∙ own in
-    rw e (rw mine (rw (none table.head.heir) (refl, refl)))
+    let mine : owned_by table.metadata p ≡ true = ap (λ o. option_map_or (λ (x : Table). owned_by x.metadata p) o false) (sym e) ∙ own in
+    rw e (rw mine (rw (none table.metadata.heir) (refl, refl)))
 
 pub returns-in-Err-Badarg : goal.returns-in-Err-Badarg
 returns-in-Err-Badarg g c =

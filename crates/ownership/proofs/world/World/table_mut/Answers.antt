@@ -2,7 +2,7 @@ use Rattle.std.proofs.Common.{◌≡◌, Option, None, Some, inl, option_map, sy
 use Rattle.fixed_walk.specs.Fixed.{Fixed}
 use Rattle.ownership.specs.World.{Table, Tables, World, table_at, with_fixed}
 use Rattle.ownership.specs.inside.Indices.{IndicesInvariant}
-use Rattle.ownership.proofs.Heads.{fixed-there}
+use Rattle.ownership.proofs.MetadataLaws.{fixed-there}
 use Rattle.ownership.proofs.Keeping.{kept-fixed, kept-same}
 use Rattle.ownership.proofs.world.World.table_mut.Goals as goal
 

@@ -1,7 +1,7 @@
 use Rattle.std.proofs.Common.{◌≡◌, ◌+◌, ℕ, Some, sym, ap, subst, ◌∙◌, List, map, arith}
 use Rattle.ownership.specs.World.{Tables, World, Processes, table_at, lives}
 use Rattle.ownership.specs.Messages.{post_all}
-use Rattle.ownership.specs.End.{ended, handed_over, living_heir, table_after, messages_from}
+use Rattle.ownership.specs.End.{with_ended, after_exit, living_heir, table_after_exit, messages_from}
 use Rattle.ownership.specs.inside.Ending.{after_transfers, messages_at}
 use Rattle.ownership.specs.inside.Indices.{IsAmong, HeirsAreIndexed, CoversTablesOf, ids_under}
 use Rattle.ownership.proofs.Ending.{all-after-same, posted-lives, heir-same, heir-before, ended-dead, messages-found}
@@ -21,7 +21,7 @@ pub reassign_tables-requires-clause-dead : goal.reassign_tables-requires-clause-
 reassign_tables-requires-clause-dead g c =
     let entries = c.self.inside.processes.entries in
     let p = c.args.pid in
-    ap (λ (ps : Processes). lives ps p) c.in_ok-post_transfers.ensures.ok ∙ posted-lives (ended entries p) p c.as_slice-3.result.now c.as_slice-4.result.now p
+    ap (λ (ps : Processes). lives ps p) c.in_ok-post_transfers.ensures.ok ∙ posted-lives (with_ended entries p) p c.as_slice-3.result.now c.as_slice-4.result.now p
     ∙ ended-dead entries p (ap (λ (v : World). lives v.processes p) c.self.view_is ∙ c.requires)
 
 pub reassign_tables-requires-clause-own : goal.reassign_tables-requires-clause-own
@@ -38,8 +38,8 @@ reassign_tables-requires-clause-heirs g c = λ t table heir at own lived.
     let mine : CoversTablesOf (ids_under c.self.inside.indices p) p items = owned-all (ids_under c.self.inside.indices) items p c.self.invariant.by_owner in
     let inherited : HeirsAreIndexed after entries items (ids_under c.self.inside.indices p) =
     subst (λ (ids : List ℕ). HeirsAreIndexed after entries items ids) (c.as_slice-2.ensures.value ∙ c.in_ok-own.ensures) (subst (λ (ts : Tables). HeirsAreIndexed after entries ts c.as_slice-2.result.now) c.as_slice.ensures.value c.in_ok-index_heirs.ensures.ok) in
-    let before : living_heir entries table.head ≡ Some heir =
-    heir-before entries p table.head heir (sym (heir-same ps (ended entries p) table.head (λ r. ap (λ (qs : Processes). lives qs r) c.in_ok-post_transfers.ensures.ok ∙ posted-lives (ended entries p) p c.as_slice-3.result.now c.as_slice-4.result.now r)) ∙ lived) in
+    let before : living_heir entries table.metadata ≡ Some heir =
+    heir-before entries p table.metadata heir (sym (heir-same ps (with_ended entries p) table.metadata (λ r. ap (λ (qs : Processes). lives qs r) c.in_ok-post_transfers.ensures.ok ∙ posted-lives (with_ended entries p) p c.as_slice-3.result.now c.as_slice-4.result.now r)) ∙ lived) in
     inherited t table heir (mine t table at own) at before
 
 pub returns-clause-ok : goal.returns-clause-ok
@@ -48,14 +48,14 @@ returns-clause-ok g c =
     let entries = c.self.inside.processes.entries in
     let p = c.args.pid in
     let own = ids_under c.self.inside.indices p in
-    let start = ended entries p in
+    let start = with_ended entries p in
     let from : (k : ℕ) → 0 + k ≡ k = λ k. omega arith in
     let found : messages_from start p 0 items ≡ messages_at start p (table_at items) own =
     messages-found start p (table_at items) 4294967296 0 items own (omega (arith, c.self.invariant.few)) (c.self.invariant.order p) (λ k. ap (table_at items) (from k), λ k table at mine. subst (λ i. IsAmong i own) (sym (from k)) (owned-all (ids_under c.self.inside.indices) items p c.self.invariant.by_owner k table at mine)) in
     let posts : c.post_transfers.new.processes.entries ≡ after_transfers start p items own =
     c.in_ok-post_transfers.ensures.ok ∙ ap (λ (ts : Tables). after_transfers start p ts c.as_slice-4.result.now) c.as_slice-3.ensures.value ∙ ap (after_transfers start p items) (c.as_slice-4.ensures.value ∙ c.in_ok-own.ensures) in
     let processes : c.post_transfers.new.processes.entries ≡ post_all start (messages_from start p 0 items) = posts ∙ ap (post_all start) (sym found) in
-    let tables : c.reassign_tables.new.tables.items ≡ map (table_after start p) items =
-    c.reassign_tables.ensures.after ∙ ap (λ (ps : Processes). map (table_after ps p) items) posts ∙ all-after-same (after_transfers start p items own) start p items (posted-lives start p items own) in
+    let tables : c.reassign_tables.new.tables.items ≡ map (table_after_exit start p) items =
+    c.reassign_tables.ensures.after ∙ ap (λ (ps : Processes). map (table_after_exit ps p) items) posts ∙ all-after-same (after_transfers start p items own) start p items (posted-lives start p items own) in
     (λ i. record { most_processes = c.self.inside.most_processes; most_tables = c.self.inside.most_tables; processes = processes i; tables = tables i })
-    ∙ ap (λ (v : World). handed_over v (ended v.processes p) p) c.self.view_is
+    ∙ ap (λ (v : World). after_exit v (with_ended v.processes p) p) c.self.view_is

@@ -1,5 +1,5 @@
 ghost use Rattle.std.specs.Prelude.{◌≡◌};
-ghost use Rattle.ownership.specs.Heads.{owned_by, may_read, may_write};
+ghost use Rattle.ownership.specs.Access.{owned_by, may_read, may_write};
 
 use ets_term::{Atom, Term};
 
@@ -24,7 +24,7 @@ pub struct Heir {
 
 /// The metadata of a table: name, owner, heir and protection. Only a named table is found by its name.
 #[derive(Drop)]
-pub struct Head {
+pub struct Metadata {
     pub name: Atom,
     pub named: bool,
     pub owner: u32,
@@ -32,7 +32,7 @@ pub struct Head {
     pub protection: Protection,
 }
 
-impl Head {
+impl Metadata {
     /// Checks whether the process owns the table.
     pub fn is_owned_by(&self, pid: u32) -> bool
         ensures { result ≡ owned_by self.now pid }
