@@ -1,5 +1,5 @@
 -- If only objects of the bound key can be chosen, those chosen from its slot are those chosen from all.
-use Rattle.std.proofs.Common.{◌≡◌, ℕ, ◌+◌, Bool, true, false, not, ◌==◌, cond, List, [], ◌∷◌, ◌++◌, Option, None, Some, is_some, unwrap_or, refl, sym, ap, subst, ◌∙◌, length, map, filter, true≢false, if◌then◌else◌, codes, length-append, arith}
+use Rattle.std.proofs.Common.{◌≡◌, ℕ, ◌+◌, Bool, true, false, cond, List, [], ◌∷◌, ◌++◌, Option, None, Some, is_some, unwrap_or, refl, sym, ap, subst, ◌∙◌, length, map, filter, true≢false, if◌then◌else◌, codes, arith}
 use Rattle.std.specs.Prelude.{nat_lt, IfSome}
 use Rattle.std.proofs.lemmas.List.{append-nil}
 use Rattle.std.proofs.lemmas.Option.{same_Some}
@@ -15,7 +15,7 @@ use Rattle.ets_term.specs.laws.Exact.{term_of, back, data_of-exact}
 use Rattle.ets_term.specs.laws.Same.{same-exact, same-refl}
 use Rattle.bucket_table.specs.Slots.{Slot, HasDistinctKeys, objects_of}
 use Rattle.table_ops.specs.declared.kind.Kind.{Kind}
-use Rattle.table_ops.specs.Content.{key_of, objects_under, IsObjectOfKey, AreSlots}
+use Rattle.table_ops.specs.Content.{objects_under, IsObjectOfKey, AreSlots}
 use Rattle.match_spec.specs.BoundKeys.{IsKeyOfMatches}
 use Rattle.match_spec.specs.Patterns.{values, bindings_of}
 use Rattle.table_ops.specs.Queries.{also, answers, bound_in, chosen_count, looks_of, matched_object, matches}

@@ -1,5 +1,5 @@
 -- To execute a delete plan deletes the chosen objects.
-use Rattle.std.proofs.Common.{◌≡◌, ℕ, zero, suc, ◌+◌, ◌-◌, ◌<◌, ◌≤◌, Bool, true, false, not, ◌||◌, cond, List, [], ◌∷◌, ◌++◌, Option, None, Some, is_some, refl, sym, ap, subst, ◌∙◌, length, take, slice_get, map, filter, true≢false, if◌then◌else◌, length-append, arith}
+use Rattle.std.proofs.Common.{◌≡◌, ℕ, zero, suc, ◌+◌, ◌<◌, Bool, true, false, not, ◌||◌, cond, List, [], ◌∷◌, ◌++◌, Option, None, Some, is_some, refl, sym, ap, subst, ◌∙◌, length, take, slice_get, filter, true≢false, if◌then◌else◌, arith}
 use Rattle.std.specs.Prelude.{nat_lt}
 use Rattle.std.proofs.lemmas.Bool.Decides.{nat_tests}
 use Rattle.std.proofs.lemmas.List.{append-nil}
@@ -7,19 +7,18 @@ use Rattle.std.specs.List.{AllByRecursion, IsDistinct}
 use Rattle.std.specs.Map.{keys_of}
 use Rattle.ets_term.specs.declared.term.Term.{Term}
 use Rattle.ets_term.specs.Order.{same}
-use Rattle.ets_term.specs.laws.Same.{same-exact, same-refl}
+use Rattle.ets_term.specs.laws.Same.{same-refl}
 use Rattle.bucket_table.specs.Slots.{Slot, HasDistinctKeys, objects_of, with_objects, without, has_objects, slots_behind, object_count}
 use Rattle.bucket_table.specs.Walks.{StandsBefore}
 use Rattle.bucket_table.proofs.WalkLaws.{before-other, before-without}
 use Rattle.table_ops.specs.declared.delete_plan.SlotDelete.{SlotDelete}
-use Rattle.table_ops.specs.Drop.{remaining, after_drop}
+use Rattle.table_ops.specs.Drop.{after_drop}
 use Rattle.table_ops.specs.Queries.{chosen_count}
 use Rattle.table_ops.specs.Read.{all_objects}
-use Rattle.table_ops.specs.inside.DeletePlan.{unmatched, kept_of, PlannedSlot, planned, planned_then, plan_of, planned_at, with_kept, after_plan, IsBefore, AreInOrder}
+use Rattle.table_ops.specs.inside.DeletePlan.{unmatched, PlannedSlot, planned, planned_then, plan_of, planned_at, with_kept, after_plan, IsBefore, AreInOrder}
 use Rattle.table_ops.proofs.DropLaws.{stays}
 use Rattle.table_ops.proofs.InvariantLaws.{turned}
 use Rattle.table_ops.proofs.QueryLaws.{chosen-append, more-at, take-next}
-use Rattle.table_ops.proofs.InsertLaws.{take-one}
 
 some-chosen : (n : ℕ) → nat_lt 0 n ≡ true → 0 < n
 some-chosen n h = grind (arith, nat_tests, h)

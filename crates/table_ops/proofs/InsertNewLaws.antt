@@ -1,14 +1,12 @@
 -- An object that is inserted only if its key has no object.
-use Rattle.std.proofs.Common.{◌≡◌, ℕ, ◌+◌, ◌≤◌, true, false, ◌&&◌, ◌||◌, Bool, List, [], ◌∷◌, Option, None, Some, is_some, Ok, Err, sym, ap, subst, ◌∙◌, true≢false, arith}
+use Rattle.std.proofs.Common.{◌≡◌, ℕ, ◌+◌, ◌≤◌, true, false, ◌&&◌, ◌||◌, Bool, List, [], ◌∷◌, Option, None, Some, is_some, Ok, Err, ap, subst, ◌∙◌, true≢false, arith}
 use Rattle.std.specs.Prelude.{nat_lt, MatchOption}
 use Rattle.std.specs.List.{list_any, list_all}
 use Rattle.std.specs.Option.{option_map_or}
 use Rattle.ets_term.specs.declared.term.Term.{Term}
 use Rattle.ets_term.specs.Depth.{is_too_deep}
 use Rattle.bucket_table.specs.Slots.{Slot, has_objects}
-use Rattle.table_ops.specs.declared.kind.Kind.{Kind}
 use Rattle.table_ops.specs.declared.refusal.Refusal.{Refusal}
-use Rattle.table_ops.specs.declared.refusal.Refusal.TheVariants.{Badarg, SystemLimit}
 use Rattle.table_ops.specs.declared.undo.Undo.{Undo}
 use Rattle.table_ops.specs.Content.{Content, key_of, is_object, objects_under, is_present}
 use Rattle.table_ops.specs.Put.{InsertsNew, is_taken}
@@ -17,7 +15,7 @@ use Rattle.table_ops.specs.inside.Counted.{IsCounted}
 use Rattle.table_ops.specs.inside.Undo.{added_objects, PutsOne}
 use Rattle.table_ops.proofs.InvariantLaws.{slots-puts}
 use Rattle.table_ops.proofs.PutLaws.{to-key}
-use Rattle.table_ops.proofs.InsertLaws.{within-limit, one-done, one-refused, refused-same, stores-deep, stores-done, stores-refused, new-badarg, new-taken, new-stores}
+use Rattle.table_ops.proofs.InsertLaws.{within-limit, one-done, one-refused, stores-done, stores-refused, new-stores}
 
 -- a search that found no objects
 pub none-found : (o : Option ℕ) (P : Type 0) (Q : ℕ → Type 0) → is_some o ≡ false → MatchOption o P Q → P

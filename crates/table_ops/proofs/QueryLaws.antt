@@ -1,13 +1,10 @@
 -- Results and counts over objects as a scan goes on, and the scan over the slots.
-use Rattle.std.proofs.Common.{◌≡◌, ℕ, zero, suc, ◌+◌, ◌-◌, ◌<◌, ◌≤◌, ◌^◌, Bool, true, false, not, cond, List, [], ◌∷◌, ◌++◌, Option, None, Some, refl, sym, ap, subst, ◌∙◌, length, take, drop, slice_get, map, filter, true≢false, append_assoc, length-append, arith}
-use Rattle.std.specs.Prelude.{min}
-use Rattle.std.proofs.lemmas.List.{append-nil}
+use Rattle.std.proofs.Common.{◌≡◌, ℕ, zero, suc, ◌+◌, ◌<◌, ◌≤◌, ◌^◌, Bool, true, false, cond, List, [], ◌∷◌, ◌++◌, Option, None, Some, refl, sym, ap, subst, ◌∙◌, length, take, drop, slice_get, filter, append_assoc, length-append, arith}
 use Rattle.std.proofs.lemmas.Option.{same_Some}
 use Rattle.ets_term.specs.declared.term.Term.{Term}
 use Rattle.ets_term.specs.Data.{Data}
-use Rattle.ets_term.specs.laws.Same.{same-exact}
-use Rattle.bucket_table.specs.Slots.{Slot, HasDistinctKeys, objects_of, slots_behind, object_count}
-use Rattle.bucket_table.specs.Walks.{StandsFirst, IsFirstPlace, IsNextPlace, behind_in}
+use Rattle.bucket_table.specs.Slots.{Slot, HasDistinctKeys, objects_of, object_count}
+use Rattle.bucket_table.specs.Walks.{IsFirstPlace, IsNextPlace, behind_in}
 use Rattle.bucket_table.proofs.PlainLaws.{at-place}
 use Rattle.node_list.specs.Ticks.{tick, ticks}
 use Rattle.table_ops.specs.declared.kind.Kind.{Kind}

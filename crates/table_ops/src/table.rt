@@ -132,7 +132,7 @@ impl<R: Rows> Table<R> {
     }
 
     /// Gives a proof the invariant of the content. It does nothing at run time.
-    pub fn known(&self)
+    pub fn reveal_invariant(&self)
         ensures { IsContent self.now.content }
     {
         self.inner.rows.known();

@@ -1,7 +1,6 @@
 use Rattle.std.proofs.Common.{◌≡◌, ◌+◌, Some, Result, Ok, Err, Bool, true, ◌&&◌, sym, ap, subst, ◌∙◌, option_copied}
 use Rattle.std.specs.Prelude.{nat_lt}
 use Rattle.std.proofs.lemmas.Result.{err_from_is_err_and}
-use Rattle.ets_term.specs.declared.term.Term.{Term}
 use Rattle.counters.specs.Defaults.{keyed, written_from}
 use Rattle.table_ops.specs.Content.{Content, ContentState}
 use Rattle.table_ops.specs.declared.refusal.Refusal.{Refusal}
