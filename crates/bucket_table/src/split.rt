@@ -37,7 +37,7 @@ impl<H: KeyHash + Copy + Drop> Model for SplitRows<H> {
 
     ghost view = { λ s. state_of s.index };
 
-    ghost invariant = { λ s. TableInvariant H.number s.index s.slots s.first_unready s.log };
+    ghost invariant = { λ s. TableInvariant H.hash s.index s.slots s.first_unready s.log };
 }
 
 impl<H: KeyHash + Copy + Drop> SplitRows<H> {
@@ -59,10 +59,10 @@ impl<H: KeyHash + Copy + Drop> SplitRows<H> {
     /// Returns the objects of the key's slot, if it has one. Adds the number of visited nodes to `steps`.
     pub fn get_counted(&self, key: &Term, steps: &mut Steps) -> Option<&[Term]>
         ensures value { option_copied result ≡ objects_of self.now.slots key.now }
-        ensures looked { HasLooked (H.number self.now.hasher) self.now.slots self.now.ready
+        ensures looked { HasLooked (H.hash self.now.hasher) self.now.slots self.now.ready
             key.now steps.old steps.new }
     {
-        self.index.list.known();
+        self.index.list.reveal_invariant();
         let hash = self.index.hasher.hash32(key);
         let at = self.index.find(hash, key, steps)?;
         let (_key, chain) = self.index.list.item(at)?;

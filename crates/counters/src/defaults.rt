@@ -7,7 +7,7 @@ use crate::counter::update_counter;
 use crate::elements::ElementSpecs;
 use crate::fault::CounterFault;
 use crate::ops::Ops;
-use crate::write::{update_elements, write_elements};
+use crate::write::write_elements;
 use ets_term::Term;
 use std::alloc::Global;
 
@@ -97,28 +97,6 @@ pub fn start_with_elements(
 {
     let mut object = with_key(alloc, default, keypos, key)?;
     write_elements(alloc, &mut object, specs)?;
-    if object.is_too_deep() {
-        return Err(CounterFault::SystemLimit);
-    }
-    Ok(object)
-}
-
-/// Does the same as `start_with_elements` but moves the values into the object.
-pub fn start_elements(
-    alloc: Global,
-    default: &Term,
-    keypos: u32,
-    key: &Term,
-    specs: ElementSpecs,
-) -> Result<Term, CounterFault>
-    ensures done { IfOk result (λ object. start_elements specs (with_key keypos key.now default.now) ≡ Ok object) }
-    ensures badarg { FailsOnlyAs result CounterFault.Badarg
-        (start_elements specs (with_key keypos key.now default.now)) }
-    ensures limit { FailsOnlyAs result CounterFault.SystemLimit
-        (start_elements specs (with_key keypos key.now default.now)) }
-{
-    let mut object = with_key(alloc, default, keypos, key)?;
-    update_elements(&mut object, specs)?;
     if object.is_too_deep() {
         return Err(CounterFault::SystemLimit);
     }

@@ -32,8 +32,8 @@ mod sum;
 mod write;
 
 pub use counter::{apply_ops, update_counter};
-pub use defaults::{is_default, start_counter, start_elements, start_with_elements, with_key};
+pub use defaults::{is_default, start_counter, start_with_elements, with_key};
 pub use elements::{ElementSpec, ElementSpecs, read_element_specs};
 pub use fault::CounterFault;
 pub use ops::{Op, Ops, Threshold, read_ops};
-pub use write::{apply_elements, update_elements, write_elements};
+pub use write::{apply_elements, write_elements};

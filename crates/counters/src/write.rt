@@ -47,21 +47,6 @@ pub fn write_elements(
     }
 }
 
-/// Does the same as `write_elements` but moves the values into the object, and so takes no memory.
-pub fn update_elements(object: &mut Term, specs: ElementSpecs) -> Result<(), CounterFault>
-    ensures done { OnOk result (apply_elements specs object.old ≡ Ok object.new) }
-    ensures refused { IfErr result (λ fault. apply_elements specs object.old ≡ Err fault) }
-    ensures kept { OnErr result (object.new ≡ object.old) }
-{
-    let Term::Tuple(elements) = object else {
-        return Err(CounterFault::Badarg);
-    };
-    match specs {
-        ElementSpecs::One(spec) => move_one(elements, spec),
-        ElementSpecs::Many(specs) => move_list(elements, specs),
-    }
-}
-
 /// Writes a copy of one value, without a list.
 fn copy_one(
     alloc: Global,
@@ -107,28 +92,6 @@ fn copy_specs(alloc: Global, specs: &[ElementSpec]) -> Result<Vec<ElementSpec>, 
         })?;
     }
     Ok(copies)
-}
-
-/// Moves one value into its element, without a list.
-fn move_one(elements: &mut Items<Term>, spec: ElementSpec) -> Result<(), CounterFault>
-    ensures done { OnOk result (write_values (spec ∷ []) elements.old ≡ Ok elements.new) }
-    ensures refused { IfErr result (λ fault. write_values (spec ∷ []) elements.old ≡ Err fault) }
-    ensures kept { OnErr result (elements.new ≡ elements.old) }
-{
-    check_one(elements.as_slice(), &spec)?;
-    write(elements, spec.position, spec.value);
-    Ok(())
-}
-
-/// Moves a list of values into their elements.
-fn move_list(elements: &mut Items<Term>, specs: Items<ElementSpec>) -> Result<(), CounterFault>
-    ensures done { OnOk result (write_values specs elements.old ≡ Ok elements.new) }
-    ensures refused { IfErr result (λ fault. write_values specs elements.old ≡ Err fault) }
-    ensures kept { OnErr result (elements.new ≡ elements.old) }
-{
-    check_list(elements.as_slice(), specs.as_slice())?;
-    write_all(elements, specs.into_vec());
-    Ok(())
 }
 
 /// Tests whether one value may be written: Badarg if the tuple does not have the position, then SystemLimit if the

@@ -5,10 +5,10 @@ use Rattle.std.proofs.lemmas.List.{get_or_push, get_or_append_left, get_or_read_
 use Rattle.std.proofs.lemmas.Nat.{mod_below, pow_pos}
 use Rattle.split_key.specs.Keys.{rev, key_of_dummy, IsPowerOfTwo}
 use Rattle.node_list.specs.Cells.{Cell, new_cell}
-use Rattle.node_list.specs.Places.{IsFresh, StandsUpTo, from, first_place}
+use Rattle.node_list.specs.Places.{IsFresh, HasKeyAtMost, from, first_place}
 use Rattle.node_list.specs.Changes.{put_cell}
 use Rattle.node_list.proofs.CellLaws.{from-on}
-use Rattle.node_list.proofs.CallerLaws.{put-stands, put-keeps}
+use Rattle.node_list.proofs.CallerLaws.{put-from_new, put-from_other}
 use Rattle.ets_bench.specs.Buckets.{IsDummyOf, HasDummies}
 
 -- a fresh place is one without a node
@@ -21,13 +21,13 @@ fresh-apart place at (c ∷ cs) d ds f e =
     ]
 
 -- a dummy is before the keys that are not below its own
-pub dummy-stands : (bucket at key : ℕ) (cs : List Cell) → IsDummyOf bucket at cs → key_of_dummy bucket ≤ key → StandsUpTo key at cs
+pub dummy-stands : (bucket at key : ℕ) (cs : List Cell) → IsDummyOf bucket at cs → key_of_dummy bucket ≤ key → HasKeyAtMost key at cs
 dummy-stands bucket at key cs d h = record { cell = new_cell at (key_of_dummy bucket) None; later = d.later; is = d.is; up_to = h }
 
 -- so does one whose place was read from the directory
-pub read-stands : (bucket at n key : ℕ) (places : List ℕ) (cs : List Cell) → at ≡ get_or places bucket at → bucket < n → n ≡ length places → HasDummies places cs → key_of_dummy bucket ≤ key → StandsUpTo key at cs
+pub read-stands : (bucket at n key : ℕ) (places : List ℕ) (cs : List Cell) → at ≡ get_or places bucket at → bucket < n → n ≡ length places → HasDummies places cs → key_of_dummy bucket ≤ key → HasKeyAtMost key at cs
 read-stands bucket at n key places cs read below len h before =
-    let P : ℕ → Type 0 = λ p. StandsUpTo key p cs in
+    let P : ℕ → Type 0 = λ p. HasKeyAtMost key p cs in
     let within : bucket < length places = omega (arith, below, len) in
     subst P (sym (get_or_read_under places bucket n at 0 read below len)) (dummy-stands bucket (get_or places bucket 0) key cs (h bucket within) before)
 
@@ -44,7 +44,7 @@ bucket-below hash size bucket n e s p =
 pub dummies-kept : (x : Cell) (places : List ℕ) (old new : List Cell) → IsFresh x.at old → new ≡ put_cell x old → HasDummies places old → HasDummies places new
 dummies-kept x places old new f e h bucket below =
     let d = h bucket below in
-    let kept = put-keeps x old (get_or places bucket 0) (new_cell (get_or places bucket 0) (key_of_dummy bucket) None) d.later (fresh-apart x.at (get_or places bucket 0) old (new_cell (get_or places bucket 0) (key_of_dummy bucket) None) d.later f d.is) d.is in
+    let kept = put-from_other x old (get_or places bucket 0) (new_cell (get_or places bucket 0) (key_of_dummy bucket) None) d.later (fresh-apart x.at (get_or places bucket 0) old (new_cell (get_or places bucket 0) (key_of_dummy bucket) None) d.later f d.is) d.is in
     record { later = kept.0; is = ap (from (get_or places bucket 0)) e ∙ kept.1 }
 
 -- one dummy more
@@ -56,7 +56,7 @@ dummies-pushed at places old new f e h bucket below =
           subst P (sym (get_or_append_left places (at ∷ []) 0 bucket earlier)) (dummies-kept (new_cell at (key_of_dummy (length places)) None) places old new f e h bucket earlier)
       | inr last ↦
           let here : length places ≡ bucket = omega (arith, below, last, length-append places (at ∷ [])) in
-          let s = put-stands (new_cell at (key_of_dummy (length places)) None) old f in
+          let s = put-from_new (new_cell at (key_of_dummy (length places)) None) old f in
           let is : from at new ≡ new_cell at (key_of_dummy (length places)) None ∷ s.0 = ap (from at) e ∙ s.1 in
           let Q : ℕ → Type 0 = λ b. IsDummyOf b at new in
           subst P (sym (get_or_push places at 0 bucket here)) (subst Q here (record { later = s.0; is = is }))

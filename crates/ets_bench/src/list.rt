@@ -1,6 +1,6 @@
 ghost use Rattle.std.specs.Prelude.{◌≡◌, ◌≤◌, ◌<◌, ◌^◌, IfOk};
 ghost use Rattle.split_key.specs.Keys.{IsPowerOfTwo};
-ghost use Rattle.node_list.specs.Listed.{HasRoom};
+ghost use Rattle.node_list.specs.ListState.{HasRoom};
 ghost use Rattle.ets_bench.specs.Buckets.{IsReady};
 
 use crate::lists::Lists;

@@ -1,7 +1,7 @@
 ghost use Rattle.std.specs.Prelude.{◌≡◌, ◌+◌, ◌≤◌, ◌<◌, ◌^◌, length, vec_len, vec_capacity, IfOk, OnOk};
 ghost use Rattle.split_key.specs.Keys.{key_of_item};
-ghost use Rattle.node_list.specs.Listed.{HasRoom};
-ghost use Rattle.node_list.specs.Places.{StandsUpTo};
+ghost use Rattle.node_list.specs.ListState.{HasRoom};
+ghost use Rattle.node_list.specs.Places.{HasKeyAtMost};
 ghost use Rattle.ets_bench.specs.Buckets.{HasDummies, IsReady};
 
 use ets_term::{Fnv, Integer, Items, KeyHash, Term};
@@ -56,7 +56,7 @@ impl Lists {
     /// Where a search or an insertion by this hash begins: the dummy of its bucket.
     fn start(&self, hash: u32) -> At
         requires { IsReady self.now }
-        ensures { StandsUpTo (key_of_item hash) result self.now.list.cells }
+        ensures { HasKeyAtMost (key_of_item hash) result self.now.list.cells }
     {
         let buckets = self.dummies.len() as u32;
         let bucket = bucket_of(hash, buckets);

@@ -9,9 +9,9 @@ use Rattle.ets_term.specs.Atoms.{is_atom}
 use Rattle.ets_term.specs.Depth.{element_at, is_too_deep}
 use Rattle.ets_term.specs.Order.{same}
 use Rattle.bucket_table.specs.Slots.{Slot, Enters, objects_of, with_objects, has_objects, object_count}
-use Rattle.counters.specs.Counters.{updated_counters}
-use Rattle.counters.specs.Defaults.{keyed, keyed_form, counted_from, written_from}
-use Rattle.counters.specs.Elements.{updated_elements}
+use Rattle.counters.specs.Counters.{apply_ops}
+use Rattle.counters.specs.Defaults.{with_key, with_key_form, start_counter, start_elements}
+use Rattle.counters.specs.Elements.{apply_elements}
 use Rattle.counters.specs.declared.elements.ElementSpecs.{ElementSpecs}
 use Rattle.counters.specs.declared.fault.CounterFault.{CounterFault}
 use Rattle.counters.specs.declared.ops.Ops.{Ops}
@@ -20,9 +20,9 @@ use Rattle.table_ops.specs.declared.kind.Kind.TheVariants.{Set, Bag, DuplicateBa
 use Rattle.table_ops.specs.declared.refusal.Refusal.{Refusal}
 use Rattle.table_ops.specs.declared.refusal.Refusal.TheVariants.{Badarg, SystemLimit, Memory}
 use Rattle.table_ops.specs.Content.{Content, is_object, objects_under}
-use Rattle.table_ops.specs.Put.{add, Writes, PutsAll, Stores, Inserts, InsertsNew, is_taken}
-use Rattle.table_ops.specs.Refusals.{Comes}
-use Rattle.table_ops.specs.Update.{is_set, ops_open, specs_open, is_good, with_object, Counts, Starts, CountsUnder, UpdatesCounter, WritesElements, with_true, WritesUnder, UpdatesElement}
+use Rattle.table_ops.specs.Put.{add, SetsObjects, PutsAll, InsertsWithinLimit, Inserts, InsertsNew, is_taken}
+use Rattle.table_ops.specs.Refusals.{Refines}
+use Rattle.table_ops.specs.Update.{is_set, ops_avoid_key, specs_avoid_key, default_is_object, with_object, UpdatesCounterOf, InsertsDefault, UpdatesOrInsertsCounter, UpdatesCounter, UpdatesElementOf, with_true, UpdatesOrInsertsElement, UpdatesElement}
 use Rattle.table_ops.specs.Outcomes.{gives}
 
 abbrev pub is_end : Term → Bool
@@ -63,12 +63,12 @@ second true true h = cc
 second true false h = refl
 second false b h = cc
 
-keyed-at : (test : Bool) (term object : Term) → cond test (Some term) None ≡ Some object → test ≡ true
-keyed-at true term object e = refl
-keyed-at false term object e = cc
+with_key-at : (test : Bool) (term object : Term) → cond test (Some term) None ≡ Some object → test ≡ true
+with_key-at true term object e = refl
+with_key-at false term object e = cc
 
-tuple-key : (keypos : ℕ) (key object : Term) (form : Term-F Term) → keyed_form keypos key form ≡ Some object → is_end key ≡ false
-tuple-key keypos key object (Term-F.Tuple ts) e = second (nat_lt 0 keypos && nat_le keypos (length ts)) (is_end key) (keyed-at (nat_lt 0 keypos && nat_le keypos (length ts) && not (is_end key)) _ object e)
+tuple-key : (keypos : ℕ) (key object : Term) (form : Term-F Term) → with_key_form keypos key form ≡ Some object → is_end key ≡ false
+tuple-key keypos key object (Term-F.Tuple ts) e = second (nat_lt 0 keypos && nat_le keypos (length ts)) (is_end key) (with_key-at (nat_lt 0 keypos && nat_le keypos (length ts) && not (is_end key)) _ object e)
 tuple-key keypos key object (Term-F.Int n) e = cc
 tuple-key keypos key object (Term-F.Atom n) e = cc
 tuple-key keypos key object (Term-F.Pid n) e = cc
@@ -76,11 +76,11 @@ tuple-key keypos key object (Term-F.Tid n) e = cc
 tuple-key keypos key object (Term-F.List n) e = cc
 tuple-key keypos key object (Term-F.Binary n) e = cc
 
-counted-key : (keypos : ℕ) (key d : Term) (ops : Ops) (o : Option Term) (made : Term × Term) → keyed keypos key d ≡ o → counted_from ops o ≡ Ok made → is_end key ≡ false
+counted-key : (keypos : ℕ) (key d : Term) (ops : Ops) (o : Option Term) (made : Term × Term) → with_key keypos key d ≡ o → start_counter ops o ≡ Ok made → is_end key ≡ false
 counted-key keypos key d ops None made k e = cc
 counted-key keypos key d ops (Some object) made k e = tuple-key keypos key object (out-Term d) k
 
-written-key : (keypos : ℕ) (key d : Term) (specs : ElementSpecs) (o : Option Term) (made : Term × Bool) → keyed keypos key d ≡ o → with_true (written_from specs o) ≡ Ok made → is_end key ≡ false
+written-key : (keypos : ℕ) (key d : Term) (specs : ElementSpecs) (o : Option Term) (made : Term × Bool) → with_key keypos key d ≡ o → with_true (start_elements specs o) ≡ Ok made → is_end key ≡ false
 written-key keypos key d specs None made k e = cc
 written-key keypos key d specs (Some object) made k e = tuple-key keypos key object (out-Term d) k
 
@@ -92,7 +92,7 @@ module _ (Q : List Slot → List Slot → Type 0) (keeping : Keeping Q) where
   writes_at None old new key os own h e w = keeping.enters old new key os own h e w
   writes_at (Some c) old new key os own h e w = subst (Q old) (sym w) (keeping.filled old key os h)
 
-  writes-keep : (old new : List Slot) (key : Term) (os : List Term) → is_end key ≡ false → has_objects os ≡ true → Writes old key os new → Q old new
+  writes-keep : (old new : List Slot) (key : Term) (os : List Term) → is_end key ≡ false → has_objects os ≡ true → SetsObjects old key os new → Q old new
   writes-keep old new key os own h w = writes_at (objects_of old key) old new key os own h refl w
 
   all-keep : (kind : Kind) (keypos : ℕ) (objects : List Term) (old new : List Slot) → PutsAll kind keypos old objects new → Q old new
@@ -108,22 +108,22 @@ module _ (Q : List Slot → List Slot → Type 0) (keeping : Keeping Q) where
   deep_at done objects old new true r c = unchanged old new c.1
   deep_at done objects old new false r c = limit_at done old new (nat_lt old.limit (object_count c.0)) c.0 r c.2 (all-keep old.kind old.keypos objects old.slots c.0 c.1)
 
-  pub stores-keep : {X : Type 0} (done : X) (objects : List Term) (old new : Content) (r : Result X Refusal) → Stores done objects old r new → Q old.slots new.slots
+  pub stores-keep : {X : Type 0} (done : X) (objects : List Term) (old new : Content) (r : Result X Refusal) → InsertsWithinLimit done objects old r new → Q old.slots new.slots
   stores-keep done objects old new r c = deep_at done objects old new (list_any is_too_deep objects) r c
 
-  inserts_at : (b : Bool) (objects : List Term) (old new : Content) (r : Result (Unit {0}) Refusal) → MatchBool b (Stores tt objects old r new) (gives (Err Badarg) old r new) → Q old.slots new.slots
+  inserts_at : (b : Bool) (objects : List Term) (old new : Content) (r : Result (Unit {0}) Refusal) → MatchBool b (InsertsWithinLimit tt objects old r new) (gives (Err Badarg) old r new) → Q old.slots new.slots
   inserts_at true objects old new r c = stores-keep tt objects old new r c
   inserts_at false objects old new r c = unchanged old new c.1
 
   pub inserts-keep : (objects : List Term) (old new : Content) (r : Result (Unit {0}) Refusal) → Inserts objects old r new → Q old.slots new.slots
   inserts-keep objects old new r c = inserts_at (list_all (is_object old.keypos) objects) objects old new r c
 
-  taken_at : (b : Bool) (objects : List Term) (old new : Content) (r : Result Bool Refusal) → MatchBool b (gives (Ok false) old r new) (Stores true objects old r new) → Q old.slots new.slots
+  taken_at : (b : Bool) (objects : List Term) (old new : Content) (r : Result Bool Refusal) → MatchBool b (gives (Ok false) old r new) (InsertsWithinLimit true objects old r new) → Q old.slots new.slots
   taken_at true objects old new r c = unchanged old new c.1
   taken_at false objects old new r c = stores-keep true objects old new r c
 
   news_at : (b : Bool) (objects : List Term) (old new : Content) (r : Result Bool Refusal)
-      → MatchBool b (MatchBool (list_any (is_taken old.keypos old.slots) objects) (gives (Ok false) old r new) (Stores true objects old r new)) (gives (Err Badarg) old r new) → Q old.slots new.slots
+      → MatchBool b (MatchBool (list_any (is_taken old.keypos old.slots) objects) (gives (Ok false) old r new) (InsertsWithinLimit true objects old r new)) (gives (Err Badarg) old r new) → Q old.slots new.slots
   news_at true objects old new r c = taken_at (list_any (is_taken old.keypos old.slots) objects) objects old new r c
   news_at false objects old new r c = unchanged old new c.1
 
@@ -134,55 +134,55 @@ module _ (Q : List Slot → List Slot → Type 0) (keeping : Keeping Q) where
   fills : (key object : Term) (old new : Content) → new ≡ with_object key object old → Q old.slots new.slots
   fills key object old new e = subst (λ (t : Content). Q old.slots t.slots) (sym e) (keeping.filled old.slots key (object ∷ []) refl)
 
-  counts_at : (key : Term) (old new : Content) (c : Result (Term × Term) CounterFault) (r : Result Term Refusal) → Counts key old c r new → Q old.slots new.slots
+  counts_at : (key : Term) (old new : Content) (c : Result (Term × Term) CounterFault) (r : Result Term Refusal) → UpdatesCounterOf key old c r new → Q old.slots new.slots
   counts_at key old new (Ok counted) r c = fills key counted.0 old new c.1
   counts_at key old new (Err fault) r c = unchanged old new c.1
 
-  starts_at : {X : Type 0} (key : Term) (old new : Content) (c : Result (Term × X) CounterFault) (r : Result X Refusal) → ((made : Term × X) → c ≡ Ok made → is_end key ≡ false) → Starts key old c r new → Q old.slots new.slots
+  starts_at : {X : Type 0} (key : Term) (old new : Content) (c : Result (Term × X) CounterFault) (r : Result X Refusal) → ((made : Term × X) → c ≡ Ok made → is_end key ≡ false) → InsertsDefault key old c r new → Q old.slots new.slots
   starts_at key old new (Ok made) r own c = limit_at made.1 old new (nat_lt old.limit (object_count c.0)) c.0 r c.2 (writes-keep old.slots c.0 key (made.0 ∷ []) (own made refl) refl c.1)
   starts_at key old new (Err fault) r own c = unchanged old new c.1
 
   default_at : (key : Term) (ops : Ops) (default : Option Term) (old new : Content) (r : Result Term Refusal)
-      → MatchOption default (gives (Err Badarg) old r new) (λ d. Starts key old (counted_from ops (keyed old.keypos key d)) r new) → Q old.slots new.slots
+      → MatchOption default (gives (Err Badarg) old r new) (λ d. InsertsDefault key old (start_counter ops (with_key old.keypos key d)) r new) → Q old.slots new.slots
   default_at key ops None old new r c = unchanged old new c.1
-  default_at key ops (Some d) old new r c = starts_at key old new (counted_from ops (keyed old.keypos key d)) r (λ made e. counted-key old.keypos key d ops (keyed old.keypos key d) made refl e) c
+  default_at key ops (Some d) old new r c = starts_at key old new (start_counter ops (with_key old.keypos key d)) r (λ made e. counted-key old.keypos key d ops (with_key old.keypos key d) made refl e) c
 
-  under_at : (key : Term) (ops : Ops) (default : Option Term) (old new : Content) (objects : List Term) (r : Result Term Refusal) → CountsUnder key ops default old objects r new → Q old.slots new.slots
+  under_at : (key : Term) (ops : Ops) (default : Option Term) (old new : Content) (objects : List Term) (r : Result Term Refusal) → UpdatesOrInsertsCounter key ops default old objects r new → Q old.slots new.slots
   under_at key ops default old new [] r c = default_at key ops default old new r c
-  under_at key ops default old new (o ∷ os) r c = counts_at key old new (updated_counters ops o) r c
+  under_at key ops default old new (o ∷ os) r c = counts_at key old new (apply_ops ops o) r c
 
   counter_at : (b : Bool) (key : Term) (ops : Ops) (default : Option Term) (old new : Content) (r : Result Term Refusal)
-      → MatchBool b (CountsUnder key ops default old (objects_under old.slots key) r new) (gives (Err Badarg) old r new) → Q old.slots new.slots
+      → MatchBool b (UpdatesOrInsertsCounter key ops default old (objects_under old.slots key) r new) (gives (Err Badarg) old r new) → Q old.slots new.slots
   counter_at true key ops default old new r c = under_at key ops default old new (objects_under old.slots key) r c
   counter_at false key ops default old new r c = unchanged old new c.1
 
   pub counter-keeps : (key : Term) (ops : Ops) (default : Option Term) (old new : Content) (r : Result Term Refusal) → UpdatesCounter key ops default old r new → Q old.slots new.slots
-  counter-keeps key ops default old new r c = counter_at (is_set old.kind && (ops_open old.keypos ops && is_good old.keypos key default)) key ops default old new r c
+  counter-keeps key ops default old new r c = counter_at (is_set old.kind && (ops_avoid_key old.keypos ops && default_is_object old.keypos key default)) key ops default old new r c
 
-  elements_at : (key : Term) (old new : Content) (c : Result Term CounterFault) (r : Result Bool Refusal) → WritesElements key old c r new → Q old.slots new.slots
+  elements_at : (key : Term) (old new : Content) (c : Result Term CounterFault) (r : Result Bool Refusal) → UpdatesElementOf key old c r new → Q old.slots new.slots
   elements_at key old new (Ok object) r c = fills key object old new c.1
   elements_at key old new (Err fault) r c = unchanged old new c.1
 
   written_at : (key : Term) (specs : ElementSpecs) (default : Option Term) (old new : Content) (r : Result Bool Refusal)
-      → MatchOption default (gives (Ok false) old r new) (λ d. Starts key old (with_true (written_from specs (keyed old.keypos key d))) r new) → Q old.slots new.slots
+      → MatchOption default (gives (Ok false) old r new) (λ d. InsertsDefault key old (with_true (start_elements specs (with_key old.keypos key d))) r new) → Q old.slots new.slots
   written_at key specs None old new r c = unchanged old new c.1
-  written_at key specs (Some d) old new r c = starts_at key old new (with_true (written_from specs (keyed old.keypos key d))) r (λ made e. written-key old.keypos key d specs (keyed old.keypos key d) made refl e) c
+  written_at key specs (Some d) old new r c = starts_at key old new (with_true (start_elements specs (with_key old.keypos key d))) r (λ made e. written-key old.keypos key d specs (with_key old.keypos key d) made refl e) c
 
-  write_at : (key : Term) (specs : ElementSpecs) (default : Option Term) (old new : Content) (objects : List Term) (r : Result Bool Refusal) → WritesUnder key specs default old objects r new → Q old.slots new.slots
+  write_at : (key : Term) (specs : ElementSpecs) (default : Option Term) (old new : Content) (objects : List Term) (r : Result Bool Refusal) → UpdatesOrInsertsElement key specs default old objects r new → Q old.slots new.slots
   write_at key specs default old new [] r c = written_at key specs default old new r c
-  write_at key specs default old new (o ∷ os) r c = elements_at key old new (updated_elements specs o) r c
+  write_at key specs default old new (o ∷ os) r c = elements_at key old new (apply_elements specs o) r c
 
   specs_at : (b : Bool) (key : Term) (specs : ElementSpecs) (default : Option Term) (old new : Content) (r : Result Bool Refusal)
-      → MatchBool b (WritesUnder key specs default old (objects_under old.slots key) r new) (gives (Err Badarg) old r new) → Q old.slots new.slots
+      → MatchBool b (UpdatesOrInsertsElement key specs default old (objects_under old.slots key) r new) (gives (Err Badarg) old r new) → Q old.slots new.slots
   specs_at true key specs default old new r c = write_at key specs default old new (objects_under old.slots key) r c
   specs_at false key specs default old new r c = unchanged old new c.1
 
   pub element-keeps : (key : Term) (specs : ElementSpecs) (default : Option Term) (old new : Content) (r : Result Bool Refusal) → UpdatesElement key specs default old r new → Q old.slots new.slots
-  element-keeps key specs default old new r c = specs_at (is_set old.kind && (specs_open old.keypos specs && is_good old.keypos key default)) key specs default old new r c
+  element-keeps key specs default old new r c = specs_at (is_set old.kind && (specs_avoid_key old.keypos specs && default_is_object old.keypos key default)) key specs default old new r c
 
   -- out of memory, nothing changes
   pub comes-keep : {X : Type 0} (change : Content → Result X Refusal → Content → Type 0) → ((old new : Content) (r : Result X Refusal) → change old r new → Q old.slots new.slots)
-      → (old new : Content) (r : Result X Refusal) → Comes (change old) old r new → Q old.slots new.slots
+      → (old new : Content) (r : Result X Refusal) → Refines (change old) old r new → Q old.slots new.slots
   comes-keep change keeps old new (Ok x) c = keeps old new (Ok x) c
   comes-keep change keeps old new (Err Badarg) c = keeps old new (Err Badarg) c
   comes-keep change keeps old new (Err SystemLimit) c = keeps old new (Err SystemLimit) c

@@ -9,8 +9,8 @@ use Rattle.ets_term.specs.Order.{same}
 use Rattle.ets_term.specs.laws.Same.{same-exact, same-refl}
 use Rattle.bucket_table.specs.Slots.{Slot, HasDistinctKeys, objects_of, has_objects, slots_behind}
 use Rattle.bucket_table.specs.Walks.{IsFirstPlace, IsNextPlace, behind_in}
-use Rattle.bucket_table.proofs.ContentLaws.{behind-absent}
-use Rattle.table_ops.proofs.KeptLaws.{turned}
+use Rattle.bucket_table.proofs.list.Content.{behind-absent}
+use Rattle.table_ops.proofs.InvariantLaws.{turned}
 use Rattle.fixed_walk.specs.Walk.{first_key, next_key, first_slot, next_slot}
 use Rattle.fixed_walk.specs.laws.Kept.{IsSubsequence}
 use Rattle.fixed_walk.specs.inside.From.{from_key, from_key_if_any, slots_from, HasSlotAt}

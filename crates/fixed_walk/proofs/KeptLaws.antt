@@ -7,14 +7,14 @@ use Rattle.std.proofs.lemmas.Map.{keys-set_value}
 use Rattle.ets_term.specs.declared.term.Term.{Term}
 use Rattle.ets_term.specs.Order.{same}
 use Rattle.bucket_table.specs.Slots.{Slot, HasDistinctKeys, objects_of, has_objects, with_objects, Enters, purged}
-use Rattle.bucket_table.proofs.SlotLaws.{distinct-added}
+use Rattle.bucket_table.proofs.slots.Distinct.{distinct-added}
 use Rattle.counters.specs.declared.elements.ElementSpecs.{ElementSpecs}
 use Rattle.counters.specs.declared.ops.Ops.{Ops}
 use Rattle.table_ops.specs.declared.refusal.Refusal.{Refusal}
 use Rattle.table_ops.specs.declared.refusal.Refusal.TheVariants.{Badarg, SystemLimit, Memory}
 use Rattle.table_ops.specs.Content.{Content, key_of}
 use Rattle.table_ops.specs.Put.{Inserts, InsertsNew}
-use Rattle.table_ops.specs.Drop.{Which, left, dropped, without_those, equal_to, DeletesObject}
+use Rattle.table_ops.specs.Drop.{Which, remaining, after_drop, without_those, equal_to, DeletesObject}
 use Rattle.table_ops.specs.Refusals.{Change}
 use Rattle.table_ops.specs.Update.{UpdatesCounter, UpdatesElement}
 use Rattle.table_ops.specs.Outcomes.{gives}
@@ -49,12 +49,12 @@ keeping = record {
 }
 
 -- a deletion that leaves tombstones keeps the slot of each key
-pub held-keys : (which : Which) (slots : List Slot) → keys_of (dropped true which slots) ≡ keys_of slots
+pub held-keys : (which : Which) (slots : List Slot) → keys_of (after_drop true which slots) ≡ keys_of slots
 held-keys which [] = refl
 held-keys which (s ∷ ss) = ap (λ (ks : List Term). s.0 ∷ ks) (held-keys which ss)
 
-pub dropped-stay : (hold : Bool) (which : Which) (slots : List Slot) → hold ≡ true → KeysStay slots (dropped hold which slots)
-dropped-stay true which slots e = equal-keys slots (dropped true which slots) (held-keys which slots)
+pub dropped-stay : (hold : Bool) (which : Which) (slots : List Slot) → hold ≡ true → KeysStay slots (after_drop hold which slots)
+dropped-stay true which slots e = equal-keys slots (after_drop true which slots) (held-keys which slots)
 dropped-stay false which slots e = absurd (true≢false (sym e))
 
 -- ---- no key has two slots
@@ -73,16 +73,16 @@ one-fewer : (b : Bool) (s new : Slot) (ss rest : List Slot) → new.0 ≡ s.0 �
 one-fewer true s new ss rest e k = inl (e, k)
 one-fewer false s new ss rest e k = sub-on (keys_of rest) (keys_of ss) s.0 k
 
-dropped-among : (hold : Bool) (which : Which) (slots : List Slot) → KeysStay (dropped hold which slots) slots
+dropped-among : (hold : Bool) (which : Which) (slots : List Slot) → KeysStay (after_drop hold which slots) slots
 dropped-among hold which [] = tt
-dropped-among hold which (s ∷ ss) = one-fewer (hold || has_objects (left which s) || not (has_objects s.1)) s (s.0, left which s) ss (dropped hold which ss) refl (dropped-among hold which ss)
+dropped-among hold which (s ∷ ss) = one-fewer (hold || has_objects (remaining which s) || not (has_objects s.1)) s (s.0, remaining which s) ss (after_drop hold which ss) refl (dropped-among hold which ss)
 
 purged-among : (slots : List Slot) → KeysStay (purged slots) slots
 purged-among [] = tt
 purged-among (s ∷ ss) = one-fewer (has_objects s.1) s s ss (purged ss) refl (purged-among ss)
 
-dropped-apart : (hold : Bool) (which : Which) (slots : List Slot) → StayApart slots (dropped hold which slots)
-dropped-apart hold which slots d = sub-distinct (keys_of (dropped hold which slots)) (keys_of slots) (dropped-among hold which slots) d
+dropped-apart : (hold : Bool) (which : Which) (slots : List Slot) → StayApart slots (after_drop hold which slots)
+dropped-apart hold which slots d = sub-distinct (keys_of (after_drop hold which slots)) (keys_of slots) (dropped-among hold which slots) d
 
 purged-apart : (slots : List Slot) → StayApart slots (purged slots)
 purged-apart slots d = sub-distinct (keys_of (purged slots)) (keys_of slots) (purged-among slots) d
@@ -122,7 +122,7 @@ pub update_element-keeps : (key : Term) (specs : ElementSpecs) (default : Option
 update_element-keeps key specs default = changes-keep (λ hold. UpdatesElement key specs default) (element-keeps KeysStay keeping key specs default) (λ hold. element-keeps StayApart apart key specs default)
 
 module _ (Q : List Slot → List Slot → Type 0) (keeps : Keeping Q) where
-  object_at : (hold : Bool) (o : Option Term) (object : Term) (old new : Content) (r : Result (Unit {0}) Refusal) → Q old.slots (dropped hold (equal_to object) old.slots)
+  object_at : (hold : Bool) (o : Option Term) (object : Term) (old new : Content) (r : Result (Unit {0}) Refusal) → Q old.slots (after_drop hold (equal_to object) old.slots)
       → MatchOption o (gives (Err Badarg) old r new) (λ _. gives (Ok tt) (without_those hold (equal_to object) old) r new) → Q old.slots new.slots
   object_at hold None object old new r q c = unchanged Q keeps old new c.1
   object_at hold (Some key) object old new r q c = subst (λ (t : Content). Q old.slots t.slots) (sym c.1) q

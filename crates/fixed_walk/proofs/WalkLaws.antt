@@ -8,7 +8,7 @@ use Rattle.ets_term.specs.Order.{same}
 use Rattle.ets_term.specs.laws.Same.{same-exact, same-refl}
 use Rattle.bucket_table.specs.Slots.{Slot, HasDistinctKeys, has_objects, slots_behind}
 use Rattle.table_ops.specs.Content.{is_present}
-use Rattle.table_ops.proofs.KeptLaws.{turned}
+use Rattle.table_ops.proofs.InvariantLaws.{turned}
 use Rattle.fixed_walk.specs.Walk.{first_key, next_key}
 use Rattle.fixed_walk.specs.laws.Kept.{IsSubsequence}
 use Rattle.fixed_walk.specs.laws.Walks.{MomentsKeepKeys, walk_answer, IsWalk, WalksAreWhole}

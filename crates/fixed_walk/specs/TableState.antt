@@ -2,7 +2,7 @@
 use Rattle.std.specs.Prelude.{◌≡◌, ℕ, ◌+◌, ◌-◌, ◌<◌, Bool, false, true, if◌then◌else◌, List, Result, Ok, Err}
 use Rattle.std.specs.List.{AllByRecursion}
 use Rattle.bucket_table.specs.Slots.{Slot, has_objects}
-use Rattle.table_ops.specs.Content.{Content, Tabled}
+use Rattle.table_ops.specs.Content.{Content, ContentState}
 use Rattle.table_ops.specs.Drop.{Which, without_those, without_held}
 use Rattle.table_ops.specs.Refusals.{Change}
 use Rattle.fixed_walk.specs.declared.fault.FixFault.{FixFault}
@@ -16,7 +16,7 @@ pub record TableState : Type 0 where
   pub fixes : FixCounts
 
 -- a table with these fixes
-abbrev pub with_fixes : Tabled → FixCounts → TableState
+abbrev pub with_fixes : ContentState → FixCounts → TableState
 with_fixes table fixes =
     record { content = table.content; buckets = table.buckets; fixes = fixes }
 

@@ -133,7 +133,7 @@ impl<R: Rows> Walked<R> {
         ensures fixed { IsFixedBySome self.now.fixes }
         ensures held { TombstonesOnlyWhileFixed self.now }
     {
-        self.table.known();
+        self.table.reveal_invariant();
         self.fixes.reveal_invariant();
     }
 }

@@ -7,7 +7,7 @@ use Rattle.ets_term.specs.declared.term.Term.{Term, out-Term}
 use Rattle.ets_term.specs.declared.term.Term.TheVariants.{Tid}
 use Rattle.ets_term.specs.Atoms.{text_of, is_atom}
 use Rattle.table_ops.specs.Outcomes.{Outcome, gives, refuse_none}
-use Rattle.fixed_walk.specs.Fixed.{Fixed}
+use Rattle.fixed_walk.specs.TableState.{TableState}
 use Rattle.ownership.specs.declared.fault.WorldFault.{WorldFault}
 use Rattle.ownership.specs.declared.fault.WorldFault.TheVariants as fault
 use Rattle.ownership.specs.declared.info.InfoItem.{InfoItem}
@@ -157,14 +157,14 @@ module _ (own : ℕ → Bool) (needs : Bool) (old : State) where
       (where-lawful (resolve old.world.tables term) lawful)
 
   -- a call that reads a table changes nothing
-  pub reads-lawful : (p : ℕ) (term : Term) (answer : Fixed → Reply) → ((f : Fixed) → answer (seen_fixed f) ≡ answer f)
+  pub reads-lawful : (p : ℕ) (term : Term) (answer : TableState → Reply) → ((f : TableState) → answer (seen_fixed f) ≡ answer f)
       → Lawful (reads old p term answer) (reads (seen old) p term answer)
   reads-lawful p term answer same =
       usable-lawful Read p term (λ found. gives (answer found.1.fixed) old) (λ found. gives (answer found.1.fixed) (seen old)) (λ found there.
       tells-as (answer found.1.fixed) (answer (seen_fixed found.1.fixed)) (same found.1.fixed))
 
   abbrev Leaves : State → Rule → ℕ × Table → Outcome Reply State
-  Leaves s rule found reply new = (fixed : Fixed) × rule found.1.fixed reply fixed × (new ≡ with_table s found.0 fixed)
+  Leaves s rule found reply new = (fixed : TableState) × rule found.1.fixed reply fixed × (new ≡ with_table s found.0 fixed)
 
   leaves-lawful : (rule : Rule) (found : ℕ × Table) → IsLawful own needs rule
       → table_at old.world.tables found.0 ≡ Some found.1
@@ -183,7 +183,7 @@ module _ (own : ℕ → Bool) (needs : Bool) (old : State) where
       same : Moves own old.world old.world
       same = moves-same own old.world
 
-      tame_at : (reply : Reply) (f : Fixed) → rule found.1.fixed reply f → (was : Table)
+      tame_at : (reply : Reply) (f : TableState) → rule found.1.fixed reply f → (was : Table)
           → table_at old.world.tables found.0 ≡ Some was → IsTame own was.fixed f
       tame_at reply f h was here =
           let e : Some found.1 ≡ Some was = sym at ∙ here in

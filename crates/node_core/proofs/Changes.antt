@@ -5,11 +5,11 @@ use Rattle.std.specs.Option.{option_and_then, option_map_or}
 use Rattle.ets_term.specs.declared.term.Term.{Term}
 use Rattle.table_ops.specs.declared.refusal.Refusal.{Refusal}
 use Rattle.table_ops.specs.declared.refusal.Refusal.TheVariants.{Badarg, SystemLimit, Memory}
-use Rattle.table_ops.specs.Refusals.{Change, Comes}
+use Rattle.table_ops.specs.Refusals.{Change, Refines}
 use Rattle.table_ops.specs.Outcomes.{Outcome, gives}
-use Rattle.fixed_walk.specs.Fixed.{Fixed}
+use Rattle.fixed_walk.specs.TableState.{TableState}
 use Rattle.ownership.specs.World.{Table, Tables, table_at, resolve}
-use Rattle.ownership.proofs.Heads.{fixed-same}
+use Rattle.ownership.proofs.MetadataLaws.{fixed-same}
 use Rattle.node_core.specs.declared.node.access.Access.{Access}
 use Rattle.node_core.specs.declared.step.Reply.{Reply}
 use Rattle.node_core.specs.declared.step.Reply.TheVariants as told
@@ -28,7 +28,7 @@ allowed_at false t table found e = cc
 
 there_at : (tables : Tables) (access : Access) (p t : ℕ) (o : Option Table) (found : ℕ × Table) → table_at tables t ≡ o → option_and_then (allowed access p t) o ≡ Some found → IsThere tables found
 there_at tables access p t None found at e = cc
-there_at tables access p t (Some table) found at e = subst (IsThere tables) (allowed_at (may access table.head p) t table found e) (record { at = at })
+there_at tables access p t (Some table) found at e = subst (IsThere tables) (allowed_at (may access table.metadata p) t table found e) (record { at = at })
 
 resolved_at : (tables : Tables) (access : Access) (p : ℕ) (o : Option ℕ) (found : ℕ × Table) → option_and_then (λ t. option_and_then (allowed access p t) (table_at tables t)) o ≡ Some found → IsThere tables found
 resolved_at tables access p None found e = cc
@@ -37,13 +37,13 @@ resolved_at tables access p (Some t) found e = there_at tables access p t (table
 pub usable-there : (tables : Tables) (access : Access) (p : ℕ) (term : Term) (found : ℕ × Table) → usable access tables p term ≡ Some found → IsThere tables found
 usable-there tables access p term found e = resolved_at tables access p (resolve tables term) found e
 
-module _ (old : State) (p : ℕ) (access : Access) (term : Term) (was f : Fixed) where
+module _ (old : State) (p : ℕ) (access : Access) (term : Term) (was f : TableState) where
   abbrev after : Option (ℕ × Table) → State
   after o = option_map_or (λ found. with_table old found.0 f) o old
 
   -- what `changes` says of the table that is found
   abbrev Found : Rule → Option (ℕ × Table) → Outcome Reply State
-  Found rule o reply new = MatchOption o (gives told.Badarg old reply new) (λ found. (fixed : Fixed) × rule found.1.fixed reply fixed × (new ≡ with_table old found.0 fixed))
+  Found rule o reply new = MatchOption o (gives told.Badarg old reply new) (λ found. (fixed : TableState) × rule found.1.fixed reply fixed × (new ≡ with_table old found.0 fixed))
 
   changed_at : (rule : Rule) (reply : Reply) (o : Option (ℕ × Table)) → Some was ≡ option_map (λ found. found.1.fixed) o → rule was reply f → Found rule o reply (after o)
   changed_at rule reply None e h = cc
@@ -65,11 +65,11 @@ module _ (old : State) (p : ℕ) (access : Access) (term : Term) (was f : Fixed)
     unchanged same = same_at (usable access old.world.tables p term) refl there same
 
     -- the change is done, and so is the call
-    pub changed-ok : {X : Type 0} (answer : X → Reply) (change : Fixed → Change X Fixed) (x : X) → change was (Ok x) f → changes old p access term (replies answer change) (answer x) (with_usable old access p term f)
+    pub changed-ok : {X : Type 0} (answer : X → Reply) (change : TableState → Change X TableState) (x : X) → change was (Ok x) f → changes old p access term (replies answer change) (answer x) (with_usable old access p term f)
     changed-ok answer change x h = changed (replies answer change) (answer x) (Ok x, h, refl)
 
     -- the change is refused, and so is the call
-    pub changed-err : {X : Type 0} (answer : X → Reply) (change : Fixed → Change X Fixed) (refusal : Refusal) → Comes (change was) was (Err refusal) f
+    pub changed-err : {X : Type 0} (answer : X → Reply) (change : TableState → Change X TableState) (refusal : Refusal) → Refines (change was) was (Err refusal) f
         → called.Comes (changes old p access term (replies answer change)) old (Err refusal) (with_usable old access p term f)
     changed-err answer change Badarg h = changed (replies answer change) told.Badarg (Err Badarg, h, refl)
     changed-err answer change SystemLimit h = changed (replies answer change) told.SystemLimit (Err SystemLimit, h, refl)

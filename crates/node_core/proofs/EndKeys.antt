@@ -10,7 +10,7 @@ use Rattle.counters.specs.declared.elements.ElementSpecs.{ElementSpecs}
 use Rattle.counters.specs.declared.ops.Ops.{Ops}
 use Rattle.table_ops.specs.declared.refusal.Refusal.{Refusal}
 use Rattle.table_ops.specs.Content.{Content}
-use Rattle.table_ops.specs.Drop.{Which, left, dropped}
+use Rattle.table_ops.specs.Drop.{Which, remaining, after_drop}
 use Rattle.table_ops.specs.Put.{Inserts, InsertsNew}
 use Rattle.table_ops.specs.Update.{UpdatesCounter, UpdatesElement}
 use Rattle.fixed_walk.proofs.ChangeLaws.{Keeping, is_end, unchanged, inserts-keep, news-keep, counter-keeps, element-keeps}
@@ -25,9 +25,9 @@ one_fewer : (b : Bool) (s new : Slot) (rest : List Slot) → new.0 ≡ s.0 → i
 one_fewer true s new rest e own free = (ap is_end e ∙ own, free)
 one_fewer false s new rest e own free = free
 
-pub dropped-free : (hold : Bool) (which : Which) (slots : List Slot) → StaysFree slots (dropped hold which slots)
+pub dropped-free : (hold : Bool) (which : Which) (slots : List Slot) → StaysFree slots (after_drop hold which slots)
 dropped-free hold which [] free = tt
-dropped-free hold which (s ∷ ss) free = one_fewer (hold || has_objects (left which s) || not (has_objects s.1)) s (s.0, left which s) (dropped hold which ss) refl free.0 (dropped-free hold which ss free.1)
+dropped-free hold which (s ∷ ss) free = one_fewer (hold || has_objects (remaining which s) || not (has_objects s.1)) s (s.0, remaining which s) (after_drop hold which ss) refl free.0 (dropped-free hold which ss free.1)
 
 pub purged-free : (slots : List Slot) → StaysFree slots (purged slots)
 purged-free [] free = tt

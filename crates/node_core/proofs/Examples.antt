@@ -9,7 +9,7 @@ use Rattle.ets_term.specs.Depth.{is_too_deep}
 use Rattle.ets_term.specs.laws.Same.{same-refl}
 use Rattle.fixed_walk.specs.Walk.{first_key, next_key}
 use Rattle.table_ops.specs.declared.kind.Kind.TheVariants.{Set}
-use Rattle.ownership.specs.declared.head.Protection.TheVariants.{Public}
+use Rattle.ownership.specs.declared.metadata.Protection.TheVariants.{Public}
 use Rattle.node_core.specs.declared.step.Reply.TheVariants.{Value, Badarg}
 use Rattle.node_core.specs.declared.step.Step.{Step}
 use Rattle.node_core.specs.declared.step.Step.TheVariants.{Ask}
@@ -30,7 +30,7 @@ old = record {
     most_tables = 1;
     processes = (7, record { lives = true; mailbox = [] }) ∷ [];
     tables = Some (record {
-      head = record { name = codes "t"; named = false; owner = 7; heir = None; protection = Public };
+      metadata = record { name = codes "t"; named = false; owner = 7; heir = None; protection = Public };
       fixed = record { content = record { kind = Set; keypos = 1; limit = 1; slots = (one, Tuple (one ∷ []) ∷ []) ∷ [] }; buckets = []; fixes = map.empty };
     }) ∷ [];
   };

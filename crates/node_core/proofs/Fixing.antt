@@ -3,7 +3,7 @@ use Rattle.std.proofs.Common.{◌≡◌, ℕ, Some, refl}
 use Rattle.std.specs.Prelude.{option_map, Ok, Err}
 use Rattle.ets_term.specs.declared.term.Term.{Term}
 use Rattle.fixed_walk.specs.declared.fault.FixFault.TheVariants as fault
-use Rattle.fixed_walk.specs.Fixed.{Fixed, FixesOnce}
+use Rattle.fixed_walk.specs.TableState.{TableState, IncrementsFix}
 use Rattle.node_core.specs.declared.node.access.Access.TheVariants.{Read}
 use Rattle.node_core.specs.declared.step.Reply.TheVariants.{SystemLimit}
 use Rattle.node_core.specs.State.{State}
@@ -13,18 +13,18 @@ use Rattle.node_core.specs.rules.Walking.{Fixes}
 use Rattle.node_core.specs.inside.Lending.{with_usable}
 use Rattle.node_core.proofs.Changes.{changed, unchanged}
 
-module _ (old : State) (p : ℕ) (term : Term) (was f : Fixed) (there : Some was ≡ option_map (λ found. found.1.fixed) (usable Read old.world.tables p term)) where
+module _ (old : State) (p : ℕ) (term : Term) (was f : TableState) (there : Some was ≡ option_map (λ found. found.1.fixed) (usable Read old.world.tables p term)) where
   abbrev after : State
   after = with_usable old Read p term f
 
   -- the process has the fix
-  pub fixed : FixesOnce p was (Ok tt) f → changes old p Read term (Fixes p) true_reply after
+  pub fixed : IncrementsFix p was (Ok tt) f → changes old p Read term (Fixes p) true_reply after
   fixed h = changed old p Read term was f there (Fixes p) true_reply (Ok tt, h, refl)
 
   -- it has as many as there can be
-  pub most-fixes : FixesOnce p was (Err fault.SystemLimit) f → changes old p Read term (Fixes p) SystemLimit after
+  pub most-fixes : IncrementsFix p was (Err fault.SystemLimit) f → changes old p Read term (Fixes p) SystemLimit after
   most-fixes h = changed old p Read term was f there (Fixes p) SystemLimit (Err fault.SystemLimit, h, refl)
 
   -- there is no memory for it
-  pub not-fixed : FixesOnce p was (Err fault.Memory) f → after ≡ old
+  pub not-fixed : IncrementsFix p was (Err fault.Memory) f → after ≡ old
   not-fixed h = unchanged old p Read term was f there h.1

@@ -2,18 +2,18 @@
 use Rattle.std.proofs.Common.{◌≡◌, ℕ, Option, None, Some, refl, ap, subst, ◌∙◌}
 use Rattle.std.specs.Prelude.{MatchOption, option_map}
 use Rattle.table_ops.specs.Outcomes.{Outcome, gives}
-use Rattle.fixed_walk.specs.Fixed.{Fixed}
+use Rattle.fixed_walk.specs.TableState.{TableState}
 use Rattle.ownership.specs.World.{Table, table_at}
-use Rattle.ownership.proofs.Heads.{fixed-same}
+use Rattle.ownership.proofs.MetadataLaws.{fixed-same}
 use Rattle.node_core.specs.declared.step.Reply.{Reply}
 use Rattle.node_core.specs.declared.step.Reply.TheVariants.{Badarg}
 use Rattle.node_core.specs.State.{State}
 use Rattle.node_core.specs.Access.{Rule, with_table}
 use Rattle.node_core.specs.rules.Growth.{in_table}
 
-module _ (old : State) (t : ℕ) (was f : Fixed) where
+module _ (old : State) (t : ℕ) (was f : TableState) where
   abbrev Found : Rule → Option Table → Outcome Reply State
-  Found rule o reply new = MatchOption o (gives Badarg old reply new) (λ table. (fixed : Fixed) × rule table.fixed reply fixed × (new ≡ with_table old t fixed))
+  Found rule o reply new = MatchOption o (gives Badarg old reply new) (λ table. (fixed : TableState) × rule table.fixed reply fixed × (new ≡ with_table old t fixed))
 
   found_at : (rule : Rule) (reply : Reply) (o : Option Table) → Some was ≡ option_map (λ table. table.fixed) o → rule was reply f → Found rule o reply (with_table old t f)
   found_at rule reply None e h = cc

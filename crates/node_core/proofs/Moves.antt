@@ -4,9 +4,9 @@ use Rattle.std.proofs.Common.{◌≡◌, ℕ, zero, suc, ◌≤◌, ◌⊎◌, i
 use Rattle.std.specs.Prelude.{MatchOption, slice_set}
 use Rattle.std.proofs.Math.ListN.{length-set}
 use Rattle.std.proofs.lemmas.List.{length-map}
-use Rattle.fixed_walk.specs.Fixed.{Fixed}
+use Rattle.fixed_walk.specs.TableState.{TableState}
 use Rattle.ownership.specs.World.{Table, Tables, World, table_at, whereis, with_fixed, fixed_in}
-use Rattle.ownership.specs.Tables.{changed}
+use Rattle.ownership.specs.Tables.{with_changed}
 use Rattle.node_core.specs.rules.Tables.{IsFresh}
 use Rattle.node_core.proofs.Tame.{IsTame, tame-same}
 
@@ -15,7 +15,7 @@ pub record Enters (old : Tables) (t : ℕ) (table : Table) : Type 0 where
   pub place : t ≡ length old
   pub bare : table.fixed.content.slots ≡ []
   pub fresh : IsFresh table.fixed.buckets
-  pub free : table.head.named ≡ true → whereis old table.head.name ≡ None
+  pub free : table.metadata.named ≡ true → whereis old table.metadata.name ≡ None
 
 -- ---- where tables are found after one place is written, one is added, or all are mapped
 pub set-at : (ts : Tables) (place t : ℕ) (o : Option Table) (table : Table)
@@ -54,8 +54,8 @@ map-at change none (x ∷ xs) (suc t) table at = map-at change none xs t table a
 -- ---- these are the processes that do the step
 module _ (own : ℕ → Bool) where
   pub record Stays (was table : Table) : Type 0 where
-    pub name : table.head.name ≡ was.head.name
-    pub named : table.head.named ≡ was.head.named
+    pub name : table.metadata.name ≡ was.metadata.name
+    pub named : table.metadata.named ≡ was.metadata.named
     pub fixed : IsTame own was.fixed table.fixed
 
   abbrev pub Came : Tables → ℕ → Option Table → Table → Type 0
@@ -100,14 +100,14 @@ module _ (own : ℕ → Bool) where
     pub follows-gone : (place : ℕ) → Follows ts (slice_set ts place None)
     follows-gone place = follows-set place None (λ table e. cc)
 
-    fixed-written : (before : Option Table) (f : Fixed) → ((was : Table) → before ≡ Some was → IsTame own was.fixed f)
+    fixed-written : (before : Option Table) (f : TableState) → ((was : Table) → before ≡ Some was → IsTame own was.fixed f)
         → Written before (fixed_in before f)
     fixed-written None f tame table e = cc
     fixed-written (Some was) f tame table e =
         let is : record was { fixed = f } ≡ table = cc in
         (was, refl, subst (Stays was) is (record { name = refl; named = refl; fixed = tame was refl }))
 
-    pub follows-fixed : (place : ℕ) (f : Fixed)
+    pub follows-fixed : (place : ℕ) (f : TableState)
         → ((was : Table) → table_at ts place ≡ Some was → IsTame own was.fixed f) → Follows ts (with_fixed ts place f)
     follows-fixed place f tame =
         follows-set place (fixed_in (table_at ts place) f) (fixed-written (table_at ts place) f tame)
@@ -119,12 +119,12 @@ module _ (own : ℕ → Bool) where
         let is : change was ≡ table = cc in (was, refl, subst (Stays was) is (stays was))
 
     pub follows-changed : (change : Table → Table) → ((table : Table) → Stays table (change table)) → (place : ℕ)
-        → Follows ts (changed change ts place)
+        → Follows ts (with_changed change ts place)
     follows-changed change stays place =
         follows-set place (option_map change (table_at ts place)) (change-written change stays (table_at ts place))
 
     pub follows-push : (new : Table) → new.fixed.content.slots ≡ [] → IsFresh new.fixed.buckets
-        → (new.head.named ≡ true → whereis ts new.head.name ≡ None) → Follows ts (ts ++ Some new ∷ [])
+        → (new.metadata.named ≡ true → whereis ts new.metadata.name ≡ None) → Follows ts (ts ++ Some new ∷ [])
     follows-push new bare fresh free =
         record { long = let e = length-append ts (Some new ∷ []) in omega (arith, e); came = λ t table at. by t table (push-at ts t new table at) }
       where

@@ -19,14 +19,14 @@ use Rattle.table_ops.specs.declared.kind.Kind.{Kind}
 use Rattle.table_ops.specs.Content.{IsContent, IsSlot, AreSlots}
 use Rattle.table_ops.proofs.TupleLaws.{fit-of}
 use Rattle.table_ops.specs.Outcomes.{gives}
-use Rattle.fixed_walk.specs.Fixes.{most_fixes, fix_count, with_count}
-use Rattle.fixed_walk.specs.Fixed.{Fixed, FixesOnce, released}
+use Rattle.fixed_walk.specs.Fixes.{max_fixes, fix_count, with_count}
+use Rattle.fixed_walk.specs.TableState.{TableState, IncrementsFix, after_release}
 use Rattle.fixed_walk.specs.declared.fault.FixFault.TheVariants as fixing
 use Rattle.fixed_walk.specs.Walk.{first_key, next_key}
-use Rattle.fixed_walk.specs.laws.Walks.{key_told}
-use Rattle.ownership.specs.Heads.{may, may_read}
+use Rattle.fixed_walk.specs.laws.Walks.{walk_answer}
+use Rattle.ownership.specs.Access.{may, may_read}
 use Rattle.ownership.specs.World.{Table, Tables, table_at, lives, fixed_in}
-use Rattle.ownership.proofs.Heads.{fixed-same}
+use Rattle.ownership.proofs.MetadataLaws.{fixed-same}
 use Rattle.node_core.specs.declared.node.access.Access.TheVariants.{Read}
 use Rattle.node_core.specs.declared.step.Reply.{Reply}
 use Rattle.node_core.specs.declared.step.Reply.TheVariants.{Badarg, SystemLimit, NoProcess}
@@ -119,7 +119,7 @@ module _ (kind : Kind) (keypos : ℕ) where
   next-found [] c k are e = cc
   next-found (s ∷ ss) c k are e = behind-by (same c s.0) s ss c k are.1 (next-found ss c k are.1) e
 
-  told-found : (asked : Option Term) (ss : List Slot) (k : Term) → AreSlots kind keypos ss → key_told asked ss ≡ Some (Some k) → IsGood k × HasSlot ss k
+  told-found : (asked : Option Term) (ss : List Slot) (k : Term) → AreSlots kind keypos ss → walk_answer asked ss ≡ Some (Some k) → IsGood k × HasSlot ss k
   told-found None ss k are e = let is : first_key ss ≡ Some k = cc in first-found ss k are is
   told-found (Some c) ss k are e = next-found ss c k are e
 
@@ -143,12 +143,12 @@ both-true true false e = absurd (true≢false (sym e))
 both-true false b e = absurd (true≢false (sym e))
 
 module _ (p t : ℕ) where
-  may-seen : (o : Option Table) → option_map_or (λ table. may_read table.head p) (option_map seen_table o) false ≡ option_map_or (λ table. may_read table.head p) o false
+  may-seen : (o : Option Table) → option_map_or (λ table. may_read table.metadata p) (option_map seen_table o) false ≡ option_map_or (λ table. may_read table.metadata p) o false
   may-seen None = refl
   may-seen (Some table) = refl
 
   pub can_read-seen : (s : State) → can_read p t (seen s) ≡ can_read p t s
-  can_read-seen s = ap (λ b. lives s.world.processes p && b) (ap (λ o. option_map_or (λ table. may_read table.head p) o false) (at-seen s.world.tables t) ∙ may-seen (table_at s.world.tables t))
+  can_read-seen s = ap (λ b. lives s.world.processes p && b) (ap (λ o. option_map_or (λ table. may_read table.metadata p) o false) (at-seen s.world.tables t) ∙ may-seen (table_at s.world.tables t))
 
   count-seen : (o : Option Table) → option_map_or (λ table. fix_count table.fixed.fixes p) (option_map seen_table o) 0 ≡ option_map_or (λ table. fix_count table.fixed.fixes p) o 0
   count-seen None = refl
@@ -183,7 +183,7 @@ module _ (p t : ℕ) where
   shallow-two : (x : Term) → is_too_deep x ≡ false → list_any is_too_deep (Tid t ∷ x ∷ []) ≡ false
   shallow-two x h = or-false (is_too_deep (Tid t)) (is_too_deep x || false) shallow-tid (or-false (is_too_deep x) false h refl)
 
-  module _ (s : State) (table : Table) (at : table_at s.world.tables t ≡ Some table) (living : lives s.world.processes p ≡ true) (readable : may_read table.head p ≡ true) where
+  module _ (s : State) (table : Table) (at : table_at s.world.tables t ≡ Some table) (living : lives s.world.processes p ≡ true) (readable : may_read table.metadata p ≡ true) where
     usable-own : usable Read s.world.tables p (Tid t) ≡ Some (t, table)
     unfolding out-Term denote.Hole.Carrier.out
     usable-own =
@@ -198,18 +198,18 @@ module _ (p t : ℕ) where
     abbrev slots : List Slot
     slots = table.fixed.content.slots
 
-    first-done : (found : Option Term) → key_told None slots ≡ Some found → step s (first p t) (key_reply found) s
+    first-done : (found : Option Term) → walk_answer None slots ≡ Some found → step s (first p t) (key_reply found) s
     first-done found e =
         let is : first_key slots ≡ found = cc in
         asked-done (codes "first") (Tid t ∷ []) (key_reply found) s shallow-one
         (subst (λ o. MatchOption o (gives Badarg s (key_reply found) s) (λ found2. gives (First found2.1.fixed) s (key_reply found) s)) (sym usable-own) (ap key_reply (sym is), refl))
 
-    next-done : (key : Term) (found : Option Term) → is_too_deep key ≡ false → key_told (Some key) slots ≡ Some found → step s (next p t key) (key_reply found) s
+    next-done : (key : Term) (found : Option Term) → is_too_deep key ≡ false → walk_answer (Some key) slots ≡ Some found → step s (next p t key) (key_reply found) s
     next-done key found shallow e =
         asked-done (codes "next") (Tid t ∷ key ∷ []) (key_reply found) s (shallow-two key shallow)
         (subst (λ o. MatchOption o (gives Badarg s (key_reply found) s) (λ found2. gives (Next key found2.1.fixed) s (key_reply found) s)) (sym usable-own) (sym (ap (λ o. option_map_or key_reply o Badarg) e), refl))
 
-    call-done : (asked found : Option Term) → MatchOption asked (Unit {0}) (λ key. is_too_deep key ≡ false) → key_told asked slots ≡ Some found → step s (call_of p t asked) (key_reply found) s
+    call-done : (asked found : Option Term) → MatchOption asked (Unit {0}) (λ key. is_too_deep key ≡ false) → walk_answer asked slots ≡ Some found → step s (call_of p t asked) (key_reply found) s
     call-done None found shallow e = first-done found e
     call-done (Some key) found shallow e = next-done key found shallow e
 
@@ -225,17 +225,17 @@ module _ (p t : ℕ) where
     unfolding out-Term denote.Hole.Carrier.out
     false-atom = refl
 
-    changed : (rule : Rule) (f : Fixed) → rule table.fixed true_reply f → changes s p Read (Tid t) rule true_reply (with_table s t f)
-    changed rule f h = subst (λ o. MatchOption o (gives Badarg s true_reply (with_table s t f)) (λ found. (fixed : Fixed) × rule found.1.fixed true_reply fixed × (with_table s t f ≡ with_table s found.0 fixed))) (sym usable-own) (f, h, refl)
+    changed : (rule : Rule) (f : TableState) → rule table.fixed true_reply f → changes s p Read (Tid t) rule true_reply (with_table s t f)
+    changed rule f h = subst (λ o. MatchOption o (gives Badarg s true_reply (with_table s t f)) (λ found. (fixed : TableState) × rule found.1.fixed true_reply fixed × (with_table s t f ≡ with_table s found.0 fixed))) (sym usable-own) (f, h, refl)
 
-    fix-done : (f : Fixed) → FixesOnce p table.fixed (Ok tt) f → step s (fix p t) true_reply (with_table s t f)
+    fix-done : (f : TableState) → IncrementsFix p table.fixed (Ok tt) f → step s (fix p t) true_reply (with_table s t f)
     fix-done f h =
         asked-done (codes "safe_fixtable") (Tid t ∷ Atom (codes "true") ∷ []) true_reply (with_table s t f) (shallow-two (Atom (codes "true")) (shallow-atom (codes "true")))
         (subst (λ (b : Bool). MatchBool b (changes s p Read (Tid t) (Fixes p) true_reply (with_table s t f)) (
         MatchBool (is_atom (codes "false") (Atom (codes "true"))) (changes s p Read (Tid t) (Releases p) true_reply (with_table s t f)) (gives Badarg s true_reply (with_table s t f)))) (sym true-atom)
         (changed (Fixes p) f (Ok tt, h, refl)))
 
-    release-done : (f : Fixed) → f ≡ released p table.fixed → step s (release p t) true_reply (with_table s t f)
+    release-done : (f : TableState) → f ≡ after_release p table.fixed → step s (release p t) true_reply (with_table s t f)
     release-done f h =
         asked-done (codes "safe_fixtable") (Tid t ∷ Atom (codes "false") ∷ []) true_reply (with_table s t f) (shallow-two (Atom (codes "false")) (shallow-atom (codes "false")))
         (subst (λ (b : Bool). MatchBool b (changes s p Read (Tid t) (Fixes p) true_reply (with_table s t f)) (
@@ -249,7 +249,7 @@ module _ (p t : ℕ) where
   set-here (x ∷ xs) zero o table e = refl
   set-here (x ∷ xs) (suc u) o table e = set-here xs u o table e
 
-  count-after : (s : State) (f : Fixed) (table : Table) → table_at s.world.tables t ≡ Some table → fixes_in p t (seen (with_table s t f)) ≡ fix_count f.fixes p
+  count-after : (s : State) (f : TableState) (table : Table) → table_at s.world.tables t ≡ Some table → fixes_in p t (seen (with_table s t f)) ≡ fix_count f.fixes p
   count-after s f table at =
       fixes-seen (with_table s t f)
       ∙ (ap (λ o. option_map_or (λ table. fix_count table.fixed.fixes p) o 0) (set-here s.world.tables t (fixed_in (table_at s.world.tables t) f) table at)
@@ -259,23 +259,23 @@ module _ (p t : ℕ) where
   count-before s table at = fixes-seen s ∙ ap (λ o. option_map_or (λ table. fix_count table.fixed.fixes p) o 0) at
 
   -- the table that was lent, and what is known of it
-  record Lent (s : State) (was : Fixed) : Type 0 where
+  record Lent (s : State) (was : TableState) : Type 0 where
     table : Table
     at : table_at s.world.tables t ≡ Some table
     is : was ≡ table.fixed
     living : lives s.world.processes p ≡ true
-    readable : may_read table.head p ≡ true
+    readable : may_read table.metadata p ≡ true
 
-  lent-at : (s : State) (was : Fixed) (o : Option Table) → table_at s.world.tables t ≡ o → Some was ≡ option_map (λ table. table.fixed) o → lives s.world.processes p ≡ true → option_map_or (λ table. may_read table.head p) o false ≡ true → Lent s was
+  lent-at : (s : State) (was : TableState) (o : Option Table) → table_at s.world.tables t ≡ o → Some was ≡ option_map (λ table. table.fixed) o → lives s.world.processes p ≡ true → option_map_or (λ table. may_read table.metadata p) o false ≡ true → Lent s was
   lent-at s was None at e living readable = absurd (cc)
   lent-at s was (Some table) at e living readable = record { table = table; at = at; is = cc; living = living; readable = readable }
 
-  lent : (s : State) (was : Fixed) → Some was ≡ option_map (λ table. table.fixed) (table_at s.world.tables t) → can_read p t s ≡ true → Lent s was
+  lent : (s : State) (was : TableState) → Some was ≡ option_map (λ table. table.fixed) (table_at s.world.tables t) → can_read p t s ≡ true → Lent s was
   lent s was e h =
       let parts = both-true (lives s.world.processes p) (may may_read s.world.tables p t) h in
       lent-at s was (table_at s.world.tables t) refl e parts.0 parts.1
 
-  not-lent-at : (o : Option Table) → option_map (λ table. table.fixed) o ≡ None → option_map_or (λ table. may_read table.head p) o false ≡ false
+  not-lent-at : (o : Option Table) → option_map (λ table. table.fixed) o ≡ None → option_map_or (λ table. may_read table.metadata p) o false ≡ false
   not-lent-at None e = refl
   not-lent-at (Some table) e = absurd (cc)
 
@@ -287,56 +287,56 @@ module _ (p t : ℕ) where
   pub not-lent : (s : State) → None ≡ option_map (λ table. table.fixed) (table_at s.world.tables t) → can_read p t s ≡ false
   not-lent s e = and-false (lives s.world.processes p) (may may_read s.world.tables p t) (not-lent-at (table_at s.world.tables t) (sym e))
 
-  same-after : (s : State) (f : Fixed) (table : Table) → table_at s.world.tables t ≡ Some table → f ≡ table.fixed → with_table s t f ≡ s
+  same-after : (s : State) (f : TableState) (table : Table) → table_at s.world.tables t ≡ Some table → f ≡ table.fixed → with_table s t f ≡ s
   same-after s f table at e =
       ap (λ g. with_table s t g) e ∙ ap (λ ts. record s { world = record s.world { tables = ts } }) (fixed-same s.world.tables t table at)
 
-  module _ (s : State) (was f : Fixed) (there : Some was ≡ option_map (λ table. table.fixed) (table_at s.world.tables t)) (can : can_read p t s ≡ true) where
-    pub held : FixesOnce p was (Ok tt) f → Holds p t (seen s) (Ok tt) (seen (with_table s t f))
+  module _ (s : State) (was f : TableState) (there : Some was ≡ option_map (λ table. table.fixed) (table_at s.world.tables t)) (can : can_read p t s ≡ true) where
+    pub held : IncrementsFix p was (Ok tt) f → Holds p t (seen s) (Ok tt) (seen (with_table s t f))
     held h =
         let l = lent s was there can in
-        let once : FixesOnce p l.table.fixed (Ok tt) f = subst (λ g. FixesOnce p g (Ok tt) f) l.is h in (
+        let once : IncrementsFix p l.table.fixed (Ok tt) f = subst (λ g. IncrementsFix p g (Ok tt) f) l.is h in (
           done-seen s (with_table s t f) (fix p t) true_reply (fix-done s l.table l.at l.living l.readable f once),
-          count-after s f l.table l.at ∙ (ap (λ (g : Fixed). fix_count g.fixes p) once.1 ∙ (own-count l.table.fixed.fixes p (fix_count l.table.fixed.fixes p + 1) ∙ (more (fix_count l.table.fixed.fixes p) ∙ ap suc (sym (count-before s l.table l.at))))),
+          count-after s f l.table l.at ∙ (ap (λ (g : TableState). fix_count g.fixes p) once.1 ∙ (own-count l.table.fixed.fixes p (fix_count l.table.fixed.fixes p + 1) ∙ (more (fix_count l.table.fixed.fixes p) ∙ ap suc (sym (count-before s l.table l.at))))),
         )
       where
         more : (n : ℕ) → n + 1 ≡ suc n
         more n = omega arith
 
-    pub held-most : FixesOnce p was (Err fixing.SystemLimit) f → Holds p t (seen s) (Err fault.SystemLimit) (seen (with_table s t f))
+    pub held-most : IncrementsFix p was (Err fixing.SystemLimit) f → Holds p t (seen s) (Err fault.SystemLimit) (seen (with_table s t f))
     held-most h =
         let l = lent s was there can in
-        (can_read-seen s ∙ can, count-before s l.table l.at ∙ (ap (λ (g : Fixed). fix_count g.fixes p) (sym l.is) ∙ h.0), ap seen (same-after s f l.table l.at (h.1 ∙ l.is)))
+        (can_read-seen s ∙ can, count-before s l.table l.at ∙ (ap (λ (g : TableState). fix_count g.fixes p) (sym l.is) ∙ h.0), ap seen (same-after s f l.table l.at (h.1 ∙ l.is)))
 
-    pub held-not : FixesOnce p was (Err fixing.Memory) f → Holds p t (seen s) (Err fault.Memory) (seen (with_table s t f))
+    pub held-not : IncrementsFix p was (Err fixing.Memory) f → Holds p t (seen s) (Err fault.Memory) (seen (with_table s t f))
     held-not h =
         let l = lent s was there can in
-        let few : fixes_in p t (seen s) < most_fixes = subst (λ n. n < most_fixes) (sym (count-before s l.table l.at ∙ ap (λ (g : Fixed). fix_count g.fixes p) (sym l.is))) h.0 in
+        let few : fixes_in p t (seen s) < max_fixes = subst (λ n. n < max_fixes) (sym (count-before s l.table l.at ∙ ap (λ (g : TableState). fix_count g.fixes p) (sym l.is))) h.0 in
         (can_read-seen s ∙ can, few, ap seen (same-after s f l.table l.at (h.1 ∙ l.is)))
 
-    pub held-buckets : FixesOnce p was (Ok tt) f → step_on_buckets s (fix p t) true_reply (with_table s t f)
+    pub held-buckets : IncrementsFix p was (Ok tt) f → step_on_buckets s (fix p t) true_reply (with_table s t f)
     held-buckets h =
         let l = lent s was there can in
-        let once : FixesOnce p l.table.fixed (Ok tt) f = subst (λ g. FixesOnce p g (Ok tt) f) l.is h in
+        let once : IncrementsFix p l.table.fixed (Ok tt) f = subst (λ g. IncrementsFix p g (Ok tt) f) l.is h in
         done-buckets s (with_table s t f) (fix p t) true_reply (fix-done s l.table l.at l.living l.readable f once)
 
     pub held-same : f ≡ was → with_table s t f ≡ s
     held-same same = let l = lent s was there can in same-after s f l.table l.at (same ∙ l.is)
 
-    pub let-go-buckets : f ≡ released p was → step_on_buckets s (release p t) true_reply (with_table s t f)
+    pub let-go-buckets : f ≡ after_release p was → step_on_buckets s (release p t) true_reply (with_table s t f)
     let-go-buckets h =
         let l = lent s was there can in
-        let once : f ≡ released p l.table.fixed = h ∙ ap (released p) l.is in
+        let once : f ≡ after_release p l.table.fixed = h ∙ ap (after_release p) l.is in
         done-buckets s (with_table s t f) (release p t) true_reply (release-done s l.table l.at l.living l.readable f once)
 
-    pub let-go : f ≡ released p was → LetsGo p t (seen s) true (seen (with_table s t f))
+    pub let-go : f ≡ after_release p was → LetsGo p t (seen s) true (seen (with_table s t f))
     let-go h =
         let l = lent s was there can in
-        let once : f ≡ released p l.table.fixed = h ∙ ap (released p) l.is in (
+        let once : f ≡ after_release p l.table.fixed = h ∙ ap (after_release p) l.is in (
           can_read-seen s ∙ can,
           done-seen s (with_table s t f) (release p t) true_reply (release-done s l.table l.at l.living l.readable f once),
           λ n e.
-              count-after s f l.table l.at ∙ (ap (λ (g : Fixed). fix_count g.fixes p) once
+              count-after s f l.table l.at ∙ (ap (λ (g : TableState). fix_count g.fixes p) once
               ∙ (ap (λ m. fix_count m p) (settled-fixes (record l.table.fixed { fixes = with_count l.table.fixed.fixes p (fix_count l.table.fixed.fixes p - 1) }))
               ∙ (own-count l.table.fixed.fixes p (fix_count l.table.fixed.fixes p - 1) ∙ less n (fix_count l.table.fixed.fixes p) (sym (count-before s l.table l.at) ∙ e)))),
         )
@@ -349,20 +349,20 @@ module _ (p t : ℕ) where
   can-shallow s None h = tt
   can-shallow s (Some key) h = h.shallow
 
-  module _ (s : State) (was : Fixed) (there : Some was ≡ option_map (λ table. table.fixed) (table_at s.world.tables t)) (can : can_read p t s ≡ true) (is : IsContent was.content) where
+  module _ (s : State) (was : TableState) (there : Some was ≡ option_map (λ table. table.fixed) (table_at s.world.tables t)) (can : can_read p t s ≡ true) (is : IsContent was.content) where
     lent-slots : was.content.slots ≡ slots_in t (seen s)
-    lent-slots = let l = lent s was there can in ap (λ (g : Fixed). g.content.slots) l.is ∙ (sym (ap (λ o. option_map_or (λ table. table.fixed.content.slots) o []) l.at) ∙ sym (slots-seen s))
+    lent-slots = let l = lent s was there can in ap (λ (g : TableState). g.content.slots) l.is ∙ (sym (ap (λ o. option_map_or (λ table. table.fixed.content.slots) o []) l.at) ∙ sym (slots-seen s))
 
-    goes-on : (asked found : Option Term) → key_told asked was.content.slots ≡ Some found → CanGoOn t (seen s) found
+    goes-on : (asked found : Option Term) → walk_answer asked was.content.slots ≡ Some found → CanGoOn t (seen s) found
     goes-on asked None e = tt
     goes-on asked (Some key) e =
         let good = told-found was.content.kind was.content.keypos asked was.content.slots key is.slots e in
         record { slot = λ here. subst (λ (ss : List Slot). HasSlot ss key) lent-slots good.1; shallow = good.0.0; no_end = good.0.1 }
 
-    pub finds : (asked found : Option Term) → CanGoOn t (seen s) asked → key_told asked was.content.slots ≡ Some found → Finds p t asked (seen s) (Ok found)
+    pub finds : (asked found : Option Term) → CanGoOn t (seen s) asked → walk_answer asked was.content.slots ≡ Some found → Finds p t asked (seen s) (Ok found)
     finds asked found can_go e =
         let l = lent s was there can in
-        let told : key_told asked l.table.fixed.content.slots ≡ Some found = subst (λ (g : Fixed). key_told asked g.content.slots ≡ Some found) l.is e in
+        let told : walk_answer asked l.table.fixed.content.slots ≡ Some found = subst (λ (g : TableState). walk_answer asked g.content.slots ≡ Some found) l.is e in
         (can_read-seen s ∙ can, call-seen asked found (call-done s l.table l.at l.living l.readable asked found (can-shallow (seen s) asked can_go) told), goes-on asked found e)
       where
         call-seen : (asked found : Option Term) → step s (call_of p t asked) (key_reply found) s → step (seen s) (call_of p t asked) (key_reply found) (seen s)

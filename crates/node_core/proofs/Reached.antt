@@ -5,9 +5,9 @@ use Rattle.std.specs.Str.{bytes_eq}
 use Rattle.std.proofs.lemmas.Slice.Eq.{bytes_eq-Decides}
 use Rattle.ets_term.specs.Order.{same}
 use Rattle.bucket_table.specs.Slots.{HasDistinctKeys}
-use Rattle.ownership.specs.World.{Table, Tables, table_at, head_of, heads, is_named, whereis}
-use Rattle.ownership.specs.inside.Names.{head_at}
-use Rattle.ownership.proofs.Heads.{head-there}
+use Rattle.ownership.specs.World.{Table, Tables, table_at, metadata_of, all_metadata, is_named, whereis}
+use Rattle.ownership.specs.inside.Names.{metadata_at}
+use Rattle.ownership.proofs.MetadataLaws.{head-there}
 use Rattle.ownership.proofs.Naming.{is_within}
 use Rattle.ownership.proofs.Places.{position-None}
 use Rattle.node_core.specs.declared.limits.Limits.{Limits}
@@ -54,26 +54,26 @@ ends-step old new s reply h d t table at = end-came (λ w. is_step_of w s) old.w
 
 -- ---- names
 abbrev HasDistinctNames : State → Type 0
-HasDistinctNames s = (t u : ℕ) (one other : Table) → table_at s.world.tables t ≡ Some one → table_at s.world.tables u ≡ Some other → one.head.named ≡ true → other.head.named ≡ true → one.head.name ≡ other.head.name → t ≡ u
+HasDistinctNames s = (t u : ℕ) (one other : Table) → table_at s.world.tables t ≡ Some one → table_at s.world.tables u ≡ Some other → one.metadata.named ≡ true → other.metadata.named ≡ true → one.metadata.name ≡ other.metadata.name → t ≡ u
 
 -- a name that no table has is not that of a named table
-none-named : (ts : Tables) (name : List ℕ) (u : ℕ) (was : Table) → whereis ts name ≡ None → table_at ts u ≡ Some was → was.head.named ≡ true → was.head.name ≡ name → ⊥
+none-named : (ts : Tables) (name : List ℕ) (u : ℕ) (was : Table) → whereis ts name ≡ None → table_at ts u ≡ Some was → was.metadata.named ≡ true → was.metadata.name ≡ name → ⊥
 none-named ts name u was none at named same =
-    let there : head_at (heads ts) u ≡ Some was.head = head-there ts u ∙ ap head_of at in
-    let within = is_within (heads ts) u was.head there in
-    let is : is_named name (head_at (heads ts) u) ≡ true = ap (is_named name) there ∙ (ap (λ b. b && bytes_eq name was.head.name) named ∙ (bytes_eq-Decides name was.head.name).1 (sym same)) in
-    true≢false (sym is ∙ position-None (is_named name) (heads ts) u None none within)
+    let there : metadata_at (all_metadata ts) u ≡ Some was.metadata = head-there ts u ∙ ap metadata_of at in
+    let within = is_within (all_metadata ts) u was.metadata there in
+    let is : is_named name (metadata_at (all_metadata ts) u) ≡ true = ap (is_named name) there ∙ (ap (λ b. b && bytes_eq name was.metadata.name) named ∙ (bytes_eq-Decides name was.metadata.name).1 (sym same)) in
+    true≢false (sym is ∙ position-None (is_named name) (all_metadata ts) u None none within)
 
 names-came : (own : ℕ → Bool) (ts : Tables) (t u : ℕ) (before other_before : Option Table) (one other : Table) → table_at ts t ≡ before → table_at ts u ≡ other_before → Came own ts t before one → Came own ts u other_before other
-    → ((was other_was : Table) → table_at ts t ≡ Some was → table_at ts u ≡ Some other_was → was.head.named ≡ true → other_was.head.named ≡ true → was.head.name ≡ other_was.head.name → t ≡ u)
-    → one.head.named ≡ true → other.head.named ≡ true → one.head.name ≡ other.head.name → t ≡ u
+    → ((was other_was : Table) → table_at ts t ≡ Some was → table_at ts u ≡ Some other_was → was.metadata.named ≡ true → other_was.metadata.named ≡ true → was.metadata.name ≡ other_was.metadata.name → t ≡ u)
+    → one.metadata.named ≡ true → other.metadata.named ≡ true → one.metadata.name ≡ other.metadata.name → t ≡ u
 names-came own ts t u (Some was) (Some other_was) one other at at' came came' distinct named named' same =
     distinct was other_was at at' (sym came.named ∙ named) (sym came'.named ∙ named') (sym came.name ∙ (same ∙ came'.name))
 names-came own ts t u None None one other at at' came came' distinct named named' same = came.place ∙ sym came'.place
 names-came own ts t u None (Some other_was) one other at at' came came' distinct named named' same =
-    absurd (none-named ts one.head.name u other_was (came.free named) at' (sym came'.named ∙ named') (sym came'.name ∙ sym same))
+    absurd (none-named ts one.metadata.name u other_was (came.free named) at' (sym came'.named ∙ named') (sym came'.name ∙ sym same))
 names-came own ts t u (Some was) None one other at at' came came' distinct named named' same =
-    absurd (none-named ts other.head.name t was (came'.free named') at (sym came.named ∙ named) (sym came.name ∙ same))
+    absurd (none-named ts other.metadata.name t was (came'.free named') at (sym came.named ∙ named) (sym came.name ∙ same))
 
 names-step : (old new : State) (s : Step) (reply : Reply) → step old s reply new → HasDistinctNames old → HasDistinctNames new
 names-step old new s reply h distinct t u one other at at' named named' same =

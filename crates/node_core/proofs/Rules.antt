@@ -10,8 +10,8 @@ use Rattle.counters.specs.Elements.{specs_of}
 use Rattle.table_ops.specs.declared.refusal.Refusal.{Refusal}
 use Rattle.table_ops.specs.declared.refusal.Refusal.TheVariants.{Badarg, SystemLimit, Memory}
 use Rattle.table_ops.specs.Content.{Content, key_of}
-use Rattle.table_ops.specs.Refusals.{Change, Comes}
-use Rattle.table_ops.specs.Drop.{Which, of_key, each, equal_to, without_those, DeletesObject}
+use Rattle.table_ops.specs.Refusals.{Change, Refines}
+use Rattle.table_ops.specs.Drop.{Which, has_key, every_object, equal_to, without_those, DeletesObject}
 use Rattle.table_ops.specs.Put.{Inserts, InsertsNew}
 use Rattle.table_ops.specs.Queries.{chosen_count, matches, is_chosen}
 use Rattle.table_ops.specs.Read.{all_objects}
@@ -20,8 +20,8 @@ use Rattle.table_ops.specs.Outcomes.{gives}
 use Rattle.fixed_walk.specs.declared.fault.FixFault.{FixFault}
 use Rattle.fixed_walk.specs.declared.fault.FixFault.TheVariants as fault
 use Rattle.fixed_walk.specs.Fixes.{is_fixed}
-use Rattle.fixed_walk.specs.Fixed.{Fixed, on_content, without}
-use Rattle.fixed_walk.specs.laws.Kept.{AlwaysKeeps}
+use Rattle.fixed_walk.specs.TableState.{TableState, on_content, after_delete}
+use Rattle.fixed_walk.specs.laws.Kept.{AlwaysKeepsKeys}
 use Rattle.fixed_walk.proofs.KeptLaws.{insert-keeps, insert_new-keeps, update_counter-keeps, update_element-keeps, delete_object-keeps}
 use Rattle.node_core.specs.declared.step.Reply.{Reply}
 use Rattle.node_core.specs.Seen.{seen_fixed}
@@ -38,14 +38,14 @@ use Rattle.node_core.proofs.Tame.{IsTame, tame-content, tame-same, tame-without,
 
 -- what is shown of each rule, where `needs` says that its reply may take memory
 pub record IsLawful (own : ℕ → Bool) (needs : Bool) (rule : Rule) : Type 0 where
-  pub unseen : (old new : Fixed) (reply : Reply) → rule old reply new → rule (seen_fixed old) reply (seen_fixed new)
-  pub tame : (old new : Fixed) (reply : Reply) → rule old reply new → IsTame own old new
-  pub flat : needs ≡ false → (old new : Fixed) (reply : Reply) → rule old reply new → is_flat reply ≡ true
+  pub unseen : (old new : TableState) (reply : Reply) → rule old reply new → rule (seen_fixed old) reply (seen_fixed new)
+  pub tame : (old new : TableState) (reply : Reply) → rule old reply new → IsTame own old new
+  pub flat : needs ≡ false → (old new : TableState) (reply : Reply) → rule old reply new → is_flat reply ≡ true
 
 -- and of each change
-record IsLawfulChange (own : ℕ → Bool) (X : Type 0) (change : Fixed → Change X Fixed) : Type 0 where
-  unseen : (old new : Fixed) (r : Result X Refusal) → change old r new → change (seen_fixed old) r (seen_fixed new)
-  tame : (old new : Fixed) (r : Result X Refusal) → Comes (change old) old r new → IsTame own old new
+record IsLawfulChange (own : ℕ → Bool) (X : Type 0) (change : TableState → Change X TableState) : Type 0 where
+  unseen : (old new : TableState) (r : Result X Refusal) → change old r new → change (seen_fixed old) r (seen_fixed new)
+  tame : (old new : TableState) (r : Result X Refusal) → Refines (change old) old r new → IsTame own old new
 
 -- a reply that needs memory is not one that takes none
 pub contrary : {X : Type 0} {needs : Bool} → needs ≡ true → needs ≡ false → X
@@ -79,7 +79,7 @@ fix-flat (Err fault.Memory) reply e = absurd e
 
 -- ---- a change of the content
 module _ {X : Type 0} (change : Content → Change X Content) where
-  content-unseen : (old new : Fixed) (r : Result X Refusal) → on_content change old r new
+  content-unseen : (old new : TableState) (r : Result X Refusal) → on_content change old r new
       → on_content change (seen_fixed old) r (seen_fixed new)
   content-unseen old new r h = (h.0, ap seen_fixed h.1)
 
@@ -88,8 +88,8 @@ module _ {X : Type 0} (change : Content → Change X Content) where
   NeverEnds = (old new : Content) (r : Result X Refusal) → change old r new → StaysFree old.slots new.slots
 
 module _ (own : ℕ → Bool) where
-  content-tame : {X : Type 0} (change : Content → Change X Content) → AlwaysKeeps (λ hold. change) → NeverEnds change
-      → (old new : Fixed) (r : Result X Refusal) → Comes (on_content change old) old r new → IsTame own old new
+  content-tame : {X : Type 0} (change : Content → Change X Content) → AlwaysKeepsKeys (λ hold. change) → NeverEnds change
+      → (old new : TableState) (r : Result X Refusal) → Refines (on_content change old) old r new → IsTame own old new
   content-tame change keeps never old new (Ok x) h =
       tame-content own old new h.1 (keeps old new (Ok x) h) (never old.content new.content (Ok x) h.0)
   content-tame change keeps never old new (Err Badarg) h =
@@ -98,40 +98,40 @@ module _ (own : ℕ → Bool) where
       tame-content own old new h.1 (keeps old new (Err SystemLimit) h) (never old.content new.content (Err SystemLimit) h.0)
   content-tame change keeps never old new (Err Memory) h = tame-same own old new h
 
-  on-content : {X : Type 0} (change : Content → Change X Content) → AlwaysKeeps (λ hold. change) → NeverEnds change
+  on-content : {X : Type 0} (change : Content → Change X Content) → AlwaysKeepsKeys (λ hold. change) → NeverEnds change
       → IsLawfulChange own X (on_content change)
   on-content change keeps never = record { unseen = content-unseen change; tame = content-tame change keeps never }
 
-  gave-tame : {X : Type 0} (answer : Result X Refusal) (after old new : Fixed) (r : Result X Refusal)
-      → IsTame own old after → Comes (gives answer after) old r new → IsTame own old new
+  gave-tame : {X : Type 0} (answer : Result X Refusal) (after old new : TableState) (r : Result X Refusal)
+      → IsTame own old after → Refines (gives answer after) old r new → IsTame own old new
   gave-tame answer after old new (Ok x) t h = subst (IsTame own old) (sym h.1) t
   gave-tame answer after old new (Err Badarg) t h = subst (IsTame own old) (sym h.1) t
   gave-tame answer after old new (Err SystemLimit) t h = subst (IsTame own old) (sym h.1) t
   gave-tame answer after old new (Err Memory) t h = tame-same own old new h
 
   -- what the argument says is done; badarg where it says nothing
-  module _ {X Y : Type 0} (change : Y → Fixed → Change X Fixed) (lawful : (y : Y) → IsLawfulChange own X (change y)) where
-    abbrev By : Option Y → Fixed → Change X Fixed
+  module _ {X Y : Type 0} (change : Y → TableState → Change X TableState) (lawful : (y : Y) → IsLawfulChange own X (change y)) where
+    abbrev By : Option Y → TableState → Change X TableState
     By o old r new = MatchOption o (gives (Err Badarg) old r new) (λ y. change y old r new)
 
-    by-unseen : (o : Option Y) (old new : Fixed) (r : Result X Refusal) → By o old r new
+    by-unseen : (o : Option Y) (old new : TableState) (r : Result X Refusal) → By o old r new
         → By o (seen_fixed old) r (seen_fixed new)
     by-unseen None old new r h = (h.0, ap seen_fixed h.1)
     by-unseen (Some y) old new r h = (lawful y).unseen old new r h
 
-    by-tame : (o : Option Y) (old new : Fixed) (r : Result X Refusal) → Comes (By o old) old r new → IsTame own old new
+    by-tame : (o : Option Y) (old new : TableState) (r : Result X Refusal) → Refines (By o old) old r new → IsTame own old new
     by-tame None old new r h = gave-tame (Err Badarg) old old new r (tame-same own old old refl) h
     by-tame (Some y) old new r h = (lawful y).tame old new r h
 
   module _ (needs : Bool) where
-    comes-of : {X : Type 0} (answer : X → Reply) (change : Change X Fixed) (old new : Fixed) (r : Result X Refusal) (reply : Reply)
-        → change r new → IsReply answer r reply → Comes change old r new
+    comes-of : {X : Type 0} (answer : X → Reply) (change : Change X TableState) (old new : TableState) (r : Result X Refusal) (reply : Reply)
+        → change r new → IsReply answer r reply → Refines change old r new
     comes-of answer change old new (Ok x) reply h e = h
     comes-of answer change old new (Err Badarg) reply h e = h
     comes-of answer change old new (Err SystemLimit) reply h e = h
     comes-of answer change old new (Err Memory) reply h e = absurd e
 
-    replied : {X : Type 0} (answer : X → Reply) (change : Fixed → Change X Fixed)
+    replied : {X : Type 0} (answer : X → Reply) (change : TableState → Change X TableState)
         → (needs ≡ false → (x : X) → is_flat (answer x) ≡ true) → IsLawfulChange own X change
         → IsLawful own needs (replies answer change)
     replied answer change flat lawful = record {
@@ -153,9 +153,9 @@ module _ (own : ℕ → Bool) where
 
     -- ---- removal
     -- these objects go, with this answer
-    drops : (answer : Fixed → Reply) (which : Which) → ((old : Fixed) → answer (seen_fixed old) ≡ answer old)
-        → (needs ≡ false → (old : Fixed) → is_flat (answer old) ≡ true)
-        → IsLawful own needs (λ old reply new. (reply ≡ answer old) × (new ≡ without which old))
+    drops : (answer : TableState → Reply) (which : Which) → ((old : TableState) → answer (seen_fixed old) ≡ answer old)
+        → (needs ≡ false → (old : TableState) → is_flat (answer old) ≡ true)
+        → IsLawful own needs (λ old reply new. (reply ≡ answer old) × (new ≡ after_delete which old))
     drops answer which same flat = record {
       unseen = λ old new reply h. (h.0 ∙ sym (same old), ap seen_fixed h.1);
       tame = λ old new reply h. subst (IsTame own old) (sym h.1) (tame-without own which old);
@@ -163,15 +163,15 @@ module _ (own : ℕ → Bool) where
     }
 
     pub take-lawful : needs ≡ true → (key : Term) → IsLawful own needs (Take key)
-    take-lawful needed key = drops _ (of_key key) (λ old. refl) (λ n. contrary needed n)
+    take-lawful needed key = drops _ (has_key key) (λ old. refl) (λ n. contrary needed n)
 
     pub delete-lawful : (key : Term) → IsLawful own needs (Delete key)
-    delete-lawful key = drops _ (of_key key) (λ old. refl) (λ n old. true-flat)
+    delete-lawful key = drops _ (has_key key) (λ old. refl) (λ n old. true-flat)
 
     pub delete_all-lawful : IsLawful own needs DeleteAllObjects
-    delete_all-lawful = drops _ each (λ old. refl) (λ n old. true-flat)
+    delete_all-lawful = drops _ every_object (λ old. refl) (λ n old. true-flat)
 
-    abbrev deletes : Term → Fixed → Change (Unit {0}) Fixed
+    abbrev deletes : Term → TableState → Change (Unit {0}) TableState
     deletes object table = on_content (DeletesObject (is_fixed table.fixes) object) table
 
     -- the object's every instance goes
@@ -182,14 +182,14 @@ module _ (own : ℕ → Bool) where
     object-at hold (Some key) object old new r h =
         subst (λ (c : Content). StaysFree old.slots c.slots) (sym h.1) (dropped-free hold (equal_to object) old.slots)
 
-    object-done : (object : Term) (old new : Fixed) (r : Result (Unit {0}) Refusal) → deletes object old r new
+    object-done : (object : Term) (old new : TableState) (r : Result (Unit {0}) Refusal) → deletes object old r new
         → IsTame own old new
     object-done object old new r h =
         tame-content own old new h.1 (delete_object-keeps object old new r h)
         (object-at (is_fixed old.fixes) (key_of old.content.keypos object) object old.content new.content r h.0)
 
-    object-tame : (object : Term) (old new : Fixed) (r : Result (Unit {0}) Refusal)
-        → Comes (deletes object old) old r new → IsTame own old new
+    object-tame : (object : Term) (old new : TableState) (r : Result (Unit {0}) Refusal)
+        → Refines (deletes object old) old r new → IsTame own old new
     object-tame object old new (Ok x) h = object-done object old new (Ok x) h
     object-tame object old new (Err Badarg) h = object-done object old new (Err Badarg) h
     object-tame object old new (Err SystemLimit) h = object-done object old new (Err SystemLimit) h
@@ -200,15 +200,15 @@ module _ (own : ℕ → Bool) where
         replied _ (deletes object) (λ n x. true-flat) (record { unseen = λ old new r h. (h.0, ap seen_fixed h.1); tame = object-tame object })
 
     -- ---- searching
-    deletes-unseen : {X : Type 0} (good : Bool) (answer : X) (which : Which) (old new : Fixed) (r : Result X Refusal)
+    deletes-unseen : {X : Type 0} (good : Bool) (answer : X) (which : Which) (old new : TableState) (r : Result X Refusal)
         → Deletes good answer which old r new → Deletes good answer which (seen_fixed old) r (seen_fixed new)
     deletes-unseen true answer which old new r h = (h.0, ap seen_fixed h.1)
     deletes-unseen false answer which old new r h = (h.0, ap seen_fixed h.1)
 
-    deletes-tame : {X : Type 0} (good : Bool) (answer : X) (which : Which) (old new : Fixed) (r : Result X Refusal)
-        → Comes (Deletes good answer which old) old r new → IsTame own old new
+    deletes-tame : {X : Type 0} (good : Bool) (answer : X) (which : Which) (old new : TableState) (r : Result X Refusal)
+        → Refines (Deletes good answer which old) old r new → IsTame own old new
     deletes-tame true answer which old new r h =
-        gave-tame (Ok answer) (without which old) old new r (tame-without own which old) h
+        gave-tame (Ok answer) (after_delete which old) old new r (tame-without own which old) h
     deletes-tame false answer which old new r h = gave-tame (Err Badarg) old old new r (tame-same own old old refl) h
 
     pub match_delete-lawful : (pattern : Term) → IsLawful own needs (MatchDelete pattern)

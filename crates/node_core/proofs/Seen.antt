@@ -4,7 +4,7 @@ use Rattle.std.proofs.Common.{◌≡◌, ℕ, Bool, Option, None, Some, option_m
 use Rattle.std.specs.Prelude.{MatchOption}
 use Rattle.std.specs.Option.{option_map_or}
 use Rattle.table_ops.specs.Outcomes.{gives}
-use Rattle.fixed_walk.specs.Fixed.{Fixed}
+use Rattle.fixed_walk.specs.TableState.{TableState}
 use Rattle.ownership.specs.World.{Table, Tables, table_at}
 use Rattle.node_core.specs.declared.step.Step.TheVariants.{Grow, Ready}
 use Rattle.node_core.specs.declared.step.Reply.{Reply}
@@ -34,9 +34,9 @@ pub buckets-follow : {own : ℕ → Bool} (old new : State) → Follows own old.
 buckets-follow {own = own} old new follows = (buckets-kept old new follows, λ t table before after. came-fresh own old.world.tables t (table_at old.world.tables t) table before (follows.came t table after))
 
 -- ---- growing and readying
-module _ (old new : State) (reply : Reply) (t : ℕ) (rule : Rule) (quiet : (f g : Fixed) → rule f reply g → (reply ≡ ok_reply) × (seen_fixed g ≡ seen_fixed f)) where
+module _ (old new : State) (reply : Reply) (t : ℕ) (rule : Rule) (quiet : (f g : TableState) → rule f reply g → (reply ≡ ok_reply) × (seen_fixed g ≡ seen_fixed f)) where
   abbrev Grown : Option Table → Type 0
-  Grown o = MatchOption o (gives Badarg old reply new) (λ table. (fixed : Fixed) × rule table.fixed reply fixed × (new ≡ with_table old t fixed))
+  Grown o = MatchOption o (gives Badarg old reply new) (λ table. (fixed : TableState) × rule table.fixed reply fixed × (new ≡ with_table old t fixed))
 
   abbrev Told : Option Table → Type 0
   Told o = gives (option_map_or (λ _. ok_reply) o Badarg) (seen old) reply (seen new)

@@ -9,7 +9,7 @@ use Rattle.table_ops.specs.Drop.{Which}
 use Rattle.fixed_walk.specs.declared.fault.FixFault.{FixFault}
 use Rattle.fixed_walk.specs.declared.fault.FixFault.TheVariants as fault
 use Rattle.fixed_walk.specs.Fixes.{FixCounts, fix_count, is_fixed, with_count}
-use Rattle.fixed_walk.specs.Fixed.{Fixed, FixesOnce, settled, released, all_released, without}
+use Rattle.fixed_walk.specs.TableState.{TableState, IncrementsFix, without_tombstones_if_unfixed, after_release, after_release_all, after_delete}
 use Rattle.fixed_walk.specs.laws.Kept.{KeepsKeys}
 use Rattle.fixed_walk.proofs.KeptLaws.{delete-keeps, fix-keeps, release-keeps, release_all-keeps, rows-keep}
 use Rattle.node_core.specs.Seen.{seen_fixed}
@@ -35,85 +35,85 @@ own-count m q (suc n) =
     ap (λ o. unwrap_or o 0) (get-insert nat_cmp_total m q (suc n) q ∙ ap (λ (b : Bool). cond b (Some (suc n)) (get m q)) (same-number q))
 
 -- ---- what is kept by a change that these processes make
-pub record IsTame (own : ℕ → Bool) (old new : Fixed) : Type 0 where
+pub record IsTame (own : ℕ → Bool) (old new : TableState) : Type 0 where
   pub buckets : new.buckets ≡ old.buckets
   pub keys : KeepsKeys old new
   pub ends : StaysFree old.content.slots new.content.slots
   pub fixes : (w : ℕ) → own w ≡ false → fix_count new.fixes w ≡ fix_count old.fixes w
 
-module _ (own : ℕ → Bool) (old new : Fixed) where
+module _ (own : ℕ → Bool) (old new : TableState) where
   -- a change of the content alone
   pub tame-content : new ≡ record old { content = new.content } → KeepsKeys old new
       → StaysFree old.content.slots new.content.slots → IsTame own old new
   tame-content e keys ends =
-      record { buckets = ap (λ (f : Fixed). f.buckets) e; keys = keys; ends = ends; fixes = λ w other. ap (λ (f : Fixed). fix_count f.fixes w) e }
+      record { buckets = ap (λ (f : TableState). f.buckets) e; keys = keys; ends = ends; fixes = λ w other. ap (λ (f : TableState). fix_count f.fixes w) e }
 
   pub tame-same : new ≡ old → IsTame own old new
   tame-same e = record {
-    buckets = ap (λ (f : Fixed). f.buckets) e;
-    keys = rows-keep old new (ap (λ (f : Fixed). f.content) e);
-    ends = unchanged-free old.content new.content (ap (λ (f : Fixed). f.content) e);
-    fixes = λ w other. ap (λ (f : Fixed). fix_count f.fixes w) e;
+    buckets = ap (λ (f : TableState). f.buckets) e;
+    keys = rows-keep old new (ap (λ (f : TableState). f.content) e);
+    ends = unchanged-free old.content new.content (ap (λ (f : TableState). f.content) e);
+    fixes = λ w other. ap (λ (f : TableState). fix_count f.fixes w) e;
   }
 
-pub tame-without : (own : ℕ → Bool) (which : Which) (old : Fixed) → IsTame own old (without which old)
+pub tame-without : (own : ℕ → Bool) (which : Which) (old : TableState) → IsTame own old (after_delete which old)
 tame-without own which old =
-    tame-content own old (without which old) refl (delete-keeps which old) (dropped-free (is_fixed old.fixes) which old.content.slots)
+    tame-content own old (after_delete which old) refl (delete-keeps which old) (dropped-free (is_fixed old.fixes) which old.content.slots)
 
 -- ---- held slots go once nobody fixes the table
-abbrev without_held : Fixed → Fixed
+abbrev without_held : TableState → TableState
 without_held table = record table { content = record table.content { slots = purged table.content.slots } }
 
-either-seen : (b : Bool) (f g : Fixed) → cond b (seen_fixed f) (seen_fixed g) ≡ seen_fixed (cond b f g)
+either-seen : (b : Bool) (f g : TableState) → cond b (seen_fixed f) (seen_fixed g) ≡ seen_fixed (cond b f g)
 either-seen true f g = refl
 either-seen false f g = refl
 
-either-has : (Q : Fixed → Type 0) (b : Bool) (f g : Fixed) → Q f → Q g → Q (cond b f g)
+either-has : (Q : TableState → Type 0) (b : Bool) (f g : TableState) → Q f → Q g → Q (cond b f g)
 either-has Q true f g a b = a
 either-has Q false f g a b = b
 
-module _ (table : Fixed) where
-  settled-seen : settled (seen_fixed table) ≡ seen_fixed (settled table)
+module _ (table : TableState) where
+  settled-seen : without_tombstones_if_unfixed (seen_fixed table) ≡ seen_fixed (without_tombstones_if_unfixed table)
   settled-seen = either-seen (is_fixed table.fixes) table (without_held table)
 
-  settled-buckets : (settled table).buckets ≡ table.buckets
+  settled-buckets : (without_tombstones_if_unfixed table).buckets ≡ table.buckets
   settled-buckets =
       either-has (λ f. f.buckets ≡ table.buckets) (is_fixed table.fixes) table (without_held table) refl refl
 
-  pub settled-fixes : (settled table).fixes ≡ table.fixes
+  pub settled-fixes : (without_tombstones_if_unfixed table).fixes ≡ table.fixes
   settled-fixes = either-has (λ f. f.fixes ≡ table.fixes) (is_fixed table.fixes) table (without_held table) refl refl
 
-  settled-free : StaysFree table.content.slots (settled table).content.slots
+  settled-free : StaysFree table.content.slots (without_tombstones_if_unfixed table).content.slots
   settled-free =
       either-has (λ f. StaysFree table.content.slots f.content.slots) (is_fixed table.fixes) table (without_held table) (λ free. free) (purged-free table.content.slots)
 
 -- ---- a process fixes and releases the table
 module _ (p : ℕ) where
-  pub fixes-seen : (old new : Fixed) (r : Result (Unit {0}) FixFault) → FixesOnce p old r new
-      → FixesOnce p (seen_fixed old) r (seen_fixed new)
+  pub fixes-seen : (old new : TableState) (r : Result (Unit {0}) FixFault) → IncrementsFix p old r new
+      → IncrementsFix p (seen_fixed old) r (seen_fixed new)
   fixes-seen old new (Ok x) h = (h.0, ap seen_fixed h.1)
   fixes-seen old new (Err fault.SystemLimit) h = (h.0, ap seen_fixed h.1)
   fixes-seen old new (Err fault.Memory) h = (h.0, ap seen_fixed h.1)
 
-  pub fixes-tame : (old new : Fixed) (r : Result (Unit {0}) FixFault) → FixesOnce p old r new
+  pub fixes-tame : (old new : TableState) (r : Result (Unit {0}) FixFault) → IncrementsFix p old r new
       → IsTame (λ w. p == w) old new
   fixes-tame old new (Ok x) h = record {
-    buckets = ap (λ (f : Fixed). f.buckets) h.1;
+    buckets = ap (λ (f : TableState). f.buckets) h.1;
     keys = fix-keeps p old new (Ok x) h;
-    ends = unchanged-free old.content new.content (ap (λ (f : Fixed). f.content) h.1);
+    ends = unchanged-free old.content new.content (ap (λ (f : TableState). f.content) h.1);
     fixes =
-        λ w other. ap (λ (f : Fixed). fix_count f.fixes w) h.1
+        λ w other. ap (λ (f : TableState). fix_count f.fixes w) h.1
         ∙ other-count old.fixes p w (fix_count old.fixes p + 1) other;
   }
   fixes-tame old new (Err fault.SystemLimit) h = tame-same (λ w. p == w) old new h.1
   fixes-tame old new (Err fault.Memory) h = tame-same (λ w. p == w) old new h.1
 
-  module _ (old : Fixed) where
+  module _ (old : TableState) where
     -- with this number of fixes of the process
-    abbrev with_fixes : ℕ → Fixed
+    abbrev with_fixes : ℕ → TableState
     with_fixes n = record old { fixes = with_count old.fixes p n }
 
-    settled-tame : (n : ℕ) → KeepsKeys old (settled (with_fixes n)) → IsTame (λ w. p == w) old (settled (with_fixes n))
+    settled-tame : (n : ℕ) → KeepsKeys old (without_tombstones_if_unfixed (with_fixes n)) → IsTame (λ w. p == w) old (without_tombstones_if_unfixed (with_fixes n))
     settled-tame n keys = record {
       buckets = settled-buckets (with_fixes n);
       keys = keys;
@@ -123,14 +123,14 @@ module _ (p : ℕ) where
           ∙ other-count old.fixes p w n other;
     }
 
-    pub released-seen : released p (seen_fixed old) ≡ seen_fixed (released p old)
+    pub released-seen : after_release p (seen_fixed old) ≡ seen_fixed (after_release p old)
     released-seen = settled-seen (with_fixes (fix_count old.fixes p - 1))
 
-    pub released-tame : IsTame (λ w. p == w) old (released p old)
+    pub released-tame : IsTame (λ w. p == w) old (after_release p old)
     released-tame = settled-tame (fix_count old.fixes p - 1) (release-keeps p old)
 
-    pub all_released-seen : all_released p (seen_fixed old) ≡ seen_fixed (all_released p old)
+    pub all_released-seen : after_release_all p (seen_fixed old) ≡ seen_fixed (after_release_all p old)
     all_released-seen = settled-seen (with_fixes 0)
 
-    pub all_released-tame : IsTame (λ w. p == w) old (all_released p old)
+    pub all_released-tame : IsTame (λ w. p == w) old (after_release_all p old)
     all_released-tame = settled-tame 0 (release_all-keeps p old)

@@ -2,7 +2,7 @@
 use Rattle.std.proofs.Common.{◌≡◌, ℕ, suc, Bool, true, false, not, Option, None, Some, [], ◌∷◌, option_map, subst}
 use Rattle.std.specs.Prelude.{if◌then◌else◌, position}
 use Rattle.std.specs.Option.{option_map_or}
-use Rattle.fixed_walk.specs.Fixed.{Fixed}
+use Rattle.fixed_walk.specs.TableState.{TableState}
 use Rattle.ownership.specs.World.{Tables}
 use Rattle.node_core.specs.declared.step.Step.{Step}
 use Rattle.node_core.specs.declared.step.Step.TheVariants.{Grow, Ready}
@@ -14,7 +14,7 @@ module _ (Q : Step → Type 0) (grows : (t : ℕ) → Q (Grow t)) (readies : (t 
   Where None = Unit {0}
   Where (Some s) = Q s
 
-  of-table : (t : ℕ) (f : Fixed) → Where (due_of t f)
+  of-table : (t : ℕ) (f : TableState) → Where (due_of t f)
   of-table t f = by (is_crowded f) (position not f.buckets)
     where
       by : (crowded : Bool) (bucket : Option ℕ) → Where (if crowded then Some (Grow t) else option_map (λ place. Ready t place) bucket)

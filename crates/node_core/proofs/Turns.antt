@@ -9,7 +9,7 @@ use Rattle.std.proofs.lemmas.List.Elements.{Contains-append_right}
 use Rattle.ets_term.specs.declared.term.Term.{Term, out-Term}
 use Rattle.ets_term.specs.declared.term.Term.TheVariants.{Tid}
 use Rattle.ets_term.specs.Atoms.{is_atom}
-use Rattle.ownership.specs.Heads.{may, may_read}
+use Rattle.ownership.specs.Access.{may, may_read}
 use Rattle.ownership.specs.World.{Table, table_at, lives}
 use Rattle.node_core.specs.declared.step.Reply.{Reply}
 use Rattle.node_core.specs.declared.step.Reply.TheVariants.{Value}
@@ -66,7 +66,7 @@ number-same : (n : ℕ) → (n == n) ≡ true
 number-same n = grind (arith, nat_tests)
 
 module _ (p t : ℕ) where
-  readable-at : (o : Option Table) → option_map_or (λ table. may_read table.head p) o false ≡ true → is_some o ≡ true
+  readable-at : (o : Option Table) → option_map_or (λ table. may_read table.metadata p) o false ≡ true → is_some o ≡ true
   readable-at None e = absurd (true≢false (sym e))
   readable-at (Some table) e = refl
 

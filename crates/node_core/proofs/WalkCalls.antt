@@ -13,11 +13,11 @@ use Rattle.ets_term.specs.Depth.{is_too_deep, elements}
 use Rattle.ets_term.specs.Order.{same}
 use Rattle.ets_term.specs.laws.Same.{same-exact}
 use Rattle.bucket_table.specs.Slots.{Slot, has_objects, slots_behind}
-use Rattle.fixed_walk.specs.Fixed.{Fixed}
+use Rattle.fixed_walk.specs.TableState.{TableState}
 use Rattle.table_ops.proofs.TupleLaws.{elements-Tuple}
 use Rattle.table_ops.specs.Outcomes.{gives}
 use Rattle.fixed_walk.specs.Walk.{first_key, next_key, first_slot, next_slot}
-use Rattle.fixed_walk.specs.laws.Walks.{key_told}
+use Rattle.fixed_walk.specs.laws.Walks.{walk_answer}
 use Rattle.fixed_walk.proofs.FromLaws.{key_in, first-key, next-key-is}
 use Rattle.ownership.specs.World.{Table, Tables, table_at, resolve, lives}
 use Rattle.node_core.specs.declared.node.access.Access.{Access}
@@ -64,14 +64,14 @@ pub asked-free : (ss : List Slot) (c : Term) (o : Option Term) → HasNoEnd ss �
 asked-free [] c o free e = cc
 asked-free (s ∷ ss) c o free e = asked-at (same c s.0) s ss c o refl free.0 (asked-free ss c o free.1) e
 
-told-free : (asked : Option Term) (ss : List Slot) (k : Term) → HasNoEnd ss → key_told asked ss ≡ Some (Some k) → is_end k ≡ false
+told-free : (asked : Option Term) (ss : List Slot) (k : Term) → HasNoEnd ss → walk_answer asked ss ≡ Some (Some k) → is_end k ≡ false
 told-free None ss k free e = let is : first_key ss ≡ Some k = cc in first-free ss k free is
 told-free (Some c) ss k free e = next-free ss c k free e
 
 -- ---- a call that reads the table
 named-at : (ts : Tables) (access : Access) (p : ℕ) (u : ℕ) (o : Option Table) (found : ℕ × Table) → option_and_then (allowed access p u) o ≡ Some found → u ≡ found.0
 named-at ts access p u None found e = cc
-named-at ts access p u (Some table) found e = by (may access table.head p) e
+named-at ts access p u (Some table) found e = by (may access table.metadata p) e
   where
     by : (b : Bool) → cond b (Some (u, table)) None ≡ Some found → u ≡ found.0
     by true e = let is : (u, table) ≡ found = cc in ap (λ (x : ℕ × Table). x.0) is
@@ -84,7 +84,7 @@ usable-named ts access p t (Some u) found is e = sym (named-at ts access p u (ta
     number : (u t : ℕ) → (u == t) ≡ true → u ≡ t
     number u t h = grind (arith, nat_tests)
 
-read-at : (old new : State) (q t : ℕ) (term : Term) (answer : Fixed → Reply) (r : Reply) (table : Table) (o : Option (ℕ × Table)) → usable Read old.world.tables q term ≡ o → is_table old t term ≡ true → table_at old.world.tables t ≡ Some table
+read-at : (old new : State) (q t : ℕ) (term : Term) (answer : TableState → Reply) (r : Reply) (table : Table) (o : Option (ℕ × Table)) → usable Read old.world.tables q term ≡ o → is_table old t term ≡ true → table_at old.world.tables t ≡ Some table
     → MatchOption o (gives Badarg old r new) (λ found. gives (answer found.1.fixed) old r new) → (r ≡ answer table.fixed) ⊎ (r ≡ Badarg)
 read-at old new q t term answer r table None e is at h = inr h.0
 read-at old new q t term answer r table (Some found) e is at h =
@@ -100,7 +100,7 @@ slot_told (Some key) slots = next_slot slots key
 
 -- the reply to a call of a walk, with the objects or without
 abbrev pub told_reply : Bool → Option Term → List Slot → Reply
-told_reply false asked slots = option_map_or key_reply (key_told asked slots) Badarg
+told_reply false asked slots = option_map_or key_reply (walk_answer asked slots) Badarg
 told_reply true asked slots = option_map_or slot_reply (slot_told asked slots) Badarg
 
 -- the reply to a call of a walk: what the slots tell, or a refusal
@@ -118,7 +118,7 @@ same-name : (name own : List ℕ) → bytes_eq name own ≡ true → name ≡ ow
 same-name name own e = (bytes_eq-Decides name own).0 e
 
 module _ (old new : State) (q t : ℕ) (r : Reply) (table : Table) (at : table_at old.world.tables t ≡ Some table) where
-  reading-replies : (term : Term) (answer : Fixed → Reply) (objects : Bool) (call : Option Term) → answer table.fixed ≡ told_reply objects call table.fixed.content.slots → is_table old t term ≡ true → reads old q term answer r new
+  reading-replies : (term : Term) (answer : TableState → Reply) (objects : Bool) (call : Option Term) → answer table.fixed ≡ told_reply objects call table.fixed.content.slots → is_table old t term ≡ true → reads old q term answer r new
       → Replies objects call table.fixed.content.slots r
   reading-replies term answer objects call own here h = replied objects call table.fixed.content.slots r (by (read-at old new q t term answer r table (usable Read old.world.tables q term) refl here at h))
     where
@@ -188,11 +188,11 @@ tuple-is : (ts : List Term) → is_end (Tuple ts) ≡ false
 tuple-is ts = search (rules, the_lemmas)
 
 -- the key of the slot that is returned
-told-key : (asked : Option Term) (slots : List Slot) (found : Option Slot) → slot_told asked slots ≡ Some found → key_told asked slots ≡ Some (key_in found)
+told-key : (asked : Option Term) (slots : List Slot) (found : Option Slot) → slot_told asked slots ≡ Some found → walk_answer asked slots ≡ Some (key_in found)
 told-key None slots found e = let is : first_slot slots ≡ found = cc in ap Some (sym (first-key slots) ∙ ap key_in is)
 told-key (Some key) slots found e = next-key-is slots key found e
 
-end-told : (asked : Option Term) (slots : List Slot) (o : Option (Option Term)) → key_told asked slots ≡ o → HasNoEnd slots → option_map_or key_reply o Badarg ≡ key_reply None → o ≡ Some None
+end-told : (asked : Option Term) (slots : List Slot) (o : Option (Option Term)) → walk_answer asked slots ≡ o → HasNoEnd slots → option_map_or key_reply o Badarg ≡ key_reply None → o ≡ Some None
 end-told asked slots None e free h = cc
 end-told asked slots (Some None) e free h = refl
 end-told asked slots (Some (Some k)) e free h =
@@ -206,11 +206,11 @@ no-slot-told (Some (Some slot)) h =
     let is : key_and_objects slot ≡ Atom (codes "$end_of_table") = cc in
     absurd (true≢false (sym (ap is_end is ∙ end-is) ∙ tuple-is (slot.0 ∷ list_term slot.1 ∷ [])))
 
-end-of : (objects : Bool) (asked : Option Term) (slots : List Slot) → HasNoEnd slots → told_reply objects asked slots ≡ key_reply None → key_told asked slots ≡ Some None
-end-of false asked slots free h = end-told asked slots (key_told asked slots) refl free h
+end-of : (objects : Bool) (asked : Option Term) (slots : List Slot) → HasNoEnd slots → told_reply objects asked slots ≡ key_reply None → walk_answer asked slots ≡ Some None
+end-of false asked slots free h = end-told asked slots (walk_answer asked slots) refl free h
 end-of true asked slots free h = told-key asked slots None (no-slot-told (slot_told asked slots) h)
 
-pub tells-end : (objects : Bool) (asked : Option Term) (slots : List Slot) (r : Reply) → HasNoEnd slots → Replies objects asked slots r → r ≡ key_reply None → key_told asked slots ≡ Some None
+pub tells-end : (objects : Bool) (asked : Option Term) (slots : List Slot) (r : Reply) → HasNoEnd slots → Replies objects asked slots r → r ≡ key_reply None → walk_answer asked slots ≡ Some None
 tells-end objects asked slots r free (inl h) e = end-of objects asked slots free (h ∙ e)
 tells-end objects asked slots r free (inr h) e = absurd (h (Atom (codes "$end_of_table")) e)
 
@@ -232,8 +232,8 @@ slot-told (Some (Some slot)) key objects h =
     let own : slot.0 ≡ key = cc in
     (slot, refl, own)
 
-key-of : (objects : Bool) (asked : Option Term) (slots : List Slot) (r : Reply) (key : Term) → is_end key ≡ false → told_reply objects asked slots ≡ r → IsKey objects key r → key_told asked slots ≡ Some (Some key)
-key-of false asked slots r key free h e = key-told (key_told asked slots) key free (h ∙ e)
+key-of : (objects : Bool) (asked : Option Term) (slots : List Slot) (r : Reply) (key : Term) → is_end key ≡ false → told_reply objects asked slots ≡ r → IsKey objects key r → walk_answer asked slots ≡ Some (Some key)
+key-of false asked slots r key free h e = key-told (walk_answer asked slots) key free (h ∙ e)
 key-of true asked slots r key free h e =
     let found = slot-told (slot_told asked slots) key e.0 (h ∙ e.1) in
     told-key asked slots (Some found.0) found.1 ∙ ap (λ (k : Term). Some (Some k)) found.2
@@ -242,6 +242,6 @@ is-value : (objects : Bool) (key : Term) (r : Reply) → IsKey objects key r →
 is-value false key r e = (key, e)
 is-value true key r e = (key_and_objects (key, e.0), e.1)
 
-pub tells-key : (objects : Bool) (asked : Option Term) (slots : List Slot) (r : Reply) (key : Term) → is_end key ≡ false → Replies objects asked slots r → IsKey objects key r → key_told asked slots ≡ Some (Some key)
+pub tells-key : (objects : Bool) (asked : Option Term) (slots : List Slot) (r : Reply) (key : Term) → is_end key ≡ false → Replies objects asked slots r → IsKey objects key r → walk_answer asked slots ≡ Some (Some key)
 tells-key objects asked slots r key free (inl h) e = key-of objects asked slots r key free h e
 tells-key objects asked slots r key free (inr h) e = let value = is-value objects key r e in absurd (h value.0 value.1)

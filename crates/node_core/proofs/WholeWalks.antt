@@ -9,7 +9,7 @@ use Rattle.bucket_table.specs.Slots.{Slot, HasDistinctKeys}
 use Rattle.table_ops.specs.Content.{is_present}
 use Rattle.fixed_walk.specs.Fixes.{is_fixed}
 use Rattle.fixed_walk.specs.laws.Kept.{IsSubsequence}
-use Rattle.fixed_walk.specs.laws.Walks.{KeepKeys, IsWalk}
+use Rattle.fixed_walk.specs.laws.Walks.{MomentsKeepKeys, IsWalk}
 use Rattle.fixed_walk.proofs.Subsequences.{sub-same, sub-further}
 use Rattle.fixed_walk.proofs.WalkLaws.{whole}
 use Rattle.ownership.specs.World.{Table, table_at}
@@ -61,14 +61,14 @@ first_state P old [] (r ∷ replies) new done all = absurd done
 first_state P old (s ∷ steps) [] new done all = absurd done
 
 -- one moment more, before the others
-sooner : (now next : List Slot) (moments : List (List Slot)) → HasDistinctKeys now → IsSubsequence (keys_of now) (keys_of next) → KeepKeys (next ∷ moments) → KeepKeys (now ∷ moments)
+sooner : (now next : List Slot) (moments : List (List Slot)) → HasDistinctKeys now → IsSubsequence (keys_of now) (keys_of next) → MomentsKeepKeys (next ∷ moments) → MomentsKeepKeys (now ∷ moments)
 sooner now next [] distinct sub kept = distinct
 sooner now next (m ∷ moments) distinct sub kept = (distinct, sub-further (keys_of now) (keys_of next) (keys_of m) sub kept.1, kept.2)
 
 -- the slots at the calls of a walk in a run
 record Walked (p t : ℕ) (call : Option Term) (keys : List Term) (old : State) (stretch : List State) : Type 0 where
   moments : List (List Slot)
-  kept : KeepKeys (slots_in t old ∷ moments)
+  kept : MomentsKeepKeys (slots_in t old ∷ moments)
   walk : IsWalk call moments keys
   free : AllByRecursion HasNoEnd moments
   present : (key : Term) → AllByRecursion (λ s. is_present (slots_in t s) key ≡ true) stretch → AllByRecursion (λ slots. is_present slots key ≡ true) moments
@@ -143,7 +143,7 @@ walked p t call keys old (s ∷ steps) (r ∷ replies) new done sound fixed w =
     (λ call keys w. walked p t call keys done.0 steps replies new done.2 (sound-step old done.0 s r done.1 sound) fixed.1 w)
     call keys (walk_step old p t s) refl w
 
-later : (now : List Slot) (moments : List (List Slot)) (call : Option Term) (keys : List Term) → IsWalk call moments keys → KeepKeys (now ∷ moments) → KeepKeys moments
+later : (now : List Slot) (moments : List (List Slot)) (call : Option Term) (keys : List Term) → IsWalk call moments keys → MomentsKeepKeys (now ∷ moments) → MomentsKeepKeys moments
 later now [] call keys walk kept = absurd walk
 later now (m ∷ moments) call keys walk kept = kept.2
 

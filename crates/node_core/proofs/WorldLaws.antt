@@ -5,21 +5,21 @@ use Rattle.std.specs.Prelude.{is_some}
 use Rattle.std.specs.Option.{option_map_or}
 use Rattle.ets_term.specs.declared.term.Term.{Term}
 use Rattle.table_ops.specs.Outcomes.{Outcome, gives, refuse, refuse_none}
-use Rattle.fixed_walk.specs.Fixed.{Fixed}
+use Rattle.fixed_walk.specs.TableState.{TableState}
 use Rattle.ownership.specs.declared.fault.WorldFault.{WorldFault}
 use Rattle.ownership.specs.declared.fault.WorldFault.TheVariants.{Badarg, SystemLimit, NoProcess, Memory}
-use Rattle.ownership.specs.declared.head.Head.{Head}
-use Rattle.ownership.specs.declared.head.Heir.{Heir}
+use Rattle.ownership.specs.declared.metadata.Metadata.{Metadata}
+use Rattle.ownership.specs.declared.metadata.Heir.{Heir}
 use Rattle.ownership.specs.declared.options.NewOptions.{NewOptions}
 use Rattle.ownership.specs.World.{Table, Tables, Processes, World, process_at, lives, table_at, whereis}
-use Rattle.ownership.specs.Heads.{owned_by}
-use Rattle.ownership.specs.Messages.{told, transfer, post, post_all}
+use Rattle.ownership.specs.Access.{owned_by}
+use Rattle.ownership.specs.Messages.{name_or_identifier, transfer_message, post, post_all}
 use Rattle.ownership.specs.Options.{heir_after}
 use Rattle.ownership.specs.Tables as tables
-use Rattle.ownership.specs.Tables.{after_enrol, new_head, with_table, passed_to, with_heir, changed, heir_set}
+use Rattle.ownership.specs.Tables.{after_enrol, new_metadata, with_table, with_owner, with_heir, with_changed, after_set_heir}
 use Rattle.ownership.specs.End as ends
-use Rattle.ownership.specs.End.{ended, living_heir, let_go, table_after, message_of, messages_from, handed_over}
-use Rattle.ownership.specs.Outcomes.{Comes}
+use Rattle.ownership.specs.End.{with_ended, living_heir, without_fixes, table_after_exit, message_of, messages_from, after_exit}
+use Rattle.ownership.specs.Outcomes.{Refines}
 use Rattle.node_core.specs.Seen.{seen_fixed, seen_table, seen_tables}
 use Rattle.node_core.proofs.SeenTables.{seen_world, at-seen, length-seen, whereis-seen, push-seen, changed-seen}
 use Rattle.node_core.proofs.Tame.{all_released-seen}
@@ -30,9 +30,9 @@ pub record IsLawfulOutcome (P : World → Type 0) (X : Type 0) (outcome unseen :
   pub keeps : (r : Result X WorldFault) (new : World) → outcome r new → P new
 
 -- a table that was given away, in the world without its metadata
-abbrev pub given : World → ℕ → ℕ → ℕ → Term → Head → World
-given w p t q gift head =
-    record w { processes = post w.processes q (transfer head t p gift); tables = changed (passed_to q) w.tables t }
+abbrev pub given : World → ℕ → ℕ → ℕ → Term → Metadata → World
+given w p t q gift metadata =
+    record w { processes = post w.processes q (transfer_message metadata t p gift); tables = with_changed (with_owner q) w.tables t }
 
 module _ (P : World → Type 0) (old : World) (same : P old) where
   abbrev Lawful : (X : Type 0) → Outcome (Result X WorldFault) World → Outcome (Result X WorldFault) World → Type 0
@@ -83,23 +83,23 @@ module _ (P : World → Type 0) (old : World) (same : P old) where
 
   -- ---- tables are made
   module _ (p : ℕ) (name : List ℕ) (options : NewOptions) where
-    abbrev Makes : World → Option ℕ → ℕ → Fixed → Outcome (Result Term WorldFault) World
+    abbrev Makes : World → Option ℕ → ℕ → TableState → Outcome (Result Term WorldFault) World
     Makes w found count fixed =
         refuse w (options.named && is_some found) (Err Badarg) (
         refuse w (nat_le w.most_tables count) (Err SystemLimit) (
-        gives (Ok (told options.named name count)) (with_table w (new_head p name options) fixed)))
+        gives (Ok (name_or_identifier options.named name count)) (with_table w (new_metadata p name options) fixed)))
 
-    made : (fixed : Fixed)
-        → ((options.named && is_some (whereis old.tables name)) ≡ false → P (with_table old (new_head p name options) fixed))
+    made : (fixed : TableState)
+        → ((options.named && is_some (whereis old.tables name)) ≡ false → P (with_table old (new_metadata p name options) fixed))
         → Lawful Term (Makes old (whereis old.tables name) (length old.tables) fixed) (Makes (seen_world old) (whereis old.tables name) (length old.tables) (seen_fixed fixed))
     made fixed after =
         refuse-lawful (options.named && is_some (whereis old.tables name)) Badarg (λ fresh.
         refuse-lawful (nat_le old.most_tables (length old.tables)) SystemLimit (λ room.
-        gives-lawful (told options.named name (length old.tables)) (with_table old (new_head p name options) fixed) (with_table (seen_world old) (new_head p name options) (seen_fixed fixed))
-        (ap (λ ts. record old { tables = ts }) (sym (push-seen old.tables (record { head = new_head p name options; fixed = fixed })))) (after fresh)))
+        gives-lawful (name_or_identifier options.named name (length old.tables)) (with_table old (new_metadata p name options) fixed) (with_table (seen_world old) (new_metadata p name options) (seen_fixed fixed))
+        (ap (λ ts. record old { tables = ts }) (sym (push-seen old.tables (record { metadata = new_metadata p name options; fixed = fixed })))) (after fresh)))
 
-    pub new-lawful : (fixed : Fixed)
-        → ((options.named && is_some (whereis old.tables name)) ≡ false → P (with_table old (new_head p name options) fixed))
+    pub new-lawful : (fixed : TableState)
+        → ((options.named && is_some (whereis old.tables name)) ≡ false → P (with_table old (new_metadata p name options) fixed))
         → Lawful Term (tables.New old p name options fixed) (tables.New (seen_world old) p name options (seen_fixed fixed))
     new-lawful fixed after =
         subst₂ (λ (found : Option ℕ) (count : ℕ). Lawful Term (tables.New old p name options fixed) (Makes (seen_world old) found count (seen_fixed fixed)))
@@ -108,47 +108,47 @@ module _ (P : World → Type 0) (old : World) (same : P old) where
   -- ---- tables change hands
   module _ (p t : ℕ) where
     module _ (q : ℕ) (gift : Term) where
-      abbrev Gives : World → Head → Outcome (Result (Unit {0}) WorldFault) World
-      Gives w head =
-          refuse w (not (owned_by head p)) (Err Badarg) (
+      abbrev Gives : World → Metadata → Outcome (Result (Unit {0}) WorldFault) World
+      Gives w metadata =
+          refuse w (not (owned_by metadata p)) (Err Badarg) (
           refuse w (q == p) (Err Badarg) (
           refuse w (not (lives w.processes q)) (Err Badarg) (
-          gives (Ok tt) (given w p t q gift head))))
+          gives (Ok tt) (given w p t q gift metadata))))
 
-      gives-to : (head : Head) → P (given old p t q gift head)
-          → Lawful (Unit {0}) (Gives old head) (Gives (seen_world old) head)
-      gives-to head after =
-          refuse-lawful (not (owned_by head p)) Badarg (λ its.
+      gives-to : (metadata : Metadata) → P (given old p t q gift metadata)
+          → Lawful (Unit {0}) (Gives old metadata) (Gives (seen_world old) metadata)
+      gives-to metadata after =
+          refuse-lawful (not (owned_by metadata p)) Badarg (λ its.
           refuse-lawful (q == p) Badarg (λ another.
           refuse-lawful (not (lives old.processes q)) Badarg (λ living.
-          gives-lawful tt (given old p t q gift head) (given (seen_world old) p t q gift head)
-          (ap (λ ts. record old { processes = post old.processes q (transfer head t p gift); tables = ts }) (sym (changed-seen (passed_to q) (λ table. refl) old.tables t))) after)))
+          gives-lawful tt (given old p t q gift metadata) (given (seen_world old) p t q gift metadata)
+          (ap (λ ts. record old { processes = post old.processes q (transfer_message metadata t p gift); tables = ts }) (sym (changed-seen (with_owner q) (λ table. refl) old.tables t))) after)))
 
-      pub give-lawful : ((head : Head) → P (given old p t q gift head))
+      pub give-lawful : ((metadata : Metadata) → P (given old p t q gift metadata))
           → Lawful (Unit {0}) (tables.GiveAway old p t q gift) (tables.GiveAway (seen_world old) p t q gift)
       give-lawful after =
-          place-lawful t (λ table. Gives old table.head) (λ table. Gives (seen_world old) table.head) (λ table. gives-to table.head (after table.head))
+          place-lawful t (λ table. Gives old table.metadata) (λ table. Gives (seen_world old) table.metadata) (λ table. gives-to table.metadata (after table.metadata))
 
-    module _ (options : Term) (after : (heir : Option Heir) → P (heir_set old t heir)) where
-      abbrev Sets : World → Head → Outcome (Result (Unit {0}) WorldFault) World
-      Sets w head =
-          refuse w (not (owned_by head p)) (Err Badarg) (
-          refuse_none w (heir_after head.heir options) (Err Badarg) (λ heir. gives (Ok tt) (heir_set w t heir)))
+    module _ (options : Term) (after : (heir : Option Heir) → P (after_set_heir old t heir)) where
+      abbrev Sets : World → Metadata → Outcome (Result (Unit {0}) WorldFault) World
+      Sets w metadata =
+          refuse w (not (owned_by metadata p)) (Err Badarg) (
+          refuse_none w (heir_after metadata.heir options) (Err Badarg) (λ heir. gives (Ok tt) (after_set_heir w t heir)))
 
-      sets : (head : Head) → Lawful (Unit {0}) (Sets old head) (Sets (seen_world old) head)
-      sets head =
-          refuse-lawful (not (owned_by head p)) Badarg (λ its.
-          where-lawful (heir_after head.heir options) (λ heir.
-          gives-lawful tt (heir_set old t heir) (heir_set (seen_world old) t heir)
+      sets : (metadata : Metadata) → Lawful (Unit {0}) (Sets old metadata) (Sets (seen_world old) metadata)
+      sets metadata =
+          refuse-lawful (not (owned_by metadata p)) Badarg (λ its.
+          where-lawful (heir_after metadata.heir options) (λ heir.
+          gives-lawful tt (after_set_heir old t heir) (after_set_heir (seen_world old) t heir)
           (ap (λ ts. record old { tables = ts }) (sym (changed-seen (with_heir heir) (λ table. refl) old.tables t))) (after heir)))
 
       pub set_options-lawful : Lawful (Unit {0}) (tables.SetOptions old p t options) (tables.SetOptions (seen_world old) p t options)
       set_options-lawful =
-          place-lawful t (λ table. Sets old table.head) (λ table. Sets (seen_world old) table.head) (λ table. sets table.head)
+          place-lawful t (λ table. Sets old table.metadata) (λ table. Sets (seen_world old) table.metadata) (λ table. sets table.metadata)
 
   -- running out of memory changes nothing
   pub comes-keep : {X : Type 0} {unseen : Outcome (Result X WorldFault) World} (outcome : Outcome (Result X WorldFault) World) → Lawful X outcome unseen
-      → (r : Result X WorldFault) (new : World) → Comes outcome old r new → P new
+      → (r : Result X WorldFault) (new : World) → Refines outcome old r new → P new
   comes-keep outcome lawful (Ok x) new h = lawful.keeps (Ok x) new h
   comes-keep outcome lawful (Err Badarg) new h = lawful.keeps (Err Badarg) new h
   comes-keep outcome lawful (Err SystemLimit) new h = lawful.keeps (Err SystemLimit) new h
@@ -157,27 +157,27 @@ module _ (P : World → Type 0) (old : World) (same : P old) where
 
 -- ---- a process ends
 module _ (processes : Processes) (p : ℕ) where
-  let_go-seen : (table : Table) → let_go p (seen_table table) ≡ seen_table (let_go p table)
+  let_go-seen : (table : Table) → without_fixes p (seen_table table) ≡ seen_table (without_fixes p table)
   let_go-seen table = ap (λ f. record table { fixed = f }) (all_released-seen p table.fixed)
 
   heir-seen : (heir : Option Heir) (table : Table)
-      → option_map (λ h. passed_to h.pid (let_go p (seen_table table))) heir ≡ option_map seen_table (option_map (λ h. passed_to h.pid (let_go p table)) heir)
+      → option_map (λ h. with_owner h.pid (without_fixes p (seen_table table))) heir ≡ option_map seen_table (option_map (λ h. with_owner h.pid (without_fixes p table)) heir)
   heir-seen None table = refl
-  heir-seen (Some heir) table = ap (λ t. Some (passed_to heir.pid t)) (let_go-seen table)
+  heir-seen (Some heir) table = ap (λ t. Some (with_owner heir.pid t)) (let_go-seen table)
 
   either-seen : (own : Bool) (heir : Option Heir) (table : Table)
-      → cond own (option_map (λ h. passed_to h.pid (let_go p (seen_table table))) heir) (Some (let_go p (seen_table table)))
-      ≡ option_map seen_table (cond own (option_map (λ h. passed_to h.pid (let_go p table)) heir) (Some (let_go p table)))
+      → cond own (option_map (λ h. with_owner h.pid (without_fixes p (seen_table table))) heir) (Some (without_fixes p (seen_table table)))
+      ≡ option_map seen_table (cond own (option_map (λ h. with_owner h.pid (without_fixes p table)) heir) (Some (without_fixes p table)))
   either-seen true heir table = heir-seen heir table
   either-seen false heir table = ap Some (let_go-seen table)
 
   after-seen : (o : Option Table)
-      → table_after processes p (option_map seen_table o) ≡ option_map seen_table (table_after processes p o)
+      → table_after_exit processes p (option_map seen_table o) ≡ option_map seen_table (table_after_exit processes p o)
   after-seen None = refl
-  after-seen (Some table) = either-seen (owned_by table.head p) (living_heir processes table.head) table
+  after-seen (Some table) = either-seen (owned_by table.metadata p) (living_heir processes table.metadata) table
 
   all-seen : (ts : Tables)
-      → map (table_after processes p) (seen_tables ts) ≡ seen_tables (map (table_after processes p) ts)
+      → map (table_after_exit processes p) (seen_tables ts) ≡ seen_tables (map (table_after_exit processes p) ts)
   all-seen [] = refl
   all-seen (x ∷ xs) = ap₂ (λ o ts. o ∷ ts) (after-seen x) (all-seen xs)
 
@@ -191,12 +191,12 @@ module _ (processes : Processes) (p : ℕ) where
   messages-seen t (x ∷ xs) =
       ap₂ (λ o ms. option_map_or (λ m. m ∷ ms) o ms) (message-seen t x) (messages-seen (suc t) xs)
 
-  handed-seen : (w : World) → seen_world (handed_over w processes p) ≡ handed_over (seen_world w) processes p
+  handed-seen : (w : World) → seen_world (after_exit w processes p) ≡ after_exit (seen_world w) processes p
   handed-seen w =
       ap₂ (λ ms ts. record w { processes = post_all processes ms; tables = ts }) (sym (messages-seen 0 w.tables)) (sym (all-seen w.tables))
 
-pub end-lawful : (P : World → Type 0) (old : World) → P old → (p : ℕ) → P (handed_over old (ended old.processes p) p)
+pub end-lawful : (P : World → Type 0) (old : World) → P old → (p : ℕ) → P (after_exit old (with_ended old.processes p) p)
     → IsLawfulOutcome P (Unit {0}) (ends.End old p) (ends.End (seen_world old) p)
 end-lawful P old same p after =
     refuse-lawful P old same (not (lives old.processes p)) NoProcess (λ living.
-    gives-lawful P old same tt (handed_over old (ended old.processes p) p) (handed_over (seen_world old) (ended old.processes p) p) (handed-seen (ended old.processes p) p old) after)
+    gives-lawful P old same tt (after_exit old (with_ended old.processes p) p) (after_exit (seen_world old) (with_ended old.processes p) p) (handed-seen (with_ended old.processes p) p old) after)

@@ -5,15 +5,15 @@ use Rattle.std.specs.Option.{option_map_or}
 use Rattle.std.specs.Map.{set_value}
 use Rattle.std.proofs.lemmas.Map.{length-set_value}
 use Rattle.ets_term.specs.declared.term.Term.{Term}
-use Rattle.fixed_walk.specs.Fixed.{Fixed}
-use Rattle.ownership.specs.declared.head.Head.{Head}
-use Rattle.ownership.specs.declared.head.Heir.{Heir}
+use Rattle.fixed_walk.specs.TableState.{TableState}
+use Rattle.ownership.specs.declared.metadata.Metadata.{Metadata}
+use Rattle.ownership.specs.declared.metadata.Heir.{Heir}
 use Rattle.ownership.specs.declared.options.NewOptions.{NewOptions}
 use Rattle.ownership.specs.World.{Table, Processes, World, process_at, whereis}
-use Rattle.ownership.specs.Heads.{owned_by}
-use Rattle.ownership.specs.Messages.{transfer, post, post_all, received}
-use Rattle.ownership.specs.Tables.{after_enrol, new_head, with_table, without_table, passed_to, with_heir, heir_set}
-use Rattle.ownership.specs.End.{ended, living_heir, let_go, table_after, messages_from, handed_over}
+use Rattle.ownership.specs.Access.{owned_by}
+use Rattle.ownership.specs.Messages.{transfer_message, post, post_all, after_receive}
+use Rattle.ownership.specs.Tables.{after_enrol, new_metadata, with_table, without_table, with_owner, with_heir, after_set_heir}
+use Rattle.ownership.specs.End.{with_ended, living_heir, without_fixes, table_after_exit, messages_from, after_exit}
 use Rattle.node_core.specs.rules.Tables.{IsFresh}
 use Rattle.node_core.proofs.Moves.{Stays, Moves, stays-same, follows-same, follows-gone, follows-changed, follows-push, follows-map}
 use Rattle.node_core.proofs.Tame.{all_released-tame}
@@ -34,7 +34,7 @@ length-post_all : (processes : Processes) (messages : List (ℕ × Term))
 length-post_all processes [] = refl
 length-post_all processes (m ∷ ms) = length-post_all (post processes m.0 m.1) ms ∙ length-post processes m.0 m.1
 
-length-received : (processes : Processes) (p : ℕ) → length (received processes p) ≡ length processes
+length-received : (processes : Processes) (p : ℕ) → length (after_receive processes p) ≡ length processes
 length-received processes p = by (process_at processes p)
   where
     by : (o : Option _)
@@ -53,32 +53,32 @@ module _ (own : ℕ → Bool) (old : World) where
   enrol-moves p =
       record { most = refl; known = let e = length-append old.processes ((p, record { lives = true; mailbox = [] }) ∷ []) in omega (arith, e); tables = follows-same own old.tables }
 
-  pub receive-moves : (p : ℕ) → Moves own old (record old { processes = received old.processes p })
+  pub receive-moves : (p : ℕ) → Moves own old (record old { processes = after_receive old.processes p })
   receive-moves p =
       record { most = refl; known = let e = length-received old.processes p in omega (arith, e); tables = follows-same own old.tables }
 
-  pub new-moves : (p : ℕ) (name : List ℕ) (options : NewOptions) (fixed : Fixed) → fixed.content.slots ≡ []
+  pub new-moves : (p : ℕ) (name : List ℕ) (options : NewOptions) (fixed : TableState) → fixed.content.slots ≡ []
       → IsFresh fixed.buckets → (options.named && is_some (whereis old.tables name)) ≡ false
-      → Moves own old (with_table old (new_head p name options) fixed)
+      → Moves own old (with_table old (new_metadata p name options) fixed)
   new-moves p name options fixed bare fresh free = record {
     most = refl;
     known = omega arith;
     tables =
-        follows-push own old.tables (record { head = new_head p name options; fixed = fixed }) bare fresh (free-of options.named (whereis old.tables name) free);
+        follows-push own old.tables (record { metadata = new_metadata p name options; fixed = fixed }) bare fresh (free-of options.named (whereis old.tables name) free);
   }
 
   pub gone-moves : (t : ℕ) → Moves own old (without_table old t)
   gone-moves t = record { most = refl; known = omega arith; tables = follows-gone own old.tables t }
 
-  pub give-moves : (p t q : ℕ) (gift : Term) (head : Head) → Moves own old (given old p t q gift head)
-  give-moves p t q gift head = record {
+  pub give-moves : (p t q : ℕ) (gift : Term) (metadata : Metadata) → Moves own old (given old p t q gift metadata)
+  give-moves p t q gift metadata = record {
     most = refl;
-    known = let e = length-post old.processes q (transfer head t p gift) in omega (arith, e);
+    known = let e = length-post old.processes q (transfer_message metadata t p gift) in omega (arith, e);
     tables =
-        follows-changed own old.tables (passed_to q) (λ table. let same = stays-same own table in record { name = refl; named = refl; fixed = same.fixed }) t;
+        follows-changed own old.tables (with_owner q) (λ table. let same = stays-same own table in record { name = refl; named = refl; fixed = same.fixed }) t;
   }
 
-  pub heir-moves : (t : ℕ) (heir : Option Heir) → Moves own old (heir_set old t heir)
+  pub heir-moves : (t : ℕ) (heir : Option Heir) → Moves own old (after_set_heir old t heir)
   heir-moves t heir = record {
     most = refl;
     known = omega arith;
@@ -91,33 +91,33 @@ module _ (processes : Processes) (p : ℕ) where
   abbrev StaysGiven : Table → Table → Type 0
   StaysGiven was table = Stays (λ w. p == w) was table
 
-  let_go-stays : (table : Table) → StaysGiven table (let_go p table)
+  let_go-stays : (table : Table) → StaysGiven table (without_fixes p table)
   let_go-stays table = record { name = refl; named = refl; fixed = all_released-tame p table.fixed }
 
   heir-after : (was : Table) (heir : Option Heir) (table : Table)
-      → option_map (λ h. passed_to h.pid (let_go p was)) heir ≡ Some table → StaysGiven was table
+      → option_map (λ h. with_owner h.pid (without_fixes p was)) heir ≡ Some table → StaysGiven was table
   heir-after was None table e = cc
   heir-after was (Some heir) table e =
-      let is : passed_to heir.pid (let_go p was) ≡ table = cc in
+      let is : with_owner heir.pid (without_fixes p was) ≡ table = cc in
       subst (StaysGiven was) is (record { name = refl; named = refl; fixed = all_released-tame p was.fixed })
 
   either-after : (its : Bool) (heir : Option Heir) (was table : Table)
-      → cond its (option_map (λ h. passed_to h.pid (let_go p was)) heir) (Some (let_go p was)) ≡ Some table
+      → cond its (option_map (λ h. with_owner h.pid (without_fixes p was)) heir) (Some (without_fixes p was)) ≡ Some table
       → StaysGiven was table
   either-after true heir was table e = heir-after was heir table e
   either-after false heir was table e =
-      let is : let_go p was ≡ table = cc in subst (StaysGiven was) is (let_go-stays was)
+      let is : without_fixes p was ≡ table = cc in subst (StaysGiven was) is (let_go-stays was)
 
-  stays-after : (was table : Table) → table_after processes p (Some was) ≡ Some table → StaysGiven was table
-  stays-after was table e = either-after (owned_by was.head p) (living_heir processes was.head) was table e
+  stays-after : (was table : Table) → table_after_exit processes p (Some was) ≡ Some table → StaysGiven was table
+  stays-after was table e = either-after (owned_by was.metadata p) (living_heir processes was.metadata) was table e
 
-pub end-moves : (old : World) (p : ℕ) → Moves (λ w. p == w) old (handed_over old (ended old.processes p) p)
+pub end-moves : (old : World) (p : ℕ) → Moves (λ w. p == w) old (after_exit old (with_ended old.processes p) p)
 end-moves old p = record {
   most = refl;
   known =
-      let e = length-post_all (ended old.processes p) (messages_from (ended old.processes p) p 0 old.tables) in
+      let e = length-post_all (with_ended old.processes p) (messages_from (with_ended old.processes p) p 0 old.tables) in
       let f = length-set_value (λ q. p == q) old.processes (record { lives = false; mailbox = [] }) in
       omega (arith, e, f);
   tables =
-      follows-map (λ w. p == w) old.tables (table_after (ended old.processes p) p) refl (stays-after (ended old.processes p) p);
+      follows-map (λ w. p == w) old.tables (table_after_exit (with_ended old.processes p) p) refl (stays-after (with_ended old.processes p) p);
 }

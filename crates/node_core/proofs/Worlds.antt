@@ -15,10 +15,10 @@ use Rattle.node_core.specs.Access.{asks}
 use Rattle.node_core.specs.inside.Refusals as called
 
 module _ {X : Type 0} (old : State) (answer : X → Reply) (outcome : Outcome (Result X WorldFault) World) (w : World) where
-  pub asked-ok : (x : X) → world.Comes outcome old.world (Ok x) w → asks old answer outcome (answer x) (record old { world = w })
+  pub asked-ok : (x : X) → world.Refines outcome old.world (Ok x) w → asks old answer outcome (answer x) (record old { world = w })
   asked-ok x h = (Ok x, h, refl, refl)
 
-  pub asked-err : (fault : WorldFault) → world.Comes outcome old.world (Err fault) w → called.Comes (asks old answer outcome) old (called.refused_as fault) (record old { world = w })
+  pub asked-err : (fault : WorldFault) → world.Refines outcome old.world (Err fault) w → called.Comes (asks old answer outcome) old (called.refused_as fault) (record old { world = w })
   asked-err Badarg h = (Err Badarg, h, refl, refl)
   asked-err SystemLimit h = (Err SystemLimit, h, refl, refl)
   asked-err NoProcess h = (Err NoProcess, h, refl, refl)

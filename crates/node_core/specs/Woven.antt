@@ -7,8 +7,8 @@ use Rattle.std.specs.Option.{option_map_or}
 use Rattle.ets_term.specs.declared.term.Term.{Term}
 use Rattle.ets_term.specs.declared.term.Term.TheVariants.{Atom, Tid}
 use Rattle.ets_term.specs.Atoms.{is_atom}
-use Rattle.fixed_walk.specs.Fixes.{most_fixes, fix_count}
-use Rattle.ownership.specs.Heads.{may, may_read}
+use Rattle.fixed_walk.specs.Fixes.{max_fixes, fix_count}
+use Rattle.ownership.specs.Access.{may, may_read}
 use Rattle.ownership.specs.World.{table_at, resolve, lives}
 use Rattle.node_core.specs.declared.step.Step.{Step}
 use Rattle.node_core.specs.declared.step.Step.TheVariants.{Enrol, End, Ask, Grow, Ready}
@@ -134,10 +134,10 @@ module _ (p t : ℕ) where
       × ((before : List Reply) × (key : Term) × (replies ≡ before ++ Value key ∷ [])
       × (is_atom (codes "$end_of_table") key ≡ false))
   Reason fault.Memory old limit keys given [] left replies last =
-      (can_read old ≡ true) × (fixes_in old < most_fixes)
+      (can_read old ≡ true) × (fixes_in old < max_fixes)
   Reason fault.Memory old limit keys given (s ∷ done) left replies last = Unit {0}
   Reason fault.SystemLimit old limit keys given done left replies last =
-      (done ≡ []) × (can_read old ≡ true) × (fixes_in old ≡ most_fixes)
+      (done ≡ []) × (can_read old ≡ true) × (fixes_in old ≡ max_fixes)
 
   -- after the steps done comes the release, if they start with the fix and the table may still be read; the process
   -- then has the number of fixes that it had before

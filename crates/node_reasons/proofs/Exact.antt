@@ -132,7 +132,7 @@ module _ (old : State) where
 right : (old new : State) (s : Step) (reply : Reply) → step old s reply new → Right (why old s reply) (left old.world s false) (left old.world s true) reply
 right old new (Enrol p) reply h = limit-right rule.TooManyProcesses (whole rule.IsKnown) (if is_some (process_at old.world.processes p) then Some (whole rule.IsKnown) else None) reply refl
     (enrol-told old p reply new h) (last-where (is_some (process_at old.world.processes p)) (whole rule.IsKnown))
-right old new (End p) reply h = ended old (ends.handed_over old.world (ends.ended old.world.processes p) p) h.0 reply new.world (lives old.world.processes p) h.1 h.2
+right old new (End p) reply h = ended old (ends.after_exit old.world (ends.with_ended old.world.processes p) p) h.0 reply new.world (lives old.world.processes p) h.1 h.2
 right old new (Ask p asked) reply h = ask-right old p asked reply new (lives old.world.processes p) h
 right old new (Grow t) reply h = grown old (table_at old.world.tables t) reply h.0
 right old new (Ready t bucket) reply h = grown old (table_at old.world.tables t) reply h.0

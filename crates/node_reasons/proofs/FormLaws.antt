@@ -7,14 +7,14 @@ use Rattle.ets_term.specs.declared.term.Term.{Term, out-Term}
 use Rattle.ets_term.specs.declared.term.Term.TheOpen.{Term-F}
 use Rattle.ets_term.specs.Atoms.{is_atom}
 use Rattle.ets_term.specs.Depth.{elements}
-use Rattle.counters.specs.Positions.{integer_of, open_position}
+use Rattle.counters.specs.Positions.{integer_of, updatable_position}
 use Rattle.counters.specs.declared.ops.Ops.TheVariants as updates
 use Rattle.counters.specs.declared.elements.ElementSpecs.TheVariants as values
-use Rattle.counters.specs.Ops.{bound_of, op_from, op_of_parts, op_of, all_ops}
+use Rattle.counters.specs.Ops.{threshold_of, op_from, op_of_parts, op_of, all_ops}
 use Rattle.counters.specs.Elements.{spec_of_parts, all_specs}
-use Rattle.ownership.specs.declared.head.Heir.{Heir}
+use Rattle.ownership.specs.declared.metadata.Heir.{Heir}
 use Rattle.ownership.specs.declared.options.NewOptions.{NewOptions}
-use Rattle.ownership.specs.Options.{usual, natural_form, pid_form, keypos_option, access_word, word_option, heir_said, is_tuning, pair_option, plain_tuple, tuple_saying, option_form, options_from, options_form, options_of}
+use Rattle.ownership.specs.Options.{default_options, natural_form, pid_form, keypos_option, access_word, word_option, parse_heir, is_tuning, pair_option, plain_tuple, tuple_saying, option_form, options_from, options_form, options_of}
 use Rattle.node_reasons.specs.inside.Forms.{is_access_word, is_word, is_keypos_form, is_pair, is_plain, is_option_form, is_option, are_options_form, are_options}
 
 -- ---- options: whether one is read does not rest on what was read before
@@ -67,7 +67,7 @@ tuple-saying (Some heir) es o = refl
 
 option-form : (form : Term-F Term) (o : NewOptions) → is_some (option_form form o) ≡ is_option_form form
 option-form (Term-F.Atom word) o = word-option word o
-option-form (Term-F.Tuple es) o = tuple-saying (heir_said es) es o
+option-form (Term-F.Tuple es) o = tuple-saying (parse_heir es) es o
 option-form _ o = refl
 
 options-from : (o : NewOptions) (terms : List Term) → is_some (options_from o terms) ≡ list_all is_option terms
@@ -81,7 +81,7 @@ options-from o (term ∷ terms) = by (option_form (out-Term term) o) (is_option 
     by (Some next) false e rest = absurd (cc)
 
 options-form : (form : Term-F Term) → is_some (options_form form) ≡ are_options_form form
-options-form (Term-F.List terms) = options-from usual terms
+options-form (Term-F.List terms) = options-from default_options terms
 options-form _ = refl
 
 pub options-some : (term : Term) → is_some (options_of term) ≡ are_options term
@@ -110,8 +110,8 @@ module _ (keypos : ℕ) where
   both-some f None b = refl
   both-some f (Some x) b = map-some (f x) b
 
-  pub op-from-some : (position increment : Term) (bound : Option _) → is_some (op_from keypos position increment bound) ≡ (is_some (open_position keypos position) && is_some (integer_of increment))
-  op-from-some position increment bound = both-some _ (open_position keypos position) (integer_of increment)
+  pub op-from-some : (position increment : Term) (bound : Option _) → is_some (op_from keypos position increment bound) ≡ (is_some (updatable_position keypos position) && is_some (integer_of increment))
+  op-from-some position increment bound = both-some _ (updatable_position keypos position) (integer_of increment)
 
   bounded : {X Y : Type 0} (o : Option X) (f : X → Option Y) (b : Bool) → ((x : X) → is_some (f x) ≡ b) → is_some (option_and_then f o) ≡ (is_some o && b)
   bounded None f b e = refl
@@ -129,11 +129,11 @@ module _ (keypos : ℕ) where
   swapped false i false s = refl
 
   pub op-four-some : (position increment threshold value : Term)
-      → is_some (op_of_parts keypos (position ∷ increment ∷ threshold ∷ value ∷ [])) ≡ (is_some (open_position keypos position) && (is_some (integer_of increment) && (is_some (integer_of threshold) && is_some (integer_of value))))
+      → is_some (op_of_parts keypos (position ∷ increment ∷ threshold ∷ value ∷ [])) ≡ (is_some (updatable_position keypos position) && (is_some (integer_of increment) && (is_some (integer_of threshold) && is_some (integer_of value))))
   op-four-some position increment threshold value =
-      bounded (bound_of threshold value) (λ b. op_from keypos position increment (Some b)) (is_some (open_position keypos position) && is_some (integer_of increment)) (λ b. op-from-some position increment (Some b))
-      ∙ ap (λ c. c && (is_some (open_position keypos position) && is_some (integer_of increment))) (both-some _ (integer_of threshold) (integer_of value))
-      ∙ swapped (is_some (open_position keypos position)) (is_some (integer_of increment)) (is_some (integer_of threshold)) (is_some (integer_of value))
+      bounded (threshold_of threshold value) (λ b. op_from keypos position increment (Some b)) (is_some (updatable_position keypos position) && is_some (integer_of increment)) (λ b. op-from-some position increment (Some b))
+      ∙ ap (λ c. c && (is_some (updatable_position keypos position) && is_some (integer_of increment))) (both-some _ (integer_of threshold) (integer_of value))
+      ∙ swapped (is_some (updatable_position keypos position)) (is_some (integer_of increment)) (is_some (integer_of threshold)) (is_some (integer_of value))
 
   pub one-op : (parts : List Term) → is_some (option_map updates.One (op_of_parts keypos parts)) ≡ is_some (op_of_parts keypos parts)
   one-op parts = map-some updates.One (op_of_parts keypos parts)
@@ -147,16 +147,16 @@ module _ (keypos : ℕ) where
   pub many-specs : (terms : List Term) → is_some (option_map values.Many (all_specs keypos terms)) ≡ list_all (λ term. is_some (spec_of_parts keypos (elements term))) terms
   many-specs terms = map-some values.Many (all_specs keypos terms) ∙ specs-some terms
 
-  pub op-two-some : (position increment : Term) → is_some (op_of_parts keypos (position ∷ increment ∷ [])) ≡ (is_some (open_position keypos position) && is_some (integer_of increment))
+  pub op-two-some : (position increment : Term) → is_some (op_of_parts keypos (position ∷ increment ∷ [])) ≡ (is_some (updatable_position keypos position) && is_some (integer_of increment))
   op-two-some position increment = op-from-some position increment None
 
 pub ruleset update_forms = (one-op, many-ops, one-spec, many-specs, op-two-some, op-four-some)
 
 -- ---- heirs
-pub heir-two : (name none : Term) → is_some (heir_said (name ∷ none ∷ [])) ≡ (is_atom (codes "heir") name && is_atom (codes "none") none)
+pub heir-two : (name none : Term) → is_some (parse_heir (name ∷ none ∷ [])) ≡ (is_atom (codes "heir") name && is_atom (codes "none") none)
 heir-two name none = some-if (is_atom (codes "heir") name && is_atom (codes "none") none) None
 
-pub heir-three : (name pid gift : Term) → is_some (heir_said (name ∷ pid ∷ gift ∷ [])) ≡ (is_atom (codes "heir") name && is_some (pid_form (out-Term pid)))
+pub heir-three : (name pid gift : Term) → is_some (parse_heir (name ∷ pid ∷ gift ∷ [])) ≡ (is_atom (codes "heir") name && is_some (pid_form (out-Term pid)))
 heir-three name pid gift = by (is_atom (codes "heir") name) (pid_form (out-Term pid))
   where
     by : (b : Bool) (p : Option ℕ) → is_some {T = Option Heir} (if b then option_map (λ p. Some (record { pid = p; gift = gift })) p else None) ≡ (b && is_some p)

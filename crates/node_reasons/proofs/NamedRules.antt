@@ -9,17 +9,17 @@ use Rattle.counters.specs.declared.fault.CounterFault.{CounterFault}
 use Rattle.counters.specs.declared.fault.CounterFault.TheVariants as fault
 use Rattle.counters.specs.declared.elements.ElementSpecs.{ElementSpecs}
 use Rattle.counters.specs.declared.ops.Ops.{Ops}
-use Rattle.counters.specs.Counters.{updated_counters}
-use Rattle.counters.specs.Defaults.{keyed, counted_from, written_from}
-use Rattle.counters.specs.Elements.{specs_of, updated_elements}
+use Rattle.counters.specs.Counters.{apply_ops}
+use Rattle.counters.specs.Defaults.{with_key, start_counter, start_elements}
+use Rattle.counters.specs.Elements.{specs_of, apply_elements}
 use Rattle.counters.specs.Ops.{ops_of}
 use Rattle.table_ops.specs.declared.kind.Kind.{Kind}
 use Rattle.table_ops.specs.Content.{Content, objects_under}
-use Rattle.table_ops.specs.Read.{element_told}
-use Rattle.table_ops.specs.Update.{is_set, is_good}
+use Rattle.table_ops.specs.Read.{lookup_element}
+use Rattle.table_ops.specs.Update.{is_set, default_is_object}
 use Rattle.ownership.specs.declared.options.NewOptions.{NewOptions}
-use Rattle.ownership.specs.World.{Table, Tables, Processes, head_of, lives, whereis}
-use Rattle.ownership.specs.Heads.{owned_by}
+use Rattle.ownership.specs.World.{Table, Tables, Processes, metadata_of, lives, whereis}
+use Rattle.ownership.specs.Access.{owned_by}
 use Rattle.ownership.specs.Options.{options_of, pid_form, heir_after}
 use Rattle.ownership.specs.Info.{item_of}
 use Rattle.node_core.specs.Access.{may}
@@ -58,29 +58,29 @@ last-where false r = tt {0}
 
 -- ---- on a table
 module _ (access : Access) (p : ℕ) (rest : Content → Option Reason) where
-  pub on-named : (o : Option Table) (r : Reason) → ((content : Content) → Names (rest content) r) → Names (on_table access p o rest) (head_left access p (head_of o) r)
+  pub on-named : (o : Option Table) (r : Reason) → ((content : Content) → Names (rest content) r) → Names (on_table access p o rest) (head_left access p (metadata_of o) r)
   on-named None r named = refl
-  on-named (Some table) r named = by (may access table.head p)
+  on-named (Some table) r named = by (may access table.metadata p)
     where
       by : (b : Bool) → Names (if b then rest table.fixed.content else Some (argument 1 (lacks access))) (if b then r else argument 1 (lacks access))
       by true = named table.fixed.content
       by false = refl
 
-  pub content-named : (o : Option Table) (left : Content → Reason) → ((content : Content) → Names (rest content) (left content)) → Names (on_table access p o rest) (content_left access p (head_of o) (fixed_of o) left)
+  pub content-named : (o : Option Table) (left : Content → Reason) → ((content : Content) → Names (rest content) (left content)) → Names (on_table access p o rest) (content_left access p (metadata_of o) (fixed_of o) left)
   content-named None left named = refl
-  content-named (Some table) left named = by (may access table.head p)
+  content-named (Some table) left named = by (may access table.metadata p)
     where
       by : (b : Bool) → Names (if b then rest table.fixed.content else Some (argument 1 (lacks access))) (if b then left table.fixed.content else argument 1 (lacks access))
       by true = named table.fixed.content
       by false = refl
 
-pub use-named : (access : Access) (p : ℕ) (o : Option Table) → Names (on_table access p o sound) (use_left access p (head_of o))
+pub use-named : (access : Access) (p : ℕ) (o : Option Table) → Names (on_table access p o sound) (use_left access p (metadata_of o))
 use-named access p o = on-named access p sound o (argument 1 (lacks access)) (λ content. tt {0})
 
-pub fixing-named : (p : ℕ) (o : Option Table) (flag : Term) → Names (fixing p o flag) (fixing_left p (head_of o) flag)
+pub fixing-named : (p : ℕ) (o : Option Table) (flag : Term) → Names (fixing p o flag) (fixing_left p (metadata_of o) flag)
 fixing-named p o flag = by (is_atom (codes "true") flag) (is_atom (codes "false") flag)
   where
-    by : (a b : Bool) → Names (if a then on_table Read p o sound else if b then on_table Read p o sound else Some (argument 2 rule.NotABoolean)) (if a then use_left Read p (head_of o) else if b then use_left Read p (head_of o) else argument 2 rule.NotABoolean)
+    by : (a b : Bool) → Names (if a then on_table Read p o sound else if b then on_table Read p o sound else Some (argument 2 rule.NotABoolean)) (if a then use_left Read p (metadata_of o) else if b then use_left Read p (metadata_of o) else argument 2 rule.NotABoolean)
     by true b = use-named Read p o
     by false true = use-named Read p o
     by false false = refl
@@ -107,16 +107,16 @@ making-named ts name options = by (text_of name)
     by None = refl
     by (Some text) = given text (options_of options) (are_options options) (options-some options)
 
-own-named : (p : ℕ) (o : Option Table) (rest : Table → Option Reason) (r : Reason) → ((table : Table) → Names (rest table) r) → Names (on_own p o rest) (own_left p (head_of o) r)
+own-named : (p : ℕ) (o : Option Table) (rest : Table → Option Reason) (r : Reason) → ((table : Table) → Names (rest table) r) → Names (on_own p o rest) (own_left p (metadata_of o) r)
 own-named p None rest r named = refl
-own-named p (Some table) rest r named = by (owned_by table.head p)
+own-named p (Some table) rest r named = by (owned_by table.metadata p)
   where
     by : (b : Bool) → Names (if b then rest table else Some (argument 1 rule.NotOwner)) (if b then r else argument 1 rule.NotOwner)
     by true = named table
     by false = refl
 
-pub setting-named : (p : ℕ) (o : Option Table) (options : Term) → Names (setting p o options) (own_left p (head_of o) (argument 2 rule.NotOptions))
-setting-named p o options = own-named p o (heir_told options) (argument 2 rule.NotOptions) (λ table. last (is_some (heir_after table.head.heir options)) (argument 2 rule.NotOptions))
+pub setting-named : (p : ℕ) (o : Option Table) (options : Term) → Names (setting p o options) (own_left p (metadata_of o) (argument 2 rule.NotOptions))
+setting-named p o options = own-named p o (heir_told options) (argument 2 rule.NotOptions) (λ table. last (is_some (heir_after table.metadata.heir options)) (argument 2 rule.NotOptions))
 
 receiving-named : (processes : Processes) (p q : ℕ) → Names (receiving processes p q) (if q == p then argument 2 rule.IsTheCaller else argument 2 rule.IsNotLiving)
 receiving-named processes p q = by (q == p)
@@ -125,11 +125,11 @@ receiving-named processes p q = by (q == p)
     by true = refl
     by false = last (lives processes q) (argument 2 rule.IsNotLiving)
 
-pub giving-named : (processes : Processes) (p : ℕ) (o : Option Table) (pid : Term) → Names (giving processes p o pid) (giving_left p (head_of o) pid)
+pub giving-named : (processes : Processes) (p : ℕ) (o : Option Table) (pid : Term) → Names (giving processes p o pid) (giving_left p (metadata_of o) pid)
 giving-named processes p None pid = refl
 giving-named processes p (Some table) pid = by (pid_form (out-Term pid))
   where
-    by : (q : Option ℕ) → Names (giving_to processes p (Some table) q) (giving_to_left p table.head q)
+    by : (q : Option ℕ) → Names (giving_to processes p (Some table) q) (giving_to_left p table.metadata q)
     by None = refl
     by (Some q) = own-named p (Some table) (λ _. receiving processes p q) (if q == p then argument 2 rule.IsTheCaller else argument 2 rule.IsNotLiving) (λ _. receiving-named processes p q)
 
@@ -137,11 +137,11 @@ giving-named processes p (Some table) pid = by (pid_form (out-Term pid))
 module _ (kind : Kind) (n : ℕ) where
   under-needed : (objects : List Term) → Names (element_under (Some (argument 2 rule.NoKey)) kind n objects) (key_left true (argument 3 rule.NoElement) objects)
   under-needed [] = refl
-  under-needed (object ∷ objects) = last (is_some (element_told kind n (object ∷ objects))) (argument 3 rule.NoElement)
+  under-needed (object ∷ objects) = last (is_some (lookup_element kind n (object ∷ objects))) (argument 3 rule.NoElement)
 
   under-free : (objects : List Term) → Names (element_under None kind n objects) (key_left false (argument 3 rule.NoElement) objects)
   under-free [] = tt {0}
-  under-free (object ∷ objects) = last (is_some (element_told kind n (object ∷ objects))) (argument 3 rule.NoElement)
+  under-free (object ∷ objects) = last (is_some (lookup_element kind n (object ∷ objects))) (argument 3 rule.NoElement)
 
   at-zero : (v : Option Reason) (r : Reason) (b : Bool) → Names v r → Names (if b then Some (argument 3 rule.NotAPosition) else v) (if b then argument 3 rule.NotAPosition else r)
   at-zero v r true named = refl
@@ -169,7 +169,7 @@ badarg-named broken (Err fault.SystemLimit) = tt {0}
 badarg-named broken (Err fault.Memory) = tt {0}
 
 set-named : (key : Term) (default : Option Term) (content : Content) (v : Option Reason) (r : Reason) → Names v r → Names (on_set key default content v) (set_left key default content r)
-set-named key default content v r named = by (is_set content.kind) (is_good content.keypos key default)
+set-named key default content v r named = by (is_set content.kind) (default_is_object content.keypos key default)
   where
     by : (a b : Bool) → Names (if a then (if b then v else Some (argument 4 rule.NotAnObject)) else Some (argument 1 rule.NotASet)) (if a then (if b then r else argument 4 rule.NotAnObject) else argument 1 rule.NotASet)
     by true true = named
@@ -188,7 +188,7 @@ counting-named key given content =
   where
     under : (ops : Ops) (objects : List Term) → Names (counting_under key ops None content objects) (key_left true (argument 3 rule.NotACounter) objects)
     under ops [] = refl
-    under ops (object ∷ objects) = badarg-named rule.NotACounter (updated_counters ops object)
+    under ops (object ∷ objects) = badarg-named rule.NotACounter (apply_ops ops object)
 
 pub counting-or-named : (key given default : Term) (content : Content) → Names (counting key given (Some default) content) (counting_left key given (Some default) false content)
 counting-or-named key given default content =
@@ -196,18 +196,18 @@ counting-or-named key given default content =
     (λ ops. set-named key (Some default) content _ _ (under ops (objects_under content.slots key)))
   where
     under : (ops : Ops) (objects : List Term) → Names (counting_under key ops (Some default) content objects) (key_left false (argument 3 rule.NotACounter) objects)
-    under ops [] = badarg-named rule.NotACounter (counted_from ops (keyed content.keypos key default))
-    under ops (object ∷ objects) = badarg-named rule.NotACounter (updated_counters ops object)
+    under ops [] = badarg-named rule.NotACounter (start_counter ops (with_key content.keypos key default))
+    under ops (object ∷ objects) = badarg-named rule.NotACounter (apply_ops ops object)
 
 pub writing-named : (key given : Term) (default : Option Term) (content : Content) → Names (writing key given default content) (writing_left key given default content)
 writing-named key given default content =
     formed (specs_of content.keypos given) (λ specs. on_set key default content (writing_under key specs default content (objects_under content.slots key))) _
     (λ specs. set-named key default content _ _ (under specs (objects_under content.slots key)))
   where
-    started : (specs : ElementSpecs) (o : Option Term) → Names (option_map_or (λ d. unless_badarg rule.NoElement (written_from specs (keyed content.keypos key d))) o None) (argument 3 rule.NoElement)
+    started : (specs : ElementSpecs) (o : Option Term) → Names (option_map_or (λ d. unless_badarg rule.NoElement (start_elements specs (with_key content.keypos key d))) o None) (argument 3 rule.NoElement)
     started specs None = tt {0}
-    started specs (Some d) = badarg-named rule.NoElement (written_from specs (keyed content.keypos key d))
+    started specs (Some d) = badarg-named rule.NoElement (start_elements specs (with_key content.keypos key d))
 
     under : (specs : ElementSpecs) (objects : List Term) → Names (writing_under key specs default content objects) (argument 3 rule.NoElement)
     under specs [] = started specs default
-    under specs (object ∷ objects) = badarg-named rule.NoElement (updated_elements specs object)
+    under specs (object ∷ objects) = badarg-named rule.NoElement (apply_elements specs object)

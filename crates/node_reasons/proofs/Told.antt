@@ -8,7 +8,7 @@ use Rattle.table_ops.specs.declared.refusal.Refusal.{Refusal}
 use Rattle.table_ops.specs.declared.refusal.Refusal.TheVariants as refusal
 use Rattle.table_ops.specs.Content.{Content}
 use Rattle.table_ops.specs.Outcomes.{Outcome, gives}
-use Rattle.fixed_walk.specs.Fixed.{Fixed}
+use Rattle.fixed_walk.specs.TableState.{TableState}
 use Rattle.ownership.specs.declared.fault.WorldFault.{WorldFault}
 use Rattle.ownership.specs.declared.fault.WorldFault.TheVariants as fault
 use Rattle.ownership.specs.World.{Table, table_at, resolve}
@@ -61,7 +61,7 @@ module _ (old : State) (p : ℕ) (access : Access) (rest : Content → Option Re
 
   at-told : (t : ℕ) (o : Option Table) → Told (on_table access p o rest) (Where (option_and_then (allowed access p t) o) old outcome)
   at-told t None = λ reply new h. (h.0, refl)
-  at-told t (Some table) = may-told t table (may access table.head p)
+  at-told t (Some table) = may-told t table (may access table.metadata p)
 
   resolved-told : (o : Option ℕ) → Told (on_table access p (option_and_then (table_at old.world.tables) o) rest) (Where (option_and_then (λ t. option_and_then (allowed access p t) (table_at old.world.tables t)) o) old outcome)
   resolved-told None = λ reply new h. (h.0, refl)
@@ -71,12 +71,12 @@ module _ (old : State) (p : ℕ) (access : Access) (rest : Content → Option Re
   used-told term = resolved-told (resolve old.world.tables term)
 
 module _ (old : State) (p : ℕ) (term : Term) where
-  pub reads-told : (rest : Content → Option Reason) (answer : Fixed → Reply) → ((f : Fixed) → Foretells (rest f.content) (answer f)) → Told (on_table Read p (table_named old.world.tables term) rest) (reads old p term answer)
+  pub reads-told : (rest : Content → Option Reason) (answer : TableState → Reply) → ((f : TableState) → Foretells (rest f.content) (answer f)) → Told (on_table Read p (table_named old.world.tables term) rest) (reads old p term answer)
   reads-told rest answer told = used-told old p Read rest (λ found. gives (answer found.1.fixed) old) (λ found. gives-told (rest found.1.fixed.content) (answer found.1.fixed) old (told found.1.fixed)) term
 
-  pub changes-told : (access : Access) (rest : Content → Option Reason) (rule : Rule) → ((f g : Fixed) (reply : Reply) → rule f reply g → Foretells (rest f.content) reply)
+  pub changes-told : (access : Access) (rest : Content → Option Reason) (rule : Rule) → ((f g : TableState) (reply : Reply) → rule f reply g → Foretells (rest f.content) reply)
       → Told (on_table access p (table_named old.world.tables term) rest) (changes old p access term rule)
-  changes-told access rest rule told = used-told old p access rest (λ found reply new. (fixed : Fixed) × rule found.1.fixed reply fixed × (new ≡ with_table old found.0 fixed)) (λ found reply new h. told found.1.fixed h.0 reply h.1) term
+  changes-told access rest rule told = used-told old p access rest (λ found reply new. (fixed : TableState) × rule found.1.fixed reply fixed × (new ≡ with_table old found.0 fixed)) (λ found reply new h. told found.1.fixed h.0 reply h.1) term
 
 -- ---- replies to changes
 pub value-of : {X : Type 0} (answer : X → Reply) (result : Result X Refusal) (x : X) (reply : Reply) → is_value (answer x) ≡ true → result ≡ Ok x → IsReply answer result reply → is_value reply ≡ true

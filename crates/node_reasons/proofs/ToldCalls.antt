@@ -10,16 +10,16 @@ use Rattle.table_ops.specs.Outcomes.{Outcome, gives, refuse}
 use Rattle.fixed_walk.specs.Walk.{first_key, first_slot}
 use Rattle.ownership.specs.declared.fault.WorldFault.{WorldFault}
 use Rattle.ownership.specs.declared.fault.WorldFault.TheVariants as fault
-use Rattle.ownership.specs.declared.head.Heir.{Heir}
+use Rattle.ownership.specs.declared.metadata.Heir.{Heir}
 use Rattle.ownership.specs.declared.info.InfoItem.{InfoItem}
 use Rattle.ownership.specs.declared.options.NewOptions.{NewOptions}
 use Rattle.ownership.specs.World.{Table, World, table_at, resolve, whereis, lives}
-use Rattle.ownership.specs.Heads.{owned_by}
+use Rattle.ownership.specs.Access.{owned_by}
 use Rattle.ownership.specs.Options.{options_of, pid_form, heir_after}
 use Rattle.ownership.specs.Info.{item_of}
-use Rattle.ownership.specs.Messages.{told, post, transfer}
+use Rattle.ownership.specs.Messages.{name_or_identifier, post, transfer_message}
 use Rattle.ownership.specs.Tables as tables
-use Rattle.ownership.specs.Tables.{without_table, changed, passed_to, with_heir, with_table, new_head}
+use Rattle.ownership.specs.Tables.{without_table, with_changed, with_owner, with_heir, with_table, new_metadata}
 use Rattle.node_core.specs.declared.node.access.Access.TheVariants.{Read, Write}
 use Rattle.node_core.specs.declared.step.Reply.{Reply}
 use Rattle.node_core.specs.declared.step.Reply.TheVariants.{Value, Badarg}
@@ -119,16 +119,16 @@ module _ (old : State) where
   abbrev Enters : ℕ → List ℕ → NewOptions → List Bool → Outcome (Result Term WorldFault) World
   Enters p text options buckets = tables.New old.world p text options (new_table_of old.limits.objects options buckets)
 
-  told-term : (named : Bool) (name : List ℕ) (t : ℕ) → is_value (Value (told named name t)) ≡ true
+  told-term : (named : Bool) (name : List ℕ) (t : ℕ) → is_value (Value (name_or_identifier named name t)) ≡ true
   told-term named name t = refl
 
   enters-told : (p : ℕ) (text : List ℕ) (options : NewOptions) (buckets : List Bool) → WorldTold (making_with old.world.tables text (Some options)) Value (Enters p text options buckets)
   enters-told p text options buckets =
       where-told None (Some (argument 1 rule.NameIsTaken)) Value (options.named && is_some (whereis old.world.tables text))
       (refuse old.world (nat_le old.world.most_tables (length old.world.tables)) (Err fault.SystemLimit)
-      (gives (Ok (told options.named text (length old.world.tables))) (with_table old.world (new_head p text options) (new_table_of old.limits.objects options buckets))))
+      (gives (Ok (name_or_identifier options.named text (length old.world.tables))) (with_table old.world (new_metadata p text options) (new_table_of old.limits.objects options buckets))))
       (λ reply e. (e, refl))
-      (within-told Value (nat_le old.world.most_tables (length old.world.tables)) (told options.named text (length old.world.tables)) (with_table old.world (new_head p text options) (new_table_of old.limits.objects options buckets)) refl)
+      (within-told Value (nat_le old.world.most_tables (length old.world.tables)) (name_or_identifier options.named text (length old.world.tables)) (with_table old.world (new_metadata p text options) (new_table_of old.limits.objects options buckets)) refl)
 
   abbrev Makes : ℕ → List ℕ → NewOptions → Outcome Reply State
   Makes p text options reply new = (buckets : List Bool) × IsFresh buckets × asks old Value (Enters p text options buckets) reply new
@@ -147,20 +147,20 @@ module _ (old : State) where
 
   -- ---- a table of one's own
   abbrev Owns : {X : Type 0} → ℕ → (Table → Outcome (Result X WorldFault) World) → Option Table → Outcome (Result X WorldFault) World
-  Owns p otherwise o r new = MatchOption o (gives (Err fault.Badarg) old.world r new) (λ table. refuse old.world (not (owned_by table.head p)) (Err fault.Badarg) (otherwise table) r new)
+  Owns p otherwise o r new = MatchOption o (gives (Err fault.Badarg) old.world r new) (λ table. refuse old.world (not (owned_by table.metadata p)) (Err fault.Badarg) (otherwise table) r new)
 
   owns-told : {X : Type 0} (p : ℕ) (v : Table → Option Reason) (answer : X → Reply) (otherwise : Table → Outcome (Result X WorldFault) World) (o : Option Table) → ((table : Table) → WorldTold (v table) answer (otherwise table)) → WorldTold (on_own p o v) answer (Owns p otherwise o)
   owns-told p v answer otherwise None told = λ r new reply h e. (world-badarg answer r reply h.0 e, refl)
-  owns-told p v answer otherwise (Some table) told = unless-told (v table) (Some (argument 1 rule.NotOwner)) answer (owned_by table.head p) (otherwise table) (λ reply e. (e, refl)) (told table)
+  owns-told p v answer otherwise (Some table) told = unless-told (v table) (Some (argument 1 rule.NotOwner)) answer (owned_by table.metadata p) (otherwise table) (λ reply e. (e, refl)) (told table)
 
   abbrev Heirs : ℕ → Term → Table → Outcome (Result (Unit {0}) WorldFault) World
-  Heirs t options table r new = MatchOption (heir_after table.head.heir options) (gives (Err fault.Badarg) old.world r new) (λ heir.
-      gives (Ok (tt {0})) (record old.world { tables = changed (with_heir heir) old.world.tables t }) r new)
+  Heirs t options table r new = MatchOption (heir_after table.metadata.heir options) (gives (Err fault.Badarg) old.world r new) (λ heir.
+      gives (Ok (tt {0})) (record old.world { tables = with_changed (with_heir heir) old.world.tables t }) r new)
 
   heirs-told : (t : ℕ) (options : Term) (table : Table) → WorldTold (heir_told options table) (λ _. true_reply) (Heirs t options table)
-  heirs-told t options table r new reply h e = by (heir_after table.head.heir options) h
+  heirs-told t options table r new reply h e = by (heir_after table.metadata.heir options) h
     where
-      by : (o : Option (Option Heir)) → MatchOption o (gives (Err fault.Badarg) old.world r new) (λ heir. gives (Ok (tt {0})) (record old.world { tables = changed (with_heir heir) old.world.tables t }) r new)
+      by : (o : Option (Option Heir)) → MatchOption o (gives (Err fault.Badarg) old.world r new) (λ heir. gives (Ok (tt {0})) (record old.world { tables = with_changed (with_heir heir) old.world.tables t }) r new)
           → Foretells (if is_some o then None else Some (argument 2 rule.NotOptions)) reply
       by None h = (world-badarg (λ _. true_reply) r reply h.0 e, refl)
       by (Some heir) h = inl (world-value (λ _. true_reply) r (tt {0}) reply refl h.0 e)
@@ -181,7 +181,7 @@ module _ (old : State) where
       (unless-told None (Some (argument 2 rule.IsNotLiving)) (λ _. true_reply) (lives old.world.processes q) (gives (Ok (tt {0})) after) (λ reply e. (e, refl)) (done-told (λ _. true_reply) (tt {0}) after refl))
 
   abbrev after-gift : ℕ → Term → ℕ → ℕ → Table → World
-  after-gift p gift t q table = record old.world { processes = post old.world.processes q (transfer table.head t p gift); tables = changed (passed_to q) old.world.tables t }
+  after-gift p gift t q table = record old.world { processes = post old.world.processes q (transfer_message table.metadata t p gift); tables = with_changed (with_owner q) old.world.tables t }
 
   abbrev Gives : ℕ → Term → ℕ → ℕ → Table → Outcome (Result (Unit {0}) WorldFault) World
   Gives p gift t q table = refuse old.world (q == p) (Err fault.Badarg) (refuse old.world (not (lives old.world.processes q)) (Err fault.Badarg) (gives (Ok (tt {0})) (after-gift p gift t q table)))

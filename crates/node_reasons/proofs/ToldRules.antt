@@ -14,14 +14,14 @@ use Rattle.table_ops.specs.declared.refusal.Refusal.TheVariants as refusal
 use Rattle.table_ops.specs.declared.kind.Kind.{Kind}
 use Rattle.table_ops.specs.declared.kind.Kind.TheVariants.{Set, Bag, DuplicateBag}
 use Rattle.table_ops.specs.Content.{Content, key_of, is_object, objects_under}
-use Rattle.table_ops.specs.Put.{PutsAll, Stores, is_taken}
+use Rattle.table_ops.specs.Put.{PutsAll, InsertsWithinLimit, is_taken}
 use Rattle.table_ops.specs.Drop.{Which, without_those, equal_to}
-use Rattle.table_ops.specs.Queries.{answers, bound_in, matches, chosen_count, given_by, is_chosen}
-use Rattle.table_ops.specs.Read.{element_told, element_or, all_objects}
+use Rattle.table_ops.specs.Queries.{answers, bound_in, matches, chosen_count, spec_result, is_chosen}
+use Rattle.table_ops.specs.Read.{lookup_element, lookup_element_or, all_objects}
 use Rattle.table_ops.specs.Outcomes.{gives}
 use Rattle.fixed_walk.specs.declared.fault.FixFault.TheVariants as fix
 use Rattle.fixed_walk.specs.Fixes.{is_fixed}
-use Rattle.fixed_walk.specs.Fixed.{Fixed}
+use Rattle.fixed_walk.specs.TableState.{TableState}
 use Rattle.fixed_walk.specs.Walk.{first_key, first_slot}
 use Rattle.node_core.specs.declared.step.Reply.{Reply}
 use Rattle.node_core.specs.declared.step.Reply.TheVariants.{Badarg}
@@ -41,7 +41,7 @@ use Rattle.node_reasons.proofs.Told.{Foretells, value-of, badarg-of, limit-of}
 
 -- ---- insertion
 -- where each term is an object, they are stored, or a limit refuses it
-stored : {X : Type 0} (done : X) (objects : List Term) (old new : Content) (r : Result X Refusal) → Stores done objects old r new → (r ≡ Ok done) ⊎ (r ≡ Err refusal.SystemLimit)
+stored : {X : Type 0} (done : X) (objects : List Term) (old new : Content) (r : Result X Refusal) → InsertsWithinLimit done objects old r new → (r ≡ Ok done) ⊎ (r ≡ Err refusal.SystemLimit)
 stored {X = X} done objects old new r = by (list_any is_too_deep objects)
   where
     within : (slots : List Slot) (b : Bool) → MatchBool b (gives (Err refusal.SystemLimit) old r new) (gives (Ok done) (record old { slots = slots }) r new) → (r ≡ Ok done) ⊎ (r ≡ Err refusal.SystemLimit)
@@ -57,27 +57,27 @@ limited-of : {X : Type 0} (answer : X → Reply) (result : Result X Refusal) (do
 limited-of answer result done reply v (inl e) h = inl (value-of answer result done reply v e h)
 limited-of answer result done reply v (inr e) h = inr (limit-of answer result reply e h)
 
-pub insert-told : (given : Term) (f g : Fixed) (reply : Reply) → Insert given f reply g → Foretells (insertion given f.content) reply
+pub insert-told : (given : Term) (f g : TableState) (reply : Reply) → Insert given f reply g → Foretells (insertion given f.content) reply
 insert-told given f g reply h = by (list_all (is_object f.content.keypos) (objects_in given)) h.1.0
   where
-    by : (b : Bool) → MatchBool b (Stores tt (objects_in given) f.content h.0 g.content) (gives (Err refusal.Badarg) f.content h.0 g.content) → Foretells (if b then None else Some (argument 2 rule.NotAnObject)) reply
+    by : (b : Bool) → MatchBool b (InsertsWithinLimit tt (objects_in given) f.content h.0 g.content) (gives (Err refusal.Badarg) f.content h.0 g.content) → Foretells (if b then None else Some (argument 2 rule.NotAnObject)) reply
     by true s = limited-of (λ _. true_reply) h.0 tt reply refl (stored tt (objects_in given) f.content g.content h.0 s) h.2
     by false s = (badarg-of (λ _. true_reply) h.0 reply s.0 h.2, refl)
 
-pub insert_new-told : (given : Term) (f g : Fixed) (reply : Reply) → InsertNew given f reply g → Foretells (insertion given f.content) reply
+pub insert_new-told : (given : Term) (f g : TableState) (reply : Reply) → InsertNew given f reply g → Foretells (insertion given f.content) reply
 insert_new-told given f g reply h = by (list_all (is_object f.content.keypos) (objects_in given)) h.1.0
   where
-    taken : (b : Bool) → MatchBool b (gives (Ok false) f.content h.0 g.content) (Stores true (objects_in given) f.content h.0 g.content) → Foretells None reply
+    taken : (b : Bool) → MatchBool b (gives (Ok false) f.content h.0 g.content) (InsertsWithinLimit true (objects_in given) f.content h.0 g.content) → Foretells None reply
     taken true s = inl (value-of truth_reply h.0 false reply refl s.0 h.2)
     taken false s = limited-of truth_reply h.0 true reply refl (stored true (objects_in given) f.content g.content h.0 s) h.2
 
-    by : (b : Bool) → MatchBool b (MatchBool (list_any (is_taken f.content.keypos f.content.slots) (objects_in given)) (gives (Ok false) f.content h.0 g.content) (Stores true (objects_in given) f.content h.0 g.content)) (gives (Err refusal.Badarg) f.content h.0 g.content)
+    by : (b : Bool) → MatchBool b (MatchBool (list_any (is_taken f.content.keypos f.content.slots) (objects_in given)) (gives (Ok false) f.content h.0 g.content) (InsertsWithinLimit true (objects_in given) f.content h.0 g.content)) (gives (Err refusal.Badarg) f.content h.0 g.content)
         → Foretells (if b then None else Some (argument 2 rule.NotAnObject)) reply
     by true s = taken (list_any (is_taken f.content.keypos f.content.slots) (objects_in given)) s
     by false s = (badarg-of truth_reply h.0 reply s.0 h.2, refl)
 
 -- ---- deletion
-pub deletion-told : (object : Term) (f g : Fixed) (reply : Reply) → DeleteObject object f reply g → Foretells (deletion object f.content) reply
+pub deletion-told : (object : Term) (f g : TableState) (reply : Reply) → DeleteObject object f reply g → Foretells (deletion object f.content) reply
 deletion-told object f g reply h = by (without_those (is_fixed f.fixes) (equal_to object) f.content) (key_of f.content.keypos object) h.1.0
   where
     by : (after : Content) (o : Option Term) → MatchOption o (gives (Err refusal.Badarg) f.content h.0 g.content) (λ _. gives (Ok tt) after h.0 g.content) → Foretells (if is_some o then None else Some (argument 2 rule.NotAnObject)) reply
@@ -93,21 +93,21 @@ pub slot-value : (o : Option Slot) → is_value (slot_reply o) ≡ true
 slot-value None = refl
 slot-value (Some slot) = refl
 
-pub next-told : (key : Term) (f : Fixed) → Foretells (walk_on key f.content) (Next key f)
+pub next-told : (key : Term) (f : TableState) → Foretells (walk_on key f.content) (Next key f)
 next-told key f = by (slots_behind f.content.slots key)
   where
     by : (o : Option (List Slot)) → Foretells (if is_some (option_map first_key o) then None else Some (argument 2 rule.NoKey)) (option_map_or key_reply (option_map first_key o) Badarg)
     by None = (refl, refl)
     by (Some slots) = inl (key-value (first_key slots))
 
-pub next_lookup-told : (key : Term) (f : Fixed) → Foretells (walk_on key f.content) (NextLookup key f)
+pub next_lookup-told : (key : Term) (f : TableState) → Foretells (walk_on key f.content) (NextLookup key f)
 next_lookup-told key f = by (slots_behind f.content.slots key)
   where
     by : (o : Option (List Slot)) → Foretells (if is_some (option_map first_key o) then None else Some (argument 2 rule.NoKey)) (option_map_or slot_reply (option_map first_slot o) Badarg)
     by None = (refl, refl)
     by (Some slots) = inl (slot-value (first_slot slots))
 
-pub fixes-told : (p : ℕ) (f g : Fixed) (reply : Reply) → Fixes p f reply g → Foretells None reply
+pub fixes-told : (p : ℕ) (f g : TableState) (reply : Reply) → Fixes p f reply g → Foretells None reply
 fixes-told p f g reply h = by h.0 h.2
   where
     by : (r : Result (Unit {0}) _) → IsFixReply r reply → Foretells None reply
@@ -116,21 +116,21 @@ fixes-told p f g reply h = by h.0 h.2
     by (Err fix.Memory) e = absurd e
 
 -- ---- searches
-pub match-told : (pattern : Term) (f : Fixed) → Foretells (matching pattern f.content) (Match pattern f)
+pub match-told : (pattern : Term) (f : TableState) → Foretells (matching pattern f.content) (Match pattern f)
 match-told pattern f = by (is_pattern (data_of pattern)) (answers (bound_in pattern) (all_objects f.content.slots))
   where
     by : (b : Bool) (found : List Data) → Foretells (if b then None else Some (argument 2 rule.NotAPattern)) (if b then answers_reply found else Badarg)
     by true found = inl refl
     by false found = (refl, refl)
 
-pub match_object-told : (pattern : Term) (f : Fixed) → Foretells (matching pattern f.content) (MatchObject pattern f)
+pub match_object-told : (pattern : Term) (f : TableState) → Foretells (matching pattern f.content) (MatchObject pattern f)
 match_object-told pattern f = by (is_pattern (data_of pattern)) (filter (matches pattern) (all_objects f.content.slots))
   where
     by : (b : Bool) (found : List Term) → Foretells (if b then None else Some (argument 2 rule.NotAPattern)) (if b then list_reply found else Badarg)
     by true found = inl refl
     by false found = (refl, refl)
 
-pub match_delete-told : (pattern : Term) (f g : Fixed) (reply : Reply) → MatchDelete pattern f reply g → Foretells (matching pattern f.content) reply
+pub match_delete-told : (pattern : Term) (f g : TableState) (reply : Reply) → MatchDelete pattern f reply g → Foretells (matching pattern f.content) reply
 match_delete-told pattern f g reply h = by (λ _. matches pattern) (is_pattern (data_of pattern)) h.1
   where
     by : (which : Which) (b : Bool) → Deletes b tt which f h.0 g → Foretells (if b then None else Some (argument 2 rule.NotAPattern)) reply
@@ -142,13 +142,13 @@ selected : (b : Bool) (value : Reply) → is_value value ≡ true → Foretells 
 selected true value v = inl v
 selected false value v = (refl, refl)
 
-pub select-told : (spec : Term) (f : Fixed) → Foretells (selecting spec f.content) (Select spec f)
-select-told spec f = selected (is_spec (data_of spec)) (answers_reply (answers (given_by spec) (all_objects f.content.slots))) refl
+pub select-told : (spec : Term) (f : TableState) → Foretells (selecting spec f.content) (Select spec f)
+select-told spec f = selected (is_spec (data_of spec)) (answers_reply (answers (spec_result spec) (all_objects f.content.slots))) refl
 
-pub select_count-told : (spec : Term) (f : Fixed) → Foretells (selecting spec f.content) (SelectCount spec f)
+pub select_count-told : (spec : Term) (f : TableState) → Foretells (selecting spec f.content) (SelectCount spec f)
 select_count-told spec f = selected (is_spec (data_of spec)) (count_reply (chosen_count (is_chosen spec) (all_objects f.content.slots))) refl
 
-pub select_delete-told : (spec : Term) (f g : Fixed) (reply : Reply) → SelectDelete spec f reply g → Foretells (selecting spec f.content) reply
+pub select_delete-told : (spec : Term) (f g : TableState) (reply : Reply) → SelectDelete spec f reply g → Foretells (selecting spec f.content) reply
 select_delete-told spec f g reply h = by (λ _. is_chosen spec) (chosen_count (is_chosen spec) (all_objects f.content.slots)) (is_spec (data_of spec)) h.1
   where
     by : (which : Which) (count : ℕ) (b : Bool) → Deletes b count which f h.0 g → Foretells (if b then None else Some (argument 2 rule.NotASpecification)) reply
@@ -157,7 +157,7 @@ select_delete-told spec f g reply h = by (λ _. is_chosen spec) (chosen_count (i
 
 -- ---- elements
 -- no object has an element 0
-zero-told : (kind : Kind) (n : ℕ) (object : Term) (objects : List Term) → (n == 0) ≡ true → element_told kind n (object ∷ objects) ≡ None
+zero-told : (kind : Kind) (n : ℕ) (object : Term) (objects : List Term) → (n == 0) ≡ true → lookup_element kind n (object ∷ objects) ≡ None
 zero-told Set n object objects e = rw e refl
 zero-told Bag n object objects e = rw e refl
 zero-told DuplicateBag n object objects e = rw e refl
@@ -169,9 +169,9 @@ told-of (Some element) = inl refl
 module _ (kind : Kind) (n : ℕ) where
   -- by whether the position is 0
   under : (object : Term) (objects : List Term) (missing : Option Reason) (b : Bool) → (n == 0) ≡ b
-      → Foretells (if b then Some (argument 3 rule.NotAPosition) else element_under missing kind n (object ∷ objects)) (term_reply (element_told kind n (object ∷ objects)))
+      → Foretells (if b then Some (argument 3 rule.NotAPosition) else element_under missing kind n (object ∷ objects)) (term_reply (lookup_element kind n (object ∷ objects)))
   under object objects missing true e = (ap term_reply (zero-told kind n object objects e), refl)
-  under object objects missing false e = told-of (element_told kind n (object ∷ objects))
+  under object objects missing false e = told-of (lookup_element kind n (object ∷ objects))
 
   none-under : (b : Bool) → Foretells (if b then Some (argument 3 rule.NotAPosition) else Some (argument 2 rule.NoKey)) Badarg
   none-under true = (refl, refl)
@@ -181,24 +181,24 @@ module _ (kind : Kind) (n : ℕ) where
   default-under default true = (refl, refl)
   default-under default false = inl refl
 
-  told-at : (objects : List Term) → Foretells (element_of (Some (argument 2 rule.NoKey)) objects kind (Some n)) (term_reply (element_told kind n objects))
+  told-at : (objects : List Term) → Foretells (element_of (Some (argument 2 rule.NoKey)) objects kind (Some n)) (term_reply (lookup_element kind n objects))
   told-at [] = none-under (n == 0)
   told-at (object ∷ objects) = under object objects (Some (argument 2 rule.NoKey)) (n == 0) refl
 
-  or-at : (default : Term) (objects : List Term) → Foretells (element_of None objects kind (Some n)) (term_reply (element_or kind n default objects))
+  or-at : (default : Term) (objects : List Term) → Foretells (element_of None objects kind (Some n)) (term_reply (lookup_element_or kind n default objects))
   or-at default [] = default-under default (n == 0)
   or-at default (object ∷ objects) = under object objects None (n == 0) refl
 
-pub element-told : (key position : Term) (f : Fixed) → Foretells (element_told_of key position f.content) (LookupElement key position f)
+pub element-told : (key position : Term) (f : TableState) → Foretells (element_told_of key position f.content) (LookupElement key position f)
 element-told key position f = by (position_of position)
   where
-    by : (o : Option ℕ) → Foretells (element_of (Some (argument 2 rule.NoKey)) (objects_under f.content.slots key) f.content.kind o) (term_reply (option_and_then (λ n. element_told f.content.kind n (objects_under f.content.slots key)) o))
+    by : (o : Option ℕ) → Foretells (element_of (Some (argument 2 rule.NoKey)) (objects_under f.content.slots key) f.content.kind o) (term_reply (option_and_then (λ n. lookup_element f.content.kind n (objects_under f.content.slots key)) o))
     by None = (refl, refl)
     by (Some n) = told-at f.content.kind n (objects_under f.content.slots key)
 
-pub element-or-told : (key position default : Term) (f : Fixed) → Foretells (element_or_of key position f.content) (LookupElementOr key position default f)
+pub element-or-told : (key position default : Term) (f : TableState) → Foretells (element_or_of key position f.content) (LookupElementOr key position default f)
 element-or-told key position default f = by (position_of position)
   where
-    by : (o : Option ℕ) → Foretells (element_of None (objects_under f.content.slots key) f.content.kind o) (term_reply (option_and_then (λ n. element_or f.content.kind n default (objects_under f.content.slots key)) o))
+    by : (o : Option ℕ) → Foretells (element_of None (objects_under f.content.slots key) f.content.kind o) (term_reply (option_and_then (λ n. lookup_element_or f.content.kind n default (objects_under f.content.slots key)) o))
     by None = (refl, refl)
     by (Some n) = or-at f.content.kind n default (objects_under f.content.slots key)

@@ -6,7 +6,7 @@ use Rattle.ets_term.specs.Data.{data_of}
 use Rattle.match_spec.specs.Specifications.{is_pattern, is_spec}
 use Rattle.table_ops.specs.declared.kind.Kind.{Kind}
 use Rattle.table_ops.specs.Content.{Content, is_object, objects_under}
-use Rattle.table_ops.specs.Read.{element_told}
+use Rattle.table_ops.specs.Read.{lookup_element}
 use Rattle.fixed_walk.specs.Walk.{next_key}
 use Rattle.node_core.specs.Positions.{position_of}
 use Rattle.node_core.specs.rules.Insertion.{objects_in}
@@ -42,7 +42,7 @@ selecting spec content = if is_spec (data_of spec) then None else Some (argument
 -- the element of each object of a key exists; of a set, of its one object
 abbrev pub element : Kind → ℕ → List Term → Option Reason
 element kind position objects =
-    if is_some (element_told kind position objects) then None else Some (argument 3 rule.NoElement)
+    if is_some (lookup_element kind position objects) then None else Some (argument 3 rule.NoElement)
 
 abbrev pub element_under : Option Reason → Kind → ℕ → List Term → Option Reason
 element_under missing kind position [] = missing

@@ -45,4 +45,4 @@ lacks Write = rule.NotWritable
 abbrev pub on_table : Access → ℕ → Option Table → (Content → Option Reason) → Option Reason
 on_table access p None rest = Some (argument 1 rule.NoTable)
 on_table access p (Some table) rest =
-    if may access table.head p then rest table.fixed.content else Some (argument 1 (lacks access))
+    if may access table.metadata p then rest table.fixed.content else Some (argument 1 (lacks access))

@@ -6,7 +6,7 @@ use Rattle.ets_term.specs.declared.term.Term.{Term, out-Term}
 use Rattle.ets_term.specs.Atoms.{text_of, is_atom}
 use Rattle.ownership.specs.declared.options.NewOptions.{NewOptions}
 use Rattle.ownership.specs.World.{Table, Tables, Processes, lives, whereis}
-use Rattle.ownership.specs.Heads.{owned_by}
+use Rattle.ownership.specs.Access.{owned_by}
 use Rattle.ownership.specs.Options.{options_of, pid_form, heir_after}
 use Rattle.ownership.specs.Info.{item_of}
 use Rattle.node_core.specs.declared.node.access.Access.TheVariants.{Read}
@@ -48,12 +48,12 @@ fixing p table flag =
 -- the table is the process's own
 abbrev pub on_own : ℕ → Option Table → (Table → Option Reason) → Option Reason
 on_own p None rest = Some (argument 1 rule.NoTable)
-on_own p (Some table) rest = if owned_by table.head p then rest table else Some (argument 1 rule.NotOwner)
+on_own p (Some table) rest = if owned_by table.metadata p then rest table else Some (argument 1 rule.NotOwner)
 
 -- setopts: the table is the caller's, then each option is about an heir
 abbrev pub heir_told : Term → Table → Option Reason
 heir_told options table =
-    if is_some (heir_after table.head.heir options) then None else Some (argument 2 rule.NotOptions)
+    if is_some (heir_after table.metadata.heir options) then None else Some (argument 2 rule.NotOptions)
 
 abbrev pub setting : ℕ → Option Table → Term → Option Reason
 setting p table options = on_own p table (heir_told options)

@@ -6,12 +6,12 @@ use Rattle.counters.specs.declared.fault.CounterFault.{CounterFault}
 use Rattle.counters.specs.declared.fault.CounterFault.TheVariants as fault
 use Rattle.counters.specs.declared.elements.ElementSpecs.{ElementSpecs}
 use Rattle.counters.specs.declared.ops.Ops.{Ops}
-use Rattle.counters.specs.Counters.{updated_counters}
-use Rattle.counters.specs.Defaults.{keyed, counted_from, written_from}
-use Rattle.counters.specs.Elements.{specs_of, updated_elements}
+use Rattle.counters.specs.Counters.{apply_ops}
+use Rattle.counters.specs.Defaults.{with_key, start_counter, start_elements}
+use Rattle.counters.specs.Elements.{specs_of, apply_elements}
 use Rattle.counters.specs.Ops.{ops_of}
 use Rattle.table_ops.specs.Content.{Content, objects_under}
-use Rattle.table_ops.specs.Update.{is_set, is_good}
+use Rattle.table_ops.specs.Update.{is_set, default_is_object}
 use Rattle.node_reasons.specs.declared.reason.Rule.{Rule}
 use Rattle.node_reasons.specs.declared.reason.Rule.TheVariants as rule
 use Rattle.node_reasons.specs.declared.reason.Reason.{Reason}
@@ -28,16 +28,16 @@ unless_badarg broken (Ok done) = None
 abbrev pub on_set : Term → Option Term → Content → Option Reason → Option Reason
 on_set key default content rest =
     if is_set content.kind
-    then (if is_good content.keypos key default then rest else Some (argument 4 rule.NotAnObject))
+    then (if default_is_object content.keypos key default then rest else Some (argument 4 rule.NotAnObject))
     else Some (argument 1 rule.NotASet)
 
 -- the key has an object, or there is a default; and that has an integer at each position
 abbrev pub counting_under : Term → Ops → Option Term → Content → List Term → Option Reason
 counting_under key ops default content [] =
-    option_map_or (λ d. unless_badarg rule.NotACounter (counted_from ops (keyed content.keypos key d))) default
+    option_map_or (λ d. unless_badarg rule.NotACounter (start_counter ops (with_key content.keypos key d))) default
     (Some (argument 2 rule.NoKey))
 counting_under key ops default content (object ∷ objects) =
-    unless_badarg rule.NotACounter (updated_counters ops object)
+    unless_badarg rule.NotACounter (apply_ops ops object)
 
 -- update_counter: the updates have the form, and none names the key's position; then the table; then the object
 abbrev pub counting : Term → Term → Option Term → Content → Option Reason
@@ -50,9 +50,9 @@ counting key updates default content =
 -- the object, or the default, has each position
 abbrev pub writing_under : Term → ElementSpecs → Option Term → Content → List Term → Option Reason
 writing_under key specs default content [] =
-    option_map_or (λ d. unless_badarg rule.NoElement (written_from specs (keyed content.keypos key d))) default None
+    option_map_or (λ d. unless_badarg rule.NoElement (start_elements specs (with_key content.keypos key d))) default None
 writing_under key specs default content (object ∷ objects) =
-    unless_badarg rule.NoElement (updated_elements specs object)
+    unless_badarg rule.NoElement (apply_elements specs object)
 
 -- update_element: the values have the form, and none names the key's position; then the table; then the object
 abbrev pub writing : Term → Term → Option Term → Content → Option Reason

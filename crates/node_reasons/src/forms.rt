@@ -2,7 +2,7 @@
 ghost use Rattle.std.specs.Prelude.{◌≡◌, is_some};
 ghost use Rattle.std.specs.List.{list_all};
 ghost use Rattle.ets_term.specs.Depth.{elements};
-ghost use Rattle.counters.specs.Positions.{integer_of, open_position};
+ghost use Rattle.counters.specs.Positions.{integer_of, updatable_position};
 ghost use Rattle.counters.specs.Ops.{op_of_parts, ops_of};
 ghost use Rattle.counters.specs.Elements.{spec_of_parts, specs_of};
 
@@ -81,7 +81,7 @@ fn is_spec(keypos: u32, parts: &[Term]) -> bool
 
 /// Returns whether a term is a position of at least 1 that is not the key's.
 fn is_position(keypos: u32, term: &Term) -> bool
-    ensures { result ≡ is_some (open_position keypos term.now) }
+    ensures { result ≡ is_some (updatable_position keypos term.now) }
 {
     match term {
         Term::Int(n) => *n >= 1 && *n as Position != keypos as Position,

@@ -2,7 +2,7 @@
 ghost use Rattle.std.specs.Prelude.{◌≡◌, is_some};
 ghost use Rattle.std.specs.List.{list_all};
 ghost use Rattle.ets_term.specs.declared.term.Term.{out-Term};
-ghost use Rattle.ownership.specs.Options.{heir_said, is_tuning, is_boolean};
+ghost use Rattle.ownership.specs.Options.{parse_heir, is_tuning, is_boolean};
 ghost use Rattle.node_reasons.specs.inside.Forms.{is_access_word, is_word, is_keypos_form, is_pair, is_plain, is_option, are_options};
 
 use ets_term::Term;
@@ -52,7 +52,7 @@ fn is_access_word(word: &str) -> bool
 /// Returns whether a tuple is an option about an heir.
 #[tactic(auto, using(crate::proofs::FormLaws::heir_forms))]
 fn is_heir(elements: &[Term]) -> bool
-    ensures { result ≡ is_some (heir_said elements.now) }
+    ensures { result ≡ is_some (parse_heir elements.now) }
 {
     match elements {
         [name, none] => name.is_atom("heir") && none.is_atom("none"),

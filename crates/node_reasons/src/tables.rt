@@ -1,6 +1,6 @@
 // The rules of calls on tables, their owners and their names.
 ghost use Rattle.std.specs.Prelude.{◌≡◌};
-ghost use Rattle.ownership.specs.World.{head_of};
+ghost use Rattle.ownership.specs.World.{metadata_of};
 ghost use Rattle.node_reasons.specs.Reasons.{table_named};
 ghost use Rattle.node_reasons.specs.inside.Left.{making_left, informing_left, fixing_left, giving_left};
 
@@ -37,7 +37,7 @@ pub fn informing(item: &Term) -> Reason
 
 /// Checks that the flag is a boolean; the last rule is that the process may read the table.
 pub fn fixing<R: Rows>(world: &World<R>, pid: u32, term: &Term, flag: &Term) -> Reason
-    ensures { result ≡ fixing_left pid (head_of (table_named world.now.tables term.now)) flag.now }
+    ensures { result ≡ fixing_left pid (metadata_of (table_named world.now.tables term.now)) flag.now }
 {
     if flag.is_atom("true") {
         read(world, pid, term)
@@ -51,7 +51,7 @@ pub fn fixing<R: Rows>(world: &World<R>, pid: u32, term: &Term, flag: &Term) -> 
 /// Checks that the table exists, that the other is a pid, and that the table is the process's own; the last rule is
 /// that the other may get it.
 pub fn giving<R: Rows>(world: &World<R>, pid: u32, term: &Term, to: &Term) -> Reason
-    ensures { result ≡ giving_left pid (head_of (table_named world.now.tables term.now)) to.now }
+    ensures { result ≡ giving_left pid (metadata_of (table_named world.now.tables term.now)) to.now }
 {
     let Some(_) = head_named(world, term) else {
         return Reason::argument(1, Rule::NoTable);

@@ -2,8 +2,8 @@
 use Rattle.std.specs.Prelude.{ℕ, List, [], ◌∷◌, length, ◌==◌, if◌then◌else◌, unwrap_or}
 use Rattle.ets_term.specs.declared.term.Term.{Term, out-Term}
 use Rattle.ets_term.specs.declared.term.Term.TheOpen.{Term-F}
-use Rattle.term_text.specs.Given.{offset}
-use Rattle.term_text.specs.Reader.{Reading, goes, found, fails, reading}
+use Rattle.term_text.specs.Faults.{offset}
+use Rattle.term_text.specs.Reading.{Reading, reads_on, found, fails, reading}
 use Rattle.node_text.specs.declared.asked.Asked.{Asked}
 use Rattle.node_text.specs.declared.asked.Asked.TheVariants.{Call, Faulty}
 
@@ -29,7 +29,7 @@ call_in term = call_form (out-Term term)
 abbrev pub asked_by : ℕ → Reading → Asked
 asked_by len (found t n) = if n == len then call_in t else Faulty n
 asked_by len (fails f) = Faulty (unwrap_or (offset f) 0)
-asked_by len (goes mode os) = Faulty len
+asked_by len (reads_on mode os) = Faulty len
 
 abbrev pub asked : List ℕ → Asked
 asked text = asked_by (length text) (reading text)

@@ -9,7 +9,7 @@ use Rattle.std.proofs.Math.Seq.{get_or-append_seam}
 use Rattle.std.proofs.lemmas.Bool.{cases_eq, cases_lt}
 use Rattle.std.proofs.lemmas.List.{get_or_past, get_or_append_left, get_or-set_same, get_or-set_other}
 use Rattle.std.proofs.lemmas.Option.{same_Some}
-use Rattle.fixed_walk.specs.Fixed.{Fixed, all_released}
+use Rattle.fixed_walk.specs.TableState.{TableState, after_release_all}
 use Rattle.ownership.specs.declared.metadata.Metadata.{Metadata}
 use Rattle.ownership.specs.declared.metadata.Heir.{Heir}
 use Rattle.ownership.specs.declared.indices.Indices.{Indices}
@@ -155,13 +155,13 @@ module _ (indices : Indices) (tables : Tables) (kept : IndicesInvariant indices 
   kept-heir t heir = kept-metadata t (table_at tables t) (with_heir heir) refl (λ table name. refl) (λ table. refl) (λ table e. owner-at (ids_under indices) tables kept.by_owner t table e)
 
   -- the dirty table changes under its metadata
-  pub kept-fixed : (t : ℕ) (table : Table) (f : Fixed) → table_at tables t ≡ Some table → indices.dirty ≡ Some t → IndicesInvariant indices (set tables t (Some (record table { fixed = f })))
+  pub kept-fixed : (t : ℕ) (table : Table) (f : TableState) → table_at tables t ≡ Some table → indices.dirty ≡ Some t → IndicesInvariant indices (set tables t (Some (record table { fixed = f })))
   kept-fixed t table f e last =
       kept-set indices refl t (Some (record table { fixed = f })) (subst (NameIndexIsExact (get_by_text indices.names)) (sym (all_metadata-same tables t table f e)) kept.by_name)
       (λ it is. let same = same_Some _ _ is in subst (λ (x : Table). IsAmong t (ids_under indices x.metadata.owner) × ((indices.dirty ≡ Some t) ⊎ IsAmong t indices.fixed.items ⊎ IsUnfixed x.fixed)) same (owner-at (ids_under indices) tables kept.by_owner t table e, inl last))
 
   -- a table keeps its name, and the fixes of a process are released
-  pub kept-released : (p t : ℕ) (old new : Table) → table_at tables t ≡ Some old → new.fixed ≡ all_released p old.fixed → ((name : List ℕ) → is_named name (Some new.metadata) ≡ is_named name (Some old.metadata)) → IsAmong t (ids_under indices new.metadata.owner)
+  pub kept-released : (p t : ℕ) (old new : Table) → table_at tables t ≡ Some old → new.fixed ≡ after_release_all p old.fixed → ((name : List ℕ) → is_named name (Some new.metadata) ≡ is_named name (Some old.metadata)) → IsAmong t (ids_under indices new.metadata.owner)
       → IndicesInvariant indices (set tables t (Some new))
   kept-released p t old new at left same own =
       kept-set indices refl t (Some new) (names-stay (get_by_text indices.names) tables t old new at same kept.by_name)

@@ -11,7 +11,7 @@ use Rattle.std.proofs.lemmas.Option.{same_Some}
 use Rattle.std.proofs.lemmas.List.{get_or-set_other, length-map}
 use Rattle.bucket_table.specs.Slots.{purged}
 use Rattle.fixed_walk.specs.Fixes.{FixCounts, is_fixed}
-use Rattle.fixed_walk.specs.Fixed.{Fixed, all_released}
+use Rattle.fixed_walk.specs.TableState.{TableState, after_release_all}
 use Rattle.fixed_walk.proofs.HeldLaws.{free-release_all, purged-none}
 use Rattle.ownership.specs.declared.metadata.Metadata.{Metadata}
 use Rattle.ownership.specs.declared.metadata.Heir.{Heir}
@@ -32,19 +32,19 @@ gone-twice m p = same_map nat_cmp_total nat_cmp-IsAntisymmetric _ _ (λ q. get-r
     either true q e = sym (get-remove nat_cmp_total m p q ∙ ap (λ b. cond b None (get m q)) e)
     either false q e = refl
 
-released-at : (b : Bool) (f : Fixed) (p : ℕ) → is_fixed (remove f.fixes p) ≡ b → all_released p (all_released p f) ≡ all_released p f
+released-at : (b : Bool) (f : TableState) (p : ℕ) → is_fixed (remove f.fixes p) ≡ b → after_release_all p (after_release_all p f) ≡ after_release_all p f
 released-at true f p e =
-    let once : all_released p f ≡ record f { fixes = remove f.fixes p } = rw e refl in
+    let once : after_release_all p f ≡ record f { fixes = remove f.fixes p } = rw e refl in
     rw once (rw (gone-twice f.fixes p) (rw e refl))
 released-at false f p e =
-    let once : all_released p f ≡ record f { content = record f.content { slots = purged f.content.slots }; fixes = remove f.fixes p } = rw e refl in
+    let once : after_release_all p f ≡ record f { content = record f.content { slots = purged f.content.slots }; fixes = remove f.fixes p } = rw e refl in
     rw once (sym (free-release_all p (record f { content = record f.content { slots = purged f.content.slots }; fixes = remove f.fixes p }) e (λ free. purged-none f.content.slots)))
 
-released-twice : (p : ℕ) (f : Fixed) → all_released p (all_released p f) ≡ all_released p f
+released-twice : (p : ℕ) (f : TableState) → after_release_all p (after_release_all p f) ≡ after_release_all p f
 released-twice p f = released-at (is_fixed (remove f.fixes p)) f p refl
 
 -- an idle table stays as it is
-pub idle-stays : (p : ℕ) (f : Fixed) → IsUnfixed f → all_released p f ≡ f
+pub idle-stays : (p : ℕ) (f : TableState) → IsUnfixed f → after_release_all p f ≡ f
 idle-stays p f idle = sym (free-release_all p f idle.0 (λ free. idle.1))
 
 -- ---- a table that is reassigned twice
@@ -139,7 +139,7 @@ all-settled after (o ∷ tables) s = let here = s 0 in let rest = all-settled af
 pub record Left (ps : Processes) (p : ℕ) (o : Option Table) (new : Table) : Type 0 where
   pub table : Table
   pub was : o ≡ Some table
-  pub fixed : new.fixed ≡ all_released p table.fixed
+  pub fixed : new.fixed ≡ after_release_all p table.fixed
   pub metadata : (new.metadata ≡ table.metadata × (owned_by table.metadata p ≡ false)) ⊎ ((heir : Heir) × (living_heir ps table.metadata ≡ Some heir) × (owned_by table.metadata p ≡ true) × (new.metadata ≡ record table.metadata { owner = heir.pid }))
 
 module _ (ps : Processes) (p : ℕ) where
@@ -166,16 +166,16 @@ left-others ps p dead o new left = by left.metadata
     by (inl same) = ap (λ (h : Metadata). owned_by h p) same.0 ∙ same.1
     by (inr to_heir) = ap (λ (h : Metadata). owned_by h p) to_heir.3 ∙ other-pid ps p dead to_heir.0.pid (heir-lives ps p dead left.table.metadata to_heir.0 to_heir.1)
 
-released-idle-at : (b : Bool) (p : ℕ) (f : Fixed) → is_fixed (remove f.fixes p) ≡ b → is_fixed (all_released p f).fixes ≡ false → IsUnfixed (all_released p f)
+released-idle-at : (b : Bool) (p : ℕ) (f : TableState) → is_fixed (remove f.fixes p) ≡ b → is_fixed (after_release_all p f).fixes ≡ false → IsUnfixed (after_release_all p f)
 released-idle-at true p f e free =
-    let once : all_released p f ≡ record f { fixes = remove f.fixes p } = rw e refl in
-    absurd (true≢false (sym e ∙ ap (λ (g : Fixed). is_fixed g.fixes) (sym once) ∙ free))
+    let once : after_release_all p f ≡ record f { fixes = remove f.fixes p } = rw e refl in
+    absurd (true≢false (sym e ∙ ap (λ (g : TableState). is_fixed g.fixes) (sym once) ∙ free))
 released-idle-at false p f e free =
-    let once : all_released p f ≡ record f { content = record f.content { slots = purged f.content.slots }; fixes = remove f.fixes p } = rw e refl in
+    let once : after_release_all p f ≡ record f { content = record f.content { slots = purged f.content.slots }; fixes = remove f.fixes p } = rw e refl in
     subst IsUnfixed (sym once) (e, purged-none f.content.slots)
 
 -- a table is idle if the fixes of the process were its last
-pub released-idle : (p : ℕ) (f : Fixed) → is_fixed (all_released p f).fixes ≡ false → IsUnfixed (all_released p f)
+pub released-idle : (p : ℕ) (f : TableState) → is_fixed (after_release_all p f).fixes ≡ false → IsUnfixed (after_release_all p f)
 released-idle p f free = released-idle-at (is_fixed (remove f.fixes p)) p f refl free
 
 module _ (ps : Processes) (p : ℕ) (dead : lives ps p ≡ false) (old : Tables) (own fixed : List ℕ) (noted : FixedAreListed fixed None old) (owned : CoversTablesOf own p old) where
@@ -208,11 +208,11 @@ module _ (ps : Processes) (p : ℕ) (dead : lives ps p ≡ false) (old : Tables)
     each = λ t table there. each t table there (left-over ps p (table_at old t) table (sym (get_or-map (table_after_exit ps p) old t None) ∙ ap (λ ts. table_at ts t) (sym is) ∙ there));
   }
     where
-      fixed-at : (t : ℕ) (table was : Table) → table_at new t ≡ Some table → table.fixed ≡ all_released p was.fixed → IsAmong t fixed → (b : Bool) → is_fixed table.fixed.fixes ≡ b → IsAmong t (filter (is_fixed_at new) fixed) ⊎ IsUnfixed table.fixed
+      fixed-at : (t : ℕ) (table was : Table) → table_at new t ≡ Some table → table.fixed ≡ after_release_all p was.fixed → IsAmong t fixed → (b : Bool) → is_fixed table.fixed.fixes ≡ b → IsAmong t (filter (is_fixed_at new) fixed) ⊎ IsUnfixed table.fixed
       fixed-at t table was there f a true e = inl (among-filter (is_fixed_at new) fixed t (ap (λ o. option_map_or (λ (x : Table). is_fixed x.fixed.fixes) o false) there ∙ e) a)
-      fixed-at t table was there f a false e = inr (subst IsUnfixed (sym f) (released-idle p was.fixed (ap (λ (g : Fixed). is_fixed g.fixes) (sym f) ∙ e)))
+      fixed-at t table was there f a false e = inr (subst IsUnfixed (sym f) (released-idle p was.fixed (ap (λ (g : TableState). is_fixed g.fixes) (sym f) ∙ e)))
 
-      by : (t : ℕ) (table was : Table) → table_at new t ≡ Some table → table.fixed ≡ all_released p was.fixed → (None ≡ Some t) ⊎ IsAmong t fixed ⊎ IsUnfixed was.fixed → (None ≡ Some t) ⊎ IsAmong t (filter (is_fixed_at new) fixed) ⊎ IsUnfixed table.fixed
+      by : (t : ℕ) (table was : Table) → table_at new t ≡ Some table → table.fixed ≡ after_release_all p was.fixed → (None ≡ Some t) ⊎ IsAmong t fixed ⊎ IsUnfixed was.fixed → (None ≡ Some t) ⊎ IsAmong t (filter (is_fixed_at new) fixed) ⊎ IsUnfixed table.fixed
       by t table was there f (inl dirty) = absurd (cc)
       by t table was there f (inr (inl among)) = inr (fixed-at t table was there f among (is_fixed table.fixed.fixes) refl)
       by t table was there f (inr (inr idle)) = inr (inr (subst IsUnfixed (sym (f ∙ idle-stays p was.fixed idle)) idle))

@@ -4,7 +4,7 @@ use Rattle.std.specs.Option.{option_and_then, option_map_or}
 use Rattle.std.specs.Map.{set_value}
 use Rattle.ets_term.specs.declared.term.Term.{Term}
 use Rattle.table_ops.specs.Outcomes.{Outcome, gives, refuse}
-use Rattle.fixed_walk.specs.Fixed.{all_released}
+use Rattle.fixed_walk.specs.TableState.{after_release_all}
 use Rattle.ownership.specs.declared.fault.WorldFault.{WorldFault}
 use Rattle.ownership.specs.declared.fault.WorldFault.TheVariants.{NoProcess}
 use Rattle.ownership.specs.declared.metadata.Metadata.{Metadata}
@@ -25,7 +25,7 @@ living_heir processes metadata =
 
 -- a table without the fixes of a process; tombstones go when nobody fixes the table
 abbrev pub without_fixes : ℕ → Table → Table
-without_fixes p table = record table { fixed = all_released p table.fixed }
+without_fixes p table = record table { fixed = after_release_all p table.fixed }
 
 -- a table after its process ended: one that it owned passes to the living heir or is deleted
 abbrev pub table_after_exit : Processes → ℕ → Option Table → Option Table

@@ -3,7 +3,7 @@
 use Rattle.std.specs.Prelude.{ℕ, ◌==◌, ◌&&◌, not, nat_le, true, List, [], ◌∷◌, ◌++◌, Option, Some, None, is_some, length, slice_set, option_map, Result, Ok, Err}
 use Rattle.ets_term.specs.declared.term.Term.{Term}
 use Rattle.table_ops.specs.Outcomes.{Outcome, gives, refuse, refuse_none}
-use Rattle.fixed_walk.specs.Fixed.{Fixed}
+use Rattle.fixed_walk.specs.TableState.{TableState}
 use Rattle.ownership.specs.declared.fault.WorldFault.{WorldFault}
 use Rattle.ownership.specs.declared.fault.WorldFault.TheVariants.{Badarg, SystemLimit}
 use Rattle.ownership.specs.declared.metadata.Metadata.{Metadata}
@@ -38,12 +38,12 @@ new_metadata p name options =
     }
 
 -- the world with a new table under the next identifier
-abbrev pub with_table : World → Metadata → Fixed → World
+abbrev pub with_table : World → Metadata → TableState → World
 with_table w metadata fixed =
     record w { tables = w.tables ++ Some (record { metadata = metadata; fixed = fixed }) ∷ [] }
 
 -- The answer is the name of a named table, else the identifier. No two named tables have the same name.
-abbrev pub New : World → ℕ → List ℕ → NewOptions → Fixed → Outcome (Result Term WorldFault) World
+abbrev pub New : World → ℕ → List ℕ → NewOptions → TableState → Outcome (Result Term WorldFault) World
 New old p name options fixed =
     refuse old (options.named && is_some (whereis old.tables name)) (Err Badarg) (
     refuse old (nat_le old.most_tables (length old.tables)) (Err SystemLimit) (

@@ -5,14 +5,14 @@ use Rattle.std.specs.Map.{lookup}
 use Rattle.std.specs.Str.{bytes_eq}
 use Rattle.ets_term.specs.declared.term.Term.{Term, out-Term}
 use Rattle.ets_term.specs.declared.term.Term.TheOpen.{Term-F}
-use Rattle.fixed_walk.specs.Fixed.{Fixed}
+use Rattle.fixed_walk.specs.TableState.{TableState}
 use Rattle.ownership.specs.declared.metadata.Metadata.{Metadata}
 use Rattle.ownership.specs.declared.process.Process.{Process}
 
 -- a table: its metadata, and its objects with its fixes
 pub record Table : Type 0 where
   pub metadata : Metadata
-  pub fixed : Fixed
+  pub fixed : TableState
 
 -- The tables ever made, in order. The place of a table is its identifier; the place of a deleted table stays empty.
 abbrev pub Tables : Type 0
@@ -44,7 +44,7 @@ abbrev pub table_at : Tables → ℕ → Option Table
 table_at tables t = slice_index_or tables t None
 
 -- the objects and fixes of the table with this identifier
-abbrev pub fixed_at : Tables → ℕ → Option Fixed
+abbrev pub fixed_at : Tables → ℕ → Option TableState
 fixed_at tables t = option_map (λ table. table.fixed) (table_at tables t)
 
 -- the metadata of a table
@@ -74,10 +74,10 @@ abbrev pub resolve : Tables → Term → Option ℕ
 resolve tables term = resolve_form tables (out-Term term)
 
 -- the table with other objects and fixes and the same metadata
-abbrev pub fixed_in : Option Table → Fixed → Option Table
+abbrev pub fixed_in : Option Table → TableState → Option Table
 fixed_in None fixed = None
 fixed_in (Some table) fixed = Some (record table { fixed = fixed })
 
 -- the tables after the objects and fixes of one have changed
-abbrev pub with_fixed : Tables → ℕ → Fixed → Tables
+abbrev pub with_fixed : Tables → ℕ → TableState → Tables
 with_fixed tables t fixed = slice_set tables t (fixed_in (table_at tables t) fixed)

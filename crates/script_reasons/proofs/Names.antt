@@ -2,18 +2,18 @@
 use Rattle.std.proofs.Common.{◌≡◌, ◌+◌, ◌≤◌, refl, ℕ, List, true, nat_lt, arith, rules}
 use Rattle.std.specs.List.{prefix_len}
 use Rattle.ets_term.specs.Character.{max_characters}
-use Rattle.term_text.specs.Text.{is_small, is_name}
+use Rattle.term_text.specs.Text.{is_lowercase, is_name}
 use Rattle.script_reasons.specs.declared.oddity.Oddity.TheVariants.{LongName}
 use Rattle.script_reasons.specs.Oddities.{word}
 
-small-name : (b : ℕ) → is_small b ≡ true → is_name b ≡ true
+small-name : (b : ℕ) → is_lowercase b ≡ true → is_name b ≡ true
 unfolding is_name
 small-name b h = rw h refl
 
 above : (m n : ℕ) → m ≤ n → nat_lt m (1 + n) ≡ true
 above m n h = search (arith, rules)
 
-pub word_long : (b : ℕ) (behind : List ℕ) → is_small b ≡ true → max_characters ≤ prefix_len is_name behind → word b behind ≡ LongName
+pub word_long : (b : ℕ) (behind : List ℕ) → is_lowercase b ≡ true → max_characters ≤ prefix_len is_name behind → word b behind ≡ LongName
 word_long b behind h k = let named : is_name b ≡ true = small-name b h in
     let longer : nat_lt max_characters (1 + prefix_len is_name behind) ≡ true = above max_characters (prefix_len is_name behind) k in
     rw (h, named, longer) refl

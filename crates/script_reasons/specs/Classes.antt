@@ -2,7 +2,7 @@
 use Rattle.std.specs.Prelude.{ℕ, ◌-◌, List, [], ◌∷◌, length, filter, slice_index, Bool, false, not, ◌&&◌, ◌||◌, ◌==◌, nat_le, codes}
 use Rattle.std.specs.Str.{byte}
 use Rattle.ets_term.specs.Character.{is_character}
-use Rattle.term_text.specs.Text.{is_blank, is_digit, is_small, begins_term}
+use Rattle.term_text.specs.Text.{is_blank, is_digit, is_lowercase, begins_term}
 
 -- the byte is one of these signs
 abbrev pub among : List ℕ → ℕ → Bool
@@ -18,7 +18,7 @@ abbrev pub is_clean : ℕ → Bool
 is_clean b = (b == byte "\t") || is_character b
 
 abbrev pub begins_atom : ℕ → Bool
-begins_atom b = is_small b || (b == byte "'")
+begins_atom b = is_lowercase b || (b == byte "'")
 
 abbrev pub begins_number : ℕ → Bool
 begins_number b = is_digit b || (b == byte "-")

@@ -4,7 +4,7 @@ use Rattle.std.specs.List.{prefix_len}
 use Rattle.std.specs.Str.{byte}
 use Rattle.ets_term.specs.Character.{max_characters}
 use Rattle.ets_term.specs.Depth.{max_depth}
-use Rattle.term_text.specs.Text.{is_digit, is_small, is_name, begins}
+use Rattle.term_text.specs.Text.{is_digit, is_lowercase, is_name, begins}
 use Rattle.script_reasons.specs.declared.oddity.Oddity.{Oddity}
 use Rattle.script_reasons.specs.declared.oddity.Oddity.TheVariants as oddity
 use Rattle.script_reasons.specs.declared.place.Place.{Place}
@@ -39,7 +39,7 @@ behind_call b = if b == byte "." then oddity.FullStop
 
 -- a name of more characters than an atom has, or a long number
 abbrev pub word : ℕ → List ℕ → Oddity
-word b behind = if is_small b && nat_lt max_characters (prefix_len is_name (b ∷ behind)) then oddity.LongName
+word b behind = if is_lowercase b && nat_lt max_characters (prefix_len is_name (b ∷ behind)) then oddity.LongName
     else if nat_le long_number (prefix_len is_digit (b ∷ behind)) then oddity.PastRange
     else oddity.Other b
 

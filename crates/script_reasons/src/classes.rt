@@ -4,7 +4,7 @@ ghost use Rattle.std.specs.List.{prefix_len};
 ghost use Rattle.term_text.specs.Text.{is_blank, is_digit, is_name, begins, begins_term};
 ghost use Rattle.script_reasons.specs.Classes as spec;
 
-use term_text::{is_character_byte, is_digit_byte, is_name_byte, is_small_byte};
+use term_text::{is_character_byte, is_digit_byte, is_lowercase_byte, is_name_byte};
 
 fn is_gap(byte: u8) -> bool
     ensures { result ≡ spec.is_gap byte }
@@ -29,7 +29,7 @@ pub fn goes_deeper(byte: u8) -> bool
 pub fn begins_atom(byte: u8) -> bool
     ensures { result ≡ spec.begins_atom byte }
 {
-    is_small_byte(byte) || byte == b'\''
+    is_lowercase_byte(byte) || byte == b'\''
 }
 
 pub fn begins_number(byte: u8) -> bool
@@ -63,7 +63,7 @@ fn begins_term(byte: u8) -> bool
         || byte == b'<'
         || byte == b'#'
         || is_digit_byte(byte)
-        || is_small_byte(byte)
+        || is_lowercase_byte(byte)
 }
 
 #[tactic(auto, unfolding(term_text::specs::Text::is_blank))]

@@ -8,7 +8,7 @@ use crate::classes::{
 };
 use crate::place::{Place, Quoting};
 use ets_term::{MAX_CHARACTERS, MAX_DEPTH};
-use term_text::{is_digit_byte, is_small_byte};
+use term_text::{is_digit_byte, is_lowercase_byte};
 
 /// A number with this many digits can be out of range in any position.
 const LONG_NUMBER: usize = 10;
@@ -183,7 +183,7 @@ fn sign(byte: u8, behind: &[u8]) -> Oddity
 fn word(byte: u8, behind: &[u8]) -> Oddity
     ensures { result ≡ spec.word byte behind.now }
 {
-    if is_small_byte(byte) && name_len(behind) >= MAX_CHARACTERS {
+    if is_lowercase_byte(byte) && name_len(behind) >= MAX_CHARACTERS {
         Oddity::LongName
     } else if is_digit_byte(byte) && digits_len(behind) + 1 >= LONG_NUMBER {
         Oddity::PastRange

@@ -1,6 +1,6 @@
 //! The rows alone, as a table uses them.
 use crate::store::{Store, has_value, is_full, number, object};
-use bucket_table::{Entry, Rows, SplitRows};
+use bucket_table::{Rows, SlotEntry, SplitRows};
 use ets_term::{Fnv, Items, Term};
 use node_list::Chain;
 use std::alloc::{AllocError, Global};
@@ -16,7 +16,7 @@ impl Store for SplitRows<Fnv> {
 
     fn insert(&mut self, alloc: Global, k: u64) -> Result<bool, AllocError> {
         let key = number(k);
-        let Entry::Vacant(hash) = self.entry(&key) else {
+        let SlotEntry::Vacant(hash) = self.entry(&key) else {
             return Ok(false);
         };
         let objects = Chain::one(alloc, object(alloc, k)?);
@@ -71,7 +71,7 @@ impl Store for SplitRows<Fnv> {
 
 /// Makes the least bucket ready that is not, or doubles the buckets where they are full; answers whether either was due.
 fn grow_if_due(rows: &mut SplitRows<Fnv>) -> Result<bool, AllocError> {
-    if let Some(bucket) = rows.least() {
+    if let Some(bucket) = rows.first_unready() {
         rows.ready(bucket)?;
         return Ok(true);
     }

@@ -10,7 +10,7 @@ use table_ops::{Kind, Refusal, Table};
 const ONE_MORE: Ops = Ops::One(Op {
     position: 2,
     increment: 1,
-    bound: None,
+    threshold: None,
 });
 
 /// Out of memory, and any other refusal.

@@ -9,8 +9,8 @@ use Rattle.ets_term.specs.declared.term.Term.{Term}
 use Rattle.ets_term.specs.Order.{same}
 use Rattle.ets_term.specs.laws.Same.{same-refl}
 use Rattle.bucket_table.specs.Slots.{Slot, HasDistinctKeys, objects_of, with_objects, without, has_objects, slots_behind, object_count}
-use Rattle.bucket_table.specs.Walks.{StandsBefore}
-use Rattle.bucket_table.proofs.WalkLaws.{before-other, before-without}
+use Rattle.bucket_table.specs.Walks.{ComesBefore}
+use Rattle.bucket_table.proofs.slots.Traverse.{before-other, before-without}
 use Rattle.table_ops.specs.declared.delete_plan.SlotDelete.{SlotDelete}
 use Rattle.table_ops.specs.Drop.{after_drop}
 use Rattle.table_ops.specs.Queries.{chosen_count}
@@ -109,7 +109,7 @@ has-set [] key second w h = absurd (true≢false (sym h))
 has-set (x ∷ ss) key second w h = has-set-at (same key x.0) (same second x.0) x ss key second w refl h (has-set ss key second w)
 
 before-set-at : (b c : Bool) (x : Slot) (ss rest : List Slot) (key first second : Term) (w : List Term) → same first x.0 ≡ c → cond c (Some ss) (slots_behind ss first) ≡ Some rest → is_some (objects_of rest second) ≡ true
-    → (StandsBefore ss first second → StandsBefore (with_objects ss key w) first second) → StandsBefore (cond b ((x.0, w) ∷ ss) (x ∷ with_objects ss key w)) first second
+    → (ComesBefore ss first second → ComesBefore (with_objects ss key w) first second) → ComesBefore (cond b ((x.0, w) ∷ ss) (x ∷ with_objects ss key w)) first second
 before-set-at true true x ss rest key first second w e h has ih = record { rest = rest; is = ap (λ (c : Bool). cond c (Some ss) (slots_behind ss first)) e ∙ h; has = has }
 before-set-at true false x ss rest key first second w e h has ih = record { rest = rest; is = ap (λ (c : Bool). cond c (Some ss) (slots_behind ss first)) e ∙ h; has = has }
 before-set-at false true x ss rest key first second w e h has ih =
@@ -123,11 +123,11 @@ before-set-at false false x ss rest key first second w e h has ih =
     let s = ih (record { rest = rest; is = h; has = has }) in
     record { rest = s.rest; is = ap (λ (c : Bool). cond c (Some (with_objects ss key w)) (slots_behind (with_objects ss key w) first)) e ∙ s.is; has = s.has }
 
-before-set : (ss : List Slot) (key first second : Term) (w : List Term) → StandsBefore ss first second → StandsBefore (with_objects ss key w) first second
+before-set : (ss : List Slot) (key first second : Term) (w : List Term) → ComesBefore ss first second → ComesBefore (with_objects ss key w) first second
 before-set [] key first second w s = absurd (let e : None ≡ Some s.rest = s.is in cc)
 before-set (x ∷ ss) key first second w s = before-set-at (same key x.0) (same first x.0) x ss s.rest key first second w refl s.is s.has (before-set ss key first second w)
 
-before-thin-at : (b : Bool) (slots : List Slot) (key first second : Term) (l : List Term) → HasDistinctKeys slots → StandsBefore slots first second → StandsBefore slots first key → StandsBefore slots second key → StandsBefore (if b then with_objects slots key l else without slots key) first second
+before-thin-at : (b : Bool) (slots : List Slot) (key first second : Term) (l : List Term) → HasDistinctKeys slots → ComesBefore slots first second → ComesBefore slots first key → ComesBefore slots second key → ComesBefore (if b then with_objects slots key l else without slots key) first second
 before-thin-at true slots key first second l d s f g = before-set slots key first second l s
 before-thin-at false slots key first second l d s f g = before-without key first second slots (before-other slots first key d f) (before-other slots second key d g) s
 
@@ -220,7 +220,7 @@ module _ (choose : Term → Bool) where
   keys-found [] = tt
   keys-found (s ∷ ss) = (ap (λ (c : Bool). is_some (cond c (Some s.1) (objects_of ss s.0))) (same-refl s.0), all-map (λ k. is_some (objects_of ss k) ≡ true) (λ k. is_some (objects_of (s ∷ ss) k) ≡ true) (keys_of ss) (λ k h. later-key (same k s.0) s ss k h) (keys-found ss))
 
-  behind-first : (s : Slot) (ss : List Slot) (k : Term) → is_some (objects_of ss k) ≡ true → StandsBefore (s ∷ ss) s.0 k
+  behind-first : (s : Slot) (ss : List Slot) (k : Term) → is_some (objects_of ss k) ≡ true → ComesBefore (s ∷ ss) s.0 k
   behind-first s ss k h = record { rest = ss; is = ap (λ (c : Bool). cond c (Some ss) (slots_behind ss s.0)) (same-refl s.0); has = h }
 
   behind-one : (s : Slot) (ss : List Slot) (a b : Option Term) → Apart s.0 a → IsBefore ss a b → IsBefore (s ∷ ss) a b
@@ -246,7 +246,7 @@ module _ (choose : Term → Bool) where
   in-order [] d = tt
   in-order (s ∷ ss) d =
       order-at (nat_lt 0 (chosen_count choose s.1)) s ss (plan_of choose ss)
-      (notes-all (λ o. IsBefore (s ∷ ss) (Some s.0) o) ss (all-map (λ k. is_some (objects_of ss k) ≡ true) (λ k. StandsBefore (s ∷ ss) s.0 k) (keys_of ss) (λ k h. behind-first s ss k h) (keys-found ss)))
+      (notes-all (λ o. IsBefore (s ∷ ss) (Some s.0) o) ss (all-map (λ k. is_some (objects_of ss k) ≡ true) (λ k. ComesBefore (s ∷ ss) s.0 k) (keys_of ss) (λ k h. behind-first s ss k h) (keys-found ss)))
       (order-behind s ss (plan_of choose ss) (notes-all (Apart s.0) ss (all-map (λ k. same s.0 k ≡ false) (λ k. same k s.0 ≡ false) (keys_of ss) (λ k e. turned s.0 k e) d.0)) (in-order ss d.1))
 
   left-count : (b : Bool) (k : Term) (l : List Term) (D : List Slot) → (b ≡ false → length l ≡ 0) → object_count (cond b ((k, l) ∷ D) D) ≡ length l + object_count D

@@ -5,7 +5,7 @@ use Rattle.ets_term.specs.declared.term.Term.{Term}
 use Rattle.ets_term.specs.Data.{Data}
 use Rattle.bucket_table.specs.Slots.{Slot, HasDistinctKeys, objects_of, object_count}
 use Rattle.bucket_table.specs.Walks.{IsFirstPlace, IsNextPlace, behind_in}
-use Rattle.bucket_table.proofs.PlainLaws.{at-place}
+use Rattle.bucket_table.proofs.slots.Index.{at-place}
 use Rattle.node_list.specs.Ticks.{tick, ticks}
 use Rattle.table_ops.specs.declared.kind.Kind.{Kind}
 use Rattle.table_ops.specs.Queries.{also, answers, chosen_count}

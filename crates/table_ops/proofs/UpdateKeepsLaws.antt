@@ -12,9 +12,11 @@ use Rattle.ets_term.specs.declared.term.Term.TheVariants.{Tuple, Int}
 use Rattle.ets_term.specs.declared.term.TheConstants.{MAX_DEPTH}
 use Rattle.ets_term.specs.Atoms.{is_atom}
 use Rattle.ets_term.specs.Depth.{depth, is_too_deep, elements, elements_form, element_at}
-use Rattle.counters.specs.Counters.{count_one, count_all, count, are_counters, or_limit, updated_form, updated_counters}
-use Rattle.counters.specs.Defaults.{keyed, keyed_form, counted_from, shallow_counted, shallow, written_from}
+use Rattle.counters.specs.Counters.{apply_one, apply_all, apply, are_counters, or_limit, apply_ops_form, apply_ops}
+use Rattle.counters.specs.Defaults.{with_key, with_key_form, start_counter, refuse_deep_pair, refuse_deep, start_elements}
 use Rattle.counters.specs.Elements as elements
+use Rattle.counters.specs.inside.Values as values
+use Rattle.counters.proofs.ValueLaws.{values-at}
 use Rattle.counters.specs.declared.elements.ElementSpec.{ElementSpec}
 use Rattle.counters.specs.declared.elements.ElementSpecs.{ElementSpecs}
 use Rattle.counters.specs.declared.fault.CounterFault.{CounterFault}
@@ -75,7 +77,7 @@ module _ (keypos : ℕ) where
       let is : slice_set es (op.position - 1) (Int n) ≡ fs = ap (λ (p : List Term × Term). p.0) pair in
       subst (KeepsAll keypos es) is (record { own = own-kept keypos op.position es (Int n) h; fit = fit-set es (op.position - 1) (Int n) (int-fits n) })
 
-  one-keeps : (op : Op) (es fs : List Term) (a : Term) → may_update keypos op.position ≡ true → count_one op es ≡ Some (fs, a) → KeepsAll keypos es fs
+  one-keeps : (op : Op) (es fs : List Term) (a : Term) → may_update keypos op.position ≡ true → apply_one op es ≡ Some (fs, a) → KeepsAll keypos es fs
   one-keeps op es fs a h e = one-at op es fs a _ h e
 
   keeps-on : (es mid fs : List Term) → KeepsAll keypos es mid → KeepsAll keypos mid fs → KeepsAll keypos es fs
@@ -87,20 +89,20 @@ module _ (keypos : ℕ) where
       let pair : (r.0, t ∷ r.1) ≡ (fs, bs) = same_Some _ _ e in
       (r.1, λ i. Some ((pair i).0, r.1))
 
-  all-at : (op : Op) (ops : List Op) (es fs : List Term) (bs : List Term) (o : Option (List Term × Term)) → count_one op es ≡ o → may_update keypos op.position ≡ true → ((mid : List Term) (cs : List Term) → count_all ops mid ≡ Some (fs, cs) → KeepsAll keypos mid fs)
-      → option_and_then {U = List Term × List Term} (λ first. option_map {U = List Term × List Term} (λ rest. (rest.0, first.1 ∷ rest.1)) (count_all ops first.0)) o ≡ Some (fs, bs) → KeepsAll keypos es fs
+  all-at : (op : Op) (ops : List Op) (es fs : List Term) (bs : List Term) (o : Option (List Term × Term)) → apply_one op es ≡ o → may_update keypos op.position ≡ true → ((mid : List Term) (cs : List Term) → apply_all ops mid ≡ Some (fs, cs) → KeepsAll keypos mid fs)
+      → option_and_then {U = List Term × List Term} (λ first. option_map {U = List Term × List Term} (λ rest. (rest.0, first.1 ∷ rest.1)) (apply_all ops first.0)) o ≡ Some (fs, bs) → KeepsAll keypos es fs
   all-at op ops es fs bs None first h rest e = cc
   all-at op ops es fs bs (Some r) first h rest e =
-      let more = rest-at (count_all ops r.0) r.1 fs bs e in
+      let more = rest-at (apply_all ops r.0) r.1 fs bs e in
       keeps-on es r.0 fs (one-keeps op es r.0 r.1 h first) (rest r.0 more.0 more.1)
 
-  all-keeps : (ops : List Op) (es fs bs : List Term) → list_all (λ op. may_update keypos op.position) ops ≡ true → count_all ops es ≡ Some (fs, bs) → KeepsAll keypos es fs
+  all-keeps : (ops : List Op) (es fs bs : List Term) → list_all (λ op. may_update keypos op.position) ops ≡ true → apply_all ops es ≡ Some (fs, bs) → KeepsAll keypos es fs
   all-keeps [] es fs bs h e =
       let pair : (es, []) ≡ (fs, bs) = same_Some _ _ e in
       subst (KeepsAll keypos es) (ap (λ (p : List Term × List Term). p.0) pair) (record { own = refl; fit = λ f. f })
   all-keeps (op ∷ ops) es fs bs h e =
       let b = both (may_update keypos op.position) (list_all (λ o. may_update keypos o.position) ops) h in
-      all-at op ops es fs bs (count_one op es) refl b.0 (λ mid cs g. all-keeps ops mid fs cs b.1 g) e
+      all-at op ops es fs bs (apply_one op es) refl b.0 (λ mid cs g. all-keeps ops mid fs cs b.1 g) e
 
   many-at : (o : Option (List Term × List Term)) (fs : List Term) (a : Term) (f : List Term → Term) → option_map {U = List Term × Term} (λ r. (r.0, f r.1)) o ≡ Some (fs, a) → (bs : List Term) × (o ≡ Some (fs, bs))
   many-at None fs a f e = cc
@@ -108,9 +110,9 @@ module _ (keypos : ℕ) where
       let pair : (r.0, f r.1) ≡ (fs, a) = same_Some _ _ e in
       (r.1, λ i. Some ((pair i).0, r.1))
 
-  count-keeps : (ops : Ops) (es fs : List Term) (a : Term) → ops_avoid_key keypos ops ≡ true → count ops es ≡ Some (fs, a) → KeepsAll keypos es fs
+  count-keeps : (ops : Ops) (es fs : List Term) (a : Term) → ops_avoid_key keypos ops ≡ true → apply ops es ≡ Some (fs, a) → KeepsAll keypos es fs
   count-keeps (One op) es fs a h e = one-keeps op es fs a h e
-  count-keeps (Many ops) es fs a h e = let m = many-at (count_all ops es) fs a _ e in all-keeps ops es fs m.0 h m.1
+  count-keeps (Many ops) es fs a h e = let m = many-at (apply_all ops es) fs a _ e in all-keeps ops es fs m.0 h m.1
 
   -- a property of the elements holds for the tuple
   tuple-keeps : (was object : Term) (es fs : List Term) → out-Term was ≡ Term-F.Tuple es → object ≡ Tuple fs → KeepsAll keypos es fs → KeepsKey keypos was object
@@ -129,11 +131,11 @@ module _ (keypos : ℕ) where
       let pair : (Tuple r.0, r.1) ≡ (object, answer) = cc in
       (r.0, (λ i. Some (r.0, (pair i).1)), sym (ap (λ (p : Term × Term). p.0) pair))
 
-  elements-at : (b : Bool) (ops : Ops) (es : List Term) (object answer : Term) → (if b then or_limit (count ops es) else Err fault.Badarg) ≡ Ok (object, answer) → (fs : List Term) × (count ops es ≡ Some (fs, answer)) × (object ≡ Tuple fs)
-  elements-at true ops es object answer e = limit-at (count ops es) object answer e
+  elements-at : (b : Bool) (ops : Ops) (es : List Term) (object answer : Term) → (if b then or_limit (apply ops es) else Err fault.Badarg) ≡ Ok (object, answer) → (fs : List Term) × (apply ops es ≡ Some (fs, answer)) × (object ≡ Tuple fs)
+  elements-at true ops es object answer e = limit-at (apply ops es) object answer e
   elements-at false ops es object answer e = cc
 
-  counted-form : (y : Term-F Term) (ops : Ops) (was object answer : Term) → out-Term was ≡ y → ops_avoid_key keypos ops ≡ true → updated_form ops y ≡ Ok (object, answer) → KeepsKey keypos was object
+  counted-form : (y : Term-F Term) (ops : Ops) (was object answer : Term) → out-Term was ≡ y → ops_avoid_key keypos ops ≡ true → apply_ops_form ops y ≡ Ok (object, answer) → KeepsKey keypos was object
   counted-form (Term-F.Tuple es) ops was object answer h may e =
       let t = elements-at (are_counters ops es) ops es object answer e in
       tuple-keeps was object es t.0 h t.2 (count-keeps ops es t.0 answer may t.1)
@@ -144,7 +146,7 @@ module _ (keypos : ℕ) where
   counted-form (Term-F.List n) ops was object answer h may e = cc
   counted-form (Term-F.Binary n) ops was object answer h may e = cc
 
-  pub counted-keeps : (ops : Ops) (was object answer : Term) → ops_avoid_key keypos ops ≡ true → updated_counters ops was ≡ Ok (object, answer) → KeepsKey keypos was object
+  pub counted-keeps : (ops : Ops) (was object answer : Term) → ops_avoid_key keypos ops ≡ true → apply_ops ops was ≡ Ok (object, answer) → KeepsKey keypos was object
   counted-keeps ops was object answer may e = counted-form (out-Term was) ops was object answer refl may e
 
   -- the Default with the key has that key
@@ -153,55 +155,55 @@ module _ (keypos : ℕ) where
   set-same (x ∷ xs) zero v h = refl
   set-same (x ∷ xs) (suc j) v h = set-same xs j v (omega (arith, h))
 
-  keyed-own-at : (b : Bool) (ts : List Term) (key : Term) → (keypos == 0) ≡ b → 0 < keypos → keypos ≤ length ts → (if b then None else slice_get (slice_set ts (keypos - 1) key) (keypos - 1)) ≡ Some key
-  keyed-own-at true ts key e some few = absurd (grind (arith, nat_tests, e, some))
-  keyed-own-at false ts key e some few = set-same ts (keypos - 1) key (omega (arith, some, few))
+  with_key-own-at : (b : Bool) (ts : List Term) (key : Term) → (keypos == 0) ≡ b → 0 < keypos → keypos ≤ length ts → (if b then None else slice_get (slice_set ts (keypos - 1) key) (keypos - 1)) ≡ Some key
+  with_key-own-at true ts key e some few = absurd (grind (arith, nat_tests, e, some))
+  with_key-own-at false ts key e some few = set-same ts (keypos - 1) key (omega (arith, some, few))
 
   key-at : (b : Bool) (key : Term) → is_atom (codes "$end_of_table") key ≡ b → not b ≡ true → (if is_atom (codes "$end_of_table") key then None else Some key) ≡ Some key
   key-at true key e h = absurd (true≢false (sym h))
   key-at false key e h = ap (λ (c : Bool). if c then None else Some key) e
 
-  keyed-at : (b : Bool) (ts : List Term) (key object : Term) → ((nat_lt 0 keypos && nat_le keypos (length ts)) && not (is_atom (codes "$end_of_table") key)) ≡ b
+  with_key-at : (b : Bool) (ts : List Term) (key object : Term) → ((nat_lt 0 keypos && nat_le keypos (length ts)) && not (is_atom (codes "$end_of_table") key)) ≡ b
       → (if b then Some (Tuple (slice_set ts (keypos - 1) key)) else None) ≡ Some object → key_of keypos object ≡ Some key
-  keyed-at false ts key object t e = cc
-  keyed-at true ts key object t e =
+  with_key-at false ts key object t e = cc
+  with_key-at true ts key object t e =
       let is : Tuple (slice_set ts (keypos - 1) key) ≡ object = cc in
       let d = both (nat_lt 0 keypos && nat_le keypos (length ts)) (not (is_atom (codes "$end_of_table") key)) t in
       let b = both (nat_lt 0 keypos) (nat_le keypos (length ts)) d.0 in
       let some : 0 < keypos = grind (arith, nat_tests, b.0) in
       let few : keypos ≤ length ts = grind (arith, nat_tests, b.1) in
-      let own : element_at keypos object ≡ Some key = ap (element_at keypos) (sym is) ∙ ap (at_pos keypos) (elements-Tuple (slice_set ts (keypos - 1) key)) ∙ keyed-own-at (keypos == 0) ts key refl some few in
+      let own : element_at keypos object ≡ Some key = ap (element_at keypos) (sym is) ∙ ap (at_pos keypos) (elements-Tuple (slice_set ts (keypos - 1) key)) ∙ with_key-own-at (keypos == 0) ts key refl some few in
       ap (option_and_then (λ k. if is_atom (codes "$end_of_table") k then None else Some k)) own ∙ key-at (is_atom (codes "$end_of_table") key) key refl d.1
 
-  keyed-by : (y : Term-F Term) (key object : Term) → keyed_form keypos key y ≡ Some object → key_of keypos object ≡ Some key
-  keyed-by (Term-F.Tuple ts) key object e = keyed-at ((nat_lt 0 keypos && nat_le keypos (length ts)) && not (is_atom (codes "$end_of_table") key)) ts key object refl e
-  keyed-by (Term-F.Int n) key object e = cc
-  keyed-by (Term-F.Atom n) key object e = cc
-  keyed-by (Term-F.Pid n) key object e = cc
-  keyed-by (Term-F.Tid n) key object e = cc
-  keyed-by (Term-F.List n) key object e = cc
-  keyed-by (Term-F.Binary n) key object e = cc
+  with_key-by : (y : Term-F Term) (key object : Term) → with_key_form keypos key y ≡ Some object → key_of keypos object ≡ Some key
+  with_key-by (Term-F.Tuple ts) key object e = with_key-at ((nat_lt 0 keypos && nat_le keypos (length ts)) && not (is_atom (codes "$end_of_table") key)) ts key object refl e
+  with_key-by (Term-F.Int n) key object e = cc
+  with_key-by (Term-F.Atom n) key object e = cc
+  with_key-by (Term-F.Pid n) key object e = cc
+  with_key-by (Term-F.Tid n) key object e = cc
+  with_key-by (Term-F.List n) key object e = cc
+  with_key-by (Term-F.Binary n) key object e = cc
 
-  keyed-key : (key default object : Term) → keyed keypos key default ≡ Some object → key_of keypos object ≡ Some key
-  keyed-key key default object e = keyed-by (out-Term default) key object e
+  with_key-key : (key default object : Term) → with_key keypos key default ≡ Some object → key_of keypos object ≡ Some key
+  with_key-key key default object e = with_key-by (out-Term default) key object e
 
   shallow-at : (b : Bool) (r : Term × Term) (object answer : Term) → is_too_deep r.0 ≡ b → (if b then Err fault.SystemLimit else Ok r) ≡ Ok (object, answer) → (r ≡ (object, answer)) × (is_too_deep object ≡ false)
   shallow-at true r object answer e h = cc
   shallow-at false r object answer e h = let is : r ≡ (object, answer) = cc in (is, ap (λ (p : Term × Term). is_too_deep p.0) (sym is) ∙ e)
 
-  shallow-of : (r : Result (Term × Term) CounterFault) (object answer : Term) → shallow_counted r ≡ Ok (object, answer) → (r ≡ Ok (object, answer)) × (is_too_deep object ≡ false)
+  shallow-of : (r : Result (Term × Term) CounterFault) (object answer : Term) → refuse_deep_pair r ≡ Ok (object, answer) → (r ≡ Ok (object, answer)) × (is_too_deep object ≡ false)
   shallow-of (Err f) object answer h = cc
   shallow-of (Ok r) object answer h = let s = shallow-at (is_too_deep r.0) r object answer refl h in (ap Ok s.0, s.1)
 
-  started-at : (o : Option Term) (ops : Ops) (key object answer : Term) → ((made : Term) → o ≡ Some made → key_of keypos made ≡ Some key) → ops_avoid_key keypos ops ≡ true → counted_from ops o ≡ Ok (object, answer) → (key_of keypos object ≡ Some key) × (is_too_deep object ≡ false)
+  started-at : (o : Option Term) (ops : Ops) (key object answer : Term) → ((made : Term) → o ≡ Some made → key_of keypos made ≡ Some key) → ops_avoid_key keypos ops ≡ true → start_counter ops o ≡ Ok (object, answer) → (key_of keypos object ≡ Some key) × (is_too_deep object ≡ false)
   started-at None ops key object answer its may h = cc
   started-at (Some made) ops key object answer its may h =
-      let s = shallow-of (updated_counters ops made) object answer h in
+      let s = shallow-of (apply_ops ops made) object answer h in
       ((counted-keeps ops made object answer may s.0).key ∙ its made refl, s.1)
 
   -- an object counted from a Default is an object of the key
-  pub started : (ops : Ops) (key default object answer : Term) → ops_avoid_key keypos ops ≡ true → counted_from ops (keyed keypos key default) ≡ Ok (object, answer) → (key_of keypos object ≡ Some key) × (is_too_deep object ≡ false)
-  started ops key default object answer may h = started-at (keyed keypos key default) ops key object answer (λ made e. keyed-key key default made e) may h
+  pub started : (ops : Ops) (key default object answer : Term) → ops_avoid_key keypos ops ≡ true → start_counter ops (with_key keypos key default) ≡ Ok (object, answer) → (key_of keypos object ≡ Some key) × (is_too_deep object ≡ false)
+  started ops key default object answer may h = started-at (with_key keypos key default) ops key object answer (λ made e. with_key-key key default made e) may h
 
 -- if elements are set one after another, each fits, or a later one replaces it
 abbrev Later : List ElementSpec → List Term → Type 0
@@ -252,38 +254,30 @@ none-later es later i e h = by (later i e h)
     by (inr g) = absurd (true≢false (sym g))
 
 module _ (keypos : ℕ) where
-  written-later : (specs : List ElementSpec) (es : List Term) → list_all (λ spec. may_update keypos spec.position) specs ≡ true → elements.is_over_deep specs ≡ false → Later specs es → AllFit (elements.written specs es)
+  written-later : (specs : List ElementSpec) (es : List Term) → list_all (λ spec. may_update keypos spec.position) specs ≡ true → values.too_deep_as_element specs ≡ false → Later specs es → AllFit (values.write_each specs es)
   written-later [] es may over later = none-later es later
   written-later (spec ∷ specs) es may over later =
       let b = both (may_update keypos spec.position) (list_all (λ s. may_update keypos s.position) specs) may in
-      let n = neither (nat_le MAX_DEPTH (depth spec.value) && not (list_any (λ (s : ElementSpec). s.position == spec.position) specs)) (elements.is_over_deep specs) over in
+      let n = neither (nat_le MAX_DEPTH (depth spec.value) && not (list_any (λ (s : ElementSpec). s.position == spec.position) specs)) (values.too_deep_as_element specs) over in
       written-later specs (slice_set es (spec.position - 1) spec.value) b.1 n.1 (later-set spec specs es (may-is keypos spec.position b.0).0 n.0 later)
 
-  written-own : (specs : List ElementSpec) (es : List Term) → list_all (λ spec. may_update keypos spec.position) specs ≡ true → at_pos keypos (elements.written specs es) ≡ at_pos keypos es
+  written-own : (specs : List ElementSpec) (es : List Term) → list_all (λ spec. may_update keypos spec.position) specs ≡ true → at_pos keypos (values.write_each specs es) ≡ at_pos keypos es
   written-own [] es may = refl
   written-own (spec ∷ specs) es may =
       let b = both (may_update keypos spec.position) (list_all (λ s. may_update keypos s.position) specs) may in
       written-own specs (slice_set es (spec.position - 1) spec.value) b.1 ∙ own-kept keypos spec.position es spec.value b.0
 
-  written-keeps-all : (specs : List ElementSpec) (es : List Term) → list_all (λ spec. may_update keypos spec.position) specs ≡ true → elements.is_over_deep specs ≡ false → KeepsAll keypos es (elements.written specs es)
+  written-keeps-all : (specs : List ElementSpec) (es : List Term) → list_all (λ spec. may_update keypos spec.position) specs ≡ true → values.too_deep_as_element specs ≡ false → KeepsAll keypos es (values.write_each specs es)
   written-keeps-all specs es may over = record { own = written-own specs es may; fit = λ f. written-later specs es may over (λ i e h. inl (f i e h)) }
-
-  over-at : (b : Bool) (specs : List ElementSpec) (es fs : List Term) → elements.is_over_deep specs ≡ b → (if b then Err fault.SystemLimit else Ok (elements.written specs es)) ≡ Ok fs → (elements.is_over_deep specs ≡ false) × (elements.written specs es ≡ fs)
-  over-at true specs es fs e h = cc
-  over-at false specs es fs e h = let is : elements.written specs es ≡ fs = cc in (e, is)
-
-  place-at : (b : Bool) (specs : List ElementSpec) (es fs : List Term) → (if b then Err fault.Badarg else (if elements.is_over_deep specs then Err fault.SystemLimit else Ok (elements.written specs es))) ≡ Ok fs → (elements.is_over_deep specs ≡ false) × (elements.written specs es ≡ fs)
-  place-at true specs es fs h = cc
-  place-at false specs es fs h = over-at (elements.is_over_deep specs) specs es fs refl h
 
   tuple-at : (r : Result (List Term) CounterFault) (object : Term) → result_map_both Tuple (λ f. f) r ≡ Ok object → (fs : List Term) × (r ≡ Ok fs) × (object ≡ Tuple fs)
   tuple-at (Err f) object h = cc
   tuple-at (Ok fs) object h = let is : Tuple fs ≡ object = cc in (fs, refl, sym is)
 
-  written-form : (y : Term-F Term) (specs : List ElementSpec) (was object : Term) → out-Term was ≡ y → list_all (λ spec. may_update keypos spec.position) specs ≡ true → elements.written_form specs y ≡ Ok object → KeepsKey keypos was object
+  written-form : (y : Term-F Term) (specs : List ElementSpec) (was object : Term) → out-Term was ≡ y → list_all (λ spec. may_update keypos spec.position) specs ≡ true → elements.apply_elements_form specs y ≡ Ok object → KeepsKey keypos was object
   written-form (Term-F.Tuple es) specs was object h may e =
-      let t = tuple-at (elements.written_elements specs es) object e in
-      let p = place-at (not (elements.has_all (length es) specs)) specs es t.0 t.1 in
+      let t = tuple-at (elements.write_values specs es) object e in
+      let p = values-at specs es t.0 t.1 in
       tuple-keeps keypos was object es t.0 h t.2 (subst (KeepsAll keypos es) p.1 (written-keeps-all specs es may p.0))
   written-form (Term-F.Int n) specs was object h may e = cc
   written-form (Term-F.Atom n) specs was object h may e = cc
@@ -292,21 +286,21 @@ module _ (keypos : ℕ) where
   written-form (Term-F.List n) specs was object h may e = cc
   written-form (Term-F.Binary n) specs was object h may e = cc
 
-  pub written-keeps : (specs : ElementSpecs) (was object : Term) → specs_avoid_key keypos specs ≡ true → elements.updated_elements specs was ≡ Ok object → KeepsKey keypos was object
-  written-keeps specs was object may e = written-form (out-Term was) (elements.listed specs) was object refl may e
+  pub written-keeps : (specs : ElementSpecs) (was object : Term) → specs_avoid_key keypos specs ≡ true → elements.apply_elements specs was ≡ Ok object → KeepsKey keypos was object
+  written-keeps specs was object may e = written-form (out-Term was) (elements.spec_list specs) was object refl may e
 
   deep-at : (b : Bool) (made object : Term) → is_too_deep made ≡ b → (if b then Err fault.SystemLimit else Ok made) ≡ Ok object → (made ≡ object) × (is_too_deep object ≡ false)
   deep-at true made object e h = cc
   deep-at false made object e h = let is : made ≡ object = cc in (is, ap is_too_deep (sym is) ∙ e)
 
-  deep-of : (r : Result Term CounterFault) (object : Term) → shallow r ≡ Ok object → (r ≡ Ok object) × (is_too_deep object ≡ false)
+  deep-of : (r : Result Term CounterFault) (object : Term) → refuse_deep r ≡ Ok object → (r ≡ Ok object) × (is_too_deep object ≡ false)
   deep-of (Err f) object h = cc
   deep-of (Ok made) object h = let s = deep-at (is_too_deep made) made object refl h in (ap Ok s.0, s.1)
 
-  written-at : (o : Option Term) (specs : ElementSpecs) (key object : Term) → ((made : Term) → o ≡ Some made → key_of keypos made ≡ Some key) → specs_avoid_key keypos specs ≡ true → written_from specs o ≡ Ok object → (key_of keypos object ≡ Some key) × (is_too_deep object ≡ false)
+  written-at : (o : Option Term) (specs : ElementSpecs) (key object : Term) → ((made : Term) → o ≡ Some made → key_of keypos made ≡ Some key) → specs_avoid_key keypos specs ≡ true → start_elements specs o ≡ Ok object → (key_of keypos object ≡ Some key) × (is_too_deep object ≡ false)
   written-at None specs key object its may h = cc
   written-at (Some made) specs key object its may h =
-      let s = deep-of (elements.updated_elements specs made) object h in
+      let s = deep-of (elements.apply_elements specs made) object h in
       ((written-keeps specs made object may s.0).key ∙ its made refl, s.1)
 
   true-of : (r : Result Term CounterFault) (object : Term) (answer : Bool) → with_true r ≡ Ok (object, answer) → r ≡ Ok object
@@ -314,7 +308,7 @@ module _ (keypos : ℕ) where
   true-of (Ok made) object answer e = let is : (made, true) ≡ (object, answer) = cc in ap (λ (p : Term × Bool). let r : Result Term CounterFault = Ok p.0 in r) is
 
   -- a Default with new elements is an object of the key
-  pub written-started : (specs : ElementSpecs) (key default object : Term) (answer : Bool) → specs_avoid_key keypos specs ≡ true → with_true (written_from specs (keyed keypos key default)) ≡ Ok (object, answer)
+  pub written-started : (specs : ElementSpecs) (key default object : Term) (answer : Bool) → specs_avoid_key keypos specs ≡ true → with_true (start_elements specs (with_key keypos key default)) ≡ Ok (object, answer)
       → (key_of keypos object ≡ Some key) × (is_too_deep object ≡ false)
   written-started specs key default object answer may h =
-      written-at (keyed keypos key default) specs key object (λ made e. keyed-key keypos key default made e) may (true-of (written_from specs (keyed keypos key default)) object answer h)
+      written-at (with_key keypos key default) specs key object (λ made e. with_key-key keypos key default made e) may (true-of (start_elements specs (with_key keypos key default)) object answer h)

@@ -1,13 +1,13 @@
 -- The only object at a place, taken out, updated and put back.
 use Rattle.std.proofs.Common.{◌≡◌, ◌⊎◌, inl, inr, ℕ, ◌+◌, ◌≤◌, Bool, true, false, ◌&&◌, List, [], ◌∷◌, Option, None, Some, unwrap_or, Result, Ok, Err, refl, sym, ap, subst, ◌∙◌, length, true≢false, arith}
-use Rattle.std.specs.Prelude.{IfOk, OnOk, OnErr, IfErr, IsErrOf, is_ok, nat_lt}
+use Rattle.std.specs.Prelude.{IfOk, OnOk, OnErr, IsErrOf, is_ok, nat_lt}
 use Rattle.ets_term.specs.declared.term.Term.{Term}
 use Rattle.ets_term.specs.Order.{same}
 use Rattle.bucket_table.specs.Slots.{Slot, objects_of, with_objects, has_objects, object_count}
 use Rattle.bucket_table.specs.Entries.{HasOne, objects_in, with_objects_in}
-use Rattle.counters.specs.Counters.{updated_counters}
-use Rattle.counters.specs.Defaults.{keyed, counted_from, written_from}
-use Rattle.counters.specs.Elements.{updated_elements}
+use Rattle.counters.specs.Counters.{apply_ops}
+use Rattle.counters.specs.Defaults.{with_key, start_counter, start_elements}
+use Rattle.counters.specs.Elements.{apply_elements}
 use Rattle.counters.specs.declared.elements.ElementSpecs.{ElementSpecs}
 use Rattle.counters.specs.declared.fault.CounterFault.{CounterFault}
 use Rattle.counters.specs.declared.fault.CounterFault.TheVariants as fault
@@ -57,17 +57,20 @@ same-in old None c h = cc
 same-in old (Some key) c h = set_value-same (same key) old c h
 
 module _ (ops : Ops) (at : Option Term) (old new : List Slot) (was object : Term) (own : objects_in old at ≡ Some (was ∷ [])) (now : new ≡ with_objects_in old at (object ∷ [])) where
-  pub counts-at : (r : Result Term CounterFault) → IfOk r (λ answer. updated_counters ops was ≡ Ok (object, answer)) → (IsErrOf r fault.Badarg → updated_counters ops was ≡ Err fault.Badarg)
-      → (IsErrOf r fault.SystemLimit → updated_counters ops was ≡ Err fault.SystemLimit) → OnErr r (object ≡ was) → UpdatesCounterAt ops at old r new
+  pub counts-at : (r : Result Term CounterFault) → IfOk r (λ answer. apply_ops ops was ≡ Ok (object, answer)) → (IsErrOf r fault.Badarg → apply_ops ops was ≡ Err fault.Badarg)
+      → (IsErrOf r fault.SystemLimit → apply_ops ops was ≡ Err fault.SystemLimit) → OnErr r (object ≡ was) → UpdatesCounterAt ops at old r new
   counts-at (Ok answer) done badarg limit kept = (was, own, (object, done, now))
   counts-at (Err fault.Badarg) done badarg limit kept = (was, own, (badarg refl, now ∙ ap (λ t. with_objects_in old at (t ∷ [])) kept ∙ same-in old at (was ∷ []) own))
   counts-at (Err fault.SystemLimit) done badarg limit kept = (was, own, (limit refl, now ∙ ap (λ t. with_objects_in old at (t ∷ [])) kept ∙ same-in old at (was ∷ []) own))
   counts-at (Err fault.Memory) done badarg limit kept = now ∙ ap (λ t. with_objects_in old at (t ∷ [])) kept ∙ same-in old at (was ∷ []) own
 
 module _ (specs : ElementSpecs) (at : Option Term) (old new : List Slot) (was object : Term) (own : objects_in old at ≡ Some (was ∷ [])) (now : new ≡ with_objects_in old at (object ∷ [])) where
-  pub writes-at : (r : Result (Unit {0}) CounterFault) → OnOk r (updated_elements specs was ≡ Ok object) → IfErr r (λ f. updated_elements specs was ≡ Err f) → OnErr r (object ≡ was) → UpdatesElementAt specs at old r new
-  writes-at (Ok tt) done refused kept = (was, own, (object, done, now))
-  writes-at (Err f) done refused kept = (was, own, (refused, now ∙ ap (λ t. with_objects_in old at (t ∷ [])) kept ∙ same-in old at (was ∷ []) own))
+  pub writes-at : (r : Result (Unit {0}) CounterFault) → OnOk r (apply_elements specs was ≡ Ok object) → (IsErrOf r fault.Badarg → apply_elements specs was ≡ Err fault.Badarg)
+      → (IsErrOf r fault.SystemLimit → apply_elements specs was ≡ Err fault.SystemLimit) → OnErr r (object ≡ was) → UpdatesElementAt specs at old r new
+  writes-at (Ok tt) done badarg limit kept = (was, own, (object, done, now))
+  writes-at (Err fault.Badarg) done badarg limit kept = (was, own, (badarg refl, now ∙ ap (λ t. with_objects_in old at (t ∷ [])) kept ∙ same-in old at (was ∷ []) own))
+  writes-at (Err fault.SystemLimit) done badarg limit kept = (was, own, (limit refl, now ∙ ap (λ t. with_objects_in old at (t ∷ [])) kept ∙ same-in old at (was ∷ []) own))
+  writes-at (Err fault.Memory) done badarg limit kept = now ∙ ap (λ t. with_objects_in old at (t ∷ [])) kept ∙ same-in old at (was ∷ []) own
 
 -- the only object of a key in a set
 module _ (kind : Kind) (keypos limit count : ℕ) (old new : List Slot) (key : Term) (at : Option Term) (is : at ≡ Some key) (set : is_set kind ≡ true) (i : IsCounted kind keypos limit count old) where
@@ -118,7 +121,9 @@ module _ (kind : Kind) (keypos limit count : ℕ) (old new : List Slot) (key : T
 
   pub written-at : (specs : ElementSpecs) (r : Result (Unit {0}) CounterFault) → specs_avoid_key keypos specs ≡ true → UpdatesElementAt specs at old r new → IsCounted kind keypos limit count new
   written-at specs (Ok tt) may c = one-counted c.0 c.2.0 c.1 (written-keeps keypos specs c.0 c.2.0 may c.2.1) c.2.2
-  written-at specs (Err f) may c = subst (IsCounted kind keypos limit count) (sym c.2.1) i
+  written-at specs (Err fault.Badarg) may c = subst (IsCounted kind keypos limit count) (sym c.2.1) i
+  written-at specs (Err fault.SystemLimit) may c = subst (IsCounted kind keypos limit count) (sym c.2.1) i
+  written-at specs (Err fault.Memory) may c = subst (IsCounted kind keypos limit count) (sym c) i
 
 first-put-at : (kind : Kind) (old new : List Slot) (key object : Term) (c : List Term) → objects_under old key ≡ c → c ≡ [] → SetsObjects old key (object ∷ []) new → Puts kind old key object new
 first-put-at kind old new key object c e none w = subst (λ (l : List Term). SetsObjects old key l new) (sym (ap (λ l. add kind l object) (e ∙ none) ∙ add-none kind object)) w
@@ -195,34 +200,34 @@ module _ {X : Type 0} (key : Term) (old : Content) (count : ℕ) (none : objects
   stored-comes made (Err Memory) slots s = ap (λ (l : List Slot). let c : Content = record old { slots = l } in c) s
 
 module _ (key : Term) (ops : Ops) (d : Term) (old : Content) (count : ℕ) (none : objects_under old.slots key ≡ []) (counted : count ≡ object_count old.slots) where
-  counts-none : (r : Result Term Refusal) (new : Content) (objects : List Term) → objects ≡ [] → InsertsDefault key old (counted_from ops (keyed old.keypos key d)) r new → UpdatesOrInsertsCounter key ops (Some d) old objects r new
+  counts-none : (r : Result Term Refusal) (new : Content) (objects : List Term) → objects ≡ [] → InsertsDefault key old (start_counter ops (with_key old.keypos key d)) r new → UpdatesOrInsertsCounter key ops (Some d) old objects r new
   counts-none r new [] e h = h
   counts-none r new (x ∷ xs) e h = cc
 
   module _ (given : Option Term) (is : given ≡ Some d) (may : (is_set old.kind && (ops_avoid_key old.keypos ops && default_is_object old.keypos key given)) ≡ true) where
-    counts-lifted : (r : Result Term Refusal) (new : Content) → InsertsDefault key old (counted_from ops (keyed old.keypos key d)) r new → UpdatesCounter key ops given old r new
+    counts-lifted : (r : Result Term Refusal) (new : Content) → InsertsDefault key old (start_counter ops (with_key old.keypos key d)) r new → UpdatesCounter key ops given old r new
     counts-lifted r new h = full_at (is_set old.kind && (ops_avoid_key old.keypos ops && default_is_object old.keypos key given)) _ _ may
         (subst (λ (o : Option Term). UpdatesOrInsertsCounter key ops o old (objects_under old.slots key) r new) (sym is) (counts-none r new (objects_under old.slots key) none h))
 
     -- the counters of a key that has no object, from a Default
-    pub started-comes : (r : Result Term Refusal) (slots : List Slot) → InsertsDefaultAt (nat_lt count old.limit) key (counted_from ops (keyed old.keypos key d)) old.slots r slots → Refines (UpdatesCounter key ops given old) old r (record old { slots = slots })
+    pub started-comes : (r : Result Term Refusal) (slots : List Slot) → InsertsDefaultAt (nat_lt count old.limit) key (start_counter ops (with_key old.keypos key d)) old.slots r slots → Refines (UpdatesCounter key ops given old) old r (record old { slots = slots })
     started-comes r slots s =
-        lifts (InsertsDefault key old (counted_from ops (keyed old.keypos key d))) (UpdatesCounter key ops given old) old counts-lifted r (record old { slots = slots })
-        (stored-comes key old count none counted (counted_from ops (keyed old.keypos key d)) r slots s)
+        lifts (InsertsDefault key old (start_counter ops (with_key old.keypos key d))) (UpdatesCounter key ops given old) old counts-lifted r (record old { slots = slots })
+        (stored-comes key old count none counted (start_counter ops (with_key old.keypos key d)) r slots s)
 
 module _ (key : Term) (specs : ElementSpecs) (d : Term) (old : Content) (count : ℕ) (none : objects_under old.slots key ≡ []) (counted : count ≡ object_count old.slots) where
-  writes-none : (r : Result Bool Refusal) (new : Content) (objects : List Term) → objects ≡ [] → InsertsDefault key old (with_true (written_from specs (keyed old.keypos key d))) r new → UpdatesOrInsertsElement key specs (Some d) old objects r new
+  writes-none : (r : Result Bool Refusal) (new : Content) (objects : List Term) → objects ≡ [] → InsertsDefault key old (with_true (start_elements specs (with_key old.keypos key d))) r new → UpdatesOrInsertsElement key specs (Some d) old objects r new
   writes-none r new [] e h = h
   writes-none r new (x ∷ xs) e h = cc
 
   module _ (given : Option Term) (is : given ≡ Some d) (may : (is_set old.kind && (specs_avoid_key old.keypos specs && default_is_object old.keypos key given)) ≡ true) where
-    writes-lifted : (r : Result Bool Refusal) (new : Content) → InsertsDefault key old (with_true (written_from specs (keyed old.keypos key d))) r new → UpdatesElement key specs given old r new
+    writes-lifted : (r : Result Bool Refusal) (new : Content) → InsertsDefault key old (with_true (start_elements specs (with_key old.keypos key d))) r new → UpdatesElement key specs given old r new
     writes-lifted r new h = full_at (is_set old.kind && (specs_avoid_key old.keypos specs && default_is_object old.keypos key given)) _ _ may
         (subst (λ (o : Option Term). UpdatesOrInsertsElement key specs o old (objects_under old.slots key) r new) (sym is) (writes-none r new (objects_under old.slots key) none h))
 
     -- the elements of a key that has no object, from a Default
-    pub written-comes : (r : Result Bool Refusal) (slots : List Slot) → InsertsDefaultAt (nat_lt count old.limit) key (with_true (written_from specs (keyed old.keypos key d))) old.slots r slots
+    pub written-comes : (r : Result Bool Refusal) (slots : List Slot) → InsertsDefaultAt (nat_lt count old.limit) key (with_true (start_elements specs (with_key old.keypos key d))) old.slots r slots
         → Refines (UpdatesElement key specs given old) old r (record old { slots = slots })
     written-comes r slots s =
-        lifts (InsertsDefault key old (with_true (written_from specs (keyed old.keypos key d)))) (UpdatesElement key specs given old) old writes-lifted r (record old { slots = slots })
-        (stored-comes key old count none counted (with_true (written_from specs (keyed old.keypos key d))) r slots s)
+        lifts (InsertsDefault key old (with_true (start_elements specs (with_key old.keypos key d)))) (UpdatesElement key specs given old) old writes-lifted r (record old { slots = slots })
+        (stored-comes key old count none counted (with_true (start_elements specs (with_key old.keypos key d))) r slots s)

@@ -6,9 +6,9 @@ use Rattle.std.specs.List.{list_all}
 use Rattle.std.specs.Option.{option_map_or}
 use Rattle.ets_term.specs.declared.term.Term.{Term}
 use Rattle.bucket_table.specs.Slots.{Slot, with_objects, object_count}
-use Rattle.counters.specs.Counters.{updated_counters}
-use Rattle.counters.specs.Defaults.{keyed, counted_from, written_from}
-use Rattle.counters.specs.Elements.{listed, updated_elements}
+use Rattle.counters.specs.Counters.{apply_ops}
+use Rattle.counters.specs.Defaults.{with_key, start_counter, start_elements}
+use Rattle.counters.specs.Elements.{spec_list, apply_elements}
 use Rattle.counters.specs.declared.elements.ElementSpecs.{ElementSpecs}
 use Rattle.counters.specs.declared.fault.CounterFault.{CounterFault}
 use Rattle.counters.specs.declared.fault.CounterFault.TheVariants as fault
@@ -37,7 +37,7 @@ ops_avoid_key keypos (One op) = may_update keypos op.position
 ops_avoid_key keypos (Many ops) = list_all (λ op. may_update keypos op.position) ops
 
 abbrev pub specs_avoid_key : ℕ → ElementSpecs → Bool
-specs_avoid_key keypos specs = list_all (λ spec. may_update keypos spec.position) (listed specs)
+specs_avoid_key keypos specs = list_all (λ spec. may_update keypos spec.position) (spec_list specs)
 
 abbrev pub refusal_of : CounterFault → Refusal
 refusal_of fault.Badarg = Badarg
@@ -68,12 +68,12 @@ InsertsDefault key old (Err fault) r new = gives (Err (refusal_of fault)) old r 
 abbrev pub UpdatesOrInsertsCounter : Term → Ops → Option Term → Content → List Term → Change Term Content
 UpdatesOrInsertsCounter key ops default old [] =
     refuse_none old default (Err Badarg) (λ d.
-    InsertsDefault key old (counted_from ops (keyed old.keypos key d)))
-UpdatesOrInsertsCounter key ops default old (object ∷ objects) = UpdatesCounterOf key old (updated_counters ops object)
+    InsertsDefault key old (start_counter ops (with_key old.keypos key d)))
+UpdatesOrInsertsCounter key ops default old (object ∷ objects) = UpdatesCounterOf key old (apply_ops ops object)
 
 -- whether the Default is absent, or is an object once it has the key
 abbrev pub default_is_object : ℕ → Term → Option Term → Bool
-default_is_object keypos key default = option_map_or (λ d. is_some (keyed keypos key d)) default true
+default_is_object keypos key default = option_map_or (λ d. is_some (with_key keypos key d)) default true
 
 -- whether update_counter may take these arguments: in a set, not for the key's position, with an object as Default
 abbrev pub counter_is_valid : Content → Term → Ops → Option Term → Bool
@@ -105,9 +105,9 @@ abbrev pub UpdatesOrInsertsElement : Term → ElementSpecs → Option Term → C
 UpdatesOrInsertsElement key specs default old [] r new =
     MatchOption default
     (gives (Ok false) old r new)
-    (λ d. InsertsDefault key old (with_true (written_from specs (keyed old.keypos key d))) r new)
+    (λ d. InsertsDefault key old (with_true (start_elements specs (with_key old.keypos key d))) r new)
 UpdatesOrInsertsElement key specs default old (object ∷ objects) r new =
-    UpdatesElementOf key old (updated_elements specs object) r new
+    UpdatesElementOf key old (apply_elements specs object) r new
 
 -- whether update_element may take these arguments
 abbrev pub element_is_valid : Content → Term → ElementSpecs → Option Term → Bool

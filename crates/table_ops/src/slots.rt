@@ -40,7 +40,7 @@ impl<'a, R: Rows> Iterator for Slots<'a, R> {
             return None;
         };
         let slot = self.rows.slot_at(place);
-        self.at = self.rows.place_behind(place);
+        self.at = self.rows.next_place(place);
         self.passed += 1;
         Some(slot)
     }
@@ -50,7 +50,7 @@ impl<'a, R: Rows> Iterator for Slots<'a, R> {
 pub fn all_of<R: Rows>(rows: &R) -> Slots<'_, R>
     ensures { result ≡ R.content rows.now }
 {
-    rows.known();
+    rows.reveal_invariant();
     let _len = rows.len();
     Slots {
         rows,

@@ -108,7 +108,7 @@ impl<R: Rows> Table<R> {
     pub fn least(&self) -> Option<u32>
         ensures { result ≡ position not self.now.buckets }
     {
-        self.inner.rows.least()
+        self.inner.rows.first_unready()
     }
 
     /// Doubles the number of buckets. The result says if it is the greatest already.
@@ -135,6 +135,6 @@ impl<R: Rows> Table<R> {
     pub fn reveal_invariant(&self)
         ensures { IsContent self.now.content }
     {
-        self.inner.rows.known();
+        self.inner.rows.reveal_invariant();
     }
 }

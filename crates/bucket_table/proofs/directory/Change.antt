@@ -14,7 +14,7 @@ use Rattle.node_list.specs.Cells.{Cell, new_cell, new_item}
 use Rattle.node_list.specs.Places.{IsFresh}
 use Rattle.node_list.specs.Changes.{put_cell, without}
 use Rattle.node_list.specs.Changes.{cells_with}
-use Rattle.node_list.proofs.CallerLaws.{put-stands}
+use Rattle.node_list.proofs.CallerLaws.{put-from_new}
 use Rattle.bucket_table.specs.Slots.{Slot, Enters, HasDistinctKeys}
 use Rattle.bucket_table.specs.inside.Nodes.{slots_of}
 use Rattle.bucket_table.specs.inside.Directory.{IsInDirectory, IsDummyOf, DummiesAreListed, DirectoryInvariant}
@@ -106,7 +106,7 @@ module _ (hash_of : Term → ℕ) (directory : List (Option ℕ)) (cs : List Cel
         elim (cases_eq b bucket) [
           | inl it ↦
               let at-is : at ≡ p = some-in at p (get_or dirs bucket None) set-entry (ap (λ (z : ℕ). get_or dirs z None) (sym it) ∙ e) in
-              let s = put-stands dummy cs f in
+              let s = put-from_new dummy cs f in
               let here : IsDummyOf bucket at (put_cell dummy cs) = record { later = s.0; is = s.1 } in
               let P : ℕ → Type 0 = λ z. IsDummyOf z p (put_cell dummy cs) in
               let Q : ℕ → Type 0 = λ z. IsDummyOf bucket z (put_cell dummy cs) in

@@ -11,7 +11,7 @@ use Rattle.node_list.specs.Changes.{put_cell, without}
 use Rattle.node_list.specs.Changes.{item_with}
 use Rattle.node_list.specs.Changes.{cells_with}
 use Rattle.node_list.proofs.CellLaws.{put-past, put-on, from-here, from-on, without-here, without-on}
-use Rattle.node_list.proofs.CallerLaws.{put-keeps, without-keeps}
+use Rattle.node_list.proofs.CallerLaws.{put-from_other, without-from_other}
 use Rattle.bucket_table.specs.inside.Directory.{HasSplitKey, HaveSplitKeys, DummiesAreListed, HaveParity}
 use Rattle.bucket_table.proofs.list.Content.{fresh-apart, with-here, with-on}
 
@@ -67,7 +67,7 @@ module _ (hash_of : Term → ℕ) (ds es : List (Option ℕ)) (part : IsPartOf d
 pub stand-put : (directory : List (Option ℕ)) (x : Cell) (cs : List Cell) → IsFresh x.at cs → DummiesAreListed directory cs → DummiesAreListed directory (put_cell x cs)
 stand-put directory x cs f h bucket at e =
     let d = h bucket at e in
-    let kept = put-keeps x cs at (new_cell at (key_of_dummy bucket) None) d.later (fresh-apart x.at at cs (new_cell at (key_of_dummy bucket) None) d.later f d.is) d.is in
+    let kept = put-from_other x cs at (new_cell at (key_of_dummy bucket) None) d.later (fresh-apart x.at at cs (new_cell at (key_of_dummy bucket) None) d.later f d.is) d.is in
     record { later = kept.0; is = kept.1 }
 
 -- No item is at the place of a dummy.
@@ -82,7 +82,7 @@ item-apart directory gone cs cell later item is has h bucket at e same =
 pub stand-without : (directory : List (Option ℕ)) (gone : ℕ) (cs : List Cell) (cell : Cell) (later : List Cell) (item : Item) → from gone cs ≡ cell ∷ later → cell.item ≡ Some item → DummiesAreListed directory cs → DummiesAreListed directory (without gone cs)
 stand-without directory gone cs cell later item is has h bucket at e =
     let d = h bucket at e in
-    let kept = without-keeps gone cs at (new_cell at (key_of_dummy bucket) None) d.later (item-apart directory gone cs cell later item is has h bucket at e) d.is in
+    let kept = without-from_other gone cs at (new_cell at (key_of_dummy bucket) None) d.later (item-apart directory gone cs cell later item is has h bucket at e) d.is in
     record { later = kept.0; is = kept.1 }
 
 pub from-with : (at gone : ℕ) (w : List Term) (cs : List Cell) → from at (cells_with gone w cs) ≡ cells_with gone w (from at cs)

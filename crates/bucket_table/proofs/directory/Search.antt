@@ -9,11 +9,11 @@ use Rattle.ets_term.specs.Order.{same}
 use Rattle.split_key.specs.Keys.{key_of_item, key_of_dummy}
 use Rattle.node_list.specs.declared.node.Item.{Item}
 use Rattle.node_list.specs.Cells.{Cell, Sorted, StartsFrom, new_cell}
-use Rattle.node_list.specs.Places.{from, IsFresh, AreApart, Stands, StandsUpTo}
+use Rattle.node_list.specs.Places.{from, IsFresh, HasDistinctPlaces, IsPlaceOf, HasKeyAtMost}
 use Rattle.node_list.specs.Search.{place_of, passed}
 use Rattle.node_list.specs.Ticks.{ticks}
 use Rattle.node_list.proofs.CellLaws.{sorted-from, search-on}
-use Rattle.node_list.proofs.CallerLaws.{is_item_below, ItemsBelow, length-passed, place_of-from}
+use Rattle.node_list.proofs.CallerLaws.{is_item_below, HasOnlyItemsBelow, length-passed, place_of-from}
 use Rattle.bucket_table.specs.inside.Nodes.{slots_of}
 use Rattle.bucket_table.specs.inside.Directory.{HasSplitKey, HaveSplitKeys, IsInDirectory, DummiesAreListed, DirectoryInvariant, IsStartOf}
 use Rattle.bucket_table.specs.Buckets.{hash_keys, bucket_keys, HasLooked}
@@ -22,13 +22,13 @@ use Rattle.bucket_table.proofs.list.Content.{item-cases, is_it-no, found, absent
 use Rattle.bucket_table.specs.inside.Search.{IsFound}
 use Rattle.bucket_table.proofs.list.Passed.{count-dummy, count-from, placed-from, apart-from, hash-passed, hash-from, below-bucket}
 
-pub start-stands : (directory : List (Option ℕ)) (bucket at key : ℕ) (cs : List Cell) → DummiesAreListed directory cs → IsStartOf directory bucket at → key_of_dummy bucket ≤ key → StandsUpTo key at cs
+pub start-stands : (directory : List (Option ℕ)) (bucket at key : ℕ) (cs : List Cell) → DummiesAreListed directory cs → IsStartOf directory bucket at → key_of_dummy bucket ≤ key → HasKeyAtMost key at cs
 start-stands directory bucket at key cs h s low =
     let d = h s.nearest at s.entry in
     let before : key_of_dummy s.nearest ≤ key_of_dummy bucket = s.before in
     record { cell = new_cell at (key_of_dummy s.nearest) None; later = d.later; is = d.is; up_to = omega arith }
 
-pub start-is : (directory : List (Option ℕ)) (bucket at : ℕ) (cs : List Cell) → DummiesAreListed directory cs → IsStartOf directory bucket at → Stands at cs
+pub start-is : (directory : List (Option ℕ)) (bucket at : ℕ) (cs : List Cell) → DummiesAreListed directory cs → IsStartOf directory bucket at → IsPlaceOf at cs
 start-is directory bucket at cs h s =
     let d = h s.nearest at s.entry in
     record { cell = new_cell at (key_of_dummy s.nearest) None; later = d.later; is = d.is }
@@ -46,7 +46,7 @@ item-some o item e = ap is_some e
 -- After a bucket's dummy there is no other dummy within its interval.
 items-below : (hash_of : Term → ℕ) (directory : List (Option ℕ)) (bucket at low high : ℕ) → get_or directory bucket None ≡ Some at
     → ((b : ℕ) → b < length directory → low ≤ key_of_dummy b → key_of_dummy b < high → b ≡ bucket)
-    → (cs : List Cell) → IsFresh at cs → StartsFrom low cs → Sorted cs → HaveSplitKeys hash_of directory cs → ItemsBelow high cs
+    → (cs : List Cell) → IsFresh at cs → StartsFrom low cs → Sorted cs → HaveSplitKeys hash_of directory cs → HasOnlyItemsBelow high cs
 items-below hash_of directory bucket at low high e only [] f s o p = tt
 items-below hash_of directory bucket at low high e only (c ∷ cs) f s o p =
     let near : StartsFrom low cs = starts-later low c cs s o.0 in (
@@ -87,7 +87,7 @@ module _ (hash_of : Term → ℕ) (directory : List (Option ℕ)) (cs : List Cel
   abbrev first : Cell
   first = new_cell start (key_of_dummy s.nearest) None
 
-  module _ (o : Sorted cs) (a : AreApart cs) where
+  module _ (o : Sorted cs) (a : HasDistinctPlaces cs) where
     -- A search from the start finds what the whole list has.
     pub whole : place_of key term cs ≡ place_of key term (from start cs)
     whole =
@@ -131,7 +131,7 @@ module _ (hash_of : Term → ℕ) (directory : List (Option ℕ)) (cs : List Cel
         let within : bucket < 2 ^ j = subst W i.size bucket-within in
         let low = key_of_dummy bucket in
         let high = key_of_dummy bucket + bucket_width (2 ^ j) in
-        let A : List Cell → Type 0 = λ zs. AreApart zs in
+        let A : List Cell → Type 0 = λ zs. HasDistinctPlaces zs in
         let S : List Cell → Type 0 = λ zs. Sorted zs in
         let R : List Cell → Type 0 = λ zs. HaveSplitKeys hash_of directory zs in
         let ap' = subst A d.is (apart-from start cs a) in
@@ -142,7 +142,7 @@ module _ (hash_of : Term → ℕ) (directory : List (Option ℕ)) (cs : List Cel
         let E : ℕ → Type 0 = λ b. get_or directory b None ≡ Some start in
         let alone : (b : ℕ) → b < length directory → key_of_dummy bucket ≤ key_of_dummy b → key_of_dummy b < key_of_dummy bucket + bucket_width (2 ^ i.doublings) → b ≡ bucket =
         λ b below l h. (let Q : ℕ → Type 0 = λ z. b < z in dummy-alone i.doublings (32 - i.doublings) bucket b full within (subst Q i.size below) l h) in
-        let items : ItemsBelow (key_of_dummy bucket + bucket_width (2 ^ i.doublings)) d.later =
+        let items : HasOnlyItemsBelow (key_of_dummy bucket + bucket_width (2 ^ i.doublings)) d.later =
         items-below hash_of directory bucket start (key_of_dummy bucket) (key_of_dummy bucket + bucket_width (2 ^ i.doublings)) (subst E near s.entry) alone d.later ap'.0 starts so.1 pl.1 in
         let most : length (passed key term d.later) ≤ count_by (is_item_below (key_of_dummy bucket + bucket_width (2 ^ i.doublings))) d.later + 1 =
         length-passed key term (key_of_dummy bucket + bucket_width (2 ^ i.doublings)) d.later so.1 in-bucket.high items in

@@ -5,7 +5,7 @@ use Rattle.std.proofs.lemmas.Bool.Decides.{nat_tests}
 use Rattle.ets_term.specs.declared.term.Term.{Term}
 use Rattle.node_list.specs.declared.node.Item.{Item}
 use Rattle.node_list.specs.Cells.{Cell, new_cell}
-use Rattle.node_list.specs.Places.{from, behind, all_but_first, AreApart}
+use Rattle.node_list.specs.Places.{from, cells_after, all_but_first, HasDistinctPlaces}
 use Rattle.node_list.specs.Changes.{put_cell, without}
 use Rattle.node_list.specs.Changes.{cells_with}
 use Rattle.node_list.proofs.CellLaws.{from-here, from-on, without-here, without-on}
@@ -68,7 +68,7 @@ behind-gone width f gone cs d ds None s h n e = absurd (in-first width f gone cs
 behind-gone width f gone cs d ds (Some p) s h n e = first-without-behind width f gone p cs (λ g. n (ap Some g)) e
 
 -- The other items of an interval come after the first.
-without-first : (width f gone : ℕ) (cs : List Cell) (d : Cell) (ds : List Cell) → AreApart cs → from gone cs ≡ d ∷ ds → first_in width f cs ≡ Some gone → first_in width f (without gone cs) ≡ first_in width f ds
+without-first : (width f gone : ℕ) (cs : List Cell) (d : Cell) (ds : List Cell) → HasDistinctPlaces cs → from gone cs ≡ d ∷ ds → first_in width f cs ≡ Some gone → first_in width f (without gone cs) ≡ first_in width f ds
 without-first width f gone [] d ds a s e = absurd (cc)
 without-first width f gone (c ∷ cs) d ds a s e =
     elim (cases_Bool (is_in width f c)) [
@@ -86,7 +86,7 @@ without-first width f gone (c ∷ cs) d ds a s e =
     some-at : (x y : ℕ) (q : Option ℕ) → q ≡ Some x → q ≡ Some y → x ≡ y
     some-at x y q g h = cc
 
-pub hints-without : (width : ℕ) (current after : List (Option (Option ℕ))) (hint : Option (Option ℕ)) (gone interval : ℕ) (old new : List Cell) (i : IsItemIn width interval gone old) → AreSound width current old → AreApart old → new ≡ without gone old
+pub hints-without : (width : ℕ) (current after : List (Option (Option ℕ))) (hint : Option (Option ℕ)) (gone interval : ℕ) (old new : List Cell) (i : IsItemIn width interval gone old) → AreSound width current old → HasDistinctPlaces old → new ≡ without gone old
     → IsHintAfterRemoval width interval gone old hint → ReplacesFirst interval gone hint current after → AreSound width after new
 hints-without width current after hint gone interval old new i h a is next succeeded f first e =
     ap (first_in width f) is
@@ -98,7 +98,7 @@ hints-without width current after hint gone interval old new i h a is next succe
           ]
       | inr gone_first ↦
           let was : first_in width interval old ≡ Some gone = h interval (Some gone) gone_first.1 in
-          let later : behind gone old ≡ i.later = ap all_but_first i.is in
+          let later : cells_after gone old ≡ i.later = ap all_but_first i.is in
           let P : ℕ → Type 0 = λ z. first_in width z (without gone old) ≡ first in
           subst P (sym gone_first.0) (without-first width interval gone old i.cell i.later a i.is was ∙ (ap (first_in width interval) (sym later) ∙ next first gone_first.2))
     ]

@@ -4,7 +4,7 @@ use Rattle.std.proofs.lemmas.Bool.{cases_lt, cases_eq, cases_Bool}
 use Rattle.ets_term.specs.declared.term.Term.{Term}
 use Rattle.node_list.specs.declared.node.Item.{Item}
 use Rattle.node_list.specs.Cells.{Cell, Sorted}
-use Rattle.node_list.specs.Places.{from, AreApart}
+use Rattle.node_list.specs.Places.{from, HasDistinctPlaces}
 use Rattle.node_list.specs.Changes.{put_cell, without}
 use Rattle.node_list.specs.Changes.{item_with}
 use Rattle.node_list.specs.Changes.{cells_with}
@@ -57,7 +57,7 @@ module _ (width f : ℕ) where
     pub inside : is_in width f cell ≡ true
     pub at : cell.at ≡ p
 
-  pub first-node : (p : ℕ) (cs : List Cell) → AreApart cs → first_in width f cs ≡ Some p → First p cs
+  pub first-node : (p : ℕ) (cs : List Cell) → HasDistinctPlaces cs → first_in width f cs ≡ Some p → First p cs
   first-node p [] a e = absurd (cc)
   first-node p (c ∷ cs) a e =
       elim (cases_Bool (is_in width f c)) [
@@ -70,7 +70,7 @@ module _ (width f : ℕ) where
       ]
 
   -- An item inserted after the first item leaves it the first. One inserted before it becomes the first.
-  pub first-put-behind : (x : Cell) (p : ℕ) (cs : List Cell) (d : Cell) (ds : List Cell) → Sorted cs → AreApart cs → from p cs ≡ d ∷ ds → d.key ≤ x.key → first_in width f cs ≡ Some p → first_in width f (put_cell x cs) ≡ Some p
+  pub first-put-behind : (x : Cell) (p : ℕ) (cs : List Cell) (d : Cell) (ds : List Cell) → Sorted cs → HasDistinctPlaces cs → from p cs ≡ d ∷ ds → d.key ≤ x.key → first_in width f cs ≡ Some p → first_in width f (put_cell x cs) ≡ Some p
   first-put-behind x p [] d ds o a s k e = absurd (cc)
   first-put-behind x p (c ∷ cs) d ds o a s k e =
       elim (cases_Bool (is_in width f c)) [
@@ -89,7 +89,7 @@ module _ (width f : ℕ) where
             ap (first_in width f) (put-on x c cs on) ∙ (first-on c (put_cell x cs) miss ∙ first-put-behind x p cs d ds o.1 a.1 s' k later)
       ]
 
-  pub first-put-before : (x : Cell) (p : ℕ) (cs : List Cell) (d : Cell) (ds : List Cell) → AreApart cs → is_in width f x ≡ true → from p cs ≡ d ∷ ds → x.key < d.key → first_in width f cs ≡ Some p → first_in width f (put_cell x cs) ≡ Some x.at
+  pub first-put-before : (x : Cell) (p : ℕ) (cs : List Cell) (d : Cell) (ds : List Cell) → HasDistinctPlaces cs → is_in width f x ≡ true → from p cs ≡ d ∷ ds → x.key < d.key → first_in width f cs ≡ Some p → first_in width f (put_cell x cs) ≡ Some x.at
   first-put-before x p [] d ds a h s k e = absurd (cc)
   first-put-before x p (c ∷ cs) d ds a h s k e =
       elim (cases_lt x.key c.key) [

@@ -3,7 +3,7 @@ use Rattle.std.proofs.Common.{◌≡◌, ℕ, ◌/◌, ◌<◌, ◌≤◌, List,
 use Rattle.std.proofs.lemmas.Bool.Decides.{nat_tests}
 use Rattle.node_list.specs.declared.node.Item.{Item}
 use Rattle.node_list.specs.Cells.{Cell, Sorted, new_cell}
-use Rattle.node_list.specs.Places.{AreApart, Stands, key_at, first_key}
+use Rattle.node_list.specs.Places.{HasDistinctPlaces, IsPlaceOf, key_at, first_key}
 use Rattle.bucket_table.specs.inside.Intervals.{is_in, first_in, IsNewFirst, KeepsFirst}
 use Rattle.bucket_table.proofs.hints.First.{first-put-empty, first-put-behind, first-put-before, First, first-node}
 use Rattle.bucket_table.proofs.hints.Search.{is_in-yes}
@@ -17,11 +17,11 @@ new-in width at key item = is_in-yes width (key / width) (new_cell at key (Some 
 pub new-empty : (width key : ℕ) (cs : List Cell) → first_in width (key / width) cs ≡ None → IsNewFirst width (key / width) cs key
 new-empty width key cs e at item = first-put-empty width (key / width) (new_cell at key (Some item)) cs (new-in width at key item) e
 
-module _ (width key first : ℕ) (cs : List Cell) (o : Sorted cs) (a : AreApart cs) (is : first_in width (key / width) cs ≡ Some first) where
+module _ (width key first : ℕ) (cs : List Cell) (o : Sorted cs) (a : HasDistinctPlaces cs) (is : first_in width (key / width) cs ≡ Some first) where
   pub node : First width (key / width) first cs
   node = first-node width (key / width) first cs a is
 
-  pub stands : Stands first cs
+  pub stands : IsPlaceOf first cs
   stands = record { cell = node.cell; later = node.later; is = node.is }
 
   pub key-is : (k : ℕ) → key_at first cs ≡ Some k → node.cell.key ≡ k

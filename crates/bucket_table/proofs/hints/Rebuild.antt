@@ -10,9 +10,9 @@ use Rattle.split_key.specs.Keys.{rev, key_of_item, key_of_dummy}
 use Rattle.split_key.proofs.Revs.{rev-lt}
 use Rattle.node_list.specs.declared.node.Item.{Item}
 use Rattle.node_list.specs.Cells.{Cell, Sorted, StartsFrom, new_cell}
-use Rattle.node_list.specs.Places.{from, behind, all_but_first, first_place, place_after, IsFresh, AreApart, Stands, key_at, first_key}
+use Rattle.node_list.specs.Places.{from, cells_after, all_but_first, first_place, place_after, IsFresh, HasDistinctPlaces, IsPlaceOf, key_at, first_key}
 use Rattle.node_list.proofs.CellLaws.{from-here, from-on, at-most-from, sorted-from}
-use Rattle.node_list.proofs.PlaceLaws.{from-behind}
+use Rattle.node_list.proofs.PlaceLaws.{from-cells_after}
 use Rattle.bucket_table.specs.inside.Directory.{HasSplitKey, HaveSplitKeys, IsInDirectory, DirectoryInvariant}
 use Rattle.bucket_table.specs.inside.Intervals.{is_in, first_in, AreSound}
 use Rattle.bucket_table.specs.inside.Rebuild.{tail_from, IsRebuiltUpTo, AreSoundOutside, EmptyHintsAreSound, SetsEmpty, SetsIfEmpty}
@@ -98,11 +98,11 @@ none-from width g bound (c ∷ cs) some s o h =
 
 -- ---- the rest of a list
 
-pub tail-is : (start : ℕ) (cs : List Cell) (d : Cell) (ds : List Cell) → AreApart cs → from start cs ≡ d ∷ ds → tail_from (first_place ds) cs ≡ ds
+pub tail-is : (start : ℕ) (cs : List Cell) (d : Cell) (ds : List Cell) → HasDistinctPlaces cs → from start cs ≡ d ∷ ds → tail_from (first_place ds) cs ≡ ds
 tail-is start cs d [] a e = refl
 tail-is start cs d (x ∷ xs) a e =
-    let here : from x.at (behind start cs) ≡ x ∷ xs = ap (λ (zs : List Cell). from x.at (all_but_first zs)) e ∙ from-here x.at x xs refl in
-    from-behind start x.at cs x xs a here
+    let here : from x.at (cells_after start cs) ≡ x ∷ xs = ap (λ (zs : List Cell). from x.at (all_but_first zs)) e ∙ from-here x.at x xs refl in
+    from-cells_after start x.at cs x xs a here
 
 pub after-is : (start : ℕ) (cs : List Cell) (d : Cell) (ds : List Cell) → from start cs ≡ d ∷ ds → place_after start cs ≡ first_place ds
 after-is start cs d ds e = ap (λ (zs : List Cell). first_place (all_but_first zs)) e
@@ -129,7 +129,7 @@ before-start hash_of directory width m g start b (c ∷ cs) d ds some edge late 
           first-on width g c cs out ∙ (before-start hash_of directory width m g start b cs d ds some edge late k o.1 p.1 later ∙ ap (first_in width g) (sym (from-on start c cs other)))
     ]
 
-module _ (hash_of : Term → ℕ) (directory : List (Option ℕ)) (interval_bits bucket start j : ℕ) (cs : List Cell) (i : DirectoryInvariant hash_of directory cs) (size : length directory ≡ 2 ^ j) (narrow : interval_bits + j ≡ 30) (o : Sorted cs) (a : AreApart cs) (entry : get_or directory bucket None ≡ Some start) (within : bucket < length directory) where
+module _ (hash_of : Term → ℕ) (directory : List (Option ℕ)) (interval_bits bucket start j : ℕ) (cs : List Cell) (i : DirectoryInvariant hash_of directory cs) (size : length directory ≡ 2 ^ j) (narrow : interval_bits + j ≡ 30) (o : Sorted cs) (a : HasDistinctPlaces cs) (entry : get_or directory bucket None ≡ Some start) (within : bucket < length directory) where
   below-size : bucket < 2 ^ j
   below-size = let P : ℕ → Type 0 = λ z. bucket < z in subst P size within
 
@@ -142,7 +142,7 @@ module _ (hash_of : Term → ℕ) (directory : List (Option ℕ)) (interval_bits
   pub rebuild-start : (current : List (Option (Option ℕ))) → IsRebuiltUpTo hash_of directory (2 ^ interval_bits) start (key_of_dummy bucket) current (place_after start cs) cs
   rebuild-start current =
       let d = i.stand bucket start entry in
-      let A : List Cell → Type 0 = λ zs. AreApart zs in
+      let A : List Cell → Type 0 = λ zs. HasDistinctPlaces zs in
       let S : List Cell → Type 0 = λ zs. Sorted zs in
       let R : List Cell → Type 0 = λ zs. HaveSplitKeys hash_of directory zs in
       let ap' = subst A d.is (apart-from start cs a) in
@@ -181,7 +181,7 @@ module _ (hash_of : Term → ℕ) (directory : List (Option ℕ)) (interval_bits
     pub stands-here : from place cs ≡ here.cell ∷ here.later
     stands-here = sym (ap (λ (z : Option ℕ). tail_from z cs) is-at) ∙ (s.is ∙ here.is)
 
-    pub can-read : Stands place cs
+    pub can-read : IsPlaceOf place cs
     can-read = record { cell = here.cell; later = here.later; is = stands-here }
 
     -- The interval of the node is of the bucket, or later.

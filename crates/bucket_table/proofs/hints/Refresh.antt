@@ -3,7 +3,7 @@ use Rattle.std.proofs.Common.{◌≡◌, ◌≢◌, ℕ, suc, ◌%◌, ◌/◌, 
 use Rattle.std.proofs.lemmas.Bool.{cases_lt, cases_eq}
 use Rattle.node_list.specs.declared.node.Item.{Item}
 use Rattle.node_list.specs.Cells.{Cell, Sorted}
-use Rattle.node_list.specs.Places.{from, behind, all_but_first, place_after, AreApart, Stands, key_at, first_key}
+use Rattle.node_list.specs.Places.{from, cells_after, all_but_first, place_after, HasDistinctPlaces, IsPlaceOf, key_at, first_key}
 use Rattle.node_list.proofs.CellLaws.{from-here, from-on, at-most-from, sorted-from}
 use Rattle.bucket_table.specs.inside.Directory.{HaveParity, HasKeyBelow}
 use Rattle.bucket_table.specs.inside.Intervals.{first_in, AreSound, IsBeforeInterval, IsSoundHint, SetsHint}
@@ -40,7 +40,7 @@ skip-front width f at (c ∷ cs) d ds some o e h =
           first-on width f c cs (out-in (c.key / width) f c.item differs) ∙ skip-front width f at cs d ds some o.1 later h
     ]
 
-pub front-stands : (width f at : ℕ) (cs : List Cell) → IsBeforeInterval width f at cs → Stands at cs
+pub front-stands : (width f at : ℕ) (cs : List Cell) → IsBeforeInterval width f at cs → IsPlaceOf at cs
 front-stands width f at cs s = record { cell = s.cell; later = s.later; is = s.is }
 
 -- A node of a lower interval has a lesser split key.
@@ -61,11 +61,11 @@ below-front width key at k cs s read less =
     let P : ℕ → Type 0 = λ z. z / width < key / width in
     record { cell = s.cell; later = s.later; is = s.is; front = subst P (sym is) less }
 
-module _ (width f at : ℕ) (cs : List Cell) (some : 0 < width) (o : Sorted cs) (a : AreApart cs) (s : IsBeforeInterval width f at cs) where
-  later-is : behind at cs ≡ s.later
+module _ (width f at : ℕ) (cs : List Cell) (some : 0 < width) (o : Sorted cs) (a : HasDistinctPlaces cs) (s : IsBeforeInterval width f at cs) where
+  later-is : cells_after at cs ≡ s.later
   later-is = ap all_but_first s.is
 
-  skipped : first_in width f cs ≡ first_in width f (behind at cs)
+  skipped : first_in width f cs ≡ first_in width f (cells_after at cs)
   skipped = skip-front width f at cs s.cell s.later some o s.is s.front ∙ ap (first_in width f) (sym later-is)
 
   pub ends-empty : (hint : Option (Option ℕ)) → hint ≡ Some None → place_after at cs ≡ None → IsSoundHint width f cs hint
@@ -75,13 +75,13 @@ module _ (width f at : ℕ) (cs : List Cell) (some : 0 < width) (o : Sorted cs) 
     node : Behind next at cs
     node = behind-node next at cs a e
 
-    pub next-is : Stands next cs
+    pub next-is : IsPlaceOf next cs
     next-is = record { cell = node.cell; later = node.later; is = node.from_next }
 
-    pub shorter : length (behind next cs) < length (behind at cs)
+    pub shorter : length (cells_after next cs) < length (cells_after at cs)
     shorter =
-        let m : length (behind at cs) ≡ suc (length node.later) = ap length node.is in
-        let n : length (behind next cs) ≡ length node.later = ap (λ (zs : List Cell). length (all_but_first zs)) node.from_next in
+        let m : length (cells_after at cs) ≡ suc (length node.later) = ap length node.is in
+        let n : length (cells_after next cs) ≡ length node.later = ap (λ (zs : List Cell). length (all_but_first zs)) node.from_next in
         omega (arith, m, n)
 
     module _ (read : key_at next cs ≡ Some k) where
@@ -107,7 +107,7 @@ module _ (width f at : ℕ) (cs : List Cell) (some : 0 < width) (o : Sorted cs) 
           let hit = is_in-yes width f node.cell has.0 (ap (λ (z : ℕ). z / width) next-key ∙ same) has.1 in
           skipped ∙ go hint first known choice (ap (first_in width f) node.is ∙ (first-here width f node.cell node.later hit ∙ ap Some node.place))
         where
-          go : (hint : Option (Option ℕ)) (first : Option ℕ) → hint ≡ Some first → (hint ≡ None) ⊎ (hint ≡ Some (Some next)) → first_in width f (behind at cs) ≡ Some next → first_in width f (behind at cs) ≡ first
+          go : (hint : Option (Option ℕ)) (first : Option ℕ) → hint ≡ Some first → (hint ≡ None) ⊎ (hint ≡ Some (Some next)) → first_in width f (cells_after at cs) ≡ Some next → first_in width f (cells_after at cs) ≡ first
           go hint first known (inl none) g = absurd (cc)
           go hint first known (inr here) g = let s : Some next ≡ first = cc in g ∙ s
 

@@ -6,7 +6,7 @@ use Rattle.std.proofs.lemmas.Nat.{pow-add}
 use Rattle.node_list.specs.declared.node.Item.{Item}
 use Rattle.node_list.specs.Changes.{put_cell, without}
 use Rattle.node_list.specs.Cells.{Cell, Sorted, new_cell}
-use Rattle.node_list.specs.Places.{from, AreApart, Stands, HasItem, key_at, first_key}
+use Rattle.node_list.specs.Places.{from, HasDistinctPlaces, IsPlaceOf, HasItem, key_at, first_key}
 use Rattle.node_list.proofs.CellLaws.{from-here, from-on}
 use Rattle.bucket_table.specs.inside.Intervals.{is_in, first_in, AreSound, IsSoundHint, SetsIfUnknown, SetsHint}
 use Rattle.bucket_table.proofs.list.Content.{fresh-apart}
@@ -46,7 +46,7 @@ module _ (width half f : ℕ) (some : 0 < half) (parts : (k : ℕ) → k / width
         ]
 
     -- The first item is the first of its own half.
-    pub half-first : (p : ℕ) (cs : List Cell) (d : Cell) (ds : List Cell) → AreApart cs → from p cs ≡ d ∷ ds → d.key / half ≡ g → first_in width f cs ≡ Some p → first_in half g cs ≡ Some p
+    pub half-first : (p : ℕ) (cs : List Cell) (d : Cell) (ds : List Cell) → HasDistinctPlaces cs → from p cs ≡ d ∷ ds → d.key / half ≡ g → first_in width f cs ≡ Some p → first_in half g cs ≡ Some p
     half-first p [] d ds a s k e = absurd (cc)
     half-first p (c ∷ cs) d ds a s k e =
         elim (cases_Bool (is_in width f c)) [
@@ -64,7 +64,7 @@ module _ (width half f : ℕ) (some : 0 < half) (parts : (k : ℕ) → k / width
         ]
 
     -- If it is in the upper half, the lower half is empty.
-    pub half-below : (p : ℕ) (cs : List Cell) (d : Cell) (ds : List Cell) → Sorted cs → AreApart cs → from p cs ≡ d ∷ ds → g < d.key / half → first_in width f cs ≡ Some p → first_in half g cs ≡ None
+    pub half-below : (p : ℕ) (cs : List Cell) (d : Cell) (ds : List Cell) → Sorted cs → HasDistinctPlaces cs → from p cs ≡ d ∷ ds → g < d.key / half → first_in width f cs ≡ Some p → first_in half g cs ≡ None
     half-below p [] d ds o a s k e = absurd (cc)
     half-below p (c ∷ cs) d ds o a s k e =
         elim (cases_Bool (is_in width f c)) [
@@ -84,7 +84,7 @@ module _ (width half f : ℕ) (some : 0 < half) (parts : (k : ℕ) → k / width
     pub right-empty : (cs : List Cell) (hint made : Option (Option ℕ)) → IsSoundHint width f cs hint → hint ≡ Some None → made ≡ Some None → IsSoundHint half g cs made
     right-empty cs hint made h e m first known = let q : None ≡ first = cc in half-empty cs (h None e) ∙ q
 
-    module _ (p : ℕ) (cs : List Cell) (o : Sorted cs) (a : AreApart cs) (hint : Option (Option ℕ)) (h : IsSoundHint width f cs hint) (e : hint ≡ Some (Some p)) where
+    module _ (p : ℕ) (cs : List Cell) (o : Sorted cs) (a : HasDistinctPlaces cs) (hint : Option (Option ℕ)) (h : IsSoundHint width f cs hint) (e : hint ≡ Some (Some p)) where
       node : First width f p cs
       node = first-node width f p cs a (h (Some p) e)
 
@@ -106,11 +106,11 @@ module _ (width half f : ℕ) (some : 0 < half) (parts : (k : ℕ) → k / width
             half-below p cs node.cell node.later o a node.is (subst P (sym key-is) less) (h (Some p) e) ∙ q
 
   -- The first item is where the hint says.
-  pub hint-stands : (p : ℕ) (cs : List Cell) → AreApart cs → (hint : Option (Option ℕ)) → IsSoundHint width f cs hint → hint ≡ Some (Some p) → Stands p cs
+  pub hint-stands : (p : ℕ) (cs : List Cell) → HasDistinctPlaces cs → (hint : Option (Option ℕ)) → IsSoundHint width f cs hint → hint ≡ Some (Some p) → IsPlaceOf p cs
   hint-stands p cs a hint h e = let n = first-node width f p cs a (h (Some p) e) in record { cell = n.cell; later = n.later; is = n.is }
 
   -- The split key of the first item shows its half.
-  pub key-part : (p k : ℕ) (cs : List Cell) → AreApart cs → (hint : Option (Option ℕ)) → IsSoundHint width f cs hint → hint ≡ Some (Some p) → key_at p cs ≡ Some k → k / half / 2 ≡ f
+  pub key-part : (p k : ℕ) (cs : List Cell) → HasDistinctPlaces cs → (hint : Option (Option ℕ)) → IsSoundHint width f cs hint → hint ≡ Some (Some p) → key_at p cs ≡ Some k → k / half / 2 ≡ f
   key-part p k cs a hint h e read =
       let n = first-node width f p cs a (h (Some p) e) in
       let i = inside width f n.cell n.inside in

@@ -2,9 +2,9 @@
 use Rattle.std.proofs.Common.{◌≡◌, ◌≢◌, ℕ, ◌%◌, IsSome, ◌/◌, ◌<◌, ◌≤◌, ◌⊎◌, inl, inr, List, [], ◌∷◌, Option, Some, None, refl, sym, ◌∙◌, ap, subst, arith}
 use Rattle.node_list.specs.declared.node.Item.{Item}
 use Rattle.node_list.specs.Cells.{Cell, Sorted, StartsFrom}
-use Rattle.node_list.specs.Places.{from, behind, all_but_first, first_place, place_after, AreApart, Stands, HasItem, key_at, first_key}
+use Rattle.node_list.specs.Places.{from, cells_after, all_but_first, first_place, place_after, HasDistinctPlaces, IsPlaceOf, HasItem, key_at, first_key}
 use Rattle.node_list.proofs.CellLaws.{from-here, sorted-from}
-use Rattle.node_list.proofs.PlaceLaws.{from-behind}
+use Rattle.node_list.proofs.PlaceLaws.{from-cells_after}
 use Rattle.bucket_table.specs.inside.Directory.{HaveParity}
 use Rattle.bucket_table.specs.inside.Intervals.{first_in, IsItemIn, IsHintAfterRemoval}
 use Rattle.bucket_table.proofs.directory.Placed.{parity-from}
@@ -15,11 +15,11 @@ use Rattle.bucket_table.proofs.hints.Rebuild.{none-from, part-rises}
 pub empty-next : (hint : Option (Option ℕ)) (known : Option ℕ) → hint ≡ Some None → known ≡ None → (first : Option ℕ) → hint ≡ Some first → known ≡ first
 empty-next hint known e f first h = cc
 
-pub item-in-stands : (width f at : ℕ) (cs : List Cell) → IsItemIn width f at cs → Stands at cs
+pub item-in-stands : (width f at : ℕ) (cs : List Cell) → IsItemIn width f at cs → IsPlaceOf at cs
 item-in-stands width f at cs i = record { cell = i.cell; later = i.later; is = i.is }
 
-pub next-none : (width f at : ℕ) (cs : List Cell) → place_after at cs ≡ None → first_in width f (behind at cs) ≡ None
-next-none width f at cs e = go (behind at cs) e
+pub next-none : (width f at : ℕ) (cs : List Cell) → place_after at cs ≡ None → first_in width f (cells_after at cs) ≡ None
+next-none width f at cs e = go (cells_after at cs) e
   where
     go : (zs : List Cell) → first_place zs ≡ None → first_in width f zs ≡ None
     go [] e = refl
@@ -36,24 +36,24 @@ some-of (Some item) h = (item, refl)
 pub record Behind (next at : ℕ) (cs : List Cell) : Type 0 where
   pub cell : Cell
   pub later : List Cell
-  pub is : behind at cs ≡ cell ∷ later
+  pub is : cells_after at cs ≡ cell ∷ later
   pub from_next : from next cs ≡ cell ∷ later
   pub place : cell.at ≡ next
 
-pub behind-node : (next at : ℕ) (cs : List Cell) → AreApart cs → place_after at cs ≡ Some next → Behind next at cs
-behind-node next at cs a e = go (behind at cs) refl e
+pub behind-node : (next at : ℕ) (cs : List Cell) → HasDistinctPlaces cs → place_after at cs ≡ Some next → Behind next at cs
+behind-node next at cs a e = go (cells_after at cs) refl e
   where
-    go : (zs : List Cell) → behind at cs ≡ zs → first_place zs ≡ Some next → Behind next at cs
+    go : (zs : List Cell) → cells_after at cs ≡ zs → first_place zs ≡ Some next → Behind next at cs
     go [] is e = absurd (cc)
     go (z ∷ zs) is e =
         let same : z.at ≡ next = cc in
-        record { cell = z; later = zs; is = is; from_next = from-behind at next cs z zs a (ap (from next) is ∙ from-here next z zs same); place = same }
+        record { cell = z; later = zs; is = is; from_next = from-cells_after at next cs z zs a (ap (from next) is ∙ from-here next z zs same); place = same }
 
-module _ (width f at next : ℕ) (cs : List Cell) (some : 0 < width) (o : Sorted cs) (a : AreApart cs) (item : IsItemIn width f at cs) (e : place_after at cs ≡ Some next) where
+module _ (width f at next : ℕ) (cs : List Cell) (some : 0 < width) (o : Sorted cs) (a : HasDistinctPlaces cs) (item : IsItemIn width f at cs) (e : place_after at cs ≡ Some next) where
   pub node : Behind next at cs
   node = behind-node next at cs a e
 
-  pub next-stands : Stands next cs
+  pub next-stands : IsPlaceOf next cs
   next-stands = record { cell = node.cell; later = node.later; is = node.from_next }
 
   module _ (k : ℕ) (read : key_at next cs ≡ Some k) where
@@ -70,12 +70,12 @@ module _ (width f at next : ℕ) (cs : List Cell) (some : 0 < width) (o : Sorted
         let hit = is_in-yes width f n.cell has.0 (ap (λ (z : ℕ). z / width) next-key ∙ same) has.1 in
         go hint first known choice (ap (first_in width f) n.is ∙ (first-here width f n.cell n.later hit ∙ ap Some n.place))
       where
-        go : (hint : Option (Option ℕ)) (first : Option ℕ) → hint ≡ Some first → (hint ≡ None) ⊎ (hint ≡ Some (Some next)) → first_in width f (behind at cs) ≡ Some next → first_in width f (behind at cs) ≡ first
+        go : (hint : Option (Option ℕ)) (first : Option ℕ) → hint ≡ Some first → (hint ≡ None) ⊎ (hint ≡ Some (Some next)) → first_in width f (cells_after at cs) ≡ Some next → first_in width f (cells_after at cs) ≡ first
         go hint first known (inl none) g = absurd (cc)
         go hint first known (inr here) g = let s : Some next ≡ first = cc in g ∙ s
 
     -- Or the interval is empty then.
-    pub next-outside : k / width ≢ f → first_in width f (behind at cs) ≡ None
+    pub next-outside : k / width ≢ f → first_in width f (cells_after at cs) ≡ None
     next-outside differs =
         let n = node in
         let S : List Cell → Type 0 = λ zs. Sorted zs in
@@ -96,5 +96,5 @@ item-in width at k cs i e =
     record { cell = i.cell; later = i.later; item = i.item; is = i.is; has = i.has; inside = ap (λ (z : ℕ). z / width) same }
 
 -- The nodes after a node of the list are in the list.
-pub behind-item : (start at : ℕ) (cs : List Cell) → AreApart cs → HasItem at (behind start cs) → HasItem at cs
-behind-item start at cs a h = record { cell = h.cell; later = h.later; item = h.item; is = from-behind start at cs h.cell h.later a h.is; has = h.has }
+pub behind-item : (start at : ℕ) (cs : List Cell) → HasDistinctPlaces cs → HasItem at (cells_after start cs) → HasItem at cs
+behind-item start at cs a h = record { cell = h.cell; later = h.later; item = h.item; is = from-cells_after start at cs h.cell h.later a h.is; has = h.has }

@@ -12,11 +12,11 @@ use Rattle.split_key.specs.Keys.{rev, key_of_item, key_of_dummy}
 use Rattle.split_key.proofs.Intervals.{rev-bucket}
 use Rattle.node_list.specs.declared.node.Item.{Item}
 use Rattle.node_list.specs.Cells.{Cell, Sorted, StartsFrom}
-use Rattle.node_list.specs.Places.{from, AreApart, Stands}
+use Rattle.node_list.specs.Places.{from, HasDistinctPlaces, IsPlaceOf}
 use Rattle.node_list.specs.Search.{holds, is_it, place_of, passed}
 use Rattle.node_list.specs.Ticks.{ticks}
 use Rattle.node_list.proofs.CellLaws.{from-here, from-on, sorted-from}
-use Rattle.node_list.proofs.CallerLaws.{is_item_below, ItemsBelow, length-passed}
+use Rattle.node_list.proofs.CallerLaws.{is_item_below, HasOnlyItemsBelow, length-passed}
 use Rattle.bucket_table.specs.inside.Nodes.{slots_of}
 use Rattle.bucket_table.specs.inside.Directory.{HasSplitKey, HaveSplitKeys, IsInDirectory, DirectoryInvariant}
 use Rattle.bucket_table.specs.Buckets.{hash_keys, bucket_keys, HasLooked}
@@ -87,7 +87,7 @@ module _ (hash_of : Term → ℕ) (directory : List (Option ℕ)) (term : Term) 
       pub hashes : hash_keys hash_of (hash_of term) (slots_of cs) ≡ hash_keys hash_of (hash_of term) (slots_of (from p cs))
 
     -- The item of the key is the first one or later.
-    pub from-first : (p : ℕ) (cs : List Cell) → HaveSplitKeys hash_of directory cs → AreApart cs → first_in width f cs ≡ Some p → FromFirst p cs
+    pub from-first : (p : ℕ) (cs : List Cell) → HaveSplitKeys hash_of directory cs → HasDistinctPlaces cs → first_in width f cs ≡ Some p → FromFirst p cs
     from-first p [] pl a e = absurd (cc)
     from-first p (c ∷ cs) pl a e =
         elim (cases_Bool (is_in width f c)) [
@@ -133,7 +133,7 @@ starts-later low c (d ∷ ds) h s = omega (arith, h, s)
 -- Within a bucket, after its first split key, there is no dummy.
 items-above : (hash_of : Term → ℕ) (directory : List (Option ℕ)) (bucket high : ℕ)
     → ((b : ℕ) → b < length directory → key_of_dummy bucket ≤ key_of_dummy b → key_of_dummy b < high → b ≡ bucket)
-    → (cs : List Cell) → StartsFrom (key_of_dummy bucket + 1) cs → Sorted cs → HaveSplitKeys hash_of directory cs → ItemsBelow high cs
+    → (cs : List Cell) → StartsFrom (key_of_dummy bucket + 1) cs → Sorted cs → HaveSplitKeys hash_of directory cs → HasOnlyItemsBelow high cs
 items-above hash_of directory bucket high only [] s o p = tt
 items-above hash_of directory bucket high only (c ∷ cs) s o p = (
   λ less.
@@ -231,7 +231,7 @@ few-above hash_of directory cs term start cell later i o is above =
     let starts' : StartsFrom (key_of_dummy (hash_of term % length directory)) (from start cs) = subst U (sym is) at-least in
     let alone : (c : ℕ) → c < length directory → key_of_dummy (hash_of term % length directory) ≤ key_of_dummy c → key_of_dummy c < key_of_dummy (hash_of term % length directory) + bucket_width (2 ^ i.doublings) → c ≡ hash_of term % length directory =
     λ c below l u. (let Q : ℕ → Type 0 = λ z. c < z in dummy-alone i.doublings (32 - i.doublings) (hash_of term % length directory) c full within (subst Q i.size below) l u) in
-    let items : ItemsBelow (key_of_dummy (hash_of term % length directory) + bucket_width (2 ^ i.doublings)) (from start cs) =
+    let items : HasOnlyItemsBelow (key_of_dummy (hash_of term % length directory) + bucket_width (2 ^ i.doublings)) (from start cs) =
     items-above hash_of directory (hash_of term % length directory) (key_of_dummy (hash_of term % length directory) + bucket_width (2 ^ i.doublings)) alone (from start cs) starts so pl in
     let most : length (passed (key_of_item (hash_of term)) term (from start cs)) ≤ count_by (is_item_below (key_of_dummy (hash_of term % length directory) + bucket_width (2 ^ i.doublings))) (from start cs) + 1 =
     length-passed (key_of_item (hash_of term)) term (key_of_dummy (hash_of term % length directory) + bucket_width (2 ^ i.doublings)) (from start cs) so m.high items in
@@ -242,7 +242,7 @@ few-above hash_of directory cs term start cell later i o is above =
     let part = count-from (λ t. nat_eq (hash_of t.0 % length directory) (hash_of term % length directory)) start cs in
     omega (arith, most, mine, part)
 
-module _ (hash_of : Term → ℕ) (directory : List (Option ℕ)) (cs : List Cell) (term : Term) (interval_bits first m : ℕ) (i : DirectoryInvariant hash_of directory cs) (edge : key_of_dummy (hash_of term % length directory) ≡ m * 2 ^ interval_bits) (o : Sorted cs) (a : AreApart cs)
+module _ (hash_of : Term → ℕ) (directory : List (Option ℕ)) (cs : List Cell) (term : Term) (interval_bits first m : ℕ) (i : DirectoryInvariant hash_of directory cs) (edge : key_of_dummy (hash_of term % length directory) ≡ m * 2 ^ interval_bits) (o : Sorted cs) (a : HasDistinctPlaces cs)
     (is : first_in (2 ^ interval_bits) (key_of_item (hash_of term) / 2 ^ interval_bits) cs ≡ Some first) where
   pub node : First (2 ^ interval_bits) (key_of_item (hash_of term) / 2 ^ interval_bits) first cs
   node = first-node (2 ^ interval_bits) (key_of_item (hash_of term) / 2 ^ interval_bits) first cs a is
@@ -250,7 +250,7 @@ module _ (hash_of : Term → ℕ) (directory : List (Option ℕ)) (cs : List Cel
   searched : FromFirst hash_of directory term (2 ^ interval_bits) (key_of_item (hash_of term) / 2 ^ interval_bits) refl first cs
   searched = from-first hash_of directory term (2 ^ interval_bits) (key_of_item (hash_of term) / 2 ^ interval_bits) refl first cs i.placed a is
 
-  pub first-stands : Stands first cs
+  pub first-stands : IsPlaceOf first cs
   first-stands = record { cell = node.cell; later = node.later; is = node.is }
 
   pub first-answer : (r : Option ℕ) → r ≡ place_of (key_of_item (hash_of term)) term (from first cs) → MatchOption r (lookup (same term) (slots_of cs) ≡ None) (λ at. IsFound term at cs)

@@ -11,7 +11,7 @@ use Rattle.ets_term.specs.declared.term.Term.{Term}
 use Rattle.ets_term.specs.Order.{same}
 use Rattle.split_key.specs.Keys.{key_of_item, key_of_dummy}
 use Rattle.node_list.specs.Cells.{Cell, Sorted}
-use Rattle.node_list.specs.Places.{from, AreApart, Stands}
+use Rattle.node_list.specs.Places.{from, HasDistinctPlaces, IsPlaceOf}
 use Rattle.node_list.specs.Search.{is_it, place_of, passed}
 use Rattle.node_list.specs.Ticks.{ticks}
 use Rattle.node_list.proofs.CellLaws.{sorted-from}
@@ -49,7 +49,7 @@ option-cases : (r : Option ℕ) → (r ≡ None) ⊎ ((at : ℕ) × (r ≡ Some 
 option-cases None = inl refl
 option-cases (Some at) = inr (at, refl)
 
-module _ (hash_of : Term → ℕ) (directory : List (Option ℕ)) (cs : List Cell) (term : Term) (interval_bits bucket start first m : ℕ) (current : List (Option (Option ℕ))) (i : DirectoryInvariant hash_of directory cs) (right : AreSound (2 ^ interval_bits) current cs) (edge : key_of_dummy (hash_of term % length directory) ≡ m * 2 ^ interval_bits) (o : Sorted cs) (a : AreApart cs)
+module _ (hash_of : Term → ℕ) (directory : List (Option ℕ)) (cs : List Cell) (term : Term) (interval_bits bucket start first m : ℕ) (current : List (Option (Option ℕ))) (i : DirectoryInvariant hash_of directory cs) (right : AreSound (2 ^ interval_bits) current cs) (edge : key_of_dummy (hash_of term % length directory) ≡ m * 2 ^ interval_bits) (o : Sorted cs) (a : HasDistinctPlaces cs)
     (n : IsNearestReady directory (hash_of term % length directory) bucket start) (f : IsNearestBelow (key_of_dummy bucket / 2 ^ interval_bits) (key_of_item (hash_of term) / 2 ^ interval_bits) first current) where
   abbrev key : ℕ
   key = key_of_item (hash_of term)
@@ -60,7 +60,7 @@ module _ (hash_of : Term → ℕ) (directory : List (Option ℕ)) (cs : List Cel
   lesser : HasKeyBelow (key_of_item (hash_of term)) first cs
   lesser = first-lesser (2 ^ interval_bits) (key_of_item (hash_of term)) first cs o a (key_of_dummy bucket / 2 ^ interval_bits) current (pow_pos interval_bits) right f
 
-  below-stands : Stands first cs
+  below-stands : IsPlaceOf first cs
   below-stands = record { cell = lesser.cell; later = lesser.later; is = lesser.is }
 
   whole : place_of key term cs ≡ place_of key term (from first cs)
@@ -125,7 +125,7 @@ previous-below interval_bits low key at previous f =
     let Q : ℕ → Type 0 = λ z. IsNearestBelow (low / 2 ^ (interval_bits + 1)) z at previous in
     subst Q (sym (part-half interval_bits key)) (subst P (sym (part-half interval_bits low)) f)
 
-pub either-lesser : (interval_bits key at floor : ℕ) (cs : List Cell) (current previous : List (Option (Option ℕ))) → Sorted cs → AreApart cs → AreSound (2 ^ interval_bits) current cs → AreSound (2 ^ (interval_bits + 1)) previous cs
+pub either-lesser : (interval_bits key at floor : ℕ) (cs : List Cell) (current previous : List (Option (Option ℕ))) → Sorted cs → HasDistinctPlaces cs → AreSound (2 ^ interval_bits) current cs → AreSound (2 ^ (interval_bits + 1)) previous cs
     → IsNearestBelow floor (key / 2 ^ interval_bits) at current ⊎ IsNearestBelow (floor / 2) (key / 2 ^ interval_bits / 2) at previous → HasKeyBelow key at cs
 either-lesser interval_bits key at floor cs current previous o a h old f =
     elim f [
@@ -133,7 +133,7 @@ either-lesser interval_bits key at floor cs current previous o a h old f =
       | inr g ↦ (let Q : ℕ → Type 0 = λ z. IsNearestBelow (floor / 2) z at previous in first-lesser (2 ^ (interval_bits + 1)) key at cs o a (floor / 2) previous (pow_pos (interval_bits + 1)) old (subst Q (sym (part-half interval_bits key)) g))
     ]
 
-module _ (hash_of : Term → ℕ) (directory : List (Option ℕ)) (cs : List Cell) (term : Term) (interval_bits bucket start first : ℕ) (current previous : List (Option (Option ℕ))) (i : DirectoryInvariant hash_of directory cs) (h : HintsInvariant directory interval_bits current cs) (old : AreSound (2 ^ (interval_bits + 1)) previous cs) (o : Sorted cs) (a : AreApart cs)
+module _ (hash_of : Term → ℕ) (directory : List (Option ℕ)) (cs : List Cell) (term : Term) (interval_bits bucket start first : ℕ) (current previous : List (Option (Option ℕ))) (i : DirectoryInvariant hash_of directory cs) (h : HintsInvariant directory interval_bits current cs) (old : AreSound (2 ^ (interval_bits + 1)) previous cs) (o : Sorted cs) (a : HasDistinctPlaces cs)
     (n : IsNearestReady directory (hash_of term % length directory) bucket start) (f : IsNearestBelow (key_of_dummy bucket / 2 ^ interval_bits) (key_of_item (hash_of term) / 2 ^ interval_bits) first current ⊎ IsNearestBelow (key_of_dummy bucket / 2 ^ interval_bits / 2) (key_of_item (hash_of term) / 2 ^ interval_bits / 2) first previous) where
   own : (m : ℕ) × (key_of_dummy (hash_of term % length directory) ≡ m * 2 ^ interval_bits)
   own = own-edge hash_of directory cs term interval_bits current h
@@ -148,7 +148,7 @@ module _ (hash_of : Term → ℕ) (directory : List (Option ℕ)) (cs : List Cel
         | inr g ↦ below-start hash_of directory cs term (interval_bits + 1) bucket start first width.0 previous i old width.1 o a n (previous-below interval_bits (key_of_dummy bucket) (key_of_item (hash_of term)) first previous g)
       ]
 
-module _ (hash_of : Term → ℕ) (directory : List (Option ℕ)) (cs : List Cell) (term : Term) (interval_bits first : ℕ) (current : List (Option (Option ℕ))) (i : DirectoryInvariant hash_of directory cs) (h : HintsInvariant directory interval_bits current cs) (o : Sorted cs) (a : AreApart cs)
+module _ (hash_of : Term → ℕ) (directory : List (Option ℕ)) (cs : List Cell) (term : Term) (interval_bits first : ℕ) (current : List (Option (Option ℕ))) (i : DirectoryInvariant hash_of directory cs) (h : HintsInvariant directory interval_bits current cs) (o : Sorted cs) (a : HasDistinctPlaces cs)
     (f : (first_in (2 ^ interval_bits) (key_of_item (hash_of term) / 2 ^ interval_bits) cs ≡ Some first) ⊎ (first_in (2 ^ (interval_bits + 1)) (key_of_item (hash_of term) / 2 ^ (interval_bits + 1)) cs ≡ Some first)) where
   own-first : (m : ℕ) × (key_of_dummy (hash_of term % length directory) ≡ m * 2 ^ interval_bits)
   own-first = own-edge hash_of directory cs term interval_bits current h
@@ -164,7 +164,7 @@ module _ (hash_of : Term → ℕ) (directory : List (Option ℕ)) (cs : List Cel
       ]
 
 -- The dummy of the nearest ready bucket.
-pub dummy-start : (hash_of : Term → ℕ) (directory : List (Option ℕ)) (cs : List Cell) (term : Term) (nearest start : ℕ) → DirectoryInvariant hash_of directory cs → IsNearestReady directory (hash_of term % length directory) nearest start → Sorted cs → AreApart cs → CanStartSearch hash_of directory term start cs
+pub dummy-start : (hash_of : Term → ℕ) (directory : List (Option ℕ)) (cs : List Cell) (term : Term) (nearest start : ℕ) → DirectoryInvariant hash_of directory cs → IsNearestReady directory (hash_of term % length directory) nearest start → Sorted cs → HasDistinctPlaces cs → CanStartSearch hash_of directory term start cs
 dummy-start hash_of directory cs term nearest start i n o a =
     let s = nearest-start directory (hash_of term % length directory) nearest start n in
     record {

@@ -5,7 +5,7 @@ use Rattle.std.proofs.Math.Nat.{div-lt_iff_lt-mul}
 use Rattle.ets_term.specs.declared.term.Term.{Term}
 use Rattle.split_key.specs.Keys.{key_of_item, key_of_dummy}
 use Rattle.node_list.specs.Cells.{Cell, Sorted, new_cell}
-use Rattle.node_list.specs.Places.{behind, all_but_first, key_at, AreApart, HasItem, StandsUpTo}
+use Rattle.node_list.specs.Places.{cells_after, all_but_first, key_at, HasDistinctPlaces, HasItem, HasKeyAtMost}
 use Rattle.bucket_table.specs.inside.Directory.{HaveSplitKeys, DirectoryInvariant, IsStartOf, HasKeyBelow}
 use Rattle.bucket_table.specs.inside.Intervals.{first_in, AreSound, IsNearestBelow}
 use Rattle.bucket_table.specs.inside.Search.{IsFound}
@@ -26,7 +26,7 @@ less-part a b m width some h e =
       | inr most ↦ omega (arith, far, most)
     ]
 
-module _ (width key at : ℕ) (cs : List Cell) (o : Sorted cs) (a : AreApart cs) where
+module _ (width key at : ℕ) (cs : List Cell) (o : Sorted cs) (a : HasDistinctPlaces cs) where
   -- The first item of a lower interval.
   pub first-lesser : (floor : ℕ) (current : List (Option (Option ℕ))) → 0 < width → AreSound width current cs → IsNearestBelow floor (key / width) at current → HasKeyBelow key at cs
   first-lesser floor current some h f =
@@ -50,11 +50,11 @@ start-lesser hash_of directory hash start cs i s =
     record { cell = new_cell start (key_of_dummy s.nearest) None; later = d.later; is = d.is; below = start-below directory i.doublings hash start i.size i.few s }
 
 -- An item can be inserted from there.
-pub lesser-up-to : (key start : ℕ) (cs : List Cell) → HasKeyBelow key start cs → StandsUpTo key start cs
+pub lesser-up-to : (key start : ℕ) (cs : List Cell) → HasKeyBelow key start cs → HasKeyAtMost key start cs
 lesser-up-to key start cs s = record { cell = s.cell; later = s.later; is = s.is; up_to = omega (arith, s.below) }
 
 -- An item can be removed from there.
-pub found-behind : (hash_of : Term → ℕ) (directory : List (Option ℕ)) (term : Term) (hash at start : ℕ) (cs : List Cell) → HaveSplitKeys hash_of directory cs → Sorted cs → IsFound term at cs → key_of_item hash ≡ key_of_item (hash_of term) → HasKeyBelow (key_of_item hash) start cs → HasItem at (behind start cs)
+pub found-behind : (hash_of : Term → ℕ) (directory : List (Option ℕ)) (term : Term) (hash at start : ℕ) (cs : List Cell) → HaveSplitKeys hash_of directory cs → Sorted cs → IsFound term at cs → key_of_item hash ≡ key_of_item (hash_of term) → HasKeyBelow (key_of_item hash) start cs → HasItem at (cells_after start cs)
 found-behind hash_of directory term hash at start cs placed o h e s =
     let P : List Cell → Type 0 = λ zs. HaveSplitKeys hash_of directory zs in
     let p : HaveSplitKeys hash_of directory (h.cell ∷ h.later) = subst P h.is (placed-from hash_of directory at cs placed) in

@@ -4,10 +4,10 @@ use Rattle.std.proofs.lemmas.Bool.{cases_lt, cases_eq}
 use Rattle.ets_term.specs.declared.term.Term.{Term}
 use Rattle.node_list.specs.declared.node.Item.{Item}
 use Rattle.node_list.specs.Cells.{Cell, new_cell, new_item}
-use Rattle.node_list.specs.Places.{first_item, item_at, IsFresh, AreApart}
+use Rattle.node_list.specs.Places.{first_item, item_at, IsFresh, HasDistinctPlaces}
 use Rattle.node_list.specs.Changes.{put_cell, without, item_with, cells_with}
 use Rattle.node_list.proofs.CellLaws.{put-past, put-on, from-here, from-on, without-here, without-on}
-use Rattle.node_list.proofs.CallerLaws.{put-stands}
+use Rattle.node_list.proofs.CallerLaws.{put-from_new}
 use Rattle.bucket_table.specs.Slots.{Slot, Enters}
 use Rattle.bucket_table.specs.inside.Order.{slots_from, above, content_of}
 use Rattle.bucket_table.proofs.list.Content.{with-here, with-on}
@@ -71,7 +71,7 @@ put-apart x (c ∷ cs) at n =
     ]
 
 put-own : (x : Cell) (cs : List Cell) → IsFresh x.at cs → item_at x.at (put_cell x cs) ≡ x.item
-put-own x cs f = ap first_item (put-stands x cs f).1
+put-own x cs f = ap first_item (put-from_new x cs f).1
 
 pub content-dummy : (at key : ℕ) (cs : List Cell) → IsFresh at cs → content_of (put_cell (new_cell at key None) cs) ≡ content_of cs
 content-dummy at key cs f = content-same cs (put_cell (new_cell at key None) cs) same
@@ -121,7 +121,7 @@ without-apart gone at (c ∷ cs) n =
           ]
     ]
 
-pub without-own : (gone : ℕ) (cs : List Cell) → AreApart cs → item_at gone (without gone cs) ≡ None
+pub without-own : (gone : ℕ) (cs : List Cell) → HasDistinctPlaces cs → item_at gone (without gone cs) ≡ None
 without-own gone [] a = refl
 without-own gone (c ∷ cs) a =
     let F : ℕ → Type 0 = λ z. IsFresh z cs in

@@ -9,7 +9,7 @@ use Rattle.ets_term.specs.laws.Same.{same-exact, same-refl}
 use Rattle.split_key.specs.Keys.{key_of_item}
 use Rattle.node_list.specs.declared.node.Item.{Item}
 use Rattle.node_list.specs.Cells.{Cell}
-use Rattle.node_list.specs.Places.{from, IsFresh, AreApart, HasItem, item_at, first_item}
+use Rattle.node_list.specs.Places.{from, IsFresh, HasDistinctPlaces, HasItem, item_at, first_item}
 use Rattle.node_list.specs.Search.{holds, is_it, place_of}
 use Rattle.node_list.specs.Changes.{item_with}
 use Rattle.node_list.specs.Changes.{cells_with}
@@ -149,7 +149,7 @@ module _ (hash_of : Term → ℕ) (directory : List (Option ℕ)) (key : ℕ) (t
   its-key c p h = placed-key hash_of directory c.at c.key c.item h.item h.is p ∙ (ap (λ (t : Term). key_of_item (hash_of t)) h.same_term ∙ sym is)
 
   -- A search that finds a place.
-  pub found : (at : ℕ) (cs : List Cell) → HaveSplitKeys hash_of directory cs → AreApart cs → place_of key term cs ≡ Some at → IsFound term at cs
+  pub found : (at : ℕ) (cs : List Cell) → HaveSplitKeys hash_of directory cs → HasDistinctPlaces cs → place_of key term cs ≡ Some at → IsFound term at cs
   found at [] p a e = absurd (cc)
   found at (c ∷ cs) p a e =
       elim (cases_Bool (holds term c.item)) [

@@ -7,7 +7,7 @@ use Rattle.ets_term.specs.declared.term.Term.{Term}
 use Rattle.split_key.specs.Keys.{key_of_item}
 use Rattle.node_list.specs.declared.node.Item.{Item}
 use Rattle.node_list.specs.Cells.{Cell, Sorted, StartsFrom}
-use Rattle.node_list.specs.Places.{from, AreApart}
+use Rattle.node_list.specs.Places.{from, HasDistinctPlaces}
 use Rattle.node_list.specs.Search.{is_it, place_of, passed}
 use Rattle.node_list.proofs.CellLaws.{from-here, from-on, at-most-from, search-on}
 use Rattle.node_list.proofs.CallerLaws.{is_item_below}
@@ -75,10 +75,10 @@ placed-from hash_of directory at (c ∷ cs) p =
       | inr other ↦ subst P (sym (from-on at c cs other)) (placed-from hash_of directory at cs p.1)
     ]
 
-pub apart-from : (at : ℕ) (cs : List Cell) → AreApart cs → AreApart (from at cs)
+pub apart-from : (at : ℕ) (cs : List Cell) → HasDistinctPlaces cs → HasDistinctPlaces (from at cs)
 apart-from at [] a = a
 apart-from at (c ∷ cs) a =
-    let P : List Cell → Type 0 = λ zs. AreApart zs in
+    let P : List Cell → Type 0 = λ zs. HasDistinctPlaces zs in
     elim (cases_eq c.at at) [
       | inl here ↦ subst P (sym (from-here at c cs here)) a
       | inr other ↦ subst P (sym (from-on at c cs other)) (apart-from at cs a.1)

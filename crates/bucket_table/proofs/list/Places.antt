@@ -8,7 +8,7 @@ use Rattle.ets_term.specs.declared.term.Term.{Term}
 use Rattle.ets_term.specs.Order.{same}
 use Rattle.node_list.specs.declared.node.Item.{Item}
 use Rattle.node_list.specs.Cells.{Cell}
-use Rattle.node_list.specs.Places.{from, item_at, key_at, first_key, IsFresh, AreApart, Stands}
+use Rattle.node_list.specs.Places.{from, item_at, key_at, first_key, IsFresh, HasDistinctPlaces, IsPlaceOf}
 use Rattle.node_list.specs.Search.{holds}
 use Rattle.node_list.specs.Changes.{item_with}
 use Rattle.node_list.specs.Changes.{cells_with}
@@ -75,7 +75,7 @@ seat-here key at c cs (Some item) i f e h = record {
   same_term = some-term item.term key (lookup (nat_eq at) (with_place c.at (Some item) (places_of cs))) (finds at c.at (Some item) item (places_of cs) e refl) h;
 }
 
-pub key-seat : (key : Term) (at : ℕ) (cs : List Cell) → AreApart cs → key_of_place (places_of cs) at ≡ Some key → Seat key at cs
+pub key-seat : (key : Term) (at : ℕ) (cs : List Cell) → HasDistinctPlaces cs → key_of_place (places_of cs) at ≡ Some key → Seat key at cs
 key-seat key at [] a h = absurd (cc)
 key-seat key at (c ∷ cs) a h =
     elim (cases_eq c.at at) [
@@ -117,7 +117,7 @@ unfolding IsDistinct
 distinct-behind None ss d = d
 distinct-behind (Some item) ss d = d.1
 
-pub seat-found : (key : Term) (at : ℕ) (cs : List Cell) → AreApart cs → HasDistinctKeys (slots_of cs) → Seat key at cs → IsFound key at cs
+pub seat-found : (key : Term) (at : ℕ) (cs : List Cell) → HasDistinctPlaces cs → HasDistinctKeys (slots_of cs) → Seat key at cs → IsFound key at cs
 seat-found key at [] a d s = absurd (let e : [] ≡ s.cell ∷ s.later = s.is in cc)
 seat-found key at (c ∷ cs) a d s =
     elim (cases_eq c.at at) [
@@ -136,7 +136,7 @@ pub record AtPlace (at : ℕ) (cs : List Cell) : Type 0 where
   pub is : key_of_place (places_of cs) at ≡ Some key
   pub found : IsFound key at cs
 
-pub at-place : (at : ℕ) (cs : List Cell) → AreApart cs → HasDistinctKeys (slots_of cs) → IsSome (key_of_place (places_of cs) at) → AtPlace at cs
+pub at-place : (at : ℕ) (cs : List Cell) → HasDistinctPlaces cs → HasDistinctKeys (slots_of cs) → IsSome (key_of_place (places_of cs) at) → AtPlace at cs
 at-place at cs a d i = go (key_of_place (places_of cs) at) refl i
   where
     go : (o : Option Term) → key_of_place (places_of cs) at ≡ o → IsSome o → AtPlace at cs
@@ -160,7 +160,7 @@ places-with at w (c ∷ cs) =
 
 -- ---- what is read and changed there
 
-pub place-stands : (at : ℕ) (cs : List Cell) → AtPlace at cs → Stands at cs
+pub place-stands : (at : ℕ) (cs : List Cell) → AtPlace at cs → IsPlaceOf at cs
 place-stands at cs p = record { cell = p.found.cell; later = p.found.later; is = p.found.is }
 
 pub no-item : (at : ℕ) (cs : List Cell) → AtPlace at cs → item_at at cs ≡ None → ⊥

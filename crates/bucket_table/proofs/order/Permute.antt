@@ -9,7 +9,7 @@ use Rattle.ets_term.specs.Order.{same}
 use Rattle.ets_term.specs.laws.Same.{same-exact, same-refl}
 use Rattle.node_list.specs.declared.node.Item.{Item}
 use Rattle.node_list.specs.Cells.{Cell}
-use Rattle.node_list.specs.Places.{item_at, AreApart}
+use Rattle.node_list.specs.Places.{item_at, HasDistinctPlaces}
 use Rattle.node_list.specs.Search.{holds}
 use Rattle.node_list.specs.Changes as changes
 use Rattle.node_list.specs.Changes.{item_with, cells_with}
@@ -78,7 +78,7 @@ same-entered ss old new key objects a h = record {
     more : (f : Slot → ℕ) → sum_by f new ≡ sum_by f ((key, objects) ∷ ss)
     more f = omega (arith, entered-sum f old new key objects a, h.sum f, sum_by-cons f (key, objects) ss)
 
-pub same-slots-of : (cs : List Cell) → AreApart cs → AreSame (slots_of cs) (content_of cs)
+pub same-slots-of : (cs : List Cell) → HasDistinctPlaces cs → AreSame (slots_of cs) (content_of cs)
 same-slots-of [] a = same-nothing
 same-slots-of (c ∷ cs) a = go c.item refl (same-slots-of cs a.1)
   where
@@ -135,7 +135,7 @@ pub record IsOrdered (term : Term) (at : ℕ) (item : Item) (cs : List Cell) : T
   pub removed : content_of (changes.without at cs) ≡ remove_entry (same term) (content_of cs)
   pub replaced : (w : List Term) → content_of (cells_with at w cs) ≡ set_value (same term) (content_of cs) w
 
-pub ordered : (term : Term) (at : ℕ) (cs : List Cell) → AreApart cs → HasDistinctKeys (slots_of cs) → (f : IsFound term at cs) → IsOrdered term at f.item cs
+pub ordered : (term : Term) (at : ℕ) (cs : List Cell) → HasDistinctPlaces cs → HasDistinctKeys (slots_of cs) → (f : IsFound term at cs) → IsOrdered term at f.item cs
 ordered term at cs a d f =
     let has : item_at at cs ≡ Some f.item = found-at term at cs f in
     let high : at < above cs = item-below at cs f.item has in

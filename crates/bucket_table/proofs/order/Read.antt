@@ -6,7 +6,7 @@ use Rattle.ets_term.specs.declared.term.Term.{Term}
 use Rattle.ets_term.specs.Order.{same}
 use Rattle.node_list.specs.declared.node.Item.{Item}
 use Rattle.node_list.specs.Cells.{Cell, new_cell, new_item}
-use Rattle.node_list.specs.Places.{from, item_at, first_item, IsFresh, AreApart, HasItem, IsItemFrom}
+use Rattle.node_list.specs.Places.{from, item_at, first_item, IsFresh, HasDistinctPlaces, HasItem, IsNextItem}
 use Rattle.node_list.specs.Changes.{put_cell, cells_with}
 use Rattle.bucket_table.specs.Slots.{Enters, HasDistinctKeys, objects_of}
 use Rattle.bucket_table.specs.Entries.{objects_in, with_objects_in}
@@ -24,7 +24,7 @@ use Rattle.bucket_table.proofs.order.Permute.{AreSame, same-slots-of, ordered}
 pub item-put : (at key : ℕ) (term : Term) (chain : List Term) (old new : List Cell) → IsFresh at old → new ≡ put_cell (new_cell at key (Some (new_item term chain))) old → Enters (content_of old) term chain (content_of new)
 item-put at key term chain old new f e = let P : List Cell → Type 0 = λ zs. Enters (content_of old) term chain (content_of zs) in subst P (sym e) (content-item at key term chain old f)
 
-module _ (cs : List Cell) (apart : AreApart cs) (distinct : HasDistinctKeys (slots_of cs)) where
+module _ (cs : List Cell) (apart : HasDistinctPlaces cs) (distinct : HasDistinctKeys (slots_of cs)) where
   same' : AreSame (slots_of cs) (content_of cs)
   same' = same-slots-of cs apart
 
@@ -91,7 +91,7 @@ skips f item at (suc more) own rest low e none has =
           ∙ skips f item (suc at) more own rest (omega arith) (omega arith) (λ p l m. none p (omega arith) m) has
     ]
 
-pub first-there : (start more : ℕ) (cs : List Cell) (result : Option ℕ) → above cs ≤ start + more → IsItemFrom start result cs → IsFirstPlace (key_of_place (places_of cs)) (slots_from (λ at. item_at at cs) start more) result
+pub first-there : (start more : ℕ) (cs : List Cell) (result : Option ℕ) → above cs ≤ start + more → IsNextItem start result cs → IsFirstPlace (key_of_place (places_of cs)) (slots_from (λ at. item_at at cs) start more) result
 first-there start more cs None l h = no-slots (λ at. item_at at cs) start more (λ p k. lacks p cs (λ i. (let less : p < start = h p i in absurd (omega arith))))
 first-there start more cs (Some own) l h =
     let has : item_at own cs ≡ Some h.has.item = ap first_item h.has.is ∙ h.has.has in
@@ -104,13 +104,13 @@ first-there start more cs (Some own) l h =
       key = seat-key h.has.item.term own cs (record { cell = h.has.cell; later = h.has.later; item = h.has.item; is = h.has.is; has = h.has.has; same_term = refl });
     }
 
-pub next-there : (at : ℕ) (cs : List Cell) (result : Option ℕ) → AreApart cs → HasDistinctKeys (slots_of cs) → AtPlace at cs → IsItemFrom (at + 1) result cs
+pub next-there : (at : ℕ) (cs : List Cell) (result : Option ℕ) → HasDistinctPlaces cs → HasDistinctKeys (slots_of cs) → AtPlace at cs → IsNextItem (at + 1) result cs
     → IsNextPlace (key_of_place (places_of cs)) (content_of cs) (key_of_place (places_of cs) at) result
 next-there at cs result apart distinct p h =
     let o = ordered p.key at cs apart distinct p.found in
     let within : at < above cs = o.within in
     let after : at + 1 ≡ suc at = omega arith in
-    let P : ℕ → Type 0 = λ n. IsItemFrom n result cs in
+    let P : ℕ → Type 0 = λ n. IsNextItem n result cs in
     record {
       rest = slots_from (λ q. item_at q cs) (suc at) (above cs - suc at);
       is = ap (behind_in (content_of cs)) p.is ∙ o.behind;

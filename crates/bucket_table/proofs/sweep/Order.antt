@@ -3,7 +3,7 @@ use Rattle.std.proofs.Common.{◌≡◌, ℕ, zero, suc, ◌+◌, inl, inr, List
 use Rattle.std.proofs.lemmas.Bool.{cases_eq}
 use Rattle.node_list.specs.declared.node.Item.{Item}
 use Rattle.node_list.specs.Cells.{Cell}
-use Rattle.node_list.specs.Places.{item_at, AreApart}
+use Rattle.node_list.specs.Places.{item_at, HasDistinctPlaces}
 use Rattle.node_list.specs.Changes.{without, cells_with, item_with}
 use Rattle.bucket_table.specs.declared.split.sweep.SweepMode.{SweepMode}
 use Rattle.bucket_table.specs.declared.split.sweep.SweepMode.TheVariants.{RemoveTombstones, RemoveFilled, EmptyAll}
@@ -16,7 +16,7 @@ use Rattle.bucket_table.proofs.list.Change.{item-here, item-on, content-is, with
 
 -- ---- one node
 
-pub alike-gone : (mode : SweepMode) (gone : ℕ) (cs new : List Cell) → AreApart cs → new ≡ without gone cs → ((ss : List Slot) → swept mode (with_slot (item_at gone cs) ss) ≡ swept mode ss) → HaveSameSweep mode cs new
+pub alike-gone : (mode : SweepMode) (gone : ℕ) (cs new : List Cell) → HasDistinctPlaces cs → new ≡ without gone cs → ((ss : List Slot) → swept mode (with_slot (item_at gone cs) ss) ≡ swept mode ss) → HaveSameSweep mode cs new
 alike-gone mode gone cs new a e h at =
     let P : List Cell → Type 0 = λ zs. swept mode (slot_at at zs) ≡ swept mode (slot_at at cs) in
     let S : Option Item → List Slot = λ o. swept mode (with_slot o []) in

@@ -5,7 +5,7 @@ use Rattle.ets_term.specs.declared.term.Term.{Term}
 use Rattle.split_key.specs.Keys.{key_of_item, key_of_dummy}
 use Rattle.node_list.specs.declared.node.Item.{Item}
 use Rattle.node_list.specs.Cells.{Cell, Sorted, StartsFrom}
-use Rattle.node_list.specs.Places.{from, behind, all_but_first, first_place, first_key, key_at, place_after, AreApart, Stands}
+use Rattle.node_list.specs.Places.{from, cells_after, all_but_first, first_place, first_key, key_at, place_after, HasDistinctPlaces, IsPlaceOf}
 use Rattle.node_list.proofs.CellLaws.{from-here, from-on, at-most-from, sorted-from}
 use Rattle.bucket_table.specs.declared.split.sweep.SweepMode.TheVariants.{RemoveTombstones}
 use Rattle.bucket_table.specs.Slots.{Slot, purged}
@@ -28,7 +28,7 @@ cells-parts at (c ∷ cs) d ds e =
     ]
 
 -- The slots up to a place and those after it are all slots.
-pub slots-parts : (at : ℕ) (cs : List Cell) → Stands at cs → slots_of cs ≡ slots_of (up_to at cs) ++ slots_of (behind at cs)
+pub slots-parts : (at : ℕ) (cs : List Cell) → IsPlaceOf at cs → slots_of cs ≡ slots_of (up_to at cs) ++ slots_of (cells_after at cs)
 slots-parts at cs s =
     ap slots_of (cells-parts at cs s.cell s.later s.is)
     ∙ (slots-append (up_to at cs) s.later ∙ ap (λ (zs : List Cell). slots_of (up_to at cs) ++ slots_of (all_but_first zs)) (sym s.is))
@@ -75,27 +75,27 @@ module _ (hash_of : Term → ℕ) (directory : List (Option ℕ)) (key hash : �
       ]
 
   module _ (start last : ℕ) (old new : List Cell) (first : Cell) (later : List Cell) (is_start : from start old ≡ first ∷ later) (below : first.key < key) (o : Sorted old) (p : HaveSplitKeys hash_of directory old)
-      (s : Stands last new) (same_end : slots_after_sweep RemoveTombstones last new ≡ slots_after_sweep RemoveTombstones start old) where
-    old-parts : slots_of old ≡ slots_of (up_to start old) ++ slots_of (behind start old)
+      (s : IsPlaceOf last new) (same_end : slots_after_sweep RemoveTombstones last new ≡ slots_after_sweep RemoveTombstones start old) where
+    old-parts : slots_of old ≡ slots_of (up_to start old) ++ slots_of (cells_after start old)
     old-parts = slots-parts start old (record { cell = first; later = later; is = is_start })
 
-    new-parts : slots_of new ≡ slots_of (up_to last new) ++ slots_of (behind last new)
+    new-parts : slots_of new ≡ slots_of (up_to last new) ++ slots_of (cells_after last new)
     new-parts = slots-parts last new s
 
     pub run-purged : purged (slots_of new) ≡ purged (slots_of old)
     run-purged =
         ap purged new-parts
-        ∙ (sym (purged-parts (slots_of (up_to last new)) (slots_of (behind last new)))
+        ∙ (sym (purged-parts (slots_of (up_to last new)) (slots_of (cells_after last new)))
         ∙ (ap purged same_end
-        ∙ (purged-parts (slots_of (up_to start old)) (slots_of (behind start old)) ∙ ap purged (sym old-parts))))
+        ∙ (purged-parts (slots_of (up_to start old)) (slots_of (cells_after start old)) ∙ ap purged (sym old-parts))))
 
-    pub run-gone : AreNone hash_of hash (slots_of (behind last new)) → ((hs : List ℕ) → TombstonesAreAmong hash_of hs (slots_of (behind start old)) → TombstonesAreAmong hash_of hs (slots_of (behind last new)))
+    pub run-gone : AreNone hash_of hash (slots_of (cells_after last new)) → ((hs : List ℕ) → TombstonesAreAmong hash_of hs (slots_of (cells_after start old)) → TombstonesAreAmong hash_of hs (slots_of (cells_after last new)))
         → (hs : List ℕ) → TombstonesAreAmong hash_of (hash ∷ hs) (slots_of old) → TombstonesAreAmong hash_of hs (slots_of new)
     run-gone none rest hs a =
         let front = slots_of (up_to start old) in
-        let back = slots_of (behind start old) in
+        let back = slots_of (cells_after start old) in
         let front' = slots_of (up_to last new) in
-        let back' = slots_of (behind last new) in
+        let back' = slots_of (cells_after last new) in
         let A : List Slot → Type 0 = λ ss. TombstonesAreAmong hash_of (hash ∷ hs) ss in
         let N : List Slot → Type 0 = λ ss. AreNone hash_of hash ss in
         let both : TombstonesAreAmong hash_of (hash ∷ hs) (front ++ back) = subst A old-parts a in
@@ -118,14 +118,14 @@ start-below directory j hash start size few s =
     let before : key_of_dummy s.nearest ≤ key_of_dummy (hash % length directory) = s.before in
     omega arith
 
-pub next-there : (at next : ℕ) (cs : List Cell) → AreApart cs → Stands at cs → place_after at cs ≡ Some next → Stands next cs
-next-there at next cs a s e = let n = neighbour at next cs a s e in let P : ℕ → Type 0 = λ z. Stands z cs in subst P n.place (record { cell = n.other; later = n.later; is = n.pair.next })
+pub next-there : (at next : ℕ) (cs : List Cell) → HasDistinctPlaces cs → IsPlaceOf at cs → place_after at cs ≡ Some next → IsPlaceOf next cs
+next-there at next cs a s e = let n = neighbour at next cs a s e in let P : ℕ → Type 0 = λ z. IsPlaceOf z cs in subst P n.place (record { cell = n.other; later = n.later; is = n.pair.next })
 
 some-number : (a b : ℕ) (o : Option ℕ) → o ≡ Some a → o ≡ Some b → a ≡ b
 some-number a b o e f = cc
 
-pub beyond-next : (hash_of : Term → ℕ) (directory : List (Option ℕ)) (key hash : ℕ) → key ≡ key_of_item hash → (at next k : ℕ) (cs : List Cell) → AreApart cs → Sorted cs → HaveSplitKeys hash_of directory cs → Stands at cs → place_after at cs ≡ Some next → key_at next cs ≡ Some k → key < k
-    → AreNone hash_of hash (slots_of (behind at cs))
+pub beyond-next : (hash_of : Term → ℕ) (directory : List (Option ℕ)) (key hash : ℕ) → key ≡ key_of_item hash → (at next k : ℕ) (cs : List Cell) → HasDistinctPlaces cs → Sorted cs → HaveSplitKeys hash_of directory cs → IsPlaceOf at cs → place_after at cs ≡ Some next → key_at next cs ≡ Some k → key < k
+    → AreNone hash_of hash (slots_of (cells_after at cs))
 beyond-next hash_of directory key hash is at next k cs a o p s e h less =
     let n = neighbour at next cs a s e in
     let own : k ≡ n.other.key = some-number k n.other.key (key_at next cs) h (ap (λ (z : ℕ). key_at z cs) (sym n.place) ∙ ap first_key n.pair.next) in
@@ -134,11 +134,11 @@ beyond-next hash_of directory key hash is at next k cs a o p s e h less =
     let so : Sorted (n.other ∷ n.later) = subst S n.pair.next (sorted-from n.other.at cs o) in
     let pl : HaveSplitKeys hash_of directory (n.other ∷ n.later) = subst R n.pair.next (placed-from hash_of directory n.other.at cs p) in
     let N : List Cell → Type 0 = λ zs. AreNone hash_of hash (slots_of zs) in
-    let back : behind at cs ≡ n.other ∷ n.later = ap all_but_first n.pair.is in
+    let back : cells_after at cs ≡ n.other ∷ n.later = ap all_but_first n.pair.is in
     subst N (sym back) (none-beyond hash_of directory key hash is n.other.key (n.other ∷ n.later) (omega (arith, own, less)) (omega arith) so pl)
 
-pub nothing-behind : (hash_of : Term → ℕ) (hash at : ℕ) (cs : List Cell) → place_after at cs ≡ None → AreNone hash_of hash (slots_of (behind at cs))
-nothing-behind hash_of hash at cs e = go (behind at cs) e
+pub nothing-behind : (hash_of : Term → ℕ) (hash at : ℕ) (cs : List Cell) → place_after at cs ≡ None → AreNone hash_of hash (slots_of (cells_after at cs))
+nothing-behind hash_of hash at cs e = go (cells_after at cs) e
   where
     go : (ds : List Cell) → first_place ds ≡ None → AreNone hash_of hash (slots_of ds)
     go [] e = tt

@@ -6,7 +6,7 @@ use Rattle.std.proofs.lemmas.List.{append_assoc}
 use Rattle.ets_term.specs.declared.term.Term.{Term}
 use Rattle.node_list.specs.declared.node.Item.{Item}
 use Rattle.node_list.specs.Cells.{Cell, StartsWithDummy, new_item}
-use Rattle.node_list.specs.Places.{from, behind, all_but_first, first_place, first_item, place_after, item_at, IsFresh, AreApart, Stands, HasItem}
+use Rattle.node_list.specs.Places.{from, cells_after, all_but_first, first_place, first_item, place_after, item_at, IsFresh, HasDistinctPlaces, IsPlaceOf, HasItem}
 use Rattle.node_list.specs.Changes.{without, cells_with, item_with}
 use Rattle.node_list.proofs.CellLaws.{from-here, from-on, without-here, without-on}
 use Rattle.bucket_table.specs.declared.split.sweep.SweepMode.{SweepMode}
@@ -49,7 +49,7 @@ pub record Pair (at : ℕ) (d e : Cell) (ds : List Cell) (cs : List Cell) : Type
 apart-pair : (c : Cell) (cs : List Cell) (x : Cell) (xs : List Cell) → IsFresh c.at cs → from x.at cs ≡ x ∷ xs → c.at ≢ x.at
 apart-pair c cs x xs f e = fresh-apart c.at x.at cs x xs f e
 
-pub pair : (at : ℕ) (cs : List Cell) (d e : Cell) (ds : List Cell) → AreApart cs → from at cs ≡ d ∷ e ∷ ds → Pair at d e ds cs
+pub pair : (at : ℕ) (cs : List Cell) (d e : Cell) (ds : List Cell) → HasDistinctPlaces cs → from at cs ≡ d ∷ e ∷ ds → Pair at d e ds cs
 pair at [] d e ds a h = absurd (cc)
 pair at (c ∷ cs) d e ds a h =
     elim (cases_eq c.at at) [
@@ -87,7 +87,7 @@ pub record Neighbour (at next : ℕ) (cs : List Cell) : Type 0 where
   pub pair : Pair at cell other later cs
   pub place : other.at ≡ next
 
-pub neighbour : (at next : ℕ) (cs : List Cell) → AreApart cs → Stands at cs → place_after at cs ≡ Some next → Neighbour at next cs
+pub neighbour : (at next : ℕ) (cs : List Cell) → HasDistinctPlaces cs → IsPlaceOf at cs → place_after at cs ≡ Some next → Neighbour at next cs
 neighbour at next cs a s e = go s.later s.is (ap (λ (zs : List Cell). first_place (all_but_first zs)) (sym s.is) ∙ e)
   where
     go : (ds : List Cell) → from at cs ≡ s.cell ∷ ds → first_place ds ≡ Some next → Neighbour at next cs
@@ -104,19 +104,19 @@ some-place : (a b : ℕ) (P : ℕ → Type 0) → a ≡ b → P a → P b
 some-place a b P e p = subst P e p
 
 module _ (mode : SweepMode) (at next : ℕ) (cs : List Cell) (n : Neighbour at next cs) where
-  behind-at : behind at cs ≡ n.other ∷ n.later
+  behind-at : cells_after at cs ≡ n.other ∷ n.later
   behind-at = ap all_but_first n.pair.is
 
-  behind-next : behind n.other.at cs ≡ n.later
+  behind-next : cells_after n.other.at cs ≡ n.later
   behind-next = ap all_but_first n.pair.next
 
   item-is : item_at next cs ≡ n.other.item
   item-is = ap (λ (z : ℕ). item_at z cs) (sym n.place) ∙ ap first_item n.pair.next
 
-  pub next-stands : Stands next cs
-  next-stands = let P : ℕ → Type 0 = λ z. Stands z cs in subst P n.place (record { cell = n.other; later = n.later; is = n.pair.next })
+  pub next-stands : IsPlaceOf next cs
+  next-stands = let P : ℕ → Type 0 = λ z. IsPlaceOf z cs in subst P n.place (record { cell = n.other; later = n.later; is = n.pair.next })
 
-  pub next-item : HasItem next cs → HasItem next (behind at cs)
+  pub next-item : HasItem next cs → HasItem next (cells_after at cs)
   next-item i =
       let both : i.cell ∷ i.later ≡ n.other ∷ n.later = sym i.is ∙ (ap (λ (z : ℕ). from z cs) (sym n.place) ∙ n.pair.next) in
       let same : i.cell ≡ n.other = cc in
@@ -129,13 +129,13 @@ module _ (mode : SweepMode) (at next : ℕ) (cs : List Cell) (n : Neighbour at n
       let G : Option Item → Type 0 = λ o. (ss : List Slot) → swept mode (with_slot o ss) ≡ with_slot o (swept mode ss) in
       let h' : G n.other.item = subst G item-is h in
       let P : ℕ → Type 0 = λ z. SweepsNext mode at cs z cs in
-      let l : length (behind at cs) ≡ length (n.other ∷ n.later) = ap length behind-at in
-      let m : length (behind n.other.at cs) ≡ length n.later = ap length behind-next in
+      let l : length (cells_after at cs) ≡ length (n.other ∷ n.later) = ap length behind-at in
+      let m : length (cells_after n.other.at cs) ≡ length n.later = ap length behind-next in
       subst P n.place (record {
         stands = record { cell = n.other; later = n.later; is = n.pair.next };
         same_end =
-            ap (λ (zs : List Cell). slots_of zs ++ swept mode (slots_of (behind n.other.at cs))) n.pair.front
-            ∙ (ap (λ (zs : List Slot). zs ++ swept mode (slots_of (behind n.other.at cs))) (slots-append (up_to at cs) (n.other ∷ []))
+            ap (λ (zs : List Cell). slots_of zs ++ swept mode (slots_of (cells_after n.other.at cs))) n.pair.front
+            ∙ (ap (λ (zs : List Slot). zs ++ swept mode (slots_of (cells_after n.other.at cs))) (slots-append (up_to at cs) (n.other ∷ []))
             ∙ (ap (λ (zs : List Cell). (slots_of (up_to at cs) ++ with_slot n.other.item []) ++ swept mode (slots_of zs)) behind-next
             ∙ (sym (swept-append mode n.other.item (slots_of (up_to at cs)) (slots_of n.later) h')
             ∙ ap (λ (zs : List Cell). slots_of (up_to at cs) ++ swept mode (slots_of zs)) (sym behind-at))));
@@ -150,12 +150,12 @@ module _ (mode : SweepMode) (at next : ℕ) (cs : List Cell) (n : Neighbour at n
       let h' : G n.other.item = subst G item-is h in
       let e' : new ≡ without n.other.at cs = e ∙ ap (λ (z : ℕ). without z cs) (sym n.place) in
       let from' : from at new ≡ n.cell ∷ n.later = ap (from at) e' ∙ n.pair.without_from in
-      let b : behind at new ≡ n.later = ap all_but_first from' in
-      let l : length (behind at cs) ≡ length (n.other ∷ n.later) = ap length behind-at in
+      let b : cells_after at new ≡ n.later = ap all_but_first from' in
+      let l : length (cells_after at cs) ≡ length (n.other ∷ n.later) = ap length behind-at in
       record {
         stands = record { cell = n.cell; later = n.later; is = from' };
         same_end =
-            ap (λ (zs : List Cell). slots_of zs ++ swept mode (slots_of (behind at new))) (ap (up_to at) e' ∙ n.pair.front_without)
+            ap (λ (zs : List Cell). slots_of zs ++ swept mode (slots_of (cells_after at new))) (ap (up_to at) e' ∙ n.pair.front_without)
             ∙ (ap (λ (zs : List Cell). slots_of (up_to at cs) ++ swept mode (slots_of zs)) b
             ∙ (ap (λ (zs : List Slot). slots_of (up_to at cs) ++ zs) (sym (h' (slots_of n.later)))
             ∙ ap (λ (zs : List Cell). slots_of (up_to at cs) ++ swept mode (slots_of zs)) (sym behind-at)));
@@ -167,7 +167,7 @@ pub start-end : (mode : SweepMode) (head : ℕ) (cs : List Cell) → StartsWithD
 start-end mode head [] d e = absurd d
 start-end mode head (c ∷ cs) d e =
     let here : c.at ≡ head = cc in
-    ap (λ (zs : List Cell). slots_of zs ++ swept mode (slots_of (behind head (c ∷ cs)))) (to-here head c cs here)
+    ap (λ (zs : List Cell). slots_of zs ++ swept mode (slots_of (cells_after head (c ∷ cs)))) (to-here head c cs here)
     ∙ (ap (λ (zs : List Cell). slots_of (c ∷ []) ++ swept mode (slots_of (all_but_first zs))) (from-here head c cs here)
     ∙ (ap (λ (o : Option Item). with_slot o [] ++ swept mode (slots_of cs)) d.1
     ∙ ap (λ (o : Option Item). swept mode (with_slot o (slots_of cs))) (sym d.1)))
@@ -190,19 +190,19 @@ swept-none RemoveFilled = refl
 swept-none EmptyAll = refl
 
 -- At the end of the list all slots are swept.
-pub end-end : (mode : SweepMode) (at : ℕ) (cs : List Cell) → Stands at cs → place_after at cs ≡ None → slots_of cs ≡ slots_after_sweep mode at cs
+pub end-end : (mode : SweepMode) (at : ℕ) (cs : List Cell) → IsPlaceOf at cs → place_after at cs ≡ None → slots_of cs ≡ slots_after_sweep mode at cs
 end-end mode at cs s e = go s.later s.is (ap (λ (zs : List Cell). first_place (all_but_first zs)) (sym s.is) ∙ e)
   where
     go : (ds : List Cell) → from at cs ≡ s.cell ∷ ds → first_place ds ≡ None → slots_of cs ≡ slots_after_sweep mode at cs
     go [] is q =
-        sym (ap (λ (zs : List Cell). slots_of zs ++ swept mode (slots_of (behind at cs))) (all-up-to at cs s.cell is)
+        sym (ap (λ (zs : List Cell). slots_of zs ++ swept mode (slots_of (cells_after at cs))) (all-up-to at cs s.cell is)
         ∙ (ap (λ (zs : List Cell). slots_of cs ++ swept mode (slots_of (all_but_first zs))) is
         ∙ (ap (λ (zs : List Slot). slots_of cs ++ zs) (swept-none mode) ∙ append-none (slots_of cs))))
     go (x ∷ xs) is q = absurd (cc)
 
 -- ---- the action for a node
 
-pub read-has : (at : ℕ) (cs : List Cell) (item : Item) → Stands at cs → item_at at cs ≡ Some item → HasItem at cs
+pub read-has : (at : ℕ) (cs : List Cell) (item : Item) → IsPlaceOf at cs → item_at at cs ≡ Some item → HasItem at cs
 read-has at cs item s e = record { cell = s.cell; later = s.later; item = item; is = s.is; has = sym (ap first_item s.is) ∙ e }
 
 none-left : (chain : List Term) → length chain ≡ 0 → chain ≡ []
@@ -227,13 +227,13 @@ drop-goes mode at cs t chain h e l ss = let P : SweepMode → Type 0 = λ z. swe
 abbrev emptied : Cell → Cell
 emptied e = record e { item = item_with e.item [] }
 
-from-emptied : (at : ℕ) (cs : List Cell) (d e : Cell) (ds : List Cell) → AreApart cs → Pair at d e ds cs → from e.at (cells_with e.at [] cs) ≡ emptied e ∷ ds
+from-emptied : (at : ℕ) (cs : List Cell) (d e : Cell) (ds : List Cell) → HasDistinctPlaces cs → Pair at d e ds cs → from e.at (cells_with e.at [] cs) ≡ emptied e ∷ ds
 from-emptied at cs d e ds a p =
-    let A : List Cell → Type 0 = λ zs. AreApart zs in
-    let f : AreApart (e ∷ ds) = subst A p.next (apart-from e.at cs a) in
+    let A : List Cell → Type 0 = λ zs. HasDistinctPlaces zs in
+    let f : HasDistinctPlaces (e ∷ ds) = subst A p.next (apart-from e.at cs a) in
     from-with e.at e.at [] cs ∙ (ap (cells_with e.at []) p.next ∙ (with-here e.at [] e ds refl ∙ ap (λ (zs : List Cell). emptied e ∷ zs) (with-fresh e.at [] ds f.0)))
 
-front-emptied : (at : ℕ) (cs : List Cell) (d e : Cell) (ds : List Cell) → AreApart cs → from at cs ≡ d ∷ e ∷ ds → up_to e.at (cells_with e.at [] cs) ≡ up_to at cs ++ emptied e ∷ []
+front-emptied : (at : ℕ) (cs : List Cell) (d e : Cell) (ds : List Cell) → HasDistinctPlaces cs → from at cs ≡ d ∷ e ∷ ds → up_to e.at (cells_with e.at [] cs) ≡ up_to at cs ++ emptied e ∷ []
 front-emptied at [] d e ds a h = absurd (cc)
 front-emptied at (c ∷ cs) d e ds a h =
     elim (cases_eq c.at at) [
@@ -260,18 +260,18 @@ held-slot : (o : Option Item) (front ss : List Slot) → front ++ swept EmptyAll
 held-slot None front ss = sym (append_assoc front [] (swept EmptyAll ss))
 held-slot (Some item) front ss = sym (append_assoc front ((item.term, []) ∷ []) (swept EmptyAll ss))
 
-pub empties : (at next : ℕ) (cs : List Cell) (n : Neighbour at next cs) → AreApart cs → SweepsNext EmptyAll at cs next (cells_with next [] cs)
+pub empties : (at next : ℕ) (cs : List Cell) (n : Neighbour at next cs) → HasDistinctPlaces cs → SweepsNext EmptyAll at cs next (cells_with next [] cs)
 empties at next cs n a =
     let new = cells_with n.other.at [] cs in
     let f : from n.other.at new ≡ emptied n.other ∷ n.later = from-emptied at cs n.cell n.other n.later a n.pair in
-    let b : behind n.other.at new ≡ n.later = ap all_but_first f in
-    let was : behind at cs ≡ n.other ∷ n.later = ap all_but_first n.pair.is in
+    let b : cells_after n.other.at new ≡ n.later = ap all_but_first f in
+    let was : cells_after at cs ≡ n.other ∷ n.later = ap all_but_first n.pair.is in
     let P : ℕ → Type 0 = λ z. SweepsNext EmptyAll at cs z (cells_with z [] cs) in
     subst P n.place (record {
       stands = record { cell = emptied n.other; later = n.later; is = f };
       same_end =
-          ap (λ (zs : List Cell). slots_of zs ++ swept EmptyAll (slots_of (behind n.other.at new))) (front-emptied at cs n.cell n.other n.later a n.pair.is)
-          ∙ (ap (λ (zs : List Slot). zs ++ swept EmptyAll (slots_of (behind n.other.at new))) (slots-append (up_to at cs) (emptied n.other ∷ []))
+          ap (λ (zs : List Cell). slots_of zs ++ swept EmptyAll (slots_of (cells_after n.other.at new))) (front-emptied at cs n.cell n.other n.later a n.pair.is)
+          ∙ (ap (λ (zs : List Slot). zs ++ swept EmptyAll (slots_of (cells_after n.other.at new))) (slots-append (up_to at cs) (emptied n.other ∷ []))
           ∙ (ap (λ (zs : List Cell). (slots_of (up_to at cs) ++ with_slot (item_with n.other.item []) []) ++ swept EmptyAll (slots_of zs)) b
           ∙ (sym (held-slot n.other.item (slots_of (up_to at cs)) (slots_of n.later))
           ∙ ap (λ (zs : List Cell). slots_of (up_to at cs) ++ swept EmptyAll (slots_of zs)) (sym was))));
@@ -284,7 +284,7 @@ empties at next cs n a =
 pub item-seat : (at : ℕ) (cs : List Cell) (i : HasItem at cs) → Seat i.item.term at cs
 item-seat at cs i = record { cell = i.cell; later = i.later; item = i.item; is = i.is; has = i.has; same_term = refl }
 
-pub rows-out : (hash_of : Term → ℕ) (directory : List (Option ℕ)) (interval_bits : ℕ) (current after : List (Option (Option ℕ))) (at : ℕ) (cells new : List Cell) → ListInvariant hash_of directory interval_bits current cells → AreApart cells → HasItem at cells → new ≡ without at cells → AreSound (2 ^ interval_bits) after new → ListInvariant hash_of directory interval_bits after new
+pub rows-out : (hash_of : Term → ℕ) (directory : List (Option ℕ)) (interval_bits : ℕ) (current after : List (Option (Option ℕ))) (at : ℕ) (cells new : List Cell) → ListInvariant hash_of directory interval_bits current cells → HasDistinctPlaces cells → HasItem at cells → new ≡ without at cells → AreSound (2 ^ interval_bits) after new → ListInvariant hash_of directory interval_bits after new
 rows-out hash_of directory interval_bits current after at cells new r a i e h =
     let f = seat-found i.item.term at cells a r.split.distinct (item-seat at cells i) in
     record {
@@ -292,7 +292,7 @@ rows-out hash_of directory interval_bits current after at cells new r a i e h =
       hinted = record { doublings = r.hinted.doublings; size = r.hinted.size; narrow = r.hinted.narrow; hints = h };
     }
 
-pub length-out : (hash_of : Term → ℕ) (directory : List (Option ℕ)) (at : ℕ) (cells new : List Cell) → DirectoryInvariant hash_of directory cells → AreApart cells → HasItem at cells → new ≡ without at cells → length (slots_of new) + 1 ≡ length (slots_of cells)
+pub length-out : (hash_of : Term → ℕ) (directory : List (Option ℕ)) (at : ℕ) (cells new : List Cell) → DirectoryInvariant hash_of directory cells → HasDistinctPlaces cells → HasItem at cells → new ≡ without at cells → length (slots_of new) + 1 ≡ length (slots_of cells)
 length-out hash_of directory at cells new s a i e =
     let f = seat-found i.item.term at cells a s.distinct (item-seat at cells i) in
     let l = length-removed (same i.item.term) (slots_of cells) f.item.chain f.objects in

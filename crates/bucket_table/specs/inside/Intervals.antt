@@ -4,7 +4,7 @@ use Rattle.ets_term.specs.declared.term.Term.{Term}
 use Rattle.node_list.specs.declared.node.Item.{Item}
 use Rattle.node_list.specs.Cells.{Cell, new_cell}
 use Rattle.node_list.specs.Changes.{put_cell}
-use Rattle.node_list.specs.Places.{from, behind}
+use Rattle.node_list.specs.Places.{from, cells_after}
 use Rattle.bucket_table.specs.inside.Directory.{DirectoryInvariant}
 use Rattle.bucket_table.specs.declared.split.hints.Hints.{Hints}
 
@@ -110,7 +110,7 @@ pub record IsItemIn (width interval at : ℕ) (cells : List Cell) : Type 0 where
 -- The hint of an interval after the removal of its first item, the one at this place.
 abbrev pub IsHintAfterRemoval : ℕ → ℕ → ℕ → List Cell → Option (Option ℕ) → Type 0
 IsHintAfterRemoval width interval at cells hint =
-    (first : Option ℕ) → hint ≡ Some first → first_in width interval (behind at cells) ≡ first
+    (first : Option ℕ) → hint ≡ Some first → first_in width interval (cells_after at cells) ≡ first
 
 -- Hints are as before, but not this place for this interval. If the hint of the interval was this place, it may be
 -- the next hint now.

@@ -5,7 +5,7 @@ use Rattle.ets_term.specs.declared.term.Term.{Term}
 use Rattle.ets_term.specs.Order.{same}
 use Rattle.node_list.specs.declared.node.Item.{Item}
 use Rattle.node_list.specs.Cells.{Cell}
-use Rattle.node_list.specs.Places.{from, Stands}
+use Rattle.node_list.specs.Places.{from, IsPlaceOf}
 use Rattle.node_list.specs.Search.{place_of, passed}
 use Rattle.node_list.specs.Ticks.{ticks}
 use Rattle.node_list.specs.Changes.{without}
@@ -29,7 +29,7 @@ pub record IsFound (term : Term) (at : ℕ) (cs : List Cell) : Type 0 where
 -- A search for a key from this place finds its item, or that there is none, and visits a bounded number of nodes.
 pub record CanStartSearch (hash_of : Term → ℕ) (directory : List (Option ℕ)) (term : Term)
     (start : ℕ) (cs : List Cell) : Type 0 where
-  pub stands : Stands start cs
+  pub stands : IsPlaceOf start cs
   pub finds : (r : Option ℕ) → r ≡ place_of (key_of_item (hash_of term)) term (from start cs)
       → MatchOption r (lookup (same term) (slots_of cs) ≡ None) (λ at. IsFound term at cs)
   pub looks : (old new : ℕ) → new ≡ ticks (length (passed (key_of_item (hash_of term)) term (from start cs))) old

@@ -1,7 +1,7 @@
 -- A sweep of all slots, node by node.
 use Rattle.std.specs.Prelude.{◌≡◌, ℕ, ◌+◌, ◌<◌, ◌≤◌, true, false, if◌then◌else◌, nat_eq, List, [], ◌∷◌, ◌++◌, length}
 use Rattle.node_list.specs.Cells.{Cell}
-use Rattle.node_list.specs.Places.{Stands, HasItem, behind, all_but_first, item_at}
+use Rattle.node_list.specs.Places.{IsPlaceOf, HasItem, cells_after, all_but_first, item_at}
 use Rattle.bucket_table.specs.declared.split.sweep.SweepMode.{SweepMode}
 use Rattle.bucket_table.specs.declared.split.sweep.SweepMode.TheVariants.{RemoveTombstones, RemoveFilled, EmptyAll}
 use Rattle.bucket_table.specs.declared.split.sweep.NodeAction.{NodeAction}
@@ -36,14 +36,14 @@ up_to at (c ∷ cs) = c ∷ (if nat_eq c.at at then [] else up_to at cs)
 
 -- The slots after a sweep of the nodes after a place.
 abbrev pub slots_after_sweep : SweepMode → ℕ → List Cell → List Slot
-slots_after_sweep mode at cs = slots_of (up_to at cs) ++ swept mode (slots_of (behind at cs))
+slots_after_sweep mode at cs = slots_of (up_to at cs) ++ swept mode (slots_of (cells_after at cs))
 
 -- One more node is swept.
 pub record SweepsNext (mode : SweepMode) (at : ℕ) (old : List Cell) (last : ℕ) (new : List Cell) : Type 0 where
-  pub stands : Stands last new
+  pub stands : IsPlaceOf last new
   pub same_end : slots_after_sweep mode last new ≡ slots_after_sweep mode at old
-  pub rest : behind last new ≡ all_but_first (behind at old)
-  pub shorter : length (behind last new) < length (behind at old)
+  pub rest : cells_after last new ≡ all_but_first (cells_after at old)
+  pub shorter : length (cells_after last new) < length (cells_after at old)
 
 -- What a sweep does to the node at a place. A dummy is kept.
 abbrev pub IsActionFor : SweepMode → ℕ → List Cell → NodeAction → Type 0

@@ -19,7 +19,7 @@ impl<H: KeyHash + Copy + Drop> SplitRows<H> {
         ensures hasher { self.new.hasher ≡ self.old.hasher }
         ensures buckets { self.new.ready ≡ self.old.ready }
     {
-        self.index.list.known();
+        self.index.list.reveal_invariant();
         self.index.list.reserve(additional)?;
         let nodes = self.index.list.len().saturating_add(additional);
         self.log.reserve_for(nodes);
@@ -30,13 +30,13 @@ impl<H: KeyHash + Copy + Drop> SplitRows<H> {
     pub(super) fn insert_slot(&mut self, hash: u32, key: Term, objects: Chain)
         requires room { 1 ≤ self.old.room }
         requires new { objects_of self.old.slots key ≡ None }
-        requires hash { hash ≡ H.number self.old.hasher key }
+        requires hash { hash ≡ H.hash self.old.hasher key }
         ensures now { Enters self.old.slots key objects self.new.slots }
         ensures room { self.old.room ≤ self.new.room + 1 }
         ensures hasher { self.new.hasher ≡ self.old.hasher }
         ensures buckets { self.new.ready ≡ self.old.ready }
     {
-        self.index.list.known();
+        self.index.list.reveal_invariant();
         self.log.log_hash(objects.len() == 0, hash);
         self.index.insert(hash, key, objects);
         self.slots += 1;
@@ -48,7 +48,7 @@ impl<H: KeyHash + Copy + Drop> SplitRows<H> {
         ensures hasher { self.new.hasher ≡ self.old.hasher }
         ensures buckets { self.new.ready ≡ self.old.ready }
     {
-        self.index.list.known();
+        self.index.list.reveal_invariant();
         let before = self.index.list.len();
         self.index.sweep_all(mode);
         self.slots -= before - self.index.list.len();

@@ -30,7 +30,7 @@ pub struct SplitIndex<H: KeyHash + Copy + Drop> {
 impl<H: KeyHash + Copy + Drop> SplitIndex<H> {
     /// Creates an index without items and with two buckets, of which the first is ready.
     pub fn new(alloc: Global, hasher: H) -> Result<SplitIndex<H>, AllocError>
-        ensures rows { IfOk result (λ index. RowsInvariant H.number index) }
+        ensures rows { IfOk result (λ index. RowsInvariant H.hash index) }
         ensures cells { IfOk result (λ index. index.list.cells ≡ new_cell 0 0 None ∷ []) }
         ensures buckets { IfOk result (λ index. map is_some index.directory ≡ true ∷ false ∷ []) }
         ensures first_unready { IfOk result (λ index. IsFirstUnready index.directory 1) }

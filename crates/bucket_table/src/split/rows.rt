@@ -20,7 +20,7 @@ impl<H: KeyHash + Copy + Drop> Rows for SplitRows<H> {
 
     ghost room = { λ s. s.room };
 
-    ghost hash_of = { λ s. H.number s.hasher };
+    ghost hash_of = { λ s. H.hash s.hasher };
 
     ghost readiness = { λ s. s.ready };
 
@@ -65,19 +65,19 @@ impl<H: KeyHash + Copy + Drop> Rows for SplitRows<H> {
             self.sweep_slots(SweepMode::RemoveTombstones);
             return;
         }
-        self.index.list.known();
+        self.index.list.reveal_invariant();
         let before = self.index.list.len();
         self.index.purge_hashes(&mut self.log.hashes);
         self.slots -= before - self.index.list.len();
     }
 
     fn len(&self) -> usize {
-        self.index.list.known();
+        self.index.list.reveal_invariant();
         self.slots
     }
 
     fn reveal_invariant(&self) {
-        self.index.list.known();
+        self.index.list.reveal_invariant();
     }
 
     fn first_at(&self) -> Option<(&Term, &[Term])> {
@@ -95,14 +95,14 @@ impl<H: KeyHash + Copy + Drop> Rows for SplitRows<H> {
     }
 
     fn find(&self, key: &Term) -> Option<Place> {
-        self.index.list.known();
+        self.index.list.reveal_invariant();
         let hash = self.index.hasher.hash32(key);
         let mut steps = Steps::new();
         self.index.find(hash, key, &mut steps)
     }
 
     fn entry(&self, key: &Term) -> SlotEntry {
-        self.index.list.known();
+        self.index.list.reveal_invariant();
         let hash = self.index.hasher.hash32(key);
         let mut steps = Steps::new();
         match self.index.find(hash, key, &mut steps) {
@@ -112,16 +112,16 @@ impl<H: KeyHash + Copy + Drop> Rows for SplitRows<H> {
     }
 
     fn first_place(&self) -> Option<Place> {
-        self.index.list.item_from(0)
+        self.index.list.next_item_at(0)
     }
 
     fn next_place(&self, place: Place) -> Option<Place> {
-        self.index.list.known();
-        self.index.list.item_from(place + 1)
+        self.index.list.reveal_invariant();
+        self.index.list.next_item_at(place + 1)
     }
 
     fn slot_at(&self, place: Place) -> (&Term, &[Term]) {
-        self.index.list.known();
+        self.index.list.reveal_invariant();
         match self.index.list.item(place) {
             Some((key, chain)) => (key, chain.as_slice()),
             None => unreachable!(),
@@ -129,7 +129,7 @@ impl<H: KeyHash + Copy + Drop> Rows for SplitRows<H> {
     }
 
     fn objects_at(&self, place: Place) -> &[Term] {
-        self.index.list.known();
+        self.index.list.reveal_invariant();
         match self.index.list.item(place) {
             Some((_key, chain)) => chain.as_slice(),
             None => unreachable!(),
@@ -137,7 +137,7 @@ impl<H: KeyHash + Copy + Drop> Rows for SplitRows<H> {
     }
 
     fn replace_at(&mut self, place: Place, objects: Chain) -> Chain {
-        self.index.list.known();
+        self.index.list.reveal_invariant();
         let hash = item_hash(self.index.list.key(place));
         self.log.log_hash(objects.len() == 0, hash);
         let chain = self.index.list.chain_mut(place);
@@ -145,12 +145,12 @@ impl<H: KeyHash + Copy + Drop> Rows for SplitRows<H> {
     }
 
     fn replace_one_at(&mut self, place: Place, object: Term) -> Term {
-        self.index.list.known();
+        self.index.list.reveal_invariant();
         self.index.list.chain_mut(place).replace(0, object)
     }
 
     fn remove_at(&mut self, place: Place) -> (Term, Chain) {
-        self.index.list.known();
+        self.index.list.reveal_invariant();
         let slot = self.index.remove(place);
         self.slots -= 1;
         slot

@@ -1,10 +1,10 @@
 ghost use Rattle.std.specs.Prelude.{◌≡◌, option_copied, OnOk, OnErr};
 ghost use Rattle.table_ops.specs.Content.{objects_under, is_present};
-ghost use Rattle.table_ops.specs.Drop.{of_key, each, DeletesObject};
-ghost use Rattle.table_ops.specs.Outcomes.{AnswersWith};
+ghost use Rattle.table_ops.specs.Drop.{has_key, every_object, DeletesObject};
+ghost use Rattle.table_ops.specs.Outcomes.{Returns};
 ghost use Rattle.table_ops.specs.Put.{Inserts, InsertsNew};
-ghost use Rattle.table_ops.specs.Read.{all_objects, element_told, element_or};
-ghost use Rattle.table_ops.specs.Refusals.{Comes, Tells};
+ghost use Rattle.table_ops.specs.Read.{all_objects, lookup_element, lookup_element_or};
+ghost use Rattle.table_ops.specs.Refusals.{Refines, ReturnsOrBadarg};
 ghost use Rattle.table_ops.specs.Update.{UpdatesCounter, UpdatesElement};
 ghost use Rattle.fixed_walk.specs.Fixes.{is_fixed};
 ghost use Rattle.fixed_walk.specs.TableState.{on_content, after_delete};
@@ -37,7 +37,7 @@ impl<R: Rows> Walked<R> {
     /// of all its objects. Refuses with `Badarg` if the key has no object, or one of its objects has no such element
     /// (stdlib manual, ets:lookup_element/3).
     pub fn lookup_element(&self, key: &Term, position: Position) -> Result<Term, Refusal>
-        ensures { Tells (element_told self.now.content.kind position
+        ensures { ReturnsOrBadarg (lookup_element self.now.content.kind position
             (objects_under self.now.content.slots key.now)) result }
     {
         self.table.lookup_element(key, position)
@@ -51,7 +51,7 @@ impl<R: Rows> Walked<R> {
         position: Position,
         default: &Term,
     ) -> Result<Term, Refusal>
-        ensures { Tells (element_or self.now.content.kind position default.now
+        ensures { ReturnsOrBadarg (lookup_element_or self.now.content.kind position default.now
             (objects_under self.now.content.slots key.now)) result }
     {
         self.table.lookup_element_or(key, position, default)
@@ -59,7 +59,7 @@ impl<R: Rows> Walked<R> {
 
     /// Returns copies of all objects, in the order of the slots (stdlib manual, ets:tab2list/1).
     pub fn objects(&self) -> Result<Items<Term>, AllocError>
-        ensures { AnswersWith result (all_objects self.now.content.slots) }
+        ensures { Returns result (all_objects self.now.content.slots) }
     {
         self.table.objects()
     }
@@ -69,7 +69,7 @@ impl<R: Rows> Walked<R> {
     /// that was deleted while the table is fixed comes back at its place.
     #[tactic(auto, using(crate::proofs::HeldLaws::held))]
     pub fn insert(&mut self, objects: &[Term]) -> Result<(), Refusal>
-        ensures { Comes (on_content (Inserts objects.now) self.old) self.old result self.new }
+        ensures { Refines (on_content (Inserts objects.now) self.old) self.old result self.new }
     {
         self.table.insert(objects)
     }
@@ -78,7 +78,7 @@ impl<R: Rows> Walked<R> {
     /// ets:insert_new/2). Refuses what `insert` refuses, but `SystemLimit` only if no key has an object.
     #[tactic(auto, using(crate::proofs::HeldLaws::held))]
     pub fn insert_new(&mut self, objects: &[Term]) -> Result<bool, Refusal>
-        ensures { Comes (on_content (InsertsNew objects.now) self.old) self.old result self.new }
+        ensures { Refines (on_content (InsertsNew objects.now) self.old) self.old result self.new }
     {
         self.table.insert_new(objects)
     }
@@ -102,7 +102,7 @@ impl<R: Rows> Walked<R> {
         ops: &Ops,
         default: Option<&Term>,
     ) -> Result<Term, Refusal>
-        ensures { Comes
+        ensures { Refines
             (on_content (UpdatesCounter key.now ops.now (option_copied default.entry)) self.old)
             self.old result self.new }
     {
@@ -124,11 +124,11 @@ impl<R: Rows> Walked<R> {
     pub fn update_element(
         &mut self,
         key: &Term,
-        specs: ElementSpecs,
+        specs: &ElementSpecs,
         default: Option<&Term>,
     ) -> Result<bool, Refusal>
-        ensures { Comes
-            (on_content (UpdatesElement key.now specs (option_copied default.entry)) self.old)
+        ensures { Refines
+            (on_content (UpdatesElement key.now specs.now (option_copied default.entry)) self.old)
             self.old result self.new }
     {
         self.table.update_element(key, specs, default)
@@ -137,7 +137,7 @@ impl<R: Rows> Walked<R> {
     /// Deletes the objects of a key (stdlib manual, ets:delete/2).
     #[tactic(auto, using(crate::proofs::HeldLaws::held))]
     pub fn delete_key(&mut self, key: &Term)
-        ensures { self.new ≡ after_delete (of_key key.now) self.old }
+        ensures { self.new ≡ after_delete (has_key key.now) self.old }
     {
         let hold = self.fixes.is_fixed();
         self.table.delete_key(key, hold);
@@ -146,8 +146,8 @@ impl<R: Rows> Walked<R> {
     /// Removes and returns the objects of a key, oldest first (stdlib manual, ets:take/2).
     #[tactic(auto, using(crate::proofs::HeldLaws::held))]
     pub fn take(&mut self, key: &Term) -> Result<Items<Term>, AllocError>
-        ensures taken { AnswersWith result (objects_under self.old.content.slots key.now) }
-        ensures ok { OnOk result (self.new ≡ after_delete (of_key key.now) self.old) }
+        ensures taken { Returns result (objects_under self.old.content.slots key.now) }
+        ensures ok { OnOk result (self.new ≡ after_delete (has_key key.now) self.old) }
         ensures err { OnErr result (self.new ≡ self.old) }
     {
         let hold = self.fixes.is_fixed();
@@ -168,7 +168,7 @@ impl<R: Rows> Walked<R> {
     /// Deletes all objects (stdlib manual, ets:delete_all_objects/1).
     #[tactic(auto, using(crate::proofs::HeldLaws::held))]
     pub fn delete_all(&mut self)
-        ensures { self.new ≡ after_delete each self.old }
+        ensures { self.new ≡ after_delete every_object self.old }
     {
         let hold = self.fixes.is_fixed();
         self.table.delete_all(hold);

@@ -1,6 +1,6 @@
 ghost use Rattle.std.specs.Prelude.{◌≡◌, ◌<◌, ◌^◌, IfOk, OnOk, OnErr};
-ghost use Rattle.table_ops.specs.Outcomes.{AnswersWith};
-ghost use Rattle.table_ops.specs.Queries.{bound_in, matches, given_by, is_chosen, answers_in, matching_in, chosen_in, AnswersTrees};
+ghost use Rattle.table_ops.specs.Outcomes.{Returns};
+ghost use Rattle.table_ops.specs.Queries.{bound_in, matches, spec_result, is_chosen, answers_in, matching_in, chosen_in, ReturnsAllData};
 ghost use Rattle.fixed_walk.specs.TableState.{after_delete};
 
 use super::Walked;
@@ -14,14 +14,14 @@ impl<R: Rows> Walked<R> {
     /// Returns, for each object that matches, the list of the values of the variables, in order of their numbers. The
     /// lists come in the order of the slots (stdlib manual, ets:match/2).
     pub fn matches(&self, pattern: &Pattern) -> Result<Items<Term>, AllocError>
-        ensures { AnswersTrees result (answers_in (bound_in pattern.now) self.now.content) }
+        ensures { ReturnsAllData result (answers_in (bound_in pattern.now) self.now.content) }
     {
         self.table.matches(pattern)
     }
 
     /// Returns copies of the objects that match, in the order of the slots (stdlib manual, ets:match_object/2).
     pub fn match_objects(&self, pattern: &Pattern) -> Result<Items<Term>, AllocError>
-        ensures { AnswersWith result (matching_in pattern.now self.now.content) }
+        ensures { Returns result (matching_in pattern.now self.now.content) }
     {
         self.table.match_objects(pattern)
     }
@@ -29,7 +29,7 @@ impl<R: Rows> Walked<R> {
     /// Returns the result of the match specification for each object that has one, in the order of the slots (stdlib
     /// manual, ets:select/2).
     pub fn select(&self, spec: &Spec) -> Result<Items<Term>, AllocError>
-        ensures { AnswersTrees result (answers_in (given_by spec.now) self.now.content) }
+        ensures { ReturnsAllData result (answers_in (spec_result spec.now) self.now.content) }
     {
         self.table.select(spec)
     }
@@ -37,7 +37,7 @@ impl<R: Rows> Walked<R> {
     /// Returns the number of objects whose result is `true`, at most 4,294,967,295 (stdlib manual,
     /// ets:select_count/2).
     pub fn select_count(&self, spec: &Spec) -> Result<usize, AllocError>
-        ensures count { AnswersWith result (chosen_in (is_chosen spec.now) self.now.content) }
+        ensures count { Returns result (chosen_in (is_chosen spec.now) self.now.content) }
         ensures few { IfOk result (λ count. count < 2 ^ 32) }
     {
         self.table.select_count(spec)
@@ -57,7 +57,7 @@ impl<R: Rows> Walked<R> {
     /// memory runs out, it changes nothing.
     #[tactic(auto, using(crate::proofs::HeldLaws::held))]
     pub fn select_delete(&mut self, spec: &Spec) -> Result<usize, AllocError>
-        ensures count { AnswersWith result (chosen_in (is_chosen spec.now) self.old.content) }
+        ensures count { Returns result (chosen_in (is_chosen spec.now) self.old.content) }
         ensures few { IfOk result (λ count. count < 2 ^ 32) }
         ensures ok { OnOk result (self.new ≡ after_delete (λ own. is_chosen spec.now) self.old) }
         ensures err { OnErr result (self.new ≡ self.old) }

@@ -46,11 +46,11 @@ impl<R: Rows> Walked<R> {
         ensures err { OnErr result (next_slot self.now.content.slots key.now ≡ None) }
     {
         let rows = self.table.rows();
-        rows.known();
+        rows.reveal_invariant();
         let Some(place) = rows.find(key) else {
             return Err(Badarg);
         };
-        Ok(first_nonempty(rows, rows.place_behind(place)))
+        Ok(first_nonempty(rows, rows.next_place(place)))
     }
 }
 
@@ -71,7 +71,7 @@ fn first_nonempty<R: Rows>(rows: &R, start: Option<Place>) -> Option<(&Term, &[T
     ensures { option_map deref_pair result
         ≡ first_slot (slots_from (R.key_at rows.now) (R.content rows.now) start) }
 {
-    rows.known();
+    rows.reveal_invariant();
     let mut at = start;
     for _ in 0..rows.len() {
         let place = at?;
@@ -79,7 +79,7 @@ fn first_nonempty<R: Rows>(rows: &R, start: Option<Place>) -> Option<(&Term, &[T
         if !objects.is_empty() {
             return Some((key, objects));
         }
-        at = rows.place_behind(place);
+        at = rows.next_place(place);
     }
     None
 }

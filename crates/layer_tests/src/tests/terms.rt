@@ -202,7 +202,7 @@ fn terms_rise(rt: HostRuntime) {
 /// Returns whether a term is so deep, and a copy equals it.
 fn is_of_depth(alloc: Global, term: &Term, depth: usize) -> Option<bool> {
     term.fits();
-    term.hashes_its_encoding();
+    ets_term::laws::hash_writes_encoding(term);
     let copy = term.try_clone(alloc).ok()?;
     let same = copy == *term;
     drop(copy);

@@ -1,7 +1,7 @@
 //! Values from outside: updates of one object, as rows of text. `None` means out of memory.
 use counters::{
-    CounterFault, ElementSpecs, Ops, apply_elements, apply_ops, is_default, keyed,
-    read_element_specs, read_ops, start_counter, start_elements, update_counter, update_elements,
+    CounterFault, ElementSpecs, Ops, apply_elements, apply_ops, is_default, read_element_specs,
+    read_ops, start_counter, start_with_elements, update_counter, with_key, write_elements,
 };
 use ets_term::{Items, MAX_DEPTH, Term};
 use std::alloc::Global;

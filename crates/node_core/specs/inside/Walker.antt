@@ -6,7 +6,7 @@ use Rattle.ets_term.specs.declared.term.Term.{Term}
 use Rattle.ets_term.specs.Atoms.{is_atom}
 use Rattle.ets_term.specs.Depth.{is_too_deep}
 use Rattle.ets_term.specs.Order.{same}
-use Rattle.fixed_walk.specs.Fixes.{most_fixes}
+use Rattle.fixed_walk.specs.Fixes.{max_fixes}
 use Rattle.ownership.specs.World.{table_at}
 use Rattle.node_core.specs.declared.step.Step.{Step}
 use Rattle.node_core.specs.declared.step.Reply.{Reply}
@@ -57,9 +57,9 @@ module _ (p t : ℕ) where
       step old (fix p t) true_reply new × (fixes_in p t new ≡ suc (fixes_in p t old))
   Holds old (Err fault.Lost) new = (can_read p t old ≡ false) × (new ≡ old)
   Holds old (Err fault.SystemLimit) new =
-      (can_read p t old ≡ true) × (fixes_in p t old ≡ most_fixes) × (new ≡ old)
+      (can_read p t old ≡ true) × (fixes_in p t old ≡ max_fixes) × (new ≡ old)
   Holds old (Err fault.Memory) new =
-      (can_read p t old ≡ true) × (fixes_in p t old < most_fixes) × (new ≡ old)
+      (can_read p t old ≡ true) × (fixes_in p t old < max_fixes) × (new ≡ old)
   Holds old (Err _) new = ⊥
 
   -- one fix less, if the table may be read

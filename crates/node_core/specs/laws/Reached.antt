@@ -25,7 +25,7 @@ pub record IsSound (s : State) : Type 0 where
   pub names :
       (t u : ℕ) (one other : Table) → table_at s.world.tables t ≡ Some one
       → table_at s.world.tables u ≡ Some other
-      → one.head.named ≡ true → other.head.named ≡ true → one.head.name ≡ other.head.name → t ≡ u
+      → one.metadata.named ≡ true → other.metadata.named ≡ true → one.metadata.name ≡ other.metadata.name → t ≡ u
 
 -- the state after a run is sound if the one before it is
 abbrev pub RunsStaySound : Type 0

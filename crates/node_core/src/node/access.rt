@@ -11,7 +11,7 @@ use super::due::lend;
 use bucket_table::{Rows, SplitRows};
 use ets_term::{KeyHash, Term};
 use fixed_walk::Walked;
-use ownership::Head;
+use ownership::Metadata;
 
 /// What a call does with a table.
 #[derive(Clone, Copy)]
@@ -28,8 +28,8 @@ impl<H: KeyHash + Copy + Drop> Node<H> {
         ensures { option_copied result ≡ usable_fixed Read self.now.world.tables pid term.now }
     {
         let id = self.world.resolve(term)?;
-        let head = self.world.head(id)?;
-        if !may(Access::Read, head, pid) {
+        let metadata = self.world.metadata(id)?;
+        if !may(Access::Read, metadata, pid) {
             return None;
         }
         self.world.table(id)
@@ -49,8 +49,8 @@ impl<H: KeyHash + Copy + Drop> Node<H> {
             ≡ usable_fixed access self.old.world.tables pid term.now }
     {
         let id = self.world.resolve(term)?;
-        let head = self.world.head(id)?;
-        if !may(access, head, pid) {
+        let metadata = self.world.metadata(id)?;
+        if !may(access, metadata, pid) {
             return None;
         }
         self.table_mut(id)
@@ -72,19 +72,19 @@ impl<H: KeyHash + Copy + Drop> Node<H> {
             ≡ option_map (λ found. found.0) (usable access self.now.world.tables pid term.now) }
     {
         let id = self.world.resolve(term)?;
-        let head = self.world.head(id)?;
-        if !may(access, head, pid) {
+        let metadata = self.world.metadata(id)?;
+        if !may(access, metadata, pid) {
             return None;
         }
         Some(id)
     }
 }
 
-fn may(access: Access, head: &Head, pid: u32) -> bool
-    ensures { result ≡ may access head.now pid }
+fn may(access: Access, metadata: &Metadata, pid: u32) -> bool
+    ensures { result ≡ may access metadata.now pid }
 {
     match access {
-        Access::Read => head.may_read(pid),
-        Access::Write => head.may_write(pid),
+        Access::Read => metadata.may_read(pid),
+        Access::Write => metadata.may_write(pid),
     }
 }

@@ -141,7 +141,7 @@ fn delete_matching<R: Rows>(
     table: &mut Walked<R>,
     pattern: &Term,
 ) -> Result<(), Refusal>
-    ensures { table_refusals.Comes (DeletesMatching pattern.now table.old)
+    ensures { table_refusals.Refines (DeletesMatching pattern.now table.old)
         table.old result table.new }
 {
     let pattern = pattern_of(alloc, pattern)?;
@@ -156,7 +156,7 @@ fn delete_chosen<R: Rows>(
     table: &mut Walked<R>,
     spec: &Term,
 ) -> Result<usize, Refusal>
-    ensures content { table_refusals.Comes (DeletesChosen spec.now table.old)
+    ensures content { table_refusals.Refines (DeletesChosen spec.now table.old)
         table.old result table.new }
     ensures few { IfOk result (λ count. count < 2 ^ 32) }
 {

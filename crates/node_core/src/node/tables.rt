@@ -65,8 +65,8 @@ impl<H: KeyHash + Copy + Drop> Node<H> {
         let table = Table::new(
             self.alloc,
             rows,
-            options.kind,
-            options.keypos,
+            options.kind(),
+            options.keypos(),
             self.limits.objects,
         );
         Ok(Walked::new(self.alloc, table))
@@ -94,7 +94,7 @@ fn enter<H: KeyHash + Copy + Drop>(
     table: Walked<SplitRows<H>>,
 ) -> Result<Term, WorldFault>
     requires { IsIndex world.old.tables due.old }
-    ensures made { outcomes.Comes (tables.New world.old pid name.now options table)
+    ensures made { outcomes.Refines (tables.New world.old pid name.now options table)
         world.old result world.new }
     ensures index { IsIndex world.new.tables due.new }
 {

@@ -68,7 +68,7 @@ fn count<R: Rows>(
     updates: &Term,
     default: Option<&Term>,
 ) -> Result<Term, Refusal>
-    ensures { table_refusals.Comes
+    ensures { table_refusals.Refines
         (Counts key.now updates.now (option_copied default.entry) table.old)
         table.old result table.new }
 {
@@ -87,10 +87,12 @@ fn write<R: Rows>(
     updates: &Term,
     default: Option<&Term>,
 ) -> Result<bool, Refusal>
-    ensures { table_refusals.Comes
+    ensures { table_refusals.Refines
         (WritesTold key.now updates.now (option_copied default.entry) table.old)
         table.old result table.new }
 {
     let specs = read_element_specs(alloc, updates, table.keypos())?;
-    table.update_element(key, specs, default)
+    let is_written = table.update_element(key, &specs, default);
+    drop(specs);
+    is_written
 }

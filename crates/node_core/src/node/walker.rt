@@ -1,7 +1,7 @@
 // What a traversal among the steps of others does to its table.
 ghost use Rattle.std.specs.Prelude.{◌≡◌, Some, option_copied, IsTrue};
-ghost use Rattle.fixed_walk.specs.Fixed.{FixesOnce};
-ghost use Rattle.fixed_walk.specs.laws.Walks.{key_told};
+ghost use Rattle.fixed_walk.specs.TableState.{IncrementsFix};
+ghost use Rattle.fixed_walk.specs.laws.Walks.{walk_answer};
 ghost use Rattle.table_ops.specs.Content.{IsContent};
 ghost use Rattle.ownership.specs.World as model;
 ghost use Rattle.node_core.specs.Seen.{seen};
@@ -75,7 +75,7 @@ impl<H: KeyHash + Copy + Drop> Node<H> {
         let Some(table) = self.world.table(id) else {
             return Err(WalkFault::Lost);
         };
-        table.known();
+        table.reveal_invariant();
         let found = match last {
             None => table.first(),
             Some(key) => match table.next(key) {

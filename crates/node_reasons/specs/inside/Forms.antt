@@ -5,7 +5,7 @@ use Rattle.std.specs.List.{list_all}
 use Rattle.ets_term.specs.declared.term.Term.{Term, out-Term}
 use Rattle.ets_term.specs.declared.term.Term.TheOpen.{Term-F}
 use Rattle.ets_term.specs.Atoms.{is_atom}
-use Rattle.ownership.specs.Options.{heir_said, is_tuning}
+use Rattle.ownership.specs.Options.{parse_heir, is_tuning}
 
 abbrev pub is_access_word : List ℕ → Bool
 is_access_word word =
@@ -30,7 +30,7 @@ is_plain _ = false
 
 abbrev pub is_option_form : Term-F Term → Bool
 is_option_form (Term-F.Atom word) = is_word word
-is_option_form (Term-F.Tuple elements) = is_some (heir_said elements) || is_plain elements
+is_option_form (Term-F.Tuple elements) = is_some (parse_heir elements) || is_plain elements
 is_option_form _ = false
 
 abbrev pub is_option : Term → Bool

@@ -6,10 +6,10 @@ use Rattle.ets_term.specs.Atoms.{text_of, is_atom}
 use Rattle.counters.specs.Elements.{specs_of}
 use Rattle.counters.specs.Ops.{ops_of}
 use Rattle.table_ops.specs.Content.{Content, objects_under}
-use Rattle.table_ops.specs.Update.{is_set, is_good}
-use Rattle.fixed_walk.specs.Fixed.{Fixed}
-use Rattle.ownership.specs.declared.head.Head.{Head}
-use Rattle.ownership.specs.Heads.{owned_by}
+use Rattle.table_ops.specs.Update.{is_set, default_is_object}
+use Rattle.fixed_walk.specs.TableState.{TableState}
+use Rattle.ownership.specs.declared.metadata.Metadata.{Metadata}
+use Rattle.ownership.specs.Access.{owned_by}
 use Rattle.ownership.specs.Options.{pid_form}
 use Rattle.ownership.specs.Info.{item_of}
 use Rattle.node_core.specs.Access.{may}
@@ -27,36 +27,36 @@ Names None named = Unit {0}
 Names (Some reason) named = named ≡ reason
 
 -- the table exists, and the process may use it in this way, and then this
-abbrev pub head_left : Access → ℕ → Option Head → Reason → Reason
+abbrev pub head_left : Access → ℕ → Option Metadata → Reason → Reason
 head_left access p None rest = argument 1 rule.NoTable
-head_left access p (Some head) rest = if may access head p then rest else argument 1 (lacks access)
+head_left access p (Some metadata) rest = if may access metadata p then rest else argument 1 (lacks access)
 
 -- there are no further rules
-abbrev pub use_left : Access → ℕ → Option Head → Reason
-use_left access p head = head_left access p head (argument 1 (lacks access))
+abbrev pub use_left : Access → ℕ → Option Metadata → Reason
+use_left access p metadata = head_left access p metadata (argument 1 (lacks access))
 
-abbrev pub content_left : Access → ℕ → Option Head → Option Fixed → (Content → Reason) → Reason
-content_left access p head fixed rest =
-    option_map_or (λ f. head_left access p head (rest f.content)) fixed (argument 1 rule.NoTable)
+abbrev pub content_left : Access → ℕ → Option Metadata → Option TableState → (Content → Reason) → Reason
+content_left access p metadata fixed rest =
+    option_map_or (λ f. head_left access p metadata (rest f.content)) fixed (argument 1 rule.NoTable)
 
 -- the table is the process's own, and then this
-abbrev pub own_left : ℕ → Option Head → Reason → Reason
+abbrev pub own_left : ℕ → Option Metadata → Reason → Reason
 own_left p None rest = argument 1 rule.NoTable
-own_left p (Some head) rest = if owned_by head p then rest else argument 1 rule.NotOwner
+own_left p (Some metadata) rest = if owned_by metadata p then rest else argument 1 rule.NotOwner
 
-abbrev pub giving_to_left : ℕ → Head → Option ℕ → Reason
-giving_to_left p head None = argument 2 rule.NotAPid
-giving_to_left p head (Some q) =
-    own_left p (Some head) (if q == p then argument 2 rule.IsTheCaller else argument 2 rule.IsNotLiving)
+abbrev pub giving_to_left : ℕ → Metadata → Option ℕ → Reason
+giving_to_left p metadata None = argument 2 rule.NotAPid
+giving_to_left p metadata (Some q) =
+    own_left p (Some metadata) (if q == p then argument 2 rule.IsTheCaller else argument 2 rule.IsNotLiving)
 
-abbrev pub giving_left : ℕ → Option Head → Term → Reason
+abbrev pub giving_left : ℕ → Option Metadata → Term → Reason
 giving_left p None pid = argument 1 rule.NoTable
-giving_left p (Some head) pid = giving_to_left p head (pid_form (out-Term pid))
+giving_left p (Some metadata) pid = giving_to_left p metadata (pid_form (out-Term pid))
 
-abbrev pub fixing_left : ℕ → Option Head → Term → Reason
-fixing_left p head flag =
-    if is_atom (codes "true") flag then use_left Read p head
-    else if is_atom (codes "false") flag then use_left Read p head
+abbrev pub fixing_left : ℕ → Option Metadata → Term → Reason
+fixing_left p metadata flag =
+    if is_atom (codes "true") flag then use_left Read p metadata
+    else if is_atom (codes "false") flag then use_left Read p metadata
     else argument 2 rule.NotABoolean
 
 abbrev pub making_left : Term → Term → Reason
@@ -86,7 +86,7 @@ element_left key position needed content =
 abbrev pub set_left : Term → Option Term → Content → Reason → Reason
 set_left key default content rest =
     if is_set content.kind
-    then (if is_good content.keypos key default then rest else argument 4 rule.NotAnObject)
+    then (if default_is_object content.keypos key default then rest else argument 4 rule.NotAnObject)
     else argument 1 rule.NotASet
 
 abbrev pub counting_left : Term → Term → Option Term → Bool → Content → Reason

@@ -5,8 +5,8 @@ use Rattle.std.specs.Str.{bytes_eq}
 use Rattle.ets_term.specs.declared.term.Term.{Term}
 use Rattle.ets_term.specs.Depth.{is_too_deep}
 use Rattle.table_ops.specs.Content.{Content}
-use Rattle.fixed_walk.specs.Fixed.{Fixed}
-use Rattle.ownership.specs.World.{Table, World, head_of, lives}
+use Rattle.fixed_walk.specs.TableState.{TableState}
+use Rattle.ownership.specs.World.{Table, World, metadata_of, lives}
 use Rattle.node_core.specs.declared.node.access.Access.{Access}
 use Rattle.node_core.specs.declared.node.access.Access.TheVariants.{Read, Write}
 use Rattle.node_core.specs.declared.step.Call.{Call}
@@ -21,12 +21,12 @@ use Rattle.node_reasons.specs.Names.{no_call}
 use Rattle.node_reasons.specs.Why.{limit_of}
 use Rattle.node_reasons.specs.inside.Left.{head_left, use_left, content_left, own_left, giving_left, fixing_left, making_left, informing_left, element_left, counting_left, writing_left}
 
-abbrev pub fixed_of : Option Table → Option Fixed
+abbrev pub fixed_of : Option Table → Option TableState
 fixed_of table = option_map (λ t. t.fixed) table
 
 -- of a table as a call names it: the process may use it in this way, and then this of its content
 abbrev pub table_left : Access → ℕ → Option Table → (Content → Reason) → Reason
-table_left access p table rest = content_left access p (head_of table) (fixed_of table) rest
+table_left access p table rest = content_left access p (metadata_of table) (fixed_of table) rest
 
 abbrev pub row_left : List ℕ → List ℕ → Reason → Reason → Reason
 row_left name own reason otherwise = if bytes_eq name own then reason else otherwise
@@ -34,11 +34,11 @@ row_left name own reason otherwise = if bytes_eq name own then reason else other
 module _ (p : ℕ) (name : List ℕ) (table : Option Table) where
   abbrev pub one_left : Reason
   one_left =
-      row_left name (codes "tab2list") (use_left Read p (head_of table)) (
-      row_left name (codes "delete_all_objects") (use_left Write p (head_of table)) (
-      row_left name (codes "delete") (use_left Write p (head_of table)) (
-      row_left name (codes "first") (use_left Read p (head_of table)) (
-      row_left name (codes "first_lookup") (use_left Read p (head_of table)) (
+      row_left name (codes "tab2list") (use_left Read p (metadata_of table)) (
+      row_left name (codes "delete_all_objects") (use_left Write p (metadata_of table)) (
+      row_left name (codes "delete") (use_left Write p (metadata_of table)) (
+      row_left name (codes "first") (use_left Read p (metadata_of table)) (
+      row_left name (codes "first_lookup") (use_left Read p (metadata_of table)) (
       row_left name (codes "whereis") (argument 1 rule.NotAName) (
       no_call name))))))
 
@@ -46,32 +46,32 @@ module _ (p : ℕ) (name : List ℕ) (table : Option Table) where
     abbrev pub table_two_left : Reason
     table_two_left =
         row_left name (codes "new") (making_left x y) (
-        row_left name (codes "next") (head_left Read p (head_of table) (argument 2 rule.NoKey)) (
-        row_left name (codes "next_lookup") (head_left Read p (head_of table) (argument 2 rule.NoKey)) (
-        row_left name (codes "safe_fixtable") (fixing_left p (head_of table) y) (
-        row_left name (codes "setopts") (own_left p (head_of table) (argument 2 rule.NotOptions)) (
+        row_left name (codes "next") (head_left Read p (metadata_of table) (argument 2 rule.NoKey)) (
+        row_left name (codes "next_lookup") (head_left Read p (metadata_of table) (argument 2 rule.NoKey)) (
+        row_left name (codes "safe_fixtable") (fixing_left p (metadata_of table) y) (
+        row_left name (codes "setopts") (own_left p (metadata_of table) (argument 2 rule.NotOptions)) (
         row_left name (codes "info") (informing_left y) (
         no_call name))))))
 
     abbrev pub search_two_left : Reason
     search_two_left =
-        row_left name (codes "match") (head_left Read p (head_of table) (argument 2 rule.NotAPattern)) (
-        row_left name (codes "match_object") (head_left Read p (head_of table) (argument 2 rule.NotAPattern)) (
-        row_left name (codes "match_delete") (head_left Write p (head_of table) (argument 2 rule.NotAPattern)) (
-        row_left name (codes "select") (head_left Read p (head_of table) (argument 2 rule.NotASpecification)) (
-        row_left name (codes "select_count") (head_left Read p (head_of table) (argument 2 rule.NotASpecification)) (
-        row_left name (codes "select_delete") (head_left Write p (head_of table) (argument 2 rule.NotASpecification)) (
+        row_left name (codes "match") (head_left Read p (metadata_of table) (argument 2 rule.NotAPattern)) (
+        row_left name (codes "match_object") (head_left Read p (metadata_of table) (argument 2 rule.NotAPattern)) (
+        row_left name (codes "match_delete") (head_left Write p (metadata_of table) (argument 2 rule.NotAPattern)) (
+        row_left name (codes "select") (head_left Read p (metadata_of table) (argument 2 rule.NotASpecification)) (
+        row_left name (codes "select_count") (head_left Read p (metadata_of table) (argument 2 rule.NotASpecification)) (
+        row_left name (codes "select_delete") (head_left Write p (metadata_of table) (argument 2 rule.NotASpecification)) (
         table_two_left))))))
 
     abbrev pub two_left : Reason
     two_left =
-        row_left name (codes "insert") (head_left Write p (head_of table) (argument 2 rule.NotAnObject)) (
-        row_left name (codes "insert_new") (head_left Write p (head_of table) (argument 2 rule.NotAnObject)) (
-        row_left name (codes "lookup") (use_left Read p (head_of table)) (
-        row_left name (codes "member") (use_left Read p (head_of table)) (
-        row_left name (codes "take") (use_left Write p (head_of table)) (
-        row_left name (codes "delete") (use_left Write p (head_of table)) (
-        row_left name (codes "delete_object") (head_left Write p (head_of table) (argument 2 rule.NotAnObject)) (
+        row_left name (codes "insert") (head_left Write p (metadata_of table) (argument 2 rule.NotAnObject)) (
+        row_left name (codes "insert_new") (head_left Write p (metadata_of table) (argument 2 rule.NotAnObject)) (
+        row_left name (codes "lookup") (use_left Read p (metadata_of table)) (
+        row_left name (codes "member") (use_left Read p (metadata_of table)) (
+        row_left name (codes "take") (use_left Write p (metadata_of table)) (
+        row_left name (codes "delete") (use_left Write p (metadata_of table)) (
+        row_left name (codes "delete_object") (head_left Write p (metadata_of table) (argument 2 rule.NotAnObject)) (
         search_two_left)))))))
 
   module _ (y z : Term) where
@@ -80,7 +80,7 @@ module _ (p : ℕ) (name : List ℕ) (table : Option Table) where
         row_left name (codes "lookup_element") (table_left Read p table (element_left y z true)) (
         row_left name (codes "update_counter") (table_left Write p table (counting_left y z None true)) (
         row_left name (codes "update_element") (table_left Write p table (writing_left y z None)) (
-        row_left name (codes "give_away") (giving_left p (head_of table) y) (
+        row_left name (codes "give_away") (giving_left p (metadata_of table) y) (
         no_call name))))
 
     abbrev pub four_left : Term → Reason

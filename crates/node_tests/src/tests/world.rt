@@ -84,7 +84,7 @@ fn make_table(
     options: NewOptions,
 ) -> Result<Term, WorldFault> {
     let rows = PlainRows::new(alloc);
-    let table = Table::new(alloc, rows, options.kind, options.keypos.max(1), 10);
+    let table = Table::new(alloc, rows, options.kind(), options.keypos().max(1), 10);
     world.new_table(pid, name, options, Walked::new(alloc, table))
 }
 

@@ -1,8 +1,8 @@
 -- The codes of tables and worlds: each encodes a value as a list of numbers, so that a contract can see it.
 use Rattle.std.specs.Prelude.{ℕ, refl}
 use Rattle.std.specs.Coded.{Coded, code_by, coded×, coded_ℕ, coded_list, coded_option}
-use Rattle.fixed_walk.specs.Fixed.{Fixed}
-use Rattle.fixed_walk.specs.inside.Codes.{fixed_code}
+use Rattle.fixed_walk.specs.TableState.{TableState}
+use Rattle.fixed_walk.specs.inside.Codes.{state_code}
 use Rattle.ownership.specs.declared.metadata.Metadata.{Metadata}
 use Rattle.ownership.specs.contracts.metadata.Metadata as metadata
 use Rattle.ownership.specs.contracts.process.Process as process
@@ -10,7 +10,7 @@ use Rattle.ownership.specs.World.{Table, Tables, Processes, World}
 
 abbrev pub table_code : Coded Table
 table_code =
-    code_by (Metadata × Fixed) (coded× metadata.the_row.coded fixed_code) (λ t. (t.metadata, t.fixed))
+    code_by (Metadata × TableState) (coded× metadata.the_row.coded state_code) (λ t. (t.metadata, t.fixed))
     (λ p. record { metadata = p.0; fixed = p.1 }) (λ _. refl)
 
 abbrev pub world_code : Coded World

@@ -4,7 +4,7 @@ use Rattle.std.specs.Option.{option_map_or}
 use Rattle.std.specs.Map.{lookup}
 use Rattle.indexmap.specs.IndexMap.{get_by_text}
 use Rattle.fixed_walk.specs.Fixes.{is_fixed}
-use Rattle.fixed_walk.specs.Fixed.{Fixed, NoneHeld}
+use Rattle.fixed_walk.specs.TableState.{TableState, HasNoTombstones}
 use Rattle.ownership.specs.declared.metadata.Metadata.{Metadata}
 use Rattle.ownership.specs.declared.metadata.Heir.{Heir}
 use Rattle.ownership.specs.declared.indices.Indices.{Indices}
@@ -77,8 +77,8 @@ HeirsOfOwnerAreIndexed indices processes p tables =
     → living_heir processes table.metadata ≡ Some heir → IsAmong t (ids_under indices heir.pid)
 
 -- nobody fixes the table, and it has no tombstones
-abbrev pub IsUnfixed : Fixed → Type 0
-IsUnfixed table = (is_fixed table.fixes ≡ false) × NoneHeld table.content.slots
+abbrev pub IsUnfixed : TableState → Type 0
+IsUnfixed table = (is_fixed table.fixes ≡ false) × HasNoTombstones table.content.slots
 
 -- a table exists and is fixed
 abbrev pub is_fixed_at : Tables → ℕ → Bool

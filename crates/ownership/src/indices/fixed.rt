@@ -49,7 +49,7 @@ impl Indices {
             return;
         };
         let walked = table.walked();
-        walked.known();
+        walked.reveal_invariant();
         if walked.is_fixed() {
             let _ = insert_sorted(&mut self.fixed, last);
         }

@@ -6,7 +6,7 @@ use Rattle.std.specs.List.{AllByRecursion}
 use Rattle.ets_term.specs.declared.term.Term.{Term}
 use Rattle.ets_term.specs.Depth.{element_at}
 use Rattle.bucket_table.specs.Slots.{Slot, with_objects, without, has_objects}
-use Rattle.bucket_table.specs.Walks.{StandsBefore}
+use Rattle.bucket_table.specs.Walks.{ComesBefore}
 use Rattle.table_ops.specs.declared.delete_plan.SlotDelete.{SlotDelete}
 use Rattle.table_ops.specs.declared.partition.Partition.{Partition}
 use Rattle.table_ops.specs.Queries.{chosen_count}
@@ -77,7 +77,7 @@ after_plan hold (n ∷ notes) slots = with_kept hold n.0 n.1 (after_plan hold no
 abbrev pub IsBefore : List Slot → Option Term → Option Term → Type 0
 IsBefore slots None second = ⊥
 IsBefore slots (Some first) None = ⊥
-IsBefore slots (Some first) (Some second) = StandsBefore slots first second
+IsBefore slots (Some first) (Some second) = ComesBefore slots first second
 
 -- all slots before a place keep their places
 abbrev pub KeepsPlacesBefore : List Slot → (ℕ → Option Term) → (ℕ → Option Term) → ℕ → Type 0

@@ -3,8 +3,8 @@ use Rattle.std.specs.Prelude.{◌≡◌, ◌⊎◌, Bool, true, false, List, [],
 use Rattle.ets_term.specs.declared.term.Term.{Term}
 use Rattle.bucket_table.specs.Slots.{Slot}
 use Rattle.bucket_table.specs.Entries.{objects_in, with_objects_in}
-use Rattle.counters.specs.Counters.{updated_counters}
-use Rattle.counters.specs.Elements.{updated_elements}
+use Rattle.counters.specs.Counters.{apply_ops}
+use Rattle.counters.specs.Elements.{apply_elements}
 use Rattle.counters.specs.declared.elements.ElementSpecs.{ElementSpecs}
 use Rattle.counters.specs.declared.fault.CounterFault.{CounterFault}
 use Rattle.counters.specs.declared.fault.CounterFault.TheVariants as fault
@@ -21,12 +21,12 @@ HadOneObject slots at P = (object : Term) × (objects_in slots at ≡ Some (obje
 abbrev pub UpdatesCounterAt : Ops → Option Term → List Slot → Result Term CounterFault → List Slot → Type 0
 UpdatesCounterAt ops at old (Ok answer) new =
     HadOneObject old at (λ was.
-    (object : Term) × (updated_counters ops was ≡ Ok (object, answer))
+    (object : Term) × (apply_ops ops was ≡ Ok (object, answer))
     × (new ≡ with_objects_in old at (object ∷ [])))
 UpdatesCounterAt ops at old (Err fault.Badarg) new =
-    HadOneObject old at (λ was. (updated_counters ops was ≡ Err fault.Badarg) × (new ≡ old))
+    HadOneObject old at (λ was. (apply_ops ops was ≡ Err fault.Badarg) × (new ≡ old))
 UpdatesCounterAt ops at old (Err fault.SystemLimit) new =
-    HadOneObject old at (λ was. (updated_counters ops was ≡ Err fault.SystemLimit) × (new ≡ old))
+    HadOneObject old at (λ was. (apply_ops ops was ≡ Err fault.SystemLimit) × (new ≡ old))
 UpdatesCounterAt ops at old (Err fault.Memory) new = new ≡ old
 
 -- elements of the only object at a place are set, or nothing changes
@@ -34,10 +34,13 @@ abbrev pub UpdatesElementAt : ElementSpecs → Option Term → List Slot → Res
     → List Slot → Type 0
 UpdatesElementAt specs at old (Ok done) new =
     HadOneObject old at (λ was.
-    (object : Term) × (updated_elements specs was ≡ Ok object)
+    (object : Term) × (apply_elements specs was ≡ Ok object)
     × (new ≡ with_objects_in old at (object ∷ [])))
-UpdatesElementAt specs at old (Err fault) new =
-    HadOneObject old at (λ was. (updated_elements specs was ≡ Err fault) × (new ≡ old))
+UpdatesElementAt specs at old (Err fault.Badarg) new =
+    HadOneObject old at (λ was. (apply_elements specs was ≡ Err fault.Badarg) × (new ≡ old))
+UpdatesElementAt specs at old (Err fault.SystemLimit) new =
+    HadOneObject old at (λ was. (apply_elements specs was ≡ Err fault.SystemLimit) × (new ≡ old))
+UpdatesElementAt specs at old (Err fault.Memory) new = new ≡ old
 
 -- the object that was made is inserted under a key that has none, if the table is below its limit
 abbrev pub InsertsDefaultAt : {X : Type 0} → Bool → Term → Result (Term × X) CounterFault → List Slot

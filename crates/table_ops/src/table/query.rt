@@ -238,7 +238,7 @@ impl<R: Rows> Table<R> {
         ensures at_least { looks.old ≤ looks.new }
         ensures buckets { self.new.buckets ≡ self.old.buckets }
     {
-        self.inner.rows.known();
+        self.inner.rows.reveal_invariant();
         let mut plan = DeletePlan::new(self.inner.alloc);
         let removed = self.inner.plan(query, key, &mut plan, looks)?;
         self.inner.apply(hold, plan);

@@ -6,7 +6,7 @@ use super::Table;
 use crate::kind::Kind;
 use crate::refusal::Refusal;
 use bucket_table::Rows;
-use counters::{ElementSpecs, Ops, start_counter, start_elements};
+use counters::{ElementSpecs, Ops, start_counter, start_with_elements};
 use ets_term::Term;
 
 impl<R: Rows> Table<R> {
@@ -69,15 +69,15 @@ impl<R: Rows> Table<R> {
     pub fn update_element(
         &mut self,
         key: &Term,
-        specs: ElementSpecs,
+        specs: &ElementSpecs,
         default: Option<&Term>,
     ) -> Result<bool, Refusal>
         ensures content { Refines
-            (UpdatesElement key.now specs (option_copied default.entry) self.old.content)
+            (UpdatesElement key.now specs.now (option_copied default.entry) self.old.content)
             self.old.content result self.new.content }
         ensures buckets { self.new.buckets ≡ self.old.buckets }
     {
-        if !self.element_is_valid(key, &specs, default) {
+        if !self.element_is_valid(key, specs, default) {
             return Err(Refusal::Badarg);
         }
         let entry = self.inner.rows.entry(key);
@@ -88,7 +88,7 @@ impl<R: Rows> Table<R> {
         let Some(default) = default else {
             return Ok(false);
         };
-        let object = start_elements(self.inner.alloc, default, self.inner.keypos, key, specs)?;
+        let object = start_with_elements(self.inner.alloc, default, self.inner.keypos, key, specs)?;
         let below_limit = self.count < self.inner.limit as usize;
         self.inner.insert_default(below_limit, entry, key, object)?;
         self.count += 1;

@@ -46,7 +46,7 @@ impl<R: Rows> TableRows<R> {
         ensures objects { result.now ≡ objects_under (R.content self.now.rows) key.now }
         ensures distinct { HasDistinctKeys (R.content self.now.rows) }
     {
-        self.rows.known();
+        self.rows.reveal_invariant();
         match self.rows.get(key) {
             Some(objects) => objects,
             None => &[],

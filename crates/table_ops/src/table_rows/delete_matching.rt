@@ -96,14 +96,14 @@ impl<R: Rows> TableRows<R> {
             ++ plan_of (P.tests query.now.query.now) (R.content self.now.rows)) }
     {
         let _before = looks.count();
-        self.rows.known();
+        self.rows.reveal_invariant();
         let mut total = 0;
         let mut at = self.rows.first_place();
         for _ in 0..self.rows.len() {
             let Some(place) = at else { unreachable!() };
             let (_, objects) = self.rows.slot_at(place);
             total += plan.plan_slot(query, place, objects, looks)?;
-            at = self.rows.place_behind(place);
+            at = self.rows.next_place(place);
         }
         Ok(total)
     }
@@ -117,7 +117,7 @@ impl<R: Rows> TableRows<R> {
         ensures keeps { ChangesSlotsOnly R.readiness self.old self.new }
     {
         while let Some(delete) = plan.list.pop() {
-            self.rows.known();
+            self.rows.reveal_invariant();
             self.apply_one(hold, delete);
         }
     }

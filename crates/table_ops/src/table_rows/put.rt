@@ -11,7 +11,7 @@ use crate::kind::Kind;
 use crate::object::contains;
 use crate::refusal::Refusal;
 use crate::undo::Undo;
-use bucket_table::{Entry, Place, Rows};
+use bucket_table::{Place, Rows, SlotEntry};
 use ets_term::Term;
 use node_list::Chain;
 
@@ -20,11 +20,11 @@ impl<R: Rows> TableRows<R> {
     pub(crate) fn put(
         &mut self,
         below_limit: bool,
-        entry: Entry,
+        entry: SlotEntry,
         key: &Term,
         object: &Term,
     ) -> Result<Undo, Refusal>
-        requires entry { IsEntry (R.content self.old.rows) (R.number self.old.rows)
+        requires entry { IsEntry (R.content self.old.rows) (R.hash_of self.old.rows)
             (R.key_at self.old.rows) key.now entry }
         requires kept { FitsKind self.old.kind (objects_under (R.content self.old.rows) key.now) }
         ensures slots { PutsOne below_limit self.old.kind key.now object.now
@@ -32,8 +32,8 @@ impl<R: Rows> TableRows<R> {
         ensures keeps { ChangesSlotsOnly R.readiness self.old self.new }
     {
         match entry {
-            Entry::Vacant(hash) => self.put_new(below_limit, hash, key, object),
-            Entry::Occupied(place) => match self.kind {
+            SlotEntry::Vacant(hash) => self.put_new(below_limit, hash, key, object),
+            SlotEntry::Occupied(place) => match self.kind {
                 Kind::Set => self.put_in_set(below_limit, place, object),
                 Kind::Bag => self.put_in_bag(below_limit, place, object),
                 Kind::DuplicateBag => self.put_last(below_limit, place, object),
@@ -50,7 +50,7 @@ impl<R: Rows> TableRows<R> {
         object: &Term,
     ) -> Result<Undo, Refusal>
         requires new { objects_of (R.content self.old.rows) key.now ≡ None }
-        requires hash { hash ≡ R.number self.old.rows key.now }
+        requires hash { hash ≡ R.hash_of self.old.rows key.now }
         ensures slots { PutsOne below_limit self.old.kind key.now object.now
             (R.content self.old.rows) result (R.content self.new.rows) }
         ensures keeps { ChangesSlotsOnly R.readiness self.old self.new }

@@ -16,7 +16,7 @@ impl<R: Rows> TableRows<R> {
         ensures place { IsPlaceOfKey (R.content self.now.rows) (R.key_at self.now.rows) key.now result }
         ensures distinct { HasDistinctKeys (R.content self.now.rows) }
     {
-        self.rows.known();
+        self.rows.reveal_invariant();
         self.rows.find(key)
     }
 

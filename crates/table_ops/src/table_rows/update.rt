@@ -8,8 +8,8 @@ ghost use Rattle.table_ops.specs.inside.Updated.{UpdatesCounterAt, UpdatesElemen
 
 use super::TableRows;
 use crate::refusal::Refusal;
-use bucket_table::{Entry, Place, Rows};
-use counters::{CounterFault, ElementSpecs, Op, Ops, is_default, update_counter, update_elements};
+use bucket_table::{Place, Rows, SlotEntry};
+use counters::{CounterFault, ElementSpecs, Op, Ops, is_default, update_counter, write_elements};
 use ets_term::{Position, Term};
 use node_list::Chain;
 use std::alloc::AllocError;
@@ -63,12 +63,12 @@ impl<R: Rows> TableRows<R> {
     }
 
     /// Returns the place of the key's slot, if the slot has objects. `entry` is the result of a search for the key.
-    pub(crate) fn occupied_place(&self, key: &Term, entry: Entry) -> Option<Place>
-        requires { IsEntry (R.content self.now.rows) (R.number self.now.rows)
+    pub(crate) fn occupied_place(&self, key: &Term, entry: SlotEntry) -> Option<Place>
+        requires { IsEntry (R.content self.now.rows) (R.hash_of self.now.rows)
             (R.key_at self.now.rows) key.now entry }
         ensures { IsOccupiedPlace (R.content self.now.rows) (R.key_at self.now.rows) key.now result }
     {
-        let Entry::Occupied(place) = entry else {
+        let SlotEntry::Occupied(place) = entry else {
             return None;
         };
         if self.rows.objects_at(place).is_empty() {
@@ -98,15 +98,15 @@ impl<R: Rows> TableRows<R> {
     pub(crate) fn update_element_at(
         &mut self,
         place: Place,
-        specs: ElementSpecs,
+        specs: &ElementSpecs,
     ) -> Result<(), CounterFault>
         requires { HasOne (R.content self.old.rows) (R.key_at self.old.rows place) }
-        ensures slots { UpdatesElementAt specs (R.key_at self.old.rows place)
+        ensures slots { UpdatesElementAt specs.now (R.key_at self.old.rows place)
             (R.content self.old.rows) result (R.content self.new.rows) }
         ensures keeps { ChangesSlotsOnly R.readiness self.old self.new }
     {
         let mut object = self.rows.replace_one_at(place, Term::Int(0));
-        let written = update_elements(&mut object, specs);
+        let written = write_elements(self.alloc, &mut object, specs);
         let _zero = self.rows.replace_one_at(place, object);
         written
     }
@@ -115,11 +115,11 @@ impl<R: Rows> TableRows<R> {
     pub(crate) fn insert_default(
         &mut self,
         below_limit: bool,
-        entry: Entry,
+        entry: SlotEntry,
         key: &Term,
         object: Term,
     ) -> Result<(), Refusal>
-        requires { IsEntry (R.content self.old.rows) (R.number self.old.rows)
+        requires { IsEntry (R.content self.old.rows) (R.hash_of self.old.rows)
             (R.key_at self.old.rows) key.now entry }
         ensures slots { InsertsDefaultAt below_limit key.now (Ok (object, tt))
             (R.content self.old.rows) result (R.content self.new.rows) }
@@ -133,8 +133,8 @@ impl<R: Rows> TableRows<R> {
     }
 
     /// Inserts the first object of a key, in its tombstone or in a new slot.
-    fn insert_first(&mut self, entry: Entry, key: &Term, object: Term) -> Result<(), AllocError>
-        requires { IsEntry (R.content self.old.rows) (R.number self.old.rows)
+    fn insert_first(&mut self, entry: SlotEntry, key: &Term, object: Term) -> Result<(), AllocError>
+        requires { IsEntry (R.content self.old.rows) (R.hash_of self.old.rows)
             (R.key_at self.old.rows) key.now entry }
         ensures ok { OnOk result
             (SetsObjects (R.content self.old.rows) key.now (object ∷ []) (R.content self.new.rows)) }
@@ -143,8 +143,8 @@ impl<R: Rows> TableRows<R> {
     {
         let objects = Chain::one(self.alloc, object);
         match entry {
-            Entry::Vacant(hash) => self.rows.put_at(hash, key.try_clone(self.alloc)?, objects),
-            Entry::Occupied(place) => {
+            SlotEntry::Vacant(hash) => self.rows.put_at(hash, key.try_clone(self.alloc)?, objects),
+            SlotEntry::Occupied(place) => {
                 let _ = self.rows.replace_at(place, objects);
                 Ok(())
             }

@@ -1,7 +1,7 @@
 ghost use Rattle.std.specs.Prelude.{◌<◌};
 
 // What no clause says: that calls succeed at every size, and that searches are short where they must be.
-use bucket_table::{Entry, Growth, PlainRows, Readying, Rows, SplitRows};
+use bucket_table::{Growth, PlainRows, Readying, Rows, SlotEntry, SplitRows};
 use ets_term::{AllSame, Fnv, Integer, KeyHash, Term};
 use node_list::{Chain, Steps};
 use std::alloc::{AllocError, Global};
@@ -87,11 +87,11 @@ fn insert<R: Rows>(
     let term = Term::Int(key);
     let objects = Chain::one(alloc, Term::Int(value));
     match rows.entry(&term) {
-        Entry::Vacant(hash) => {
+        SlotEntry::Vacant(hash) => {
             rows.put_at(hash, term, objects)?;
             Ok(Kept::Nothing)
         }
-        Entry::Occupied(place) => {
+        SlotEntry::Occupied(place) => {
             drop(term);
             Ok(kept_of(Some(rows.replace_at(place, objects))))
         }

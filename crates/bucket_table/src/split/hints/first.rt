@@ -22,7 +22,7 @@ impl Hints {
             None => false,
             Some(None) => true,
             Some(Some(first)) => {
-                list.known();
+                list.reveal_invariant();
                 split_key < list.key(first)
             }
         }
@@ -35,7 +35,7 @@ impl Hints {
         requires item { IsItemIn (2 ^ self.now.interval_bits) interval at list.now.cells }
         ensures { IsHintAfterRemoval (2 ^ self.now.interval_bits) interval at list.now.cells result }
     {
-        list.known();
+        list.reveal_invariant();
         let Some(next) = list.after(at) else {
             return Hint::empty();
         };

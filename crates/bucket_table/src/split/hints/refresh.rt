@@ -20,7 +20,7 @@ impl Hints {
         ensures hint { IsSoundHint (2 ^ self.now.interval_bits) (split_key / 2 ^ self.now.interval_bits)
             list.now.cells result.1 }
     {
-        list.known();
+        list.reveal_invariant();
         let interval_bits = self.interval_bits;
         let mut at = start;
         while let Some(next) = list.after(at) {

@@ -19,7 +19,7 @@ impl Hints {
             None => (Hint::unknown(), Hint::unknown()),
             Some(None) => (Hint::empty(), Hint::empty()),
             Some(Some(first)) => {
-                list.known();
+                list.reveal_invariant();
                 if (list.key(first) >> self.interval_bits) % 2 == 1 {
                     (Hint::empty(), Hint::at(first))
                 } else {

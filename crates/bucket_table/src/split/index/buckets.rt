@@ -12,7 +12,7 @@ use split_key::{bucket_of, laws, parent, rev32};
 impl<H: KeyHash + Copy + Drop> SplitIndex<H> {
     /// Returns the nearest ready bucket among this one, its parent, and so on, with the place of its dummy.
     pub fn nearest_ready(&self, bucket: u32) -> (u32, At)
-        requires rows { RowsInvariant H.number self.now }
+        requires rows { RowsInvariant H.hash self.now }
         requires below { bucket < length self.now.directory }
         ensures { IsNearestReady self.now.directory bucket result.0 result.1 }
     {
@@ -32,7 +32,7 @@ impl<H: KeyHash + Copy + Drop> SplitIndex<H> {
 
     /// Returns the nearest ready bucket of a hash with the place of its dummy. A search by the hash can start there.
     pub fn bucket_start(&self, hash: u32) -> (u32, At)
-        requires rows { RowsInvariant H.number self.now }
+        requires rows { RowsInvariant H.hash self.now }
         ensures { IsNearestReady self.now.directory (hash % length self.now.directory) result.0 result.1 }
     {
         let bucket = bucket_of(hash, self.directory.len() as u32);

@@ -13,12 +13,12 @@ impl<H: KeyHash + Copy + Drop> SplitIndex<H> {
     /// Returns the place of the key's item, if it has one. The search starts at a hint, or without one at a dummy.
     /// `hash` is the key's hash, and `steps` counts the visited nodes.
     pub fn find(&self, hash: u32, key: &Term, steps: &mut Steps) -> Option<At>
-        requires rows { RowsInvariant H.number self.now }
-        requires hash { hash ≡ H.number self.now.hasher key.now }
+        requires rows { RowsInvariant H.hash self.now }
+        requires hash { hash ≡ H.hash self.now.hasher key.now }
         ensures found { FindsItem self.now key.now result }
-        ensures looked { CountsVisits H.number self.now key.now steps.old steps.new }
+        ensures looked { CountsVisits H.hash self.now key.now steps.old steps.new }
     {
-        self.list.known();
+        self.list.reveal_invariant();
         let _count = steps.count();
         let interval = self.hints.interval_of(item_key(hash));
         match hint_at(&self.hints.current, interval) {
@@ -30,12 +30,12 @@ impl<H: KeyHash + Copy + Drop> SplitIndex<H> {
 
     /// Does the same search from the previous hint of the interval.
     fn find_by_previous_hint(&self, hash: u32, key: &Term, steps: &mut Steps) -> Option<At>
-        requires rows { RowsInvariant H.number self.now }
-        requires hash { hash ≡ H.number self.now.hasher key.now }
+        requires rows { RowsInvariant H.hash self.now }
+        requires hash { hash ≡ H.hash self.now.hasher key.now }
         ensures found { FindsItem self.now key.now result }
-        ensures looked { CountsVisits H.number self.now key.now steps.old steps.new }
+        ensures looked { CountsVisits H.hash self.now key.now steps.old steps.new }
     {
-        self.list.known();
+        self.list.reveal_invariant();
         let _count = steps.count();
         let interval = self.hints.interval_of(item_key(hash));
         match hint_at(&self.hints.previous, interval / 2) {
@@ -47,12 +47,12 @@ impl<H: KeyHash + Copy + Drop> SplitIndex<H> {
 
     /// Does the same search from the nearest known hint below, or from the dummy of the nearest ready bucket.
     fn find_without_hint(&self, hash: u32, key: &Term, steps: &mut Steps) -> Option<At>
-        requires rows { RowsInvariant H.number self.now }
-        requires hash { hash ≡ H.number self.now.hasher key.now }
+        requires rows { RowsInvariant H.hash self.now }
+        requires hash { hash ≡ H.hash self.now.hasher key.now }
         ensures found { FindsItem self.now key.now result }
-        ensures looked { CountsVisits H.number self.now key.now steps.old steps.new }
+        ensures looked { CountsVisits H.hash self.now key.now steps.old steps.new }
     {
-        self.list.known();
+        self.list.reveal_invariant();
         let (bucket, start) = self.bucket_start(hash);
         let floor = self.hints.interval_of(dummy_key(bucket));
         let interval = self.hints.interval_of(item_key(hash));
@@ -64,11 +64,11 @@ impl<H: KeyHash + Copy + Drop> SplitIndex<H> {
 
     /// Does the same search from a node where it can start.
     fn find_from(&self, start: At, hash: u32, key: &Term, steps: &mut Steps) -> Option<At>
-        requires hash { hash ≡ H.number self.now.hasher key.now }
-        requires start { CanStartSearch (H.number self.now.hasher) self.now.directory key.now start
+        requires hash { hash ≡ H.hash self.now.hasher key.now }
+        requires start { CanStartSearch (H.hash self.now.hasher) self.now.directory key.now start
             self.now.list.cells }
         ensures found { FindsItem self.now key.now result }
-        ensures looked { CountsVisits H.number self.now key.now steps.old steps.new }
+        ensures looked { CountsVisits H.hash self.now key.now steps.old steps.new }
     {
         self.list.find(start, item_key(hash), key, steps)
     }

@@ -3,7 +3,7 @@ ghost use Rattle.std.specs.Prelude.{◌≡◌, ◌+◌, None, length};
 ghost use Rattle.std.specs.Map.{lookup};
 ghost use Rattle.ets_term.specs.Order.{same};
 ghost use Rattle.split_key.specs.Keys.{key_of_item};
-ghost use Rattle.node_list.specs.Listed.{HasRoom};
+ghost use Rattle.node_list.specs.ListState.{HasRoom};
 ghost use Rattle.bucket_table.specs.inside.Nodes.{slots_of};
 ghost use Rattle.bucket_table.specs.inside.SplitIndex.{RowsInvariant, KeepsDirectory, InsertsItem};
 
@@ -16,17 +16,17 @@ use split_key::item_key;
 impl<H: KeyHash + Copy + Drop> SplitIndex<H> {
     /// Inserts an item for a key that has none. Memory must be reserved, and `hash` must be the key's hash.
     pub fn insert(&mut self, hash: u32, key: Term, objects: Chain)
-        requires rows { RowsInvariant H.number self.old }
+        requires rows { RowsInvariant H.hash self.old }
         requires room { HasRoom self.old.list 1 }
         requires new { lookup (same key) (slots_of self.old.list.cells) ≡ None }
-        requires hash { hash ≡ H.number self.old.hasher key }
-        ensures rows { RowsInvariant H.number self.new }
+        requires hash { hash ≡ H.hash self.old.hasher key }
+        ensures rows { RowsInvariant H.hash self.new }
         ensures keeps { KeepsDirectory self.old self.new }
         ensures now { InsertsItem (key_of_item hash) key objects self.old.list.cells self.new.list.cells }
         ensures len { length self.new.list.cells ≡ length self.old.list.cells + 1 }
         ensures capacity { self.new.list.capacity ≡ self.old.list.capacity }
     {
-        self.list.known();
+        self.list.reveal_invariant();
         let split_key = item_key(hash);
         self.hints.rehash_step(&self.list);
         self.hints.rehash_interval(&self.list, split_key);

@@ -13,9 +13,9 @@ use split_key::{dummy_key, parent};
 impl<H: KeyHash + Copy + Drop> SplitIndex<H> {
     /// Rebuilds the hints of a bucket that became ready, and those of its parent if that is ready.
     pub fn rebuild_with_parent(&mut self, bucket: u32)
-        requires rows { RowsInvariant H.number self.old }
+        requires rows { RowsInvariant H.hash self.old }
         requires below { bucket < length self.old.directory }
-        ensures rows { RowsInvariant H.number self.new }
+        ensures rows { RowsInvariant H.hash self.new }
         ensures keeps { KeepsDirectory self.old self.new }
         ensures cells { self.new.list.cells ≡ self.old.list.cells }
     {
@@ -27,9 +27,9 @@ impl<H: KeyHash + Copy + Drop> SplitIndex<H> {
 
     /// Rebuilds the hints of a bucket if it is ready.
     fn rebuild_bucket_hints(&mut self, bucket: u32)
-        requires rows { RowsInvariant H.number self.old }
+        requires rows { RowsInvariant H.hash self.old }
         requires below { bucket < length self.old.directory }
-        ensures rows { RowsInvariant H.number self.new }
+        ensures rows { RowsInvariant H.hash self.new }
         ensures keeps { KeepsDirectory self.old self.new }
         ensures cells { self.new.list.cells ≡ self.old.list.cells }
     {
@@ -40,13 +40,13 @@ impl<H: KeyHash + Copy + Drop> SplitIndex<H> {
 
     /// Rebuilds the hints of a ready bucket by one scan. All are set to empty first, and then to the first items.
     fn rebuild_hints(&mut self, bucket: u32, start: At)
-        requires rows { RowsInvariant H.number self.old }
+        requires rows { RowsInvariant H.hash self.old }
         requires entry { get_or self.old.directory bucket None ≡ Some start }
-        ensures rows { RowsInvariant H.number self.new }
+        ensures rows { RowsInvariant H.hash self.new }
         ensures keeps { KeepsDirectory self.old self.new }
         ensures cells { self.new.list.cells ≡ self.old.list.cells }
     {
-        self.list.known();
+        self.list.reveal_invariant();
         let interval_bits = self.hints.interval_bits;
         let low = (dummy_key(bucket) >> interval_bits) as usize;
         let end = low + INTERVALS_PER_BUCKET;

@@ -2,7 +2,7 @@
 ghost use Rattle.std.specs.Prelude.{◌≡◌, ◌+◌, Some, length};
 ghost use Rattle.node_list.specs.Cells.{new_item};
 ghost use Rattle.node_list.specs.Changes.{without};
-ghost use Rattle.node_list.specs.Places.{HasItem, behind, item_at};
+ghost use Rattle.node_list.specs.Places.{HasItem, cells_after, item_at};
 ghost use Rattle.bucket_table.specs.inside.SplitIndex.{RowsInvariant, KeepsDirectory};
 
 use super::SplitIndex;
@@ -14,14 +14,14 @@ use node_list::{At, Chain};
 impl<H: KeyHash + Copy + Drop> SplitIndex<H> {
     /// Removes the item at a place and returns its key and objects.
     pub fn remove(&mut self, at: At) -> (Term, Chain)
-        requires rows { RowsInvariant H.number self.old }
+        requires rows { RowsInvariant H.hash self.old }
         requires item { HasItem at self.old.list.cells }
-        ensures rows { RowsInvariant H.number self.new }
+        ensures rows { RowsInvariant H.hash self.new }
         ensures keeps { KeepsDirectory self.old self.new }
         ensures item { item_at at self.old.list.cells ≡ Some (new_item result.0 result.1) }
         ensures cells { self.new.list.cells ≡ without at self.old.list.cells }
     {
-        self.list.known();
+        self.list.reveal_invariant();
         let split_key = self.list.key(at);
         self.hints.rehash_interval(&self.list, split_key);
         let start = self.search_start(item_hash(split_key));
@@ -30,15 +30,15 @@ impl<H: KeyHash + Copy + Drop> SplitIndex<H> {
 
     /// Removes an item and returns its key and objects. `start` is a node before it.
     pub fn take_out(&mut self, start: At, at: At) -> (Term, Chain)
-        requires rows { RowsInvariant H.number self.old }
-        requires stands { HasItem at (behind start self.old.list.cells) }
-        ensures rows { RowsInvariant H.number self.new }
+        requires rows { RowsInvariant H.hash self.old }
+        requires stands { HasItem at (cells_after start self.old.list.cells) }
+        ensures rows { RowsInvariant H.hash self.new }
         ensures keeps { KeepsDirectory self.old self.new }
         ensures item { item_at at self.old.list.cells ≡ Some (new_item result.0 result.1) }
         ensures cells { self.new.list.cells ≡ without at self.old.list.cells }
         ensures len { length self.new.list.cells + 1 ≡ length self.old.list.cells }
     {
-        self.list.known();
+        self.list.reveal_invariant();
         let split_key = self.list.key(at);
         self.hints.rehash_interval(&self.list, split_key);
         let interval = self.hints.interval_of(split_key);

@@ -1,6 +1,6 @@
 // Sweeps of many nodes.
 ghost use Rattle.std.specs.Prelude.{◌≡◌, ℕ, ◌+◌, ◌≤◌, List, ◌∷◌, Some, length};
-ghost use Rattle.node_list.specs.Places.{Stands, place_after};
+ghost use Rattle.node_list.specs.Places.{IsPlaceOf, place_after};
 ghost use Rattle.bucket_table.specs.declared.split.sweep.SweepMode.TheVariants.{RemoveTombstones};
 ghost use Rattle.bucket_table.specs.inside.Nodes.{slots_of};
 ghost use Rattle.bucket_table.specs.inside.SplitIndex.{RowsInvariant, KeepsDirectory};
@@ -17,7 +17,7 @@ use split_key::item_key;
 impl<H: KeyHash + Copy + Drop> SplitIndex<H> {
     /// Returns what a sweep does to the node at a place. A dummy is kept.
     fn action_for(&self, mode: SweepMode, at: At) -> NodeAction
-        requires { Stands at self.now.list.cells }
+        requires { IsPlaceOf at self.now.list.cells }
         ensures { IsActionFor mode at self.now.list.cells result }
     {
         match self.list.item(at) {
@@ -40,15 +40,15 @@ impl<H: KeyHash + Copy + Drop> SplitIndex<H> {
 
     /// Sweeps the node after a kept one. Returns the last node that is kept now.
     fn sweep_next(&mut self, mode: SweepMode, at: At, next: At) -> At
-        requires rows { RowsInvariant H.number self.old }
-        requires stands { Stands at self.old.list.cells }
+        requires rows { RowsInvariant H.hash self.old }
+        requires stands { IsPlaceOf at self.old.list.cells }
         requires next { place_after at self.old.list.cells ≡ Some next }
-        ensures rows { RowsInvariant H.number self.new }
+        ensures rows { RowsInvariant H.hash self.new }
         ensures keeps { KeepsDirectory self.old self.new }
         ensures swept { SweepsNext mode at self.old.list.cells result self.new.list.cells }
         ensures each { Sweeps mode self.old.list.cells self.new.list.cells }
     {
-        self.list.known();
+        self.list.reveal_invariant();
         match self.action_for(mode, next) {
             NodeAction::Keep => next,
             NodeAction::Remove => {
@@ -64,20 +64,20 @@ impl<H: KeyHash + Copy + Drop> SplitIndex<H> {
 
     /// Removes the tombstones of a hash.
     fn purge_hash(&mut self, hash: u32)
-        requires rows { RowsInvariant H.number self.old }
-        ensures rows { RowsInvariant H.number self.new }
+        requires rows { RowsInvariant H.hash self.old }
+        ensures rows { RowsInvariant H.hash self.new }
         ensures keeps { KeepsDirectory self.old self.new }
         ensures purged { purged (slots_of self.new.list.cells) ≡ purged (slots_of self.old.list.cells) }
         ensures each { Sweeps RemoveTombstones self.old.list.cells self.new.list.cells }
         ensures gone { (others : List ℕ)
-            → TombstonesAreAmong (H.number self.old.hasher) (hash ∷ others) (slots_of self.old.list.cells)
-            → TombstonesAreAmong (H.number self.old.hasher) others (slots_of self.new.list.cells) }
+            → TombstonesAreAmong (H.hash self.old.hasher) (hash ∷ others) (slots_of self.old.list.cells)
+            → TombstonesAreAmong (H.hash self.old.hasher) others (slots_of self.new.list.cells) }
     {
-        self.list.known();
+        self.list.reveal_invariant();
         let split_key = item_key(hash);
         let mut at = self.search_start(hash);
         while let Some(next) = self.list.after(at) {
-            self.list.known();
+            self.list.reveal_invariant();
             if split_key < self.list.key(next) {
                 return;
             }
@@ -87,9 +87,9 @@ impl<H: KeyHash + Copy + Drop> SplitIndex<H> {
 
     /// Removes the tombstones of these hashes, which must include those of all tombstones.
     pub fn purge_hashes(&mut self, hashes: &mut Vec<u32>)
-        requires rows { RowsInvariant H.number self.old }
-        requires logged { TombstonesAreAmong (H.number self.old.hasher) hashes.old.items (slots_of self.old.list.cells) }
-        ensures rows { RowsInvariant H.number self.new }
+        requires rows { RowsInvariant H.hash self.old }
+        requires logged { TombstonesAreAmong (H.hash self.old.hasher) hashes.old.items (slots_of self.old.list.cells) }
+        ensures rows { RowsInvariant H.hash self.new }
         ensures keeps { KeepsDirectory self.old self.new }
         ensures slots { slots_of self.new.list.cells ≡ purged (slots_of self.old.list.cells) }
         ensures each { Sweeps RemoveTombstones self.old.list.cells self.new.list.cells }
@@ -101,8 +101,8 @@ impl<H: KeyHash + Copy + Drop> SplitIndex<H> {
 
     /// Sweeps all slots once.
     pub fn sweep_all(&mut self, mode: SweepMode)
-        requires rows { RowsInvariant H.number self.old }
-        ensures rows { RowsInvariant H.number self.new }
+        requires rows { RowsInvariant H.hash self.old }
+        ensures rows { RowsInvariant H.hash self.new }
         ensures keeps { KeepsDirectory self.old self.new }
         ensures slots { slots_of self.new.list.cells ≡ swept mode (slots_of self.old.list.cells) }
         ensures each { Sweeps mode self.old.list.cells self.new.list.cells }

@@ -1,4 +1,4 @@
-use Rattle.node_list.specs.Listed.{HasRoom}
+use Rattle.node_list.specs.ListState.{HasRoom}
 use Rattle.ets_bench.specs.Buckets.{IsReady}
 use Rattle.ets_bench.proofs.list.insert.Given as goal
 

@@ -2,7 +2,7 @@ ghost use Rattle.std.specs.Prelude.{◌≡◌, [], ◌∷◌, Some, IfOk};
 ghost use Rattle.std.specs.Borrow.{sem};
 ghost use Rattle.ets_term.specs.declared.term.Term.TheVariants.{Int};
 ghost use Rattle.node_list.specs.Cells.{new_cell, new_item};
-ghost use Rattle.node_list.specs.Places.{IsFresh, HasItem, Stands};
+ghost use Rattle.node_list.specs.Places.{IsFresh, HasItem, IsPlaceOf};
 ghost use Rattle.node_list.specs.Changes.{put_cell};
 
 use super::chains::{has, is_number, pops};
@@ -111,7 +111,7 @@ fn finds_equal_keys(list: &mut NodeList, alloc: Global) -> Result<bool, AllocErr
 
 /// Returns whether the node at a place is an item with this number as its term and as its chain.
 fn is_item(list: &NodeList, at: At, number: Integer) -> bool
-    requires { Stands at list.now.cells }
+    requires { IsPlaceOf at list.now.cells }
 {
     match list.item(at) {
         Some((term, chain)) => is_number(term, number) && has(chain.as_slice(), &[number]),
@@ -128,7 +128,7 @@ fn has_head(list: &NodeList) -> bool {
 /// Returns whether an item that was put is read at its place, with its key.
 fn reads_item(list: &mut NodeList, alloc: Global) -> Result<bool, AllocError> {
     let at = add_item(list, alloc, 5, 1)?;
-    list.known();
+    list.reveal_invariant();
     Ok(list.key(at) == 5 && is_item(list, at, 1) && has_head(list))
 }
 
@@ -169,10 +169,10 @@ fn unlinks_item(
     Ok(add_item(list, alloc, 9, 1)? == at && unlinked)
 }
 
-/// The first place at which `item_from` gives another than is wanted there.
+/// The first place at which `next_item_at` gives another than is wanted there.
 fn misfound(list: &NodeList, wanted: &[Option<At>]) -> Option<usize> {
     for (start, at) in wanted.iter().enumerate() {
-        if list.item_from(start) != *at {
+        if list.next_item_at(start) != *at {
             return Some(start);
         }
     }
@@ -206,7 +206,7 @@ fn finds_places(
     wanted: &[Option<At>],
 ) -> Result<bool, AllocError> {
     add_five(list, alloc)?;
-    Ok(misfound(list, wanted) == None && list.item_from(usize::MAX) == None)
+    Ok(misfound(list, wanted) == None && list.next_item_at(usize::MAX) == None)
 }
 
 /// Puts two items and unlinks the first: the place 2 alone has an item.
@@ -237,9 +237,9 @@ fn finds_no_unlinked(
 
 /// Returns whether dummies are no items, and running out of memory changes nothing.
 fn has_dummies_alone(list: &mut NodeList) -> Result<bool, AllocError> {
-    let none = list.item_from(0) == None;
+    let none = list.next_item_at(0) == None;
     add_dummy(list, 8)?;
-    let dummies = list.item_from(0) == None && list.item_from(2) == None;
+    let dummies = list.next_item_at(0) == None && list.next_item_at(2) == None;
     let refused = list.reserve(usize::MAX).is_err();
     Ok(none && dummies && refused && reads(list, 4) == 2 && reads(list, 8) == 2 && list.len() == 2)
 }

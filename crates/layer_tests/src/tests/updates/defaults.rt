@@ -8,14 +8,14 @@ fn is_started(told: &Term, answer: &Term, made: &Term) -> bool {
 
 /// Returns whether a Default makes an object of the key, as both calls have it.
 fn is_object(alloc: Global, keypos: u32, default: &Term, key: &Term) -> bool {
-    let made = keyed(alloc, default, keypos, key);
+    let made = with_key(alloc, default, keypos, key);
     let is_made = made.is_ok();
     drop(made);
     is_made && is_default(default, keypos, key)
 }
 
 fn is_no_object(alloc: Global, keypos: u32, default: &Term, key: &Term) -> bool {
-    let fault = keyed(alloc, default, keypos, key).err();
+    let fault = with_key(alloc, default, keypos, key).err();
     !is_default(default, keypos, key) && matches!(fault, Some(CounterFault::Badarg))
 }
 
@@ -58,7 +58,7 @@ pub fn writes_default(
     made: &Term,
 ) -> Option<bool> {
     match read_element_specs(alloc, values, 1) {
-        Ok(specs) => Some(answers(start_elements(alloc, default, 1, key, specs), made)),
+        Ok(specs) => Some(answers(start_with_elements(alloc, default, 1, key, &specs), made)),
         Err(_) => Some(false),
     }
 }

@@ -2,8 +2,14 @@ use super::rows::{Call, wrong};
 use super::*;
 
 /// Returns whether values make this of the object, or are refused and leave it.
-fn writes_in_place(object: &mut Term, specs: ElementSpecs, before: &Term, made: &Term) -> bool {
-    match update_elements(object, specs) {
+fn writes_in_place(
+    alloc: Global,
+    object: &mut Term,
+    specs: &ElementSpecs,
+    before: &Term,
+    made: &Term,
+) -> bool {
+    match write_elements(alloc, object, specs) {
         Ok(()) => *object == *made,
         Err(fault) => is_refusal(&fault, made) && *object == *before,
     }
@@ -11,14 +17,14 @@ fn writes_in_place(object: &mut Term, specs: ElementSpecs, before: &Term, made: 
 
 fn writes_on_a_copy(alloc: Global, object: &Term, values: &Term, made: &Term) -> bool {
     match read_element_specs(alloc, values, 1) {
-        Ok(specs) => answers(apply_elements(alloc, object, specs), made),
+        Ok(specs) => answers(apply_elements(alloc, object, &specs), made),
         Err(_) => false,
     }
 }
 
 fn writes_in_own(alloc: Global, own: &mut Term, values: &Term, before: &Term, made: &Term) -> bool {
     match read_element_specs(alloc, values, 1) {
-        Ok(specs) => writes_in_place(own, specs, before, made),
+        Ok(specs) => writes_in_place(alloc, own, &specs, before, made),
         Err(_) => false,
     }
 }

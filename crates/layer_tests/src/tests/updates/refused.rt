@@ -120,12 +120,13 @@ fn starts_again(
 
 /// Returns whether values make this of an object, again where they were refused memory.
 fn writes_again(alloc: Global, object: &Term, values: &Term, made: &Term) -> Option<bool> {
-    let outcome = apply_elements(alloc, object, specs_again(alloc, values)?);
+    let specs = specs_again(alloc, values)?;
+    let outcome = apply_elements(alloc, object, &specs);
     if !is_refused_memory(&outcome) {
         return Some(answers(outcome, made));
     }
     drop(outcome);
-    let again = apply_elements(alloc, object, specs_again(alloc, values)?);
+    let again = apply_elements(alloc, object, &specs);
     Some(answers(again, made))
 }
 
@@ -137,12 +138,13 @@ fn writes_default_again(
     values: &Term,
     made: &Term,
 ) -> Option<bool> {
-    let outcome = start_elements(alloc, default, 1, key, specs_again(alloc, values)?);
+    let specs = specs_again(alloc, values)?;
+    let outcome = start_with_elements(alloc, default, 1, key, &specs);
     if !is_refused_memory(&outcome) {
         return Some(answers(outcome, made));
     }
     drop(outcome);
-    let again = start_elements(alloc, default, 1, key, specs_again(alloc, values)?);
+    let again = start_with_elements(alloc, default, 1, key, &specs);
     Some(answers(again, made))
 }
 

@@ -171,7 +171,7 @@ fn behind<R: Rows>(rows: &R, key: Integer) -> Option<Integer> {
     let found = rows.find(&term);
     drop(term);
     let place = found?;
-    let next = rows.place_behind(place)?;
+    let next = rows.next_place(place)?;
     let (key, _objects) = rows.slot_at(next);
     Some(number_of(key))
 }

@@ -57,9 +57,9 @@ fn readies_some<R: Rows>(
     wanted: &[(u32, Readying)],
 ) -> Result<bool, AllocError> {
     let grown = grows(rows, times, Growth::Grown)?;
-    let least = rows.least();
+    let least = rows.first_unready();
     let told = readies_each(rows, wanted)?;
-    Ok(grown && told && least == Some(1) && rows.least() == Some(1))
+    Ok(grown && told && least == Some(1) && rows.first_unready() == Some(1))
 }
 
 fn split_readies(alloc: Global, wanted: &[(u32, Readying)]) -> Result<bool, AllocError> {
@@ -79,7 +79,7 @@ const ONE_BUCKET: [(u32, Readying); 2] = [(0, Readying::AlreadyReady), (1, Ready
 fn is_one_bucket<R: Rows>(rows: &mut R, wanted: &[(u32, Readying)]) -> Result<bool, AllocError> {
     let told = readies_each(rows, wanted)?;
     let grown = grows(rows, 1, Growth::AtMost)?;
-    Ok(told && grown && rows.buckets() == 1 && rows.least() == None)
+    Ok(told && grown && rows.buckets() == 1 && rows.first_unready() == None)
 }
 
 fn plain_is_one_bucket(alloc: Global, wanted: &[(u32, Readying)]) -> Result<bool, AllocError> {

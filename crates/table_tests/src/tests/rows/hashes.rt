@@ -11,7 +11,7 @@ impl KeyHash for Even {
     ghost use Rattle.ets_term.specs.laws.Hashed.{fnv-below};
     ghost use Rattle.std.proofs.Common.{arith};
 
-    ghost number = { λ _ term. 2 * (fnv (encoding term) / 2) };
+    ghost hash = { λ _ term. 2 * (fnv (encoding term) / 2) };
 
     ghost below = { λ _ term. Prim.omega (arith, fnv-below (encoding term)) };
 
@@ -27,7 +27,7 @@ pub struct Plain;
 impl KeyHash for Plain {
     ghost use Rattle.table_tests.specs.Numbers.{number_of, number-below};
 
-    ghost number = { λ _ term. number_of term };
+    ghost hash = { λ _ term. number_of term };
 
     ghost below = { λ _ term. number-below term };
 
@@ -46,7 +46,7 @@ pub struct Last;
 impl KeyHash for Last {
     ghost use Rattle.std.proofs.Common.{arith};
 
-    ghost number = { λ _ _. 4294967295 };
+    ghost hash = { λ _ _. 4294967295 };
 
     ghost below = { λ _ _. Prim.omega arith };
 

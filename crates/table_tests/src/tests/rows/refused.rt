@@ -87,7 +87,7 @@ fn does_again<R: Rows>(rows: &mut R, alloc: Global) -> Result<bool, AllocError> 
     for time in 0..TIMES {
         all = put_again(rows, alloc, time)? && all;
         all = grow_again(rows)? && all;
-        let bucket = rows.least().unwrap_or(0);
+        let bucket = rows.first_unready().unwrap_or(0);
         all = ready_again(rows, bucket)? && all;
     }
     let put = TIMES.wrapping_mul(3);

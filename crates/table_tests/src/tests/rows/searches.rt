@@ -172,11 +172,11 @@ fn steps_for<H: KeyHash + Copy + Drop>(rows: &SplitRows<H>, key: Term) -> u64 {
 fn put_process<R: Rows>(rows: &mut R, alloc: Global, number: u32) -> Result<(), AllocError> {
     let key = Term::Pid(number);
     match rows.entry(&key) {
-        Entry::Vacant(hash) => {
+        SlotEntry::Vacant(hash) => {
             rows.put_at(hash, key, Chain::new(alloc))?;
             Ok(())
         }
-        Entry::Occupied(_) => {
+        SlotEntry::Occupied(_) => {
             drop(key);
             Ok(())
         }

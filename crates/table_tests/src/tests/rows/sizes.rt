@@ -20,7 +20,7 @@ fn keep_up<R: Rows>(rows: &mut R) -> Result<(), AllocError> {
         rows.grow()?;
     }
     for _ in 0..2 {
-        if let Some(bucket) = rows.least() {
+        if let Some(bucket) = rows.first_unready() {
             rows.ready(bucket)?;
         }
     }

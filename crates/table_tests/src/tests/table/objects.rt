@@ -100,7 +100,9 @@ fn counts_none<R: Rows>(
 /// Returns whether no element of that key is written.
 fn writes_none<R: Rows>(alloc: Global, table: &mut Table<R>, end: &Term) -> Option<bool> {
     let specs = specs(alloc, 5)?;
-    Some(table.update_element(end, specs, None) == Ok(false))
+    let updated = table.update_element(end, &specs, None);
+    drop(specs);
+    Some(updated == Ok(false))
 }
 
 /// Returns whether that key has nothing to take and nothing to delete.

@@ -9,7 +9,7 @@ use ets_term::{AllSame, Fnv, Integer, KeyHash};
 use match_spec::{Pattern, Spec};
 use std::alloc::Global;
 use std::process::Abort;
-use table_ops::{Kind, Steps, Table};
+use table_ops::{Kind, Looks, Table};
 
 const LIFE: [(Step, Integer); 26] = [
     (Step::InsertTwo(1, 1, 2, 2), 1),
@@ -143,7 +143,7 @@ fn never_falls<R: Rows>(
     table: &mut Table<R>,
     pattern: &Pattern,
     spec: &Spec,
-    looks: &mut Steps,
+    looks: &mut Looks,
 ) -> bool {
     let start = looks.count();
     let _ = count_of(table.matches_counted(pattern, looks).ok());
@@ -163,7 +163,7 @@ fn never_falls<R: Rows>(
 
 /// Does so with the pattern of a key and the specification that chooses the objects below it.
 fn never_falls_under<R: Rows>(alloc: Global, table: &mut Table<R>, key: Integer) -> Option<bool> {
-    let mut looks = Steps::new();
+    let mut looks = Looks::new();
     looks.tick();
     let pattern = under(alloc, key)?;
     let Some(spec) = below(alloc, key) else {

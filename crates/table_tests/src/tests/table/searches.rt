@@ -8,7 +8,7 @@ use ets_term::{Integer, Term};
 use match_spec::{Pattern, Spec};
 use std::alloc::Global;
 use std::process::Abort;
-use table_ops::{Kind, Steps, Table};
+use table_ops::{Kind, Looks, Table};
 
 /// What a search answers: how many it finds by either of two calls, and how many objects the two try.
 type Found = Option<(usize, usize, u64)>;
@@ -22,7 +22,7 @@ fn fill<R: Rows>(alloc: Global, table: &mut Table<R>) -> Option<()> {
 
 /// By `select` and `select_count`.
 fn selected_by<R: Rows>(table: &Table<R>, spec: &Spec) -> Found {
-    let mut looks = Steps::new();
+    let mut looks = Looks::new();
     let results = count_of(table.select_counted(spec, &mut looks).ok())?;
     let count = table.select_count_counted(spec, &mut looks).ok()?;
     Some((results, count, looks.count()))
@@ -88,7 +88,7 @@ fn selects_all<R: Rows>(alloc: Global, table: &Table<R>) -> bool {
 /// Deletes by a clause for each key: how many go and how many are left, and how many objects are tried.
 fn deleted<R: Rows>(alloc: Global, table: &mut Table<R>, keys: &[Integer]) -> Found {
     let spec = of_keys(alloc, keys)?;
-    let mut looks = Steps::new();
+    let mut looks = Looks::new();
     let gone = table.select_delete_counted(&spec, false, &mut looks);
     drop(spec);
     Some((gone.ok()?, table.size(), looks.count()))
@@ -97,7 +97,7 @@ fn deleted<R: Rows>(alloc: Global, table: &mut Table<R>, keys: &[Integer]) -> Fo
 /// Deletes by the pattern of a key: how many are left, with slots and without, and how many objects are tried.
 fn unmatched<R: Rows>(alloc: Global, table: &mut Table<R>, key: Integer) -> Found {
     let pattern = under(alloc, key)?;
-    let mut looks = Steps::new();
+    let mut looks = Looks::new();
     let done = table.match_delete_counted(&pattern, true, &mut looks);
     drop(pattern);
     done.ok()?;

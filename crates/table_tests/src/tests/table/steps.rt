@@ -7,7 +7,7 @@ use ets_term::{Integer, Items, Position, Term};
 use match_spec::Pattern;
 use std::alloc::Global;
 use std::slice;
-use table_ops::{Refusal, Steps, Table};
+use table_ops::{Looks, Refusal, Table};
 
 pub fn refused(refusal: Refusal) -> Integer {
     match refusal {
@@ -140,7 +140,8 @@ fn written<R: Rows>(
 ) -> Option<Integer> {
     let specs = specs(alloc, value)?;
     let key = Term::Int(key);
-    let updated = table.update_element(&key, specs, None);
+    let updated = table.update_element(&key, &specs, None);
+    drop(specs);
     drop(key);
     match updated {
         Ok(true) => Some(1),
@@ -159,7 +160,7 @@ pub fn count_of(found: Option<Items<Term>>) -> Option<usize> {
 
 /// How many answers a pattern has by `match` and by `match_object`, and how many objects the two try.
 pub fn matched<R: Rows>(table: &Table<R>, pattern: &Pattern) -> Option<(usize, usize, u64)> {
-    let mut looks = Steps::new();
+    let mut looks = Looks::new();
     let bindings = count_of(table.matches_counted(pattern, &mut looks).ok())?;
     let objects = count_of(table.match_objects_counted(pattern, &mut looks).ok())?;
     Some((bindings, objects, looks.count()))

@@ -7,7 +7,7 @@ use Rattle.bucket_table.proofs.split.SplitRows.new.Goals as goal
 pub invariant_of-result : goal.invariant_of-result
 invariant_of-result g c =
     let e = c.in_ok-index.ensures in
-    let N : List Cell → Type 0 = λ zs. TombstonesAreAmong (g.H.KeyHash.number c.in_ok-index.index.hasher) c.new-2.result.hashes.items (slots_of zs) in
+    let N : List Cell → Type 0 = λ zs. TombstonesAreAmong (g.H.KeyHash.hash c.in_ok-index.index.hasher) c.new-2.result.hashes.items (slots_of zs) in
     record {
       rows = e.rows;
       counted = sym (ap (λ (zs : List Cell). length (slots_of zs)) e.cells);

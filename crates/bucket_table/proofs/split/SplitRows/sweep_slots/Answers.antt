@@ -15,7 +15,7 @@ overflow_sub-self g c = omega (arith, c.sweep_all.ensures.each.len, c.sweep_all.
 pub invariant_of-self : goal.invariant_of-self
 invariant_of-self g c =
     let e = c.sweep_all.ensures in
-    let hash_of = g.H.KeyHash.number c.sweep_all.new.self.hasher in
+    let hash_of = g.H.KeyHash.hash c.sweep_all.new.self.hasher in
     let hashes = c.reset_after.new.self.hashes.items in
     let D : List (Option ℕ) → Type 0 = λ ds. IsFirstUnready ds c.self.inside.first_unready in
     let N : List Slot → Type 0 = λ ss. TombstonesAreAmong hash_of hashes ss in

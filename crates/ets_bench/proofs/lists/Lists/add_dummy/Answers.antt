@@ -6,8 +6,8 @@ use Rattle.ets_bench.specs.Buckets.{HasDummies}
 use Rattle.ets_bench.proofs.DummyLaws.{read-stands, dummies-pushed}
 use Rattle.ets_bench.proofs.lists.Lists.add_dummy.Goals as goal
 
-pub insert_dummy-at-requires-clause-stands : goal.insert_dummy-at-requires-clause-stands
-insert_dummy-at-requires-clause-stands c =
+pub insert_dummy-at-requires-clause-start : goal.insert_dummy-at-requires-clause-start
+insert_dummy-at-requires-clause-start c =
     read-stands c.parent-before.result c.index-start.result.now (vec_len c.args.self.now.dummies) c.dummy_key.result c.args.self.now.dummies.items c.args.self.now.list.cells c.index-start.ensures (omega (arith, c.parent_stands_before.ensures.below, c.len-bucket.ensures)) c.args.self.now.dummies.ok.0 c.requires.stands (omega (arith, c.dummy_key.ensures, c.parent_stands_before.ensures.before))
 
 pub returns-clause-stands : goal.returns-clause-stands

@@ -14,7 +14,7 @@ returns-clause-ok g c =
     let slots = g.R.Rows.content rows in
     let key = c.args.key.now in
     let is : slots ≡ c.args.self.now.content.slots = c.rows-rows.ensures.slots ∙ ap (λ (t : TableState). t.content.slots) c.self.view_is in
-    let told = next-told key_at slots key (key_at c.in-Some.place) c.place_behind.result c.known.ensures c.in-Some.ensures.0 c.place_behind.ensures in
+    let told = next-told key_at slots key (key_at c.in-Some.place) c.next_place.result c.reveal_invariant.ensures c.in-Some.ensures.0 c.next_place.ensures in
     subst (λ (zs : List Slot). next_slot zs key ≡ Some (option_map deref_pair c.first_nonempty.result)) is (told ∙ ap Some (sym c.first_nonempty.ensures))
 
 pub returns-in_default-clause-err : goal.returns-in_default-clause-err

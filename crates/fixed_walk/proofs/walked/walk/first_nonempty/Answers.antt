@@ -23,13 +23,13 @@ loop-preserved g c =
     let slots = g.R.Rows.content c.args.rows.now in
     let key = c.slot_at.result.0.now in
     let objects = c.slot_at.result.1.now in
-    let next = c.place_behind-at.result in
-    let step = from-step key_at slots c.in_ok-place.place key objects next c.known.ensures c.slot_at.ensures.key c.slot_at.ensures.objects c.place_behind-at.ensures in
+    let next = c.next_place-at.result in
+    let step = from-step key_at slots c.in_ok-place.place key objects next c.known.ensures c.slot_at.ensures.key c.slot_at.ensures.objects c.next_place-at.ensures in
     let here : slots_from key_at slots c.loop.at ≡ (key, objects) ∷ slots_from key_at slots next = ap (slots_from key_at slots) c.in_ok-place.was ∙ step in
     let none = none-left objects (sym c.is_empty.ensures ∙ c.if-not-is_empty.false) in
     let long = ap length here in
     record {
-      stands = stands-next key_at slots (key_at c.in_ok-place.place) next c.place_behind-at.ensures;
+      stands = stands-next key_at slots (key_at c.in_ok-place.place) next c.next_place-at.ensures;
       same = sym (first-of key objects (slots_from key_at slots next) none) ∙ ap first_slot (sym here) ∙ c.loop.invariant.same;
       few = omega (arith, c.loop.invariant.few, long);
     }

@@ -1,6 +1,6 @@
 use Rattle.std.proofs.lemmas.Result.{err_from_is_err_and}
 use Rattle.fixed_walk.specs.Fixes.{is_fixed}
-use Rattle.fixed_walk.specs.Fixed.{on_content}
+use Rattle.fixed_walk.specs.TableState.{on_content}
 use Rattle.table_ops.specs.Drop.{DeletesObject}
 use Rattle.node_core.specs.declared.node.access.Access.TheVariants.{Write}
 use Rattle.node_core.specs.rules.Replies.{true_reply}

@@ -1,6 +1,6 @@
 use Rattle.std.proofs.Common.{◌≡◌, ◌≤◌, ◌+◌, ◌∙◌, rules, Some, length, sym, subst, arith}
 use Rattle.ownership.specs.World.{World}
-use Rattle.ownership.specs.Tables.{new_head, with_table}
+use Rattle.ownership.specs.Tables.{new_metadata, with_table}
 use Rattle.node_core.specs.inside.Identifiers.{AreBelow, IsAmong}
 use Rattle.node_core.specs.inside.Due.{IsIndex}
 use Rattle.node_core.proofs.Index.{roomier, added}
@@ -30,8 +30,8 @@ returns-clause-index g c =
     let tables = old.tables in
     let room : c.made-id.result + 1 ≤ c.reserve.new.self.room = search rules in
     let under : AreBelow c.reserve.new.self.all (length tables + 1) = subst (λ ids. AreBelow ids (length tables + 1)) (sym c.reserve.ensures.same) (λ i h. omega (arith, c.requires.below i h)) in
-    let made : c.new_table.new.self ≡ with_table old (new_head c.args.pid c.args.name.now c.args.options) c.args.table = new-made old c.new_table.new.self c.args.pid c.args.name.now c.args.options c.args.table c.in_ok-answer.answer c.in_ok-answer.ensures in
-    subst (λ (w : World). IsIndex w.tables c.insert.new.self) (sym made) (added tables c.args.due.now c.insert.new.self (Some (record { head = new_head c.args.pid c.args.name.now c.args.options; fixed = c.args.table })) c.requires
+    let made : c.new_table.new.self ≡ with_table old (new_metadata c.args.pid c.args.name.now c.args.options) c.args.table = new-made old c.new_table.new.self c.args.pid c.args.name.now c.args.options c.args.table c.in_ok-answer.answer c.in_ok-answer.ensures in
+    subst (λ (w : World). IsIndex w.tables c.insert.new.self) (sym made) (added tables c.args.due.now c.insert.new.self (Some (record { metadata = new_metadata c.args.pid c.args.name.now c.args.options; fixed = c.args.table })) c.requires
     (c.insert.ensures.below (length tables + 1) under (omega (arith, c.made-id.ensures)))
     (omega (arith, room, c.made-id.ensures, c.insert.ensures.room))
     (subst (IsAmong c.insert.new.self.all) c.made-id.ensures c.insert.ensures.new)

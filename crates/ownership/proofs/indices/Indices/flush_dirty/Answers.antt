@@ -24,5 +24,5 @@ returns-else-is_fixed-clause-kept g c =
     let at : table_at tables last ≡ Some c.in-Some-Some.table = sym (c.in-Some-Some.ensures.lookup.3.1 None) ∙ c.in-Some-Some.field-0-is in
     let noted : FixedAreListed indices.fixed.items (Some last) tables = subst (λ dirty. FixedAreListed indices.fixed.items dirty tables) c.in-Some.is c.requires.kept.noted in
     let free : is_fixed c.walked-walked.result.now.fixes ≡ false = sym c.is_fixed.ensures ∙ c.if-is_fixed.false in
-    let idle : IsUnfixed c.walked-walked.result.now = (free, c.known.ensures.held free) in
+    let idle : IsUnfixed c.walked-walked.result.now = (free, c.reveal_invariant.ensures.held free) in
     kept-beside indices tables c.requires.kept indices.fixed None (noted-idle tables indices.fixed.items last c.in-Some-Some.table at noted (subst IsUnfixed c.walked-walked.ensures idle)) c.requires.kept.room

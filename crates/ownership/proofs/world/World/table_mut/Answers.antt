@@ -1,5 +1,5 @@
 use Rattle.std.proofs.Common.{◌≡◌, Option, None, Some, inl, option_map, sym, ap, subst, ◌∙◌}
-use Rattle.fixed_walk.specs.Fixed.{Fixed}
+use Rattle.fixed_walk.specs.TableState.{TableState}
 use Rattle.ownership.specs.World.{Table, Tables, World, table_at, with_fixed}
 use Rattle.ownership.specs.inside.Indices.{IndicesInvariant}
 use Rattle.ownership.proofs.MetadataLaws.{fixed-there}
@@ -23,7 +23,7 @@ pub returns : goal.returns
 returns g c =
     let items = c.self.inside.tables.items in
     let at : table_at items c.args.id ≡ Some c.in_ok-table.table.now = sym (c.in_ok-place.ensures.item.3.1 None) ∙ sym c.in_ok-table.ensures.value in
-    let ends : (w : Fixed) → _ = λ w.
+    let ends : (w : TableState) → _ = λ w.
     ap (λ tables. record { most_processes = c.self.inside.most_processes; most_tables = c.self.inside.most_tables; processes = c.self.inside.processes.entries; tables = tables }) (fixed-there items c.args.id c.in_ok-table.table.now w at)
     ∙ ap (λ (v : World). record v { tables = with_fixed v.tables c.args.id w }) c.self.view_is in (
       λ i. inl (c.walked_mut.result.ghost_name, λ w. ends w i),

@@ -14,7 +14,7 @@ invariant_of-self g c =
     let here = is-here key_at slots inv.distinct i place (subst (λ (o : Option ℕ). IsFirstPlace key_at (drop i slots) o) c.in-Some.is inv.here) in
     record {
       distinct = inv.distinct;
-      here = next-here key_at slots inv.distinct i place here.0 c.place_behind-self-inside.result here.1 c.place_behind-self-inside.ensures;
+      here = next-here key_at slots inv.distinct i place here.0 c.next_place-self-inside.result here.1 c.next_place-self-inside.ensures;
       fits = inv.fits;
     }
 

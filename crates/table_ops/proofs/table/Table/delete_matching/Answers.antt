@@ -20,7 +20,7 @@ plan-requires-clause-only_key g c =
 pub apply-requires : goal.apply-requires
 apply-requires g c =
     let slots = g.R.Rows.content c.self.inside.inner.rows in
-    subst (λ (ns : List PlannedSlot). AreInOrder slots ns) (sym c.in_ok-removed.ensures.plan) (in-order (g.P.Predicate.tests c.args.query.now.query.now) slots c.known.ensures)
+    subst (λ (ns : List PlannedSlot). AreInOrder slots ns) (sym c.in_ok-removed.ensures.plan) (in-order (g.P.Predicate.tests c.args.query.now.query.now) slots c.reveal_invariant.ensures)
 
 pub overflow_sub-self : goal.overflow_sub-self
 overflow_sub-self g c = omega (arith, drops-count (g.P.Predicate.tests c.args.query.now.query.now) c.args.hold (g.R.Rows.content c.self.inside.inner.rows), c.in_ok-removed.ensures.count, c.self.invariant.counted)
@@ -30,7 +30,7 @@ invariant_of-self g c =
     let slots = g.R.Rows.content c.self.inside.inner.rows in
     let new = g.R.Rows.content c.apply.new.self.rows in
     let choose = g.P.Predicate.tests c.args.query.now.query.now in
-    let now : new ≡ after_drop c.args.hold (λ own. choose) slots = c.apply.ensures.slots ∙ ap (λ (ns : List PlannedSlot). after_plan c.args.hold ns slots) c.in_ok-removed.ensures.plan ∙ drops choose c.args.hold slots c.known.ensures in
+    let now : new ≡ after_drop c.args.hold (λ own. choose) slots = c.apply.ensures.slots ∙ ap (λ (ns : List PlannedSlot). after_plan c.args.hold ns slots) c.in_ok-removed.ensures.plan ∙ drops choose c.args.hold slots c.reveal_invariant.ensures in
     holds-kept g.R.Rows.content c.self.inside.inner c.apply.new.self c.apply.ensures.keeps.rest (c.self.inside.count - c.in_ok-removed.removed)
     (counted-less c.args.hold (λ own. choose) c.self.inside.inner.kind c.self.inside.inner.keypos c.self.inside.inner.limit c.self.inside.count c.in_ok-removed.removed slots new c.self.invariant now
     (omega (arith, ap object_count now, c.in_ok-removed.ensures.count, drops-count choose c.args.hold slots)))
@@ -40,7 +40,7 @@ returns-clause-content g c =
     let slots = g.R.Rows.content c.self.inside.inner.rows in
     let new = g.R.Rows.content c.apply.new.self.rows in
     let choose = g.P.Predicate.tests c.args.query.now.query.now in
-    let now : new ≡ after_drop c.args.hold (λ own. choose) slots = c.apply.ensures.slots ∙ ap (λ (ns : List PlannedSlot). after_plan c.args.hold ns slots) c.in_ok-removed.ensures.plan ∙ drops choose c.args.hold slots c.known.ensures in
+    let now : new ≡ after_drop c.args.hold (λ own. choose) slots = c.apply.ensures.slots ∙ ap (λ (ns : List PlannedSlot). after_plan c.args.hold ns slots) c.in_ok-removed.ensures.plan ∙ drops choose c.args.hold slots c.reveal_invariant.ensures in
     rw (← c.self.view_is) (content-kept g.R.Rows.content c.self.inside.inner c.apply.new.self c.apply.ensures.keeps.rest
     ∙ ap (λ (l : List Slot). let r : Content = record (content_of g.R.Rows.content c.self.inside.inner) { slots = l } in r) now)
 

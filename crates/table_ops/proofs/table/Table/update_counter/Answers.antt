@@ -2,7 +2,7 @@ use Rattle.std.proofs.Common.{◌≡◌, ◌+◌, Some, Result, Ok, Err, true, �
 use Rattle.std.specs.Prelude.{nat_lt}
 use Rattle.std.proofs.lemmas.Result.{err_from_is_err_and}
 use Rattle.ets_term.specs.declared.term.Term.{Term}
-use Rattle.counters.specs.Defaults.{keyed, counted_from}
+use Rattle.counters.specs.Defaults.{with_key, start_counter}
 use Rattle.table_ops.specs.Content.{Content, ContentState}
 use Rattle.table_ops.specs.declared.refusal.Refusal.{Refusal}
 use Rattle.table_ops.specs.Refusals.{Refines}
@@ -47,7 +47,7 @@ returns-in_err-object-clause-content g c =
     ap (λ (t : ContentState). is_set t.content.kind && (ops_avoid_key t.content.keypos ops && default_is_object t.content.keypos k d)) c.self.view_is ∙ sym c.counter_is_valid.ensures ∙ c.if-not-counter_is_valid.false in
     let old : Content = content_of g.R.Rows.content c.self.inside.inner in
     let given : d ≡ Some c.in-Some-default.default.now = ap option_copied c.in-Some-default.is in
-    let made = counted_from ops (keyed c.self.inside.inner.keypos k c.in-Some-default.default.now) in
+    let made = start_counter ops (with_key c.self.inside.inner.keypos k c.in-Some-default.default.now) in
     let f = c.in_err-object.field-0.0 in
     let p = err_from_is_err_and c.from_residual-in_err-object.result c.from_residual-in_err-object.ensures.1 in
     let told : c.from_residual-in_err-object.result ≡ Err (refusal_of f) = p.1 ∙ ap Err p.2 in
@@ -67,7 +67,7 @@ returns-in_err-insert_default-clause-content g c =
     ap (λ (t : ContentState). is_set t.content.kind && (ops_avoid_key t.content.keypos ops && default_is_object t.content.keypos k d)) c.self.view_is ∙ sym c.counter_is_valid.ensures ∙ c.if-not-counter_is_valid.false in
     let old : Content = content_of g.R.Rows.content c.self.inside.inner in
     let given : d ≡ Some c.in-Some-default.default.now = ap option_copied c.in-Some-default.is in
-    let made = counted_from ops (keyed c.self.inside.inner.keypos k c.in-Some-default.default.now) in
+    let made = start_counter ops (with_key c.self.inside.inner.keypos k c.in-Some-default.default.now) in
     let s = refusal-starts (nat_lt c.self.inside.count old.limit) k made c.in_ok-object.object c.in_ok-object.answer (c.in_ok-object.ensures.done) old.slots (g.R.Rows.content c.insert_default.new.self.rows) c.in_err-insert_default.field-0.0 c.in_err-insert_default.ensures.slots in
     let p = err_from_is_err_and c.from_residual-in_err-insert_default.result c.from_residual-in_err-insert_default.ensures.1 in
     let new : Content = content_of g.R.Rows.content c.insert_default.new.self in
@@ -88,7 +88,7 @@ invariant_of-self-2 g c =
     ap (λ (t : ContentState). is_set t.content.kind && (ops_avoid_key t.content.keypos ops && default_is_object t.content.keypos k d)) c.self.view_is ∙ sym c.counter_is_valid.ensures ∙ c.if-not-counter_is_valid.false in
     let b = both (is_set c.self.inside.inner.kind) (ops_avoid_key c.self.inside.inner.keypos ops && default_is_object c.self.inside.inner.keypos k d) may in
     let named = both (ops_avoid_key c.self.inside.inner.keypos ops) (default_is_object c.self.inside.inner.keypos k d) b.1 in
-    let made = counted_from ops (keyed c.self.inside.inner.keypos k c.in-Some-default.default.now) in
+    let made = start_counter ops (with_key c.self.inside.inner.keypos k c.in-Some-default.default.now) in
     let s = object-starts (nat_lt c.self.inside.count c.self.inside.inner.limit) k made c.in_ok-object.object c.in_ok-object.answer (c.in_ok-object.ensures.done) (g.R.Rows.content c.self.inside.inner.rows) (g.R.Rows.content c.insert_default.new.self.rows) c.in_ok-insert_default.ensures.slots in
     holds-kept g.R.Rows.content c.self.inside.inner c.insert_default.new.self c.in_ok-insert_default.ensures.keeps.rest (c.self.inside.count + 1)
     (started-counted c.self.inside.inner.kind c.self.inside.inner.keypos c.self.inside.inner.limit c.self.inside.count (g.R.Rows.content c.self.inside.inner.rows) (g.R.Rows.content c.insert_default.new.self.rows) k s.0 c.self.invariant c.in_default.ensures s.2
@@ -102,7 +102,7 @@ returns-clause-content g c =
     let may : (is_set c.self.inside.inner.kind && (ops_avoid_key c.self.inside.inner.keypos ops && default_is_object c.self.inside.inner.keypos k d)) ≡ true =
     ap (λ (t : ContentState). is_set t.content.kind && (ops_avoid_key t.content.keypos ops && default_is_object t.content.keypos k d)) c.self.view_is ∙ sym c.counter_is_valid.ensures ∙ c.if-not-counter_is_valid.false in
     let old : Content = content_of g.R.Rows.content c.self.inside.inner in
-    let made = counted_from ops (keyed c.self.inside.inner.keypos k c.in-Some-default.default.now) in
+    let made = start_counter ops (with_key c.self.inside.inner.keypos k c.in-Some-default.default.now) in
     let s = object-starts (nat_lt c.self.inside.count c.self.inside.inner.limit) k made c.in_ok-object.object c.in_ok-object.answer (c.in_ok-object.ensures.done) (g.R.Rows.content c.self.inside.inner.rows) (g.R.Rows.content c.insert_default.new.self.rows) c.in_ok-insert_default.ensures.slots in
     let given : d ≡ Some c.in-Some-default.default.now = ap option_copied c.in-Some-default.is in
     rw (← c.self.view_is)

@@ -28,6 +28,6 @@ loop-delete-preserved g c =
     record {
       rest = ap (λ (ns : List PlannedSlot). after_plan c.args.hold ns new) kept' ∙ ap (after_plan c.args.hold (planned_at key_at ms)) after_removal ∙ sym (thin-append c.args.hold (planned_at key_at ms) m slots)
           ∙ ap (λ (ns : List PlannedSlot). after_plan c.args.hold ns slots) (sym all) ∙ c.loop-delete.invariant.rest;
-      order = subst (λ (ns : List PlannedSlot). AreInOrder new ns) (sym kept') (subst (λ (l : List Slot). AreInOrder l (planned_at key_at ms)) (sym after_removal) (order-thin c.args.hold slots m (planned_at key_at ms) c.known.ensures o.2 o.1));
+      order = subst (λ (ns : List PlannedSlot). AreInOrder new ns) (sym kept') (subst (λ (l : List Slot). AreInOrder l (planned_at key_at ms)) (sym after_removal) (order-thin c.args.hold slots m (planned_at key_at ms) c.reveal_invariant.ensures o.2 o.1));
       keeps = both-keep c.apply_one.ensures.keeps c.loop-delete.invariant.keeps;
     }

@@ -16,7 +16,7 @@ unreachable-requires g c =
     let slots = g.R.Rows.content c.args.self.now.rows in
     let i = c.loop.counter in
     let here = subst (λ (o : Option ℕ). IsFirstPlace (g.R.Rows.key_at c.args.self.now.rows) (drop i slots) o) c.in_default.is c.loop.invariant.here in
-    none-here (g.R.Rows.key_at c.args.self.now.rows) slots c.known.ensures i here (omega (arith, c.loop-test.true, c.len-end.ensures))
+    none-here (g.R.Rows.key_at c.args.self.now.rows) slots c.reveal_invariant.ensures i here (omega (arith, c.loop-test.true, c.len-end.ensures))
 
 pub returns-in_err-total-clause-at_most : goal.returns-in_err-total-clause-at_most
 returns-in_err-total-clause-at_most g c =
@@ -25,8 +25,8 @@ returns-in_err-total-clause-at_most g c =
     let key_at = g.R.Rows.key_at c.args.self.now.rows in
     let place = c.in-Some.place in
     let choose = g.P.Predicate.tests c.args.query.now.query.now in
-    let here = is-here key_at slots c.known.ensures i place (subst (λ (o : Option ℕ). IsFirstPlace key_at (drop i slots) o) c.in-Some.is c.loop.invariant.here) in
-    let own : c.slot_at.result.1.now ≡ here.0.1 = objects-here key_at slots c.known.ensures i place here.0 c.slot_at.result.0.now c.slot_at.result.1.now here.1 c.slot_at.ensures.key c.slot_at.ensures.objects in
+    let here = is-here key_at slots c.reveal_invariant.ensures i place (subst (λ (o : Option ℕ). IsFirstPlace key_at (drop i slots) o) c.in-Some.is c.loop.invariant.here) in
+    let own : c.slot_at.result.1.now ≡ here.0.1 = objects-here key_at slots c.reveal_invariant.ensures i place here.0 c.slot_at.result.0.now c.slot_at.result.1.now here.1 c.slot_at.ensures.key c.slot_at.ensures.objects in
     ticks-most (object_count (take i slots)) (length c.slot_at.result.1.now) (object_count slots) c.args.looks.now c.loop.looks c.plan_slot.new.looks c.loop.invariant.looked c.plan_slot.ensures.at_most
     (omega (arith, ap length own, slot-count slots i here.0 here.1.at, count-within slots (i + 1)))
 
@@ -37,8 +37,8 @@ overflow_add-total g c =
     let key_at = g.R.Rows.key_at c.args.self.now.rows in
     let place = c.in-Some.place in
     let choose = g.P.Predicate.tests c.args.query.now.query.now in
-    let here = is-here key_at slots c.known.ensures i place (subst (λ (o : Option ℕ). IsFirstPlace key_at (drop i slots) o) c.in-Some.is c.loop.invariant.here) in
-    let own : c.slot_at.result.1.now ≡ here.0.1 = objects-here key_at slots c.known.ensures i place here.0 c.slot_at.result.0.now c.slot_at.result.1.now here.1 c.slot_at.ensures.key c.slot_at.ensures.objects in
+    let here = is-here key_at slots c.reveal_invariant.ensures i place (subst (λ (o : Option ℕ). IsFirstPlace key_at (drop i slots) o) c.in-Some.is c.loop.invariant.here) in
+    let own : c.slot_at.result.1.now ≡ here.0.1 = objects-here key_at slots c.reveal_invariant.ensures i place here.0 c.slot_at.result.0.now c.slot_at.result.1.now here.1 c.slot_at.ensures.key c.slot_at.ensures.objects in
     let few : c.loop.total + c.in_ok-total.field-0 ≤ object_count slots = omega (arith, ap length own, slot-count slots i here.0 here.1.at, count-within slots (i + 1), c.loop.invariant.done, c.in_ok-total.ensures.count, chosen-few choose (all_objects (take i slots)), chosen-few choose c.slot_at.result.1.now, objects-count (take i slots)) in
     let most = c.requires.few in
     omega (arith, few, most)
@@ -50,10 +50,10 @@ loop-preserved g c =
     let key_at = g.R.Rows.key_at c.args.self.now.rows in
     let place = c.in-Some.place in
     let choose = g.P.Predicate.tests c.args.query.now.query.now in
-    let here = is-here key_at slots c.known.ensures i place (subst (λ (o : Option ℕ). IsFirstPlace key_at (drop i slots) o) c.in-Some.is c.loop.invariant.here) in
-    let own : c.slot_at.result.1.now ≡ here.0.1 = objects-here key_at slots c.known.ensures i place here.0 c.slot_at.result.0.now c.slot_at.result.1.now here.1 c.slot_at.ensures.key c.slot_at.ensures.objects in
+    let here = is-here key_at slots c.reveal_invariant.ensures i place (subst (λ (o : Option ℕ). IsFirstPlace key_at (drop i slots) o) c.in-Some.is c.loop.invariant.here) in
+    let own : c.slot_at.result.1.now ≡ here.0.1 = objects-here key_at slots c.reveal_invariant.ensures i place here.0 c.slot_at.result.0.now c.slot_at.result.1.now here.1 c.slot_at.ensures.key c.slot_at.ensures.objects in
     record {
-      here = next-here key_at slots c.known.ensures i place here.0 c.place_behind-at.result here.1 c.place_behind-at.ensures;
+      here = next-here key_at slots c.reveal_invariant.ensures i place here.0 c.next_place-at.result here.1 c.next_place-at.ensures;
       done = omega (arith, c.loop.invariant.done, c.in_ok-total.ensures.count, ap (λ (os : List Term). chosen_count choose os) own, chosen-slot choose slots i here.0 here.1.at);
       marked = joined (planned_at key_at c.args.plan.now.list.items) (planned_at key_at c.loop.plan.list.items) (planned_at key_at c.plan_slot.new.self.list.items) (plan_of choose (take i slots)) (planned choose here.0) (plan_of choose (take (i + 1) slots)) c.loop.invariant.marked
           (c.in_ok-total.ensures.plan key_at here.0.0 here.1.key ∙ ap (λ (os : List Term). planned_at key_at c.loop.plan.list.items ++ planned choose (here.0.0, os)) own) (notes-next choose slots i here.0 here.1.at);

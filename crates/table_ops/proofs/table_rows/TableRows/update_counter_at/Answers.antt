@@ -2,7 +2,7 @@ use Rattle.std.proofs.Common.{◌≡◌, [], ◌∷◌, Ok, sym, ap, subst, ◌�
 use Rattle.std.specs.Prelude.{IfOk, OnErr}
 use Rattle.ets_term.specs.declared.term.Term.{Term}
 use Rattle.bucket_table.specs.Entries.{with_objects_in}
-use Rattle.counters.specs.Counters.{updated_counters}
+use Rattle.counters.specs.Counters.{apply_ops}
 use Rattle.table_ops.proofs.UpdateLaws.{only, one-again, put-back, counts-at}
 use Rattle.table_ops.proofs.table_rows.TableRows.update_counter_at.Goals as goal
 
@@ -27,7 +27,7 @@ returns-clause-slots g c =
     let ops = c.args.ops.now in
     let now : new ≡ with_objects_in old at (object ∷ []) = put-back old mid new at own _ (object ∷ []) c.replace_one_at-object.ensures.now (c.replace_one_at-object.ensures.places c.args.place) c.replace_one_at-zero.ensures.now in
     counts-at ops at old new was object c.requires.1 now r
-    (subst (λ (t : Term). IfOk r (λ answer. updated_counters ops t ≡ Ok (object, answer))) is c.update_counter-counted.ensures.done)
-    (λ h. ap (updated_counters ops) (sym is) ∙ c.update_counter-counted.ensures.badarg.0 h)
-    (λ h. ap (updated_counters ops) (sym is) ∙ c.update_counter-counted.ensures.limit h)
+    (subst (λ (t : Term). IfOk r (λ answer. apply_ops ops t ≡ Ok (object, answer))) is c.update_counter-counted.ensures.done)
+    (λ h. ap (apply_ops ops) (sym is) ∙ c.update_counter-counted.ensures.badarg.0 h)
+    (λ h. ap (apply_ops ops) (sym is) ∙ c.update_counter-counted.ensures.limit h)
     (subst (λ (t : Term). OnErr r (object ≡ t)) is c.update_counter-counted.ensures.kept)

@@ -21,11 +21,11 @@ find_from-requires-clause-start g c =
     let J : ℕ → Type 0 = λ i. T (c.dummy_key.result / 2 ^ interval_bits) i in
     let told = subst J c.interval_of-interval.ensures (subst K c.interval_of-floor.ensures c.in-Some.ensures) in
     let key = c.item_key.ensures ∙ ap key_of_item c.requires.hash in
-    lower-start (g.H.KeyHash.number index.hasher) index.directory index.list.cells c.args.key.now interval_bits near start first index.hints.current.items index.hints.previous.items c.requires.rows.rows.split c.requires.rows.rows.hinted c.requires.rows.previous c.known.ensures.sorted c.known.ensures.apart
+    lower-start (g.H.KeyHash.hash index.hasher) index.directory index.list.cells c.args.key.now interval_bits near start first index.hints.current.items index.hints.previous.items c.requires.rows.rows.split c.requires.rows.rows.hinted c.requires.rows.previous c.reveal_invariant.ensures.sorted c.reveal_invariant.ensures.apart
     (subst N c.requires.hash c.bucket_start-bucket.ensures) (subst I key (subst D c.dummy_key.ensures told))
 
 pub find_from-requires-in-None-clause-start : goal.find_from-requires-in-None-clause-start
 find_from-requires-in-None-clause-start g c =
     let index = c.args.self.now in
     let N : ℕ → Type 0 = λ z. IsNearestReady index.directory (z % length index.directory) c.bucket_start-bucket.result.0 c.bucket_start-bucket.result.1 in
-    dummy-start (g.H.KeyHash.number index.hasher) index.directory index.list.cells c.args.key.now c.bucket_start-bucket.result.0 c.bucket_start-bucket.result.1 c.requires.rows.rows.split (subst N c.requires.hash c.bucket_start-bucket.ensures) c.known.ensures.sorted c.known.ensures.apart
+    dummy-start (g.H.KeyHash.hash index.hasher) index.directory index.list.cells c.args.key.now c.bucket_start-bucket.result.0 c.bucket_start-bucket.result.1 c.requires.rows.rows.split (subst N c.requires.hash c.bucket_start-bucket.ensures) c.reveal_invariant.ensures.sorted c.reveal_invariant.ensures.apart

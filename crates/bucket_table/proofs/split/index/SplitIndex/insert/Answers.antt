@@ -12,27 +12,27 @@ use Rattle.bucket_table.proofs.hints.Invariant.{rows-put}
 use Rattle.bucket_table.proofs.split.index.SplitIndex.insert.Goals as goal
 
 pub rehash_step-requires : goal.rehash_step-requires
-rehash_step-requires g c = record { hints = right g.H.KeyHash.number c.args.self.now c.requires.rows }
+rehash_step-requires g c = record { hints = right g.H.KeyHash.hash c.args.self.now c.requires.rows }
 
 pub search_start-before-requires : goal.search_start-before-requires
-search_start-before-requires g c = record { rows = anew g.H.KeyHash.number c.args.self.now c.requires.rows c.rehash_interval.new.self (c.rehash_interval.ensures.interval_bits ∙ c.rehash_step.ensures.interval_bits) c.rehash_interval.ensures.hints }
+search_start-before-requires g c = record { rows = anew g.H.KeyHash.hash c.args.self.now c.requires.rows c.rehash_interval.new.self (c.rehash_interval.ensures.interval_bits ∙ c.rehash_step.ensures.interval_bits) c.rehash_interval.ensures.hints }
 
 pub refresh-start-requires-clause-parity : goal.refresh-start-requires-clause-parity
-refresh-start-requires-clause-parity g c = placed-parity (g.H.KeyHash.number c.args.self.now.hasher) c.args.self.now.directory c.args.self.now.list.cells c.requires.rows.rows.split.placed
+refresh-start-requires-clause-parity g c = placed-parity (g.H.KeyHash.hash c.args.self.now.hasher) c.args.self.now.directory c.args.self.now.list.cells c.requires.rows.rows.split.placed
 
-pub insert_item-at-requires-clause-stands : goal.insert_item-at-requires-clause-stands
-insert_item-at-requires-clause-stands g c = lesser-up-to c.item_key-split_key.result c.refresh-start.result c.args.self.now.list.cells c.refresh-start.ensures.below
+pub insert_item-at-requires-clause-start : goal.insert_item-at-requires-clause-start
+insert_item-at-requires-clause-start g c = lesser-up-to c.item_key-split_key.result c.refresh-start.result c.args.self.now.list.cells c.refresh-start.ensures.below
 
 pub returns-clause-rows : goal.returns-clause-rows
 returns-clause-rows g c =
     let index = c.args.self.now in
     let cells = index.list.cells in
-    let hash_of = g.H.KeyHash.number index.hasher in
+    let hash_of = g.H.KeyHash.hash index.hasher in
     let hints = c.refresh-start.new.self in
     let split = c.item_key-split_key.result in
     let put = c.insert_item-at in
     let interval_bits = ap (λ (h : Hints). h.interval_bits) c.refresh-start.ensures.rest ∙ (c.rehash_interval.ensures.interval_bits ∙ c.rehash_step.ensures.interval_bits) in
-    let learned = anew g.H.KeyHash.number index c.requires.rows hints interval_bits c.refresh-start.ensures.hints in
+    let learned = anew g.H.KeyHash.hash index c.requires.rows hints interval_bits c.refresh-start.ensures.hints in
     let G : Hints → Type 0 = λ h. get_or h.previous.items (split / 2 ^ h.interval_bits / 2) None ≡ None in
     let S : ℕ → Type 0 = λ i. SetsFirst c.is_new_first-is_first.result i put.result hints.current.items c.set_first.new.current.items in
     let gone = subst G (sym c.refresh-start.ensures.rest) c.rehash_interval.ensures.gone in

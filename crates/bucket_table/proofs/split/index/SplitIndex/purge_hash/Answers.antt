@@ -1,6 +1,6 @@
 use Rattle.std.proofs.Common.{ℕ, List, Option, refl, sym, ◌∙◌, subst, arith}
 use Rattle.node_list.specs.Cells.{Cell}
-use Rattle.node_list.specs.Places.{behind}
+use Rattle.node_list.specs.Places.{cells_after}
 use Rattle.bucket_table.specs.inside.Nodes.{slots_of}
 use Rattle.bucket_table.specs.inside.Directory.{HaveSplitKeys}
 use Rattle.bucket_table.specs.inside.TombstoneLog.{TombstonesAreAmong}
@@ -19,37 +19,37 @@ loop-next-init g c = record {
 }
 
 pub key-requires : goal.key-requires
-key-requires g c = next-there c.loop-next.at c.in-Some.next c.loop-next.self.list.cells c.known-in-Some.ensures.apart c.loop-next.invariant.stands (sym c.in-Some.ensures)
+key-requires g c = next-there c.loop-next.at c.in-Some.next c.loop-next.self.list.cells c.reveal_invariant-in-Some.ensures.apart c.loop-next.invariant.stands (sym c.in-Some.ensures)
 
 pub returns-then-split_key-key-clause-purged : goal.returns-then-split_key-key-clause-purged
 returns-then-split_key-key-clause-purged g c =
     let s = c.requires.rows.rows.split in
     let b = c.search_start-at.ensures in
-    run-purged (g.H.KeyHash.number c.args.self.now.hasher) c.args.self.now.directory c.item_key-split_key.result c.args.hash c.item_key-split_key.ensures c.search_start-at.result c.loop-next.at c.args.self.now.list.cells c.loop-next.self.list.cells
-    b.cell b.later b.is (omega (arith, b.below, c.item_key-split_key.ensures)) c.known.ensures.sorted s.placed c.loop-next.invariant.stands c.loop-next.invariant.slots
+    run-purged (g.H.KeyHash.hash c.args.self.now.hasher) c.args.self.now.directory c.item_key-split_key.result c.args.hash c.item_key-split_key.ensures c.search_start-at.result c.loop-next.at c.args.self.now.list.cells c.loop-next.self.list.cells
+    b.cell b.later b.is (omega (arith, b.below, c.item_key-split_key.ensures)) c.reveal_invariant.ensures.sorted s.placed c.loop-next.invariant.stands c.loop-next.invariant.slots
 
 pub returns-then-split_key-key-clause-gone : goal.returns-then-split_key-key-clause-gone
 returns-then-split_key-key-clause-gone g c =
     let s = c.requires.rows.rows.split in
     let b = c.search_start-at.ensures in
     let i = c.loop-next.invariant in
-    let N : g.row.H.Denot → Type 0 = λ h. HaveSplitKeys (g.H.KeyHash.number h) c.loop-next.self.directory c.loop-next.self.list.cells in
-    let D : List (Option ℕ) → Type 0 = λ ds. HaveSplitKeys (g.H.KeyHash.number c.args.self.now.hasher) ds c.loop-next.self.list.cells in
+    let N : g.row.H.Denot → Type 0 = λ h. HaveSplitKeys (g.H.KeyHash.hash h) c.loop-next.self.directory c.loop-next.self.list.cells in
+    let D : List (Option ℕ) → Type 0 = λ ds. HaveSplitKeys (g.H.KeyHash.hash c.args.self.now.hasher) ds c.loop-next.self.list.cells in
     let placed = subst D i.keeps.directory (subst N i.keeps.hasher i.rows.rows.split.placed) in
-    let none = beyond-next (g.H.KeyHash.number c.args.self.now.hasher) c.args.self.now.directory c.item_key-split_key.result c.args.hash c.item_key-split_key.ensures c.loop-next.at c.in-Some.next c.key.result c.loop-next.self.list.cells c.known-in-Some.ensures.apart c.known-in-Some.ensures.sorted placed c.loop-next.invariant.stands (sym c.in-Some.ensures) c.key.ensures c.if-split_key-key.true in
-    run-gone (g.H.KeyHash.number c.args.self.now.hasher) c.args.self.now.directory c.item_key-split_key.result c.args.hash c.item_key-split_key.ensures c.search_start-at.result c.loop-next.at c.args.self.now.list.cells c.loop-next.self.list.cells
-    b.cell b.later b.is (omega (arith, b.below, c.item_key-split_key.ensures)) c.known.ensures.sorted s.placed c.loop-next.invariant.stands c.loop-next.invariant.slots none c.loop-next.invariant.rest
+    let none = beyond-next (g.H.KeyHash.hash c.args.self.now.hasher) c.args.self.now.directory c.item_key-split_key.result c.args.hash c.item_key-split_key.ensures c.loop-next.at c.in-Some.next c.key.result c.loop-next.self.list.cells c.reveal_invariant-in-Some.ensures.apart c.reveal_invariant-in-Some.ensures.sorted placed c.loop-next.invariant.stands (sym c.in-Some.ensures) c.key.ensures c.if-split_key-key.true in
+    run-gone (g.H.KeyHash.hash c.args.self.now.hasher) c.args.self.now.directory c.item_key-split_key.result c.args.hash c.item_key-split_key.ensures c.search_start-at.result c.loop-next.at c.args.self.now.list.cells c.loop-next.self.list.cells
+    b.cell b.later b.is (omega (arith, b.below, c.item_key-split_key.ensures)) c.reveal_invariant.ensures.sorted s.placed c.loop-next.invariant.stands c.loop-next.invariant.slots none c.loop-next.invariant.rest
 
 pub loop-next-preserved : goal.loop-next-preserved
 loop-next-preserved g c =
     let i = c.loop-next.invariant in
     let e = c.sweep_next-at.ensures in
-    let hash_of = g.H.KeyHash.number c.args.self.now.hasher in
+    let hash_of = g.H.KeyHash.hash c.args.self.now.hasher in
     record {
       rows = e.rows;
       stands = e.swept.stands;
       slots = e.swept.same_end ∙ i.slots;
-      rest = λ hs a. (let P : List Cell → Type 0 = λ zs. TombstonesAreAmong hash_of hs (slots_of zs) in subst P (sym e.swept.rest) (among-rest hash_of hs (behind c.loop-next.at c.loop-next.self.list.cells) (i.rest hs a)));
+      rest = λ hs a. (let P : List Cell → Type 0 = λ zs. TombstonesAreAmong hash_of hs (slots_of zs) in subst P (sym e.swept.rest) (among-rest hash_of hs (cells_after c.loop-next.at c.loop-next.self.list.cells) (i.rest hs a)));
       each = sweeps-on _ _ _ _ i.each e.each;
       keeps = record { hasher = e.keeps.hasher ∙ i.keeps.hasher; directory = e.keeps.directory ∙ i.keeps.directory };
     }
@@ -58,13 +58,13 @@ pub returns-clause-purged : goal.returns-clause-purged
 returns-clause-purged g c =
     let s = c.requires.rows.rows.split in
     let b = c.search_start-at.ensures in
-    run-purged (g.H.KeyHash.number c.args.self.now.hasher) c.args.self.now.directory c.item_key-split_key.result c.args.hash c.item_key-split_key.ensures c.search_start-at.result c.loop-next.at c.args.self.now.list.cells c.loop-next.self.list.cells
-    b.cell b.later b.is (omega (arith, b.below, c.item_key-split_key.ensures)) c.known.ensures.sorted s.placed c.loop-next.invariant.stands c.loop-next.invariant.slots
+    run-purged (g.H.KeyHash.hash c.args.self.now.hasher) c.args.self.now.directory c.item_key-split_key.result c.args.hash c.item_key-split_key.ensures c.search_start-at.result c.loop-next.at c.args.self.now.list.cells c.loop-next.self.list.cells
+    b.cell b.later b.is (omega (arith, b.below, c.item_key-split_key.ensures)) c.reveal_invariant.ensures.sorted s.placed c.loop-next.invariant.stands c.loop-next.invariant.slots
 
 pub returns-clause-gone : goal.returns-clause-gone
 returns-clause-gone g c =
     let s = c.requires.rows.rows.split in
     let b = c.search_start-at.ensures in
-    let none = nothing-behind (g.H.KeyHash.number c.args.self.now.hasher) c.args.hash c.loop-next.at c.loop-next.self.list.cells (sym c.after.ensures ∙ c.in_default.is) in
-    run-gone (g.H.KeyHash.number c.args.self.now.hasher) c.args.self.now.directory c.item_key-split_key.result c.args.hash c.item_key-split_key.ensures c.search_start-at.result c.loop-next.at c.args.self.now.list.cells c.loop-next.self.list.cells
-    b.cell b.later b.is (omega (arith, b.below, c.item_key-split_key.ensures)) c.known.ensures.sorted s.placed c.loop-next.invariant.stands c.loop-next.invariant.slots none c.loop-next.invariant.rest
+    let none = nothing-behind (g.H.KeyHash.hash c.args.self.now.hasher) c.args.hash c.loop-next.at c.loop-next.self.list.cells (sym c.after.ensures ∙ c.in_default.is) in
+    run-gone (g.H.KeyHash.hash c.args.self.now.hasher) c.args.self.now.directory c.item_key-split_key.result c.args.hash c.item_key-split_key.ensures c.search_start-at.result c.loop-next.at c.args.self.now.list.cells c.loop-next.self.list.cells
+    b.cell b.later b.is (omega (arith, b.below, c.item_key-split_key.ensures)) c.reveal_invariant.ensures.sorted s.placed c.loop-next.invariant.stands c.loop-next.invariant.slots none c.loop-next.invariant.rest

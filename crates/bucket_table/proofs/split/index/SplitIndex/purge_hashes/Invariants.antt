@@ -9,8 +9,8 @@ use Rattle.bucket_table.proofs.split.index.SplitIndex.purge_hashes.Given as goal
 
 abbrev pub invariant-loop-hash : goal.invariant-loop-hash
 invariant-loop-hash g l = record {
-  rows : RowsInvariant g.H.KeyHash.number l.self;
-  logged : TombstonesAreAmong (g.H.KeyHash.number l.self.hasher) l.hashes.items (slots_of l.self.list.cells);
+  rows : RowsInvariant g.H.KeyHash.hash l.self;
+  logged : TombstonesAreAmong (g.H.KeyHash.hash l.self.hasher) l.hashes.items (slots_of l.self.list.cells);
   slots : purged (slots_of l.self.list.cells) ≡ purged (slots_of l.initial.self.list.cells);
   each : Sweeps RemoveTombstones l.initial.self.list.cells l.self.list.cells;
   keeps : KeepsDirectory l.initial.self l.self;

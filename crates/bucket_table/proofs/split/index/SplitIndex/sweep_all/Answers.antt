@@ -1,5 +1,5 @@
 use Rattle.std.proofs.Common.{refl, sym, ◌∙◌, arith}
-use Rattle.node_list.proofs.CallerLaws.{head-is}
+use Rattle.node_list.proofs.CallerLaws.{head-is_place}
 use Rattle.bucket_table.proofs.sweep.Sweep.{start-end, end-end}
 use Rattle.bucket_table.proofs.sweep.Order.{sweeps-on}
 use Rattle.bucket_table.proofs.split.index.SplitIndex.sweep_all.Goals as goal
@@ -7,7 +7,7 @@ use Rattle.bucket_table.proofs.split.index.SplitIndex.sweep_all.Goals as goal
 pub loop-next-init : goal.loop-next-init
 loop-next-init g c = record {
   rows = c.requires.rows;
-  stands = head-is c.head-at.result c.args.self.now.list.cells c.head-at.ensures.first c.head-at.ensures.dummy;
+  stands = head-is_place c.head-at.result c.args.self.now.list.cells c.head-at.ensures.first c.head-at.ensures.dummy;
   slots = start-end c.args.mode c.head-at.result c.args.self.now.list.cells c.head-at.ensures.dummy c.head-at.ensures.first;
   each = record { alike = λ at. refl; len = refl; fewer = omega arith };
   keeps = record { hasher = refl; directory = refl };

@@ -1,5 +1,5 @@
 use Rattle.std.proofs.Common.{◌≡◌, length}
-use Rattle.node_list.specs.Places.{Stands, behind}
+use Rattle.node_list.specs.Places.{IsPlaceOf, cells_after}
 use Rattle.bucket_table.specs.inside.Nodes.{slots_of}
 use Rattle.bucket_table.specs.inside.SplitIndex.{RowsInvariant, KeepsDirectory}
 use Rattle.bucket_table.specs.inside.Sweeps.{Sweeps, swept, slots_after_sweep}
@@ -7,12 +7,12 @@ use Rattle.bucket_table.proofs.split.index.SplitIndex.sweep_all.Given as goal
 
 abbrev pub invariant-loop-next : goal.invariant-loop-next
 invariant-loop-next g l = record {
-  rows : RowsInvariant g.H.KeyHash.number l.self;
-  stands : Stands l.at l.self.list.cells;
+  rows : RowsInvariant g.H.KeyHash.hash l.self;
+  stands : IsPlaceOf l.at l.self.list.cells;
   slots : slots_after_sweep l.mode l.at l.self.list.cells ≡ swept l.mode (slots_of l.initial.self.list.cells);
   each : Sweeps l.mode l.initial.self.list.cells l.self.list.cells;
   keeps : KeepsDirectory l.initial.self l.self;
 }
 
 abbrev pub decreases-loop-next : goal.decreases-loop-next
-decreases-loop-next g l = length (behind l.at l.self.list.cells)
+decreases-loop-next g l = length (cells_after l.at l.self.list.cells)

@@ -16,23 +16,23 @@ use Rattle.bucket_table.proofs.sweep.Order.{alike-gone, alike-emptied}
 use Rattle.bucket_table.proofs.split.index.SplitIndex.sweep_next.Goals as goal
 
 pub action_for-requires : goal.action_for-requires
-action_for-requires g c = next-stands c.args.mode c.args.at c.args.next c.args.self.now.list.cells (neighbour c.args.at c.args.next c.args.self.now.list.cells c.known.ensures.apart c.requires.stands c.requires.next)
+action_for-requires g c = next-stands c.args.mode c.args.at c.args.next c.args.self.now.list.cells (neighbour c.args.at c.args.next c.args.self.now.list.cells c.reveal_invariant.ensures.apart c.requires.stands c.requires.next)
 
 pub take_out-slot-requires-clause-stands : goal.take_out-slot-requires-clause-stands
-take_out-slot-requires-clause-stands g c = next-item c.args.mode c.args.at c.args.next c.args.self.now.list.cells (neighbour c.args.at c.args.next c.args.self.now.list.cells c.known.ensures.apart c.requires.stands c.requires.next) c.in-Remove.ensures.0
+take_out-slot-requires-clause-stands g c = next-item c.args.mode c.args.at c.args.next c.args.self.now.list.cells (neighbour c.args.at c.args.next c.args.self.now.list.cells c.reveal_invariant.ensures.apart c.requires.stands c.requires.next) c.in-Remove.ensures.0
 
 pub returns-in-Keep-clause-swept : goal.returns-in-Keep-clause-swept
-returns-in-Keep-clause-swept g c = stays c.args.mode c.args.at c.args.next c.args.self.now.list.cells (neighbour c.args.at c.args.next c.args.self.now.list.cells c.known.ensures.apart c.requires.stands c.requires.next) c.in-Keep.ensures
+returns-in-Keep-clause-swept g c = stays c.args.mode c.args.at c.args.next c.args.self.now.list.cells (neighbour c.args.at c.args.next c.args.self.now.list.cells c.reveal_invariant.ensures.apart c.requires.stands c.requires.next) c.in-Keep.ensures
 
 pub returns-in-Remove-clause-swept : goal.returns-in-Remove-clause-swept
-returns-in-Remove-clause-swept g c = goes c.args.mode c.args.at c.args.next c.args.self.now.list.cells (neighbour c.args.at c.args.next c.args.self.now.list.cells c.known.ensures.apart c.requires.stands c.requires.next) c.take_out-slot.new.self.list.cells c.take_out-slot.ensures.cells c.in-Remove.ensures.1
+returns-in-Remove-clause-swept g c = goes c.args.mode c.args.at c.args.next c.args.self.now.list.cells (neighbour c.args.at c.args.next c.args.self.now.list.cells c.reveal_invariant.ensures.apart c.requires.stands c.requires.next) c.take_out-slot.new.self.list.cells c.take_out-slot.ensures.cells c.in-Remove.ensures.1
 
 pub returns-in-Remove-clause-each : goal.returns-in-Remove-clause-each
 returns-in-Remove-clause-each g c =
     let new = c.take_out-slot.new.self.list.cells in
-    let l = length-out (g.H.KeyHash.number c.args.self.now.hasher) c.args.self.now.directory c.args.next c.args.self.now.list.cells new c.requires.rows.rows.split c.known.ensures.apart c.in-Remove.ensures.0 c.take_out-slot.ensures.cells in
+    let l = length-out (g.H.KeyHash.hash c.args.self.now.hasher) c.args.self.now.directory c.args.next c.args.self.now.list.cells new c.requires.rows.rows.split c.reveal_invariant.ensures.apart c.in-Remove.ensures.0 c.take_out-slot.ensures.cells in
     record {
-      alike = alike-gone c.args.mode c.args.next c.args.self.now.list.cells new c.known.ensures.apart c.take_out-slot.ensures.cells c.in-Remove.ensures.1;
+      alike = alike-gone c.args.mode c.args.next c.args.self.now.list.cells new c.reveal_invariant.ensures.apart c.take_out-slot.ensures.cells c.in-Remove.ensures.1;
       len = omega (arith, l, c.take_out-slot.ensures.len);
       fewer = omega (arith, c.take_out-slot.ensures.len);
     }
@@ -40,10 +40,10 @@ returns-in-Remove-clause-each g c =
 pub returns-in-Empty-clause-rows : goal.returns-in-Empty-clause-rows
 returns-in-Empty-clause-rows g c =
     let i = c.in-Empty.ensures.0 in
-    let f = seat-found i.item.term c.args.next c.args.self.now.list.cells c.known.ensures.apart c.requires.rows.rows.split.distinct (item-seat c.args.next c.args.self.now.list.cells i) in
+    let f = seat-found i.item.term c.args.next c.args.self.now.list.cells c.reveal_invariant.ensures.apart c.requires.rows.rows.split.distinct (item-seat c.args.next c.args.self.now.list.cells i) in
     let index = c.args.self.now in
     record {
-      rows = rows-with (g.H.KeyHash.number index.hasher) index.directory index.hints.interval_bits index.hints.current.items index.list.cells c.requires.rows.rows i.item.term c.args.next c.truncate.new.self f;
+      rows = rows-with (g.H.KeyHash.hash index.hasher) index.directory index.hints.interval_bits index.hints.current.items index.list.cells c.requires.rows.rows i.item.term c.args.next c.truncate.new.self f;
       previous = hints-with (2 ^ (index.hints.interval_bits + 1)) index.hints.previous.items c.args.next c.truncate.new.self index.list.cells c.requires.rows.previous;
     }
 
@@ -52,13 +52,13 @@ returns-in-Empty-clause-swept g c =
     let none : c.truncate.new.self ≡ [] = c.truncate.ensures in
     let W : List Term → Type 0 = λ w. SweepsNext EmptyAll c.args.at c.args.self.now.list.cells c.args.next (cells_with c.args.next w c.args.self.now.list.cells) in
     let P : SweepMode → Type 0 = λ mode. SweepsNext mode c.args.at c.args.self.now.list.cells c.args.next (cells_with c.args.next c.truncate.new.self c.args.self.now.list.cells) in
-    subst P (sym c.in-Empty.ensures.1) (subst W (sym none) (empties c.args.at c.args.next c.args.self.now.list.cells (neighbour c.args.at c.args.next c.args.self.now.list.cells c.known.ensures.apart c.requires.stands c.requires.next) c.known.ensures.apart))
+    subst P (sym c.in-Empty.ensures.1) (subst W (sym none) (empties c.args.at c.args.next c.args.self.now.list.cells (neighbour c.args.at c.args.next c.args.self.now.list.cells c.reveal_invariant.ensures.apart c.requires.stands c.requires.next) c.reveal_invariant.ensures.apart))
 
 pub returns-in-Empty-clause-each : goal.returns-in-Empty-clause-each
 returns-in-Empty-clause-each g c =
     let cells = c.args.self.now.list.cells in
     let i = c.in-Empty.ensures.0 in
-    let f = seat-found i.item.term c.args.next cells c.known.ensures.apart c.requires.rows.rows.split.distinct (item-seat c.args.next cells i) in
+    let f = seat-found i.item.term c.args.next cells c.reveal_invariant.ensures.apart c.requires.rows.rows.split.distinct (item-seat c.args.next cells i) in
     let l = ap length (f.replaced c.truncate.new.self) ∙ length-set_value (same i.item.term) (slots_of cells) c.truncate.new.self in
     let m = length-with c.args.next c.truncate.new.self cells in
     let none : c.truncate.new.self ≡ [] = c.truncate.ensures in

@@ -8,5 +8,5 @@ use Rattle.bucket_table.proofs.split.rows.SplitRowsRows.first_place.Goals as goa
 pub returns : goal.returns
 returns g c =
     let cells = c.self.inside.index.list.cells in
-    let Q : SplitRowsState g.row.H.Denot → Type 0 = λ v. IsFirstPlace (key_of_place v.places) v.slots c.item_from.result in
-    subst Q c.self.view_is (first-there 0 (above cells) cells c.item_from.result (omega arith) c.item_from.ensures)
+    let Q : SplitRowsState g.row.H.Denot → Type 0 = λ v. IsFirstPlace (key_of_place v.places) v.slots c.next_item_at.result in
+    subst Q c.self.view_is (first-there 0 (above cells) cells c.next_item_at.result (omega arith) c.next_item_at.ensures)

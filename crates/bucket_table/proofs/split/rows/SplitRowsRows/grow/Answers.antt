@@ -25,11 +25,11 @@ returns-then-buckets-ge-MAX_BUCKETS-clause-ok g c =
     let items = c.self.inside.index.directory in
     let most : 2 ^ 20 ≤ length items = omega arith in
     let P : SplitRowsState g.row.H.Denot → Type 0 = λ v. length v.ready ≡ 2 ^ 20 in
-    (refl, subst P c.self.view_is (length-map items is_some ∙ at-most (g.H.KeyHash.number c.self.inside.index.hasher) items c.self.inside.index.list.cells c.self.invariant.rows.rows.split most))
+    (refl, subst P c.self.view_is (length-map items is_some ∙ at-most (g.H.KeyHash.hash c.self.inside.index.hasher) items c.self.inside.index.list.cells c.self.invariant.rows.rows.split most))
 
 pub invariant_of-self : goal.invariant_of-self
 invariant_of-self g c = record {
-  rows = subst (λ (hints : Hints). RowsInvariant g.H.KeyHash.number (record c.self.inside.index { hints = hints })) (sym c.in_err-start_generation.ensures.err) c.self.invariant.rows;
+  rows = subst (λ (hints : Hints). RowsInvariant g.H.KeyHash.hash (record c.self.inside.index { hints = hints })) (sym c.in_err-start_generation.ensures.err) c.self.invariant.rows;
   counted = c.self.invariant.counted;
   due = c.self.invariant.due;
   logged = c.self.invariant.logged;
@@ -38,8 +38,8 @@ invariant_of-self g c = record {
 pub invariant_of-self-in_err-double : goal.invariant_of-self-in_err-double
 invariant_of-self-in_err-double g c =
     let hints = c.start_generation.new.self in
-    let rows = emptied g.H.KeyHash.number c.self.inside.index c.self.invariant.rows hints c.in_ok-start_generation.ensures.rest c.in_ok-start_generation.ensures.ok in
-    let P : List (Option ℕ) → Type 0 = λ ds. ListInvariant (g.H.KeyHash.number c.self.inside.index.hasher) ds hints.interval_bits hints.current.items c.self.inside.index.list.cells in
+    let rows = emptied g.H.KeyHash.hash c.self.inside.index c.self.invariant.rows hints c.in_ok-start_generation.ensures.rest c.in_ok-start_generation.ensures.ok in
+    let P : List (Option ℕ) → Type 0 = λ ds. ListInvariant (g.H.KeyHash.hash c.self.inside.index.hasher) ds hints.interval_bits hints.current.items c.self.inside.index.list.cells in
     let D : List (Option ℕ) → Type 0 = λ ds. IsFirstUnready ds c.self.inside.first_unready in
     let same = sym c.in_err-double.ensures.err in
     record {
@@ -51,12 +51,12 @@ invariant_of-self-in_err-double g c =
 
 pub invariant_of-self-2 : goal.invariant_of-self-2
 invariant_of-self-2 g c =
-    let hash_of = g.H.KeyHash.number c.self.inside.index.hasher in
+    let hash_of = g.H.KeyHash.hash c.self.inside.index.hasher in
     let items = c.self.inside.index.directory in
     let cells = c.self.inside.index.list.cells in
     let old = c.start_generation.new.self in
     let fewer : length items < 2 ^ 20 = omega arith in
-    let cleared = emptied g.H.KeyHash.number c.self.inside.index c.self.invariant.rows old c.in_ok-start_generation.ensures.rest c.in_ok-start_generation.ensures.ok in
+    let cleared = emptied g.H.KeyHash.hash c.self.inside.index c.self.invariant.rows old c.in_ok-start_generation.ensures.rest c.in_ok-start_generation.ensures.ok in
     let unknown = hints-none (2 ^ (old.interval_bits - 1)) old.previous.items cells c.in_ok-start_generation.ensures.ok in
     let after = c.in_ok-double.ensures.ok in
     let rows = rows-grown hash_of items old.interval_bits old.current.items cells cleared.rows fewer c.double.new.self old.previous.items after unknown in

@@ -6,4 +6,4 @@ use Rattle.bucket_table.proofs.split.rows.SplitRowsRows.len.Goals as goal
 pub returns : goal.returns
 returns g c =
     c.self.invariant.counted
-    ∙ (sym (same-slots-of c.self.inside.index.list.cells c.known.ensures.apart).many ∙ ap (λ (v : SplitRowsState g.row.H.Denot). length v.slots) c.self.view_is)
+    ∙ (sym (same-slots-of c.self.inside.index.list.cells c.reveal_invariant.ensures.apart).many ∙ ap (λ (v : SplitRowsState g.row.H.Denot). length v.slots) c.self.view_is)

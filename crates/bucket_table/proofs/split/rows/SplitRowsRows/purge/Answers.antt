@@ -15,7 +15,7 @@ overflow_sub-self g c = omega (arith, c.purge_hashes.ensures.each.len, c.purge_h
 pub invariant_of-self : goal.invariant_of-self
 invariant_of-self g c =
     let e = c.purge_hashes.ensures in
-    let hash_of = g.H.KeyHash.number c.purge_hashes.new.self.hasher in
+    let hash_of = g.H.KeyHash.hash c.purge_hashes.new.self.hasher in
     let hashes = c.purge_hashes.new.hashes.items in
     let D : List (Option ℕ) → Type 0 = λ ds. IsFirstUnready ds c.self.inside.first_unready in
     let N : List Slot → Type 0 = λ ss. TombstonesAreAmong hash_of hashes ss in
@@ -32,7 +32,7 @@ returns-clause-now g c =
     ∙ ap (λ (v : SplitRowsState g.row.H.Denot). purged v.slots) c.self.view_is
 
 pub returns-clause-hash : goal.returns-clause-hash
-returns-clause-hash g c = ap (λ (h : g.row.H.Denot). g.H.KeyHash.number h) (c.purge_hashes.ensures.keeps.hasher ∙ ap (λ (v : SplitRowsState g.row.H.Denot). v.hasher) c.self.view_is)
+returns-clause-hash g c = ap (λ (h : g.row.H.Denot). g.H.KeyHash.hash h) (c.purge_hashes.ensures.keeps.hasher ∙ ap (λ (v : SplitRowsState g.row.H.Denot). v.hasher) c.self.view_is)
 
 pub returns-clause-buckets : goal.returns-clause-buckets
 returns-clause-buckets g c = ap (λ (ds : List (Option ℕ)). map is_some ds) c.purge_hashes.ensures.keeps.directory ∙ ap (λ (v : SplitRowsState g.row.H.Denot). v.ready) c.self.view_is

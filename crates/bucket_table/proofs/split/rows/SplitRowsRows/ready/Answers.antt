@@ -3,7 +3,7 @@ use Rattle.std.proofs.lemmas.List.{length-map, length-set}
 use Rattle.split_key.specs.Keys.{key_of_dummy}
 use Rattle.node_list.specs.Cells.{Cell, new_cell}
 use Rattle.node_list.specs.Changes.{put_cell}
-use Rattle.node_list.specs.Places.{IsFresh, StandsUpTo}
+use Rattle.node_list.specs.Places.{IsFresh, HasKeyAtMost}
 use Rattle.bucket_table.specs.Buckets.{IsReadied}
 use Rattle.bucket_table.specs.declared.growth.Readying.TheVariants.{Ready}
 use Rattle.bucket_table.specs.Slots.{Slot}
@@ -21,15 +21,15 @@ use Rattle.bucket_table.proofs.slots.Distinct.{slots-put-dummy}
 use Rattle.bucket_table.proofs.directory.Change.{none-is, ready-none, ready-set}
 use Rattle.bucket_table.proofs.split.rows.SplitRowsRows.ready.Goals as goal
 
-pub insert_dummy-at-requires-clause-stands : goal.insert_dummy-at-requires-clause-stands
-insert_dummy-at-requires-clause-stands g c =
-    let K : ℕ → Type 0 = λ k. StandsUpTo k c.dummy_start-start.result c.reserve.new.self.cells in
-    let Z : List Cell → Type 0 = λ zs. StandsUpTo (key_of_dummy c.args.bucket) c.dummy_start-start.result zs in
+pub insert_dummy-at-requires-clause-start : goal.insert_dummy-at-requires-clause-start
+insert_dummy-at-requires-clause-start g c =
+    let K : ℕ → Type 0 = λ k. HasKeyAtMost k c.dummy_start-start.result c.reserve.new.self.cells in
+    let Z : List Cell → Type 0 = λ zs. HasKeyAtMost (key_of_dummy c.args.bucket) c.dummy_start-start.result zs in
     subst K (sym c.dummy_key.ensures) (subst Z (sym c.in_ok-reserve.ensures.cells) c.dummy_start-start.ensures)
 
 pub rebuild_with_parent-requires-clause-rows : goal.rebuild_with_parent-requires-clause-rows
 rebuild_with_parent-requires-clause-rows g c =
-    let hash_of = g.H.KeyHash.number c.self.inside.index.hasher in
+    let hash_of = g.H.KeyHash.hash c.self.inside.index.hasher in
     let items = c.self.inside.index.directory in
     let cells = c.self.inside.index.list.cells in
     let below : c.args.bucket < length items = omega arith in
@@ -51,7 +51,7 @@ returns-clause-content g c =
     ∙ (content-dummy c.insert_dummy-at.result c.dummy_key.result c.self.inside.index.list.cells (subst F c.in_ok-reserve.ensures.cells c.insert_dummy-at.ensures.fresh) ∙ ap (λ (v : SplitRowsState g.row.H.Denot). v.slots) c.self.view_is)
 
 pub returns-clause-hash : goal.returns-clause-hash
-returns-clause-hash g c = ap (λ (h : g.row.H.Denot). g.H.KeyHash.number h) (c.rebuild_with_parent.ensures.keeps.hasher ∙ ap (λ (v : SplitRowsState g.row.H.Denot). v.hasher) c.self.view_is)
+returns-clause-hash g c = ap (λ (h : g.row.H.Denot). g.H.KeyHash.hash h) (c.rebuild_with_parent.ensures.keeps.hasher ∙ ap (λ (v : SplitRowsState g.row.H.Denot). v.hasher) c.self.view_is)
 
 pub returns-clause-ok : goal.returns-clause-ok
 returns-clause-ok g c =
@@ -80,11 +80,11 @@ first_unready-self-inside-requires-clause-most g c =
 
 pub invariant_of-self-2 : goal.invariant_of-self-2
 invariant_of-self-2 g c =
-    let hash_of = g.H.KeyHash.number c.self.inside.index.hasher in
+    let hash_of = g.H.KeyHash.hash c.self.inside.index.hasher in
     let cells = c.self.inside.index.list.cells in
     let same = ap slots_of (c.rebuild_with_parent.ensures.cells ∙ (c.insert_dummy-at.ensures.cells ∙ ap (put_cell (new_cell c.insert_dummy-at.result c.dummy_key.result None)) c.in_ok-reserve.ensures.cells))
     ∙ slots-put-dummy c.insert_dummy-at.result c.dummy_key.result cells in
-    let N : g.row.H.Denot → Type 0 = λ h. LogInvariant (g.H.KeyHash.number h) c.self.inside.log.overflowed c.self.inside.log.hashes.items (slots_of c.rebuild_with_parent.new.self.list.cells) in
+    let N : g.row.H.Denot → Type 0 = λ h. LogInvariant (g.H.KeyHash.hash h) c.self.inside.log.overflowed c.self.inside.log.hashes.items (slots_of c.rebuild_with_parent.new.self.list.cells) in
     let S : List Slot → Type 0 = λ ss. LogInvariant hash_of c.self.inside.log.overflowed c.self.inside.log.hashes.items ss in
     record {
       rows = c.rebuild_with_parent.ensures.rows;

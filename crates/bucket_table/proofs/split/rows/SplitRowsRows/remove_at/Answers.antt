@@ -23,28 +23,28 @@ use Rattle.bucket_table.proofs.split.rows.SplitRowsRows.remove_at.Goals as goal
 pub remove-slot-requires-clause-item : goal.remove-slot-requires-clause-item
 remove-slot-requires-clause-item g c =
     let P : SplitRowsState g.row.H.Denot → Type 0 = λ v. IsSome (key_of_place v.places c.args.place) in
-    let p = at-place c.args.place c.self.inside.index.list.cells c.known.ensures.apart c.self.invariant.rows.rows.split.distinct (subst P (sym c.self.view_is) c.requires) in
+    let p = at-place c.args.place c.self.inside.index.list.cells c.reveal_invariant.ensures.apart c.self.invariant.rows.rows.split.distinct (subst P (sym c.self.view_is) c.requires) in
     found-item p.key c.args.place c.self.inside.index.list.cells p.found
 
 pub overflow_sub-self : goal.overflow_sub-self
 overflow_sub-self g c =
     let P : SplitRowsState g.row.H.Denot → Type 0 = λ v. IsSome (key_of_place v.places c.args.place) in
-    let p = at-place c.args.place c.self.inside.index.list.cells c.known.ensures.apart c.self.invariant.rows.rows.split.distinct (subst P (sym c.self.view_is) c.requires) in
+    let p = at-place c.args.place c.self.inside.index.list.cells c.reveal_invariant.ensures.apart c.self.invariant.rows.rows.split.distinct (subst P (sym c.self.view_is) c.requires) in
     let l = length-removed (same p.key) (slots_of c.self.inside.index.list.cells) p.found.item.chain p.found.objects in
     omega (arith, l, c.self.invariant.counted)
 
 pub invariant_of-self : goal.invariant_of-self
 invariant_of-self g c =
     let P : SplitRowsState g.row.H.Denot → Type 0 = λ v. IsSome (key_of_place v.places c.args.place) in
-    let p = at-place c.args.place c.self.inside.index.list.cells c.known.ensures.apart c.self.invariant.rows.rows.split.distinct (subst P (sym c.self.view_is) c.requires) in
+    let p = at-place c.args.place c.self.inside.index.list.cells c.reveal_invariant.ensures.apart c.self.invariant.rows.rows.split.distinct (subst P (sym c.self.view_is) c.requires) in
     let l = length-removed (same p.key) (slots_of c.self.inside.index.list.cells) p.found.item.chain p.found.objects in
     let e = c.remove-slot.ensures in
     let new = c.remove-slot.new.self in
     let held = c.self.inside.log in
     let is = ap slots_of e.cells ∙ p.found.removed in
-    let hash_of = g.H.KeyHash.number c.self.inside.index.hasher in
+    let hash_of = g.H.KeyHash.hash c.self.inside.index.hasher in
     let D : List (Option ℕ) → Type 0 = λ ds. IsFirstUnready ds c.self.inside.first_unready in
-    let N : g.row.H.Denot → Type 0 = λ h. LogInvariant (g.H.KeyHash.number h) held.overflowed held.hashes.items (slots_of new.list.cells) in
+    let N : g.row.H.Denot → Type 0 = λ h. LogInvariant (g.H.KeyHash.hash h) held.overflowed held.hashes.items (slots_of new.list.cells) in
     let S : List Slot → Type 0 = λ ss. TombstonesAreAmong hash_of held.hashes.items ss in
     record {
       rows = e.rows;
@@ -56,7 +56,7 @@ invariant_of-self g c =
 pub returns-clause-key : goal.returns-clause-key
 returns-clause-key g c =
     let P : SplitRowsState g.row.H.Denot → Type 0 = λ v. IsSome (key_of_place v.places c.args.place) in
-    let p = at-place c.args.place c.self.inside.index.list.cells c.known.ensures.apart c.self.invariant.rows.rows.split.distinct (subst P (sym c.self.view_is) c.requires) in
+    let p = at-place c.args.place c.self.inside.index.list.cells c.reveal_invariant.ensures.apart c.self.invariant.rows.rows.split.distinct (subst P (sym c.self.view_is) c.requires) in
     let item = read-item c.args.place c.self.inside.index.list.cells p (new_item c.remove-slot.result.0 c.remove-slot.result.1) c.remove-slot.ensures.item in
     let same_key : p.key ≡ c.remove-slot.result.0 = sym p.found.same_term ∙ ap (λ (i : Item). i.term) item in
     let Q : SplitRowsState g.row.H.Denot → Type 0 = λ v. key_of_place v.places c.args.place ≡ Some c.remove-slot.result.0 in
@@ -65,32 +65,32 @@ returns-clause-key g c =
 pub returns-clause-was : goal.returns-clause-was
 returns-clause-was g c =
     let P : SplitRowsState g.row.H.Denot → Type 0 = λ v. IsSome (key_of_place v.places c.args.place) in
-    let p = at-place c.args.place c.self.inside.index.list.cells c.known.ensures.apart c.self.invariant.rows.rows.split.distinct (subst P (sym c.self.view_is) c.requires) in
+    let p = at-place c.args.place c.self.inside.index.list.cells c.reveal_invariant.ensures.apart c.self.invariant.rows.rows.split.distinct (subst P (sym c.self.view_is) c.requires) in
     let item = read-item c.args.place c.self.inside.index.list.cells p (new_item c.remove-slot.result.0 c.remove-slot.result.1) c.remove-slot.ensures.item in
     let same_key : p.key ≡ c.remove-slot.result.0 = sym p.found.same_term ∙ ap (λ (i : Item). i.term) item in
     let Q : SplitRowsState g.row.H.Denot → Type 0 = λ v. objects_of v.slots c.remove-slot.result.0 ≡ Some c.remove-slot.result.1 in
-    subst Q c.self.view_is (ap (objects_of (content_of c.self.inside.index.list.cells)) (sym same_key) ∙ (objects-same c.self.inside.index.list.cells c.known.ensures.apart c.self.invariant.rows.rows.split.distinct p.key ∙ (p.found.objects ∙ ap (λ (i : Item). Some i.chain) item)))
+    subst Q c.self.view_is (ap (objects_of (content_of c.self.inside.index.list.cells)) (sym same_key) ∙ (objects-same c.self.inside.index.list.cells c.reveal_invariant.ensures.apart c.self.invariant.rows.rows.split.distinct p.key ∙ (p.found.objects ∙ ap (λ (i : Item). Some i.chain) item)))
 
 pub returns-clause-now : goal.returns-clause-now
 returns-clause-now g c =
     let P : SplitRowsState g.row.H.Denot → Type 0 = λ v. IsSome (key_of_place v.places c.args.place) in
-    let p = at-place c.args.place c.self.inside.index.list.cells c.known.ensures.apart c.self.invariant.rows.rows.split.distinct (subst P (sym c.self.view_is) c.requires) in
+    let p = at-place c.args.place c.self.inside.index.list.cells c.reveal_invariant.ensures.apart c.self.invariant.rows.rows.split.distinct (subst P (sym c.self.view_is) c.requires) in
     let item = read-item c.args.place c.self.inside.index.list.cells p (new_item c.remove-slot.result.0 c.remove-slot.result.1) c.remove-slot.ensures.item in
     let same_key : p.key ≡ c.remove-slot.result.0 = sym p.found.same_term ∙ ap (λ (i : Item). i.term) item in
     let Q : SplitRowsState g.row.H.Denot → Type 0 = λ v. content_of c.remove-slot.new.self.list.cells ≡ without v.slots c.remove-slot.result.0 in
-    let o = ordered p.key c.args.place c.self.inside.index.list.cells c.known.ensures.apart c.self.invariant.rows.rows.split.distinct p.found in
+    let o = ordered p.key c.args.place c.self.inside.index.list.cells c.reveal_invariant.ensures.apart c.self.invariant.rows.rows.split.distinct p.found in
     subst Q c.self.view_is (ap content_of c.remove-slot.ensures.cells ∙ (o.removed ∙ ap (without (content_of c.self.inside.index.list.cells)) same_key))
 
 pub returns-clause-before : goal.returns-clause-before
 returns-clause-before g c =
     let P : SplitRowsState g.row.H.Denot → Type 0 = λ v. IsSome (key_of_place v.places c.args.place) in
-    let p = at-place c.args.place c.self.inside.index.list.cells c.known.ensures.apart c.self.invariant.rows.rows.split.distinct (subst P (sym c.self.view_is) c.requires) in
+    let p = at-place c.args.place c.self.inside.index.list.cells c.reveal_invariant.ensures.apart c.self.invariant.rows.rows.split.distinct (subst P (sym c.self.view_is) c.requires) in
     let item = read-item c.args.place c.self.inside.index.list.cells p (new_item c.remove-slot.result.0 c.remove-slot.result.1) c.remove-slot.ensures.item in
     let same_key : p.key ≡ c.remove-slot.result.0 = sym p.found.same_term ∙ ap (λ (i : Item). i.term) item in
     let Q : SplitRowsState g.row.H.Denot → Type 0 =
     λ v. (other : ℕ) (key : Term) → key_of_place v.places other ≡ Some key → ComesBefore v.slots key c.remove-slot.result.0 → key_of_place (places_of c.remove-slot.new.self.list.cells) other ≡ Some key in
     subst Q c.self.view_is (λ other key e b.
-    let apart = before-other (content_of c.self.inside.index.list.cells) key c.remove-slot.result.0 (keys-distinct c.self.inside.index.list.cells c.known.ensures.apart c.self.invariant.rows.rows.split.distinct) b in
+    let apart = before-other (content_of c.self.inside.index.list.cells) key c.remove-slot.result.0 (keys-distinct c.self.inside.index.list.cells c.reveal_invariant.ensures.apart c.self.invariant.rows.rows.split.distinct) b in
     let away : c.args.place ≢ other = λ here. apart (some-key key c.remove-slot.result.0 (key_of_place (places_of c.self.inside.index.list.cells) other) e (ap (key_of_place (places_of c.self.inside.index.list.cells)) (sym here) ∙ (p.is ∙ ap Some same_key))) in
     ap (λ (cs : List Cell). key_of_place (places_of cs) other) c.remove-slot.ensures.cells ∙ (place-stays c.args.place other c.self.inside.index.list.cells away ∙ e))
   where
@@ -98,7 +98,7 @@ returns-clause-before g c =
     some-key a b o x y = cc
 
 pub returns-clause-hash : goal.returns-clause-hash
-returns-clause-hash g c = ap (λ (h : g.row.H.Denot). g.H.KeyHash.number h) (c.remove-slot.ensures.keeps.hasher ∙ ap (λ (v : SplitRowsState g.row.H.Denot). v.hasher) c.self.view_is)
+returns-clause-hash g c = ap (λ (h : g.row.H.Denot). g.H.KeyHash.hash h) (c.remove-slot.ensures.keeps.hasher ∙ ap (λ (v : SplitRowsState g.row.H.Denot). v.hasher) c.self.view_is)
 
 pub returns-clause-buckets : goal.returns-clause-buckets
 returns-clause-buckets g c = ap (λ (ds : List (Option ℕ)). map is_some ds) c.remove-slot.ensures.keeps.directory ∙ ap (λ (v : SplitRowsState g.row.H.Denot). v.ready) c.self.view_is

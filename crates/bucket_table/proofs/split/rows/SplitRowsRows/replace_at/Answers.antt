@@ -22,30 +22,30 @@ use Rattle.bucket_table.proofs.split.rows.SplitRowsRows.replace_at.Goals as goal
 pub chain_mut-chain-requires : goal.chain_mut-chain-requires
 chain_mut-chain-requires g c =
     let P : SplitRowsState g.row.H.Denot → Type 0 = λ v. IsSome (key_of_place v.places c.args.place) in
-    let p = at-place c.args.place c.self.inside.index.list.cells c.known.ensures.apart c.self.invariant.rows.rows.split.distinct (subst P (sym c.self.view_is) c.requires) in
+    let p = at-place c.args.place c.self.inside.index.list.cells c.reveal_invariant.ensures.apart c.self.invariant.rows.rows.split.distinct (subst P (sym c.self.view_is) c.requires) in
     found-item p.key c.args.place c.self.inside.index.list.cells p.found
 
 pub key-requires : goal.key-requires
 key-requires g c =
     let P : SplitRowsState g.row.H.Denot → Type 0 = λ v. IsSome (key_of_place v.places c.args.place) in
-    let p = at-place c.args.place c.self.inside.index.list.cells c.known.ensures.apart c.self.invariant.rows.rows.split.distinct (subst P (sym c.self.view_is) c.requires) in
+    let p = at-place c.args.place c.self.inside.index.list.cells c.reveal_invariant.ensures.apart c.self.invariant.rows.rows.split.distinct (subst P (sym c.self.view_is) c.requires) in
     place-stands c.args.place c.self.inside.index.list.cells p
 
 pub item_hash-hash-requires : goal.item_hash-hash-requires
 item_hash-hash-requires g c =
     let P : SplitRowsState g.row.H.Denot → Type 0 = λ v. IsSome (key_of_place v.places c.args.place) in
-    let p = at-place c.args.place c.self.inside.index.list.cells c.known.ensures.apart c.self.invariant.rows.rows.split.distinct (subst P (sym c.self.view_is) c.requires) in
-    let key = hash-key (g.H.KeyHash.number c.self.inside.index.hasher) c.self.inside.index.directory p.key c.args.place c.self.inside.index.list.cells c.self.invariant.rows.rows.split.placed p.found c.key.result c.key.ensures in
-    let small = item-small ((g.H.KeyHash.number c.self.inside.index.hasher) p.key) in
+    let p = at-place c.args.place c.self.inside.index.list.cells c.reveal_invariant.ensures.apart c.self.invariant.rows.rows.split.distinct (subst P (sym c.self.view_is) c.requires) in
+    let key = hash-key (g.H.KeyHash.hash c.self.inside.index.hasher) c.self.inside.index.directory p.key c.args.place c.self.inside.index.list.cells c.self.invariant.rows.rows.split.placed p.found c.key.result c.key.ensures in
+    let small = item-small ((g.H.KeyHash.hash c.self.inside.index.hasher) p.key) in
     omega (arith, key, small)
 
 pub invariant_of-self : goal.invariant_of-self
 invariant_of-self g c =
     let P : SplitRowsState g.row.H.Denot → Type 0 = λ v. IsSome (key_of_place v.places c.args.place) in
-    let p = at-place c.args.place c.self.inside.index.list.cells c.known.ensures.apart c.self.invariant.rows.rows.split.distinct (subst P (sym c.self.view_is) c.requires) in
+    let p = at-place c.args.place c.self.inside.index.list.cells c.reveal_invariant.ensures.apart c.self.invariant.rows.rows.split.distinct (subst P (sym c.self.view_is) c.requires) in
     let h = p.found in
-    let rows = rows-with (g.H.KeyHash.number c.self.inside.index.hasher) c.self.inside.index.directory c.self.inside.index.hints.interval_bits c.self.inside.index.hints.current.items c.self.inside.index.list.cells c.self.invariant.rows.rows p.key c.args.place c.replace.new.dest h in
-    let hash_of = g.H.KeyHash.number c.self.inside.index.hasher in
+    let rows = rows-with (g.H.KeyHash.hash c.self.inside.index.hasher) c.self.inside.index.directory c.self.inside.index.hints.interval_bits c.self.inside.index.hints.current.items c.self.inside.index.list.cells c.self.invariant.rows.rows p.key c.args.place c.replace.new.dest h in
+    let hash_of = g.H.KeyHash.hash c.self.inside.index.hasher in
     let ss = slots_of c.self.inside.index.list.cells in
     let hs = c.log_hash.new.self.hashes.items in
     let H : ℕ → Type 0 = λ n. IsAmong n hs in
@@ -64,16 +64,16 @@ invariant_of-self g c =
 pub returns-clause-was : goal.returns-clause-was
 returns-clause-was g c =
     let P : SplitRowsState g.row.H.Denot → Type 0 = λ v. IsSome (key_of_place v.places c.args.place) in
-    let p = at-place c.args.place c.self.inside.index.list.cells c.known.ensures.apart c.self.invariant.rows.rows.split.distinct (subst P (sym c.self.view_is) c.requires) in
+    let p = at-place c.args.place c.self.inside.index.list.cells c.reveal_invariant.ensures.apart c.self.invariant.rows.rows.split.distinct (subst P (sym c.self.view_is) c.requires) in
     let Q : SplitRowsState g.row.H.Denot → Type 0 = λ v. objects_in v.slots (key_of_place v.places c.args.place) ≡ Some c.chain_mut-chain.result.now in
-    subst Q c.self.view_is (objects-there c.self.inside.index.list.cells c.known.ensures.apart c.self.invariant.rows.rows.split.distinct c.args.place p c.chain_mut-chain.result.now c.chain_mut-chain.ensures.value) ∙ ap Some (sym c.replace.ensures.value)
+    subst Q c.self.view_is (objects-there c.self.inside.index.list.cells c.reveal_invariant.ensures.apart c.self.invariant.rows.rows.split.distinct c.args.place p c.chain_mut-chain.result.now c.chain_mut-chain.ensures.value) ∙ ap Some (sym c.replace.ensures.value)
 
 pub returns-clause-now : goal.returns-clause-now
 returns-clause-now g c =
     let P : SplitRowsState g.row.H.Denot → Type 0 = λ v. IsSome (key_of_place v.places c.args.place) in
-    let p = at-place c.args.place c.self.inside.index.list.cells c.known.ensures.apart c.self.invariant.rows.rows.split.distinct (subst P (sym c.self.view_is) c.requires) in
+    let p = at-place c.args.place c.self.inside.index.list.cells c.reveal_invariant.ensures.apart c.self.invariant.rows.rows.split.distinct (subst P (sym c.self.view_is) c.requires) in
     let Q : SplitRowsState g.row.H.Denot → Type 0 = λ v. content_of (cells_with c.args.place c.replace.new.dest c.self.inside.index.list.cells) ≡ with_objects_in v.slots (key_of_place v.places c.args.place) c.args.objects in
-    subst Q c.self.view_is (objects-put c.self.inside.index.list.cells c.known.ensures.apart c.self.invariant.rows.rows.split.distinct c.args.place p c.replace.new.dest ∙ ap (with_objects_in (content_of c.self.inside.index.list.cells) (key_of_place (places_of c.self.inside.index.list.cells) c.args.place)) c.replace.ensures.after)
+    subst Q c.self.view_is (objects-put c.self.inside.index.list.cells c.reveal_invariant.ensures.apart c.self.invariant.rows.rows.split.distinct c.args.place p c.replace.new.dest ∙ ap (with_objects_in (content_of c.self.inside.index.list.cells) (key_of_place (places_of c.self.inside.index.list.cells) c.args.place)) c.replace.ensures.after)
 
 pub returns-clause-place : goal.returns-clause-place
 returns-clause-place g c = ap (λ (ps : List (ℕ × Term)). key_of_place ps c.args.place) (places-with c.args.place c.replace.new.dest c.self.inside.index.list.cells ∙ ap (λ (v : SplitRowsState g.row.H.Denot). v.places) c.self.view_is)
