@@ -148,6 +148,6 @@ def kit() -> pathlib.Path:
 
 
 def layers(programs: Programs) -> str | None:
-    """The driver of the store's layers: links the static library of the crate ets_bench."""
-    archive = programs.archive("ets_bench")
+    """The driver of the store's layers: links the static library of the crate bench_layers."""
+    archive = programs.archive("bench_layers")
     return rust("library", archive, str(kit() / "c/liblibc_c.a")) if archive else None

@@ -61,8 +61,8 @@ Part = tuple[str, ...]  # the words that run one part of a program, but for the 
 
 def ours_of(name: str, programs: Programs) -> list[Part]:
     if name == "calls":
-        return [(programs.program("calls_bench"), "times")]
-    return [(programs.program("table_bench"), part, name) for part in ("times", "bytes", "longest")]
+        return [(programs.program("bench_calls"), "times")]
+    return [(programs.program("bench_tables"), part, name) for part in ("times", "bytes", "longest")]
 
 
 def peers_of(name: str) -> list[list[Part]]:
@@ -89,7 +89,7 @@ def walks(quick: bool, programs: Programs) -> list[list[str]]:
     """A traversal of a whole table, as calls: nanoseconds an object."""
     count, turns = (10_000, 1) if quick else (1_000_000, 3)
     ets = erlang("ets_calls")
-    found = least([[*side, "walks", str(count)] for side in ([programs.program("calls_bench")], ets) if side], turns)
+    found = least([[*side, "walks", str(count)] for side in ([programs.program("bench_calls")], ets) if side], turns)
     apart, together, theirs = found["calls", "next+lookup"], found["calls", "next_lookup"], found.get(("ets", "next+lookup"))
     rows = [[f"a traversal of {count:,} objects, an object, ns", "ours", "ets", "to ets"]]
     rows.append(["next, then lookup", spread(apart), spread(theirs), ratio(apart, theirs)])
@@ -99,7 +99,7 @@ def walks(quick: bool, programs: Programs) -> list[list[str]]:
 def clients(quick: bool, programs: Programs) -> list[list[str]]:
     """Threads that call one node, each through a client of its own: nanoseconds a call of all together."""
     calls, turns = (20_000, 1) if quick else (200_000, 3)
-    ours, maps, ets = programs.program("calls_bench"), rust("maps"), erlang("ets_calls")
+    ours, maps, ets = programs.program("bench_calls"), rust("maps"), erlang("ets_calls")
     sides = [[ours], *([[maps]] if maps else []), *([ets] if ets else [])]
     peers = [name for name in CROWD if name != "shared"]
     rows = [[f"{calls:,} calls each, 90 lookups to 10 insertions, ns", *CROWD.values(), *(f"to {CROWD[name]}" for name in peers)]]

@@ -10,12 +10,12 @@ use std::hint::black_box;
 use std::time::Instant;
 use term::{Reader, print};
 
-// The crate ets_bench. Each call does a whole phase, since no value of the store crosses the border; its leading
+// The crate bench_layers. Each call does a whole phase, since no value of the store crosses the border; its leading
 // argument, the allocator, has no size.
 unsafe extern "C" {
-    fn ets_bench_read(turns: u64) -> u64;
-    fn ets_bench_print(turns: u64) -> u64;
-    fn ets_bench_list(items: u64, buckets: u64, finds: u64) -> u64;
+    fn bench_layers_read(turns: u64) -> u64;
+    fn bench_layers_print(turns: u64) -> u64;
+    fn bench_layers_list(items: u64, buckets: u64, finds: u64) -> u64;
 }
 
 const TEXT: &str = "{key123,456,[1,2,3],'Hello World'}";
@@ -32,7 +32,7 @@ fn best(mut work: impl FnMut()) -> f64 {
 
 fn text(count: u64) {
     let each = 1e9 / count as f64;
-    let ours = best(|| assert_eq!(unsafe { ets_bench_read(count) }, count * TEXT.len() as u64));
+    let ours = best(|| assert_eq!(unsafe { bench_layers_read(count) }, count * TEXT.len() as u64));
     show("store", "read", ours * each);
     let theirs = best(|| {
         for _ in 0..count {
@@ -42,7 +42,7 @@ fn text(count: u64) {
         }
     });
     show("Rust", "read", theirs * each);
-    let ours = best(|| assert_eq!(unsafe { ets_bench_print(count) }, count * TEXT.len() as u64));
+    let ours = best(|| assert_eq!(unsafe { bench_layers_print(count) }, count * TEXT.len() as u64));
     show("store", "print", ours * each);
     let object = Reader { bytes: TEXT.as_bytes(), at: 0 }.term();
     let theirs = best(|| {
@@ -61,8 +61,8 @@ const BUCKETS: u64 = 262_144;
 
 fn store_list(count: u64) {
     let each = 1e9 / count as f64;
-    let inserted = best(|| assert_eq!(unsafe { ets_bench_list(count, BUCKETS, 0) }, 0));
-    let found = best(|| assert_eq!(unsafe { ets_bench_list(count, BUCKETS, 1) }, count));
+    let inserted = best(|| assert_eq!(unsafe { bench_layers_list(count, BUCKETS, 0) }, 0));
+    let found = best(|| assert_eq!(unsafe { bench_layers_list(count, BUCKETS, 1) }, count));
     show("store", "list-insert", inserted * each);
     show("store", "list-find", (found - inserted) * each);
     show("store", "list-bytes", peak() / count as f64);

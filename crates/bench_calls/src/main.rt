@@ -1,0 +1,61 @@
+//! Times whole calls of a node, of one caller and of clients in threads, and prints lines of WHO OPERATION FIGURE:
+//! bench_calls times|walks|alone|clients|check COUNT CALLS.
+#![tactic(auto)]
+
+mod calls;
+mod clients;
+mod mixture;
+mod node;
+mod order;
+mod phases;
+mod report;
+mod walks;
+
+use report::{alone, check, crowded, times};
+use std::alloc::Global;
+use std::rt::Clock;
+use std::sync::Wait;
+use std::thread::Threads;
+use std::{env, io};
+
+/// What is taken where no number is given.
+const COUNT: u32 = 1_000;
+
+/// Does one part of the measuring: `clients` with a number of threads, each with a number of calls; the others with a
+/// number of objects or calls.
+fn run<R: Print + Alloc<A = Global> + Clock + Threads + Wait + Sync>(
+    rt: &R,
+    part: &str,
+    count: u32,
+    calls: u32,
+) -> io::Result<()> {
+    match part {
+        "times" => times(rt, count),
+        "walks" => walks::time_walks(rt, count),
+        "alone" => alone(rt, count),
+        "clients" => crowded(rt, count.max(1), calls),
+        _ => check(rt, count),
+    }
+}
+
+fn main(rt: HostRuntime) -> io::Result<()> {
+    let mut words = env::args(&rt)?;
+    let _program = words.next();
+    let part = words.next();
+    let count = words.next();
+    let calls = words.next();
+    let part = part.as_deref().unwrap_or("check");
+    run(
+        &rt,
+        part,
+        number(count.as_deref()),
+        number(calls.as_deref()),
+    )
+}
+
+fn number(word: Option<&str>) -> u32 {
+    match word {
+        Some(word) => word.parse().unwrap_or(COUNT),
+        None => COUNT,
+    }
+}

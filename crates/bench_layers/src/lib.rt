@@ -1,0 +1,10 @@
+//! The phases of the store that a bench times: each is safe, ends, and answers a number that the driver compares.
+#![tactic(auto)]
+
+mod list;
+mod lists;
+mod order;
+mod text;
+
+pub use list::bench_layers_list;
+pub use text::{bench_layers_print, bench_layers_read};

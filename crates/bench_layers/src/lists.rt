@@ -1,0 +1,94 @@
+ghost use Rattle.std.specs.Prelude.{◌≡◌, ◌+◌, ◌≤◌, ◌<◌, ◌^◌, length, vec_len, vec_capacity, IfOk, OnOk};
+ghost use Rattle.split_key.specs.Keys.{key_of_item};
+ghost use Rattle.node_list.specs.ListState.{HasRoom};
+ghost use Rattle.node_list.specs.Places.{HasKeyAtMost};
+ghost use Rattle.bench_layers.specs.Buckets.{HasDummies, IsReady};
+
+use ets_term::{Fnv, Integer, Items, KeyHash, Term};
+use node_list::{At, Chain, NodeList, Steps};
+use split_key::{bucket_of, dummy_key, item_key, laws, parent};
+use std::alloc::{AllocError, Global};
+
+/// A list and the places of the dummies of its buckets.
+#[derive(Drop)]
+pub struct Lists {
+    list: NodeList,
+    dummies: Vec<At>,
+}
+
+impl Lists {
+    /// A list of one bucket, with room for a number of nodes and buckets more.
+    pub fn new(alloc: Global, nodes: usize, buckets: usize) -> Result<Lists, AllocError>
+        ensures stands { IfOk result (λ l. HasDummies l.dummies.items l.list.cells) }
+        ensures one { IfOk result (λ l. vec_len l.dummies ≡ 1) }
+        ensures room { IfOk result (λ l. HasRoom l.list nodes) }
+        ensures spare { IfOk result (λ l. 1 + buckets ≤ vec_capacity l.dummies) }
+    {
+        let mut list = NodeList::new(alloc)?;
+        list.reserve(nodes)?;
+        let mut dummies = Vec::new(alloc);
+        dummies.push(list.head())?;
+        dummies.reserve(buckets)?;
+        Ok(Lists { list, dummies })
+    }
+
+    /// Puts the dummy of the next bucket into the list, from its parent's on.
+    pub fn add_dummy(&mut self)
+        requires stands { HasDummies self.old.dummies.items self.old.list.cells }
+        requires some { 0 < vec_len self.old.dummies }
+        requires few { vec_len self.old.dummies < 2 ^ 32 }
+        requires room { HasRoom self.old.list 1 }
+        requires spare { vec_len self.old.dummies < vec_capacity self.old.dummies }
+        ensures stands { HasDummies self.new.dummies.items self.new.list.cells }
+        ensures len { vec_len self.new.dummies ≡ vec_len self.old.dummies + 1 }
+        ensures spare { vec_capacity self.new.dummies ≡ vec_capacity self.old.dummies }
+        ensures nodes { length self.new.list.cells ≡ length self.old.list.cells + 1 }
+        ensures room { self.new.list.capacity ≡ self.old.list.capacity }
+    {
+        let bucket = self.dummies.len() as u32;
+        let before = parent(bucket);
+        laws::parent_stands_before(bucket, before);
+        let start = self.dummies[before as usize];
+        let at = self.list.insert_dummy(start, dummy_key(bucket));
+        self.dummies.push_reserved(at);
+    }
+
+    /// Where a search or an insertion by this hash begins: the dummy of its bucket.
+    fn start(&self, hash: u32) -> At
+        requires { IsReady self.now }
+        ensures { HasKeyAtMost (key_of_item hash) result self.now.list.cells }
+    {
+        let buckets = self.dummies.len() as u32;
+        let bucket = bucket_of(hash, buckets);
+        laws::bucket_is_interval(hash, bucket, buckets);
+        self.dummies[bucket as usize]
+    }
+
+    /// Puts the object `{K,1}` of a number K into its bucket.
+    pub fn add_item(&mut self, alloc: Global, number: Integer) -> Result<(), AllocError>
+        requires ready { IsReady self.old }
+        requires room { HasRoom self.old.list 1 }
+        ensures ready { IsReady self.new }
+        ensures nodes { OnOk result (length self.new.list.cells ≡ length self.old.list.cells + 1) }
+        ensures room { self.new.list.capacity ≡ self.old.list.capacity }
+    {
+        let fields = vec![in alloc; Term::Int(number), Term::Int(1)]?;
+        let object = Term::Tuple(Items::from_vec(fields));
+        let key = Term::Int(number);
+        let hash = Fnv.hash32(&key);
+        let start = self.start(hash);
+        self.list
+            .insert_item(start, item_key(hash), key, Chain::one(alloc, object));
+        Ok(())
+    }
+
+    /// Returns whether an item of this number is in its bucket.
+    pub fn has_item(&self, number: Integer, steps: &mut Steps) -> bool
+        requires { IsReady self.now }
+    {
+        let key = Term::Int(number);
+        let hash = Fnv.hash32(&key);
+        let start = self.start(hash);
+        self.list.find(start, item_key(hash), &key, steps).is_some()
+    }
+}

@@ -1,0 +1,51 @@
+//! Times a table and its rows, phase by phase, and prints lines of WHO OPERATION FIGURE: bench_tables times|longest|bytes|check rows|table COUNT.
+#![tactic(auto)]
+
+mod order;
+mod phases;
+mod report;
+mod rows;
+mod store;
+mod table;
+
+use bucket_table::SplitRows;
+use ets_term::Fnv;
+use report::{check, longest, measure, times};
+use std::alloc::Global;
+use std::rt::{Clock, Files};
+use std::{env, io};
+use store::Store;
+use table_ops::Table;
+
+/// The number of objects that is taken where no other is asked for.
+const OBJECTS: u64 = 1_000_000;
+
+/// Does one part of the measuring for one store.
+fn run<S: Store>(
+    rt: &(impl Print + Alloc<A = Global> + Clock + Files),
+    part: &str,
+    count: u64,
+) -> io::Result<()> {
+    match part {
+        "times" => times::<S>(rt, count),
+        "longest" => longest::<S>(rt, count),
+        "bytes" => measure::<S>(rt, count),
+        _ => check::<S>(rt, count),
+    }
+}
+
+fn main(rt: HostRuntime) -> io::Result<()> {
+    let mut words = env::args(&rt)?;
+    let _program = words.next();
+    let part = words.next();
+    let store = words.next();
+    let count = match words.next() {
+        Some(word) => word.parse().unwrap_or(OBJECTS),
+        None => OBJECTS,
+    };
+    let part = part.as_deref().unwrap_or("check");
+    match store.as_deref() {
+        Some("table") => run::<Table<SplitRows<Fnv>>>(&rt, part, count),
+        _ => run::<SplitRows<Fnv>>(&rt, part, count),
+    }
+}

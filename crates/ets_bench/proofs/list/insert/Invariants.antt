@@ -1,6 +1,0 @@
-use Rattle.node_list.specs.ListState.{HasRoom}
-use Rattle.ets_bench.specs.Buckets.{IsReady}
-use Rattle.ets_bench.proofs.list.insert.Given as goal
-
-abbrev pub invariant-loop-i : goal.invariant-loop-i
-invariant-loop-i l = record { ready : IsReady l.lists; room : HasRoom l.lists.list l.left }

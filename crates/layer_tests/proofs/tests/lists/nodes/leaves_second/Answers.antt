@@ -1,6 +1,0 @@
-use Rattle.node_list.proofs.CallerLaws.{put-has_item, put-keeps_item}
-use Rattle.layer_tests.proofs.tests.lists.nodes.leaves_second.Goals as goal
-
-pub unlinks-requires : goal.unlinks-requires
-unlinks-requires c =
-    put-keeps_item _ _ _ _ c.in_ok-add_item.ensures.cells c.in_ok-add_item.ensures.fresh (put-has_item _ _ _ _ _ c.in_ok-first.ensures.cells c.in_ok-first.ensures.fresh)

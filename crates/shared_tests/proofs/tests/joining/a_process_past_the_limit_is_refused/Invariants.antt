@@ -1,4 +1,0 @@
-use Rattle.shared_tests.proofs.tests.joining.a_process_past_the_limit_is_refused.Given as goal
-
-abbrev pub ghosts-second_of_one : goal.ghosts-second_of_one
-ghosts-second_of_one g a = record { name = a.blank.name; parts = a.blank.parts }

@@ -1,8 +1,0 @@
-use Rattle.std.proofs.Common.{sym, subst}
-use Rattle.std.specs.List.{IsDistinct}
-use Rattle.bucket_table.specs.Slots.{HasDistinctKeys}
-use Rattle.table_tests.proofs.tests.rows.calls.put.Goals as goal
-
-pub put-requires-clause-distinct : goal.put-requires-clause-distinct
-unfolding IsDistinct
-put-requires-clause-distinct g c = subst HasDistinctKeys (sym c.in_ok-vec.ensures.items) (tt, tt)
