@@ -164,12 +164,12 @@ fn never_falls<R: Rows>(
 /// Does so with the pattern of a key and the specification that chooses the objects below it.
 fn never_falls_under<R: Rows>(alloc: Global, table: &mut Table<R>, key: Integer) -> Option<bool> {
     let mut looks = Looks::new();
-    looks.tick();
     let pattern = under(alloc, key)?;
     let Some(spec) = below(alloc, key) else {
         drop(pattern);
         return None;
     };
+    let _ = count_of(table.matches_counted(&pattern, &mut looks).ok());
     let never = never_falls(table, &pattern, &spec, &mut looks);
     drop(spec);
     drop(pattern);
