@@ -20,8 +20,8 @@ fn make(alloc: Global, world: &mut Tables, pid: u32, heir: u32) -> Result<(), Wo
 
 /// Whose the table is, and whether it is fixed; GONE if it does not exist.
 fn seen(world: &Tables, id: u32) -> (u32, bool) {
-    match (world.head(id), world.table(id)) {
-        (Some(head), Some(table)) => (head.owner, table.is_fixed()),
+    match (world.metadata(id), world.table(id)) {
+        (Some(metadata), Some(table)) => (metadata.owner, table.is_fixed()),
         _ => (GONE, false),
     }
 }
