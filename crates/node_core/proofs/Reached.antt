@@ -7,7 +7,7 @@ use Rattle.ets_term.specs.Order.{same}
 use Rattle.bucket_table.specs.Slots.{HasDistinctKeys}
 use Rattle.ownership.specs.World.{Table, Tables, table_at, metadata_of, all_metadata, is_named, whereis}
 use Rattle.ownership.specs.inside.Names.{metadata_at}
-use Rattle.ownership.proofs.MetadataLaws.{head-there}
+use Rattle.ownership.proofs.MetadataLaws.{metadata-there}
 use Rattle.ownership.proofs.Naming.{is_within}
 use Rattle.ownership.proofs.Places.{position-None}
 use Rattle.node_core.specs.declared.limits.Limits.{Limits}
@@ -59,7 +59,7 @@ HasDistinctNames s = (t u : ℕ) (one other : Table) → table_at s.world.tables
 -- a name that no table has is not that of a named table
 none-named : (ts : Tables) (name : List ℕ) (u : ℕ) (was : Table) → whereis ts name ≡ None → table_at ts u ≡ Some was → was.metadata.named ≡ true → was.metadata.name ≡ name → ⊥
 none-named ts name u was none at named same =
-    let there : metadata_at (all_metadata ts) u ≡ Some was.metadata = head-there ts u ∙ ap metadata_of at in
+    let there : metadata_at (all_metadata ts) u ≡ Some was.metadata = metadata-there ts u ∙ ap metadata_of at in
     let within = is_within (all_metadata ts) u was.metadata there in
     let is : is_named name (metadata_at (all_metadata ts) u) ≡ true = ap (is_named name) there ∙ (ap (λ b. b && bytes_eq name was.metadata.name) named ∙ (bytes_eq-Decides name was.metadata.name).1 (sym same)) in
     true≢false (sym is ∙ position-None (is_named name) (all_metadata ts) u None none within)
