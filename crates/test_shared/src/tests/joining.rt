@@ -11,13 +11,13 @@ use std::sync::Wait;
 use std::sync::ledger::{Blank, Ledger};
 use std::test::Fail;
 
-fn opens(alloc: Global, count: usize) -> bool {
-    Pids::open(alloc, count).is_ok()
+fn opens_the_most(alloc: Global) -> bool {
+    Pids::open(alloc, 4_096).is_ok()
 }
 
 #[test]
 fn no_more_numbers_than_the_most(rt: HostRuntime) {
-    assert!(rt; opens(rt.alloc(), 4_096));
+    assert!(rt; opens_the_most(rt.alloc()));
     assert!(rt; matches!(Pids::open(rt.alloc(), 4_097), Err(PidsFault::TooMany)));
 }
 
