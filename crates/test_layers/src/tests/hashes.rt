@@ -51,7 +51,10 @@ fn hash_of_an_integer(number: Integer) -> u32 {
 /// Returns whether the crate's hash of the atom of each text is that of its encoding, which ends with the text.
 fn are_hashed_as_atoms(alloc: Global, rows: &[(&'static str, u32)]) -> bool {
     for (text, _) in rows {
-        let front = fnv_1a(&[2, text.len() as u8]);
+        let Ok(length) = u8::try_from(text.len()) else {
+            return false;
+        };
+        let front = fnv_1a(&[2, length]);
         let whole = fnv_1a_from(front, text.as_bytes());
         if hash_of_an_atom(alloc, *text) != Some(whole) {
             return false;
