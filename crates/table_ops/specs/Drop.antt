@@ -16,7 +16,7 @@ Which = Term → Term → Bool
 abbrev pub remaining : Which → Slot → List Term
 remaining which slot = filter (λ object. not (which slot.0 object)) slot.1
 
--- the slots after a deletion (D7): a slot that loses its last object stays as a tombstone if `hold`, else it is
+-- the slots after a deletion: a slot that loses its last object stays as a tombstone if `hold`, else it is
 -- removed; a tombstone stays
 abbrev pub after_drop : Bool → Which → List Slot → List Slot
 after_drop hold which [] = []
