@@ -69,9 +69,9 @@ fn work_together<L: Ledger + Send + Sync, R: Alloc<A = Global> + Clock + Threads
     let alloc = rt.alloc();
     let work = work(rt, alloc, shared, clients, calls)?;
     let start = Instant::now(rt)?;
-    let worked = run_clients(rt, alloc, shared, work, &Open)?;
+    let workers = run_clients(rt, alloc, shared, work, &Open)?;
     let nanoseconds = nanoseconds(start.elapsed(rt)?);
-    let found = found_by(worked.as_slice());
+    let found = found_by(workers.as_slice());
     Ok(Outcome { nanoseconds, found })
 }
 
@@ -85,7 +85,7 @@ fn work<L: Ledger, R: Wait>(
 ) -> Result<Vec<(Client<L>, Vec<Job>)>, AllocError>
     requires { 0 < clients }
 {
-    let mut clients = joined(rt, alloc, shared, clients)?;
+    let mut clients = join_clients(rt, alloc, shared, clients)?;
     if let Some(first) = clients.first_mut() {
         fill(rt, alloc, shared, first)?;
     }
@@ -98,7 +98,7 @@ fn work<L: Ledger, R: Wait>(
 }
 
 /// A number of clients.
-fn joined<L: Ledger, R: Wait>(
+fn join_clients<L: Ledger, R: Wait>(
     rt: &R,
     alloc: Global,
     shared: &Shared<L, Fnv>,
@@ -109,10 +109,10 @@ fn joined<L: Ledger, R: Wait>(
     let Ok((pids, seats)) = Pids::open(alloc, clients as usize) else {
         return Err(AllocError);
     };
-    seated(rt, alloc, shared, &pids, seats)
+    clients_of_seats(rt, alloc, shared, &pids, seats)
 }
 
-fn seated<L: Ledger, R: Wait>(
+fn clients_of_seats<L: Ledger, R: Wait>(
     rt: &R,
     alloc: Global,
     shared: &Shared<L, Fnv>,

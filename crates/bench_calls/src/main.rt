@@ -11,7 +11,7 @@ mod phases;
 mod report;
 mod walks;
 
-use report::{alone, check, crowded, times};
+use report::{check, time_alone, time_crowd, times};
 use std::alloc::Global;
 use std::rt::Clock;
 use std::sync::Wait;
@@ -32,8 +32,8 @@ fn run<R: Print + Alloc<A = Global> + Clock + Threads + Wait + Sync>(
     match part {
         "times" => times(rt, count),
         "walks" => walks::time_walks(rt, count),
-        "alone" => alone(rt, count),
-        "clients" => crowded(rt, count.max(1), calls),
+        "alone" => time_alone(rt, count),
+        "clients" => time_crowd(rt, count.max(1), calls),
         _ => check(rt, count),
     }
 }

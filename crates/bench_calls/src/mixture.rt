@@ -1,6 +1,6 @@
 //! A mixture of calls on a table that has all keys: nine lookups, then an insertion, and so on.
 use crate::calls::{insert, of_key};
-use crate::order::shuffled;
+use crate::order::shuffle;
 use node_core::Call;
 use std::alloc::{AllocError, Global};
 use std::io;
@@ -11,7 +11,7 @@ pub(crate) const KEYS: u64 = 10_000;
 /// A number of calls, in an order of the seed's own.
 pub(crate) fn mixture(alloc: Global, calls: u32, seed: u64) -> Result<Vec<Call>, AllocError> {
     let mut mixture = Vec::new(alloc);
-    for (at, k) in shuffled(alloc, u64::from(calls), seed)?.iter().enumerate() {
+    for (at, k) in shuffle(alloc, u64::from(calls), seed)?.iter().enumerate() {
         let k = k % KEYS;
         let call = if at % 10 == 9 {
             insert(alloc, k)?

@@ -20,12 +20,12 @@ pub(crate) fn with_table(alloc: Global) -> Result<Node<Fnv>, AllocError> {
 }
 
 fn begin(alloc: Global, node: &mut Node<Fnv>) -> Result<(), AllocError> {
-    done(node, Step::Enrol(PID))?;
-    done(node, asks(new_table(alloc)?))
+    run_step(node, Step::Enrol(PID))?;
+    run_step(node, asks(new_table(alloc)?))
 }
 
 /// Does a step, and lets the reply go.
-fn done(node: &mut Node<Fnv>, step: Step) -> Result<(), AllocError> {
+fn run_step(node: &mut Node<Fnv>, step: Step) -> Result<(), AllocError> {
     match node.step(&step) {
         Ok(_) => Ok(()),
         Err(fault) => Err(fault),
@@ -45,14 +45,14 @@ pub(crate) fn grow(node: &mut Node<Fnv>) -> Result<(), AllocError> {
 
 fn tend(node: &mut Node<Fnv>) -> Result<(), AllocError> {
     match node.due() {
-        Some(step) => done(node, step),
+        Some(step) => run_step(node, step),
         None => Ok(()),
     }
 }
 
 /// Puts the object of a key in, and does two steps of growth.
 pub(crate) fn put(alloc: Global, node: &mut Node<Fnv>, k: u64) -> Result<(), AllocError> {
-    done(node, asks(insert(alloc, k)?))?;
+    run_step(node, asks(insert(alloc, k)?))?;
     grow(node)
 }
 
@@ -65,7 +65,7 @@ pub(crate) fn fill(alloc: Global, node: &mut Node<Fnv>) -> Result<(), AllocError
 }
 
 /// The steps of a mixture of calls.
-pub(crate) fn mixed_steps(alloc: Global, calls: u32) -> Result<Vec<Step>, AllocError> {
+pub(crate) fn mixture_steps(alloc: Global, calls: u32) -> Result<Vec<Step>, AllocError> {
     let mut steps = Vec::new(alloc);
     for call in mixture(alloc, calls, 1)? {
         steps.push(asks(call))?;

@@ -1,7 +1,7 @@
 //! The phases of the life of a table: one step for each key, in an order of the phase's own.
 use crate::calls::{count_up, has_found, insert, is_atom, of_key, write, write_or};
 use crate::node::{asks, grow};
-use crate::order::shuffled;
+use crate::order::shuffle;
 use ets_term::{Fnv, Term};
 use node_core::{Call, Node, Reply, Step};
 use std::alloc::{AllocError, Global};
@@ -44,7 +44,7 @@ impl Phase {
     /// The steps, of a number of keys.
     pub(crate) fn steps(self, alloc: Global, count: u32) -> Result<Vec<Step>, AllocError> {
         let mut steps = Vec::new(alloc);
-        for k in shuffled(alloc, u64::from(count), self.seed())? {
+        for k in shuffle(alloc, u64::from(count), self.seed())? {
             steps.push(asks(self.call(alloc, k, count)?))?;
         }
         Ok(steps)

@@ -2,7 +2,7 @@ ghost use Rattle.std.specs.Prelude.{◌<◌};
 
 use crate::clients::crowd;
 use crate::mixture::Outcome;
-use crate::node::{ask_all, fill, mixed_steps, with_table};
+use crate::node::{ask_all, fill, mixture_steps, with_table};
 use crate::phases::{PHASES, Phase};
 use crate::walks;
 use ets_term::Fnv;
@@ -26,12 +26,12 @@ fn repeats(count: u32) -> u32 {
 
 /// A phase, and the least time that it has taken, in nanoseconds.
 #[derive(Drop)]
-struct Timed {
+struct PhaseTime {
     phase: Phase,
     best: u64,
 }
 
-impl Timed {
+impl PhaseTime {
     /// Does the phase once more. Its steps are made before the clock runs.
     fn turn(
         &mut self,
@@ -50,11 +50,11 @@ impl Timed {
     }
 }
 
-fn all_phases(alloc: Global) -> Result<Vec<Timed>, AllocError> {
+fn all_phases(alloc: Global) -> Result<Vec<PhaseTime>, AllocError> {
     let mut all = Vec::new(alloc);
     for phase in PHASES {
         let best = u64::MAX;
-        all.push(Timed { phase, best })?;
+        all.push(PhaseTime { phase, best })?;
     }
     Ok(all)
 }
@@ -62,7 +62,7 @@ fn all_phases(alloc: Global) -> Result<Vec<Timed>, AllocError> {
 /// Takes a table through all phases.
 fn one_life(
     rt: &(impl Print + Alloc<A = Global> + Clock),
-    phases: &mut [Timed],
+    phases: &mut [PhaseTime],
     count: u32,
 ) -> io::Result<()> {
     let mut node = with_table(rt.alloc())?;
@@ -72,11 +72,11 @@ fn one_life(
 fn live(
     rt: &(impl Print + Alloc<A = Global> + Clock),
     node: &mut Node<Fnv>,
-    phases: &mut [Timed],
+    phases: &mut [PhaseTime],
     count: u32,
 ) -> io::Result<()> {
-    for timed in phases {
-        timed.turn(rt, node, count)?;
+    for time in phases {
+        time.turn(rt, node, count)?;
     }
     Ok(())
 }
@@ -87,11 +87,11 @@ pub(crate) fn times(rt: &(impl Print + Alloc<A = Global> + Clock), count: u32) -
     for _turn in 0..repeats(count) {
         one_life(rt, phases.as_mut_slice(), count)?;
     }
-    for timed in phases.as_slice() {
-        let tenths = timed.best.saturating_mul(10) / u64::from(count.max(1));
+    for time in phases.as_slice() {
+        let tenths = time.best.saturating_mul(10) / u64::from(count.max(1));
         println!(rt;
             "calls {} {}.{}",
-            timed.phase.name(),
+            time.phase.name(),
             tenths / 10,
             tenths % 10
         )?;
@@ -100,18 +100,21 @@ pub(crate) fn times(rt: &(impl Print + Alloc<A = Global> + Clock), count: u32) -
 }
 
 /// Prints nanoseconds a step of a mixture of steps of one caller.
-pub(crate) fn alone(rt: &(impl Print + Alloc<A = Global> + Clock), calls: u32) -> io::Result<()> {
+pub(crate) fn time_alone(
+    rt: &(impl Print + Alloc<A = Global> + Clock),
+    calls: u32,
+) -> io::Result<()> {
     let mut node = with_table(rt.alloc())?;
-    mixed(rt, &mut node, calls)
+    time_mixture(rt, &mut node, calls)
 }
 
-fn mixed(
+fn time_mixture(
     rt: &(impl Print + Alloc<A = Global> + Clock),
     node: &mut Node<Fnv>,
     calls: u32,
 ) -> io::Result<()> {
     fill(rt.alloc(), node)?;
-    let steps = mixed_steps(rt.alloc(), calls)?;
+    let steps = mixture_steps(rt.alloc(), calls)?;
     let start = Instant::now(rt)?;
     let found = ask_all(node, steps.as_slice())?;
     let nanoseconds = nanoseconds(start.elapsed(rt)?);
@@ -119,7 +122,7 @@ fn mixed(
 }
 
 /// Prints nanoseconds a call of a number of clients, which ask a number of each at once.
-pub(crate) fn crowded<R: Print + Alloc<A = Global> + Clock + Threads + Wait + Sync>(
+pub(crate) fn time_crowd<R: Print + Alloc<A = Global> + Clock + Threads + Wait + Sync>(
     rt: &R,
     clients: u32,
     calls: u32,

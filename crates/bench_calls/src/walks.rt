@@ -1,7 +1,7 @@
 //! Walks over a whole table: by the next key and then a lookup of it, or by both in one call.
 use crate::calls::{first, has_found, is_entry, number_in, of_key};
 use crate::node::{asks, put, with_table};
-use crate::order::shuffled;
+use crate::order::shuffle;
 use crate::report::nanoseconds;
 use ets_term::Fnv;
 use node_core::{Node, Step};
@@ -42,41 +42,41 @@ impl Walks {
 /// All keys, as `first` and `next` tell them.
 fn keys_in_order(alloc: Global, node: &mut Node<Fnv>, count: u32) -> Result<Vec<u64>, AllocError> {
     let mut keys = Vec::new(alloc);
-    let mut next = told_key(node, asks(first(alloc)?))?;
+    let mut next = run_for_key(node, asks(first(alloc)?))?;
     for _key in 0..count {
         let Some(key) = next else {
             return Ok(keys);
         };
         keys.push(key)?;
-        next = told_key(node, asks(of_key(alloc, "next", key)?))?;
+        next = run_for_key(node, asks(of_key(alloc, "next", key)?))?;
     }
     Ok(keys)
 }
 
-/// Does a step, and answers the key that it told.
-fn told_key(node: &mut Node<Fnv>, step: Step) -> Result<Option<u64>, AllocError> {
+/// Does a step, and answers the key that it found.
+fn run_for_key(node: &mut Node<Fnv>, step: Step) -> Result<Option<u64>, AllocError> {
     let reply = node.step(&step)?;
     Ok(number_in(&reply))
 }
 
 /// Puts a number of objects in, in an order that jumps about.
 fn fill(alloc: Global, node: &mut Node<Fnv>, count: u32) -> Result<(), AllocError> {
-    for k in shuffled(alloc, u64::from(count), 1)? {
+    for k in shuffle(alloc, u64::from(count), 1)? {
         put(alloc, node, k)?;
     }
     Ok(())
 }
 
-/// Does the steps, and answers how many told an object.
-fn told(node: &mut Node<Fnv>, steps: &[Step]) -> Result<u64, AllocError> {
-    let mut told: u64 = 0;
+/// Does the steps, and answers how many found an object.
+fn count_found(node: &mut Node<Fnv>, steps: &[Step]) -> Result<u64, AllocError> {
+    let mut found: u64 = 0;
     for step in steps {
-        told = told.wrapping_add(u64::from(tells(node, step)?));
+        found = found.wrapping_add(u64::from(is_found(node, step)?));
     }
-    Ok(told)
+    Ok(found)
 }
 
-fn tells(node: &mut Node<Fnv>, step: &Step) -> Result<bool, AllocError> {
+fn is_found(node: &mut Node<Fnv>, step: &Step) -> Result<bool, AllocError> {
     let reply = node.step(step)?;
     Ok(has_found(&reply) || is_entry(&reply))
 }
@@ -87,10 +87,10 @@ pub(crate) fn time_walks(
     count: u32,
 ) -> io::Result<()> {
     let mut node = with_table(rt.alloc())?;
-    walked(rt, &mut node, count)
+    time_both(rt, &mut node, count)
 }
 
-fn walked(
+fn time_both(
     rt: &(impl Print + Alloc<A = Global> + Clock),
     node: &mut Node<Fnv>,
     count: u32,
@@ -99,45 +99,48 @@ fn walked(
     let walks = Walks::over(rt.alloc(), node, count)?;
     let (mut apart, mut together) = (u64::MAX, u64::MAX);
     for _turn in 0..TURNS {
-        apart = apart.min(timed(rt, node, walks.apart.as_slice(), count)?);
-        together = together.min(timed(rt, node, walks.together.as_slice(), count)?);
+        apart = apart.min(time_steps(rt, node, walks.apart.as_slice(), count)?);
+        together = together.min(time_steps(rt, node, walks.together.as_slice(), count)?);
     }
     println!(rt; "calls next+lookup {}", apart / u64::from(count.max(1)))?;
     println!(rt; "calls next_lookup {}", together / u64::from(count.max(1)))
 }
 
 /// The nanoseconds that these steps take.
-fn timed(
+fn time_steps(
     rt: &(impl Print + Alloc<A = Global> + Clock),
     node: &mut Node<Fnv>,
     steps: &[Step],
     count: u32,
 ) -> io::Result<u64> {
     let start = Instant::now(rt)?;
-    let told = told(node, steps)?;
+    let found = count_found(node, steps)?;
     let spent = nanoseconds(start.elapsed(rt)?);
-    if told.wrapping_add(1) != u64::from(count) {
+    if found.wrapping_add(1) != u64::from(count) {
         println!(rt; "a walk went wrong")?;
     }
     Ok(spent)
 }
 
-/// Prints how many objects either walk tells after the first.
+/// Prints how many objects either traversal finds after the first.
 pub(crate) fn check(rt: &(impl Print + Alloc<A = Global>), count: u32) -> io::Result<()> {
     let mut node = with_table(rt.alloc())?;
-    checked(rt, &mut node, count)
+    check_both(rt, &mut node, count)
 }
 
-fn checked(
+fn check_both(
     rt: &(impl Print + Alloc<A = Global>),
     node: &mut Node<Fnv>,
     count: u32,
 ) -> io::Result<()> {
     fill(rt.alloc(), node, count)?;
     let walks = Walks::over(rt.alloc(), node, count)?;
-    println!(rt; "calls next+lookup {}", told(node, walks.apart.as_slice())?)?;
+    println!(rt;
+        "calls next+lookup {}",
+        count_found(node, walks.apart.as_slice())?
+    )?;
     println!(rt;
         "calls next_lookup {}",
-        told(node, walks.together.as_slice())?
+        count_found(node, walks.together.as_slice())?
     )
 }

@@ -1,7 +1,7 @@
 //! The handle that a caller in C keeps: what `yoyoash_store` is.
 ghost use Rattle.std.specs.Prelude.{◌≡◌, None, Some, MatchOption, is_some};
 
-use crate::held::{Held, Loose};
+use crate::store_ptr::{RawBox, StorePtr};
 use node_text::Store;
 use std::alloc::Global;
 use std::mem;
@@ -11,29 +11,29 @@ use std::mem;
 #[repr(C)]
 #[derive(Drop)]
 pub struct Handle {
-    pub held: Held,
+    pub pointer: StorePtr,
     pub is_open: bool,
-    ghost tells: { is_open ≡ is_some held.store },
+    ghost says_open: { is_open ≡ is_some pointer.store },
 }
 
 impl Handle {
-    fn closed(alloc: Global) -> Handle
-        ensures { result.held.store ≡ None }
+    fn make_closed(alloc: Global) -> Handle
+        ensures { result.pointer.store ≡ None }
     {
         Handle {
-            held: Held::empty(alloc),
+            pointer: StorePtr::empty(alloc),
             is_open: false,
         }
     }
 
     /// Takes the store out, which leaves the handle closed.
     pub(crate) fn take(&mut self, alloc: Global) -> Option<Box<Store>>
-        ensures taken { MatchOption result (self.old.held.store ≡ None) (λ b. self.old.held.store ≡ Some b.value) }
-        ensures closed { self.new.held.store ≡ None }
+        ensures taken { MatchOption result (self.old.pointer.store ≡ None) (λ b. self.old.pointer.store ≡ Some b.value) }
+        ensures closed { self.new.pointer.store ≡ None }
     {
-        let Handle { held, is_open } = mem::replace(self, Handle::closed(alloc));
+        let Handle { pointer, is_open } = mem::replace(self, Handle::make_closed(alloc));
         if is_open {
-            Some(held.into_loose().into_box())
+            Some(pointer.into_raw_box().into_box())
         } else {
             None
         }
@@ -41,11 +41,11 @@ impl Handle {
 
     /// Puts a store into a closed handle.
     pub(crate) fn put(&mut self, store: Box<Store>)
-        requires { self.old.held.store ≡ None }
-        ensures { self.new.held.store ≡ Some store.value }
+        requires { self.old.pointer.store ≡ None }
+        ensures { self.new.pointer.store ≡ Some store.value }
     {
         *self = Handle {
-            held: Held::of_loose(Loose::of(store)),
+            pointer: StorePtr::from_raw_box(RawBox::from_box(store)),
             is_open: true,
         };
     }

@@ -18,11 +18,11 @@
 
 ghost use Rattle.std.specs.Prelude.{◌≡◌, None};
 ghost use Rattle.node_core.specs.declared.step.Step.TheVariants.{Enrol, End};
-ghost use Rattle.node_text.specs.Answers.{told};
-ghost use Rattle.node_text.specs.Calls.{Opens, Steps, Calls, TellsAgain, TellsReason};
+ghost use Rattle.node_text.specs.Answers.{written_reply};
+ghost use Rattle.node_text.specs.Calls.{HandleOpens, HandleSteps, HandleCalls, RewritesReply, WritesLastReason};
 
 mod handle;
-mod held;
+mod store_ptr;
 
 use crate::handle::Handle;
 use node_core::{Limits, Step};
@@ -40,8 +40,8 @@ pub extern "C" fn yoyoash_open(
     tables: u32,
     objects: u32,
 ) -> i32
-    ensures { Opens (record { processes = processes; tables = tables; objects = objects })
-        handle.old.held.store result handle.new.held.store }
+    ensures { HandleOpens (record { processes = processes; tables = tables; objects = objects })
+        handle.old.pointer.store result handle.new.pointer.store }
 {
     let limits = Limits {
         processes,
@@ -59,7 +59,7 @@ pub extern "C" fn yoyoash_open(
 /// Spawns the process of this number. A number is used once.
 #[unsafe(no_mangle)]
 pub extern "C" fn yoyoash_spawn(alloc: Global, handle: &mut Handle, pid: u32) -> i32
-    ensures { Steps handle.old.held.store (Enrol pid) result handle.new.held.store }
+    ensures { HandleSteps handle.old.pointer.store (Enrol pid) result handle.new.pointer.store }
 {
     step(alloc, handle, &Step::Enrol(pid))
 }
@@ -67,19 +67,19 @@ pub extern "C" fn yoyoash_spawn(alloc: Global, handle: &mut Handle, pid: u32) ->
 /// Ends the process of this number. Its tables go to their heirs, and those without an heir are deleted.
 #[unsafe(no_mangle)]
 pub extern "C" fn yoyoash_exit(alloc: Global, handle: &mut Handle, pid: u32) -> i32
-    ensures { Steps handle.old.held.store (End pid) result handle.new.held.store }
+    ensures { HandleSteps handle.old.pointer.store (End pid) result handle.new.pointer.store }
 {
     step(alloc, handle, &Step::End(pid))
 }
 
 /// Does one step on the store of a handle, and returns its status.
 fn step(alloc: Global, handle: &mut Handle, event: &Step) -> i32
-    ensures { Steps handle.old.held.store event.now result handle.new.held.store }
+    ensures { HandleSteps handle.old.pointer.store event.now result handle.new.pointer.store }
 {
     let Some(mut store) = handle.take(alloc) else {
         return CLOSED;
     };
-    let status = store.act(event);
+    let status = store.run_step(event);
     handle.put(store);
     status
 }
@@ -96,7 +96,7 @@ pub extern "C" fn yoyoash_call(
     out: &mut [u8],
     len: &mut usize,
 ) -> i32
-    ensures { Calls handle.old.held.store pid text.now handle.new.held.store (told result len.new out.old out.new) }
+    ensures { HandleCalls handle.old.pointer.store pid text.now handle.new.pointer.store (written_reply result len.new out.old out.new) }
 {
     *len = 0;
     let Some(mut store) = handle.take(alloc) else {
@@ -115,14 +115,14 @@ pub extern "C" fn yoyoash_reply(
     out: &mut [u8],
     len: &mut usize,
 ) -> i32
-    ensures same { handle.new.held.store ≡ handle.old.held.store }
-    ensures tells { TellsAgain handle.old.held.store (told result len.new out.old out.new) }
+    ensures same { handle.new.pointer.store ≡ handle.old.pointer.store }
+    ensures writes { RewritesReply handle.old.pointer.store (written_reply result len.new out.old out.new) }
 {
     *len = 0;
     let Some(store) = handle.take(alloc) else {
         return CLOSED;
     };
-    let status = store.tell(alloc, out, len);
+    let status = store.write_reply(alloc, out, len);
     handle.put(store);
     status
 }
@@ -135,14 +135,14 @@ pub extern "C" fn yoyoash_why(
     out: &mut [u8],
     len: &mut usize,
 ) -> i32
-    ensures same { handle.new.held.store ≡ handle.old.held.store }
-    ensures tells { TellsReason handle.old.held.store (told result len.new out.old out.new) }
+    ensures same { handle.new.pointer.store ≡ handle.old.pointer.store }
+    ensures writes { WritesLastReason handle.old.pointer.store (written_reply result len.new out.old out.new) }
 {
     *len = 0;
     let Some(store) = handle.take(alloc) else {
         return CLOSED;
     };
-    let status = store.tell_why(alloc, out, len);
+    let status = store.write_reason(alloc, out, len);
     handle.put(store);
     status
 }
@@ -150,7 +150,7 @@ pub extern "C" fn yoyoash_why(
 /// Closes a handle, and frees the store that it held, if any.
 #[unsafe(no_mangle)]
 pub extern "C" fn yoyoash_close(alloc: Global, handle: &mut Handle)
-    ensures { handle.new.held.store ≡ None }
+    ensures { handle.new.pointer.store ≡ None }
 {
     let _ended = handle.take(alloc);
 }

@@ -2,22 +2,22 @@
 use Rattle.std.proofs.Common.{◌≡◌, ℕ, zero, suc, ◌≤◌, ◌<◌, ◌⊎◌, Bool, true, false, List, [], ◌∷◌, ◌++◌, length, refl, sym, ap, ◌∙◌, subst, arith, inl, inr, append-nil, append_assoc}
 use Rattle.ets_script.specs.Lines.{Line, text, too_long, IsOneLine, IsLine}
 use Rattle.ets_script.specs.Replies.{printed}
-use Rattle.ets_script.specs.Script.{Scripted, AnswersLine, IsAnswered, ScriptText, AreLines}
-use Rattle.ets_script.specs.inside.Feeds.{PassedOver}
+use Rattle.ets_script.specs.Script.{ScriptState, AnswersLine, IsAnswered, ScriptText, AreLines}
+use Rattle.ets_script.specs.inside.LineBuffers.{PassedOver}
 use Rattle.ets_script.specs.inside.Answered.{AnswersPart}
 use Rattle.ets_script.specs.declared.answer.Answer.{Answer}
 use Rattle.ets_script.proofs.KnownBytes.{the_none}
-use Rattle.ets_script.proofs.HeldLines.{none_or_some, weaker_line}
+use Rattle.ets_script.proofs.BufferedLines.{none-or-some, weaker-line}
 
-weaker : (old new : Scripted) (bytes said : List ℕ) (L M : Type 0) → (L → M) → IsAnswered old bytes said new L → IsAnswered old bytes said new M
-weaker old new bytes said L M f a = record { line = a.line; answer = a.answer; is_line = weaker_line bytes a.line L M f a.is_line; answers = a.answers; prints = a.prints }
+weaker : (old new : ScriptState) (bytes said : List ℕ) (L M : Type 0) → (L → M) → IsAnswered old bytes said new L → IsAnswered old bytes said new M
+weaker old new bytes said L M f a = record { line = a.line; answer = a.answer; is_line = weaker-line bytes a.line L M f a.is_line; answers = a.answers; prints = a.prints }
 
-pub none_is : the_none ≡ the_none
-none_is = refl
+pub none-is : the_none ≡ the_none
+none-is = refl
 
 -- a line after whole lines
-pub then_line : (n : ℕ) (a b c : Scripted) (input out bytes said : List ℕ) (M : Type 0) → ScriptText n ⊥ a input out b → IsAnswered b bytes said c M → ScriptText (suc n) M a (input ++ bytes) (out ++ said) c
-then_line zero a b c input out bytes said M (i, o, s) x = (
+pub then-line : (n : ℕ) (a b c : ScriptState) (input out bytes said : List ℕ) (M : Type 0) → ScriptText n ⊥ a input out b → IsAnswered b bytes said c M → ScriptText (suc n) M a (input ++ bytes) (out ++ said) c
+then-line zero a b c input out bytes said M (i, o, s) x = (
   c,
   bytes,
   [],
@@ -25,10 +25,10 @@ then_line zero a b c input out bytes said M (i, o, s) x = (
   [],
   ap (λ k. k ++ bytes) i ∙ sym (append-nil bytes),
   ap (λ k. k ++ said) o ∙ sym (append-nil said),
-  subst (λ (z : Scripted). IsAnswered z bytes said c ((the_none ≡ the_none) × M)) s (weaker b c bytes said M ((the_none ≡ the_none) × M) (λ m. (none_is, m)) x),
+  subst (λ (z : ScriptState). IsAnswered z bytes said c ((the_none ≡ the_none) × M)) s (weaker b c bytes said M ((the_none ≡ the_none) × M) (λ m. (none-is, m)) x),
   (refl, refl, refl),
 )
-then_line (suc n) a b c input out bytes said M (mid, first, rest, answer, others, i, o, x, more) y = (
+then-line (suc n) a b c input out bytes said M (mid, first, rest, answer, others, i, o, x, more) y = (
   mid,
   first,
   rest ++ bytes,
@@ -37,43 +37,43 @@ then_line (suc n) a b c input out bytes said M (mid, first, rest, answer, others
   ap (λ k. k ++ bytes) i ∙ append_assoc first rest bytes,
   ap (λ k. k ++ said) o ∙ append_assoc answer others said,
   weaker a mid first answer ((rest ≡ []) × ⊥) ((rest ++ bytes ≡ []) × M) (λ z. absurd z.1) x,
-  then_line n mid b c rest others bytes said M more y,
+  then-line n mid b c rest others bytes said M more y,
 )
 
-pub no_more : (n : ℕ) (a b : Scripted) (input out : List ℕ) (M : Type 0) → ScriptText n ⊥ a input out b → ScriptText n M a input out b
-no_more zero a b input out M w = w
-no_more (suc n) a b input out M (mid, first, rest, answer, others, i, o, x, more) =
-    (mid, first, rest, answer, others, i, o, weaker a mid first answer ((rest ≡ []) × ⊥) ((rest ≡ []) × M) (λ z. absurd z.1) x, no_more n mid b rest others M more)
+pub no-more : (n : ℕ) (a b : ScriptState) (input out : List ℕ) (M : Type 0) → ScriptText n ⊥ a input out b → ScriptText n M a input out b
+no-more zero a b input out M w = w
+no-more (suc n) a b input out M (mid, first, rest, answer, others, i, o, x, more) =
+    (mid, first, rest, answer, others, i, o, weaker a mid first answer ((rest ≡ []) × ⊥) ((rest ≡ []) × M) (λ z. absurd z.1) x, no-more n mid b rest others M more)
 
 -- the input ended in a line that is too long
-last_long : (start s1 s2 : Scripted) (n : ℕ) (input out skipped bytes : List ℕ) (answer : Answer) (M : Type 0) → M → ScriptText n ⊥ start input out s1 → IsOneLine skipped → 65536 < length skipped → bytes ≡ []
+last-long : (start s1 s2 : ScriptState) (n : ℕ) (input out skipped bytes : List ℕ) (answer : Answer) (M : Type 0) → M → ScriptText n ⊥ start input out s1 → IsOneLine skipped → 65536 < length skipped → bytes ≡ []
     → AnswersLine s1 too_long answer s2 → AreLines M start (input ++ (skipped ++ bytes)) (out ++ printed answer) s2
-last_long start s1 s2 n input out skipped bytes answer M m lines one long none answers = (
+last-long start s1 s2 n input out skipped bytes answer M m lines one long none answers = (
   suc n,
   subst (λ (k : List ℕ). ScriptText (suc n) M start (input ++ k) (out ++ printed answer) s2) (sym (append-nil skipped) ∙ ap (λ k. skipped ++ k) (sym none))
-      (then_line n start s1 s2 input out skipped (printed answer) M lines
+      (then-line n start s1 s2 input out skipped (printed answer) M lines
       (record { line = too_long; answer = answer; is_line = (skipped, one, long, inr (refl, (omega (arith, long)), m)); answers = answers; prints = refl })),
 )
 
 -- it ended in a line that has no LF
-last_text : (start s1 s2 : Scripted) (n : ℕ) (input out bytes : List ℕ) (answer : Answer) (M : Type 0) → M → ScriptText n ⊥ start input out s1 → IsOneLine bytes → length bytes ≤ 65536 → 0 < length bytes
+last-text : (start s1 s2 : ScriptState) (n : ℕ) (input out bytes : List ℕ) (answer : Answer) (M : Type 0) → M → ScriptText n ⊥ start input out s1 → IsOneLine bytes → length bytes ≤ 65536 → 0 < length bytes
     → AnswersLine s1 (text bytes) answer s2 → AreLines M start (input ++ bytes) (out ++ printed answer) s2
-last_text start s1 s2 n input out bytes answer M m lines one short some answers =
-    (suc n, then_line n start s1 s2 input out bytes (printed answer) M lines (record { line = text bytes; answer = answer; is_line = (bytes, one, short, inr (refl, some, m, refl)); answers = answers; prints = refl }))
+last-text start s1 s2 n input out bytes answer M m lines one short some answers =
+    (suc n, then-line n start s1 s2 input out bytes (printed answer) M lines (record { line = text bytes; answer = answer; is_line = (bytes, one, short, inr (refl, some, m, refl)); answers = answers; prints = refl }))
 
 -- it ended after an LF
-last_none : (start s1 s2 : Scripted) (n : ℕ) (input out : List ℕ) (answer : Answer) (M : Type 0) → ScriptText n ⊥ start input out s1 → AnswersLine s1 (text []) answer s2 → AreLines M start input (out ++ printed answer) s2
-last_none start s1 s2 n input out answer M lines (silent, same) = (
+last-none : (start s1 s2 : ScriptState) (n : ℕ) (input out : List ℕ) (answer : Answer) (M : Type 0) → ScriptText n ⊥ start input out s1 → AnswersLine s1 (text []) answer s2 → AreLines M start input (out ++ printed answer) s2
+last-none start s1 s2 n input out answer M lines (silent, same) = (
   n,
   subst (λ (k : List ℕ). ScriptText n M start input k s2) (sym (ap (λ (a : Answer). out ++ printed a) silent ∙ append-nil out))
-      (subst (λ (s : Scripted). ScriptText n M start input out s) (sym same) (no_more n start s1 input out M lines)),
+      (subst (λ (s : ScriptState). ScriptText n M start input out s) (sym same) (no-more n start s1 input out M lines)),
 )
 
 -- the bytes held when the input ended are the last line, which has no LF, or none
-pub last_lines : (skip : Bool) (start s1 s2 : Scripted) (n : ℕ) (input out skipped bytes : List ℕ) (answer : Answer) (M : Type 0) → M → ScriptText n ⊥ start input out s1 → PassedOver skip skipped → IsOneLine bytes → length bytes ≤ 65536
+pub last-lines : (skip : Bool) (start s1 s2 : ScriptState) (n : ℕ) (input out skipped bytes : List ℕ) (answer : Answer) (M : Type 0) → M → ScriptText n ⊥ start input out s1 → PassedOver skip skipped → IsOneLine bytes → length bytes ≤ 65536
     → (skip ≡ true → bytes ≡ []) → AnswersPart skip s1 bytes answer s2 → AreLines M start (input ++ (skipped ++ bytes)) (out ++ printed answer) s2
-last_lines true start s1 s2 n input out skipped bytes answer M m lines passed one short none answers = last_long start s1 s2 n input out skipped bytes answer M m lines passed.0 passed.1 (none refl) answers
-last_lines false start s1 s2 n input out skipped bytes answer M m lines passed one short none answers = ended_so (none_or_some bytes)
+last-lines true start s1 s2 n input out skipped bytes answer M m lines passed one short none answers = last-long start s1 s2 n input out skipped bytes answer M m lines passed.0 passed.1 (none refl) answers
+last-lines false start s1 s2 n input out skipped bytes answer M m lines passed one short none answers = ended_so (none-or-some bytes)
   where
     whole : skipped ++ bytes ≡ bytes
     whole = ap (λ k. k ++ bytes) passed
@@ -81,5 +81,5 @@ last_lines false start s1 s2 n input out skipped bytes answer M m lines passed o
     ended_so : (bytes ≡ []) ⊎ (0 < length bytes) → AreLines M start (input ++ (skipped ++ bytes)) (out ++ printed answer) s2
     ended_so (inl empty) =
         subst (λ (k : List ℕ). AreLines M start k (out ++ printed answer) s2) (sym (ap (λ k. input ++ k) (whole ∙ empty) ∙ append-nil input))
-        (last_none start s1 s2 n input out answer M lines (subst (λ (k : List ℕ). AnswersLine s1 (text k) answer s2) empty answers))
-    ended_so (inr some) = subst (λ (k : List ℕ). AreLines M start (input ++ k) (out ++ printed answer) s2) (sym whole) (last_text start s1 s2 n input out bytes answer M m lines one short some answers)
+        (last-none start s1 s2 n input out answer M lines (subst (λ (k : List ℕ). AnswersLine s1 (text k) answer s2) empty answers))
+    ended_so (inr some) = subst (λ (k : List ℕ). AreLines M start (input ++ k) (out ++ printed answer) s2) (sym whole) (last-text start s1 s2 n input out bytes answer M m lines one short some answers)

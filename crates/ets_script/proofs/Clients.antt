@@ -15,7 +15,7 @@ use Rattle.node_shared.specs.declared.job.Worked.{Worked}
 use Rattle.node_shared.specs.declared.transcript.Transcript.{Transcript}
 use Rattle.node_shared.specs.Closing.{AreParts, Closes, IsPart, has_client}
 use Rattle.node_shared.specs.Journal.{IsRun, has_entries, of}
-use Rattle.node_shared.specs.Records.{Recorded}
+use Rattle.node_shared.specs.Records.{RecordState}
 use Rattle.node_shared.specs.Working.{AllWorked, DidAll, job_step}
 use Rattle.ets_script.specs.Threads.{AreDone, RunsJobs}
 use Rattle.ets_script.specs.inside.Planning.{IsUnplanned}
@@ -27,54 +27,54 @@ abbrev step_of : Entry → Step
 step_of e = e.step
 
 -- one process more
-pub enrolled_then : (p : ℕ) (lists : List (List Job)) (xs : List (Recorded × Vec Job Global)) (own : List Job) (x : Recorded × Vec Job Global) → AreEnrolled p lists xs → IsNew (p + length lists) x.0 → x.1.items ≡ own
+pub enrolled-then : (p : ℕ) (lists : List (List Job)) (xs : List (RecordState × Vec Job Global)) (own : List Job) (x : RecordState × Vec Job Global) → AreEnrolled p lists xs → IsNew (p + length lists) x.0 → x.1.items ≡ own
     → AreEnrolled p (lists ++ own ∷ []) (xs ++ x ∷ [])
-enrolled_then p [] [] own x e new is =
+enrolled-then p [] [] own x e new is =
     let same : p + 0 ≡ p = omega arith in
     (subst (λ (n : ℕ). IsNew n x.0) same new, is, tt)
-enrolled_then p [] (y ∷ ys) own x e new is = absurd e
-enrolled_then p (first ∷ lists) [] own x e new is = absurd e
-enrolled_then p (first ∷ lists) (y ∷ ys) own x (here, jobs, more) new is =
+enrolled-then p [] (y ∷ ys) own x e new is = absurd e
+enrolled-then p (first ∷ lists) [] own x e new is = absurd e
+enrolled-then p (first ∷ lists) (y ∷ ys) own x (here, jobs, more) new is =
     let same : p + suc (length lists) ≡ suc p + length lists = omega arith in
-    (here, jobs, enrolled_then (suc p) lists ys own x more (subst (λ (n : ℕ). IsNew n x.0) same new) is)
+    (here, jobs, enrolled-then (suc p) lists ys own x more (subst (λ (n : ℕ). IsNew n x.0) same new) is)
 
 -- a process that was new did its jobs
-did_jobs : (p : ℕ) (jobs own : List Job) (old new : Recorded) (n : ℕ) → IsNew p old → own ≡ jobs → DidAll old own n new → DidJobs p jobs new n
-did_jobs p jobs own old new n (r, is) same (short, (done, ends, steps)) = (
-  ap (λ (c : Recorded). c.pid) ends ∙ ap (λ (c : Recorded). c.pid) is,
+did-jobs : (p : ℕ) (jobs own : List Job) (old new : RecordState) (n : ℕ) → IsNew p old → own ≡ jobs → DidAll old own n new → DidJobs p jobs new n
+did-jobs p jobs own old new n (r, is) same (short, (done, ends, steps)) = (
+  ap (λ (c : RecordState). c.pid) ends ∙ ap (λ (c : RecordState). c.pid) is,
   subst (λ (l : List Job). n ≤ length l) same short,
-  ap (λ (c : Recorded). map step_of c.entries) ends
-      ∙ ap (λ (c : Recorded). map step_of (c.entries ++ done)) is
-      ∙ ap (λ (l : List Step). Enrol p ∷ l) (steps ∙ ap (λ (c : Recorded). map (job_step c.pid) (take (length own - n) own)) is ∙ ap (λ (l : List Job). map (job_step p) (take (length l - n) l)) same),
+  ap (λ (c : RecordState). map step_of c.entries) ends
+      ∙ ap (λ (c : RecordState). map step_of (c.entries ++ done)) is
+      ∙ ap (λ (l : List Step). Enrol p ∷ l) (steps ∙ ap (λ (c : RecordState). map (job_step c.pid) (take (length own - n) own)) is ∙ ap (λ (l : List Job). map (job_step p) (take (length l - n) l)) same),
 )
 
-pub worked_run : {T : Type 0} (p : ℕ) (lists : List (List Job)) (xs : List (Recorded × Vec Job Global)) (ws : List (Worked T)) → AreEnrolled p lists xs → AllWorked xs ws
+pub worked-run : {T : Type 0} (p : ℕ) (lists : List (List Job)) (xs : List (RecordState × Vec Job Global)) (ws : List (Worked T)) → AreEnrolled p lists xs → AllWorked xs ws
     → HaveRun p lists (map (λ w. w.client) ws) (map (λ w. w.left) ws)
-worked_run p [] [] [] e did = tt
-worked_run p [] [] (w ∷ ws) e did = absurd did
-worked_run p [] (x ∷ xs) ws e did = absurd e
-worked_run p (jobs ∷ lists) [] ws e did = absurd e
-worked_run p (jobs ∷ lists) (x ∷ xs) [] e did = absurd did
-worked_run p (jobs ∷ lists) (x ∷ xs) (w ∷ ws) (new, same, more) (did, others) = (did_jobs p jobs x.1.items x.0 w.client w.left new same did, worked_run (suc p) lists xs ws more others)
+worked-run p [] [] [] e did = tt
+worked-run p [] [] (w ∷ ws) e did = absurd did
+worked-run p [] (x ∷ xs) ws e did = absurd e
+worked-run p (jobs ∷ lists) [] ws e did = absurd e
+worked-run p (jobs ∷ lists) (x ∷ xs) [] e did = absurd did
+worked-run p (jobs ∷ lists) (x ∷ xs) (w ∷ ws) (new, same, more) (did, others) = (did-jobs p jobs x.1.items x.0 w.client w.left new same did, worked-run (suc p) lists xs ws more others)
 
 -- the clients' records are their parts of the journal
-have_done : (done : List Entry) (p : ℕ) (lists : List (List Job)) (clients : List Recorded) (left : List ℕ) → HaveRun p lists clients left → AllByRecursion (IsPart done) clients → AreDone done p lists left
-have_done done p [] [] [] run parts = tt
-have_done done p [] [] (n ∷ left) run parts = absurd run
-have_done done p [] (c ∷ cs) left run parts = absurd run
-have_done done p (jobs ∷ lists) [] left run parts = absurd run
-have_done done p (jobs ∷ lists) (c ∷ cs) [] run parts = absurd run
-have_done done p (jobs ∷ lists) (c ∷ cs) (n ∷ left) ((pid, short, steps), more) (part, parts) =
-    (short, ap (λ (l : List Entry). map step_of l) (ap (λ (q : ℕ). of q done) (sym pid) ∙ part) ∙ steps, have_done done (suc p) lists cs left more parts)
+have-done : (done : List Entry) (p : ℕ) (lists : List (List Job)) (clients : List RecordState) (left : List ℕ) → HaveRun p lists clients left → AllByRecursion (IsPart done) clients → AreDone done p lists left
+have-done done p [] [] [] run parts = tt
+have-done done p [] [] (n ∷ left) run parts = absurd run
+have-done done p [] (c ∷ cs) left run parts = absurd run
+have-done done p (jobs ∷ lists) [] left run parts = absurd run
+have-done done p (jobs ∷ lists) (c ∷ cs) [] run parts = absurd run
+have-done done p (jobs ∷ lists) (c ∷ cs) (n ∷ left) ((pid, short, steps), more) (part, parts) =
+    (short, ap (λ (l : List Entry). map step_of l) (ap (λ (q : ℕ). of q done) (sym pid) ∙ part) ∙ steps, have-done done (suc p) lists cs left more parts)
 
 -- their processes are those from p on
-are_below : (q p : ℕ) (lists : List (List Job)) (clients : List Recorded) (left : List ℕ) → HaveRun p lists clients left → has_client q clients ≡ true → q < p + length lists
-are_below q p [] [] [] run has = absurd (cc)
-are_below q p [] [] (n ∷ left) run has = absurd run
-are_below q p [] (c ∷ cs) left run has = absurd run
-are_below q p (jobs ∷ lists) [] left run has = absurd run
-are_below q p (jobs ∷ lists) (c ∷ cs) [] run has = absurd run
-are_below q p (jobs ∷ lists) (c ∷ cs) (n ∷ left) (did, more) has = by (c.pid == q) refl has (λ found. are_below q (suc p) lists cs left more found)
+are-below : (q p : ℕ) (lists : List (List Job)) (clients : List RecordState) (left : List ℕ) → HaveRun p lists clients left → has_client q clients ≡ true → q < p + length lists
+are-below q p [] [] [] run has = absurd (cc)
+are-below q p [] [] (n ∷ left) run has = absurd run
+are-below q p [] (c ∷ cs) left run has = absurd run
+are-below q p (jobs ∷ lists) [] left run has = absurd run
+are-below q p (jobs ∷ lists) (c ∷ cs) [] run has = absurd run
+are-below q p (jobs ∷ lists) (c ∷ cs) (n ∷ left) (did, more) has = by (c.pid == q) refl has (λ found. are-below q (suc p) lists cs left more found)
   where
     by : (b : Bool) → (c.pid == q) ≡ b → (b || has_client q cs) ≡ true → (has_client q cs ≡ true → q < suc p + length lists) → q < p + length (jobs ∷ lists)
     by true is found others =
@@ -86,30 +86,30 @@ are_below q p (jobs ∷ lists) (c ∷ cs) (n ∷ left) (did, more) has = by (c.p
         omega arith
 
 -- The journal was closed over the clients of these processes.
-pub closed : (limits : Limits) (lists : List (List Job)) (clients : List Recorded) (left : List ℕ) (t : Transcript) → HaveRun 0 lists clients left → Closes limits clients (Ok t) → RunsJobs limits lists t.entries.items left
+pub closed : (limits : Limits) (lists : List (List Job)) (clients : List RecordState) (left : List ℕ) (t : Transcript) → HaveRun 0 lists clients left → Closes limits clients (Ok t) → RunsJobs limits lists t.entries.items left
 closed limits lists clients left t run (journal, state, is, (same, parts, none)) = record {
   end = state;
   run = subst (λ (l : List Entry). IsRun limits l state) (sym same) is;
-  each = have_done t.entries.items 0 lists clients left run (subst (λ (l : List Entry). AreParts l clients) (sym same) parts);
+  each = have-done t.entries.items 0 lists clients left run (subst (λ (l : List Entry). AreParts l clients) (sym same) parts);
   no_others = λ p has.
-      let below : p < 0 + length lists = are_below p 0 lists clients left run (none p (subst (λ (l : List Entry). has_entries p l ≡ true) same has)) in
+      let below : p < 0 + length lists = are-below p 0 lists clients left run (none p (subst (λ (l : List Entry). has_entries p l ≡ true) same has)) in
       omega arith;
 }
 
 -- as many processes have jobs left as have jobs
-same_lengths : (done : List Entry) (p : ℕ) (lists : List (List Job)) (left : List ℕ) → AreDone done p lists left → length left ≡ length lists
-same_lengths done p [] [] d = refl
-same_lengths done p [] (n ∷ left) d = absurd d
-same_lengths done p (jobs ∷ lists) [] d = absurd d
-same_lengths done p (jobs ∷ lists) (n ∷ left) (short, steps, more) = ap (λ (k : ℕ). suc k) (same_lengths done (suc p) lists left more)
+same-lengths : (done : List Entry) (p : ℕ) (lists : List (List Job)) (left : List ℕ) → AreDone done p lists left → length left ≡ length lists
+same-lengths done p [] [] d = refl
+same-lengths done p [] (n ∷ left) d = absurd d
+same-lengths done p (jobs ∷ lists) [] d = absurd d
+same-lengths done p (jobs ∷ lists) (n ∷ left) (short, steps, more) = ap (λ (k : ℕ). suc k) (same-lengths done (suc p) lists left more)
 
-pub as_many : {limits : Limits} {lists : List (List Job)} {done : List Entry} {left : List ℕ} → RunsJobs limits lists done left → length left ≡ length lists
-as_many {limits} {lists} {done} {left} r = same_lengths done 0 lists left r.each
+pub as-many : {limits : Limits} {lists : List (List Job)} {done : List Entry} {left : List ℕ} → RunsJobs limits lists done left → length left ≡ length lists
+as-many {limits} {lists} {done} {left} r = same-lengths done 0 lists left r.each
 
 -- a fault is reported as it was found
-pub fault_told : {N F : Type 0} (P : F → Type 0) (r : Result N F) (fault : F) → IsErrAnd r (λ told. told ≡ fault) → P fault → IfErr r P
-fault_told P (Ok x) fault told is = tt
-fault_told P (Err e) fault told is = subst P (sym told) is
+pub fault-told : {N F : Type 0} (P : F → Type 0) (r : Result N F) (fault : F) → IsErrAnd r (λ told. told ≡ fault) → P fault → IfErr r P
+fault-told P (Ok x) fault told is = tt
+fault-told P (Err e) fault told is = subst P (sym told) is
 
 -- what stops the planning stops the run
 pub unplanned : (limits : Limits) (fault : ScriptFault) → IsUnplanned fault → Stops limits fault

@@ -32,27 +32,27 @@ error_or (Ok m) e = e
 error_or (Err f) e = f
 
 -- a parse failed, and its error is returned
-pub refused : {T U : Type 0} (kinds : Kinds) (parsed : Result T Error) (e : Error) (r : Result U Error) → FailsBy kinds parsed → parsed ≡ Err e → IsErrAnd r (λ told. told ≡ e) → FailsBy kinds r
-refused kinds (Ok m) e r fails is told = cc
-refused kinds (Err f) e (Ok s) fails is told = absurd told
-refused {T} kinds (Err f) e (Err g) fails is told =
+pub parse-fault : {T U : Type 0} (kinds : Kinds) (parsed : Result T Error) (e : Error) (r : Result U Error) → FailsBy kinds parsed → parsed ≡ Err e → IsErrAnd r (λ told. told ≡ e) → FailsBy kinds r
+parse-fault kinds (Ok m) e r fails is told = cc
+parse-fault kinds (Err f) e (Ok s) fails is told = absurd told
+parse-fault {T} kinds (Err f) e (Err g) fails is told =
     let same : f ≡ g = ap (λ (r : Result T Error). error_or r f) is ∙ sym told in
     subst (HasKind kinds) same fails
 
-among_more : (kinds next : Kinds) (e : Error) → HasKind kinds e → HasKind (or_else kinds next) e
-among_more [] next e (inl memory) = inl memory
-among_more [] next e (inr among) = absurd among
-among_more (k ∷ ks) next e h = h
+among-more : (kinds next : Kinds) (e : Error) → HasKind kinds e → HasKind (or_else kinds next) e
+among-more [] next e (inl memory) = inl memory
+among-more [] next e (inr among) = absurd among
+among-more (k ∷ ks) next e h = h
 
 -- an error of the first kinds is one of these or else of others
-pub fails_first : {U : Type 0} (kinds next : Kinds) (Q : Error → Type 0) (r : Result U Error) → IsErrAnd r Q → FailsBy kinds r → FailsBy (or_else kinds next) r
-fails_first kinds next Q (Ok s) told fails = absurd told
-fails_first kinds next Q (Err e) told fails = among_more kinds next e fails
+pub fails-first : {U : Type 0} (kinds next : Kinds) (Q : Error → Type 0) (r : Result U Error) → IsErrAnd r Q → FailsBy kinds r → FailsBy (or_else kinds next) r
+fails-first kinds next Q (Ok s) told fails = absurd told
+fails-first kinds next Q (Err e) told fails = among-more kinds next e fails
 
 -- memory ran out
-pub lacks_memory : {U : Type 0} (kinds : Kinds) (r : Result U Error) → IsErrAnd r (λ e. kind_of e ≡ OutOfMemory) → FailsBy kinds r
-lacks_memory kinds (Ok s) h = absurd h
-lacks_memory kinds (Err e) h = inl h
+pub lacks-memory : {U : Type 0} (kinds : Kinds) (r : Result U Error) → IsErrAnd r (λ e. kind_of e ≡ OutOfMemory) → FailsBy kinds r
+lacks-memory kinds (Ok s) h = absurd h
+lacks-memory kinds (Err e) h = inl h
 
 -- where there is an error, nothing is answered
 pub unanswered : {U : Type 0} (P : U → Type 0) (Q : Error → Type 0) (r : Result U Error) → IsErrAnd r Q → IfOk r P
@@ -60,14 +60,14 @@ unanswered P Q (Ok s) h = absurd h
 unanswered P Q (Err e) h = tt
 
 -- a parse succeeded, so that nothing was at fault
-pub answered : {T : Type 0} (kinds : Kinds) (parsed : Result T Error) (m : T) → FailsBy kinds parsed → parsed ≡ Ok m → kinds ≡ []
-answered kinds (Ok n) m fails is = fails
-answered kinds (Err e) m fails is = cc
+pub parse-no_fault : {T : Type 0} (kinds : Kinds) (parsed : Result T Error) (m : T) → FailsBy kinds parsed → parsed ≡ Ok m → kinds ≡ []
+parse-no_fault kinds (Ok n) m fails is = fails
+parse-no_fault kinds (Err e) m fails is = cc
 
 -- what holds of an answer follows from what it ensures
-pub then_ok : {T E : Type 0} (P Q : T → Type 0) (r : Result T E) → ((x : T) → P x → Q x) → IfOk r P → IfOk r Q
-then_ok P Q (Ok x) f h = f x h
-then_ok P Q (Err e) f h = tt
+pub then-ok : {T E : Type 0} (P Q : T → Type 0) (r : Result T E) → ((x : T) → P x → Q x) → IfOk r P → IfOk r Q
+then-ok P Q (Ok x) f h = f x h
+then-ok P Q (Err e) f h = tt
 
 -- the faults of a command that is this one
 pub faults : {T : Type 0} (line app : App) (words : List Text) (parsed : Result T Error) → app ≡ line → is_simple_and_free line ≡ true
@@ -78,9 +78,9 @@ faults line app words parsed is known fails = subst (λ (a : App). is_simple_and
 pub rows : (line app : App) (words : List Text) (m : ArgMatches) → app ≡ line → is_simple line ≡ true → HasMatchesOf app words m → rows_of (found_of m) ≡ matches_of line words
 rows line app words m is known has = (subst (λ (a : App). HasMatchesOf a words m) is has known).0
 
-is_none : {X : Type 0} (o : Option X) → not (is_some o) ≡ true → o ≡ None
-is_none None e = refl
-is_none (Some x) e = cc
+is-none : {X : Type 0} (o : Option X) → not (is_some o) ≡ true → o ≡ None
+is-none None e = refl
+is-none (Some x) e = cc
 
 -- what a simple argument, and a free one, has nothing of
 record Simple (a : Arg) : Type 0 where
@@ -101,7 +101,7 @@ simple a e =
     let v = and_parts (not a.allow_negative_numbers) _ u.1 in
     let w = and_parts (not a.require_equals) _ v.1 in
     let x = and_parts (not a.last) (not a.global) w.1 in
-    record { overrides = is_nil _ p.0; ifs = is_nil _ q.0; groups = is_nil _ r.0; undelimited = is_none _ s.0; own = is_false _ x.1 }
+    record { overrides = is_nil _ p.0; ifs = is_nil _ q.0; groups = is_nil _ r.0; undelimited = is-none _ s.0; own = is_false _ x.1 }
 
 plain : (a : Arg) → is_simple_arg a ≡ true → is_free_arg a ≡ true → IsPlainArg a
 plain a s f =
@@ -110,10 +110,10 @@ plain a s f =
     let h = simple a s in
     (is_false _ p.0, is_nil _ q.0, h.overrides, h.groups)
 
-plain_each : (xs : List Arg) → list_all (λ (r : Rule). r.is_simple) (map rule_of xs) ≡ true → list_all (λ (r : Rule). r.is_free) (map rule_of xs) ≡ true → All IsPlainArg xs
-plain_each [] s f k d lt = absurd (omega arith)
-plain_each (x ∷ xs) s f zero d lt = plain x (and_parts (is_simple_arg x) _ s).0 (and_parts (is_free_arg x) _ f).0
-plain_each (x ∷ xs) s f (suc k) d lt = plain_each xs (and_parts (is_simple_arg x) _ s).1 (and_parts (is_free_arg x) _ f).1 k d (omega arith)
+plain-each : (xs : List Arg) → list_all (λ (r : Rule). r.is_simple) (map rule_of xs) ≡ true → list_all (λ (r : Rule). r.is_free) (map rule_of xs) ≡ true → All IsPlainArg xs
+plain-each [] s f k d lt = absurd (omega arith)
+plain-each (x ∷ xs) s f zero d lt = plain x (and_parts (is_simple_arg x) _ s).0 (and_parts (is_free_arg x) _ f).0
+plain-each (x ∷ xs) s f (suc k) d lt = plain-each xs (and_parts (is_simple_arg x) _ s).1 (and_parts (is_free_arg x) _ f).1 k d (omega arith)
 
 -- a command and one more option of it
 pub added : (old new : Command) (a : Arg) (app : App) (r : Rule) → AddsArg old a new → app_of old ≡ app → rule_of a ≡ r → r.is_simple ≡ true → app_of new ≡ with_rule app r
@@ -123,19 +123,19 @@ added old new a app r adds is rule e =
     shape ∙ ap₂ with_rule is rule
 
 -- the command of the settings, with the options of the limits
-pub limited : (hashes : ValueParser) (one two three : Command) (processes tables : Arg) → app_of one ≡ command_line hashes
+pub limited_line-of_rules : (hashes : ValueParser) (one two three : Command) (processes tables : Arg) → app_of one ≡ command_line hashes
     → AddsArg one processes two → rule_of processes ≡ number_option (codes "max-processes") (codes "4096")
     → AddsArg two tables three → rule_of tables ≡ number_option (codes "max-tables") (codes "65536")
     → app_of three ≡ limited_line hashes
-limited hashes one two three processes tables is adds first adds2 second =
+limited_line-of_rules hashes one two three processes tables is adds first adds2 second =
     let with_first = added one two processes (command_line hashes) (number_option (codes "max-processes") (codes "4096")) adds is first refl in
     added two three tables _ (number_option (codes "max-tables") (codes "65536")) adds2 with_first second refl
 
 -- and with that of reasons and a version it is that of a request
-pub requested : (hashes : ValueParser) (three four five : Command) (why : Arg) (version : Bor Text) → app_of three ≡ limited_line hashes
+pub request_line-of_rules : (hashes : ValueParser) (three four five : Command) (why : Arg) (version : Bor Text) → app_of three ≡ limited_line hashes
     → AddsArg three why four → rule_of why ≡ flag_option (codes "why")
     → out-Command five ≡ record (out-Command four) { version = Some version } → app_of five ≡ request_line hashes
-requested hashes three four five why version is adds told versioned =
+request_line-of_rules hashes three four five why version is adds told versioned =
     let with_why = added three four why (limited_line hashes) (flag_option (codes "why")) adds is told refl in
     let as_fields : app_of five ≡ with_version (app_of four) = ap app_of_fields versioned in
     as_fields ∙ ap with_version with_why
@@ -146,23 +146,23 @@ only [] k name = false
 only (x ∷ xs) zero name = list_all (λ (y : Rule). not (bytes_eq y.id name)) xs
 only (x ∷ xs) (suc k) name = not (bytes_eq x.id name) && only xs k name
 
-none_there : (xs : List Arg) (name : Text) (j : ℕ) (d : Arg) → list_all (λ (y : Rule). not (bytes_eq y.id name)) (map rule_of xs) ≡ true → j < length xs → bytes_eq (slice_index_or xs j d).id.now name ≡ true → ⊥
-none_there [] name j d h lt same = absurd (omega arith)
-none_there (x ∷ xs) name zero d h lt same =
+none-there : (xs : List Arg) (name : Text) (j : ℕ) (d : Arg) → list_all (λ (y : Rule). not (bytes_eq y.id name)) (map rule_of xs) ≡ true → j < length xs → bytes_eq (slice_index_or xs j d).id.now name ≡ true → ⊥
+none-there [] name j d h lt same = absurd (omega arith)
+none-there (x ∷ xs) name zero d h lt same =
     let other : bytes_eq x.id.now name ≡ false = is_false _ (and_parts (not (bytes_eq x.id.now name)) _ h).0 in
     let bad : false ≡ true = sym other ∙ same in
     cc
-none_there (x ∷ xs) name (suc j) d h lt same = none_there xs name j d (and_parts (not (bytes_eq x.id.now name)) _ h).1 (omega arith) same
+none-there (x ∷ xs) name (suc j) d h lt same = none-there xs name j d (and_parts (not (bytes_eq x.id.now name)) _ h).1 (omega arith) same
 
-only_there : (xs : List Arg) (k : ℕ) (name : Text) (j : ℕ) (d : Arg) → only (map rule_of xs) k name ≡ true → j < length xs → bytes_eq (slice_index_or xs j d).id.now name ≡ true → j ≡ k
-only_there [] k name j d h lt same = absurd (omega arith)
-only_there (x ∷ xs) zero name zero d h lt same = refl
-only_there (x ∷ xs) zero name (suc j) d h lt same = absurd (none_there xs name j d h (omega arith) same)
-only_there (x ∷ xs) (suc k) name zero d h lt same =
+only-there : (xs : List Arg) (k : ℕ) (name : Text) (j : ℕ) (d : Arg) → only (map rule_of xs) k name ≡ true → j < length xs → bytes_eq (slice_index_or xs j d).id.now name ≡ true → j ≡ k
+only-there [] k name j d h lt same = absurd (omega arith)
+only-there (x ∷ xs) zero name zero d h lt same = refl
+only-there (x ∷ xs) zero name (suc j) d h lt same = absurd (none-there xs name j d h (omega arith) same)
+only-there (x ∷ xs) (suc k) name zero d h lt same =
     let other : bytes_eq x.id.now name ≡ false = is_false _ (and_parts (not (bytes_eq x.id.now name)) _ h).0 in
     let bad : false ≡ true = sym other ∙ same in
     cc
-only_there (x ∷ xs) (suc k) name (suc j) d h lt same = ap suc (only_there xs k name j d (and_parts (not (bytes_eq x.id.now name)) _ h).1 (omega arith) same)
+only-there (x ∷ xs) (suc k) name (suc j) d h lt same = ap suc (only-there xs k name j d (and_parts (not (bytes_eq x.id.now name)) _ h).1 (omega arith) same)
 
 -- a name that no option added by clap has
 abbrev is_own : Text → Bool
@@ -174,17 +174,17 @@ other name t same h e =
     let bad : true ≡ false = sym same ∙ no in
     cc
 
-some_text : (xs : List (Bor Text)) (t : Text) → map (λ (s : Bor Text). s.now) xs ≡ t ∷ [] → 0 < length xs
-some_text [] t e = cc
-some_text (x ∷ xs) t e = omega arith
+some-text : (xs : List (Bor Text)) (t : Text) → map (λ (s : Bor Text). s.now) xs ≡ t ∷ [] → 0 < length xs
+some-text [] t e = cc
+some-text (x ∷ xs) t e = omega arith
 
-first_arg : (xs : List Arg) → 0 < length xs → Arg
-first_arg [] lt = absurd (omega arith)
-first_arg (x ∷ xs) lt = x
+first-arg : (xs : List Arg) → 0 < length xs → Arg
+first-arg [] lt = absurd (omega arith)
+first-arg (x ∷ xs) lt = x
 
-length_rules : (xs : List Arg) → length (map rule_of xs) ≡ length xs
-length_rules [] = refl
-length_rules (x ∷ xs) = ap suc (length_rules xs)
+length-rules : (xs : List Arg) → length (map rule_of xs) ≡ length xs
+length-rules [] = refl
+length-rules (x ∷ xs) = ap suc (length-rules xs)
 
 -- Of a command of these options, of which the k-th takes a number and alone has its name: a parse has that number.
 module _ (c : Command) (m : ArgMatches) (shape : Shape) (k : ℕ) (name default : Text) (parsed : IsParsedFrom c m) (is : (app_of c).top ≡ shape)
@@ -195,11 +195,11 @@ module _ (c : Command) (m : ArgMatches) (shape : Shape) (k : ℕ) (name default 
 
   low : k < length (args_of c)
   low =
-      let same : length (args_of c) ≡ length shape.rules = sym (length_rules (args_of c)) ∙ ap length rules in
+      let same : length (args_of c) ≡ length shape.rules = sym (length-rules (args_of c)) ∙ ap length rules in
       omega arith
 
   d : Arg
-  d = first_arg (args_of c) (omega (arith, low))
+  d = first-arg (args_of c) (omega (arith, low))
 
   abbrev a : Arg
   a = slice_index_or (args_of c) k d
@@ -240,7 +240,7 @@ module _ (c : Command) (m : ArgMatches) (shape : Shape) (k : ℕ) (name default 
 
   all_plain : IsPlain c
   all_plain = (
-    plain_each (args_of c) (ap (list_all (λ (r : Rule). r.is_simple)) rules ∙ fields.1)
+    plain-each (args_of c) (ap (list_all (λ (r : Rule). r.is_simple)) rules ∙ fields.1)
         (ap (list_all (λ (r : Rule). r.is_free)) rules ∙ (and_parts (has_simple_rules shape) _ known).1),
     groups,
   )
@@ -253,8 +253,8 @@ module _ (c : Command) (m : ArgMatches) (shape : Shape) (k : ℕ) (name default 
   pub has_number : HasNumber (found_of m) name
   has_number =
       let same : (j : ℕ) (e : Arg) → j < length (args_of c) → bytes_eq (slice_index_or (args_of c) j e).id.now a.id.now ≡ true → j ≡ k =
-      λ j e lt eq. only_there (args_of c) k name j e (ap (λ (l : List Rule). only l k name) rules ∙ own_name.1) lt (subst (λ (n : Text). bytes_eq (slice_index_or (args_of c) j e).id.now n ≡ true) id eq) in
-      let got = default_reads c m parsed all_plain globals k d low (facts.ifs, some_text (items_of a.default_vals) default (ap (λ (r : Rule). r.defaults) rule)) (ap (λ (r : Rule). r.action) rule) facts.undelimited least same
+      λ j e lt eq. only-there (args_of c) k name j e (ap (λ (l : List Rule). only l k name) rules ∙ own_name.1) lt (subst (λ (n : Text). bytes_eq (slice_index_or (args_of c) j e).id.now n ≡ true) id eq) in
+      let got = default_reads c m parsed all_plain globals k d low (facts.ifs, some-text (items_of a.default_vals) default (ap (λ (r : Rule). r.defaults) rule)) (ap (λ (r : Rule). r.action) rule) facts.undelimited least same
       (λ empty. named (sym id ∙ empty)) not_added
       (Signed (pos 0) (pos 4294967295)) (ap (λ (r : Rule). r.parser) rule) in
       subst (HasNumber (found_of m)) id got

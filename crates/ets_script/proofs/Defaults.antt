@@ -22,9 +22,9 @@ use Rattle.clap.specs.declared.parser.matches.MatchedArg.{MatchedArg}
 use Rattle.clap.proofs.CallerLemmas.{default_present, entry_by_id, same_rules_by_id}
 
 -- an entry that is there is found
-found_entry : (xs : List Entry) (id : List ℕ) → HasIn xs id → is_some (option_map (λ e. e.1) (find (λ e. bytes_eq e.0.now id) xs)) ≡ true
-found_entry [] id h = absurd (omega (arith, h.1))
-found_entry (x ∷ xs) id h = go (bytes_eq x.0.now id) refl h.0 h.1 h.2 (λ n. found_entry xs id n)
+found-entry : (xs : List Entry) (id : List ℕ) → HasIn xs id → is_some (option_map (λ e. e.1) (find (λ e. bytes_eq e.0.now id) xs)) ≡ true
+found-entry [] id h = absurd (omega (arith, h.1))
+found-entry (x ∷ xs) id h = go (bytes_eq x.0.now id) refl h.0 h.1 h.2 (λ n. found-entry xs id n)
   where
     go : (t : Bool) → bytes_eq x.0.now id ≡ t → (i : ℕ) → i < length (x ∷ xs) → ((d : Entry) → bytes_eq (slice_index_or (x ∷ xs) i d).0.now id ≡ true)
         → (HasIn xs id → is_some (option_map (λ e. e.1) (find (λ e. bytes_eq e.0.now id) xs)) ≡ true)
@@ -36,10 +36,10 @@ found_entry (x ∷ xs) id h = go (bytes_eq x.0.now id) refl h.0 h.1 h.2 (λ n. f
     go false t (suc i) lt at rest = rw t (rest (i, omega arith, at))
 
 -- the first of values that all pass, as it is read
-first_read : (P : Bor (List ℕ) → Type 0) (how : Reading) (vs : List (Bor (List ℕ))) → All P vs → 0 < length vs
+first-read : (P : Bor (List ℕ) → Type 0) (how : Reading) (vs : List (Bor (List ℕ))) → All P vs → 0 < length vs
     → (v : Bor (List ℕ)) × (option_map (λ s. read_as how s.now) (slice_get vs 0) ≡ Some (read_as how v.now)) × P v
-first_read P how [] h lt = absurd (omega arith)
-first_read P how (v ∷ vs) h lt = (v, refl, All-get_or P (v ∷ vs) 0 v (omega arith) h)
+first-read P how [] h lt = absurd (omega arith)
+first-read P how (v ∷ vs) h lt = (v, refl, All-get_or P (v ∷ vs) 0 v (omega arith) h)
 
 accepted : (a b : Arg) (q : ValueParser) (t : List ℕ) → SameRules a b → a.value_parser ≡ Some q → Accepts b.ignore_case (parser_of b) t → Accepts a.ignore_case q t
 accepted a b q t s parser read =
@@ -47,9 +47,9 @@ accepted a b q t s parser read =
     let as_q : Accepts b.ignore_case q t = subst (λ (w : ValueParser). Accepts b.ignore_case w t) is_q read in
     subst (λ (c : Bool). Accepts c q t) s.ignore_case as_q
 
-one_text_at : (f : Found) (id : List ℕ) (x : MatchedArg) (how : Reading) (t : List ℕ) → matched_of f id ≡ Some x → x.reading ≡ how
+one-text-at : (f : Found) (id : List ℕ) (x : MatchedArg) (how : Reading) (t : List ℕ) → matched_of f id ≡ Some x → x.reading ≡ how
     → option_map (λ s. read_as how s.now) (slice_get x.vals.items 0) ≡ Some t → one_text f id ≡ Some t
-one_text_at f id x how t found is v = rw (found, is) v
+one-text-at f id x how t found is v = rw (found, is) v
 
 -- Where nothing excludes anything, an argument of the caller's that has a default, and of which each use has a value, has
 -- a text that passed its parser.
@@ -120,10 +120,10 @@ module _ (old : Command) (m : ArgMatches) (p : IsParsedFrom old m) (plain : IsPl
   entry_reads : (e : Entry) → e.0.now ≡ id → EntryPasses p.built e → matched_of (found_of m) id ≡ Some e.1
       → (t : List ℕ) × (one_text (found_of m) id ≡ Some (read_as (reading_of q) t)) × Accepts arg.ignore_case q t
   entry_reads e key pass found =
-      let first = first_read (λ v. PassesArg p.built id v.now) (reading_of q) e.1.vals.items (values_pass e key pass) (has_values e key pass) in
+      let first = first-read (λ v. PassesArg p.built id v.now) (reading_of q) e.1.vals.items (values_pass e key pass) (has_values e key pass) in
       let any = first.2 in (
         first.0.now,
-        one_text_at (found_of m) id e.1 (reading_of q) (read_as (reading_of q) first.0.now) found (is_read e key pass) first.1,
+        one-text-at (found_of m) id e.1 (reading_of q) (read_as (reading_of q) first.0.now) found (is_read e key pass) first.1,
         accepted arg any.1 q first.0.now (same any.0 any.1 any.2 any.3 any.4.0) parser any.4.1,
       )
 
@@ -136,4 +136,4 @@ module _ (old : Command) (m : ArgMatches) (p : IsParsedFrom old m) (plain : IsPl
 
   pub default_reads : (t : List ℕ) × (one_text (found_of m) id ≡ Some (read_as (reading_of q) t)) × Accepts arg.ignore_case q t
   default_reads =
-      at_entry (matched_of (found_of m) id) refl (found_entry (found_of m).entries.items id (default_present old m p globals k d lt wants))
+      at_entry (matched_of (found_of m) id) refl (found-entry (found_of m).entries.items id (default_present old m p globals k d lt wants))

@@ -1,13 +1,13 @@
 mod KnownBytes
-mod Feeds
-mod HeldLines
+mod LineBuffers
+mod BufferedLines
 mod AnsweredLines
 mod Progress
 mod ScriptEnds
 mod Places
 mod Enrolments
 mod Words
-mod CleanLines
+mod PrintableLines
 mod Arguments
 mod Fronts
 mod Defaults

@@ -3,35 +3,35 @@ use Rattle.std.proofs.Common.{◌≡◌, ℕ, ◌≤◌, ◌<◌, ◌⊎◌, Boo
 use Rattle.std.specs.Prelude.{⊤}
 use Rattle.std.specs.Io.KnownBytes.{Consumes, IsAtEnd, prepend_known}
 use Rattle.ets_script.specs.Lines.{Line, text, too_long, IsOneLine, IsLine, IsCutInto}
-use Rattle.ets_script.specs.Plan.{Planned, line_plan, lines_plan}
-use Rattle.ets_script.specs.inside.Feeds.{Held, rest_of, Refills, PassedOver, EndsLine, Stays, IsPassed, Waits}
-use Rattle.ets_script.specs.inside.PlanCodes.{Limited}
+use Rattle.ets_script.specs.Plan.{PlanState, line_plan, lines_plan}
+use Rattle.ets_script.specs.inside.LineBuffers.{LineBufferState, rest_of, Refills, PassedOver, EndsLine, Stays, IsPassed, Waits}
+use Rattle.ets_script.specs.inside.PlanCodes.{LimitedPlanState}
 use Rattle.ets_script.specs.inside.Planning.{with_line, with_lines, last_line, AreWhole, PlansAll}
-use Rattle.ets_script.proofs.KnownBytes.{between, nothing_held, read_more, same_known, taken_front, the_none, unheld}
-use Rattle.ets_script.proofs.HeldLines.{weaker_line, none_or_some, one_line_of, both_one_line, Ended}
+use Rattle.ets_script.proofs.KnownBytes.{between, nothing-held, read-more, same-known, taken-front, the_none, unheld}
+use Rattle.ets_script.proofs.BufferedLines.{weaker-line, none-or-some, one-line-of, both-one-line, Ended}
 
 -- a line after lines
-plan_then : (most : ℕ) (lines : List Line) (line : Line) (plan : Planned) → lines_plan most (lines ++ line ∷ []) plan ≡ line_plan most line (lines_plan most lines plan)
-plan_then most [] line plan = refl
-plan_then most (first ∷ lines) line plan = plan_then most lines line (line_plan most first plan)
+plan-then : (max_names : ℕ) (lines : List Line) (line : Line) (plan : PlanState) → lines_plan max_names (lines ++ line ∷ []) plan ≡ line_plan max_names line (lines_plan max_names lines plan)
+plan-then max_names [] line plan = refl
+plan-then max_names (first ∷ lines) line plan = plan-then max_names lines line (line_plan max_names first plan)
 
 -- after whole lines one that is whole, the last, or none
-then_whole : (input bytes : List ℕ) (lines : List Line) (line : Line) → AreWhole input lines → IsLine bytes line ⊥ → AreWhole (input ++ bytes) (lines ++ line ∷ [])
-then_whole input bytes [] line none is = (bytes, [], ap (λ k. k ++ bytes) none ∙ sym (append-nil bytes), is, refl)
-then_whole input bytes (first ∷ lines) line (front, rest, parts, whole, more) is =
-    (front, rest ++ bytes, ap (λ k. k ++ bytes) parts ∙ append_assoc front rest bytes, whole, then_whole rest bytes lines line more is)
+then-whole : (input bytes : List ℕ) (lines : List Line) (line : Line) → AreWhole input lines → IsLine bytes line ⊥ → AreWhole (input ++ bytes) (lines ++ line ∷ [])
+then-whole input bytes [] line none is = (bytes, [], ap (λ k. k ++ bytes) none ∙ sym (append-nil bytes), is, refl)
+then-whole input bytes (first ∷ lines) line (front, rest, parts, whole, more) is =
+    (front, rest ++ bytes, ap (λ k. k ++ bytes) parts ∙ append_assoc front rest bytes, whole, then-whole rest bytes lines line more is)
 
-then_last : (input bytes : List ℕ) (lines : List Line) (line : Line) → AreWhole input lines → IsLine bytes line ⊤ → IsCutInto (input ++ bytes) (lines ++ line ∷ [])
-then_last input bytes [] line none is = (bytes, [], ap (λ k. k ++ bytes) none ∙ sym (append-nil bytes), weaker_line bytes line ⊤ (the_none ≡ the_none) (λ _. refl) is, refl)
-then_last input bytes (first ∷ lines) line (front, rest, parts, whole, more) is =
-    (front, rest ++ bytes, ap (λ k. k ++ bytes) parts ∙ append_assoc front rest bytes, weaker_line front first ⊥ (rest ++ bytes ≡ []) (λ z. absurd z) whole, then_last rest bytes lines line more is)
+then-last : (input bytes : List ℕ) (lines : List Line) (line : Line) → AreWhole input lines → IsLine bytes line ⊤ → IsCutInto (input ++ bytes) (lines ++ line ∷ [])
+then-last input bytes [] line none is = (bytes, [], ap (λ k. k ++ bytes) none ∙ sym (append-nil bytes), weaker-line bytes line ⊤ (the_none ≡ the_none) (λ _. refl) is, refl)
+then-last input bytes (first ∷ lines) line (front, rest, parts, whole, more) is =
+    (front, rest ++ bytes, ap (λ k. k ++ bytes) parts ∙ append_assoc front rest bytes, weaker-line front first ⊥ (rest ++ bytes ≡ []) (λ z. absurd z) whole, then-last rest bytes lines line more is)
 
-all_whole : (input : List ℕ) (lines : List Line) → AreWhole input lines → IsCutInto input lines
-all_whole input [] none = none
-all_whole input (first ∷ lines) (front, rest, parts, whole, more) = (front, rest, parts, weaker_line front first ⊥ (rest ≡ []) (λ z. absurd z) whole, all_whole rest lines more)
+all-whole : (input : List ℕ) (lines : List Line) → AreWhole input lines → IsCutInto input lines
+all-whole input [] none = none
+all-whole input (first ∷ lines) (front, rest, parts, whole, more) = (front, rest, parts, weaker-line front first ⊥ (rest ≡ []) (λ z. absurd z) whole, all-whole rest lines more)
 
 -- the lines so far; of a line that is too long a part was passed over
-pub record Planning (start : Limited) (before : Option (List ℕ)) (held : Held) (left : Option (List ℕ)) (now : Limited) : Type 0 where
+pub record Planning (start : LimitedPlanState) (before : Option (List ℕ)) (held : LineBufferState) (left : Option (List ℕ)) (now : LimitedPlanState) : Type 0 where
   pub input : List ℕ
   pub skipped : List ℕ
   pub lines : List Line
@@ -40,39 +40,39 @@ pub record Planning (start : Limited) (before : Option (List ℕ)) (held : Held)
   pub consumed : Consumes before (rest_of held left) (input ++ skipped)
   pub planned : now ≡ with_lines lines start
 
-pub nothing_yet : (s : Limited) (held : Held) (left : Option (List ℕ)) → held.bytes ≡ [] → held.is_skipping ≡ false → Planning s left held left s
-nothing_yet s held left empty whole = record {
+pub planning-start : (s : LimitedPlanState) (held : LineBufferState) (left : Option (List ℕ)) → held.bytes ≡ [] → held.is_skipping ≡ false → Planning s left held left s
+planning-start s held left empty whole = record {
   input = [];
   skipped = [];
   lines = [];
   whole = refl;
   passed = subst (λ (b : Bool). PassedOver b the_none) (sym whole) refl;
-  consumed = subst (λ (l : Option (List ℕ)). Consumes left l []) (sym (ap (λ k. prepend_known k left) empty ∙ nothing_held left)) (same_known left);
+  consumed = subst (λ (l : Option (List ℕ)). Consumes left l []) (sym (ap (λ k. prepend_known k left) empty ∙ nothing-held left)) (same-known left);
   planned = refl;
 }
 
-planned_then : (start s1 s2 : Limited) (lines : List Line) (line : Line) → s1 ≡ with_lines lines start → s2 ≡ with_line line s1 → s2 ≡ with_lines (lines ++ line ∷ []) start
-planned_then start s1 s2 lines line p q = q ∙ ap (λ (s : Limited). with_line line s) p ∙ sym (ap (λ (k : Planned). record start { plan = k }) (plan_then start.most lines line start.plan))
+planned-then : (start s1 s2 : LimitedPlanState) (lines : List Line) (line : Line) → s1 ≡ with_lines lines start → s2 ≡ with_line line s1 → s2 ≡ with_lines (lines ++ line ∷ []) start
+planned-then start s1 s2 lines line p q = q ∙ ap (λ (s : LimitedPlanState). with_line line s) p ∙ sym (ap (λ (k : PlanState). record start { plan = k }) (plan-then start.max_names lines line start.plan))
 
 -- a line was added, and an LF ended it
-pub planned_line : (start s1 s2 : Limited) (before : Option (List ℕ)) (h1 h2 : Held) (left : Option (List ℕ)) (n : ℕ) (line : Line) → Planning start before h1 left s1 → EndsLine h1.bytes h1.is_skipping n line
+pub planning-line : (start s1 s2 : LimitedPlanState) (before : Option (List ℕ)) (h1 h2 : LineBufferState) (left : Option (List ℕ)) (n : ℕ) (line : Line) → Planning start before h1 left s1 → EndsLine h1.bytes h1.is_skipping n line
     → s2 ≡ with_line line s1 → h2.bytes ≡ drop n h1.bytes → h2.is_skipping ≡ false → Planning start before h2 left s2
-planned_line start s1 s2 before h1 h2 left n line g ends plans held whole =
+planning-line start s1 s2 before h1 h2 left n line g ends plans held whole =
     let bytes = g.skipped ++ take n h1.bytes in
     record {
       input = g.input ++ bytes;
       skipped = [];
       lines = g.lines ++ line ∷ [];
-      whole = then_whole g.input bytes g.lines line g.whole (ends g.skipped g.passed);
+      whole = then-whole g.input bytes g.lines line g.whole (ends g.skipped g.passed);
       passed = subst (λ (b : Bool). PassedOver b the_none) (sym whole) refl;
       consumed = subst (λ (k : List ℕ). Consumes before (rest_of h2 left) k) (append_assoc g.input g.skipped (take n h1.bytes) ∙ sym (append-nil (g.input ++ bytes)))
-          (subst (λ (k : List ℕ). Consumes before (prepend_known k left) ((g.input ++ g.skipped) ++ take n h1.bytes)) (sym held) (taken_front before (g.input ++ g.skipped) h1.bytes n left g.consumed));
-      planned = planned_then start s1 s2 g.lines line g.planned plans;
+          (subst (λ (k : List ℕ). Consumes before (prepend_known k left) ((g.input ++ g.skipped) ++ take n h1.bytes)) (sym held) (taken-front before (g.input ++ g.skipped) h1.bytes n left g.consumed));
+      planned = planned-then start s1 s2 g.lines line g.planned plans;
     }
 
 -- more is needed to find the end of the line
-waited : (start now : Limited) (before : Option (List ℕ)) (h1 h2 : Held) (left : Option (List ℕ)) → Planning start before h1 left now → IsOneLine h1.bytes → Waits h1 h2 → Planning start before h2 left now
-waited start now before h1 h2 left g one waits = kept waits.kept
+planning-wait : (start now : LimitedPlanState) (before : Option (List ℕ)) (h1 h2 : LineBufferState) (left : Option (List ℕ)) → Planning start before h1 left now → IsOneLine h1.bytes → Waits h1 h2 → Planning start before h2 left now
+planning-wait start now before h1 h2 left g one waits = kept waits.kept
   where
     kept : Stays h1 h2 ⊎ IsPassed h1 h2 → Planning start before h2 left now
     kept (inl (same, was, is)) = record {
@@ -90,10 +90,10 @@ waited start now before h1 h2 left g one waits = kept waits.kept
       lines = g.lines;
       whole = g.whole;
       passed = subst (λ (b : Bool). PassedOver b (g.skipped ++ h1.bytes)) (sym is)
-          (both_one_line g.skipped h1.bytes (one_line_of h1.is_skipping g.skipped g.passed) one, enough long);
+          (both-one-line g.skipped h1.bytes (one-line-of h1.is_skipping g.skipped g.passed) one, enough long);
       consumed = subst (λ (k : List ℕ). Consumes before (prepend_known k left) (g.input ++ (g.skipped ++ h1.bytes))) (sym none)
           (subst (λ (k : List ℕ). Consumes before (prepend_known the_none left) k) (append_assoc g.input g.skipped h1.bytes)
-          (subst (λ (l : Option (List ℕ)). Consumes before l ((g.input ++ g.skipped) ++ h1.bytes)) (sym (nothing_held left)) (unheld before left (g.input ++ g.skipped) h1.bytes g.consumed)));
+          (subst (λ (l : Option (List ℕ)). Consumes before l ((g.input ++ g.skipped) ++ h1.bytes)) (sym (nothing-held left)) (unheld before left (g.input ++ g.skipped) h1.bytes g.consumed)));
       planned = g.planned;
     }
       where
@@ -102,23 +102,23 @@ waited start now before h1 h2 left g one waits = kept waits.kept
         enough (inr lt) = omega (arith, lt, length-append g.skipped h1.bytes)
 
 -- more was read
-pub read_on : (start s1 s2 : Limited) (before : Option (List ℕ)) (h1 h2 h3 : Held) (l1 l2 : Option (List ℕ)) (n : ℕ) → Planning start before h1 l1 s1 → s2 ≡ s1 → IsOneLine h1.bytes → Waits h1 h2 → Refills h2 h3 (between l1 l2) n
+pub planning-read : (start s1 s2 : LimitedPlanState) (before : Option (List ℕ)) (h1 h2 h3 : LineBufferState) (l1 l2 : Option (List ℕ)) (n : ℕ) → Planning start before h1 l1 s1 → s2 ≡ s1 → IsOneLine h1.bytes → Waits h1 h2 → Refills h2 h3 (between l1 l2) n
     → Planning start before h3 l2 s2
-read_on start s1 s2 before h1 h2 h3 l1 l2 n progress same one waits r =
-    let g = waited start s1 before h1 h2 l1 progress one waits in
+planning-read start s1 s2 before h1 h2 h3 l1 l2 n progress same one waits r =
+    let g = planning-wait start s1 before h1 h2 l1 progress one waits in
     record {
       input = g.input;
       skipped = g.skipped;
       lines = g.lines;
       whole = g.whole;
       passed = subst (λ (b : Bool). PassedOver b g.skipped) (sym r.skipping) g.passed;
-      consumed = read_more before (g.input ++ g.skipped) h2.bytes h3.bytes r.more l1 l2 g.consumed r.added r.consumed;
+      consumed = read-more before (g.input ++ g.skipped) h2.bytes h3.bytes r.more l1 l2 g.consumed r.added r.consumed;
       planned = same ∙ g.planned;
     }
 
 -- the bytes held when the input ended were added as the last line, which has no LF, or were none
-pub all_planned : (start s1 s2 : Limited) (before : Option (List ℕ)) (h : Held) (left : Option (List ℕ)) → Planning start before h left s1 → Ended h left → s2 ≡ with_line (last_line h.is_skipping h.bytes) s1 → PlansAll start (between before left) s2
-all_planned start s1 s2 before h left g e last =
+pub planning-end : (start s1 s2 : LimitedPlanState) (before : Option (List ℕ)) (h : LineBufferState) (left : Option (List ℕ)) → Planning start before h left s1 → Ended h left → s2 ≡ with_line (last_line h.is_skipping h.bytes) s1 → PlansAll start (between before left) s2
+planning-end start s1 s2 before h left g e last =
     let input = g.input ++ (g.skipped ++ h.bytes) in
     let cut = cut_so h.is_skipping g.passed e.skipping last in
     (input, cut.0, subst (λ (k : List ℕ). Consumes before left k) (append_assoc g.input g.skipped h.bytes) (unheld before left (g.input ++ g.skipped) h.bytes g.consumed), e.end, cut.1, cut.2)
@@ -129,23 +129,23 @@ all_planned start s1 s2 before h left g e last =
     cut_text : g.skipped ≡ [] → s2 ≡ with_line (text h.bytes) s1 → (h.bytes ≡ []) ⊎ (0 < length h.bytes) → Cut
     cut_text passed is (inl none) = (
       g.lines,
-      subst (λ (k : List ℕ). IsCutInto k g.lines) (sym (ap (λ k. g.input ++ k) (ap (λ k. k ++ h.bytes) passed ∙ none) ∙ append-nil g.input)) (all_whole g.input g.lines g.whole),
+      subst (λ (k : List ℕ). IsCutInto k g.lines) (sym (ap (λ k. g.input ++ k) (ap (λ k. k ++ h.bytes) passed ∙ none) ∙ append-nil g.input)) (all-whole g.input g.lines g.whole),
       is ∙ ap (λ (k : List ℕ). with_line (text k) s1) none ∙ g.planned,
     )
     cut_text passed is (inr some) = (
       g.lines ++ text h.bytes ∷ [],
-      then_last g.input (g.skipped ++ h.bytes) g.lines (text h.bytes) g.whole (subst (λ (k : List ℕ). IsLine k (text h.bytes) ⊤) (ap (λ k. k ++ h.bytes) (sym passed)) (h.bytes, e.one_line, e.short, inr (refl, some, tt, refl))),
-      planned_then start s1 s2 g.lines (text h.bytes) g.planned is,
+      then-last g.input (g.skipped ++ h.bytes) g.lines (text h.bytes) g.whole (subst (λ (k : List ℕ). IsLine k (text h.bytes) ⊤) (ap (λ k. k ++ h.bytes) (sym passed)) (h.bytes, e.one_line, e.short, inr (refl, some, tt, refl))),
+      planned-then start s1 s2 g.lines (text h.bytes) g.planned is,
     )
 
     cut_so : (skips : Bool) → PassedOver skips g.skipped → (skips ≡ true → h.bytes ≡ []) → s2 ≡ with_line (last_line skips h.bytes) s1 → Cut
     cut_so true passed none is = (
       g.lines ++ too_long ∷ [],
-      then_last g.input (g.skipped ++ h.bytes) g.lines too_long g.whole
+      then-last g.input (g.skipped ++ h.bytes) g.lines too_long g.whole
           (subst (λ (k : List ℕ). IsLine (g.skipped ++ k) too_long ⊤) (sym (none refl)) (g.skipped, passed.0, passed.1, inr (append-nil g.skipped, long_some passed.1, tt))),
-      planned_then start s1 s2 g.lines too_long g.planned is,
+      planned-then start s1 s2 g.lines too_long g.planned is,
     )
       where
         long_some : 65536 < length g.skipped → 0 < length g.skipped
         long_some long = omega (arith, long)
-    cut_so false passed none is = cut_text passed is (none_or_some h.bytes)
+    cut_so false passed none is = cut_text passed is (none-or-some h.bytes)

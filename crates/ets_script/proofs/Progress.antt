@@ -3,16 +3,16 @@ use Rattle.std.proofs.Common.{◌≡◌, ℕ, suc, ◌<◌, ◌⊎◌, Bool, tru
 use Rattle.std.specs.Io.KnownBytes.{Consumes, prepend_known}
 use Rattle.ets_script.specs.Lines.{Line, IsOneLine}
 use Rattle.ets_script.specs.Replies.{printed}
-use Rattle.ets_script.specs.Script.{Scripted, AnswersLine, AreWholeLines}
-use Rattle.ets_script.specs.inside.Feeds.{Held, rest_of, Refills, PassedOver, EndsLine, Stays, IsPassed, Waits}
+use Rattle.ets_script.specs.Script.{ScriptState, AnswersLine, AreWholeLines}
+use Rattle.ets_script.specs.inside.LineBuffers.{LineBufferState, rest_of, Refills, PassedOver, EndsLine, Stays, IsPassed, Waits}
 use Rattle.ets_script.specs.inside.Output.{Sends}
 use Rattle.ets_script.specs.declared.answer.Answer.{Answer}
-use Rattle.ets_script.proofs.KnownBytes.{between, sends_on, sends_more, sends_none, nothing_held, read_more, same_known, taken_front, the_none, unheld}
-use Rattle.ets_script.proofs.HeldLines.{both_one_line, one_line_of}
-use Rattle.ets_script.proofs.AnsweredLines.{then_line}
+use Rattle.ets_script.proofs.KnownBytes.{between, sends-on, sends-more, sends-none, nothing-held, read-more, same-known, taken-front, the_none, unheld}
+use Rattle.ets_script.proofs.BufferedLines.{both-one-line, one-line-of}
+use Rattle.ets_script.proofs.AnsweredLines.{then-line}
 
 -- the lines so far and their answers, of which some still wait; of a line that is too long a part was passed over
-pub record Progress (start : Scripted) (before old : Option (List ℕ)) (held : Held) (left : Option (List ℕ)) (pending : List ℕ) (new : Option (List ℕ)) (now : Scripted) : Type 0 where
+pub record Progress (start : ScriptState) (before old : Option (List ℕ)) (held : LineBufferState) (left : Option (List ℕ)) (pending : List ℕ) (new : Option (List ℕ)) (now : ScriptState) : Type 0 where
   pub input : List ℕ
   pub out : List ℕ
   pub skipped : List ℕ
@@ -21,36 +21,36 @@ pub record Progress (start : Scripted) (before old : Option (List ℕ)) (held : 
   pub consumed : Consumes before (rest_of held left) (input ++ skipped)
   pub sent : Sends (between old new) out pending
 
-pub nothing_yet : (s : Scripted) (held : Held) (left : Option (List ℕ)) (pending : List ℕ) (w : Option (List ℕ)) → pending ≡ [] → held.bytes ≡ [] → held.is_skipping ≡ false → Progress s left w held left pending w s
-nothing_yet s held left pending w none empty whole = record {
+pub progress-start : (s : ScriptState) (held : LineBufferState) (left : Option (List ℕ)) (pending : List ℕ) (w : Option (List ℕ)) → pending ≡ [] → held.bytes ≡ [] → held.is_skipping ≡ false → Progress s left w held left pending w s
+progress-start s held left pending w none empty whole = record {
   input = [];
   out = [];
   skipped = [];
   lines = (0, (refl, refl, refl));
   passed = subst (λ (b : Bool). PassedOver b the_none) (sym whole) refl;
-  consumed = subst (λ (l : Option (List ℕ)). Consumes left l []) (sym (ap (λ k. prepend_known k left) empty ∙ nothing_held left)) (same_known left);
-  sent = subst (λ (p : List ℕ). Sends (between w w) [] p) (sym none) (sends_none w []);
+  consumed = subst (λ (l : Option (List ℕ)). Consumes left l []) (sym (ap (λ k. prepend_known k left) empty ∙ nothing-held left)) (same-known left);
+  sent = subst (λ (p : List ℕ). Sends (between w w) [] p) (sym none) (sends-none w []);
 }
 
 -- a line was answered, and an LF ended it
-pub answered_line : (start s1 s2 : Scripted) (before old w1 w2 : Option (List ℕ)) (h1 h2 : Held) (left : Option (List ℕ)) (p1 p2 : List ℕ) (n : ℕ) (line : Line) (answer : Answer) → Progress start before old h1 left p1 w1 s1
+pub progress-line : (start s1 s2 : ScriptState) (before old w1 w2 : Option (List ℕ)) (h1 h2 : LineBufferState) (left : Option (List ℕ)) (p1 p2 : List ℕ) (n : ℕ) (line : Line) (answer : Answer) → Progress start before old h1 left p1 w1 s1
     → EndsLine h1.bytes h1.is_skipping n line → AnswersLine s1 line answer s2 → Sends (between w1 w2) (p1 ++ printed answer) p2 → h2.bytes ≡ drop n h1.bytes → h2.is_skipping ≡ false → Progress start before old h2 left p2 w2 s2
-answered_line start s1 s2 before old w1 w2 h1 h2 left p1 p2 n line answer g ends answers sent held whole =
+progress-line start s1 s2 before old w1 w2 h1 h2 left p1 p2 n line answer g ends answers sent held whole =
     let bytes = g.skipped ++ take n h1.bytes in
     record {
       input = g.input ++ bytes;
       out = g.out ++ printed answer;
       skipped = [];
-      lines = (suc g.lines.0, then_line g.lines.0 start s1 s2 g.input g.out bytes (printed answer) ⊥ g.lines.1 (record { line = line; answer = answer; is_line = ends g.skipped g.passed; answers = answers; prints = refl }));
+      lines = (suc g.lines.0, then-line g.lines.0 start s1 s2 g.input g.out bytes (printed answer) ⊥ g.lines.1 (record { line = line; answer = answer; is_line = ends g.skipped g.passed; answers = answers; prints = refl }));
       passed = subst (λ (b : Bool). PassedOver b the_none) (sym whole) refl;
       consumed = subst (λ (k : List ℕ). Consumes before (rest_of h2 left) k) (append_assoc g.input g.skipped (take n h1.bytes) ∙ sym (append-nil (g.input ++ bytes)))
-          (subst (λ (k : List ℕ). Consumes before (prepend_known k left) ((g.input ++ g.skipped) ++ take n h1.bytes)) (sym held) (taken_front before (g.input ++ g.skipped) h1.bytes n left g.consumed));
-      sent = sends_more old w1 w2 g.out p1 (printed answer) p2 g.sent sent;
+          (subst (λ (k : List ℕ). Consumes before (prepend_known k left) ((g.input ++ g.skipped) ++ take n h1.bytes)) (sym held) (taken-front before (g.input ++ g.skipped) h1.bytes n left g.consumed));
+      sent = sends-more old w1 w2 g.out p1 (printed answer) p2 g.sent sent;
     }
 
 -- more is needed to find the end of the line
-pub waited : (start now : Scripted) (before old w : Option (List ℕ)) (h1 h2 : Held) (left : Option (List ℕ)) (p : List ℕ) → Progress start before old h1 left p w now → IsOneLine h1.bytes → Waits h1 h2 → Progress start before old h2 left p w now
-waited start now before old w h1 h2 left p g one waits = kept waits.kept
+pub progress-wait : (start now : ScriptState) (before old w : Option (List ℕ)) (h1 h2 : LineBufferState) (left : Option (List ℕ)) (p : List ℕ) → Progress start before old h1 left p w now → IsOneLine h1.bytes → Waits h1 h2 → Progress start before old h2 left p w now
+progress-wait start now before old w h1 h2 left p g one waits = kept waits.kept
   where
     kept : Stays h1 h2 ⊎ IsPassed h1 h2
         → Progress start before old h2 left p w now
@@ -69,10 +69,10 @@ waited start now before old w h1 h2 left p g one waits = kept waits.kept
       skipped = g.skipped ++ h1.bytes;
       lines = g.lines;
       passed = subst (λ (b : Bool). PassedOver b (g.skipped ++ h1.bytes)) (sym is)
-          (both_one_line g.skipped h1.bytes (one_line_of h1.is_skipping g.skipped g.passed) one, enough long);
+          (both-one-line g.skipped h1.bytes (one-line-of h1.is_skipping g.skipped g.passed) one, enough long);
       consumed = subst (λ (k : List ℕ). Consumes before (prepend_known k left) (g.input ++ (g.skipped ++ h1.bytes))) (sym none)
           (subst (λ (k : List ℕ). Consumes before (prepend_known the_none left) k) (append_assoc g.input g.skipped h1.bytes)
-          (subst (λ (l : Option (List ℕ)). Consumes before l ((g.input ++ g.skipped) ++ h1.bytes)) (sym (nothing_held left)) (unheld before left (g.input ++ g.skipped) h1.bytes g.consumed)));
+          (subst (λ (l : Option (List ℕ)). Consumes before l ((g.input ++ g.skipped) ++ h1.bytes)) (sym (nothing-held left)) (unheld before left (g.input ++ g.skipped) h1.bytes g.consumed)));
       sent = g.sent;
     }
       where
@@ -81,30 +81,30 @@ waited start now before old w h1 h2 left p g one waits = kept waits.kept
         enough (inr lt) = omega (arith, lt, length-append g.skipped h1.bytes)
 
 -- the buffered text went out
-pub flushed : (start now : Scripted) (before old w1 w2 : Option (List ℕ)) (h : Held) (left : Option (List ℕ)) (p1 p2 : List ℕ) → Progress start before old h left p1 w1 now → Sends (between w1 w2) p1 p2 → Progress start before old h left p2 w2 now
-flushed start now before old w1 w2 h left p1 p2 g sent = record {
+pub progress-flush : (start now : ScriptState) (before old w1 w2 : Option (List ℕ)) (h : LineBufferState) (left : Option (List ℕ)) (p1 p2 : List ℕ) → Progress start before old h left p1 w1 now → Sends (between w1 w2) p1 p2 → Progress start before old h left p2 w2 now
+progress-flush start now before old w1 w2 h left p1 p2 g sent = record {
   input = g.input;
   out = g.out;
   skipped = g.skipped;
   lines = g.lines;
   passed = g.passed;
   consumed = g.consumed;
-  sent = sends_on old w1 w2 g.out p1 p2 g.sent sent;
+  sent = sends-on old w1 w2 g.out p1 p2 g.sent sent;
 }
 
-pub refilled : (start now : Scripted) (before old w : Option (List ℕ)) (h1 h2 : Held) (l1 l2 : Option (List ℕ)) (p : List ℕ) (n : ℕ) → Progress start before old h1 l1 p w now → Refills h1 h2 (between l1 l2) n → Progress start before old h2 l2 p w now
-refilled start now before old w h1 h2 l1 l2 p n g r = record {
+pub progress-refill : (start now : ScriptState) (before old w : Option (List ℕ)) (h1 h2 : LineBufferState) (l1 l2 : Option (List ℕ)) (p : List ℕ) (n : ℕ) → Progress start before old h1 l1 p w now → Refills h1 h2 (between l1 l2) n → Progress start before old h2 l2 p w now
+progress-refill start now before old w h1 h2 l1 l2 p n g r = record {
   input = g.input;
   out = g.out;
   skipped = g.skipped;
   lines = g.lines;
   passed = subst (λ (b : Bool). PassedOver b g.skipped) (sym r.skipping) g.passed;
-  consumed = read_more before (g.input ++ g.skipped) h1.bytes h2.bytes r.more l1 l2 g.consumed r.added r.consumed;
+  consumed = read-more before (g.input ++ g.skipped) h1.bytes h2.bytes r.more l1 l2 g.consumed r.added r.consumed;
   sent = g.sent;
 }
 
 -- the buffered text went out, and more was read
-pub read_on : (start now : Scripted) (before old w1 w2 : Option (List ℕ)) (h1 h2 h3 : Held) (l1 l2 : Option (List ℕ)) (p1 p2 : List ℕ) (n : ℕ) → Progress start before old h1 l1 p1 w1 now → IsOneLine h1.bytes
+pub progress-read : (start now : ScriptState) (before old w1 w2 : Option (List ℕ)) (h1 h2 h3 : LineBufferState) (l1 l2 : Option (List ℕ)) (p1 p2 : List ℕ) (n : ℕ) → Progress start before old h1 l1 p1 w1 now → IsOneLine h1.bytes
     → Sends (between w1 w2) p1 p2 → Waits h1 h2 → Refills h2 h3 (between l1 l2) n → Progress start before old h3 l2 p2 w2 now
-read_on start now before old w1 w2 h1 h2 h3 l1 l2 p1 p2 n g one sent waits r =
-    refilled start now before old w2 h2 h3 l1 l2 p2 n (waited start now before old w2 h1 h2 l1 p2 (flushed start now before old w1 w2 h1 l1 p1 p2 g sent) one waits) r
+progress-read start now before old w1 w2 h1 h2 h3 l1 l2 p1 p2 n g one sent waits r =
+    progress-refill start now before old w2 h2 h3 l1 l2 p2 n (progress-wait start now before old w2 h1 h2 l1 p2 (progress-flush start now before old w1 w2 h1 l1 p1 p2 g sent) one waits) r

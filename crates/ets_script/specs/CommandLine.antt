@@ -67,12 +67,12 @@ abbrev pub is_named : Text → Option Text → Bool
 is_named name text = option_map_or (λ t. bytes_eq t name) text false
 
 -- a flag is given: its value is true then, and else false
-abbrev pub is_given : Text → List Row → Bool
-is_given flag rows = is_named (codes "true") (first_of flag rows)
+abbrev pub is_set : Text → List Row → Bool
+is_set flag rows = is_named (codes "true") (first_of flag rows)
 
 -- the settings of the matches
 pub record Asks (rows : List Row) (settings : Settings) : Type 0 where
-  pub threads : settings.threads ≡ is_given (codes "threads") rows
+  pub threads : settings.threads ≡ is_set (codes "threads") rows
   pub same : settings.same ≡ is_named (codes "same") (first_of (codes "hash") rows)
   pub objects : Spells (one_of (codes "max-objects") rows) settings.objects
 
@@ -104,7 +104,7 @@ pub record AsksAll (rows : List Row) (request : Request) : Type 0 where
   pub settings : Asks rows request.settings
   pub processes : Spells (one_of (codes "max-processes") rows) request.processes
   pub tables : Spells (one_of (codes "max-tables") rows) request.tables
-  pub why : request.why ≡ is_given (codes "why") rows
+  pub why : request.why ≡ is_set (codes "why") rows
 
 -- as `Settles`, each option by itself
 pub record Parses (words : List Text) (result : Result Request Error) : Type 0 where
@@ -116,7 +116,7 @@ pub record Parses (words : List Text) (result : Result Request Error) : Type 0 w
 -- reasons are not reported for processes in threads
 abbrev pub conflict_of : List Row → Kinds
 conflict_of rows =
-    if is_given (codes "why") rows && is_given (codes "threads") rows then ArgumentConflict ∷ [] else []
+    if is_set (codes "why") rows && is_set (codes "threads") rows then ArgumentConflict ∷ [] else []
 
 -- the faults of the words; if there are none, options that exclude each other
 abbrev pub request_faults : ValueParser → List Text → Kinds

@@ -18,29 +18,29 @@ use Rattle.ets_script.specs.declared.answer.Answer.TheVariants.{Silent, Replied,
 
 -- The names that were spawned, in order: the first is that of process 0, the next that of process 1, and so on. And the
 -- state of the machine, which is the observable state of the node.
-pub record Scripted : Type 0 where
+pub record ScriptState : Type 0 where
   pub names : List (List ℕ)
   pub node : State
 
 -- the process with a name
-abbrev pub pid_of : Scripted → List ℕ → Option ℕ
+abbrev pub pid_of : ScriptState → List ℕ → Option ℕ
 pid_of s name = position (bytes_eq name) s.names
 
 -- the table that a term names, or else the next identifier, which no table has
-abbrev pub table_of : Scripted → Term → ℕ
+abbrev pub table_of : ScriptState → Term → ℕ
 table_of s t = unwrap_or (resolve s.node.world.tables t) (next_identifier s.node)
 
 -- the answer is this, and nothing changes
-abbrev pub Unchanged : Scripted → Answer → Answer → Scripted → Type 0
+abbrev pub Unchanged : ScriptState → Answer → Answer → ScriptState → Type 0
 Unchanged old fixed answer new = (answer ≡ fixed) × (new ≡ old)
 
 -- the node makes a step, and the answer is its reply
-abbrev pub Steps : Scripted → Step → Answer → Scripted → Type 0
+abbrev pub Steps : ScriptState → Step → Answer → ScriptState → Type 0
 Steps old s answer new =
     (r : Reply) × (answer ≡ Replied r) × step old.node s r new.node × (new.names ≡ old.names)
 
 -- a step of the process with a name
-abbrev pub StepsOf : Option ℕ → (ℕ → Step) → Scripted → Answer → Scripted → Type 0
+abbrev pub StepsOf : Option ℕ → (ℕ → Step) → ScriptState → Answer → ScriptState → Type 0
 StepsOf None s old answer new = Unchanged old (Replied NoProcess) answer new
 StepsOf (Some p) s old answer new = Steps old (s p) answer new
 
@@ -52,33 +52,33 @@ names_after SystemLimit names name = names
 names_after NoProcess names name = names
 
 -- a name is spawned once, and takes the next number
-abbrev pub Spawns : Option ℕ → Scripted → List ℕ → Answer → Scripted → Type 0
+abbrev pub Spawns : Option ℕ → ScriptState → List ℕ → Answer → ScriptState → Type 0
 Spawns (Some p) old name answer new = Unchanged old (Replied Badarg) answer new
 Spawns None old name answer new =
     (r : Reply) × (answer ≡ Replied r)
     × step old.node (Enrol (length old.names)) r new.node × (new.names ≡ names_after r old.names name)
 
-abbrev pub Obeys : Command → Scripted → Answer → Scripted → Type 0
-Obeys (faulty at) old answer new = Unchanged old (Syntax at) answer new
-Obeys (spawn name) old answer new = Spawns (pid_of old name) old name answer new
-Obeys (exit name) old answer new = StepsOf (pid_of old name) (λ p. End p) old answer new
-Obeys (ask name word terms) old answer new =
+abbrev pub Executes : Command → ScriptState → Answer → ScriptState → Type 0
+Executes (faulty at) old answer new = Unchanged old (Syntax at) answer new
+Executes (spawn name) old answer new = Spawns (pid_of old name) old name answer new
+Executes (exit name) old answer new = StepsOf (pid_of old name) (λ p. End p) old answer new
+Executes (ask name word terms) old answer new =
     StepsOf (pid_of old name) (λ p. Ask p (record { name = word; args = terms })) old answer new
-Obeys (grow t) old answer new = Steps old (Grow (table_of old t)) answer new
-Obeys (ready t bucket) old answer new = Steps old (Ready (table_of old t) bucket) answer new
+Executes (grow t) old answer new = Steps old (Grow (table_of old t)) answer new
+Executes (ready t bucket) old answer new = Steps old (Ready (table_of old t) bucket) answer new
 
 -- a line that is silent, and one that is not: the latter may have out of memory as its answer
-abbrev pub AnswersText : Bool → Scripted → List ℕ → Answer → Scripted → Type 0
+abbrev pub AnswersText : Bool → ScriptState → List ℕ → Answer → ScriptState → Type 0
 AnswersText true old t answer new = Unchanged old Silent answer new
-AnswersText false old t answer new = Obeys (command t) old answer new ⊎ Unchanged old NoMemory answer new
+AnswersText false old t answer new = Executes (command t) old answer new ⊎ Unchanged old NoMemory answer new
 
 -- the answer to a line, and the state after it
-abbrev pub AnswersLine : Scripted → Line → Answer → Scripted → Type 0
+abbrev pub AnswersLine : ScriptState → Line → Answer → ScriptState → Type 0
 AnswersLine old (text t) answer new = AnswersText (is_silent t) old t answer new
 AnswersLine old too_long answer new = Unchanged old TooLong answer new
 
 -- These bytes are one line, which has this output; `last` if nothing follows it.
-pub record IsAnswered (old : Scripted) (bytes out : List ℕ) (new : Scripted) (last : Type 0) : Type 0 where
+pub record IsAnswered (old : ScriptState) (bytes out : List ℕ) (new : ScriptState) (last : Type 0) : Type 0 where
   pub line : Line
   pub answer : Answer
   pub is_line : IsLine bytes line last
@@ -87,24 +87,24 @@ pub record IsAnswered (old : Scripted) (bytes out : List ℕ) (new : Scripted) (
 
 -- This number of lines is all of the input, and their answers are all of the output, from one state to another. If
 -- `last` holds, the last line may lack its LF.
-abbrev pub ScriptText : ℕ → Type 0 → Scripted → List ℕ → List ℕ → Scripted → Type 0
+abbrev pub ScriptText : ℕ → Type 0 → ScriptState → List ℕ → List ℕ → ScriptState → Type 0
 ScriptText zero last old input output new = (input ≡ []) × (output ≡ []) × (new ≡ old)
 ScriptText (suc n) last old input output new =
-    (mid : Scripted) × (bytes : List ℕ) × (rest : List ℕ) × (first : List ℕ) × (others : List ℕ)
+    (mid : ScriptState) × (bytes : List ℕ) × (rest : List ℕ) × (first : List ℕ) × (others : List ℕ)
     × (input ≡ bytes ++ rest) × (output ≡ first ++ others)
     × IsAnswered old bytes first mid ((rest ≡ []) × last) × ScriptText n last mid rest others new
 
-abbrev pub AreLines : Type 0 → Scripted → List ℕ → List ℕ → Scripted → Type 0
+abbrev pub AreLines : Type 0 → ScriptState → List ℕ → List ℕ → ScriptState → Type 0
 AreLines last old input output new = (count : ℕ) × ScriptText count last old input output new
 
 -- lines that all have their LF
-abbrev pub AreWholeLines : Scripted → List ℕ → List ℕ → Scripted → Type 0
+abbrev pub AreWholeLines : ScriptState → List ℕ → List ℕ → ScriptState → Type 0
 AreWholeLines = AreLines ⊥
 
 -- a script to its end, where the last line may lack its LF
-abbrev pub IsScript : Scripted → List ℕ → List ℕ → Scripted → Type 0
+abbrev pub IsScript : ScriptState → List ℕ → List ℕ → ScriptState → Type 0
 IsScript = AreLines ⊤
 
 -- before the first line, on a node with these limits
-abbrev pub at_start : Limits → Scripted
+abbrev pub at_start : Limits → ScriptState
 at_start limits = record { names = []; node = empty limits }

@@ -13,11 +13,11 @@ use Rattle.node_shared.specs.declared.transcript.CloseFault.{CloseFault}
 use Rattle.node_shared.specs.declared.transcript.CloseFault.TheVariants as close
 use Rattle.node_shared.specs.Closing.{Closes}
 use Rattle.node_shared.specs.Journal.{IsRun, of, has_entries, process_of}
-use Rattle.node_shared.specs.Records.{Recorded}
+use Rattle.node_shared.specs.Records.{RecordState}
 use Rattle.node_shared.specs.Working.{job_step}
 use Rattle.ets_script.specs.Flows.{Flow}
 use Rattle.ets_script.specs.Lines.{Line, IsCutInto}
-use Rattle.ets_script.specs.Plan.{Planned, nothing, lines_plan}
+use Rattle.ets_script.specs.Plan.{PlanState, empty_plan, lines_plan}
 use Rattle.ets_script.specs.Replies.{printed, reply_text}
 use Rattle.ets_script.specs.Stops.{usual}
 use Rattle.ets_script.specs.declared.answer.Answer.{Answer}
@@ -71,11 +71,11 @@ pub record RunsJobs (limits : Limits) (jobs : List (List Job)) (done : List Entr
 -- planned answers.
 pub record ThreadsText (limits : Limits) (input output : List ℕ) : Type 0 where
   pub lines : List Line
-  pub plan : Planned
+  pub plan : PlanState
   pub done : List Entry
   pub left : List ℕ
   pub cut : IsCutInto input lines
-  pub planned : plan ≡ lines_plan (min limits.processes MAX_PIDS) lines nothing
+  pub planned : plan ≡ lines_plan (min limits.processes MAX_PIDS) lines empty_plan
   pub runs : RunsJobs limits plan.jobs done left
   pub prints : output ≡ threads_text plan.answers plan.names done left
 
@@ -88,7 +88,7 @@ ThreadsEnd limits reader writer =
 
 -- the journal of a run of the node, compared with the records of its clients, shows this fault
 abbrev pub IsUnclosed : Limits → CloseFault → Type 0
-IsUnclosed limits fault = (clients : List Recorded) × Closes limits clients (Err fault)
+IsUnclosed limits fault = (clients : List RecordState) × Closes limits clients (Err fault)
 
 -- At a write fault a prefix of the text of a whole script was written. At any other nothing was. A process differs, or
 -- is missing, only where the journal of a run of the node and the records of its clients say so.

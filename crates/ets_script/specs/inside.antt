@@ -1,7 +1,7 @@
-pub mod Feeds
+pub mod LineBuffers
 pub mod Output
 pub mod Answered
-pub mod Says
+pub mod Parsing
 pub mod Codes
 pub mod Enrolments
 pub mod PlanCodes
@@ -9,4 +9,4 @@ pub mod Planning
 pub mod Journal
 pub mod Processes
 pub mod Options
-pub mod Explained
+pub mod Explanations

@@ -4,7 +4,7 @@ ghost use Rattle.ets_script.specs.Flows.{flow};
 ghost use Rattle.ets_script.specs.Replies.{printed, reply_text};
 ghost use Rattle.ets_script.specs.inside.Output.{Sends, Breaks};
 
-use crate::output::{Pending, WriteFault};
+use crate::output::{OutputBuffer, WriteFault};
 use itoa::Buffer;
 use node_core::Reply;
 use std::io::Write;
@@ -25,18 +25,22 @@ pub enum Answer {
 
 impl Answer {
     /// Prints the answer on a line of its own, after the buffered text.
-    pub fn print<W: Write>(&self, pending: &mut Pending, writer: &mut W) -> Result<(), WriteFault>
+    pub fn print<W: Write>(
+        &self,
+        output: &mut OutputBuffer,
+        writer: &mut W,
+    ) -> Result<(), WriteFault>
         ensures ok { OnOk result (Sends (flow W.contents writer.old writer.new)
-            (pending.old ++ printed self.now) pending.new) }
+            (output.old ++ printed self.now) output.new) }
         ensures err { OnErr result (Breaks (flow W.contents writer.old writer.new)
-            (pending.old ++ printed self.now)) }
+            (output.old ++ printed self.now)) }
     {
         match self {
             Answer::Silent => Ok(()),
-            Answer::Replied(reply) => print_reply(reply, pending, writer),
-            Answer::NoMemory => pending.add(writer, b"** nomem\n"),
-            Answer::Syntax(at) => print_syntax(*at, pending, writer),
-            Answer::TooLong => pending.add(writer, b"** line too long\n"),
+            Answer::Replied(reply) => print_reply(reply, output, writer),
+            Answer::NoMemory => output.add(writer, b"** nomem\n"),
+            Answer::Syntax(at) => print_syntax(*at, output, writer),
+            Answer::TooLong => output.add(writer, b"** line too long\n"),
         }
     }
 }
@@ -44,34 +48,34 @@ impl Answer {
 /// Prints a reply and an LF.
 pub fn print_reply<W: Write>(
     reply: &Reply,
-    pending: &mut Pending,
+    output: &mut OutputBuffer,
     writer: &mut W,
 ) -> Result<(), WriteFault>
     ensures ok { OnOk result (Sends (flow W.contents writer.old writer.new)
-        (pending.old ++ (reply_text reply.now ++ codes "\n")) pending.new) }
+        (output.old ++ (reply_text reply.now ++ codes "\n")) output.new) }
     ensures err { OnErr result (Breaks (flow W.contents writer.old writer.new)
-        (pending.old ++ (reply_text reply.now ++ codes "\n"))) }
+        (output.old ++ (reply_text reply.now ++ codes "\n"))) }
 {
     match reply {
-        Reply::Value(term) => pending.add_term(writer, term),
-        Reply::Badarg => pending.add(writer, b"** badarg\n"),
-        Reply::SystemLimit => pending.add(writer, b"** system_limit\n"),
-        Reply::NoProcess => pending.add(writer, b"** noproc\n"),
+        Reply::Value(term) => output.add_term(writer, term),
+        Reply::Badarg => output.add(writer, b"** badarg\n"),
+        Reply::SystemLimit => output.add(writer, b"** system_limit\n"),
+        Reply::NoProcess => output.add(writer, b"** noproc\n"),
     }
 }
 
 fn print_syntax<W: Write>(
     at: usize,
-    pending: &mut Pending,
+    output: &mut OutputBuffer,
     writer: &mut W,
 ) -> Result<(), WriteFault>
     ensures ok { OnOk result (Sends (flow W.contents writer.old writer.new)
-        (pending.old ++ printed (Answer.Syntax at)) pending.new) }
+        (output.old ++ printed (Answer.Syntax at)) output.new) }
     ensures err { OnErr result (Breaks (flow W.contents writer.old writer.new)
-        (pending.old ++ printed (Answer.Syntax at))) }
+        (output.old ++ printed (Answer.Syntax at))) }
 {
     let mut digits = Buffer::new();
-    pending.add(writer, b"** syntax ")?;
-    pending.add(writer, digits.format(at).as_bytes())?;
-    pending.add(writer, b"\n")
+    output.add(writer, b"** syntax ")?;
+    output.add(writer, digits.format(at).as_bytes())?;
+    output.add(writer, b"\n")
 }

@@ -40,7 +40,7 @@ pub fn settings<S: AsStr>(alloc: Global, words: &[S]) -> Result<Settings, Error>
     ensures { Settles (map S.text words.entry.now) result }
 {
     let matches = settings_command(alloc)?.try_get_matches_from(words)?;
-    Ok(asked_settings(&matches))
+    Ok(settings_of(&matches))
 }
 
 /// Returns what a command line asks, as `settings` does, with more options: the limits of processes and of tables,
@@ -48,7 +48,7 @@ pub fn settings<S: AsStr>(alloc: Global, words: &[S]) -> Result<Settings, Error>
 pub fn request<S: AsStr>(alloc: Global, words: &[S]) -> Result<Request, Error>
     ensures { Requests (map S.text words.entry.now) result }
 {
-    let request = parsed_request(alloc, words)?;
+    let request = parse_request(alloc, words)?;
     if request.why && request.settings.threads {
         return Err(conflict(alloc)?);
     }
@@ -56,7 +56,7 @@ pub fn request<S: AsStr>(alloc: Global, words: &[S]) -> Result<Request, Error>
 }
 
 /// Returns what a command line asks, each option by itself.
-fn parsed_request<S: AsStr>(alloc: Global, words: &[S]) -> Result<Request, Error>
+fn parse_request<S: AsStr>(alloc: Global, words: &[S]) -> Result<Request, Error>
     ensures { Parses (map S.text words.entry.now) result }
 {
     let processes = number_option(
@@ -78,9 +78,9 @@ fn parsed_request<S: AsStr>(alloc: Global, words: &[S]) -> Result<Request, Error
         .version(VERSION);
     let matches = command.try_get_matches_from(words)?;
     Ok(Request {
-        settings: asked_settings(&matches),
-        processes: asked_number(&matches, "max-processes"),
-        tables: asked_number(&matches, "max-tables"),
+        settings: settings_of(&matches),
+        processes: matched_number(&matches, "max-processes"),
+        tables: matched_number(&matches, "max-tables"),
         why: is_named("true", matches.get_str("why")),
     })
 }
@@ -105,14 +105,14 @@ fn settings_command<'a>(alloc: Global) -> Result<Command<'a>, AllocError>
         "1000000",
         "Limit the objects in one table",
     );
-    described(Command::new(alloc, "ets_script"))
+    with_help(Command::new(alloc, "ets_script"))
         .arg(flag_option(alloc, "threads", "Run each process in its own thread"))?
         .arg(hash)?
         .arg(objects)
 }
 
 /// Gives a command the texts of its help, which change nothing of what it parses.
-fn described<'a>(command: Command<'a>) -> Command<'a>
+fn with_help<'a>(command: Command<'a>) -> Command<'a>
     ensures { app_of result ≡ app_of command.entry }
 {
     command
@@ -157,19 +157,19 @@ fn number_option<'a>(alloc: Global, name: &'a str, default: &'a str, help: &'a s
 }
 
 /// Returns the settings among what was matched, which has a number of objects.
-fn asked_settings(matches: &ArgMatches) -> Settings
+fn settings_of(matches: &ArgMatches) -> Settings
     ensures { HasNumber (found_of matches.now) (codes "max-objects")
         → Asks (rows_of (found_of matches.now)) result }
 {
     Settings {
         threads: is_named("true", matches.get_str("threads")),
         same: is_named("same", matches.get_str("hash")),
-        objects: asked_number(matches, "max-objects"),
+        objects: matched_number(matches, "max-objects"),
     }
 }
 
 /// Returns the number of the option of this name, which has one.
-fn asked_number(matches: &ArgMatches, name: &str) -> u32
+fn matched_number(matches: &ArgMatches, name: &str) -> u32
     ensures { HasNumber (found_of matches.now) name.now
         → Spells (one_text (found_of matches.now) name.now) result }
 {

@@ -2,7 +2,7 @@
 ghost use Rattle.std.specs.Prelude.{◌≡◌, IfOk};
 ghost use Rattle.node_core.specs.State.{State};
 ghost use Rattle.node_core.specs.Machine.{step};
-ghost use Rattle.ets_script.specs.inside.Explained.{SaidOf, step_said};
+ghost use Rattle.ets_script.specs.inside.Explanations.{Explains, reason_of_step};
 
 use crate::answer::Answer;
 use crate::command::{Command, read_command};
@@ -10,7 +10,7 @@ use crate::script::Script;
 use ets_term::KeyHash;
 use node_core::{Call, Reply, Step};
 use node_reasons::why;
-use script_reasons::{Remark, oddity_at};
+use script_reasons::{Diagnostic, diagnose_at};
 use std::alloc::AllocError;
 
 /// Explains why a line was refused, or returns nothing if it was not. The script must not have changed since its
@@ -19,8 +19,8 @@ pub fn explain<'a, H: KeyHash + Copy + Drop>(
     script: &Script<H>,
     line: &'a [u8],
     answer: &Answer,
-) -> Result<Option<Remark<'a>>, AllocError>
-    ensures { IfOk result (SaidOf line.now answer.now) }
+) -> Result<Option<Diagnostic<'a>>, AllocError>
+    ensures { IfOk result (Explains line.now answer.now) }
 {
     match answer {
         Answer::Silent => Ok(None),
@@ -30,9 +30,9 @@ pub fn explain<'a, H: KeyHash + Copy + Drop>(
             read_command(script.allocator(), line)?,
             reply,
         )),
-        Answer::NoMemory => Ok(Some(Remark::NoMemory)),
-        Answer::Syntax(at) => Ok(Some(Remark::Faulty(*at, oddity_at(line, *at)))),
-        Answer::TooLong => Ok(Some(Remark::TooLong)),
+        Answer::NoMemory => Ok(Some(Diagnostic::NoMemory)),
+        Answer::Syntax(at) => Ok(Some(Diagnostic::Faulty(*at, diagnose_at(line, *at)))),
+        Answer::TooLong => Ok(Some(Diagnostic::TooLong)),
     }
 }
 
@@ -41,22 +41,22 @@ fn explain_command<'a, H: KeyHash + Copy + Drop>(
     script: &Script<H>,
     command: Command<'a>,
     reply: &Reply,
-) -> Option<Remark<'a>> {
+) -> Option<Diagnostic<'a>> {
     match command {
         Command::Faulty(_) => None,
         Command::Spawn(name) => match script.pid(name) {
-            Some(_) => Some(Remark::SpawnedBefore(name)),
+            Some(_) => Some(Diagnostic::AlreadySpawned(name)),
             None => explain_step(script, Step::Enrol(script.next_pid()), reply),
         },
         Command::Exit(name) => match script.pid(name) {
             Some(pid) => explain_step(script, Step::End(pid), reply),
-            None => Some(Remark::EndedNone(name)),
+            None => Some(Diagnostic::ExitOfUnknownName(name)),
         },
         Command::Ask(name, word, terms) => {
             let call = Call::new(word, terms.into_vec());
             match script.pid(name) {
                 Some(pid) => explain_step(script, Step::Ask(pid, call), reply),
-                None => Some(Remark::AskedOfNone(name, call)),
+                None => Some(Diagnostic::CallByUnknownName(name, call)),
             }
         }
         Command::Grow(table) => explain_step(script, Step::Grow(script.table(&table)), reply),
@@ -71,10 +71,10 @@ fn explain_step<'a, H: KeyHash + Copy + Drop>(
     script: &Script<H>,
     event: Step,
     reply: &Reply,
-) -> Option<Remark<'a>>
+) -> Option<Diagnostic<'a>>
     ensures { (new : State) → step script.now.node event reply.now new
-        → result ≡ step_said script.now.node event reply.now }
+        → result ≡ reason_of_step script.now.node event reply.now }
 {
     let reason = why(script.node(), &event, reply)?;
-    Some(Remark::Broken(event, reason))
+    Some(Diagnostic::Broken(event, reason))
 }

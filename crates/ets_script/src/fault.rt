@@ -1,5 +1,5 @@
 //! Why a script stops.
-use crate::feed::ReadFault;
+use crate::line_buffer::ReadFault;
 use crate::output::WriteFault;
 use std::alloc::AllocError;
 use thiserror::Error;

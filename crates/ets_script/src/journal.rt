@@ -5,81 +5,81 @@ ghost use Rattle.ets_script.specs.Flows.{flow};
 ghost use Rattle.ets_script.specs.Replies.{printed};
 ghost use Rattle.ets_script.specs.Threads.{entry_text, stopped_text};
 ghost use Rattle.ets_script.specs.inside.Output.{Sends, Breaks};
-ghost use Rattle.ets_script.specs.inside.Journal.{stop_text, ran_text, out_text};
+ghost use Rattle.ets_script.specs.inside.Journal.{stop_text, run_text, out_text};
 
 use crate::answer::{Answer, print_reply};
 use crate::names::Names;
-use crate::output::{Pending, WriteFault};
-use crate::plan::Known;
-use crate::processes::Ran;
+use crate::output::{OutputBuffer, WriteFault};
+use crate::plan::PlannedAnswers;
+use crate::processes::RunResult;
 use node_shared::Entry;
 use std::io::Write;
 
 /// Prints the planned answers and the results of the processes, and flushes.
 pub fn print_out<W: Write>(
-    known: &Known,
-    ran: &Ran,
-    pending: &mut Pending,
+    planned: &PlannedAnswers,
+    run: &RunResult,
+    output: &mut OutputBuffer,
     writer: &mut W,
 ) -> Result<(), WriteFault>
-    requires waiting { pending.old ≡ [] }
-    requires named { length ran.now.left.items ≤ length known.now.names }
+    requires waiting { output.old ≡ [] }
+    requires named { length run.now.left.items ≤ length planned.now.names }
     ensures ok { OnOk result (Appends (W.contents writer.old) (W.contents writer.new)
-        (out_text known.now ran.now)) }
+        (out_text planned.now run.now)) }
     ensures err { OnErr result (Breaks (flow W.contents writer.old writer.new)
-        (out_text known.now ran.now)) }
+        (out_text planned.now run.now)) }
 {
-    print_all(known, ran, pending, writer)?;
-    pending.flush(writer)
+    print_all(planned, run, output, writer)?;
+    output.flush(writer)
 }
 
 /// Prints the planned answers, and then the results of the processes.
 fn print_all<W: Write>(
-    known: &Known,
-    ran: &Ran,
-    pending: &mut Pending,
+    planned: &PlannedAnswers,
+    run: &RunResult,
+    output: &mut OutputBuffer,
     writer: &mut W,
 ) -> Result<(), WriteFault>
-    requires { length ran.now.left.items ≤ length known.now.names }
+    requires { length run.now.left.items ≤ length planned.now.names }
     ensures ok { OnOk result (Sends (flow W.contents writer.old writer.new)
-        (pending.old ++ out_text known.now ran.now) pending.new) }
+        (output.old ++ out_text planned.now run.now) output.new) }
     ensures err { OnErr result (Breaks (flow W.contents writer.old writer.new)
-        (pending.old ++ out_text known.now ran.now)) }
+        (output.old ++ out_text planned.now run.now)) }
 {
-    print_answers(known.answers.as_slice(), pending, writer)?;
-    print_ran(&known.names, ran, pending, writer)
+    print_answers(planned.answers.as_slice(), output, writer)?;
+    print_run(&planned.names, run, output, writer)
 }
 
 /// Prints the journal, and then the names of the processes that stopped.
-fn print_ran<W: Write>(
+fn print_run<W: Write>(
     names: &Names,
-    ran: &Ran,
-    pending: &mut Pending,
+    run: &RunResult,
+    output: &mut OutputBuffer,
     writer: &mut W,
 ) -> Result<(), WriteFault>
-    requires { length ran.now.left.items ≤ length names.now }
+    requires { length run.now.left.items ≤ length names.now }
     ensures ok { OnOk result (Sends (flow W.contents writer.old writer.new)
-        (pending.old ++ ran_text names.now ran.now) pending.new) }
+        (output.old ++ run_text names.now run.now) output.new) }
     ensures err { OnErr result (Breaks (flow W.contents writer.old writer.new)
-        (pending.old ++ ran_text names.now ran.now)) }
+        (output.old ++ run_text names.now run.now)) }
 {
-    print_entries(names, ran.entries.as_slice(), pending, writer)?;
-    print_stopped(names, ran.left.as_slice(), pending, writer)
+    print_entries(names, run.entries.as_slice(), output, writer)?;
+    print_stopped(names, run.left.as_slice(), output, writer)
 }
 
 /// Prints answers, one after another.
 fn print_answers<W: Write>(
     answers: &[Answer],
-    pending: &mut Pending,
+    output: &mut OutputBuffer,
     writer: &mut W,
 ) -> Result<(), WriteFault>
     ensures ok { OnOk result (Sends (flow W.contents writer.old writer.new)
-        (pending.old ++ flat_map printed answers.now) pending.new) }
+        (output.old ++ flat_map printed answers.now) output.new) }
     ensures err { OnErr result (Breaks (flow W.contents writer.old writer.new)
-        (pending.old ++ flat_map printed answers.now)) }
+        (output.old ++ flat_map printed answers.now)) }
 {
     for answer in answers {
-        answer.print(pending, writer)?;
+        answer.print(output, writer)?;
     }
     Ok(())
 }
@@ -88,16 +88,16 @@ fn print_answers<W: Write>(
 fn print_entries<W: Write>(
     names: &Names,
     entries: &[Entry],
-    pending: &mut Pending,
+    output: &mut OutputBuffer,
     writer: &mut W,
 ) -> Result<(), WriteFault>
     ensures ok { OnOk result (Sends (flow W.contents writer.old writer.new)
-        (pending.old ++ flat_map (entry_text names.now) entries.now) pending.new) }
+        (output.old ++ flat_map (entry_text names.now) entries.now) output.new) }
     ensures err { OnErr result (Breaks (flow W.contents writer.old writer.new)
-        (pending.old ++ flat_map (entry_text names.now) entries.now)) }
+        (output.old ++ flat_map (entry_text names.now) entries.now)) }
 {
     for entry in entries {
-        print_entry(names, entry, pending, writer)?;
+        print_entry(names, entry, output, writer)?;
     }
     Ok(())
 }
@@ -106,18 +106,18 @@ fn print_entries<W: Write>(
 fn print_entry<W: Write>(
     names: &Names,
     entry: &Entry,
-    pending: &mut Pending,
+    output: &mut OutputBuffer,
     writer: &mut W,
 ) -> Result<(), WriteFault>
     ensures ok { OnOk result (Sends (flow W.contents writer.old writer.new)
-        (pending.old ++ entry_text names.now entry.now) pending.new) }
+        (output.old ++ entry_text names.now entry.now) output.new) }
     ensures err { OnErr result (Breaks (flow W.contents writer.old writer.new)
-        (pending.old ++ entry_text names.now entry.now)) }
+        (output.old ++ entry_text names.now entry.now)) }
 {
     match entry.process() {
         Some(number) => {
-            print_name(names.name(number as usize), pending, writer)?;
-            print_reply(&entry.reply, pending, writer)
+            print_name(names.name(number as usize), output, writer)?;
+            print_reply(&entry.reply, output, writer)
         }
         None => Ok(()),
     }
@@ -126,33 +126,33 @@ fn print_entry<W: Write>(
 /// Prints a name and a space.
 fn print_name<W: Write>(
     name: &[u8],
-    pending: &mut Pending,
+    output: &mut OutputBuffer,
     writer: &mut W,
 ) -> Result<(), WriteFault>
     ensures ok { OnOk result (Sends (flow W.contents writer.old writer.new)
-        (pending.old ++ (name.now ++ codes " ")) pending.new) }
+        (output.old ++ (name.now ++ codes " ")) output.new) }
     ensures err { OnErr result (Breaks (flow W.contents writer.old writer.new)
-        (pending.old ++ (name.now ++ codes " "))) }
+        (output.old ++ (name.now ++ codes " "))) }
 {
-    pending.add(writer, name)?;
-    pending.add(writer, b" ")
+    output.add(writer, name)?;
+    output.add(writer, b" ")
 }
 
 /// Prints a line for each process with jobs left.
 fn print_stopped<W: Write>(
     names: &Names,
     left: &[usize],
-    pending: &mut Pending,
+    output: &mut OutputBuffer,
     writer: &mut W,
 ) -> Result<(), WriteFault>
     requires { length left.now ≤ length names.now }
     ensures ok { OnOk result (Sends (flow W.contents writer.old writer.new)
-        (pending.old ++ stopped_text names.now left.now) pending.new) }
+        (output.old ++ stopped_text names.now left.now) output.new) }
     ensures err { OnErr result (Breaks (flow W.contents writer.old writer.new)
-        (pending.old ++ stopped_text names.now left.now)) }
+        (output.old ++ stopped_text names.now left.now)) }
 {
     for number in 0..left.len() {
-        print_stop(names.name(number), left[number], pending, writer)?;
+        print_stop(names.name(number), left[number], output, writer)?;
     }
     Ok(())
 }
@@ -161,17 +161,17 @@ fn print_stopped<W: Write>(
 fn print_stop<W: Write>(
     name: &[u8],
     left: usize,
-    pending: &mut Pending,
+    output: &mut OutputBuffer,
     writer: &mut W,
 ) -> Result<(), WriteFault>
     ensures ok { OnOk result (Sends (flow W.contents writer.old writer.new)
-        (pending.old ++ stop_text name.now left) pending.new) }
+        (output.old ++ stop_text name.now left) output.new) }
     ensures err { OnErr result (Breaks (flow W.contents writer.old writer.new)
-        (pending.old ++ stop_text name.now left)) }
+        (output.old ++ stop_text name.now left)) }
 {
     if left == 0 {
         return Ok(());
     }
-    print_name(name, pending, writer)?;
-    pending.add(writer, b"** nomem\n")
+    print_name(name, output, writer)?;
+    output.add(writer, b"** nomem\n")
 }

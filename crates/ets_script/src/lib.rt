@@ -5,7 +5,7 @@
 //! has answered all whole lines before, or a prefix of their answers if a write failed.
 //!
 //! *Weakness.* Only tests show that answers are flushed before each read, what `refuse` prints, and what
-//! `run_script_aloud` prints about refused lines, except for the reason of a step.
+//! `run_script_with_reasons` prints about refused lines, except for the reason of a step.
 //!
 //! *Mechanism.* Bytes are read in pieces. A line is found by `memchr`, parsed once from left to right, executed, and
 //! answered into a buffer, which is written before the next read.
@@ -16,35 +16,35 @@
 
 mod answer;
 mod classes;
-mod clean;
 mod command;
 mod command_line;
 mod explain;
 mod fault;
-mod feed;
 mod journal;
+mod line_buffer;
 mod lines;
-mod listener;
 mod names;
 mod node_settings;
+mod observer;
 pub mod options;
 mod output;
+mod parse_stop;
 mod plan;
 mod planning;
+mod printable;
 mod processes;
 mod program;
-mod reasons;
 mod run;
 mod script;
-mod stop;
 mod streams;
 mod terms;
 mod threads;
+mod why_writer;
 
 pub use command_line::{refuse, request, settings};
 pub use fault::ScriptFault;
 pub use node_settings::NodeSettings;
 pub use program::{answer_alone, answer_input, answer_request};
-pub use run::{run_script, run_script_aloud, run_within};
+pub use run::{run_script, run_script_with_reasons, run_within};
 pub use streams::Streams;
 pub use threads::run_threads;

@@ -5,5 +5,5 @@ use node_core::Limits;
 #[derive(Drop)]
 pub struct NodeSettings<H> {
     pub limits: Limits,
-    pub hash: H,
+    pub hasher: H,
 }

@@ -2,7 +2,7 @@
 ghost use Rattle.std.specs.Prelude.{◌≡◌, ◌∷◌, ◌++◌, ◌+◌, ◌<◌, [], false, map, vec_items, length, IfOk, IfSome};
 ghost use Rattle.std.specs.Str.{bytes_eq};
 ghost use Rattle.indexmap.specs.IndexSet.{spare, contains_by, index_set_len};
-ghost use Rattle.ets_script.specs.inside.Says.{command_seen};
+ghost use Rattle.ets_script.specs.inside.Parsing.{command_view};
 ghost use Rattle.ets_script.specs.inside.Planning.{AreParts, no_lines, with_answer, with_command, with_job, with_line, with_name};
 ghost use Rattle.ets_script.specs.Lines.{text, too_long};
 ghost use Rattle.ets_script.specs.Plan.{jobs_with, number_of};
@@ -19,14 +19,14 @@ use std::marker::Model;
 
 /// What is known before any step is run: the answers that come first, and the names of the processes.
 #[derive(Drop)]
-pub struct Known {
+pub struct PlannedAnswers {
     pub answers: Items<Answer>,
     pub names: Names,
 }
 
 /// The work: the jobs of each process, in the order of the processes, and the number of turns for pending growth steps.
 #[derive(Drop)]
-pub struct Work {
+pub struct ProcessJobs {
     pub jobs: Items<Items<Job>>,
     pub turns: u32,
 }
@@ -36,7 +36,7 @@ pub struct Work {
 #[derive(Drop)]
 pub struct Plan {
     alloc: Global,
-    most: u32,
+    max_names: u32,
     answers: Items<Answer>,
     names: IndexSet<Vec<u8>>,
     jobs: Items<Items<Job>>,
@@ -46,15 +46,15 @@ pub struct Plan {
 impl Model for Plan {
     ghost use Rattle.std.specs.Prelude.{◌≡◌, map, length, vec_items};
     ghost use Rattle.indexmap.specs.IndexSet.{index_set_len};
-    ghost use Rattle.ets_script.specs.Plan.{Planned};
-    ghost use Rattle.ets_script.specs.inside.PlanCodes.{Limited, limited_code};
+    ghost use Rattle.ets_script.specs.Plan.{PlanState};
+    ghost use Rattle.ets_script.specs.inside.PlanCodes.{LimitedPlanState, limited_plan_state_code};
 
-    ghost Value = { Limited };
+    ghost Value = { LimitedPlanState };
 
-    ghost coded = { limited_code };
+    ghost coded = { limited_plan_state_code };
 
     ghost view = { λ p. record {
-      most = p.most;
+      max_names = p.max_names;
       plan = record { answers = p.answers; names = map vec_items p.names.keys; jobs = p.jobs };
     } };
 
@@ -63,12 +63,12 @@ impl Model for Plan {
 
 impl Plan {
     /// Creates an empty plan, for a greatest number of names.
-    pub fn new(alloc: Global, most: u32) -> Plan
-        ensures { result ≡ no_lines most }
+    pub fn new(alloc: Global, max_names: u32) -> Plan
+        ensures { result ≡ no_lines max_names }
     {
         Plan {
             alloc,
-            most,
+            max_names,
             answers: Items::new(alloc),
             names: IndexSet::new(alloc),
             jobs: Items::new(alloc),
@@ -77,55 +77,55 @@ impl Plan {
     }
 
     /// Returns the planned answers and the work, with a turn for each line.
-    pub fn into_parts(self) -> (Known, Work)
+    pub fn into_parts(self) -> (PlannedAnswers, ProcessJobs)
         ensures parts { AreParts result.0 result.1 self.plan }
         ensures named { length result.0.names ≡ length result.1.jobs }
     {
-        let known = Known {
+        let planned = PlannedAnswers {
             answers: self.answers,
             names: Names::new(self.names),
         };
-        let work = Work {
+        let work = ProcessJobs {
             jobs: self.jobs,
             turns: self.lines,
         };
-        (known, work)
+        (planned, work)
     }
 
     /// Counts a line.
-    pub fn count(&mut self)
+    pub fn count_line(&mut self)
         ensures { self.new ≡ self.old }
     {
         self.lines = self.lines.saturating_add(1);
     }
 
     /// Adds a line to the plan.
-    pub fn line(&mut self, line: &[u8]) -> Result<(), AllocError>
+    pub fn add_line(&mut self, line: &[u8]) -> Result<(), AllocError>
         ensures { IfOk result (λ _. self.new ≡ with_line (text line.now) self.old) }
     {
         if is_silent(line) {
             return Ok(());
         }
         let command = read_command(self.alloc, line)?;
-        self.said(command)
+        self.add_command(command)
     }
 
     /// Adds a line that is too long.
-    pub fn too_long(&mut self) -> Result<(), AllocError>
+    pub fn add_too_long(&mut self) -> Result<(), AllocError>
         ensures { IfOk result (λ _. self.new ≡ with_line too_long self.old) }
     {
-        self.answered(Answer::TooLong)
+        self.add_answer(Answer::TooLong)
     }
 
     /// Adds a command.
-    fn said(&mut self, command: Command<'_>) -> Result<(), AllocError>
-        ensures { IfOk result (λ _. self.new ≡ with_command (command_seen command.entry) self.old) }
+    fn add_command(&mut self, command: Command<'_>) -> Result<(), AllocError>
+        ensures { IfOk result (λ _. self.new ≡ with_command (command_view command.entry) self.old) }
     {
         match command {
-            Command::Faulty(at) => self.answered(Answer::Syntax(at)),
-            Command::Spawn(name) => self.spawned(name),
-            Command::Exit(name) => self.given(name, Job::End),
-            Command::Ask(name, word, terms) => self.given(
+            Command::Faulty(at) => self.add_answer(Answer::Syntax(at)),
+            Command::Spawn(name) => self.add_spawn(name),
+            Command::Exit(name) => self.add_job_for(name, Job::End),
+            Command::Ask(name, word, terms) => self.add_job_for(
                 name,
                 Job::Ask(Call::new(word, terms.into_vec())),
             ),
@@ -134,14 +134,14 @@ impl Plan {
     }
 
     /// Adds a planned answer.
-    fn answered(&mut self, answer: Answer) -> Result<(), AllocError>
+    fn add_answer(&mut self, answer: Answer) -> Result<(), AllocError>
         ensures { IfOk result (λ _. self.new ≡ with_answer answer self.old) }
     {
         self.answers.push(answer)
     }
 
     /// Returns the number of a name.
-    fn number(&self, name: &[u8]) -> Option<usize>
+    fn number_of(&self, name: &[u8]) -> Option<usize>
         ensures number { result ≡ number_of self.now.plan name.now }
         ensures within { IfSome result (λ n. n < length self.now.plan.jobs) }
     {
@@ -149,18 +149,18 @@ impl Plan {
     }
 
     /// Adds a job for the process of this name.
-    fn given(&mut self, name: &[u8], job: Job) -> Result<(), AllocError>
+    fn add_job_for(&mut self, name: &[u8], job: Job) -> Result<(), AllocError>
         ensures { IfOk result (λ _. self.new
             ≡ with_job (number_of self.old.plan name.now) job self.old) }
     {
-        match self.number(name) {
-            Some(number) => self.asked(number, job),
-            None => self.answered(Answer::Replied(Reply::NoProcess)),
+        match self.number_of(name) {
+            Some(number) => self.add_job_at(number, job),
+            None => self.add_answer(Answer::Replied(Reply::NoProcess)),
         }
     }
 
     /// Adds a job for the process of this number.
-    fn asked(&mut self, number: usize, job: Job) -> Result<(), AllocError>
+    fn add_job_at(&mut self, number: usize, job: Job) -> Result<(), AllocError>
         requires { number < length self.old.plan.jobs }
         ensures { IfOk result (λ _. self.new ≡ with_job (Some number) job self.old) }
     {
@@ -168,15 +168,15 @@ impl Plan {
     }
 
     /// Adds a new name, if it is new and there may be more. Reserves capacity for it first.
-    fn spawned(&mut self, name: &[u8]) -> Result<(), AllocError>
+    fn add_spawn(&mut self, name: &[u8]) -> Result<(), AllocError>
         ensures { IfOk result (λ _. self.new ≡ with_name name.now self.old) }
     {
         match self.names.get_index_of(name) {
-            Some(_) => return self.answered(Answer::Replied(Reply::Badarg)),
+            Some(_) => return self.add_answer(Answer::Replied(Reply::Badarg)),
             None => {}
         }
-        if self.names.len() >= self.most as usize {
-            return self.answered(Answer::Replied(Reply::SystemLimit));
+        if self.names.len() >= self.max_names as usize {
+            return self.add_answer(Answer::Replied(Reply::SystemLimit));
         }
         let name = Vec::from_slice(self.alloc, name)?;
         self.names.reserve(1)?;

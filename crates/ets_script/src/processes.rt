@@ -7,7 +7,7 @@ ghost use Rattle.ets_script.specs.inside.Processes.{AreSeatsOf, AreEnrolled, Hav
 
 use crate::fault::ScriptFault;
 use crate::node_settings::NodeSettings;
-use crate::plan::Work;
+use crate::plan::ProcessJobs;
 use ets_term::{Items, KeyHash};
 use node_shared::{
     Client, CloseFault, Drawn, Entry, Gate, Job, Pids, Seat, Shared, Worked, close, keep,
@@ -22,15 +22,15 @@ use std::thread::Threads;
 
 /// The results of the processes: the journal, and for each the number of jobs that were left because memory ran out.
 #[derive(Drop)]
-pub struct Ran {
+pub struct RunResult {
     pub entries: Vec<Entry>,
     pub left: Vec<usize>,
 }
 
 /// A gate that does nothing.
-struct Quiet;
+struct NoGate;
 
-impl Gate for Quiet {
+impl Gate for NoGate {
     fn before(&self, _client: usize, _call: usize) {}
 
     fn after(&self, _client: usize, _call: usize) {}
@@ -38,22 +38,22 @@ impl Gate for Quiet {
 
 /// Runs the jobs of a script on a node with these settings: each process in a thread of its own, and one more thread
 /// for pending growth steps.
-pub fn run_work<T: Threads + Wait + Sync, H: KeyHash + Copy + Drop + Send + Sync>(
+pub fn run_jobs<T: Threads + Wait + Sync, H: KeyHash + Copy + Drop + Send + Sync>(
     rt: &T,
     alloc: Global,
     settings: NodeSettings<H>,
-    work: Work,
-) -> Result<Ran, ScriptFault>
-    ensures ok { IfOk result (λ ran. RunsJobs settings.limits work.jobs
-        ran.entries.items ran.left.items) }
+    work: ProcessJobs,
+) -> Result<RunResult, ScriptFault>
+    ensures ok { IfOk result (λ run. RunsJobs settings.limits work.jobs
+        run.entries.items run.left.items) }
     ensures err { IfErr result (Stops settings.limits) }
 {
     let blank = Blank::new(settings.limits.processes as u64 + 1);
-    run_counted::<Brand, T, H>(rt, alloc, blank, settings, work)
+    run_with_ledger::<Brand, T, H>(rt, alloc, blank, settings, work)
 }
 
 /// Does the same with the blank of the ledger that counts the entries.
-fn run_counted<
+fn run_with_ledger<
     L: Ledger + Send + Sync,
     T: Threads + Wait + Sync,
     H: KeyHash + Copy + Drop + Send + Sync,
@@ -62,21 +62,21 @@ fn run_counted<
     alloc: Global,
     blank: Blank,
     settings: NodeSettings<H>,
-    work: Work,
-) -> Result<Ran, ScriptFault>
+    work: ProcessJobs,
+) -> Result<RunResult, ScriptFault>
     requires name { blank.name ≡ L.name }
     requires parts { blank.parts ≡ L.parts }
     requires enough { blank.parts ≡ settings.limits.processes + 1 }
-    ensures ok { IfOk result (λ ran. RunsJobs settings.limits work.jobs
-        ran.entries.items ran.left.items) }
+    ensures ok { IfOk result (λ run. RunsJobs settings.limits work.jobs
+        run.entries.items run.left.items) }
     ensures err { IfErr result (Stops settings.limits) }
 {
-    let shared = Shared::<L, H>::new(alloc, blank, settings.limits, settings.hash);
+    let shared = Shared::<L, H>::new(alloc, blank, settings.limits, settings.hasher);
     let Ok((clients, left)) = run_shared(rt, alloc, &shared, work) else {
         return Err(ScriptFault::Memory);
     };
     match close(shared, clients) {
-        Ok(transcript) => Ok(Ran {
+        Ok(transcript) => Ok(RunResult {
             entries: transcript.entries,
             left,
         }),
@@ -95,13 +95,13 @@ fn run_shared<
     rt: &T,
     alloc: Global,
     shared: &Shared<L, H>,
-    work: Work,
+    work: ProcessJobs,
 ) -> Result<(Vec<Client<L>>, Vec<usize>), AllocError>
     ensures { IfOk result (λ r. HaveRun 0 work.jobs r.0.items r.1.items) }
 {
     let enrolled = enrol_all(rt, alloc, shared, work.jobs)?;
-    let workers = run_kept(rt, alloc, shared, enrolled, work.turns)?;
-    part(alloc, workers)
+    let workers = run_and_keep(rt, alloc, shared, enrolled, work.turns)?;
+    unzip(alloc, workers)
 }
 
 /// Enrols a process for each list of jobs, in order. Draws no number if there is no list.
@@ -174,7 +174,7 @@ fn enrol<L: Ledger, T: Wait, H: KeyHash + Copy + Drop>(
 
 /// Runs the clients' jobs, each client in a thread of its own, while another thread runs at most `turns` pending growth
 /// steps.
-fn run_kept<
+fn run_and_keep<
     L: Ledger + Send + Sync,
     T: Threads + Wait + Sync,
     H: KeyHash + Copy + Drop + Send + Sync,
@@ -195,13 +195,13 @@ fn run_kept<
         move || -> Result<Vec<Worked<L>>, AllocError>
             requires { IsSync T.row }
             ensures { IfOk result (λ workers. AllWorked work.items workers.items) }
-        { run_clients(rt, alloc, shared, work, &Quiet) },
+        { run_clients(rt, alloc, shared, work, &NoGate) },
     );
     workers
 }
 
 /// Separates the clients from the numbers of jobs that were left.
-fn part<L: Ledger>(
+fn unzip<L: Ledger>(
     alloc: Global,
     workers: Vec<Worked<L>>,
 ) -> Result<(Vec<Client<L>>, Vec<usize>), AllocError>

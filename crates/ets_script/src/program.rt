@@ -2,14 +2,14 @@
 ghost use Rattle.std.specs.Prelude.{◌≡◌, false, true, IfOk, OnOk, IfErr};
 ghost use Rattle.ets_script.specs.CommandLine.{limits_of};
 ghost use Rattle.ets_script.specs.Flows.{flow};
-ghost use Rattle.ets_script.specs.Script.{Scripted, at_start};
+ghost use Rattle.ets_script.specs.Script.{ScriptState, at_start};
 ghost use Rattle.ets_script.specs.Stops.{Completes, EndsWithin, ProgramEnds, Stops};
 ghost use Rattle.ets_script.specs.Threads.{ThreadsEnd, ThreadsStop, ThreadsStatus, ProgramThreads};
 
 use crate::fault::ScriptFault;
 use crate::node_settings::NodeSettings;
 use crate::options::{Request, Settings};
-use crate::run::{run_script, run_script_aloud};
+use crate::run::{run_script, run_script_with_reasons};
 use crate::streams::Streams;
 use crate::threads::run_threads;
 use ets_term::{AllSame, Fnv, KeyHash};
@@ -115,7 +115,7 @@ fn answer_lines<R: Read, W: Write, E: Write>(
 fn answer_by<H: KeyHash + Copy + Drop, R: Read, W: Write, E: Write>(
     alloc: Global,
     request: &Request,
-    hash: H,
+    hasher: H,
     streams: &mut Streams<R, W>,
     errors: &mut E,
 ) -> io::Result<u8>
@@ -123,9 +123,9 @@ fn answer_by<H: KeyHash + Copy + Drop, R: Read, W: Write, E: Write>(
         (flow R.remaining streams.old.input streams.new.input)
         (flow W.contents streams.old.output streams.new.output)) }
 {
-    match run_lines(alloc, request, hash, streams, errors) {
+    match run_lines(alloc, request, hasher, streams, errors) {
         Ok(_) => Ok(0),
-        Err(fault) => tell(&fault, errors),
+        Err(fault) => report(&fault, errors),
     }
 }
 
@@ -133,11 +133,11 @@ fn answer_by<H: KeyHash + Copy + Drop, R: Read, W: Write, E: Write>(
 fn run_lines<H: KeyHash + Copy + Drop, R: Read, W: Write, E: Write>(
     alloc: Global,
     request: &Request,
-    hash: H,
+    hasher: H,
     streams: &mut Streams<R, W>,
     errors: &mut E,
 ) -> Result<Node<H>, ScriptFault>
-    ensures ok { OnOk result ((end : Scripted) × Completes (at_start (limits_of request.now)) end
+    ensures ok { OnOk result ((end : ScriptState) × Completes (at_start (limits_of request.now)) end
         (flow R.remaining streams.old.input streams.new.input)
         (flow W.contents streams.old.output streams.new.output)) }
     ensures err { IfErr result (Stops (at_start (limits_of request.now))
@@ -146,17 +146,17 @@ fn run_lines<H: KeyHash + Copy + Drop, R: Read, W: Write, E: Write>(
 {
     let settings = NodeSettings {
         limits: limits_of(request),
-        hash,
+        hasher,
     };
     if request.why {
-        run_script_aloud(alloc, streams, errors, settings)
+        run_script_with_reasons(alloc, streams, errors, settings)
     } else {
         run_script(alloc, streams, settings)
     }
 }
 
 /// Prints a fault on a line of standard error, and returns the status.
-fn tell<E: Write>(fault: &ScriptFault, errors: &mut E) -> io::Result<u8>
+fn report<E: Write>(fault: &ScriptFault, errors: &mut E) -> io::Result<u8>
     ensures { IfOk result (λ status. status ≡ 1) }
 {
     writeln!(errors, "{fault}")?;
@@ -177,7 +177,7 @@ fn answer_in_threads<T: Threads + Wait + Sync, R: Read, W: Write, E: Write>(
 {
     match run_by(rt, alloc, request, streams) {
         Ok(()) => Ok(0),
-        Err(fault) => tell(&fault, errors),
+        Err(fault) => report(&fault, errors),
     }
 }
 
@@ -197,11 +197,11 @@ fn run_by<T: Threads + Wait + Sync, R: Read, W: Write>(
 {
     let limits = limits_of(request);
     if request.settings.same {
-        let hash = AllSame;
-        run_threads(rt, alloc, streams, NodeSettings { limits, hash })
+        let hasher = AllSame;
+        run_threads(rt, alloc, streams, NodeSettings { limits, hasher })
     } else {
-        let hash = Fnv;
-        run_threads(rt, alloc, streams, NodeSettings { limits, hash })
+        let hasher = Fnv;
+        run_threads(rt, alloc, streams, NodeSettings { limits, hasher })
     }
 }
 

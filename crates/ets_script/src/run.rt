@@ -1,6 +1,6 @@
 //! A script from its first line to its last.
 ghost use Rattle.std.specs.Prelude.{◌≡◌, [], ◌++◌, false, IfOk, IfErr, OnOk, OnErr};
-ghost use Rattle.node_core.specs.Seen.{seen};
+ghost use Rattle.node_core.specs.Observable.{observable};
 ghost use Rattle.ets_script.specs.Flows.{flow};
 ghost use Rattle.ets_script.specs.Numbers.{AreTheNumbers};
 ghost use Rattle.ets_script.specs.Replies.{printed};
@@ -11,14 +11,14 @@ ghost use Rattle.ets_script.specs.inside.Answered.{AnswersNext, AnswersPart, End
 
 use crate::answer::Answer;
 use crate::fault::ScriptFault;
-use crate::feed::Feed;
+use crate::line_buffer::LineBuffer;
 use crate::lines::NextLine;
-use crate::listener::{Listener, Quiet};
 use crate::node_settings::NodeSettings;
-use crate::output::{Pending, WriteFault};
-use crate::reasons::Reasons;
+use crate::observer::{NoObserver, Observer};
+use crate::output::{OutputBuffer, WriteFault};
 use crate::script::Script;
 use crate::streams::Streams;
+use crate::why_writer::WhyWriter;
 use ets_term::KeyHash;
 use node_core::Node;
 use std::alloc::Global;
@@ -34,7 +34,7 @@ pub fn run_script<R: Read, W: Write, H: KeyHash + Copy + Drop>(
     streams: &mut Streams<R, W>,
     settings: NodeSettings<H>,
 ) -> Result<Node<H>, ScriptFault>
-    ensures ok { IfOk result (λ node. LeavesNode (at_start settings.limits) (seen node)
+    ensures ok { IfOk result (λ node. LeavesNode (at_start settings.limits) (observable node)
         (flow R.remaining streams.old.input streams.new.input)
         (flow W.contents streams.old.output streams.new.output)) }
     ensures err { IfErr result (Stops (at_start settings.limits)
@@ -52,49 +52,49 @@ pub fn run_within<R: Read, W: Write, H: KeyHash + Copy + Drop>(
     settings: NodeSettings<H>,
     reads: u32,
 ) -> Result<Node<H>, ScriptFault>
-    ensures ok { IfOk result (λ node. LeavesNode (at_start settings.limits) (seen node)
+    ensures ok { IfOk result (λ node. LeavesNode (at_start settings.limits) (observable node)
         (flow R.remaining streams.old.input streams.new.input)
         (flow W.contents streams.old.output streams.new.output)) }
     ensures err { IfErr result (Stops (at_start settings.limits)
         (flow R.remaining streams.old.input streams.new.input)
         (flow W.contents streams.old.output streams.new.output)) }
 {
-    let script = Script::new(alloc, settings.limits, settings.hash);
-    run_heard(streams, script, reads, &mut Quiet)
+    let script = Script::new(alloc, settings.limits, settings.hasher);
+    run_with(streams, script, reads, &mut NoObserver)
 }
 
 /// Does what `run_script` does, and reports why lines were refused: a line for each, after the answers to the lines
 /// that were read with it. If that fails, no more reasons are reported, and the answers go on.
-pub fn run_script_aloud<R: Read, W: Write, E: Write, H: KeyHash + Copy + Drop>(
+pub fn run_script_with_reasons<R: Read, W: Write, E: Write, H: KeyHash + Copy + Drop>(
     alloc: Global,
     streams: &mut Streams<R, W>,
     errors: &mut E,
     settings: NodeSettings<H>,
 ) -> Result<Node<H>, ScriptFault>
-    ensures ok { IfOk result (λ node. LeavesNode (at_start settings.limits) (seen node)
+    ensures ok { IfOk result (λ node. LeavesNode (at_start settings.limits) (observable node)
         (flow R.remaining streams.old.input streams.new.input)
         (flow W.contents streams.old.output streams.new.output)) }
     ensures err { IfErr result (Stops (at_start settings.limits)
         (flow R.remaining streams.old.input streams.new.input)
         (flow W.contents streams.old.output streams.new.output)) }
 {
-    let Ok(mut reasons) = Reasons::new(alloc, errors) else {
+    let Ok(mut reasons) = WhyWriter::new(alloc, errors) else {
         return Err(ScriptFault::Memory);
     };
-    let script = Script::new(alloc, settings.limits, settings.hash);
-    let ran = run_heard(streams, script, MAX_READS, &mut reasons);
-    reasons.tell();
-    ran
+    let script = Script::new(alloc, settings.limits, settings.hasher);
+    let end = run_with(streams, script, MAX_READS, &mut reasons);
+    reasons.flush();
+    end
 }
 
 /// Runs a script from its present state, with at most this many reads and an observer.
-fn run_heard<R: Read, W: Write, H: KeyHash + Copy + Drop, L: Listener>(
+fn run_with<R: Read, W: Write, H: KeyHash + Copy + Drop, L: Observer>(
     streams: &mut Streams<R, W>,
     mut script: Script<H>,
     reads: u32,
-    listener: &mut L,
+    observer: &mut L,
 ) -> Result<Node<H>, ScriptFault>
-    ensures ok { IfOk result (λ node. LeavesNode script (seen node)
+    ensures ok { IfOk result (λ node. LeavesNode script (observable node)
         (flow R.remaining streams.old.input streams.new.input)
         (flow W.contents streams.old.output streams.new.output)) }
     ensures err { IfErr result (Stops script
@@ -102,26 +102,26 @@ fn run_heard<R: Read, W: Write, H: KeyHash + Copy + Drop, L: Listener>(
         (flow W.contents streams.old.output streams.new.output)) }
 {
     let alloc = script.allocator();
-    let Ok(mut feed) = Feed::new(alloc, reads) else {
+    let Ok(mut buffer) = LineBuffer::new(alloc, reads) else {
         return Err(ScriptFault::Memory);
     };
-    let Ok(mut pending) = Pending::new(alloc) else {
+    let Ok(mut output) = OutputBuffer::new(alloc) else {
         return Err(ScriptFault::Memory);
     };
-    answer_all(streams, &mut feed, &mut pending, &mut script, listener)?;
+    answer_all(streams, &mut buffer, &mut output, &mut script, observer)?;
     Ok(script.into_node())
 }
 
 /// Answers all lines, and writes all answers.
-fn answer_all<R: Read, W: Write, H: KeyHash + Copy + Drop, L: Listener>(
+fn answer_all<R: Read, W: Write, H: KeyHash + Copy + Drop, L: Observer>(
     streams: &mut Streams<R, W>,
-    feed: &mut Feed,
-    pending: &mut Pending,
+    buffer: &mut LineBuffer,
+    output: &mut OutputBuffer,
     script: &mut Script<H>,
-    listener: &mut L,
+    observer: &mut L,
 ) -> Result<(), ScriptFault>
-    requires waiting { pending.old ≡ [] }
-    requires held { (feed.old.bytes ≡ []) × (feed.old.is_skipping ≡ false) }
+    requires waiting { output.old ≡ [] }
+    requires held { (buffer.old.bytes ≡ []) × (buffer.old.is_skipping ≡ false) }
     ensures ok { OnOk result (Completes script.old script.new
         (flow R.remaining streams.old.input streams.new.input)
         (flow W.contents streams.old.output streams.new.output)) }
@@ -130,17 +130,17 @@ fn answer_all<R: Read, W: Write, H: KeyHash + Copy + Drop, L: Listener>(
         (flow W.contents streams.old.output streams.new.output)) }
 {
     loop {
-        let Some(next) = answer_next(feed, script, listener) else {
-            pending.flush(&mut streams.output)?;
-            listener.tell();
-            feed.skip_long();
-            if feed.refill(&mut streams.input)? == 0 {
-                answer_last(feed, pending, &mut streams.output, script, listener)?;
+        let Some(next) = answer_next(buffer, script, observer) else {
+            output.flush(&mut streams.output)?;
+            observer.flush();
+            buffer.skip_long();
+            if buffer.refill(&mut streams.input)? == 0 {
+                answer_last(buffer, output, &mut streams.output, script, observer)?;
                 return Ok(());
             }
             continue;
         };
-        feed.consume(print_line(next, pending, &mut streams.output)?);
+        buffer.consume(print_line(next, output, &mut streams.output)?);
     }
 }
 
@@ -154,37 +154,37 @@ struct AnsweredLine {
 /// Prints the answer to a line, and returns the number of buffered bytes that the line takes.
 fn print_line<W: Write>(
     line: AnsweredLine,
-    pending: &mut Pending,
+    output: &mut OutputBuffer,
     writer: &mut W,
 ) -> Result<usize, WriteFault>
     ensures taken { IfOk result (λ taken. taken ≡ line.taken) }
     ensures ok { OnOk result (Sends (flow W.contents writer.old writer.new)
-        (pending.old ++ printed line.answer) pending.new) }
+        (output.old ++ printed line.answer) output.new) }
     ensures err { OnErr result (Breaks (flow W.contents writer.old writer.new)
-        (pending.old ++ printed line.answer)) }
+        (output.old ++ printed line.answer)) }
 {
-    line.answer.print(pending, writer)?;
+    line.answer.print(output, writer)?;
     Ok(line.taken)
 }
 
 /// Answers the next line, if its end is buffered.
-fn answer_next<H: KeyHash + Copy + Drop, L: Listener>(
-    feed: &Feed,
+fn answer_next<H: KeyHash + Copy + Drop, L: Observer>(
+    buffer: &LineBuffer,
     script: &mut Script<H>,
-    listener: &mut L,
+    observer: &mut L,
 ) -> Option<AnsweredLine>
-    ensures { AnswersNext feed.now script.old script.new result }
+    ensures { AnswersNext buffer.now script.old script.new result }
 {
-    match feed.next_line() {
+    match buffer.next_line() {
         NextLine::Text { text, taken } => {
-            let line = &feed.held()[..text];
+            let line = &buffer.bytes()[..text];
             let answer = script.answer(line);
-            listener.hear(script, line, &answer);
+            observer.line_answered(script, line, &answer);
             Some(AnsweredLine { answer, taken })
         }
         NextLine::TooLong { taken } => {
             let answer = Answer::TooLong;
-            listener.hear(script, &[], &answer);
+            observer.line_answered(script, &[], &answer);
             Some(AnsweredLine { answer, taken })
         }
         NextLine::NeedsMore => None,
@@ -192,30 +192,30 @@ fn answer_next<H: KeyHash + Copy + Drop, L: Listener>(
 }
 
 /// Answers the last line, which has no LF, and writes all answers.
-fn answer_last<W: Write, H: KeyHash + Copy + Drop, L: Listener>(
-    feed: &Feed,
-    pending: &mut Pending,
+fn answer_last<W: Write, H: KeyHash + Copy + Drop, L: Observer>(
+    buffer: &LineBuffer,
+    output: &mut OutputBuffer,
     writer: &mut W,
     script: &mut Script<H>,
-    listener: &mut L,
+    observer: &mut L,
 ) -> Result<(), WriteFault>
-    ensures ok { OnOk result (EndsAll feed.now script.old script.new pending.old
+    ensures ok { OnOk result (EndsAll buffer.now script.old script.new output.old
         (flow W.contents writer.old writer.new)) }
-    ensures err { OnErr result (BreaksAtEnd feed.now script.old script.new pending.old
+    ensures err { OnErr result (BreaksAtEnd buffer.now script.old script.new output.old
         (flow W.contents writer.old writer.new)) }
 {
-    let answer = answer_part(feed, script);
-    listener.hear(script, feed.held(), &answer);
-    answer.print(pending, writer)?;
-    pending.flush(writer)
+    let answer = answer_part(buffer, script);
+    observer.line_answered(script, buffer.bytes(), &answer);
+    answer.print(output, writer)?;
+    output.flush(writer)
 }
 
 /// Answers a part of a line as a line. An empty part has no answer.
-fn answer_part<H: KeyHash + Copy + Drop>(feed: &Feed, script: &mut Script<H>) -> Answer
-    ensures { AnswersPart feed.now.is_skipping script.old feed.now.bytes result script.new }
+fn answer_part<H: KeyHash + Copy + Drop>(buffer: &LineBuffer, script: &mut Script<H>) -> Answer
+    ensures { AnswersPart buffer.now.is_skipping script.old buffer.now.bytes result script.new }
 {
-    if feed.is_skipping() {
+    if buffer.is_skipping() {
         return Answer::TooLong;
     }
-    script.answer(feed.held())
+    script.answer(buffer.bytes())
 }

@@ -1,10 +1,10 @@
 //! A script: the names that it spawned, and its node.
 ghost use Rattle.std.specs.Prelude.{◌≡◌, ◌≤◌, ◌<◌, ◌+◌, ◌-◌, ◌^◌, ◌⊎◌, false, length, map, min, vec_items};
-ghost use Rattle.node_core.specs.Seen.{seen};
+ghost use Rattle.node_core.specs.Observable.{observable};
 ghost use Rattle.ets_script.specs.Lines.{text};
 ghost use Rattle.ets_script.specs.declared.answer.Answer.TheVariants.{NoMemory};
-ghost use Rattle.ets_script.specs.inside.Says.{command_seen};
-ghost use Rattle.ets_script.specs.Script.{pid_of, table_of, Unchanged, Steps, Spawns, Obeys, AnswersLine, at_start};
+ghost use Rattle.ets_script.specs.inside.Parsing.{command_view};
+ghost use Rattle.ets_script.specs.Script.{pid_of, table_of, Unchanged, Steps, Spawns, Executes, AnswersLine, at_start};
 ghost use Rattle.ets_script.specs.inside.Enrolments.{Enrols};
 ghost use Rattle.std.specs.Str.{bytes_eq};
 ghost use Rattle.indexmap.specs.IndexSet.{spare, contains_by, index_set_len};
@@ -27,38 +27,38 @@ pub struct Script<H: KeyHash + Copy + Drop> {
 impl<H: KeyHash + Copy + Drop> Model for Script<H> {
     ghost use Rattle.std.specs.Prelude.{◌≤◌, ◌^◌, map, vec_items};
     ghost use Rattle.indexmap.specs.IndexSet.{index_set_len};
-    ghost use Rattle.node_core.specs.Seen.{seen};
-    ghost use Rattle.ets_script.specs.Script.{Scripted};
-    ghost use Rattle.ets_script.specs.inside.Codes.{scripted_code};
+    ghost use Rattle.node_core.specs.Observable.{observable};
+    ghost use Rattle.ets_script.specs.Script.{ScriptState};
+    ghost use Rattle.ets_script.specs.inside.Codes.{script_state_code};
 
-    ghost Value = { Scripted };
+    ghost Value = { ScriptState };
 
-    ghost coded = { scripted_code };
+    ghost coded = { script_state_code };
 
-    ghost view = { λ s. record { names = map vec_items s.names.keys; node = seen s.node } };
+    ghost view = { λ s. record { names = map vec_items s.names.keys; node = observable s.node } };
 
     ghost invariant = { λ s. index_set_len s.names ≤ 2 ^ 32 };
 }
 
 impl<H: KeyHash + Copy + Drop> Script<H> {
     /// Creates a script without names, and a node without processes and tables.
-    pub fn new(alloc: Global, limits: Limits, hash: H) -> Script<H>
+    pub fn new(alloc: Global, limits: Limits, hasher: H) -> Script<H>
         ensures { result ≡ at_start limits }
     {
         Script {
             names: IndexSet::new(alloc),
-            node: Node::new(alloc, limits, hash),
+            node: Node::new(alloc, limits, hasher),
         }
     }
 
     pub fn node(&self) -> &Node<H>
-        ensures { seen result.now ≡ self.now.node }
+        ensures { observable result.now ≡ self.now.node }
     {
         &self.node
     }
 
     pub fn into_node(self) -> Node<H>
-        ensures { seen result ≡ self.node }
+        ensures { observable result ≡ self.node }
     {
         self.node
     }
@@ -77,14 +77,14 @@ impl<H: KeyHash + Copy + Drop> Script<H> {
         }
         let alloc = self.allocator();
         match read_command(alloc, line) {
-            Ok(command) => self.obey(alloc, command),
+            Ok(command) => self.execute(alloc, command),
             Err(_) => Answer::NoMemory,
         }
     }
 
     /// Executes a command.
-    fn obey(&mut self, alloc: Global, command: Command<'_>) -> Answer
-        ensures { Obeys (command_seen command.entry) self.old result self.new
+    fn execute(&mut self, alloc: Global, command: Command<'_>) -> Answer
+        ensures { Executes (command_view command.entry) self.old result self.new
             ⊎ Unchanged self.old NoMemory result self.new }
     {
         match command {
@@ -155,8 +155,8 @@ impl<H: KeyHash + Copy + Drop> Script<H> {
     fn tend(&mut self)
         ensures { self.new ≡ self.old }
     {
-        do_due(&mut self.node);
-        do_due(&mut self.node);
+        run_pending(&mut self.node);
+        run_pending(&mut self.node);
     }
 
     /// Enrols the next number for a name. Reserves capacity for the name first.
@@ -190,8 +190,8 @@ fn enrol<H: KeyHash + Copy + Drop>(
 ) -> Answer
     requires room { 0 < spare names.old }
     requires new { contains_by (λ k. bytes_eq name.items k.items) names.old ≡ false }
-    ensures enrolled { Enrols (map vec_items names.old.keys) (seen node.old) number name.items
-        result (map vec_items names.new.keys) (seen node.new) }
+    ensures enrolled { Enrols (map vec_items names.old.keys) (observable node.old) number name.items
+        result (map vec_items names.new.keys) (observable node.new) }
     ensures len { index_set_len names.new ≤ index_set_len names.old + 1 }
 {
     match node.step(&Step::Enrol(number)) {
@@ -205,8 +205,8 @@ fn enrol<H: KeyHash + Copy + Drop>(
 }
 
 /// Runs the pending growth step, if any. Without memory for it, it stays pending.
-fn do_due<H: KeyHash + Copy + Drop>(node: &mut Node<H>)
-    ensures { seen node.new ≡ seen node.old }
+fn run_pending<H: KeyHash + Copy + Drop>(node: &mut Node<H>)
+    ensures { observable node.new ≡ observable node.old }
 {
     let Some(due) = node.due() else {
         return;

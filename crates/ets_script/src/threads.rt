@@ -9,10 +9,10 @@ ghost use Rattle.ets_script.specs.inside.Processes.{RunsInput, Stops};
 use crate::fault::ScriptFault;
 use crate::journal::print_out;
 use crate::node_settings::NodeSettings;
-use crate::output::Pending;
-use crate::plan::Known;
+use crate::output::OutputBuffer;
+use crate::plan::PlannedAnswers;
 use crate::planning::plan_input;
-use crate::processes::{Ran, run_work};
+use crate::processes::{RunResult, run_jobs};
 use crate::streams::Streams;
 use ets_term::KeyHash;
 use node_core::Limits;
@@ -44,11 +44,11 @@ pub fn run_threads<
         (flow W.contents streams.old.output streams.new.output)) }
     ensures numbers { AreTheNumbers }
 {
-    let Ok(mut pending) = Pending::new(alloc) else {
+    let Ok(mut output) = OutputBuffer::new(alloc) else {
         return Err(ScriptFault::Memory);
     };
-    let (known, ran) = run_input(rt, alloc, &mut streams.input, settings)?;
-    print_out(&known, &ran, &mut pending, &mut streams.output)?;
+    let (planned, run) = run_input(rt, alloc, &mut streams.input, settings)?;
+    print_out(&planned, &run, &mut output, &mut streams.output)?;
     Ok(())
 }
 
@@ -58,19 +58,19 @@ fn run_input<T: Threads + Wait + Sync, R: Read, H: KeyHash + Copy + Drop + Send 
     alloc: Global,
     reader: &mut R,
     settings: NodeSettings<H>,
-) -> Result<(Known, Ran), ScriptFault>
+) -> Result<(PlannedAnswers, RunResult), ScriptFault>
     ensures ok { IfOk result (λ r. RunsInput settings.limits
         (flow R.remaining reader.old reader.new) r.0 r.1) }
     ensures err { IfErr result (Stops settings.limits) }
 {
-    let plan = plan_input(alloc, reader, most_names(settings.limits))?;
-    let (known, work) = plan.into_parts();
-    let ran = run_work(rt, alloc, settings, work)?;
-    Ok((known, ran))
+    let plan = plan_input(alloc, reader, max_names(settings.limits))?;
+    let (planned, work) = plan.into_parts();
+    let run = run_jobs(rt, alloc, settings, work)?;
+    Ok((planned, run))
 }
 
 /// The greatest number of names that are spawned.
-fn most_names(limits: Limits) -> u32
+fn max_names(limits: Limits) -> u32
     ensures { result ≡ min limits.processes MAX_PIDS }
 {
     limits.processes.min(MAX_PIDS as u32)

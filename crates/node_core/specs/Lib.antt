@@ -1,5 +1,5 @@
 pub mod State
-pub mod Seen
+pub mod Observable
 pub mod Positions
 pub mod Access
 pub mod rules

@@ -4,11 +4,11 @@ use Rattle.node_core.specs.declared.step.Step.{Step}
 use Rattle.node_core.specs.declared.step.Reply.{Reply}
 
 -- the steps that have a reply
-abbrev pub answered : List Step → List (Option Reply) → List Step
-answered [] answers = []
-answered (s ∷ steps) [] = []
-answered (s ∷ steps) (None ∷ answers) = answered steps answers
-answered (s ∷ steps) (Some r ∷ answers) = s ∷ answered steps answers
+abbrev pub steps_with_reply : List Step → List (Option Reply) → List Step
+steps_with_reply [] answers = []
+steps_with_reply (s ∷ steps) [] = []
+steps_with_reply (s ∷ steps) (None ∷ answers) = steps_with_reply steps answers
+steps_with_reply (s ∷ steps) (Some r ∷ answers) = s ∷ steps_with_reply steps answers
 
 -- their replies
 abbrev pub replies_in : List (Option Reply) → List Reply

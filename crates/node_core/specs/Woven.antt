@@ -18,7 +18,7 @@ use Rattle.node_core.specs.declared.walk.Walk.{Walk}
 use Rattle.node_core.specs.declared.walk.WalkFault.{WalkFault}
 use Rattle.node_core.specs.declared.walk.WalkFault.TheVariants as fault
 use Rattle.node_core.specs.State.{State}
-use Rattle.node_core.specs.Seen.{seen}
+use Rattle.node_core.specs.Observable.{observable}
 use Rattle.node_core.specs.Machine.{step, run}
 use Rattle.node_core.specs.Buckets.{run_on_buckets}
 use Rattle.node_core.specs.rules.Replies.{true_reply}
@@ -51,18 +51,18 @@ abbrev pub steps_at : ℕ → Given → List Step
 steps_at turn given = map (λ g. g.1) (filter (λ g. g.0 == turn) given)
 
 -- a key is given to the others: it is appended to the keys, and steps of its turn are appended to those handed in
-abbrev pub Adds : List Term → Given → Term → List Term → Given → Type 0
-Adds keys given key new_keys new_given =
+abbrev pub AddsTurn : List Term → Given → Term → List Term → Given → Type 0
+AddsTurn keys given key new_keys new_given =
     (new_keys ≡ keys ++ key ∷ [])
     × ((steps : List Step) × (new_given ≡ given ++ map (λ s. (length keys, s)) steps))
 
 -- What the others observe of a traversal that stopped. The replies to its steps are true, to its fix, then these keys
 -- in order, and then at most one key that they are not given. If not even the fix was done, they are given nothing, and
 -- hand nothing in.
-abbrev pub Tells : ℕ → (keys : List Term) (given : Given) (done : List Step) (replies : List Reply)
+abbrev pub OthersObserve : ℕ → (keys : List Term) (given : Given) (done : List Step) (replies : List Reply)
     → Type 0
-Tells p keys given [] replies = (keys ≡ []) × (given ≡ [])
-Tells p keys given (s ∷ done) replies =
+OthersObserve p keys given [] replies = (keys ≡ []) × (given ≡ [])
+OthersObserve p keys given (s ∷ done) replies =
     (more : List Term) × (length more ≤ 1)
     × AllByRecursion (λ key. is_atom (codes "$end_of_table") key ≡ false) more
     × (replies_to p (s ∷ done) replies ≡ true_reply ∷ map (λ key. Value key) (keys ++ more))
@@ -123,34 +123,34 @@ module _ (p t : ℕ) where
     pub fixes : fixes_in new ≡ fixes_in old
 
   -- why a traversal stops, when of the interleaved steps it did these, with these replies, and left those
-  abbrev pub Reason : WalkFault → (old : State) (limit : ℕ) (keys : List Term) (given : Given)
+  abbrev pub StopReason : WalkFault → (old : State) (limit : ℕ) (keys : List Term) (given : Given)
       (done left : List Step) (replies : List Reply) (last : State) → Type 0
-  Reason fault.Lost old limit keys given done left replies last = can_read last ≡ false
-  Reason fault.OwnStep old limit keys given done left replies last =
+  StopReason fault.Lost old limit keys given done left replies last = can_read last ≡ false
+  StopReason fault.OwnStep old limit keys given done left replies last =
       (turn : ℕ) × (s : Step) × (further : List Step) × (left ≡ s ∷ further)
       × Contains given (turn, s) × (is_step_of p s ≡ true)
-  Reason fault.LimitReached old limit keys given done left replies last =
+  StopReason fault.LimitReached old limit keys given done left replies last =
       (left ≡ []) × (length keys ≡ limit)
       × ((before : List Reply) × (key : Term) × (replies ≡ before ++ Value key ∷ [])
       × (is_atom (codes "$end_of_table") key ≡ false))
-  Reason fault.Memory old limit keys given [] left replies last =
+  StopReason fault.Memory old limit keys given [] left replies last =
       (can_read old ≡ true) × (fixes_in old < max_fixes)
-  Reason fault.Memory old limit keys given (s ∷ done) left replies last = Unit {0}
-  Reason fault.SystemLimit old limit keys given done left replies last =
+  StopReason fault.Memory old limit keys given (s ∷ done) left replies last = Unit {0}
+  StopReason fault.SystemLimit old limit keys given done left replies last =
       (done ≡ []) × (can_read old ≡ true) × (fixes_in old ≡ max_fixes)
 
   -- after the steps done comes the release, if they start with the fix and the table may still be read; the process
   -- then has the number of fixes that it had before
-  abbrev pub Leaves : (old : State) (done : List Step) (last new : State) → Type 0
-  Leaves old [] last new = new ≡ last
-  Leaves old (s ∷ done) last new =
+  abbrev pub AfterRelease : (old : State) (done : List Step) (last new : State) → Type 0
+  AfterRelease old [] last new = new ≡ last
+  AfterRelease old (s ∷ done) last new =
       MatchBool (can_read last)
       (step last release true_reply new × (fixes_in new ≡ fixes_in old))
       (new ≡ last)
 
   -- A traversal that stopped: of the interleaved steps the first are done and these are left. The process's own among
   -- those done are only its calls of the traversal.
-  pub record Stops (old : State) (limit : ℕ) (keys : List Term) (given : Given) (why : WalkFault)
+  pub record IsStopped (old : State) (limit : ℕ) (keys : List Term) (given : Given) (why : WalkFault)
       (left : List Step) (new : State) : Type 0 where
     pub done : List Step
     pub own_left : List Step
@@ -159,10 +159,10 @@ module _ (p t : ℕ) where
     pub order : woven keys given ≡ done ++ left
     pub own : woven keys [] ≡ filter (is_step_of p) done ++ own_left
     pub ran : run old done replies last
-    pub tells : Tells p keys given done replies
+    pub tells : OthersObserve p keys given done replies
     pub turns : AreTurns keys given
-    pub reason : Reason why old limit keys given done left replies last
-    pub after : Leaves old done last new
+    pub reason : StopReason why old limit keys given done left replies last
+    pub after : AfterRelease old done last new
 
   -- What a traversal does to the buckets, which no call observes: of the interleaved steps all but those left are done,
   -- and then the release or nothing, and no other step.
@@ -180,9 +180,9 @@ abbrev pub WalksAmong : State → ℕ → Term → ℕ → List Term → Given �
     → Type 0
 WalksAmong old p term limit keys given (Ok walk) new =
     (walk.keys ≡ keys) × MatchOption (resolve old.world.tables term) ⊥ (λ t.
-    IsWalked p t (seen old) limit keys given (seen new) × RunsWoven p t old keys given [] new)
+    IsWalked p t (observable old) limit keys given (observable new) × RunsWoven p t old keys given [] new)
 WalksAmong old p term limit keys given (Err why) new =
     MatchOption (resolve old.world.tables term)
     ((why ≡ fault.Lost) × (new ≡ old) × (keys ≡ []) × (given ≡ [])) (λ t.
-    (left : List Step) × Stops p t (seen old) limit keys given why left (seen new)
+    (left : List Step) × IsStopped p t (observable old) limit keys given why left (observable new)
     × RunsWoven p t old keys given left new)

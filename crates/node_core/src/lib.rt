@@ -2,7 +2,7 @@
 //! changes nothing.
 //!
 //! *Guarantee.* `Node::step` and `Node::run` have the machine of specs/Machine.antt as their contracts, word for word,
-//! over the observable state of a node (specs/Seen.antt). They also say what becomes of the buckets, which no call
+//! over the observable state of a node (specs/Observable.antt). They also say what becomes of the buckets, which no call
 //! observes, and so does `walk_among`. Nothing panics, and running out of memory changes nothing.
 //!
 //! *Weakness.* Any step may run out of memory; no contract says that memory is available.
@@ -14,10 +14,10 @@
 //! *Limits.* A node is a single value: sharing it between threads is for the layer above.
 #![tactic(auto)]
 
-mod identifiers;
 pub mod laws;
 mod limits;
 mod node;
+mod pending_tables;
 mod position;
 mod step;
 mod terms;

@@ -6,7 +6,7 @@ use ets_term::{Items, Term};
 use std::alloc::{AllocError, Global};
 
 /// Copies the terms, in order.
-pub fn copied(alloc: Global, terms: &[Term]) -> Result<Items<Term>, AllocError>
+pub fn copy_terms(alloc: Global, terms: &[Term]) -> Result<Items<Term>, AllocError>
     ensures { IfOk result (λ copies. copies ≡ terms.now) }
 {
     let mut copies = Vec::with_capacity(alloc, terms.len())?;
@@ -24,7 +24,7 @@ pub fn same(term: &Term, other: &Term) -> bool
 }
 
 /// Returns whether the lists have the same length, and equal terms at each index.
-pub fn all_same(terms: &[Term], others: &[Term]) -> bool
+pub fn same_terms(terms: &[Term], others: &[Term]) -> bool
     ensures { Decides result (terms.now ≡ others.now) }
 {
     terms == others

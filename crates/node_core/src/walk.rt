@@ -2,10 +2,10 @@
 ghost use Rattle.std.specs.Prelude.{◌≡◌, ◌+◌, ℕ, [], List, vec_len, Some, Ok, OnOk, OnErr};
 ghost use Rattle.ets_term.specs.declared.term.Term as term;
 ghost use Rattle.node_core.specs.declared.step.Step as event;
-ghost use Rattle.node_core.specs.Seen.{seen};
+ghost use Rattle.node_core.specs.Observable.{observable};
 ghost use Rattle.node_core.specs.State.{State};
-ghost use Rattle.node_core.specs.Woven.{Adds, WalksAmong};
-ghost use Rattle.node_core.specs.inside.Walker.{Stands, TurnsTo, EndsIn, Holds, OthersRun};
+ghost use Rattle.node_core.specs.Woven.{AddsTurn, WalksAmong};
+ghost use Rattle.node_core.specs.inside.Walker.{WalkSoFar, TurnResult, WalkResult, FixesTable, RunsOthers};
 
 use crate::node::Node;
 use crate::step::Step;
@@ -33,7 +33,7 @@ pub trait Others {
     /// key's index as their turn; they run before the traversal continues. Running out of memory changes nothing.
     fn between(&mut self, last: &Term) -> Result<(), AllocError>
         ensures ok { OnOk result
-            (Adds (keys self.old) (steps self.old) last.now (keys self.new) (steps self.new)) }
+            (AddsTurn (keys self.old) (steps self.old) last.now (keys self.new) (steps self.new)) }
         ensures err_keys { OnErr result (keys self.new ≡ keys self.old) }
         ensures err_steps { OnErr result (steps self.new ≡ steps self.old) };
 }
@@ -86,14 +86,14 @@ pub fn walk_among<H: KeyHash + Copy + Drop, O: Others>(
     let Some(id) = node.resolve(table) else {
         return Err(WalkFault::Lost);
     };
-    node.hold(pid, id)?;
-    let walked = walk_held(node, pid, id, limit, others);
-    node.let_go(pid, id);
+    node.fix_table(pid, id)?;
+    let walked = walk_fixed(node, pid, id, limit, others);
+    node.unfix_table(pid, id);
     walked
 }
 
 /// Traverses a table that the process has fixed once more.
-fn walk_held<H: KeyHash + Copy + Drop, O: Others>(
+fn walk_fixed<H: KeyHash + Copy + Drop, O: Others>(
     node: &mut Node<H>,
     pid: u32,
     id: u32,
@@ -102,26 +102,26 @@ fn walk_held<H: KeyHash + Copy + Drop, O: Others>(
 ) -> Result<Walk, WalkFault>
     requires keys { O.keys others.old ≡ [] }
     requires steps { O.steps others.old ≡ [] }
-    requires held { (old : State) × Holds pid id old (Ok tt) (seen node.old) }
-    ensures { EndsIn pid id limit node.old (O.keys others.new) (O.steps others.new)
+    requires held { (old : State) × FixesTable pid id old (Ok tt) (observable node.old) }
+    ensures { WalkResult pid id limit node.old (O.keys others.new) (O.steps others.new)
         result node.new }
 {
     let mut keys = Vec::new(node.allocator());
-    let mut found = node.key_behind(pid, id, None)?;
+    let mut found = node.next_key(pid, id, None)?;
     for _at in 0..limit {
         let Some(key) = found else {
-            return Ok(Walk::over(keys));
+            return Ok(Walk::from_keys(keys));
         };
-        found = turn(node, pid, id, key, &mut keys, others)?;
+        found = walk_turn(node, pid, id, key, &mut keys, others)?;
     }
     match found {
-        None => Ok(Walk::over(keys)),
+        None => Ok(Walk::from_keys(keys)),
         Some(_) => Err(WalkFault::LimitReached),
     }
 }
 
 /// Does the turn of a key: gives it to the others, runs their steps, and finds the next key.
-fn turn<H: KeyHash + Copy + Drop, O: Others>(
+fn walk_turn<H: KeyHash + Copy + Drop, O: Others>(
     node: &mut Node<H>,
     pid: u32,
     id: u32,
@@ -131,10 +131,10 @@ fn turn<H: KeyHash + Copy + Drop, O: Others>(
 ) -> Result<Option<Term>, WalkFault>
     requires keys { O.keys others.old ≡ keys.old.items }
     requires stands { (old : State)
-        × Stands pid id old (O.keys others.old) (O.steps others.old) (Some key) (seen node.old) }
+        × WalkSoFar pid id old (O.keys others.old) (O.steps others.old) (Some key) (observable node.old) }
     ensures keys { OnOk result (keys.new.items ≡ O.keys others.new) }
     ensures count { OnOk result (vec_len keys.new ≡ vec_len keys.old + 1) }
-    ensures turn { TurnsTo pid id (O.keys others.old) (O.steps others.old) key node.old
+    ensures turn { TurnResult pid id (O.keys others.old) (O.steps others.old) key node.old
         (O.keys others.new) (O.steps others.new) result node.new }
 {
     if keys.reserve(1).is_err() {
@@ -144,19 +144,19 @@ fn turn<H: KeyHash + Copy + Drop, O: Others>(
     if others.between(&key).is_err() {
         return Err(WalkFault::Memory);
     }
-    run_others(node, pid, &others.given()[before..])?;
-    let found = node.key_behind(pid, id, Some(&key))?;
+    run_steps(node, pid, &others.given()[before..])?;
+    let found = node.next_key(pid, id, Some(&key))?;
     keys.push_reserved(key);
     Ok(found)
 }
 
 /// Runs the steps handed in, in order, until one is the process's own.
-fn run_others<H: KeyHash + Copy + Drop>(
+fn run_steps<H: KeyHash + Copy + Drop>(
     node: &mut Node<H>,
     pid: u32,
     given: &[(usize, Step)],
 ) -> Result<(), WalkFault>
-    ensures { OthersRun pid node.old given.now result node.new }
+    ensures { RunsOthers pid node.old given.now result node.new }
 {
     for (_, step) in given {
         if step.is_of(pid) {
@@ -170,7 +170,7 @@ fn run_others<H: KeyHash + Copy + Drop>(
 }
 
 impl Walk {
-    fn over(keys: Vec<Term>) -> Walk
+    fn from_keys(keys: Vec<Term>) -> Walk
         ensures { result.keys ≡ keys.items }
     {
         Walk {

@@ -1,4 +1,4 @@
--- Reasons are exact: each reply of the machine to a step is what its reason says, and the reason that is left is that one.
+-- Reasons are exact: each reply of the machine to a step is what its reason says, and the last rule is that reason.
 use Rattle.std.proofs.Common.{◌≡◌, ℕ, inl, inr, Bool, true, false, cond, not, List, [], ◌∷◌, Option, None, Some, refl, sym, subst, ap, ◌∙◌, codes}
 use Rattle.std.specs.Prelude.{◌+◌, ◌||◌, if◌then◌else◌, is_some, position, nat_le, length, Ok, Err}
 use Rattle.std.specs.List.{list_any, position_from}
@@ -19,10 +19,10 @@ use Rattle.node_core.specs.declared.step.Reply.{Reply}
 use Rattle.node_core.specs.declared.step.Reply.TheVariants.{Value, Badarg, SystemLimit, NoProcess}
 use Rattle.node_core.specs.declared.step.Step.{Step}
 use Rattle.node_core.specs.declared.step.Step.TheVariants.{Enrol, End, Ask, Grow, Ready}
-use Rattle.node_core.specs.Access.{IsWorldReply}
+use Rattle.node_core.specs.Access.{WorldResultToReply}
 use Rattle.node_core.specs.Calls.{call}
 use Rattle.node_core.specs.Machine.{step}
-use Rattle.node_core.specs.Seen.{seen}
+use Rattle.node_core.specs.Observable.{observable}
 use Rattle.node_core.specs.State.{State}
 use Rattle.node_core.specs.rules.Growth.{ok_reply}
 use Rattle.node_core.specs.rules.Replies.{true_reply, is_value}
@@ -30,19 +30,19 @@ use Rattle.node_reasons.specs.declared.reason.Rule.{Rule}
 use Rattle.node_reasons.specs.declared.reason.Rule.TheVariants as rule
 use Rattle.node_reasons.specs.declared.reason.Reason.{Reason}
 use Rattle.node_reasons.specs.Reasons.{refusal_of, argument, whole}
-use Rattle.node_reasons.specs.Calls.{call_why}
+use Rattle.node_reasons.specs.Calls.{why_call}
 use Rattle.node_reasons.specs.Why.{limit_of, or_limit, why}
 use Rattle.node_reasons.specs.Laws.{Explains, ReasonsAreExact}
-use Rattle.node_reasons.specs.inside.Left.{Names}
-use Rattle.node_reasons.specs.inside.LeftCalls.{call_left, left, picked, told}
-use Rattle.node_reasons.proofs.Told.{Foretells, Told, Either}
-use Rattle.node_reasons.proofs.ToldCalls.{asks-told, within-told, where-told, call-told}
+use Rattle.node_reasons.specs.inside.LastRules.{NamesReason}
+use Rattle.node_reasons.specs.inside.LastRuleOfCalls.{last_rule_of_call, last_rule, reason_by_reply, reason_for}
+use Rattle.node_reasons.proofs.Explained.{ReasonExplains, ReasonExplainsAll, Either}
+use Rattle.node_reasons.proofs.ExplainedCalls.{asks-explained, within-explained, where-explained, call-explained}
 use Rattle.node_reasons.proofs.NamedRules.{last-where}
-use Rattle.node_reasons.proofs.Named.{call-named, left-seen}
+use Rattle.node_reasons.proofs.Named.{call-named, last_rule-seen}
 
--- what is right of a reason that is wanted, and of those that are left: it explains the reply, and it is picked
+-- the wanted reason explains the reply, and is chosen of the last rule and the limit
 abbrev Right : Option Reason → Reason → Reason → Reply → Type 0
-Right wanted other limit reply = Explains wanted reply × (picked other limit reply ≡ wanted)
+Right wanted other limit reply = Explains wanted reply × (reason_by_reply other limit reply ≡ wanted)
 
 -- ---- rules, and the limit after them
 answer-right : (other limit : Reason) (reply : Reply) → is_value reply ≡ true → Right None other limit reply
@@ -51,7 +51,7 @@ answer-right other limit Badarg e = absurd (cc)
 answer-right other limit SystemLimit e = absurd (cc)
 answer-right other limit NoProcess e = absurd (cc)
 
-limit-right : (limit : Rule) (other : Reason) (v : Option Reason) (reply : Reply) → refusal_of limit ≡ SystemLimit → Foretells v reply → Names v other → Right (or_limit limit v reply) other (whole limit) reply
+limit-right : (limit : Rule) (other : Reason) (v : Option Reason) (reply : Reply) → refusal_of limit ≡ SystemLimit → ReasonExplains v reply → NamesReason v other → Right (or_limit limit v reply) other (whole limit) reply
 limit-right limit other None reply l (inl e) named = by reply e
   where
     by : (reply : Reply) → is_value reply ≡ true → Right (or_limit limit None reply) other (whole limit) reply
@@ -65,7 +65,7 @@ limit-right limit other (Some reason) reply l h named = subst (λ r. Right (Some
 limit-refuses : (name : List ℕ) → refusal_of (limit_of name) ≡ SystemLimit
 limit-refuses name = by (bytes_eq name (codes "insert")) (bytes_eq name (codes "insert_new")) (bytes_eq name (codes "new")) (bytes_eq name (codes "safe_fixtable"))
   where
-    by : (a b c d : Bool) → refusal_of (if a then rule.TooManyObjects else if b then rule.TooManyObjects else if c then rule.TooManyTables else if d then rule.TooManyFixes else rule.PastALimit) ≡ SystemLimit
+    by : (a b c d : Bool) → refusal_of (if a then rule.TooManyObjects else if b then rule.TooManyObjects else if c then rule.TooManyTables else if d then rule.TooManyFixes else rule.LimitExceeded) ≡ SystemLimit
     by true b c d = refl
     by false true c d = refl
     by false false true d = refl
@@ -75,7 +75,7 @@ limit-refuses name = by (bytes_eq name (codes "insert")) (bytes_eq name (codes "
 -- ---- arguments that are too deep
 abbrev Deep : Option ℕ → Bool → Type 0
 Deep None b = b ≡ false
-Deep (Some place) b = b ≡ true
+Deep (Some index) b = b ≡ true
 
 deep-from : (test : Term → Bool) (i : ℕ) (args : List Term) → Deep (position_from test i args) (list_any test args)
 deep-from test i [] = refl
@@ -92,46 +92,46 @@ deep-at test args = subst (λ (o : Option ℕ). Deep o (list_any test args)) (sy
 module _ (old : State) where
   abbrev Asked : ℕ → Call → Reply → Bool → Option ℕ → Type 0
   Asked p asked reply b o =
-      Right (if b then option_map_or (λ place. Some (argument (place + 1) rule.TooDeep)) o (or_limit (limit_of asked.name) (call_why old.world p asked.name asked.args) reply) else Some (whole rule.NoProcess))
-      (if b then option_map_or (λ place. argument (place + 1) rule.TooDeep) o (call_left old.world p asked.name asked.args) else whole rule.NoProcess)
-      (if b then option_map_or (λ place. argument (place + 1) rule.TooDeep) o (whole (limit_of asked.name)) else whole rule.NoProcess) reply
+      Right (if b then option_map_or (λ index. Some (argument (index + 1) rule.TooDeep)) o (or_limit (limit_of asked.name) (why_call old.world p asked.name asked.args) reply) else Some (whole rule.NoProcess))
+      (if b then option_map_or (λ index. argument (index + 1) rule.TooDeep) o (last_rule_of_call old.world p asked.name asked.args) else whole rule.NoProcess)
+      (if b then option_map_or (λ index. argument (index + 1) rule.TooDeep) o (whole (limit_of asked.name)) else whole rule.NoProcess) reply
 
   asked-right : (p : ℕ) (asked : Call) (reply : Reply) (new : State) (o : Option ℕ) (b : Bool) → Deep o b → Either b (gives SystemLimit old) (call old p asked.name asked.args) reply new → Asked p asked reply true o
   asked-right p asked reply new None true d h = absurd (cc)
   asked-right p asked reply new None false d h =
-      limit-right (limit_of asked.name) (call_left old.world p asked.name asked.args) (call_why old.world p asked.name asked.args) reply (limit-refuses asked.name)
-      (call-told old p asked.name asked.args reply new h) (call-named old.world p asked.name asked.args)
-  asked-right p asked reply new (Some place) true d h = subst (λ r. Asked p asked r true (Some place)) (sym h.0) (refl, refl)
-  asked-right p asked reply new (Some place) false d h = absurd (cc)
+      limit-right (limit_of asked.name) (last_rule_of_call old.world p asked.name asked.args) (why_call old.world p asked.name asked.args) reply (limit-refuses asked.name)
+      (call-explained old p asked.name asked.args reply new h) (call-named old.world p asked.name asked.args)
+  asked-right p asked reply new (Some index) true d h = subst (λ r. Asked p asked r true (Some index)) (sym h.0) (refl, refl)
+  asked-right p asked reply new (Some index) false d h = absurd (cc)
 
   ask-right : (p : ℕ) (asked : Call) (reply : Reply) (new : State) (b : Bool)
       → Either (not b) (gives NoProcess old) (Either (list_any is_too_deep asked.args) (gives SystemLimit old) (call old p asked.name asked.args)) reply new → Asked p asked reply b (position is_too_deep asked.args)
   ask-right p asked reply new true h = asked-right p asked reply new (position is_too_deep asked.args) (list_any is_too_deep asked.args) (deep-at is_too_deep asked.args) h
   ask-right p asked reply new false h = subst (λ r. Asked p asked r false (position is_too_deep asked.args)) (sym h.0) (refl, refl)
 
-  enrol-told : (p : ℕ) → Told (if is_some (process_at old.world.processes p) then Some (whole rule.IsKnown) else None) (step old (Enrol p))
-  enrol-told p =
-      asks-told old (if is_some (process_at old.world.processes p) then Some (whole rule.IsKnown) else None) (λ _. Value (Pid p)) (tables.Enrol old.world p)
-      (where-told old None (Some (whole rule.IsKnown)) (λ _. Value (Pid p)) (is_some (process_at old.world.processes p))
+  enrol-explained : (p : ℕ) → ReasonExplainsAll (if is_some (process_at old.world.processes p) then Some (whole rule.AlreadyEnrolled) else None) (step old (Enrol p))
+  enrol-explained p =
+      asks-explained old (if is_some (process_at old.world.processes p) then Some (whole rule.AlreadyEnrolled) else None) (λ _. Value (Pid p)) (tables.Enrol old.world p)
+      (where-explained old None (Some (whole rule.AlreadyEnrolled)) (λ _. Value (Pid p)) (is_some (process_at old.world.processes p))
       (refuse old.world (nat_le old.world.most_processes (length old.world.processes)) (Err fault.SystemLimit) (gives (Ok (tt {0})) (after_enrol old.world p))) (λ reply e. (e, refl))
-      (within-told old (λ _. Value (Pid p)) (nat_le old.world.most_processes (length old.world.processes)) (tt {0}) (after_enrol old.world p) refl))
+      (within-explained old (λ _. Value (Pid p)) (nat_le old.world.most_processes (length old.world.processes)) (tt {0}) (after_enrol old.world p) refl))
 
-  ended : (after : World) (result : _) (reply : Reply) (new : World) (b : Bool) → refuse old.world (not b) (Err fault.NoProcess) (gives (Ok (tt {0})) after) result new → IsWorldReply (λ _. true_reply) result reply
+  ended : (after : World) (result : _) (reply : Reply) (new : World) (b : Bool) → refuse old.world (not b) (Err fault.NoProcess) (gives (Ok (tt {0})) after) result new → WorldResultToReply (λ _. true_reply) result reply
       → Right (if b then None else Some (whole rule.NoProcess)) (whole rule.NoProcess) (whole rule.NoProcess) reply
   ended after result reply new true h e =
-      let r : reply ≡ true_reply = subst (λ r. IsWorldReply (λ _. true_reply) r reply) h.0 e in
+      let r : reply ≡ true_reply = subst (λ r. WorldResultToReply (λ _. true_reply) r reply) h.0 e in
       answer-right (whole rule.NoProcess) (whole rule.NoProcess) reply (ap is_value r)
   ended after result reply new false h e =
-      let r : reply ≡ NoProcess = subst (λ r. IsWorldReply (λ _. true_reply) r reply) h.0 e in
+      let r : reply ≡ NoProcess = subst (λ r. WorldResultToReply (λ _. true_reply) r reply) h.0 e in
       subst (λ r. Right (Some (whole rule.NoProcess)) (whole rule.NoProcess) (whole rule.NoProcess) r) (sym r) (refl, refl)
 
   grown : (o : Option Table) (reply : Reply) → reply ≡ option_map_or (λ _. ok_reply) o Badarg → Right (if is_some o then None else Some (whole rule.NoTable)) (whole rule.NoTable) (whole rule.NoTable) reply
   grown None reply e = subst (λ r. Right (Some (whole rule.NoTable)) (whole rule.NoTable) (whole rule.NoTable) r) (sym e) (refl, refl)
   grown (Some table) reply e = answer-right (whole rule.NoTable) (whole rule.NoTable) reply (ap is_value e)
 
-right : (old new : State) (s : Step) (reply : Reply) → step old s reply new → Right (why old s reply) (left old.world s false) (left old.world s true) reply
-right old new (Enrol p) reply h = limit-right rule.TooManyProcesses (whole rule.IsKnown) (if is_some (process_at old.world.processes p) then Some (whole rule.IsKnown) else None) reply refl
-    (enrol-told old p reply new h) (last-where (is_some (process_at old.world.processes p)) (whole rule.IsKnown))
+right : (old new : State) (s : Step) (reply : Reply) → step old s reply new → Right (why old s reply) (last_rule old.world s false) (last_rule old.world s true) reply
+right old new (Enrol p) reply h = limit-right rule.TooManyProcesses (whole rule.AlreadyEnrolled) (if is_some (process_at old.world.processes p) then Some (whole rule.AlreadyEnrolled) else None) reply refl
+    (enrol-explained old p reply new h) (last-where (is_some (process_at old.world.processes p)) (whole rule.AlreadyEnrolled))
 right old new (End p) reply h = ended old (ends.after_exit old.world (ends.with_ended old.world.processes p) p) h.0 reply new.world (lives old.world.processes p) h.1 h.2
 right old new (Ask p asked) reply h = ask-right old p asked reply new (lives old.world.processes p) h
 right old new (Grow t) reply h = grown old (table_at old.world.tables t) reply h.0
@@ -141,16 +141,16 @@ pub exact : ReasonsAreExact
 exact old new s reply h = (right old new s reply h).0
 
 -- what holds over the tables with their buckets
-pub told-right : (s new : State) (event : Step) (reply : Reply) → step (seen s) event reply new → told s.world event reply ≡ why (seen s) event reply
-told-right s new event reply h =
-    sym (ap (λ (r : Reason). picked r (left (seen s).world event true) reply) (left-seen s.world event false) ∙ ap (λ (r : Reason). picked (left s.world event false) r reply) (left-seen s.world event true))
-    ∙ (right (seen s) new event reply h).1
+pub reason_for-right : (s new : State) (event : Step) (reply : Reply) → step (observable s) event reply new → reason_for s.world event reply ≡ why (observable s) event reply
+reason_for-right s new event reply h =
+    sym (ap (λ (r : Reason). reason_by_reply r (last_rule (observable s).world event true) reply) (last_rule-seen s.world event false) ∙ ap (λ (r : Reason). reason_by_reply (last_rule s.world event false) r reply) (last_rule-seen s.world event true))
+    ∙ (right (observable s) new event reply h).1
 
 -- there is a reason exactly for a refusal
-pub told-where : (w : World) (event : Step) (reply : Reply) → is_some (told w event reply) ≡ not (is_value reply)
-told-where w event reply = by (left w event false) (left w event true) reply
+pub reason_for-exact : (w : World) (event : Step) (reply : Reply) → is_some (reason_for w event reply) ≡ not (is_value reply)
+reason_for-exact w event reply = by (last_rule w event false) (last_rule w event true) reply
   where
-    by : (other limit : Reason) (reply : Reply) → is_some (picked other limit reply) ≡ not (is_value reply)
+    by : (other limit : Reason) (reply : Reply) → is_some (reason_by_reply other limit reply) ≡ not (is_value reply)
     by other limit (Value term) = refl
     by other limit Badarg = refl
     by other limit SystemLimit = refl

@@ -1,8 +1,8 @@
 pub mod FormLaws
-pub mod Told
-pub mod ToldRules
-pub mod ToldUpdates
-pub mod ToldCalls
+pub mod Explained
+pub mod ExplainedRules
+pub mod ExplainedUpdates
+pub mod ExplainedCalls
 pub mod NamedRules
 pub mod Named
 pub mod Exact

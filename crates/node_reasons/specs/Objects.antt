@@ -15,51 +15,51 @@ use Rattle.node_reasons.specs.declared.reason.Reason.{Reason}
 use Rattle.node_reasons.specs.Reasons.{argument}
 
 -- a call that no rule refuses once the table may be used
-abbrev pub sound : Content → Option Reason
-sound content = None
+abbrev pub no_further_rule : Content → Option Reason
+no_further_rule content = None
 
 -- insert, insert_new: each is an object
-abbrev pub insertion : Term → Content → Option Reason
-insertion objects content =
+abbrev pub why_insert : Term → Content → Option Reason
+why_insert objects content =
     if list_all (is_object content.keypos) (objects_in objects) then None else Some (argument 2 rule.NotAnObject)
 
 -- delete_object: it is an object
-abbrev pub deletion : Term → Content → Option Reason
-deletion object content = if is_object content.keypos object then None else Some (argument 2 rule.NotAnObject)
+abbrev pub why_delete_object : Term → Content → Option Reason
+why_delete_object object content = if is_object content.keypos object then None else Some (argument 2 rule.NotAnObject)
 
 -- next, next_lookup: the key has a slot
-abbrev pub walk_on : Term → Content → Option Reason
-walk_on key content = if is_some (next_key content.slots key) then None else Some (argument 2 rule.NoKey)
+abbrev pub why_next : Term → Content → Option Reason
+why_next key content = if is_some (next_key content.slots key) then None else Some (argument 2 rule.NoKey)
 
 -- match, match_object, match_delete: it is a pattern
-abbrev pub matching : Term → Content → Option Reason
-matching pattern content = if is_pattern (data_of pattern) then None else Some (argument 2 rule.NotAPattern)
+abbrev pub why_match : Term → Content → Option Reason
+why_match pattern content = if is_pattern (data_of pattern) then None else Some (argument 2 rule.NotAPattern)
 
 -- select, select_count, select_delete: it is a specification
-abbrev pub selecting : Term → Content → Option Reason
-selecting spec content = if is_spec (data_of spec) then None else Some (argument 2 rule.NotASpecification)
+abbrev pub why_select : Term → Content → Option Reason
+why_select spec content = if is_spec (data_of spec) then None else Some (argument 2 rule.NotASpecification)
 
 -- the element of each object of a key exists; of a set, of its one object
 abbrev pub element : Kind → ℕ → List Term → Option Reason
 element kind position objects =
     if is_some (lookup_element kind position objects) then None else Some (argument 3 rule.NoElement)
 
-abbrev pub element_under : Option Reason → Kind → ℕ → List Term → Option Reason
-element_under missing kind position [] = missing
-element_under missing kind position (object ∷ objects) = element kind position (object ∷ objects)
+abbrev pub why_element_of_key : Option Reason → Kind → ℕ → List Term → Option Reason
+why_element_of_key missing kind position [] = missing
+why_element_of_key missing kind position (object ∷ objects) = element kind position (object ∷ objects)
 
 -- a position is at least 1
-abbrev pub element_of : Option Reason → List Term → Kind → Option ℕ → Option Reason
-element_of missing objects kind None = Some (argument 3 rule.NotAPosition)
-element_of missing objects kind (Some position) =
-    if position == 0 then Some (argument 3 rule.NotAPosition) else element_under missing kind position objects
+abbrev pub why_element_at : Option Reason → List Term → Kind → Option ℕ → Option Reason
+why_element_at missing objects kind None = Some (argument 3 rule.NotAPosition)
+why_element_at missing objects kind (Some position) =
+    if position == 0 then Some (argument 3 rule.NotAPosition) else why_element_of_key missing kind position objects
 
 -- lookup_element: Pos is a position, then the key has an object, then each of these has the element
-abbrev pub element_told_of : Term → Term → Content → Option Reason
-element_told_of key position content =
-    element_of (Some (argument 2 rule.NoKey)) (objects_under content.slots key) content.kind (position_of position)
+abbrev pub why_lookup_element : Term → Term → Content → Option Reason
+why_lookup_element key position content =
+    why_element_at (Some (argument 2 rule.NoKey)) (objects_under content.slots key) content.kind (position_of position)
 
 -- lookup_element with a default: the key needs no object
-abbrev pub element_or_of : Term → Term → Content → Option Reason
-element_or_of key position content =
-    element_of None (objects_under content.slots key) content.kind (position_of position)
+abbrev pub why_lookup_element_or : Term → Term → Content → Option Reason
+why_lookup_element_or key position content =
+    why_element_at None (objects_under content.slots key) content.kind (position_of position)

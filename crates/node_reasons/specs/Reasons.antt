@@ -21,7 +21,7 @@ refusal_of rule.TooManyProcesses = SystemLimit
 refusal_of rule.TooManyTables = SystemLimit
 refusal_of rule.TooManyObjects = SystemLimit
 refusal_of rule.TooManyFixes = SystemLimit
-refusal_of rule.PastALimit = SystemLimit
+refusal_of rule.LimitExceeded = SystemLimit
 refusal_of _ = Badarg
 
 -- a rule on the step, or on its call as a whole
@@ -33,16 +33,16 @@ abbrev pub argument : ℕ → Rule → Reason
 argument n broken = record { rule = broken; argument = Some n }
 
 -- the table that a term names, if there is one
-abbrev pub table_named : Tables → Term → Option Table
-table_named tables term = option_and_then (table_at tables) (resolve tables term)
+abbrev pub table_of_term : Tables → Term → Option Table
+table_of_term tables term = option_and_then (table_at tables) (resolve tables term)
 
-abbrev pub lacks : Access → Rule
-lacks Read = rule.NotReadable
-lacks Write = rule.NotWritable
+abbrev pub rule_of_access : Access → Rule
+rule_of_access Read = rule.NotReadable
+rule_of_access Write = rule.NotWritable
 
 -- a call that uses, in this way, the table that its first argument names: the first rule that is broken; if the process
 -- may use it, that of the rules on the content
 abbrev pub on_table : Access → ℕ → Option Table → (Content → Option Reason) → Option Reason
 on_table access p None rest = Some (argument 1 rule.NoTable)
 on_table access p (Some table) rest =
-    if may access table.metadata p then rest table.fixed.content else Some (argument 1 (lacks access))
+    if may access table.metadata p then rest table.fixed.content else Some (argument 1 (rule_of_access access))

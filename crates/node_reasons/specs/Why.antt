@@ -14,7 +14,7 @@ use Rattle.node_reasons.specs.declared.reason.Rule.{Rule}
 use Rattle.node_reasons.specs.declared.reason.Rule.TheVariants as rule
 use Rattle.node_reasons.specs.declared.reason.Reason.{Reason}
 use Rattle.node_reasons.specs.Reasons.{whole, argument}
-use Rattle.node_reasons.specs.Calls.{call_why}
+use Rattle.node_reasons.specs.Calls.{why_call}
 
 -- the limit that a call can exceed
 abbrev pub limit_of : List ℕ → Rule
@@ -23,7 +23,7 @@ limit_of name =
     else if bytes_eq name (codes "insert_new") then rule.TooManyObjects
     else if bytes_eq name (codes "new") then rule.TooManyTables
     else if bytes_eq name (codes "safe_fixtable") then rule.TooManyFixes
-    else rule.PastALimit
+    else rule.LimitExceeded
 
 -- the rule that is broken; if none is, the limit, if the step is refused all the same
 abbrev pub or_limit : Rule → Option Reason → Reply → Option Reason
@@ -31,24 +31,24 @@ or_limit limit (Some reason) reply = Some reason
 or_limit limit None reply = if is_value reply then None else Some (whole limit)
 
 -- a call of a process that lives: the first argument that is too deep, then the table of calls, then its limit
-abbrev pub asked_why : World → ℕ → Call → Reply → Option Reason
-asked_why w p asked reply =
-    option_map_or (λ place. Some (argument (place + 1) rule.TooDeep)) (position is_too_deep asked.args)
-    (or_limit (limit_of asked.name) (call_why w p asked.name asked.args) reply)
+abbrev pub why_ask : World → ℕ → Call → Reply → Option Reason
+why_ask w p asked reply =
+    option_map_or (λ index. Some (argument (index + 1) rule.TooDeep)) (position is_too_deep asked.args)
+    (or_limit (limit_of asked.name) (why_call w p asked.name asked.args) reply)
 
 -- a process that is already known
-abbrev pub enrol_why : World → ℕ → Option Reason
-enrol_why w p = if is_some (process_at w.processes p) then Some (whole rule.IsKnown) else None
+abbrev pub why_enrol : World → ℕ → Option Reason
+why_enrol w p = if is_some (process_at w.processes p) then Some (whole rule.AlreadyEnrolled) else None
 
-abbrev pub growth_why : World → ℕ → Option Reason
-growth_why w t = if is_some (table_at w.tables t) then None else Some (whole rule.NoTable)
+abbrev pub why_growth : World → ℕ → Option Reason
+why_growth w t = if is_some (table_at w.tables t) then None else Some (whole rule.NoTable)
 
 -- why a step in this state has this reply; None if it is a value. Of the reply only whether it is a refusal matters,
--- and only if no rule but a limit is left.
+-- and only if only a limit can be the reason.
 abbrev pub why : State → Step → Reply → Option Reason
-why s (Enrol p) reply = or_limit rule.TooManyProcesses (enrol_why s.world p) reply
+why s (Enrol p) reply = or_limit rule.TooManyProcesses (why_enrol s.world p) reply
 why s (End p) reply = if lives s.world.processes p then None else Some (whole rule.NoProcess)
 why s (Ask p asked) reply =
-    if lives s.world.processes p then asked_why s.world p asked reply else Some (whole rule.NoProcess)
-why s (Grow t) reply = growth_why s.world t
-why s (Ready t bucket) reply = growth_why s.world t
+    if lives s.world.processes p then why_ask s.world p asked reply else Some (whole rule.NoProcess)
+why s (Grow t) reply = why_growth s.world t
+why s (Ready t bucket) reply = why_growth s.world t

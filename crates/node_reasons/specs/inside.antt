@@ -1,3 +1,3 @@
 pub mod Forms
-pub mod Left
-pub mod LeftCalls
+pub mod LastRules
+pub mod LastRuleOfCalls

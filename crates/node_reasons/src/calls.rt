@@ -1,10 +1,10 @@
 //! The last reason of each call, row by row as in the table of calls.
 
 ghost use Rattle.std.specs.Prelude.{◌≡◌};
-ghost use Rattle.node_reasons.specs.Reasons.{table_named};
-ghost use Rattle.node_reasons.specs.inside.LeftCalls.{call_left, one_left, table_two_left, search_two_left, two_left, three_left, four_left};
+ghost use Rattle.node_reasons.specs.Reasons.{table_of_term};
+ghost use Rattle.node_reasons.specs.inside.LastRuleOfCalls.{last_rule_of_call, last_rule_of_one, last_rule_of_table_two, last_rule_of_search_two, last_rule_of_two, last_rule_of_three, last_rule_of_four};
 
-use crate::access::{change, changing, owning, read, reading};
+use crate::access::{last_rule_of_read, last_rule_of_write, needs_owner, needs_read, needs_write};
 use crate::names::no_call;
 use crate::reason::{Reason, Rule};
 use crate::{tables, updates};
@@ -13,8 +13,8 @@ use ets_term::Term;
 use ownership::World;
 
 /// Returns the last reason of a call that is badarg.
-pub fn left<R: Rows>(world: &World<R>, pid: u32, name: &str, args: &[Term]) -> Reason
-    ensures { result ≡ call_left world.now pid name.now args.now }
+pub fn last_rule_of_call<R: Rows>(world: &World<R>, pid: u32, name: &str, args: &[Term]) -> Reason
+    ensures { result ≡ last_rule_of_call world.now pid name.now args.now }
 {
     match args {
         [] => no_call(name),
@@ -27,98 +27,98 @@ pub fn left<R: Rows>(world: &World<R>, pid: u32, name: &str, args: &[Term]) -> R
 }
 
 fn one<R: Rows>(world: &World<R>, pid: u32, name: &str, x: &Term) -> Reason
-    ensures { result ≡ one_left pid name.now (table_named world.now.tables x.now) }
+    ensures { result ≡ last_rule_of_one pid name.now (table_of_term world.now.tables x.now) }
 {
     if name == "tab2list" {
-        read(world, pid, x)
+        last_rule_of_read(world, pid, x)
     } else if name == "delete_all_objects" {
-        change(world, pid, x)
+        last_rule_of_write(world, pid, x)
     } else if name == "delete" {
-        change(world, pid, x)
+        last_rule_of_write(world, pid, x)
     } else if name == "first" {
-        read(world, pid, x)
+        last_rule_of_read(world, pid, x)
     } else if name == "first_lookup" {
-        read(world, pid, x)
+        last_rule_of_read(world, pid, x)
     } else if name == "whereis" {
-        Reason::argument(1, Rule::NotAName)
+        Reason::argument(1, Rule::NotAnAtom)
     } else {
         no_call(name)
     }
 }
 
 fn two<R: Rows>(world: &World<R>, pid: u32, name: &str, x: &Term, y: &Term) -> Reason
-    ensures { result ≡ two_left pid name.now (table_named world.now.tables x.now) x.now y.now }
+    ensures { result ≡ last_rule_of_two pid name.now (table_of_term world.now.tables x.now) x.now y.now }
 {
     if name == "insert" {
-        changing(world, pid, x, Reason::argument(2, Rule::NotAnObject))
+        needs_write(world, pid, x, Reason::argument(2, Rule::NotAnObject))
     } else if name == "insert_new" {
-        changing(world, pid, x, Reason::argument(2, Rule::NotAnObject))
+        needs_write(world, pid, x, Reason::argument(2, Rule::NotAnObject))
     } else if name == "lookup" {
-        read(world, pid, x)
+        last_rule_of_read(world, pid, x)
     } else if name == "member" {
-        read(world, pid, x)
+        last_rule_of_read(world, pid, x)
     } else if name == "take" {
-        change(world, pid, x)
+        last_rule_of_write(world, pid, x)
     } else if name == "delete" {
-        change(world, pid, x)
+        last_rule_of_write(world, pid, x)
     } else if name == "delete_object" {
-        changing(world, pid, x, Reason::argument(2, Rule::NotAnObject))
+        needs_write(world, pid, x, Reason::argument(2, Rule::NotAnObject))
     } else {
         search_two(world, pid, name, x, y)
     }
 }
 
 fn search_two<R: Rows>(world: &World<R>, pid: u32, name: &str, x: &Term, y: &Term) -> Reason
-    ensures { result ≡ search_two_left pid name.now (table_named world.now.tables x.now) x.now y.now }
+    ensures { result ≡ last_rule_of_search_two pid name.now (table_of_term world.now.tables x.now) x.now y.now }
 {
     if name == "match" {
-        reading(world, pid, x, Reason::argument(2, Rule::NotAPattern))
+        needs_read(world, pid, x, Reason::argument(2, Rule::NotAPattern))
     } else if name == "match_object" {
-        reading(world, pid, x, Reason::argument(2, Rule::NotAPattern))
+        needs_read(world, pid, x, Reason::argument(2, Rule::NotAPattern))
     } else if name == "match_delete" {
-        changing(world, pid, x, Reason::argument(2, Rule::NotAPattern))
+        needs_write(world, pid, x, Reason::argument(2, Rule::NotAPattern))
     } else if name == "select" {
-        reading(world, pid, x, Reason::argument(2, Rule::NotASpecification))
+        needs_read(world, pid, x, Reason::argument(2, Rule::NotASpecification))
     } else if name == "select_count" {
-        reading(world, pid, x, Reason::argument(2, Rule::NotASpecification))
+        needs_read(world, pid, x, Reason::argument(2, Rule::NotASpecification))
     } else if name == "select_delete" {
-        changing(world, pid, x, Reason::argument(2, Rule::NotASpecification))
+        needs_write(world, pid, x, Reason::argument(2, Rule::NotASpecification))
     } else {
         table_two(world, pid, name, x, y)
     }
 }
 
 fn table_two<R: Rows>(world: &World<R>, pid: u32, name: &str, x: &Term, y: &Term) -> Reason
-    ensures { result ≡ table_two_left pid name.now (table_named world.now.tables x.now) x.now y.now }
+    ensures { result ≡ last_rule_of_table_two pid name.now (table_of_term world.now.tables x.now) x.now y.now }
 {
     if name == "new" {
-        tables::making(x, y)
+        tables::for_new(x, y)
     } else if name == "next" {
-        reading(world, pid, x, Reason::argument(2, Rule::NoKey))
+        needs_read(world, pid, x, Reason::argument(2, Rule::NoKey))
     } else if name == "next_lookup" {
-        reading(world, pid, x, Reason::argument(2, Rule::NoKey))
+        needs_read(world, pid, x, Reason::argument(2, Rule::NoKey))
     } else if name == "safe_fixtable" {
-        tables::fixing(world, pid, x, y)
+        tables::for_safe_fixtable(world, pid, x, y)
     } else if name == "setopts" {
-        owning(world, pid, x, Reason::argument(2, Rule::NotOptions))
+        needs_owner(world, pid, x, Reason::argument(2, Rule::NotOptions))
     } else if name == "info" {
-        tables::informing(y)
+        tables::for_info(y)
     } else {
         no_call(name)
     }
 }
 
 fn three<R: Rows>(world: &World<R>, pid: u32, name: &str, x: &Term, y: &Term, z: &Term) -> Reason
-    ensures { result ≡ three_left pid name.now (table_named world.now.tables x.now) y.now z.now }
+    ensures { result ≡ last_rule_of_three pid name.now (table_of_term world.now.tables x.now) y.now z.now }
 {
     if name == "lookup_element" {
-        updates::element(world, pid, x, y, z)
+        updates::for_lookup_element(world, pid, x, y, z)
     } else if name == "update_counter" {
-        updates::counting(world, pid, x, y, z)
+        updates::for_update_counter(world, pid, x, y, z)
     } else if name == "update_element" {
-        updates::writing(world, pid, x, y, z)
+        updates::for_update_element(world, pid, x, y, z)
     } else if name == "give_away" {
-        tables::giving(world, pid, x, y)
+        tables::for_give_away(world, pid, x, y)
     } else {
         no_call(name)
     }
@@ -133,14 +133,14 @@ fn four<R: Rows>(
     z: &Term,
     default: &Term,
 ) -> Reason
-    ensures { result ≡ four_left pid name.now (table_named world.now.tables x.now) y.now z.now default.now }
+    ensures { result ≡ last_rule_of_four pid name.now (table_of_term world.now.tables x.now) y.now z.now default.now }
 {
     if name == "lookup_element" {
-        updates::element_or(world, pid, x, y, z)
+        updates::for_lookup_element_or(world, pid, x, y, z)
     } else if name == "update_counter" {
-        updates::counting_or(world, pid, x, y, z, default)
+        updates::for_update_counter_or(world, pid, x, y, z, default)
     } else if name == "update_element" {
-        updates::writing_or(world, pid, x, y, z, default)
+        updates::for_update_element_or(world, pid, x, y, z, default)
     } else {
         no_call(name)
     }

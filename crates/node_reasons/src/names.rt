@@ -29,7 +29,7 @@ pub fn limit_of(name: &str) -> Rule
     } else if name == "safe_fixtable" {
         Rule::TooManyFixes
     } else {
-        Rule::PastALimit
+        Rule::LimitExceeded
     }
 }
 

@@ -7,7 +7,7 @@ pub enum Rule {
     /// The process was never spawned, or has exited.
     NoProcess,
     /// A process with this number was spawned before.
-    IsKnown,
+    AlreadyEnrolled,
     /// The argument is nested more than 128 levels deep.
     TooDeep,
     /// No call has this name.
@@ -25,7 +25,7 @@ pub enum Rule {
     /// The table is a bag, and the call is for sets.
     NotASet,
     /// The argument is not an object of the table, or is a list that has something else in it. An object is a tuple that
-    /// has the key position, and its key is not `'$end_of_table'`. A Default is looked at with the key in its place.
+    /// has the key position, and its key is not `'$end_of_table'`. A Default counts as an object with the key in it.
     NotAnObject,
     /// The key has no object; in a traversal, it has no tombstone either.
     NoKey,
@@ -42,7 +42,7 @@ pub enum Rule {
     /// The object has no integer at a position of the update: another element, or none.
     NotACounter,
     /// The argument is not an atom; for `info`, it is not an identifier of a table either.
-    NotAName,
+    NotAnAtom,
     /// A named table has this name.
     NameIsTaken,
     /// The argument is not a list of options of the call.
@@ -54,9 +54,9 @@ pub enum Rule {
     /// The argument is not a pid.
     NotAPid,
     /// The process that would get the table is the caller, which owns it.
-    IsTheCaller,
+    ToSelf,
     /// The process that would get the table was never spawned, or has exited.
-    IsNotLiving,
+    NotAlive,
     /// As many processes were spawned as the limit allows.
     TooManyProcesses,
     /// As many tables were made as the limit allows.
@@ -66,7 +66,7 @@ pub enum Rule {
     /// The process has fixed the table as often as the limit allows.
     TooManyFixes,
     /// The update would exceed the range of integers, the depth of an object or the number of objects.
-    PastALimit,
+    LimitExceeded,
 }
 
 /// The reason why a step is refused.

@@ -2,11 +2,11 @@
 ghost use Rattle.std.specs.Prelude.{◌≡◌, is_some, not, position};
 ghost use Rattle.ets_term.specs.Depth.{is_too_deep};
 ghost use Rattle.node_core.specs.Machine.{step};
-ghost use Rattle.node_core.specs.Seen.{seen};
+ghost use Rattle.node_core.specs.Observable.{observable};
 ghost use Rattle.node_core.specs.State.{State};
 ghost use Rattle.node_core.specs.rules.Replies.{is_value};
 ghost use Rattle.node_reasons.specs.Why.{why};
-ghost use Rattle.node_reasons.specs.inside.LeftCalls.{told, left, asked_left};
+ghost use Rattle.node_reasons.specs.inside.LastRuleOfCalls.{reason_for, last_rule, last_rule_of_ask};
 
 use crate::calls;
 use crate::names::limit_of;
@@ -21,62 +21,58 @@ use ownership::World;
 /// is as the step found it. It takes no memory.
 pub fn why<H: KeyHash + Copy + Drop>(node: &Node<H>, event: &Step, reply: &Reply) -> Option<Reason>
     ensures exactly { is_some result ≡ not (is_value reply.now) }
-    ensures named { (new : State) → step (seen node.now) event.now reply.now new
-        → result ≡ why (seen node.now) event.now reply.now }
+    ensures named { (new : State) → step (observable node.now) event.now reply.now new
+        → result ≡ why (observable node.now) event.now reply.now }
 {
-    explained(node, event, reply)
+    explain(node, event, reply)
 }
 
-fn explained<H: KeyHash + Copy + Drop>(
-    node: &Node<H>,
-    event: &Step,
-    reply: &Reply,
-) -> Option<Reason>
-    ensures { result ≡ told node.now.world event.now reply.now }
+fn explain<H: KeyHash + Copy + Drop>(node: &Node<H>, event: &Step, reply: &Reply) -> Option<Reason>
+    ensures { result ≡ reason_for node.now.world event.now reply.now }
 {
-    told(node.world(), event, reply)
+    reason_for(node.world(), event, reply)
 }
 
-fn told<R: Rows>(world: &World<R>, event: &Step, reply: &Reply) -> Option<Reason>
-    ensures { result ≡ told world.now event.now reply.now }
+fn reason_for<R: Rows>(world: &World<R>, event: &Step, reply: &Reply) -> Option<Reason>
+    ensures { result ≡ reason_for world.now event.now reply.now }
 {
     match reply {
         Reply::Value(_) => None,
-        Reply::Badarg => Some(left(world, event, false)),
-        Reply::SystemLimit => Some(left(world, event, true)),
-        Reply::NoProcess => Some(left(world, event, false)),
+        Reply::Badarg => Some(last_rule(world, event, false)),
+        Reply::SystemLimit => Some(last_rule(world, event, true)),
+        Reply::NoProcess => Some(last_rule(world, event, false)),
     }
 }
 
 /// Returns the last reason of a refused step, with or without a limit.
-fn left<R: Rows>(world: &World<R>, event: &Step, limited: bool) -> Reason
-    ensures { result ≡ left world.now event.now limited }
+fn last_rule<R: Rows>(world: &World<R>, event: &Step, limited: bool) -> Reason
+    ensures { result ≡ last_rule world.now event.now limited }
 {
     match event {
         Step::Enrol(_) if limited => Reason::whole(Rule::TooManyProcesses),
-        Step::Enrol(_) => Reason::whole(Rule::IsKnown),
+        Step::Enrol(_) => Reason::whole(Rule::AlreadyEnrolled),
         Step::End(_) => Reason::whole(Rule::NoProcess),
-        Step::Ask(pid, call) => asked(world, *pid, call, limited),
+        Step::Ask(pid, call) => last_rule_of_ask(world, *pid, call, limited),
         Step::Grow(_) => Reason::whole(Rule::NoTable),
         Step::Ready(_, _) => Reason::whole(Rule::NoTable),
     }
 }
 
-fn asked<R: Rows>(world: &World<R>, pid: u32, call: &Call, limited: bool) -> Reason
-    ensures { result ≡ asked_left world.now pid call.now limited }
+fn last_rule_of_ask<R: Rows>(world: &World<R>, pid: u32, call: &Call, limited: bool) -> Reason
+    ensures { result ≡ last_rule_of_ask world.now pid call.now limited }
 {
     if !world.lives(pid) {
         return Reason::whole(Rule::NoProcess);
     }
     let args = call.args.as_slice();
-    if let Some(place) = first_too_deep(args) {
-        return Reason::argument(place + 1, Rule::TooDeep);
+    if let Some(index) = first_too_deep(args) {
+        return Reason::argument(index + 1, Rule::TooDeep);
     }
     let name = call.name.text();
     if limited {
         Reason::whole(limit_of(name))
     } else {
-        calls::left(world, pid, name, args)
+        calls::last_rule_of_call(world, pid, name, args)
     }
 }
 

@@ -4,11 +4,11 @@ ghost use Rattle.table_ops.specs.Update.{is_set};
 ghost use Rattle.node_core.specs.Positions.{position_of};
 ghost use Rattle.node_core.specs.declared.node.access.Access.TheVariants.{Read, Write};
 ghost use Rattle.node_reasons.specs.declared.reason.Rule.TheVariants.{NotASet};
-ghost use Rattle.node_reasons.specs.Reasons.{argument, table_named};
-ghost use Rattle.node_reasons.specs.inside.Left.{key_left, position_left, element_left, set_left, counting_left, writing_left};
-ghost use Rattle.node_reasons.specs.inside.LeftCalls.{table_left};
+ghost use Rattle.node_reasons.specs.Reasons.{argument, table_of_term};
+ghost use Rattle.node_reasons.specs.inside.LastRules.{needs_key, needs_position, last_rule_of_lookup_element, needs_set, last_rule_of_update_counter, last_rule_of_update_element};
+ghost use Rattle.node_reasons.specs.inside.LastRuleOfCalls.{last_rule_of_table};
 
-use crate::access::{changing, reading, table_named};
+use crate::access::{needs_read, needs_write, table_of_term};
 use crate::forms::{are_ops, are_specs};
 use crate::reason::{Reason, Rule};
 use bucket_table::Rows;
@@ -20,69 +20,69 @@ use table_ops::Kind;
 
 /// Checks that the position is one, and that the key has an object if it needs one; the last rule is that the object
 /// has the element.
-pub fn element<R: Rows>(
+pub fn for_lookup_element<R: Rows>(
     world: &World<R>,
     pid: u32,
     term: &Term,
     key: &Term,
     position: &Term,
 ) -> Reason
-    ensures { result ≡ table_left Read pid (table_named world.now.tables term.now)
-        (element_left key.now position.now true) }
+    ensures { result ≡ last_rule_of_table Read pid (table_of_term world.now.tables term.now)
+        (last_rule_of_lookup_element key.now position.now true) }
 {
-    let Some(table) = table_named(world, term) else {
+    let Some(table) = table_of_term(world, term) else {
         return Reason::argument(1, Rule::NoTable);
     };
     let element = Reason::argument(3, Rule::NoElement);
-    let rest = position_left(position, key_left(true, element, table.lookup(key)));
-    reading(world, pid, term, rest)
+    let rest = needs_position(position, needs_key(true, element, table.lookup(key)));
+    needs_read(world, pid, term, rest)
 }
 
 /// Does the same with a default.
-pub fn element_or<R: Rows>(
+pub fn for_lookup_element_or<R: Rows>(
     world: &World<R>,
     pid: u32,
     term: &Term,
     key: &Term,
     position: &Term,
 ) -> Reason
-    ensures { result ≡ table_left Read pid (table_named world.now.tables term.now)
-        (element_left key.now position.now false) }
+    ensures { result ≡ last_rule_of_table Read pid (table_of_term world.now.tables term.now)
+        (last_rule_of_lookup_element key.now position.now false) }
 {
-    let Some(table) = table_named(world, term) else {
+    let Some(table) = table_of_term(world, term) else {
         return Reason::argument(1, Rule::NoTable);
     };
     let element = Reason::argument(3, Rule::NoElement);
-    let rest = position_left(position, key_left(false, element, table.lookup(key)));
-    reading(world, pid, term, rest)
+    let rest = needs_position(position, needs_key(false, element, table.lookup(key)));
+    needs_read(world, pid, term, rest)
 }
 
 /// Checks that the operations have their form, that the table is a set, and that the key has an object; the last rule
 /// is that it has integers there.
-pub fn counting<R: Rows>(
+pub fn for_update_counter<R: Rows>(
     world: &World<R>,
     pid: u32,
     term: &Term,
     key: &Term,
     updates: &Term,
 ) -> Reason
-    ensures { result ≡ table_left Write pid (table_named world.now.tables term.now)
-        (counting_left key.now updates.now None true) }
+    ensures { result ≡ last_rule_of_table Write pid (table_of_term world.now.tables term.now)
+        (last_rule_of_update_counter key.now updates.now None true) }
 {
-    let Some(table) = table_named(world, term) else {
+    let Some(table) = table_of_term(world, term) else {
         return Reason::argument(1, Rule::NoTable);
     };
     let rest = if are_ops(table.keypos(), updates) {
         let counter = Reason::argument(3, Rule::NotACounter);
-        set_left(table, key_left(true, counter, table.lookup(key)))
+        needs_set(table, needs_key(true, counter, table.lookup(key)))
     } else {
         Reason::argument(3, Rule::NotAnUpdate)
     };
-    changing(world, pid, term, rest)
+    needs_write(world, pid, term, rest)
 }
 
 /// Does the same with a default, which must be an object once it has the key.
-pub fn counting_or<R: Rows>(
+pub fn for_update_counter_or<R: Rows>(
     world: &World<R>,
     pid: u32,
     term: &Term,
@@ -90,51 +90,51 @@ pub fn counting_or<R: Rows>(
     updates: &Term,
     default: &Term,
 ) -> Reason
-    ensures { result ≡ table_left Write pid (table_named world.now.tables term.now)
-        (counting_left key.now updates.now (Some default.now) false) }
+    ensures { result ≡ last_rule_of_table Write pid (table_of_term world.now.tables term.now)
+        (last_rule_of_update_counter key.now updates.now (Some default.now) false) }
 {
-    let Some(table) = table_named(world, term) else {
+    let Some(table) = table_of_term(world, term) else {
         return Reason::argument(1, Rule::NoTable);
     };
     let rest = if are_ops(table.keypos(), updates) {
         let counter = Reason::argument(3, Rule::NotACounter);
-        default_left(
+        needs_default(
             table,
             key,
             default,
-            key_left(false, counter, table.lookup(key)),
+            needs_key(false, counter, table.lookup(key)),
         )
     } else {
         Reason::argument(3, Rule::NotAnUpdate)
     };
-    changing(world, pid, term, rest)
+    needs_write(world, pid, term, rest)
 }
 
 /// Checks that the values have their form, and that the table is a set; the last rule is that the object has the
 /// elements.
-pub fn writing<R: Rows>(
+pub fn for_update_element<R: Rows>(
     world: &World<R>,
     pid: u32,
     term: &Term,
     key: &Term,
     values: &Term,
 ) -> Reason
-    ensures { result ≡ table_left Write pid (table_named world.now.tables term.now)
-        (writing_left key.now values.now None) }
+    ensures { result ≡ last_rule_of_table Write pid (table_of_term world.now.tables term.now)
+        (last_rule_of_update_element key.now values.now None) }
 {
-    let Some(table) = table_named(world, term) else {
+    let Some(table) = table_of_term(world, term) else {
         return Reason::argument(1, Rule::NoTable);
     };
     let rest = if are_specs(table.keypos(), values) {
-        set_left(table, Reason::argument(3, Rule::NoElement))
+        needs_set(table, Reason::argument(3, Rule::NoElement))
     } else {
         Reason::argument(3, Rule::NotAnUpdate)
     };
-    changing(world, pid, term, rest)
+    needs_write(world, pid, term, rest)
 }
 
 /// Does the same with a default, which must be an object once it has the key.
-pub fn writing_or<R: Rows>(
+pub fn for_update_element_or<R: Rows>(
     world: &World<R>,
     pid: u32,
     term: &Term,
@@ -142,22 +142,22 @@ pub fn writing_or<R: Rows>(
     values: &Term,
     default: &Term,
 ) -> Reason
-    ensures { result ≡ table_left Write pid (table_named world.now.tables term.now)
-        (writing_left key.now values.now (Some default.now)) }
+    ensures { result ≡ last_rule_of_table Write pid (table_of_term world.now.tables term.now)
+        (last_rule_of_update_element key.now values.now (Some default.now)) }
 {
-    let Some(table) = table_named(world, term) else {
+    let Some(table) = table_of_term(world, term) else {
         return Reason::argument(1, Rule::NoTable);
     };
     let rest = if are_specs(table.keypos(), values) {
-        default_left(table, key, default, Reason::argument(3, Rule::NoElement))
+        needs_default(table, key, default, Reason::argument(3, Rule::NoElement))
     } else {
         Reason::argument(3, Rule::NotAnUpdate)
     };
-    changing(world, pid, term, rest)
+    needs_write(world, pid, term, rest)
 }
 
-fn position_left(position: &Term, rest: Reason) -> Reason
-    ensures { result ≡ position_left (position_of position.now) rest }
+fn needs_position(position: &Term, rest: Reason) -> Reason
+    ensures { result ≡ needs_position (position_of position.now) rest }
 {
     match position {
         Term::Int(n) if *n >= 1 => rest,
@@ -166,8 +166,8 @@ fn position_left(position: &Term, rest: Reason) -> Reason
 }
 
 /// Checks that the key has an object, if it needs one, and then this.
-fn key_left(needed: bool, rest: Reason, objects: &[Term]) -> Reason
-    ensures { result ≡ key_left needed rest objects.now }
+fn needs_key(needed: bool, rest: Reason, objects: &[Term]) -> Reason
+    ensures { result ≡ needs_key needed rest objects.now }
 {
     match objects {
         [] if needed => Reason::argument(2, Rule::NoKey),
@@ -182,7 +182,7 @@ fn is_set<R: Rows>(table: &Walked<R>) -> bool
 }
 
 /// Checks that the table is a set, and then this.
-fn set_left<R: Rows>(table: &Walked<R>, rest: Reason) -> Reason
+fn needs_set<R: Rows>(table: &Walked<R>, rest: Reason) -> Reason
     ensures { result ≡ (if is_set table.now.content.kind then rest else argument 1 NotASet) }
 {
     if is_set(table) {
@@ -193,12 +193,12 @@ fn set_left<R: Rows>(table: &Walked<R>, rest: Reason) -> Reason
 }
 
 /// Checks that the table is a set, and that the default is an object once it has the key, and then this.
-fn default_left<R: Rows>(table: &Walked<R>, key: &Term, default: &Term, rest: Reason) -> Reason
-    ensures { result ≡ set_left key.now (Some default.now) table.now.content rest }
+fn needs_default<R: Rows>(table: &Walked<R>, key: &Term, default: &Term, rest: Reason) -> Reason
+    ensures { result ≡ needs_set key.now (Some default.now) table.now.content rest }
 {
     if is_default(default, table.keypos(), key) {
-        set_left(table, rest)
+        needs_set(table, rest)
     } else {
-        set_left(table, Reason::argument(4, Rule::NotAnObject))
+        needs_set(table, Reason::argument(4, Rule::NotAnObject))
     }
 }

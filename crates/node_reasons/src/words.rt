@@ -12,7 +12,7 @@ impl Rule {
     {
         match self {
             Rule::NoProcess => "no such process (or it has exited)",
-            Rule::IsKnown => "process number already used",
+            Rule::AlreadyEnrolled => "process number already used",
             Rule::TooDeep => "more than 128 levels deep",
             Rule::NoCall => "unknown call",
             Rule::WrongArity => "wrong number of arguments",
@@ -30,19 +30,19 @@ impl Rule {
             Rule::NotASpecification => "malformed match specification",
             Rule::NotAnUpdate => "malformed update, or it would change the key",
             Rule::NotACounter => "the element is missing or not an integer",
-            Rule::NotAName => "table name must be an atom",
+            Rule::NotAnAtom => "table name must be an atom",
             Rule::NameIsTaken => "table name already in use",
             Rule::NotOptions => "unknown or malformed option",
             Rule::NotAnItem => "unknown info item",
             Rule::NotABoolean => "must be true or false",
             Rule::NotAPid => "not a pid",
-            Rule::IsTheCaller => "the process already owns the table",
-            Rule::IsNotLiving => "no such process (or it has exited)",
+            Rule::ToSelf => "the process already owns the table",
+            Rule::NotAlive => "no such process (or it has exited)",
             Rule::TooManyProcesses => "process limit reached",
             Rule::TooManyTables => "table limit reached",
             Rule::TooManyObjects => "object limit reached",
             Rule::TooManyFixes => "fix limit reached",
-            Rule::PastALimit => "integer range, depth limit or object limit would be exceeded",
+            Rule::LimitExceeded => "integer range, depth limit or object limit would be exceeded",
         }
     }
 }

@@ -9,18 +9,18 @@ use Rattle.node_core.specs.declared.step.Step.TheVariants.{Enrol, End, Ask, Grow
 use Rattle.node_core.specs.declared.step.Reply.{Reply}
 use Rattle.node_core.specs.declared.step.Reply.TheVariants.{NoProcess}
 use Rattle.node_core.specs.State.{State, empty}
-use Rattle.node_core.specs.Seen.{seen}
+use Rattle.node_core.specs.Observable.{observable}
 use Rattle.node_core.specs.Woven.{is_step_of}
 use Rattle.node_core.specs.rules.Growth.{due}
 use Rattle.node_core.specs.rules.Replies.{is_value}
-use Rattle.node_core.proofs.Runs.{run-on-buckets-push}
-use Rattle.node_core.proofs.Table.{step-remembers}
-use Rattle.node_core.proofs.Enrolling.{enrolled}
-use Rattle.node_core.proofs.Tending.{due-tends}
+use Rattle.node_core.proofs.buckets.Runs.{run-on-buckets-push}
+use Rattle.node_core.proofs.calls.Table.{step-remembers}
+use Rattle.node_core.proofs.calls.Enrolling.{enrolled}
+use Rattle.node_core.proofs.pending.Tending.{due-tends}
 use Rattle.node_shared.specs.declared.entry.Entry.{Entry}
 use Rattle.node_shared.specs.Journal.{entry, Does, IsRun, process_of, process_entries}
-use Rattle.node_shared.specs.Kept.{Stands}
-use Rattle.node_shared.specs.History.{Within}
+use Rattle.node_shared.specs.BookInvariant.{BookInvariant}
+use Rattle.node_shared.specs.History.{IsSubsequence}
 use Rattle.node_shared.specs.Serving.{Continues}
 
 abbrev step_of : Entry → Step
@@ -38,7 +38,7 @@ run-on limits old new es s r run does =
     rw (map-append step_of es (entry s r ∷ []), map-append reply_of es (entry s r ∷ [])) pushed
 
 -- a step that is done after a run, with entries that are in it
-pub continues : (limits : Limits) (old new : State) (es own : List Entry) (s : Step) (r : Reply) → Within own es → IsRun limits es old → Does old s r new → Continues limits own s r
+pub continues : (limits : Limits) (old new : State) (es own : List Entry) (s : Step) (r : Reply) → IsSubsequence own es → IsRun limits es old → Does old s r new → Continues limits own s r
 continues limits old new es own s r stand run does = (es, new, stand, run-on limits old new es s r run does)
 
 -- how many entries of processes an entry of this step is
@@ -70,9 +70,9 @@ due-weighs old s is = due-tends (λ s. weight s ≡ 0) (λ t. refl) (λ t bucket
 
 module _ (limits : Limits) (es : List Entry) (old new : State) (total parts : ℕ) where
   -- after a step that goes last all holds
-  pub stands : (s : Step) (r : Reply) (more : ℕ) → Stands limits old es total parts → Does old s r new → weight s ≡ more → Stands limits new (es ++ entry s r ∷ []) (total + more) parts
-  stands s r more was does adds =
-      let m = step-remembers (seen old) (seen new) s r does.0 in
+  pub invariant-step : (s : Step) (r : Reply) (more : ℕ) → BookInvariant limits old es total parts → Does old s r new → weight s ≡ more → BookInvariant limits new (es ++ entry s r ∷ []) (total + more) parts
+  invariant-step s r more was does adds =
+      let m = step-remembers (observable old) (observable new) s r does.0 in
       let most : new.world.most_processes ≡ old.world.most_processes = m.most in
       let known : length old.world.processes ≤ length new.world.processes = m.known in
       let enough = was.enough in
@@ -85,20 +85,20 @@ module _ (limits : Limits) (es : List Entry) (old new : State) (total parts : �
         enough = omega arith;
       }
 
-  module _ (p : ℕ) (r : Reply) (granted : is_value r ≡ true) (was : Stands limits old es total parts) (does : Does old (Enrol p) r new) where
+  module _ (p : ℕ) (r : Reply) (granted : is_value r ≡ true) (was : BookInvariant limits old es total parts) (does : Does old (Enrol p) r new) where
     -- there is a part to give
     pub part-left : 1 < parts
     part-left =
-        let room : length old.world.processes < old.world.most_processes = (enrolled (seen old) (seen new) p r granted does.0).1 in
+        let room : length old.world.processes < old.world.most_processes = (enrolled (observable old) (observable new) p r granted does.0).1 in
         let enough = was.enough in
         omega arith
 
     -- after an enrolment with which a part is given out all holds
-    pub stands-joined : (left : ℕ) → left + 1 ≡ parts → Stands limits new (es ++ entry (Enrol p) r ∷ []) (total + 1) left
-    stands-joined left gave =
-        let s = stands (Enrol p) r 1 was does refl in
-        let m = step-remembers (seen old) (seen new) (Enrol p) r does.0 in
+    pub invariant-join : (left : ℕ) → left + 1 ≡ parts → BookInvariant limits new (es ++ entry (Enrol p) r ∷ []) (total + 1) left
+    invariant-join left gave =
+        let s = invariant-step (Enrol p) r 1 was does refl in
+        let m = step-remembers (observable old) (observable new) (Enrol p) r does.0 in
         let most : new.world.most_processes ≡ old.world.most_processes = m.most in
-        let one_more : length new.world.processes ≡ length old.world.processes + 1 = (enrolled (seen old) (seen new) p r granted does.0).0 in
+        let one_more : length new.world.processes ≡ length old.world.processes + 1 = (enrolled (observable old) (observable new) p r granted does.0).0 in
         let enough = was.enough in
         record { same = s.same; run = s.run; counted = s.counted; enough = omega arith }

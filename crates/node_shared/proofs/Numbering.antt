@@ -7,15 +7,15 @@ use Rattle.atomic_table.specs.Table.{Allows, Splits, step, keeps}
 use Rattle.atomic_table.proofs.Lists.{at_set, at_snoc, set_here, set_else, at_longer}
 use Rattle.node_shared.specs.declared.pids.rule.View.{View}
 use Rattle.node_shared.specs.declared.pids.rule.View.TheVariants.{Opening, Undrawn, Drawn}
-use Rattle.node_shared.specs.Numbers.{Has, IsNumbered, Numbered, Drew, owed, all_owed, one_fewer}
+use Rattle.node_shared.specs.Numbers.{HasDrawn, IsNumbered, Numbered, DrawsNumber, numbers_left, all_numbers_left, one_fewer}
 
--- what is owed after one view is another
-owed_set : (views : List View) (i : ℕ) (v w : View) → get_elem? views i ≡ some v → all_owed (set views i w) + owed v ≡ all_owed views + owed w
+-- what is numbers_left after one view is another
+owed_set : (views : List View) (i : ℕ) (v w : View) → get_elem? views i ≡ some v → all_numbers_left (set views i w) + numbers_left v ≡ all_numbers_left views + numbers_left w
 owed_set [] i v w e = absurd (some-ne-none v (sym e))
-owed_set (u ∷ us) zero v w e = let s : owed u ≡ owed v = ap owed (some-injective u v e) in omega arith
+owed_set (u ∷ us) zero v w e = let s : numbers_left u ≡ numbers_left v = ap numbers_left (some-injective u v e) in omega arith
 owed_set (u ∷ us) (suc i) v w e = let r = owed_set us i v w e in omega arith
 
-owed_snoc : (views : List View) (w : View) → all_owed (views ++ w ∷ []) ≡ all_owed views + owed w
+owed_snoc : (views : List View) (w : View) → all_numbers_left (views ++ w ∷ []) ≡ all_numbers_left views + numbers_left w
 owed_snoc [] w = omega arith
 owed_snoc (u ∷ us) w = let r = owed_snoc us w in omega arith
 
@@ -25,10 +25,10 @@ there (u ∷ us) zero v e = omega arith
 there (u ∷ us) (suc i) v e = let r = there us i v e in omega arith
 
 -- a seat that did not draw changes into another that did not
-stays : (views : List View) (id : ℕ) (v w : View) → get_elem? views id ≡ some v → ((x : ℕ) → v ≢ Drawn x) → ((x : ℕ) → w ≢ Drawn x) → (i x : ℕ) → Has (set views id w) i x → Has views i x
-stays views id v w at nv nw i x h = ⊎_elim (λ (t : (i ≡ id) × (w ≡ Drawn x)). absurd (nw x t.1)) (λ (t : (i ≢ id) × Has views i x). t.1) (at_set views id i w (Drawn x) h)
+stays : (views : List View) (id : ℕ) (v w : View) → get_elem? views id ≡ some v → ((x : ℕ) → v ≢ Drawn x) → ((x : ℕ) → w ≢ Drawn x) → (i x : ℕ) → HasDrawn (set views id w) i x → HasDrawn views i x
+stays views id v w at nv nw i x h = ⊎_elim (λ (t : (i ≡ id) × (w ≡ Drawn x)). absurd (nw x t.1)) (λ (t : (i ≢ id) × HasDrawn views i x). t.1) (at_set views id i w (Drawn x) h)
 
-kept : (views : List View) (id : ℕ) (v w : View) → get_elem? views id ≡ some v → ((x : ℕ) → v ≢ Drawn x) → (i x : ℕ) → Has views i x → Has (set views id w) i x
+kept : (views : List View) (id : ℕ) (v w : View) → get_elem? views id ≡ some v → ((x : ℕ) → v ≢ Drawn x) → (i x : ℕ) → HasDrawn views i x → HasDrawn (set views id w) i x
 kept views id v w at nv i x h = set_else views id i w (λ (e : i ≡ id). nv x (some-injective v (Drawn x) (sym at ∙ subst (λ (k : ℕ). get_elem? views k ≡ some (Drawn x)) e h))) ∙ h
 
 pub begins : (n : ℕ) → n ≤ 4096 → IsNumbered n 0 (Opening n ∷ [])
@@ -40,7 +40,7 @@ begins n few = record {
   few = few;
 }
   where
-    none : (i x : ℕ) → Has (Opening n ∷ []) i x → ⊥
+    none : (i x : ℕ) → HasDrawn (Opening n ∷ []) i x → ⊥
     none zero x e = let d : Opening n ≡ Drawn x = some-injective _ _ e in cc
     none (suc i) x e = some-ne-none _ (sym e)
 
@@ -48,9 +48,9 @@ pub splits : (n id k : ℕ) → 0 < k → Splits (Numbered n) id (Opening k) (on
 splits n id k some_left s h at =
     let r = h.2 in
     let now = set s.views id (Opening (k - 1)) in
-    let back : (i x : ℕ) → Has (now ++ Undrawn ∷ []) i x → Has s.views i x =
+    let back : (i x : ℕ) → HasDrawn (now ++ Undrawn ∷ []) i x → HasDrawn s.views i x =
     λ i x e. stays s.views id (Opening k) (Opening (k - 1)) at (λ y. λ (d : Opening k ≡ Drawn y). cc) (λ y. λ (d : Opening (k - 1) ≡ Drawn y). cc) i x
-    (⊎_elim (λ (a : Has now i x). a) (λ (d : Undrawn ≡ Drawn x). absurd (cc)) (at_snoc now Undrawn (Drawn x) i e)) in
+    (⊎_elim (λ (a : HasDrawn now i x). a) (λ (d : Undrawn ≡ Drawn x). absurd (cc)) (at_snoc now Undrawn (Drawn x) i e)) in
     let o = owed_set s.views id (Opening k) (Opening (k - 1)) at in
     let p = owed_snoc now Undrawn in (
       h.0,
@@ -67,20 +67,20 @@ splits n id k some_left s h at =
 draw_step : (n id word : ℕ) (views : List View) → get_elem? views id ≡ some Undrawn → IsNumbered n word views → IsNumbered n (word + 1) (set views id (Drawn word))
 draw_step n id word views at r =
     let now = set views id (Drawn word) in
-    let here : Has now id word = set_here views id (Drawn word) (there views id Undrawn at) in
-    let back : (i x : ℕ) → Has now i x → ((i ≡ id) × (word ≡ x)) ⊎ ((i ≢ id) × Has views i x) =
-    λ i x e. ⊎_elim (λ (t : (i ≡ id) × (Drawn word ≡ Drawn x)). let d = t.1 in inl (t.0, cc)) (λ (t : (i ≢ id) × Has views i x). inr t) (at_set views id i (Drawn word) (Drawn x) e) in
+    let here : HasDrawn now id word = set_here views id (Drawn word) (there views id Undrawn at) in
+    let back : (i x : ℕ) → HasDrawn now i x → ((i ≡ id) × (word ≡ x)) ⊎ ((i ≢ id) × HasDrawn views i x) =
+    λ i x e. ⊎_elim (λ (t : (i ≡ id) × (Drawn word ≡ Drawn x)). let d = t.1 in inl (t.0, cc)) (λ (t : (i ≢ id) × HasDrawn views i x). inr t) (at_set views id i (Drawn word) (Drawn x) e) in
     let o = owed_set views id Undrawn (Drawn word) at in
     record {
       distinct = λ i j x a b.
           ⊎_elim
-          (λ (p : (i ≡ id) × (word ≡ x)). ⊎_elim (λ (q : (j ≡ id) × (word ≡ x)). p.0 ∙ sym q.0) (λ (q : (j ≢ id) × Has views j x). let l = r.below j x q.1 in let e = p.1 in absurd (omega arith)) (back j x b))
-          (λ (p : (i ≢ id) × Has views i x). ⊎_elim (λ (q : (j ≡ id) × (word ≡ x)). let l = r.below i x p.1 in let e = q.1 in absurd (omega arith)) (λ (q : (j ≢ id) × Has views j x). r.distinct i j x p.1 q.1) (back j x b))
+          (λ (p : (i ≡ id) × (word ≡ x)). ⊎_elim (λ (q : (j ≡ id) × (word ≡ x)). p.0 ∙ sym q.0) (λ (q : (j ≢ id) × HasDrawn views j x). let l = r.below j x q.1 in let e = p.1 in absurd (omega arith)) (back j x b))
+          (λ (p : (i ≢ id) × HasDrawn views i x). ⊎_elim (λ (q : (j ≡ id) × (word ≡ x)). let l = r.below i x p.1 in let e = q.1 in absurd (omega arith)) (λ (q : (j ≢ id) × HasDrawn views j x). r.distinct i j x p.1 q.1) (back j x b))
           (back i x a);
-      below = λ i x a. ⊎_elim (λ (p : (i ≡ id) × (word ≡ x)). let e = p.1 in omega arith) (λ (p : (i ≢ id) × Has views i x). let l = r.below i x p.1 in omega arith) (back i x a);
+      below = λ i x a. ⊎_elim (λ (p : (i ≡ id) × (word ≡ x)). let e = p.1 in omega arith) (λ (p : (i ≢ id) × HasDrawn views i x). let l = r.below i x p.1 in omega arith) (back i x a);
       all = λ x lt. ⊎_elim
           (λ (l : x < word). let a = r.all x l in (a.0, kept views id Undrawn (Drawn word) at (λ y. λ (d : Undrawn ≡ Drawn y). cc) a.0 x a.1))
-          (λ (e : word ≡ x). (id, subst (λ (y : ℕ). Has now id y) e here))
+          (λ (e : word ≡ x). (id, subst (λ (y : ℕ). HasDrawn now id y) e here))
           (split_at x word lt);
       within = let w = r.within in omega arith;
       few = r.few;
@@ -89,7 +89,7 @@ draw_step n id word views at r =
     split_at : (x w : ℕ) → x < w + 1 → (x < w) ⊎ (w ≡ x)
     split_at x w lt = grind arith
 
-pub draws : (n slots id : ℕ) → Allows (Numbered n) slots id (Undrawn, []) 0 (λ m. (m + 1) % 2 ^ 64) (Drew (step slots 0 1 0 none) (Undrawn, []))
+pub draws : (n slots id : ℕ) → Allows (Numbered n) slots id (Undrawn, []) 0 (λ m. (m + 1) % 2 ^ 64) (DrawsNumber (step slots 0 1 0 none) (Undrawn, []))
 draws n slots id s h homes at fits =
     let r = h.2 in
     let word = h.0 in

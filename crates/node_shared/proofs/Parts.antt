@@ -10,9 +10,9 @@ use Rattle.node_core.specs.declared.step.Step.TheVariants.{Enrol, End, Ask, Grow
 use Rattle.node_shared.specs.declared.entry.Entry.{Entry}
 use Rattle.node_core.specs.Woven.{is_step_of}
 use Rattle.node_shared.specs.Journal.{process_of, is_entry_of, of, has_entries}
-use Rattle.node_shared.specs.Records.{Recorded}
+use Rattle.node_shared.specs.Records.{RecordState}
 use Rattle.node_shared.specs.Closing.{has_client}
-use Rattle.node_shared.specs.inside.Closing.{Misses}
+use Rattle.node_shared.specs.inside.Closing.{FindsMissing}
 
 -- ---- a part, compared entry by entry
 -- the list from a place on
@@ -27,37 +27,37 @@ beyond [] (suc i) le = refl
 beyond (x ∷ xs) zero le = absurd (omega arith)
 beyond (x ∷ xs) (suc i) le = beyond xs i (omega arith)
 
-module _ (p : ℕ) (journal told : List Entry) (i at : ℕ) (d : Entry) (within : i < length journal) (so_far : of p (take i journal) ≡ take at told) (own : is_entry_of p (get_or journal i d) ≡ true) where
+module _ (p : ℕ) (journal entries : List Entry) (i at : ℕ) (d : Entry) (within : i < length journal) (so_far : of p (take i journal) ≡ take at entries) (own : is_entry_of p (get_or journal i d) ≡ true) where
   -- what is left of the part begins with this entry
-  rest : of p journal ≡ told → drop at told ≡ get_or journal i d ∷ of p (drop (suc i) journal)
+  rest : of p journal ≡ entries → drop at entries ≡ get_or journal i d ∷ of p (drop (suc i) journal)
   rest whole =
       let front : of p journal ≡ of p (take i journal) ++ of p (drop i journal) = ap (of p) (sym (take-append-drop i journal)) ∙ filter-append (is_entry_of p) (take i journal) (drop i journal) in
       let here : of p (drop i journal) ≡ get_or journal i d ∷ of p (drop (suc i) journal) =
       ap (of p) (from journal i d within) ∙ ap (λ (b : Bool). cond b (get_or journal i d ∷ of p (drop (suc i) journal)) (of p (drop (suc i) journal))) own in
-      append_cancel_left (take at told) (drop at told) (get_or journal i d ∷ of p (drop (suc i) journal))
-      (take-append-drop at told ∙ sym whole ∙ front ∙ (λ k. so_far k ++ here k))
+      append_cancel_left (take at entries) (drop at entries) (get_or journal i d ∷ of p (drop (suc i) journal))
+      (take-append-drop at entries ∙ sym whole ∙ front ∙ (λ k. so_far k ++ here k))
 
-  pub ends-short : length told ≤ at → of p journal ≡ told → ⊥
-  ends-short le whole = let e : [] ≡ get_or journal i d ∷ of p (drop (suc i) journal) = sym (beyond told at le) ∙ rest whole in cc
+  pub ends-short : length entries ≤ at → of p journal ≡ entries → ⊥
+  ends-short le whole = let e : [] ≡ get_or journal i d ∷ of p (drop (suc i) journal) = sym (beyond entries at le) ∙ rest whole in cc
 
-  pub differs-here : (x : Entry) → at < length told → x ≡ get_or told at x → (get_or journal i d ≡ x → ⊥) → of p journal ≡ told → ⊥
+  pub differs-here : (x : Entry) → at < length entries → x ≡ get_or entries at x → (get_or journal i d ≡ x → ⊥) → of p journal ≡ entries → ⊥
   differs-here x lt is other whole =
-      let e : get_or told at x ∷ drop (suc at) told ≡ get_or journal i d ∷ of p (drop (suc i) journal) = sym (from told at x lt) ∙ rest whole in
-      let head : get_or told at x ≡ get_or journal i d = cc in
+      let e : get_or entries at x ∷ drop (suc at) entries ≡ get_or journal i d ∷ of p (drop (suc i) journal) = sym (from entries at x lt) ∙ rest whole in
+      let head : get_or entries at x ≡ get_or journal i d = cc in
       other (sym head ∙ sym is)
 
 -- an entry more
-pub part-own : (p : ℕ) (journal told : List Entry) (i at : ℕ) (d : Entry) → i < length journal → at < length told → of p (take i journal) ≡ take at told
-    → is_entry_of p (get_or journal i d) ≡ true → get_or journal i d ≡ get_or told at d → of p (take (i + 1) journal) ≡ take (at + 1) told
-part-own p journal told i at d lt room so_far own same =
+pub part-own : (p : ℕ) (journal entries : List Entry) (i at : ℕ) (d : Entry) → i < length journal → at < length entries → of p (take i journal) ≡ take at entries
+    → is_entry_of p (get_or journal i d) ≡ true → get_or journal i d ≡ get_or entries at d → of p (take (i + 1) journal) ≡ take (at + 1) entries
+part-own p journal entries i at d lt room so_far own same =
     filter_more (is_entry_of p) journal i d lt
     ∙ ap (λ (b : Bool). of p (take i journal) ++ cond b (get_or journal i d ∷ []) []) own
     ∙ (λ k. so_far k ++ same k ∷ [])
-    ∙ sym (Rattle.std.proofs.lemmas.List.take_more told at d room)
+    ∙ sym (Rattle.std.proofs.lemmas.List.take_more entries at d room)
 
-pub part-other : (p : ℕ) (journal told : List Entry) (i at : ℕ) (d : Entry) → i < length journal → of p (take i journal) ≡ take at told
-    → is_entry_of p (get_or journal i d) ≡ false → of p (take (i + 1) journal) ≡ take at told
-part-other p journal told i at d lt so_far other =
+pub part-other : (p : ℕ) (journal entries : List Entry) (i at : ℕ) (d : Entry) → i < length journal → of p (take i journal) ≡ take at entries
+    → is_entry_of p (get_or journal i d) ≡ false → of p (take (i + 1) journal) ≡ take at entries
+part-other p journal entries i at d lt so_far other =
     filter_more (is_entry_of p) journal i d lt
     ∙ ap (λ (b : Bool). of p (take i journal) ++ cond b (get_or journal i d ∷ []) []) other
     ∙ append-nil (of p (take i journal))
@@ -98,16 +98,16 @@ owned p (Ask x call) is = let same : x ≡ p = cc in (Decides-eqb x p).1 same
 owned p (Grow t) is = cc
 owned p (Ready t bucket) is = cc
 
-nobody : (q : ℕ) (s : Step) → process_of s ≡ None → is_step_of q s ≡ false
-nobody q (Enrol x) is = cc
-nobody q (End x) is = cc
-nobody q (Ask x call) is = cc
-nobody q (Grow t) is = refl
-nobody q (Ready t bucket) is = refl
+of-none : (q : ℕ) (s : Step) → process_of s ≡ None → is_step_of q s ≡ false
+of-none q (Enrol x) is = cc
+of-none q (End x) is = cc
+of-none q (Ask x call) is = cc
+of-none q (Grow t) is = refl
+of-none q (Ready t bucket) is = refl
 
-module _ (journal : List Entry) (clients : List Recorded) (e : Entry) where
+module _ (journal : List Entry) (clients : List RecordState) (e : Entry) where
   -- one more entry that adds nothing that is missing
-  misses-still : (least : Option ℕ) → ((q : ℕ) → is_step_of q e.step ≡ true → has_client q clients ≡ true) → Misses journal clients least → Misses (journal ++ e ∷ []) clients least
+  misses-still : (least : Option ℕ) → ((q : ℕ) → is_step_of q e.step ≡ true → has_client q clients ≡ true) → FindsMissing journal clients least → FindsMissing (journal ++ e ∷ []) clients least
   misses-still None known h = λ q has. ⊎_elim (h q) (known q) (more-entries q journal e has)
   misses-still (Some p) known h = record {
     entries = still p journal e h.entries;
@@ -115,14 +115,14 @@ module _ (journal : List Entry) (clients : List Recorded) (e : Entry) where
     least = λ q has none. ⊎_elim (λ a. h.least q a none) (λ own. let bad : false ≡ true = sym none ∙ known q own in absurd (cc)) (more-entries q journal e has);
   }
 
-  pub misses-nobody : (least : Option ℕ) → process_of e.step ≡ None → Misses journal clients least → Misses (journal ++ e ∷ []) clients least
-  misses-nobody least is h = misses-still least (λ q own. let bad : false ≡ true = sym (nobody q e.step is) ∙ own in absurd (cc)) h
+  pub misses-of-none : (least : Option ℕ) → process_of e.step ≡ None → FindsMissing journal clients least → FindsMissing (journal ++ e ∷ []) clients least
+  misses-of-none least is h = misses-still least (λ q own. let bad : false ≡ true = sym (of-none q e.step is) ∙ own in absurd (cc)) h
 
-  pub misses-known : (least : Option ℕ) (p : ℕ) → process_of e.step ≡ Some p → has_client p clients ≡ true → Misses journal clients least → Misses (journal ++ e ∷ []) clients least
+  pub misses-known : (least : Option ℕ) (p : ℕ) → process_of e.step ≡ Some p → has_client p clients ≡ true → FindsMissing journal clients least → FindsMissing (journal ++ e ∷ []) clients least
   misses-known least p is known h = misses-still least (λ q own. subst (λ (x : ℕ). has_client x clients ≡ true) (owner q p e.step is own) known) h
 
   -- one that is missing and no less
-  pub misses-lesser : (other p : ℕ) → process_of e.step ≡ Some p → other ≤ p → Misses journal clients (Some other) → Misses (journal ++ e ∷ []) clients (Some other)
+  pub misses-lesser : (other p : ℕ) → process_of e.step ≡ Some p → other ≤ p → FindsMissing journal clients (Some other) → FindsMissing (journal ++ e ∷ []) clients (Some other)
   misses-lesser other p is le h = record {
     entries = still other journal e h.entries;
     none = h.none;
@@ -130,14 +130,14 @@ module _ (journal : List Entry) (clients : List Recorded) (e : Entry) where
   }
 
   -- one that is missing and less, or the first
-  pub misses-first : (p : ℕ) → process_of e.step ≡ Some p → has_client p clients ≡ false → Misses journal clients None → Misses (journal ++ e ∷ []) clients (Some p)
+  pub misses-first : (p : ℕ) → process_of e.step ≡ Some p → has_client p clients ≡ false → FindsMissing journal clients None → FindsMissing (journal ++ e ∷ []) clients (Some p)
   misses-first p is none h = record {
     entries = here p journal e (owned p e.step is);
     none = none;
     least = λ q has other. ⊎_elim (λ a. let bad : false ≡ true = sym other ∙ h q a in absurd (cc)) (λ own. let same = owner q p e.step is own in omega arith) (more-entries q journal e has);
   }
 
-  pub misses-less : (other p : ℕ) → process_of e.step ≡ Some p → has_client p clients ≡ false → p < other → Misses journal clients (Some other) → Misses (journal ++ e ∷ []) clients (Some p)
+  pub misses-less : (other p : ℕ) → process_of e.step ≡ Some p → has_client p clients ≡ false → p < other → FindsMissing journal clients (Some other) → FindsMissing (journal ++ e ∷ []) clients (Some p)
   misses-less other p is none lt h = record {
     entries = here p journal e (owned p e.step is);
     none = none;

@@ -1,4 +1,4 @@
--- Threads may share the node after its lock where its hash may go from one to another.
+-- Threads may share the node after its lock where its hasher may go from one to another.
 use denote.RattleType.{RattleType}
 use denote.Param.Send.{IsSend, IsSync, sendable, view_send, recorded_send, struct_send}
 use mir.Syntax.{Sym}

@@ -8,25 +8,25 @@ use Rattle.node_shared.specs.declared.transcript.Transcript.{Transcript}
 use Rattle.node_shared.specs.declared.transcript.CloseFault.{CloseFault}
 use Rattle.node_shared.specs.declared.transcript.CloseFault.TheVariants.{Differs, Missing, Memory}
 use Rattle.node_shared.specs.Journal.{IsRun, of, has_entries}
-use Rattle.node_shared.specs.Records.{Recorded}
+use Rattle.node_shared.specs.Records.{RecordState}
 
 -- the record is the client's part of the journal
-abbrev pub IsPart : List Entry → Recorded → Type 0
+abbrev pub IsPart : List Entry → RecordState → Type 0
 IsPart journal client = of client.pid journal ≡ client.entries
 
-abbrev pub AreParts : List Entry → List Recorded → Type 0
+abbrev pub AreParts : List Entry → List RecordState → Type 0
 AreParts journal clients = AllByRecursion (IsPart journal) clients
 
-abbrev pub has_client : ℕ → List Recorded → Bool
+abbrev pub has_client : ℕ → List RecordState → Bool
 has_client p clients = list_any (λ client. client.pid == p) clients
 
-abbrev pub NoneMissing : List Entry → List Recorded → Type 0
+abbrev pub NoneMissing : List Entry → List RecordState → Type 0
 NoneMissing journal clients = (q : ℕ) → has_entries q journal ≡ true → has_client q clients ≡ true
 
 -- p is that of the first client whose record is not its part
-pub record IsFirstOther (journal : List Entry) (clients : List Recorded) (p : ℕ) : Type 0 where
+pub record IsFirstMismatch (journal : List Entry) (clients : List RecordState) (p : ℕ) : Type 0 where
   pub place : ℕ
-  pub client : Recorded
+  pub client : RecordState
   pub inside : place < length clients
   pub here : get_or clients place client ≡ client
   pub before : AreParts journal (take place clients)
@@ -34,20 +34,20 @@ pub record IsFirstOther (journal : List Entry) (clients : List Recorded) (p : �
   pub pid : client.pid ≡ p
 
 -- p is the lowest process that has entries and no client
-pub record IsLeastMissing (journal : List Entry) (clients : List Recorded) (p : ℕ) : Type 0 where
+pub record IsLeastMissing (journal : List Entry) (clients : List RecordState) (p : ℕ) : Type 0 where
   pub entries : has_entries p journal ≡ true
   pub none : has_client p clients ≡ false
   pub least : (q : ℕ) → has_entries q journal ≡ true → has_client q clients ≡ false → p ≤ q
 
 -- the result of the comparison of the journal with the clients' records
-abbrev pub Compares : List Entry → List Recorded → Result Transcript CloseFault → Type 0
+abbrev pub Compares : List Entry → List RecordState → Result Transcript CloseFault → Type 0
 Compares journal clients (Ok transcript) =
     (transcript.entries.items ≡ journal) × AreParts journal clients × NoneMissing journal clients
-Compares journal clients (Err (Differs p)) = IsFirstOther journal clients p
+Compares journal clients (Err (Differs p)) = IsFirstMismatch journal clients p
 Compares journal clients (Err (Missing p)) = AreParts journal clients × IsLeastMissing journal clients p
 Compares journal clients (Err Memory) = Unit {0}
 
 -- the same, with a journal that is a run of the node with these limits
-abbrev pub Closes : Limits → List Recorded → Result Transcript CloseFault → Type 0
+abbrev pub Closes : Limits → List RecordState → Result Transcript CloseFault → Type 0
 Closes limits clients result =
     (journal : List Entry) × (state : State) × IsRun limits journal state × Compares journal clients result

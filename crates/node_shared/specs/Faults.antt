@@ -2,7 +2,7 @@
 use Rattle.std.specs.Prelude.{◌≡◌, ℕ, false}
 use Rattle.node_core.specs.declared.step.Step.TheVariants.{Enrol}
 use Rattle.node_core.specs.State.{State}
-use Rattle.node_core.specs.Seen.{seen}
+use Rattle.node_core.specs.Observable.{observable}
 use Rattle.node_core.specs.Machine.{step}
 use Rattle.node_core.specs.rules.Replies.{is_value}
 use Rattle.node_shared.specs.declared.book.BookFault.{BookFault}
@@ -13,7 +13,7 @@ use Rattle.node_shared.specs.declared.shared.JoinFault.TheVariants as join
 
 -- the machine refuses to enrol p, by this reply
 abbrev pub Refuses : State → ℕ → BookFault → Type 0
-Refuses s p (book.Refused r) = (is_value r ≡ false) × step (seen s) (Enrol p) r (seen s)
+Refuses s p (book.Refused r) = (is_value r ≡ false) × step (observable s) (Enrol p) r (observable s)
 Refuses s p book.Memory = Unit {0}
 
 -- the fault hands this number back

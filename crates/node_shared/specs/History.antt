@@ -6,7 +6,7 @@ use Rattle.atomic_table.specs.Table.{Me, Step}
 use Rattle.atomic_table.specs.Seated.{TableId}
 use Rattle.node_core.specs.declared.limits.Limits.{Limits}
 use Rattle.node_shared.specs.declared.entry.Entry.{Entry}
-use Rattle.node_shared.specs.declared.history.rule.Known.{Known}
+use Rattle.node_shared.specs.declared.history.rule.HistoryView.{HistoryView}
 
 -- the name of no history, and the limits of no node
 abbrev pub no_table : TableId
@@ -16,46 +16,46 @@ abbrev pub no_limits : Limits
 no_limits = record { processes = 0; tables = 0; objects = 0 }
 
 -- these entries are in the list, in their order, with others between them
-abbrev pub Within : List Entry → List Entry → Type 0
-Within [] ys = Unit {0}
-Within (x ∷ xs) [] = ⊥
-Within (x ∷ xs) (y ∷ ys) = ((x ≡ y) × Within xs ys) ⊎ Within (x ∷ xs) ys
+abbrev pub IsSubsequence : List Entry → List Entry → Type 0
+IsSubsequence [] ys = Unit {0}
+IsSubsequence (x ∷ xs) [] = ⊥
+IsSubsequence (x ∷ xs) (y ∷ ys) = ((x ≡ y) × IsSubsequence xs ys) ⊎ IsSubsequence (x ∷ xs) ys
 
-abbrev pub keeper : List Entry → List Entry → Known
-keeper all own = record { keeps = true; all = all; own = own }
+abbrev pub owner_view : List Entry → List Entry → HistoryView
+owner_view all own = record { is_owner = true; all = all; own = own }
 
-abbrev pub author : List Entry → Known
-author own = record { keeps = false; all = []; own = own }
+abbrev pub writer_view : List Entry → HistoryView
+writer_view own = record { is_owner = false; all = []; own = own }
 
-abbrev pub opening : Known
-opening = keeper [] []
+abbrev pub new_view : HistoryView
+new_view = owner_view [] []
 
-abbrev pub spent : Known
-spent = author []
+abbrev pub empty_view : HistoryView
+empty_view = writer_view []
 
-abbrev pub joined : Known → Known → Known
-joined v w = record { keeps = v.keeps; all = v.all; own = w.own }
+abbrev pub take_own : HistoryView → HistoryView → HistoryView
+take_own v w = record { is_owner = v.is_owner; all = v.all; own = w.own }
 
-abbrev pub kept : Known → Known
-kept v = record { keeps = v.keeps; all = v.all; own = [] }
+abbrev pub without_own : HistoryView → HistoryView
+without_own v = record { is_owner = v.is_owner; all = v.all; own = [] }
 
-abbrev pub given : Known → Known
-given v = author v.own
+abbrev pub own_only : HistoryView → HistoryView
+own_only v = writer_view v.own
 
 -- what a seat knows when only this one may be the owner's, which knows all: what it knows is in that
-abbrev pub Knows : ℕ → List Entry → ℕ → Known → Type 0
-Knows seat all i v = (v.keeps ≡ true → (i ≡ seat) × (v.all ≡ all)) × Within v.own all
+abbrev pub ViewAgrees : ℕ → List Entry → ℕ → HistoryView → Type 0
+ViewAgrees seat all i v = (v.is_owner ≡ true → (i ≡ seat) × (v.all ≡ all)) × IsSubsequence v.own all
 
 -- at most one seat is the owner's, which knows all, and what any seat knows is in that
-abbrev pub IsOrdered : List Known → Type 0
-IsOrdered views =
+abbrev pub ViewsAgree : List HistoryView → Type 0
+ViewsAgree views =
     (seat : ℕ) × (all : List Entry)
-    × ((i : ℕ) (v : Known) → get_elem? views i ≡ some v → Knows seat all i v)
+    × ((i : ℕ) (v : HistoryView) → get_elem? views i ≡ some v → ViewAgrees seat all i v)
 
 -- the owner that knows one more entry, as the last of all and of its own
-abbrev pub longer : Known → Entry → Known
-longer v e = keeper (v.all ++ e ∷ []) (v.own ++ e ∷ [])
+abbrev pub view_with_entry : HistoryView → Entry → HistoryView
+view_with_entry v e = owner_view (v.all ++ e ∷ []) (v.own ++ e ∷ [])
 
 -- the entry that was written is the last of all, and of its own, which were in the history
-abbrev pub Added : Step Entry → Me Entry Known → ℕ → Me Entry Known → Type 0
-Added s v found w = (e : Entry) × (s.said ≡ some e) × (w ≡ (longer v.0 e, v.1)) × Within v.0.own v.0.all
+abbrev pub AppendsEntry : Step Entry → Me Entry HistoryView → ℕ → Me Entry HistoryView → Type 0
+AppendsEntry s v found w = (e : Entry) × (s.said ≡ some e) × (w ≡ (view_with_entry v.0 e, v.1)) × IsSubsequence v.0.own v.0.all

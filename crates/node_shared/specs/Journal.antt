@@ -6,7 +6,7 @@ use Rattle.node_core.specs.declared.step.Step.{Step}
 use Rattle.node_core.specs.declared.step.Step.TheVariants.{Enrol, End, Ask, Grow, Ready}
 use Rattle.node_core.specs.declared.step.Reply.{Reply}
 use Rattle.node_core.specs.State.{State, empty}
-use Rattle.node_core.specs.Seen.{seen}
+use Rattle.node_core.specs.Observable.{observable}
 use Rattle.node_core.specs.Machine.{step}
 use Rattle.node_core.specs.Buckets.{run_on_buckets}
 use Rattle.node_core.specs.Woven.{is_step_of}
@@ -18,7 +18,7 @@ entry s r = record { step = s; reply = r }
 
 -- the node may do the step with this reply
 abbrev pub Does : State → Step → Reply → State → Type 0
-Does old s r new = step (seen old) s r (seen new) × step_on_buckets old s r new
+Does old s r new = step (observable old) s r (observable new) × step_on_buckets old s r new
 
 -- from the empty state the node may do these steps with these replies, and end in this state
 abbrev pub IsRun : Limits → List Entry → State → Type 0

@@ -3,7 +3,7 @@ pub mod Journal
 pub mod Records
 pub mod History
 pub mod Serving
-pub mod Kept
+pub mod BookInvariant
 pub mod Asking
 pub mod Faults
 pub mod Closing

@@ -12,43 +12,43 @@ use Rattle.node_shared.specs.declared.entry.Entry.{Entry}
 use Rattle.node_shared.specs.Journal.{entry, Does}
 
 -- the node's state, the journal, and the ledger's total
-pub record Kept : Type 0 where
+pub record BookState : Type 0 where
   pub state : State
   pub journal : List Entry
   pub total : ℕ
 
 -- the step is done with this reply, and its entry is the last
-abbrev pub Enters : Kept → Step → Reply → Kept → Type 0
+abbrev pub Enters : BookState → Step → Reply → BookState → Type 0
 Enters old s r new = Does old.state s r new.state × (new.journal ≡ old.journal ++ entry s r ∷ [])
 
 -- the pending growth step is run, and has its entry; or none is pending
-abbrev pub Tends : Kept → Kept → Bool → Type 0
+abbrev pub Tends : BookState → BookState → Bool → Type 0
 Tends old new did =
     MatchBool did
     (IsSomeAnd (due old.state) (λ event. (r : Reply) × Enters old event r new))
     ((due old.state ≡ None) × (new ≡ old))
 
 -- a process, and the number of entries that are counted for it
-pub record Held : Type 0 where
+pub record ShareState : Type 0 where
   pub pid : ℕ
   pub amount : ℕ
 
 -- a process, and its record: the steps that its client did, with the replies that it got
-pub record Recorded : Type 0 where
+pub record RecordState : Type 0 where
   pub pid : ℕ
   pub entries : List Entry
 
 -- the record of a process that was enrolled with this reply, and did nothing else
-abbrev pub enrolled : ℕ → Reply → Recorded
-enrolled p r = record { pid = p; entries = entry (Enrol p) r ∷ [] }
+abbrev pub enrolled_record : ℕ → Reply → RecordState
+enrolled_record p r = record { pid = p; entries = entry (Enrol p) r ∷ [] }
 
 -- a client starts in this way, and was enrolled by a reply that is no refusal
-abbrev pub IsEnrolled : ℕ → Recorded → Type 0
-IsEnrolled p client = (r : Reply) × (is_value r ≡ true) × (client ≡ enrolled p r)
+abbrev pub IsEnrolled : ℕ → RecordState → Type 0
+IsEnrolled p client = (r : Reply) × (is_value r ≡ true) × (client ≡ enrolled_record p r)
 
 -- the record has one entry more
-abbrev pub records : Recorded → Step → Reply → Recorded
-records client s r = record client { entries = client.entries ++ entry s r ∷ [] }
+abbrev pub with_entry : RecordState → Step → Reply → RecordState
+with_entry client s r = record client { entries = client.entries ++ entry s r ∷ [] }
 
 -- the first entry is the enrolment of p
 abbrev pub Begins : ℕ → List Entry → Type 0

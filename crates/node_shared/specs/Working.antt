@@ -9,7 +9,7 @@ use Rattle.node_shared.specs.declared.entry.Entry.{Entry}
 use Rattle.node_shared.specs.declared.job.Job.{Job}
 use Rattle.node_shared.specs.declared.job.Job.TheVariants.{Ask, End}
 use Rattle.node_shared.specs.declared.job.Worked.{Worked}
-use Rattle.node_shared.specs.Records.{Recorded, records}
+use Rattle.node_shared.specs.Records.{RecordState, with_entry}
 
 -- a job as a step of a process
 abbrev pub job_step : ℕ → Job → Step
@@ -17,24 +17,24 @@ job_step p (Ask call) = step.Ask p call
 job_step p End = step.End p
 
 -- the record has one entry more, that of the job
-abbrev pub DidJob : Recorded → Job → Recorded → Type 0
-DidJob old job new = (r : Reply) × (new ≡ records old (job_step old.pid job) r)
+abbrev pub DidJob : RecordState → Job → RecordState → Type 0
+DidJob old job new = (r : Reply) × (new ≡ with_entry old (job_step old.pid job) r)
 
 -- these entries are those of the jobs of a process in order, but for the last `left` of them
 abbrev pub AreOfJobs : ℕ → List Job → ℕ → List Entry → Type 0
 AreOfJobs p jobs left done = map (λ e. e.step) done ≡ map (job_step p) (take (length jobs - left) jobs)
 
 -- the record has these further entries
-abbrev pub DidAll : Recorded → List Job → ℕ → Recorded → Type 0
+abbrev pub DidAll : RecordState → List Job → ℕ → RecordState → Type 0
 DidAll old jobs left new =
     (left ≤ length jobs)
     × ((done : List Entry) × (new ≡ record old { entries = old.entries ++ done }) × AreOfJobs old.pid jobs left done)
 
-abbrev pub HasWorked : {T : Type 0} → Recorded → List Job → Worked T → Type 0
+abbrev pub HasWorked : {T : Type 0} → RecordState → List Job → Worked T → Type 0
 HasWorked old jobs worked = DidAll old jobs worked.left worked.client
 
 -- each client, in their order, did its jobs
-abbrev pub AllWorked : {T : Type 0} → List (Recorded × Vec Job Global) → List (Worked T) → Type 0
+abbrev pub AllWorked : {T : Type 0} → List (RecordState × Vec Job Global) → List (Worked T) → Type 0
 AllWorked [] [] = Unit {0}
 AllWorked (x ∷ xs) (w ∷ ws) = HasWorked x.0 x.1.items w × AllWorked xs ws
 AllWorked [] (w ∷ ws) = ⊥

@@ -27,22 +27,22 @@ pub struct Book<L: Ledger, H: KeyHash + Copy + Drop> {
     limits: Limits,
     node: Node<H>,
     journal: Vec<Entry>,
-    counted: ledger::Book<L>,
-    rest: ledger::Share<L>,
+    ledger: ledger::Book<L>,
+    unissued: ledger::Share<L>,
 }
 
 impl<L: Ledger, H: KeyHash + Copy + Drop> Model for Book<L, H> {
-    ghost use Rattle.node_shared.specs.Records.{Kept};
-    ghost use Rattle.node_shared.specs.Kept.{Stands};
-    ghost use Rattle.node_shared.specs.inside.Codes.{kept_code};
+    ghost use Rattle.node_shared.specs.Records.{BookState};
+    ghost use Rattle.node_shared.specs.BookInvariant.{BookInvariant};
+    ghost use Rattle.node_shared.specs.inside.Codes.{book_code};
 
-    ghost Value = { Kept };
+    ghost Value = { BookState };
 
-    ghost coded = { kept_code };
+    ghost coded = { book_code };
 
-    ghost view = { λ b. record { state = b.node; journal = b.journal.items; total = b.counted.total } };
+    ghost view = { λ b. record { state = b.node; journal = b.journal.items; total = b.ledger.total } };
 
-    ghost invariant = { λ b. Stands b.limits b.node b.journal.items b.counted.total b.rest.parts };
+    ghost invariant = { λ b. BookInvariant b.limits b.node b.journal.items b.ledger.total b.unissued.parts };
 }
 
 /// Why a process is not enrolled. Nothing has changed.
@@ -57,20 +57,20 @@ pub enum BookFault {
 impl<L: Ledger, H: KeyHash + Copy + Drop> Book<L, H> {
     /// Creates the opening book: a node without processes and tables, and an empty journal. It takes the blank of `L`,
     /// which has a part for each process and one more.
-    pub fn new(alloc: Global, blank: Blank, limits: Limits, hash: H) -> Self
+    pub fn new(alloc: Global, blank: Blank, limits: Limits, hasher: H) -> Self
         requires name { blank.name ≡ L.name }
         requires parts { blank.parts ≡ L.parts }
         requires enough { blank.parts ≡ limits.processes + 1 }
         ensures { result ≡ record { state = empty limits; journal = []; total = 0 } }
     {
-        let (counted, rest) = blank.open::<L>();
+        let (ledger, unissued) = blank.open::<L>();
         Book {
             alloc,
             limits,
-            node: Node::new(alloc, limits, hash),
+            node: Node::new(alloc, limits, hasher),
             journal: Vec::new(alloc),
-            counted,
-            rest,
+            ledger,
+            unissued,
         }
     }
 
@@ -97,7 +97,7 @@ impl<L: Ledger, H: KeyHash + Copy + Drop> Book<L, H> {
         self.journal.reserve(1)?;
         let (answer, reply) = self.node.step_twice(&step)?;
         self.journal.push_reserved(Entry { step, reply });
-        self.counted.add(&mut share.tokens, 1);
+        self.ledger.add(&mut share.tokens, 1);
         Ok(answer)
     }
 
@@ -118,11 +118,11 @@ impl<L: Ledger, H: KeyHash + Copy + Drop> Book<L, H> {
             return Err(BookFault::Memory);
         };
         if !answer.is_value() {
-            return Err(refused(answer, reply));
+            return Err(refusal(answer, reply));
         }
         self.journal.push_reserved(Entry { step: enrol, reply });
-        let mut tokens = self.rest.split_off(1, 0);
-        self.counted.add(&mut tokens, 1);
+        let mut tokens = self.unissued.split_off(1, 0);
+        self.ledger.add(&mut tokens, 1);
         Ok((Share { tokens, pid }, answer))
     }
 
@@ -162,15 +162,15 @@ impl<L: Ledger, H: KeyHash + Copy + Drop> Book<L, H> {
             limits,
             node: _,
             journal,
-            counted: _,
-            rest: _,
+            ledger: _,
+            unissued: _,
         } = self;
         (limits, journal)
     }
 }
 
 /// Returns the reply and drops the copy.
-fn refused(reply: Reply, _again: Reply) -> BookFault
+fn refusal(reply: Reply, _again: Reply) -> BookFault
     ensures { result ≡ Refused reply }
 {
     BookFault::Refused(reply)

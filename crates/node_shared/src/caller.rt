@@ -1,9 +1,9 @@
 ghost use Rattle.std.specs.Prelude.{◌≡◌, IfOk, OnErr};
 ghost use Rattle.node_core.specs.declared.step.Step.TheVariants.{End, Ask};
-ghost use Rattle.node_shared.specs.Records.{records};
+ghost use Rattle.node_shared.specs.Records.{with_entry};
 ghost use Rattle.node_shared.specs.Serving.{Continues};
 
-use crate::history::{Author, Room};
+use crate::history::{HistoryId, HistoryWriter};
 use crate::server::Server;
 use ets_term::KeyHash;
 use node_core::{Call, Reply, Step};
@@ -14,27 +14,27 @@ use std::sync::Wait;
 /// The caller of one process of a server. A contract sees the process, and its steps with their replies, which are in
 /// the server's history in this order. The program has no list of them.
 #[derive(Drop)]
-pub struct Caller<B: Room> {
+pub struct Caller<B: HistoryId> {
     pid: u32,
-    author: Author<B>,
+    writer: HistoryWriter<B>,
 }
 
-impl<B: Room> Model for Caller<B> {
-    ghost use Rattle.node_shared.specs.Records.{Recorded};
-    ghost use Rattle.node_shared.specs.inside.Codes.{recorded_code};
+impl<B: HistoryId> Model for Caller<B> {
+    ghost use Rattle.node_shared.specs.Records.{RecordState};
+    ghost use Rattle.node_shared.specs.inside.Codes.{record_code};
 
-    ghost Value = { Recorded };
+    ghost Value = { RecordState };
 
-    ghost coded = { recorded_code };
+    ghost coded = { record_code };
 
-    ghost view = { λ c. record { pid = c.pid; entries = c.author } };
+    ghost view = { λ c. record { pid = c.pid; entries = c.writer } };
 }
 
-impl<B: Room> Caller<B> {
-    pub(crate) fn of(pid: u32, author: Author<B>) -> Self
-        ensures { result ≡ record { pid = pid; entries = author } }
+impl<B: HistoryId> Caller<B> {
+    pub(crate) fn of(pid: u32, writer: HistoryWriter<B>) -> Self
+        ensures { result ≡ record { pid = pid; entries = writer } }
     {
-        Caller { pid, author }
+        Caller { pid, writer }
     }
 
     /// Returns the process. It takes no memory.
@@ -52,7 +52,7 @@ impl<B: Room> Caller<B> {
         server: &Server<B, H>,
         call: Call,
     ) -> Result<Reply, AllocError>
-        ensures ok { IfOk result (λ r. self.new ≡ records self.old (Ask self.old.pid call) r) }
+        ensures ok { IfOk result (λ r. self.new ≡ with_entry self.old (Ask self.old.pid call) r) }
         ensures order { IfOk result (Continues B.limits self.old.entries (Ask self.old.pid call)) }
         ensures err { OnErr result (self.new ≡ self.old) }
     {
@@ -67,7 +67,7 @@ impl<B: Room> Caller<B> {
         rt: &R,
         server: &Server<B, H>,
     ) -> Result<Reply, AllocError>
-        ensures ok { IfOk result (λ r. self.new ≡ records self.old (End self.old.pid) r) }
+        ensures ok { IfOk result (λ r. self.new ≡ with_entry self.old (End self.old.pid) r) }
         ensures order { IfOk result (Continues B.limits self.old.entries (End self.old.pid)) }
         ensures err { OnErr result (self.new ≡ self.old) }
     {
@@ -81,13 +81,13 @@ impl<B: Room> Caller<B> {
         server: &Server<B, H>,
         event: Step,
     ) -> Result<Reply, AllocError>
-        ensures ok { IfOk result (λ r. self.new ≡ records self.old event r) }
+        ensures ok { IfOk result (λ r. self.new ≡ with_entry self.old event r) }
         ensures order { IfOk result (Continues B.limits self.old.entries event) }
         ensures err { OnErr result (self.new ≡ self.old) }
     {
         server
             .served
             .lock(rt)
-            .step(&server.word, &mut self.author, event)
+            .step(&server.word, &mut self.writer, event)
     }
 }

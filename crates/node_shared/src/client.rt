@@ -2,7 +2,7 @@ ghost use Rattle.std.specs.Prelude.{◌≡◌, true, length, OnErr, IfOk};
 ghost use Rattle.node_core.specs.declared.step.Reply.{Reply};
 ghost use Rattle.node_core.specs.declared.step.Step.TheVariants.{End, Ask};
 ghost use Rattle.node_core.specs.Woven.{is_step_of};
-ghost use Rattle.node_shared.specs.Records.{records, Begins, IsLast};
+ghost use Rattle.node_shared.specs.Records.{Begins, IsLast, with_entry};
 
 use crate::entry::Entry;
 use crate::share::Share;
@@ -25,12 +25,12 @@ pub struct Client<L: Ledger> {
 
 impl<L: Ledger> Model for Client<L> {
     ghost use Rattle.std.specs.Prelude.{◌≡◌, length};
-    ghost use Rattle.node_shared.specs.Records.{Recorded, Begins};
-    ghost use Rattle.node_shared.specs.inside.Codes.{recorded_code};
+    ghost use Rattle.node_shared.specs.Records.{RecordState, Begins};
+    ghost use Rattle.node_shared.specs.inside.Codes.{record_code};
 
-    ghost Value = { Recorded };
+    ghost Value = { RecordState };
 
-    ghost coded = { recorded_code };
+    ghost coded = { record_code };
 
     ghost view = { λ c. record { pid = c.share.pid; entries = c.entries.items } };
 
@@ -107,12 +107,12 @@ impl<L: Ledger> Client<L> {
         event: Step,
     ) -> Result<(), AllocError>
         requires { is_step_of self.old.pid event ≡ true }
-        ensures ok { IfOk result (λ _. (r : Reply) × (self.new ≡ records self.old event r)) }
+        ensures ok { IfOk result (λ _. (r : Reply) × (self.new ≡ with_entry self.old event r)) }
         ensures err { OnErr result (self.new ≡ self.old) }
     {
-        let entered = event.try_clone(self.alloc)?;
+        let copy = event.try_clone(self.alloc)?;
         self.entries.reserve(1)?;
-        let reply = shared.book.lock(rt).enter(&mut self.share, entered)?;
+        let reply = shared.book.lock(rt).enter(&mut self.share, copy)?;
         self.entries.push_reserved(Entry { step: event, reply });
         Ok(())
     }

@@ -2,21 +2,21 @@
 //! in it in their order. At run time it is one atomic word, which stays 0.
 ghost use Rattle.std.specs.Prelude.{◌≡◌, [], ◌∷◌, ◌++◌, IfOk};
 ghost use Rattle.node_shared.specs.Journal.{entry};
-ghost use Rattle.node_shared.specs.History.{Within, opening};
+ghost use Rattle.node_shared.specs.History.{IsSubsequence, new_view};
 
 mod rule;
 
 use crate::entry::Entry;
-use crate::history::rule::Adds;
+use crate::history::rule::AppendEntry;
 use atomic_table::{Seat, Table};
 use node_core::{Reply, Step};
-pub use rule::{Known, Order, Own};
+pub use rule::{HistoryRule, HistoryView, OwnEntries};
 use std::alloc::{AllocError, Global};
 use std::marker::{Brand, Model, PhantomData};
 use std::mem;
 
 /// Names a history, and the limits of its node. A program chooses them anew for each history.
-pub trait Room {
+pub trait HistoryId {
     ghost use Rattle.atomic_table.specs.Seated.{TableId};
     ghost use Rattle.node_core.specs.declared.limits.Limits.{Limits};
 
@@ -25,7 +25,7 @@ pub trait Room {
     ghost limits: { Limits };
 }
 
-impl Room for Brand {
+impl HistoryId for Brand {
     ghost use Rattle.node_shared.specs.History.{no_table, no_limits};
 
     ghost table = { no_table };
@@ -34,104 +34,104 @@ impl Room for Brand {
 }
 
 /// The word of a history.
-pub type Word = Table<Entry, Known, (), Order, Global>;
+pub type HistoryWord = Table<Entry, HistoryView, (), HistoryRule, Global>;
 
 /// An empty history, which no type names yet.
 #[derive(Drop)]
-pub struct Opening {
-    pub(crate) word: Word,
-    seat: Seat<Entry, Known>,
+pub struct NewHistory {
+    pub(crate) word: HistoryWord,
+    seat: Seat<Entry, HistoryView>,
     ghost one_word: { word.shared.table_id.words ≡ 1 },
     ghost fits: { seat.table_id ≡ word.shared.table_id },
-    ghost is_first: { seat.me ≡ (opening, []) },
+    ghost is_first: { seat.me ≡ (new_view, []) },
 }
 
 /// The token that knows the whole history. A contract sees it as its entries.
 #[derive(Drop)]
-pub struct Keeper<B: Room> {
-    seat: Seat<Entry, Known>,
-    room: PhantomData<B>,
+pub struct HistoryOwner<B: HistoryId> {
+    seat: Seat<Entry, HistoryView>,
+    id: PhantomData<B>,
 }
 
-impl<B: Room> Model for Keeper<B> {
+impl<B: HistoryId> Model for HistoryOwner<B> {
     ghost use Rattle.std.specs.Prelude.{◌≡◌, List, []};
     ghost use Rattle.std.specs.Coded.{coded_list};
     ghost use Rattle.node_shared.specs.declared.entry.Entry.{Entry};
     ghost use Rattle.node_shared.specs.contracts.entry.Entry as entry;
-    ghost use Rattle.node_shared.specs.History.{keeper};
+    ghost use Rattle.node_shared.specs.History.{owner_view};
 
     ghost Value = { List Entry };
 
     ghost coded = { coded_list entry.the_row.coded };
 
-    ghost view = { λ k. k.seat.me.0.all };
+    ghost view = { λ o. o.seat.me.0.all };
 
-    ghost invariant = { λ k. (k.seat.table_id ≡ B.table) × (k.seat.me ≡ (keeper k.seat.me.0.all [], [])) };
+    ghost invariant = { λ o. (o.seat.table_id ≡ B.table) × (o.seat.me ≡ (owner_view o.seat.me.0.all [], [])) };
 }
 
 /// The token of a writer of entries. A contract sees it as the entries that it added.
 #[derive(Drop)]
-pub struct Author<B: Room> {
-    seat: Seat<Entry, Known>,
-    room: PhantomData<B>,
+pub struct HistoryWriter<B: HistoryId> {
+    seat: Seat<Entry, HistoryView>,
+    id: PhantomData<B>,
 }
 
-impl<B: Room> Model for Author<B> {
+impl<B: HistoryId> Model for HistoryWriter<B> {
     ghost use Rattle.std.specs.Prelude.{◌≡◌, List, []};
     ghost use Rattle.std.specs.Coded.{coded_list};
     ghost use Rattle.node_shared.specs.declared.entry.Entry.{Entry};
     ghost use Rattle.node_shared.specs.contracts.entry.Entry as entry;
-    ghost use Rattle.node_shared.specs.History.{author};
+    ghost use Rattle.node_shared.specs.History.{writer_view};
 
     ghost Value = { List Entry };
 
     ghost coded = { coded_list entry.the_row.coded };
 
-    ghost view = { λ a. a.seat.me.0.own };
+    ghost view = { λ w. w.seat.me.0.own };
 
-    ghost invariant = { λ a. (a.seat.table_id ≡ B.table) × (a.seat.me ≡ (author a.seat.me.0.own, [])) };
+    ghost invariant = { λ w. (w.seat.table_id ≡ B.table) × (w.seat.me ≡ (writer_view w.seat.me.0.own, [])) };
 }
 
-impl Opening {
+impl NewHistory {
     /// Creates an empty history, whose one seat is the owner's.
-    pub fn new(alloc: Global) -> Result<Opening, AllocError>
-        ensures { IfOk result (λ o. o.seat.me ≡ (opening, [])) }
+    pub fn new(alloc: Global) -> Result<NewHistory, AllocError>
+        ensures { IfOk result (λ o. o.seat.me ≡ (new_view, [])) }
     {
         let (word, seat) = Table::of_words(alloc, &[0], &())?;
-        Ok(Opening { word, seat })
+        Ok(NewHistory { word, seat })
     }
 
     /// Returns the word of the history, and its owner, under the history's name.
-    pub(crate) fn named<B: Room>(self) -> (Word, Keeper<B>)
+    pub(crate) fn into_named<B: HistoryId>(self) -> (HistoryWord, HistoryOwner<B>)
         requires { self.word.shared.table_id ≡ B.table }
         ensures same { result.0 ≡ self.word }
         ensures table { result.0.shared.table_id ≡ B.table }
         ensures word { result.0.shared.table_id.words ≡ 1 }
         ensures none { result.1 ≡ [] }
     {
-        let Opening { word, seat } = self;
+        let NewHistory { word, seat } = self;
         (
             word,
-            Keeper {
+            HistoryOwner {
                 seat,
-                room: PhantomData,
+                id: PhantomData,
             },
         )
     }
 }
 
-impl<B: Room> Keeper<B> {
+impl<B: HistoryId> HistoryOwner<B> {
     /// Creates another writer, which has added nothing.
-    pub(crate) fn author(&mut self, word: &Word) -> Author<B>
+    pub(crate) fn new_writer(&mut self, word: &HistoryWord) -> HistoryWriter<B>
         requires table { word.now.shared.table_id ≡ B.table }
         requires one { word.now.shared.table_id.words ≡ 1 }
         ensures same { self.new ≡ self.old }
         ensures none { result ≡ [] }
     {
-        let seat = word.shared.split_seat::<Own>(&mut self.seat);
-        Author {
+        let seat = word.shared.split_seat::<OwnEntries>(&mut self.seat);
+        HistoryWriter {
             seat,
-            room: PhantomData,
+            id: PhantomData,
         }
     }
 
@@ -139,27 +139,27 @@ impl<B: Room> Keeper<B> {
     /// the reply.
     pub(crate) fn enter(
         &mut self,
-        word: &Word,
-        author: &mut Author<B>,
+        word: &HistoryWord,
+        writer: &mut HistoryWriter<B>,
         step: Step,
         reply: Reply,
     ) -> Reply
         requires table { word.now.shared.table_id ≡ B.table }
         requires one { word.now.shared.table_id.words ≡ 1 }
         ensures all { self.new ≡ self.old ++ entry step reply ∷ [] }
-        ensures own { author.new ≡ author.old ++ entry step reply ∷ [] }
-        ensures order { Within author.old self.old }
+        ensures own { writer.new ≡ writer.old ++ entry step reply ∷ [] }
+        ensures order { IsSubsequence writer.old self.old }
         ensures reply { result ≡ reply }
     {
         let added = Entry { step, reply };
-        let spare = word.shared.split_seat::<Own>(&mut self.seat);
-        let own = mem::replace(&mut author.seat, spare);
-        word.shared.join_seat::<Own>(&mut self.seat, own);
+        let spare = word.shared.split_seat::<OwnEntries>(&mut self.seat);
+        let own = mem::replace(&mut writer.seat, spare);
+        word.shared.join_seat::<OwnEntries>(&mut self.seat, own);
         let _zero = word
             .shared
-            .compare_exchange_with::<Adds>(&mut self.seat, 0, 0, 0, &added);
-        let given = word.shared.split_seat::<Own>(&mut self.seat);
-        author.seat = given;
+            .compare_exchange_with::<AppendEntry>(&mut self.seat, 0, 0, 0, &added);
+        let given = word.shared.split_seat::<OwnEntries>(&mut self.seat);
+        writer.seat = given;
         let Entry { step: _, reply } = added;
         reply
     }

@@ -1,5 +1,5 @@
 ghost use Rattle.std.specs.Prelude.{◌≡◌, ◌↔◌, ℕ, ◌<◌, ◌≤◌, [], All, IfOk, IfErr, vec_len};
-ghost use Rattle.node_shared.specs.Numbers.{undrawn, drawn};
+ghost use Rattle.node_shared.specs.Numbers.{drawn_view, undrawn_view};
 ghost use Rattle.node_shared.specs.declared.pids.PidsFault.TheVariants.{TooMany};
 
 mod rule;
@@ -24,7 +24,7 @@ pub struct Pids {
 #[derive(Drop)]
 pub struct Seat {
     seat: atomic_table::Seat<(), View>,
-    ghost is_undrawn: { seat.me ≡ (undrawn, []) },
+    ghost is_undrawn: { seat.me ≡ (undrawn_view, []) },
 }
 
 /// A number that nobody else has or gets.
@@ -32,7 +32,7 @@ pub struct Seat {
 pub struct Drawn {
     seat: atomic_table::Seat<(), View>,
     number: u32,
-    ghost is_drawn: { seat.me ≡ (drawn number, []) },
+    ghost is_drawn: { seat.me ≡ (drawn_view number, []) },
 }
 
 /// Why no numbers can be drawn.
@@ -73,7 +73,7 @@ impl Pids {
 impl Drawn {
     /// Returns the number. It takes no memory.
     pub fn pid(&self) -> u32
-        ensures seen { self.now.seat.me ≡ (drawn result, []) }
+        ensures seen { self.now.seat.me ≡ (drawn_view result, []) }
         ensures number { result ≡ self.now.number }
     {
         self.number

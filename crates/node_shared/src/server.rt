@@ -1,12 +1,12 @@
 ghost use Rattle.std.specs.Prelude.{◌≡◌, ◌≤◌, true, IfOk, IfErr};
-ghost use Rattle.node_shared.specs.Serving.{Begun};
+ghost use Rattle.node_shared.specs.Serving.{IsEnrolledCaller};
 ghost use Rattle.node_shared.specs.Faults.{HandsBack};
 
 use crate::book::BookFault;
 use crate::caller::Caller;
-use crate::history::{Opening, Room, Word};
+use crate::history::{HistoryId, HistoryWord, NewHistory};
 use crate::pids::Drawn;
-use crate::served::Served;
+use crate::served::ServedNode;
 use crate::shared::JoinFault;
 use ets_term::KeyHash;
 use node_core::Limits;
@@ -15,38 +15,38 @@ use std::sync::{Mutex, Wait};
 
 /// A node that threads share for as long as they like: nothing is stored of a call once it has its reply.
 #[derive(Drop)]
-pub struct Server<B: Room, H: KeyHash + Copy + Drop> {
-    pub(crate) word: Word,
-    pub(crate) served: Mutex<Served<B, H>>,
+pub struct Server<B: HistoryId, H: KeyHash + Copy + Drop> {
+    pub(crate) word: HistoryWord,
+    pub(crate) served: Mutex<ServedNode<B, H>>,
     ghost table: { word.shared.table_id ≡ B.table },
     ghost one_word: { word.shared.table_id.words ≡ 1 },
 }
 
-impl<B: Room, H: KeyHash + Copy + Drop> Server<B, H> {
-    /// Locks a node without processes and tables, as `Served::new` makes it, whose history is the one given. A lock's
+impl<B: HistoryId, H: KeyHash + Copy + Drop> Server<B, H> {
+    /// Locks a node without processes and tables, as `ServedNode::new` makes it, with the given history. A lock's
     /// value is known by its type only, so no clause here says more of the node itself. The type says that the history
     /// is a run of a node with these limits.
-    pub fn new(alloc: Global, opening: Opening, limits: Limits, hash: H) -> Self
-        requires table { opening.word.shared.table_id ≡ B.table }
+    pub fn new(alloc: Global, history: NewHistory, limits: Limits, hasher: H) -> Self
+        requires table { history.word.shared.table_id ≡ B.table }
         requires limits { limits ≡ B.limits }
-        ensures { result.word ≡ opening.word }
+        ensures { result.word ≡ history.word }
     {
-        let (word, keeper) = opening.named::<B>();
+        let (word, owner) = history.into_named::<B>();
         Server {
             word,
-            served: Mutex::new(Served::new(alloc, keeper, limits, hash)),
+            served: Mutex::new(ServedNode::new(alloc, owner, limits, hasher)),
         }
     }
 
     /// Enrols the number that was drawn, and returns the caller of that process. It may wait for the lock.
     pub fn client<R: Wait>(&self, rt: &R, drawn: Drawn) -> Result<Caller<B>, JoinFault>
-        ensures ok { IfOk result (Begun B.limits drawn.number) }
+        ensures ok { IfOk result (IsEnrolledCaller B.limits drawn.number) }
         ensures err { IfErr result (HandsBack drawn) }
     {
         let pid = drawn.pid();
         let joined = self.served.lock(rt).join(&self.word, pid);
         match joined {
-            Ok((author, _reply)) => Ok(Caller::of(pid, author)),
+            Ok((writer, _reply)) => Ok(Caller::of(pid, writer)),
             Err(BookFault::Refused(reply)) => Err(JoinFault::Refused(reply, drawn)),
             Err(BookFault::Memory) => Err(JoinFault::Memory(drawn)),
         }

@@ -13,9 +13,9 @@ pub struct Share<L: Ledger> {
 
 impl<L: Ledger> Model for Share<L> {
     ghost use Rattle.std.specs.Prelude.{◌≡◌};
-    ghost use Rattle.node_shared.specs.Records.{Held};
+    ghost use Rattle.node_shared.specs.Records.{ShareState};
 
-    ghost Value = { Held };
+    ghost Value = { ShareState };
 
     ghost view = { λ s. record { pid = s.pid; amount = s.tokens.amount } };
 

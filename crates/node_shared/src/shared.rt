@@ -34,7 +34,7 @@ pub enum JoinFault {
 
 impl<L: Ledger, H: KeyHash + Copy + Drop> Shared<L, H> {
     /// Locks the opening book, as `Book::new` makes it.
-    pub fn new(alloc: Global, blank: Blank, limits: Limits, hash: H) -> Self
+    pub fn new(alloc: Global, blank: Blank, limits: Limits, hasher: H) -> Self
         requires name { blank.name ≡ L.name }
         requires parts { blank.parts ≡ L.parts }
         requires enough { blank.parts ≡ limits.processes + 1 }
@@ -43,7 +43,7 @@ impl<L: Ledger, H: KeyHash + Copy + Drop> Shared<L, H> {
         Shared {
             alloc,
             limits,
-            book: Mutex::new(Book::new(alloc, blank, limits, hash)),
+            book: Mutex::new(Book::new(alloc, blank, limits, hasher)),
         }
     }
 

@@ -2,7 +2,7 @@ ghost use Rattle.std.specs.Prelude.{◌≡◌, map, IfOk};
 ghost use Rattle.std.specs.Bool.{Decides};
 ghost use Rattle.node_shared.specs.Journal.{of};
 ghost use Rattle.node_shared.specs.Closing.{Closes, Compares, has_client};
-ghost use Rattle.node_shared.specs.inside.Closing.{Strays, Misses, MissesNext};
+ghost use Rattle.node_shared.specs.inside.Closing.{FindsMismatch, FindsMissing, FindsMissingNext};
 
 use crate::client::Client;
 use crate::entry::Entry;
@@ -45,18 +45,18 @@ pub fn close<L: Ledger, H: KeyHash + Copy + Drop>(
 fn compare<L: Ledger>(journal: Vec<Entry>, clients: &[Client<L>]) -> Result<Transcript, CloseFault>
     ensures { Compares journal.items clients.now result }
 {
-    if let Some(pid) = stray(journal.as_slice(), clients) {
+    if let Some(pid) = first_mismatch(journal.as_slice(), clients) {
         return Err(CloseFault::Differs(pid));
     }
-    if let Some(pid) = missing(journal.as_slice(), clients) {
+    if let Some(pid) = least_without_client(journal.as_slice(), clients) {
         return Err(CloseFault::Missing(pid));
     }
     Ok(Transcript { entries: journal })
 }
 
 /// Returns the process of the first client whose record is not its part of the journal.
-fn stray<L: Ledger>(journal: &[Entry], clients: &[Client<L>]) -> Option<u32>
-    ensures { Strays journal.now clients.now result }
+fn first_mismatch<L: Ledger>(journal: &[Entry], clients: &[Client<L>]) -> Option<u32>
+    ensures { FindsMismatch journal.now clients.now result }
 {
     for client in clients {
         if !is_part(journal, client.pid(), client.entries()) {
@@ -86,19 +86,23 @@ fn is_part(journal: &[Entry], pid: u32, own: &[Entry]) -> bool
 }
 
 /// Returns the lowest process that has entries and no client.
-fn missing<L: Ledger>(journal: &[Entry], clients: &[Client<L>]) -> Option<u32>
-    ensures { Misses journal.now clients.now result }
+fn least_without_client<L: Ledger>(journal: &[Entry], clients: &[Client<L>]) -> Option<u32>
+    ensures { FindsMissing journal.now clients.now result }
 {
     let mut least = None;
     for entry in journal {
-        least = lesser(least, entry, clients);
+        least = lesser_missing(least, entry, clients);
     }
     least
 }
 
 /// Returns the lowest such process after one more entry.
-fn lesser<L: Ledger>(least: Option<u32>, entry: &Entry, clients: &[Client<L>]) -> Option<u32>
-    ensures { MissesNext entry.now clients.now least result }
+fn lesser_missing<L: Ledger>(
+    least: Option<u32>,
+    entry: &Entry,
+    clients: &[Client<L>],
+) -> Option<u32>
+    ensures { FindsMissingNext entry.now clients.now least result }
 {
     let Some(pid) = entry.process() else {
         return least;

@@ -8,7 +8,7 @@ use Rattle.ets_term.specs.contracts.fnv.Fnv as Fnv
 use Rattle.node_core.specs.contracts.step.Reply as Reply
 use Rattle.node_core.proofs.Sent.{node_send}
 use Rattle.std.specs.contracts.option.Option as Option
-use Rattle.node_text.specs.contracts.refusal.Refusal as Refusal
+use Rattle.node_text.specs.contracts.last_refusal.LastRefusal as LastRefusal
 use Rattle.node_text.specs.contracts.store.Store as Store
 use Rattle.node_text.specs.contracts.store.Store.TheInside as store
 
@@ -18,7 +18,7 @@ hash_send = search sendable
 reply_send : IsSend Reply.the_field.row
 reply_send = search (crosses, terms.crosses, sendable) depth 60 fits 20000
 
-refusal_send : IsSend (Option.the_field Refusal.the_row).row
+refusal_send : IsSend (Option.the_field LastRefusal.the_row).row
 refusal_send = search (crosses, terms.crosses, sendable) depth 60 fits 20000
 
 pub store_send : IsSend Store.the_row

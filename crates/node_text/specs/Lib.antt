@@ -1,5 +1,5 @@
 pub mod Statuses
-pub mod Stored
+pub mod StoreState
 pub mod Texts
 pub mod Answers
 pub mod Calls

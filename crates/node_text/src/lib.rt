@@ -13,15 +13,15 @@
 //! *Limits.* The tuple of a call counts as one of the 128 levels that a text may have, so an argument may have 127.
 #![tactic(auto)]
 
-mod asked;
 mod copy;
+mod last_refusal;
 pub mod laws;
-mod printed;
-mod refusal;
+mod parsed_call;
+mod print;
 mod status;
 mod store;
 
-pub use printed::{call_text, reply_text, step_text, term_text};
-pub use refusal::Refusal;
+pub use last_refusal::LastRefusal;
+pub use print::{call_text, reply_text, step_text, term_text};
 pub use status::{BADARG, CLOSED, NO_MEMORY, NO_PROCESS, SYNTAX, SYSTEM_LIMIT, UNTOLD, VALUE};
 pub use store::Store;

@@ -1,21 +1,21 @@
 //! A node that is called by texts, its last reply, and why it refused the last call.
 ghost use Rattle.std.specs.Prelude.{◌≡◌, OnOk, OnErr};
-ghost use Rattle.node_core.specs.Seen.{seen};
-ghost use Rattle.node_text.specs.Answers.{Tells, TellsWhy, told};
-ghost use Rattle.node_text.specs.Calls.{fresh, Does, StepsOf, CallsOf};
+ghost use Rattle.node_core.specs.Observable.{observable};
+ghost use Rattle.node_text.specs.Answers.{WritesReply, WritesReason, written_reply};
+ghost use Rattle.node_text.specs.Calls.{new_store, RunsStep, StepReturns, CallReturns};
 ghost use Rattle.node_text.specs.Statuses.{AreTheStatuses};
-ghost use Rattle.node_text.specs.Stored.{refused};
+ghost use Rattle.node_text.specs.StoreState.{with_refusal};
 ghost use Rattle.node_text.specs.Texts as texts;
-ghost use Rattle.node_text.specs.declared.refusal.Refusal.TheVariants as refusal;
-ghost use Rattle.node_text.specs.inside.Asking.{Asks};
+ghost use Rattle.node_text.specs.declared.last_refusal.LastRefusal.TheVariants as refusal;
+ghost use Rattle.node_text.specs.inside.RunsCall.{RunsCall};
 
-use crate::asked::{Asked, read_call};
-use crate::copy::copy_front;
-use crate::refusal::Refusal;
+use crate::copy::copy_prefix;
+use crate::last_refusal::LastRefusal;
+use crate::parsed_call::{ParsedCall, read_call};
 use crate::status::{NO_MEMORY, SYNTAX, UNTOLD, VALUE, status_of};
 use ets_term::Fnv;
 use node_core::{Call, Limits, Node, Reply, Step};
-use script_reasons::oddity_in_call;
+use script_reasons::diagnose_in_call;
 use std::alloc::{AllocError, Global};
 use std::marker::Model;
 use term_text::print_term;
@@ -26,45 +26,45 @@ use term_text::print_term;
 pub struct Store {
     node: Node<Fnv>,
     reply: Reply,
-    refusal: Option<Refusal>,
+    refusal: Option<LastRefusal>,
 }
 
 impl Model for Store {
-    ghost use Rattle.node_core.specs.Seen.{seen};
-    ghost use Rattle.node_text.specs.Stored.{Stored};
-    ghost use Rattle.node_text.specs.inside.Codes.{stored_code};
+    ghost use Rattle.node_core.specs.Observable.{observable};
+    ghost use Rattle.node_text.specs.StoreState.{StoreState};
+    ghost use Rattle.node_text.specs.inside.Codes.{store_state_code};
 
-    ghost Value = { Stored };
+    ghost Value = { StoreState };
 
-    ghost coded = { stored_code };
+    ghost coded = { store_state_code };
 
-    ghost view = { λ s. record { node = seen s.node; reply = s.reply; refusal = s.refusal } };
+    ghost view = { λ s. record { node = observable s.node; reply = s.reply; refusal = s.refusal } };
 }
 
 /// The reason why a text was not done.
 #[derive(Drop)]
-pub enum AskFault {
+pub enum CallFault {
     /// The text is not a call; the offset of its first fault.
     Syntax(usize),
     /// Memory ran out.
     Memory,
 }
 
-impl From<AllocError> for AskFault {
+impl From<AllocError> for CallFault {
     ghost use Rattle.std.specs.Prelude.{◌≡◌};
-    ghost use Rattle.node_text.specs.declared.store.AskFault.TheVariants.{Memory};
+    ghost use Rattle.node_text.specs.declared.store.CallFault.TheVariants.{Memory};
 
     ghost from_gives = { λ _ e. e ≡ Memory };
 
-    fn from(_error: AllocError) -> AskFault {
-        AskFault::Memory
+    fn from(_error: AllocError) -> CallFault {
+        CallFault::Memory
     }
 }
 
 impl Store {
     /// Returns a store without processes and tables, whose last reply is `NoProcess`.
     pub fn new(alloc: Global, limits: Limits) -> Store
-        ensures { result ≡ fresh limits }
+        ensures { result ≡ new_store limits }
     {
         Store {
             node: Node::new(alloc, limits, Fnv),
@@ -74,8 +74,8 @@ impl Store {
     }
 
     /// Does one step, and returns the status of its reply. Changes nothing if memory runs out.
-    pub fn act(&mut self, event: &Step) -> i32
-        ensures done { StepsOf event.now result self.old self.new }
+    pub fn run_step(&mut self, event: &Step) -> i32
+        ensures done { StepReturns event.now result self.old self.new }
         ensures statuses { AreTheStatuses }
     {
         match self.step(event) {
@@ -94,22 +94,22 @@ impl Store {
         out: &mut [u8],
         len: &mut usize,
     ) -> i32
-        ensures { CallsOf text.now (texts.asked text.now) pid (told result len.new out.old out.new) self.old self.new }
+        ensures { CallReturns text.now (texts.parse_call text.now) pid (written_reply result len.new out.old out.new) self.old self.new }
     {
         *len = 0;
-        match self.ask(alloc, pid, text) {
-            Ok(()) => self.tell(alloc, out, len),
-            Err(AskFault::Syntax(at)) => {
+        match self.run_text(alloc, pid, text) {
+            Ok(()) => self.write_reply(alloc, out, len),
+            Err(CallFault::Syntax(at)) => {
                 *len = at;
                 SYNTAX
             }
-            Err(AskFault::Memory) => NO_MEMORY,
+            Err(CallFault::Memory) => NO_MEMORY,
         }
     }
 
     /// Returns the status of the last reply. Writes as much of its text as fits to `out`, and its whole length to `len`.
-    pub fn tell(&self, alloc: Global, out: &mut [u8], len: &mut usize) -> i32
-        ensures { Tells self.now.reply (told result len.new out.old out.new) }
+    pub fn write_reply(&self, alloc: Global, out: &mut [u8], len: &mut usize) -> i32
+        ensures { WritesReply self.now.reply (written_reply result len.new out.old out.new) }
     {
         *len = 0;
         let Reply::Value(term) = &self.reply else {
@@ -120,14 +120,14 @@ impl Store {
             return UNTOLD;
         }
         *len = text.len();
-        copy_front(text.as_bytes(), out);
+        copy_prefix(text.as_bytes(), out);
         VALUE
     }
 
     /// Writes as much as fits of the reason why the last call was refused to `out`, and its whole length to `len`. The
     /// length is 0 if the call was not refused.
-    pub fn tell_why(&self, alloc: Global, out: &mut [u8], len: &mut usize) -> i32
-        ensures { TellsWhy self.now.refusal (told result len.new out.old out.new) }
+    pub fn write_reason(&self, alloc: Global, out: &mut [u8], len: &mut usize) -> i32
+        ensures { WritesReason self.now.refusal (written_reply result len.new out.old out.new) }
     {
         *len = 0;
         let Some(refusal) = self.refusal else {
@@ -137,41 +137,41 @@ impl Store {
             return UNTOLD;
         };
         *len = words.len();
-        copy_front(words.as_bytes(), out);
+        copy_prefix(words.as_bytes(), out);
         VALUE
     }
 
     /// Does one step, and keeps its reply and the reason of a refusal. If memory runs out, keeps only that.
     fn step(&mut self, event: &Step) -> Result<(), AllocError>
-        ensures ok { OnOk result (Does self.old event.now self.new) }
-        ensures err { OnErr result (self.new ≡ refused refusal.NoMemory self.old) }
+        ensures ok { OnOk result (RunsStep self.old event.now self.new) }
+        ensures err { OnErr result (self.new ≡ with_refusal refusal.NoMemory self.old) }
     {
         let Ok(reply) = self.node.step(event) else {
-            self.refusal = Some(Refusal::NoMemory);
+            self.refusal = Some(LastRefusal::NoMemory);
             return Err(AllocError);
         };
-        self.refusal = Refusal::of(&self.node, event, &reply);
+        self.refusal = LastRefusal::of(&self.node, event, &reply);
         self.reply = reply;
         Ok(())
     }
 
     /// Does the call of a text, and at most two pending growth steps. After a fault, keeps only that.
-    fn ask(&mut self, alloc: Global, pid: u32, text: &[u8]) -> Result<(), AskFault>
-        ensures { Asks text.now (texts.asked text.now) pid self.old result self.new }
+    fn run_text(&mut self, alloc: Global, pid: u32, text: &[u8]) -> Result<(), CallFault>
+        ensures { RunsCall text.now (texts.parse_call text.now) pid self.old result self.new }
     {
-        let Ok(asked) = read_call(alloc, text) else {
-            self.refusal = Some(Refusal::NoMemory);
-            return Err(AskFault::Memory);
+        let Ok(call) = read_call(alloc, text) else {
+            self.refusal = Some(LastRefusal::NoMemory);
+            return Err(CallFault::Memory);
         };
-        match asked {
-            Asked::Call(name, args) => {
+        match call {
+            ParsedCall::Call(name, args) => {
                 self.step(&Step::Ask(pid, Call::new(name, args.into_vec())))?;
                 self.tend();
                 Ok(())
             }
-            Asked::Faulty(at) => {
-                self.refusal = Some(Refusal::Odd(oddity_in_call(text, at)));
-                Err(AskFault::Syntax(at))
+            ParsedCall::Faulty(at) => {
+                self.refusal = Some(LastRefusal::Syntax(diagnose_in_call(text, at)));
+                Err(CallFault::Syntax(at))
             }
         }
     }
@@ -180,14 +180,14 @@ impl Store {
     fn tend(&mut self)
         ensures { self.new ≡ self.old }
     {
-        do_due(&mut self.node);
-        do_due(&mut self.node);
+        run_pending(&mut self.node);
+        run_pending(&mut self.node);
     }
 }
 
 /// Runs the pending growth step, if there is one: a table doubles, or readies a bucket.
-fn do_due(node: &mut Node<Fnv>)
-    ensures { seen node.new ≡ seen node.old }
+fn run_pending(node: &mut Node<Fnv>)
+    ensures { observable node.new ≡ observable node.old }
 {
     match node.due() {
         Some(Step::Grow(table)) => {

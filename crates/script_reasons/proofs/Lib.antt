@@ -1,3 +1,3 @@
-pub mod Bare
+pub mod LexStateLaws
 pub mod Names
 pub mod Signs

@@ -3,8 +3,8 @@ use Rattle.std.proofs.Common.{◌≡◌, ◌+◌, ◌≤◌, refl, ℕ, List, tr
 use Rattle.std.specs.List.{prefix_len}
 use Rattle.ets_term.specs.Character.{max_characters}
 use Rattle.term_text.specs.Text.{is_lowercase, is_name}
-use Rattle.script_reasons.specs.declared.oddity.Oddity.TheVariants.{LongName}
-use Rattle.script_reasons.specs.Oddities.{word}
+use Rattle.script_reasons.specs.declared.syntax_problem.SyntaxProblem.TheVariants.{LongName}
+use Rattle.script_reasons.specs.SyntaxProblems.{word}
 
 small-name : (b : ℕ) → is_lowercase b ≡ true → is_name b ≡ true
 unfolding is_name
@@ -13,7 +13,7 @@ small-name b h = rw h refl
 above : (m n : ℕ) → m ≤ n → nat_lt m (1 + n) ≡ true
 above m n h = search (arith, rules)
 
-pub word_long : (b : ℕ) (behind : List ℕ) → is_lowercase b ≡ true → max_characters ≤ prefix_len is_name behind → word b behind ≡ LongName
-word_long b behind h k = let named : is_name b ≡ true = small-name b h in
-    let longer : nat_lt max_characters (1 + prefix_len is_name behind) ≡ true = above max_characters (prefix_len is_name behind) k in
+pub word-long : (b : ℕ) (after : List ℕ) → is_lowercase b ≡ true → max_characters ≤ prefix_len is_name after → word b after ≡ LongName
+word-long b after h k = let named : is_name b ≡ true = small-name b h in
+    let longer : nat_lt max_characters (1 + prefix_len is_name after) ≡ true = above max_characters (prefix_len is_name after) k in
     rw (h, named, longer) refl

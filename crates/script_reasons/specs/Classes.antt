@@ -14,8 +14,8 @@ abbrev pub is_gap : ℕ → Bool
 is_gap b = among (codes " \t") b
 
 -- a byte that is allowed on a line: the tab, and printable ASCII
-abbrev pub is_clean : ℕ → Bool
-is_clean b = (b == byte "\t") || is_character b
+abbrev pub is_line_byte : ℕ → Bool
+is_line_byte b = (b == byte "\t") || is_character b
 
 abbrev pub begins_atom : ℕ → Bool
 begins_atom b = is_lowercase b || (b == byte "'")
@@ -24,16 +24,16 @@ abbrev pub begins_number : ℕ → Bool
 begins_number b = is_digit b || (b == byte "-")
 
 -- a byte with which a term begins, an identifier of a table aside
-abbrev pub goes_deeper : ℕ → Bool
-goes_deeper b = begins_atom b || begins_number b || among (codes "\"[{<") b
+abbrev pub begins_nested_term : ℕ → Bool
+begins_nested_term b = begins_atom b || begins_number b || among (codes "\"[{<") b
 
 -- a capital letter, or `_`
 abbrev pub begins_variable : ℕ → Bool
 begins_variable b = (nat_le 65 b && nat_le b 90) || (b == byte "_")
 
 -- a byte with which a term, or blanks before one, begins
-abbrev pub may_begin : ℕ → Bool
-may_begin b = begins_term b || is_blank b
+abbrev pub may_begin_term : ℕ → Bool
+may_begin_term b = begins_term b || is_blank b
 
 -- the last byte, or 0
 abbrev pub last : List ℕ → ℕ
@@ -44,5 +44,5 @@ abbrev pub last_sign : List ℕ → ℕ
 last_sign text = last (filter (λ b. not (is_gap b)) text)
 
 -- a term may begin after these signs
-abbrev pub wants_term : List ℕ → Bool
-wants_term before = among (codes ",{[<(") (last_sign before)
+abbrev pub expects_term : List ℕ → Bool
+expects_term before = among (codes ",{[<(") (last_sign before)

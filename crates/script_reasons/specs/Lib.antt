@@ -1,6 +1,6 @@
 pub mod Classes
-pub mod Places
-pub mod Oddities
+pub mod LexStates
+pub mod SyntaxProblems
 pub mod Words
-pub mod Remarks
+pub mod Diagnostics
 pub mod inside

@@ -13,15 +13,15 @@ fn is_gap(byte: u8) -> bool
 }
 
 /// Returns whether the byte is allowed on a line.
-pub fn is_clean(byte: u8) -> bool
-    ensures { result ≡ spec.is_clean byte }
+pub fn is_line_byte(byte: u8) -> bool
+    ensures { result ≡ spec.is_line_byte byte }
 {
     byte == b'\t' || is_character_byte(byte)
 }
 
 /// Returns whether a term begins with this byte; an identifier of a table does not count.
-pub fn goes_deeper(byte: u8) -> bool
-    ensures { result ≡ spec.goes_deeper byte }
+pub fn begins_nested_term(byte: u8) -> bool
+    ensures { result ≡ spec.begins_nested_term byte }
 {
     begins_atom(byte) || begins_number(byte) || matches!(byte, b'"' | b'[' | b'{' | b'<')
 }
@@ -45,8 +45,8 @@ pub fn begins_variable(byte: u8) -> bool
 }
 
 /// Returns whether a term, or blanks before one, can begin with this byte.
-pub fn may_begin(byte: u8) -> bool
-    ensures { result ≡ spec.may_begin byte }
+pub fn may_begin_term(byte: u8) -> bool
+    ensures { result ≡ spec.may_begin_term byte }
 {
     begins_term(byte) || is_blank(byte)
 }
@@ -74,8 +74,8 @@ fn is_blank(byte: u8) -> bool
 }
 
 /// Returns whether a term, or the number of one, must come after this text.
-pub fn wants_term(before: &[u8]) -> bool
-    ensures { result ≡ spec.wants_term before.now }
+pub fn expects_term(before: &[u8]) -> bool
+    ensures { result ≡ spec.expects_term before.now }
 {
     matches!(last_sign(before), b',' | b'{' | b'[' | b'<' | b'(')
 }
@@ -95,7 +95,7 @@ pub fn digits_len(text: &[u8]) -> usize
     text.iter().take_while(|byte| is_digit_byte(**byte)).count()
 }
 
-pub fn starts_digit(text: &[u8]) -> bool
+pub fn starts_with_digit(text: &[u8]) -> bool
     ensures { result ≡ begins is_digit text.now }
 {
     match text {
@@ -117,13 +117,13 @@ fn last_sign(text: &[u8]) -> u8
 {
     let mut last = 0;
     for byte in text {
-        last = later(last, *byte);
+        last = update_last_sign(last, *byte);
     }
     last
 }
 
 /// Returns the last sign of a text after one more byte.
-fn later(last: u8, byte: u8) -> u8
+fn update_last_sign(last: u8, byte: u8) -> u8
     ensures { result ≡ (if spec.is_gap byte then last else byte) }
 {
     if is_gap(byte) { last } else { byte }

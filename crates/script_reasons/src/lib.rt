@@ -1,8 +1,8 @@
 //! Texts that say why a line of a script, or the text of a call, was refused: the rule that its step breaks, or what is
 //! wrong at its syntax error.
 //!
-//! *Guarantee.* `oddity_at` and `oddity_in_call` return what specs/Oddities.antt says about an offset, by the text before
-//! it and the text from it on. An `Oddity` and a `Remark` print as specs/Words.antt and specs/Remarks.antt say.
+//! *Guarantee.* `diagnose_at` and `diagnose_in_call` return what specs/SyntaxProblems.antt says about an offset, by the text before
+//! it and the text from it on. An `SyntaxProblem` and a `Diagnostic` print as specs/Words.antt and specs/Diagnostics.antt say.
 //!
 //! *Weakness.* What is found at a fault is a guess at what the author meant.
 //!
@@ -12,10 +12,10 @@
 #![tactic(auto)]
 
 mod classes;
-mod oddity;
-mod place;
-mod remark;
+mod diagnostic;
+mod lex_state;
+mod syntax_problem;
 mod words;
 
-pub use oddity::{Oddity, oddity_at, oddity_in_call};
-pub use remark::Remark;
+pub use diagnostic::Diagnostic;
+pub use syntax_problem::{SyntaxProblem, diagnose_at, diagnose_in_call};

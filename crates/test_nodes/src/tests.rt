@@ -3,7 +3,7 @@ mod text;
 mod world;
 
 /// The value, if what was done to it succeeded.
-fn kept<T: Drop, E>(done: Result<(), E>, value: T) -> Result<T, E> {
+fn keep_if_ok<T: Drop, E>(done: Result<(), E>, value: T) -> Result<T, E> {
     match done {
         Ok(()) => Ok(value),
         Err(error) => {

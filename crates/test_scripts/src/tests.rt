@@ -37,7 +37,7 @@ struct Run {
 }
 
 /// With good devices, by the usual limits.
-fn usual() -> Run {
+fn usual_run() -> Run {
     Run {
         devices: devices::GOOD,
         limits: Limits::usual(),
@@ -71,7 +71,7 @@ fn is_run(alloc: Global, run: &Run, script: &[u8], answers: &[u8], end: End) -> 
 fn is_run_by<H: KeyHash + Copy + Drop>(
     alloc: Global,
     run: &Run,
-    hash: H,
+    hasher: H,
     script: &[u8],
     answers: &[u8],
     end: End,
@@ -80,13 +80,13 @@ fn is_run_by<H: KeyHash + Copy + Drop>(
     let mut streams = Streams {
         input: Source {
             left: script,
-            most: run.devices.most_read,
+            max: run.devices.max_read,
             good: run.devices.good_reads,
             seen: &seen,
         },
         output: Target {
             taken: Vec::new(alloc),
-            most: run.devices.most_written,
+            max: run.devices.max_written,
             good: run.devices.good_writes,
             fails_to_flush: run.devices.fails_to_flush,
             seen: &seen,
@@ -94,7 +94,7 @@ fn is_run_by<H: KeyHash + Copy + Drop>(
     };
     let settings = NodeSettings {
         limits: run.limits,
-        hash,
+        hasher,
     };
     let done = run_within(alloc, &mut streams, settings, run.reads);
     streams.output.taken.as_slice() == answers
@@ -103,7 +103,7 @@ fn is_run_by<H: KeyHash + Copy + Drop>(
 }
 
 /// How many of the scripts, from the first on, are answered so to their end.
-fn answered(alloc: Global, run: &Run, rows: &[(&[u8], &[u8])]) -> usize {
+fn count_answered(alloc: Global, run: &Run, rows: &[(&[u8], &[u8])]) -> usize {
     for (count, (script, answers)) in rows.iter().enumerate() {
         if !is_run(alloc, run, *script, *answers, End::Whole) {
             return count;

@@ -28,12 +28,12 @@ call_sync = search (crosses, terms.crosses, sendable) depth 60 fits 20000
 
 module _ (a b d : Lifetime) (α β γ : Lft) (L H R : RattleType) (l : Ledger.Ghosts L.Denot) (k : KeyHash.Ghosts H.Denot) (c : Clone.Ghosts H.Denot) where
   -- what the thread that runs pending steps takes with it
-  abbrev pub Kept : List RattleType
-  Kept = ShrRef a α R ∷ ShrRef b β (Shared.the_row L H l k c) ∷ ShrRef d γ AtomicBool.the_row ∷ []
+  abbrev pub Keeping : List RattleType
+  Keeping = ShrRef a α R ∷ ShrRef b β (Shared.the_row L H l k c) ∷ ShrRef d γ AtomicBool.the_row ∷ []
 
-  pub kept_send : (name : Sym) → IsSync R → IsSend H → IsSend (TupleAt name Kept)
-  kept_send name runs hash =
-      captures_send name Kept (shr_send a α R runs, (shr_send b β (Shared.the_row L H l k c) (shared_sync L H l k c hash), (shr_send d γ AtomicBool.the_row flag_sync, tt)))
+  pub keeping_send : (name : Sym) → IsSync R → IsSend H → IsSend (TupleAt name Keeping)
+  keeping_send name runs hash =
+      captures_send name Keeping (shr_send a α R runs, (shr_send b β (Shared.the_row L H l k c) (shared_sync L H l k c hash), (shr_send d γ AtomicBool.the_row flag_sync, tt)))
 
   -- what the thread that draws a number takes with it
   abbrev pub Drawing : Lifetime → Lft → List RattleType

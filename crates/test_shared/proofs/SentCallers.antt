@@ -14,7 +14,7 @@ use Rattle.std.specs.declared.clone.Clone as Clone
 use Rattle.ets_term.specs.declared.key_hash.KeyHash as KeyHash
 use Rattle.ets_term.proofs.term.Term.TheLaws.TheKnot as terms
 use Rattle.node_core.specs.contracts.step.Call as Call
-use Rattle.node_shared.specs.declared.history.Room as Room
+use Rattle.node_shared.specs.declared.history.HistoryId as HistoryId
 use Rattle.node_shared.specs.contracts.caller.Caller as Caller
 use Rattle.node_shared.specs.contracts.server.Server as Server
 use Rattle.node_shared.proofs.Sent.{captures_send}
@@ -23,7 +23,7 @@ use Rattle.node_shared.proofs.SentServers.{caller_send, server_sync}
 call_send : IsSend Call.the_row
 call_send = search (crosses, terms.crosses, sendable) depth 60 fits 20000
 
-module _ (a b : Lifetime) (α β : Lft) (B H R : RattleType) (l : Room.Ghosts B.Denot) (k : KeyHash.Ghosts H.Denot) (c : Clone.Ghosts H.Denot) where
+module _ (a b : Lifetime) (α β : Lft) (B H R : RattleType) (l : HistoryId.Ghosts B.Denot) (k : KeyHash.Ghosts H.Denot) (c : Clone.Ghosts H.Denot) where
   abbrev pub Asking : List RattleType
   Asking = ShrRef a α R ∷ ShrRef b β (Server.the_row B H l k c) ∷ Caller.the_row B l ∷ Vec.the_row Call.the_row Global.the_row ghosts ∷ []
 

@@ -61,7 +61,7 @@ fn two_seats(alloc: Global) -> Result<(Pids, Seat, Seat), Fail>
 }
 
 /// A number of clients, which join by the numbers from 0 on.
-fn joined<L: Ledger, H: KeyHash + Copy + Drop, R: Wait>(
+fn join_clients<L: Ledger, H: KeyHash + Copy + Drop, R: Wait>(
     rt: &R,
     alloc: Global,
     shared: &Shared<L, H>,
@@ -79,13 +79,13 @@ fn joined<L: Ledger, H: KeyHash + Copy + Drop, R: Wait>(
 }
 
 /// The clients that did all their jobs.
-fn done<L: Ledger>(alloc: Global, workers: Vec<Worked<L>>) -> Result<Vec<Client<L>>, Fail> {
-    if workers.iter().any(|worked| worked.left > 0) {
+fn clients_of<L: Ledger>(alloc: Global, workers: Vec<Worked<L>>) -> Result<Vec<Client<L>>, Fail> {
+    if workers.iter().any(|worker| worker.left > 0) {
         return Err("a job is left")?;
     }
     let mut clients = Vec::with_capacity(alloc, workers.len())?;
-    for worked in workers {
-        clients.push(worked.client)?;
+    for worker in workers {
+        clients.push(worker.client)?;
     }
     Ok(clients)
 }

@@ -4,14 +4,14 @@ use Rattle.std.specs.Io.KnownBytes.{Appends}
 use Rattle.ets_script.specs.Flows.{Flow}
 use Rattle.ets_script.specs.Lines.{Line, text, too_long, IsOneLine}
 use Rattle.ets_script.specs.Replies.{printed}
-use Rattle.ets_script.specs.Script.{Scripted, AnswersLine}
-use Rattle.ets_script.specs.inside.Feeds.{Held, EndsLine}
+use Rattle.ets_script.specs.Script.{ScriptState, AnswersLine}
+use Rattle.ets_script.specs.inside.LineBuffers.{LineBufferState, EndsLine}
 use Rattle.ets_script.specs.inside.Output.{Breaks}
 use Rattle.ets_script.specs.declared.answer.Answer.{Answer}
 use Rattle.ets_script.specs.declared.run.AnsweredLine.{AnsweredLine}
 
 -- the bytes held begin with a line, and this is its answer
-pub record AnswersHeld (h : Held) (old new : Scripted) (next : AnsweredLine) : Type 0 where
+pub record AnswersHeld (h : LineBufferState) (old new : ScriptState) (next : AnsweredLine) : Type 0 where
   pub line : Line
   pub some : 0 < next.taken
   pub within : next.taken ≤ length h.bytes
@@ -19,23 +19,23 @@ pub record AnswersHeld (h : Held) (old new : Scripted) (next : AnsweredLine) : T
   pub answers : AnswersLine old line next.answer new
 
 -- the next line and its answer, or the bytes held have no LF
-abbrev pub AnswersNext : Held → Scripted → Scripted → Option AnsweredLine → Type 0
+abbrev pub AnswersNext : LineBufferState → ScriptState → ScriptState → Option AnsweredLine → Type 0
 AnswersNext h old new (Some next) = AnswersHeld h old new next
 AnswersNext h old new None = IsOneLine h.bytes × (new ≡ old)
 
 -- what is held is answered as a line that ends with the input; an empty one prints nothing
-abbrev pub AnswersPart : Bool → Scripted → List ℕ → Answer → Scripted → Type 0
+abbrev pub AnswersPart : Bool → ScriptState → List ℕ → Answer → ScriptState → Type 0
 AnswersPart true old bytes answer new = AnswersLine old too_long answer new
 AnswersPart false old bytes answer new = AnswersLine old (text bytes) answer new
 
 -- the last answer was written after the buffered text
-pub record EndsAll (h : Held) (start now : Scripted) (waiting : List ℕ) (writer : Flow) : Type 0 where
+pub record EndsAll (h : LineBufferState) (start now : ScriptState) (waiting : List ℕ) (writer : Flow) : Type 0 where
   pub answer : Answer
   pub answers : AnswersPart h.is_skipping start h.bytes answer now
   pub written : Appends writer.before writer.after (waiting ++ printed answer)
 
 -- the last answer was known, and the writer failed
-pub record BreaksAtEnd (h : Held) (start now : Scripted) (waiting : List ℕ) (writer : Flow) : Type 0 where
+pub record BreaksAtEnd (h : LineBufferState) (start now : ScriptState) (waiting : List ℕ) (writer : Flow) : Type 0 where
   pub answer : Answer
   pub answers : AnswersPart h.is_skipping start h.bytes answer now
   pub broken : Breaks writer (waiting ++ printed answer)

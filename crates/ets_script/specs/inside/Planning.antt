@@ -5,44 +5,44 @@ use Rattle.node_shared.specs.declared.job.Job.{Job}
 use Rattle.ets_script.specs.Commands.{Command}
 use Rattle.ets_script.specs.Flows.{Flow}
 use Rattle.ets_script.specs.Lines.{Line, text, too_long, IsOneLine, IsLine, IsCutInto}
-use Rattle.ets_script.specs.Plan.{Planned, nothing, number_of, answered, given, spawned, said, line_plan, lines_plan}
+use Rattle.ets_script.specs.Plan.{PlanState, empty_plan, number_of, add_answer, add_job_for, add_spawn, add_command, line_plan, lines_plan}
 use Rattle.ets_script.specs.declared.answer.Answer.{Answer}
-use Rattle.ets_script.specs.declared.plan.Known.{Known}
-use Rattle.ets_script.specs.declared.plan.Work.{Work}
+use Rattle.ets_script.specs.declared.plan.PlannedAnswers.{PlannedAnswers}
+use Rattle.ets_script.specs.declared.plan.ProcessJobs.{ProcessJobs}
 use Rattle.ets_script.specs.declared.fault.ScriptFault.{ScriptFault}
 use Rattle.ets_script.specs.declared.fault.ScriptFault.TheVariants.{Read, Memory}
-use Rattle.ets_script.specs.inside.Feeds.{Held, EndsLine}
-use Rattle.ets_script.specs.inside.PlanCodes.{Limited}
+use Rattle.ets_script.specs.inside.LineBuffers.{LineBufferState, EndsLine}
+use Rattle.ets_script.specs.inside.PlanCodes.{LimitedPlanState}
 
 -- no line yet, and a greatest number of names
-abbrev pub no_lines : ℕ → Limited
-no_lines most = record { most = most; plan = nothing }
+abbrev pub no_lines : ℕ → LimitedPlanState
+no_lines max_names = record { max_names = max_names; plan = empty_plan }
 
 -- a planned answer is added
-abbrev pub with_answer : Answer → Limited → Limited
-with_answer answer l = record l { plan = answered answer l.plan }
+abbrev pub with_answer : Answer → LimitedPlanState → LimitedPlanState
+with_answer answer l = record l { plan = add_answer answer l.plan }
 
 -- a job for the process of this number, if there is one
-abbrev pub with_job : Option ℕ → Job → Limited → Limited
-with_job number job l = record l { plan = given number job l.plan }
+abbrev pub with_job : Option ℕ → Job → LimitedPlanState → LimitedPlanState
+with_job number job l = record l { plan = add_job_for number job l.plan }
 
 -- a name that is spawned
-abbrev pub with_name : List ℕ → Limited → Limited
-with_name name l = record l { plan = spawned l.most (number_of l.plan name) name l.plan }
+abbrev pub with_name : List ℕ → LimitedPlanState → LimitedPlanState
+with_name name l = record l { plan = add_spawn l.max_names (number_of l.plan name) name l.plan }
 
 -- what a command says
-abbrev pub with_command : Command → Limited → Limited
-with_command command l = record l { plan = said l.most command l.plan }
+abbrev pub with_command : Command → LimitedPlanState → LimitedPlanState
+with_command command l = record l { plan = add_command l.max_names command l.plan }
 
 -- a line is added, and lines in order
-abbrev pub with_line : Line → Limited → Limited
-with_line line l = record l { plan = line_plan l.most line l.plan }
+abbrev pub with_line : Line → LimitedPlanState → LimitedPlanState
+with_line line l = record l { plan = line_plan l.max_names line l.plan }
 
-abbrev pub with_lines : List Line → Limited → Limited
-with_lines lines l = record l { plan = lines_plan l.most lines l.plan }
+abbrev pub with_lines : List Line → LimitedPlanState → LimitedPlanState
+with_lines lines l = record l { plan = lines_plan l.max_names lines l.plan }
 
 -- the bytes held begin with a line of this many bytes, which was added
-pub record PlansHeld (h : Held) (old new : Limited) (taken : ℕ) : Type 0 where
+pub record PlansHeld (h : LineBufferState) (old new : LimitedPlanState) (taken : ℕ) : Type 0 where
   pub line : Line
   pub some : 0 < taken
   pub within : taken ≤ length h.bytes
@@ -50,7 +50,7 @@ pub record PlansHeld (h : Held) (old new : Limited) (taken : ℕ) : Type 0 where
   pub plans : new ≡ with_line line old
 
 -- the next line was added, or the bytes held have no LF
-abbrev pub PlansNext : Held → Limited → Limited → Option ℕ → Type 0
+abbrev pub PlansNext : LineBufferState → LimitedPlanState → LimitedPlanState → Option ℕ → Type 0
 PlansNext h old new (Some taken) = PlansHeld h old new taken
 PlansNext h old new None = IsOneLine h.bytes × (new ≡ old)
 
@@ -66,14 +66,14 @@ AreWhole input (line ∷ lines) =
     (bytes : List ℕ) × (rest : List ℕ) × (input ≡ bytes ++ rest) × IsLine bytes line ⊥ × AreWhole rest lines
 
 -- the reader had these lines and no more, and they were added
-abbrev pub PlansAll : Limited → Flow → Limited → Type 0
+abbrev pub PlansAll : LimitedPlanState → Flow → LimitedPlanState → Type 0
 PlansAll start reader now =
     (input : List ℕ) × (lines : List Line) × Consumes reader.before reader.after input × IsAtEnd reader.after
     × IsCutInto input lines × (now ≡ with_lines lines start)
 
 -- a plan's parts
-abbrev pub AreParts : Known → Work → Planned → Type 0
-AreParts known work plan = (known.answers ≡ plan.answers) × (known.names ≡ plan.names) × (work.jobs ≡ plan.jobs)
+abbrev pub AreParts : PlannedAnswers → ProcessJobs → PlanState → Type 0
+AreParts planned work plan = (planned.answers ≡ plan.answers) × (planned.names ≡ plan.names) × (work.jobs ≡ plan.jobs)
 
 -- the reasons for which the planning of a script stops
 abbrev pub IsUnplanned : ScriptFault → Type 0

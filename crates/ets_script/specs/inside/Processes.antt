@@ -12,38 +12,38 @@ use Rattle.node_shared.specs.declared.pids.Seat.{Seat}
 use Rattle.node_shared.specs.declared.pids.TheConstants.{MAX_PIDS}
 use Rattle.node_shared.specs.declared.transcript.CloseFault.TheVariants as close
 use Rattle.node_shared.specs.Journal.{entry}
-use Rattle.node_shared.specs.Records.{Recorded}
+use Rattle.node_shared.specs.Records.{RecordState}
 use Rattle.ets_script.specs.Flows.{Flow}
 use Rattle.ets_script.specs.Lines.{Line, IsCutInto}
-use Rattle.ets_script.specs.Plan.{Planned, nothing, lines_plan}
+use Rattle.ets_script.specs.Plan.{PlanState, empty_plan, lines_plan}
 use Rattle.ets_script.specs.Threads.{IsUnclosed, RunsJobs, steps_done}
 use Rattle.ets_script.specs.declared.fault.ScriptFault.{ScriptFault}
 use Rattle.ets_script.specs.declared.fault.ScriptFault.TheVariants.{Read, Write, Memory, Differs, Missing}
-use Rattle.ets_script.specs.declared.plan.Known.{Known}
-use Rattle.ets_script.specs.declared.processes.Ran.{Ran}
+use Rattle.ets_script.specs.declared.plan.PlannedAnswers.{PlannedAnswers}
+use Rattle.ets_script.specs.declared.processes.RunResult.{RunResult}
 
 -- the seats draw numbers of this word
 abbrev pub AreSeatsOf : Pids → List Seat → Type 0
 AreSeatsOf pids seats = All (λ s. s.seat.table_id ≡ pids.table.shared.table_id) seats
 
 -- the client of a process that was enrolled, and did nothing yet
-abbrev pub IsNew : ℕ → Recorded → Type 0
+abbrev pub IsNew : ℕ → RecordState → Type 0
 IsNew p client = (r : Reply) × (client ≡ record { pid = p; entries = entry (Enrol p) r ∷ [] })
 
 -- from process p on, each has a client and its jobs
-abbrev pub AreEnrolled : ℕ → List (List Job) → List (Recorded × Vec Job Global) → Type 0
+abbrev pub AreEnrolled : ℕ → List (List Job) → List (RecordState × Vec Job Global) → Type 0
 AreEnrolled p [] [] = Unit {0}
 AreEnrolled p (jobs ∷ others) (x ∷ xs) = IsNew p x.0 × (x.1.items ≡ jobs) × AreEnrolled (suc p) others xs
 AreEnrolled p [] (x ∷ xs) = ⊥
 AreEnrolled p (jobs ∷ others) [] = ⊥
 
 -- a process did its jobs, in order, all but the last n
-abbrev pub DidJobs : ℕ → List Job → Recorded → ℕ → Type 0
+abbrev pub DidJobs : ℕ → List Job → RecordState → ℕ → Type 0
 DidJobs p jobs client n =
     (client.pid ≡ p) × (n ≤ length jobs) × (map (λ e. e.step) client.entries ≡ steps_done p jobs n)
 
 -- from process p on, each did
-abbrev pub HaveRun : ℕ → List (List Job) → List Recorded → List ℕ → Type 0
+abbrev pub HaveRun : ℕ → List (List Job) → List RecordState → List ℕ → Type 0
 HaveRun p [] [] [] = Unit {0}
 HaveRun p (jobs ∷ others) (client ∷ clients) (n ∷ left) =
     DidJobs p jobs client n × HaveRun (suc p) others clients left
@@ -61,15 +61,15 @@ Stops limits (Differs p) = IsUnclosed limits (close.Differs p)
 Stops limits (Missing p) = IsUnclosed limits (close.Missing p)
 
 -- the reader had a whole script, and the jobs of its processes were done
-pub record RunsInput (limits : Limits) (reader : Flow) (known : Known) (ran : Ran) : Type 0 where
+pub record RunsInput (limits : Limits) (reader : Flow) (planned : PlannedAnswers) (run : RunResult) : Type 0 where
   pub input : List ℕ
   pub lines : List Line
-  pub plan : Planned
+  pub plan : PlanState
   pub consumed : Consumes reader.before reader.after input
   pub end : IsAtEnd reader.after
   pub cut : IsCutInto input lines
-  pub planned : plan ≡ lines_plan (min limits.processes MAX_PIDS) lines nothing
-  pub answers : known.answers ≡ plan.answers
-  pub names : known.names ≡ plan.names
-  pub runs : RunsJobs limits plan.jobs ran.entries.items ran.left.items
-  pub named : length ran.left.items ≤ length known.names
+  pub plans : plan ≡ lines_plan (min limits.processes MAX_PIDS) lines empty_plan
+  pub answers : planned.answers ≡ plan.answers
+  pub names : planned.names ≡ plan.names
+  pub runs : RunsJobs limits plan.jobs run.entries.items run.left.items
+  pub named : length run.left.items ≤ length planned.names

@@ -15,7 +15,7 @@ use Rattle.node_core.specs.declared.walk.Walk.{Walk}
 use Rattle.node_core.specs.declared.walk.WalkFault.{WalkFault}
 use Rattle.node_core.specs.declared.walk.WalkFault.TheVariants as fault
 use Rattle.node_core.specs.State.{State}
-use Rattle.node_core.specs.Seen.{seen}
+use Rattle.node_core.specs.Observable.{observable}
 use Rattle.node_core.specs.Machine.{step, run}
 use Rattle.node_core.specs.Buckets.{run_on_buckets}
 use Rattle.node_core.specs.rules.Growth.{step_on_buckets}
@@ -23,19 +23,19 @@ use Rattle.node_core.specs.rules.Replies.{true_reply}
 use Rattle.node_core.specs.rules.Walking.{key_reply}
 use Rattle.node_core.specs.laws.Kept.{slots_in, StaysFixed}
 use Rattle.node_core.specs.laws.Walk.{states, Walks}
-use Rattle.node_core.specs.Woven.{is_step_of, replies_to, Given, AreTurns, fix, release, first, next, walk, can_read, fixes_in, Reason, Tells}
+use Rattle.node_core.specs.Woven.{is_step_of, replies_to, Given, AreTurns, fix, release, first, next, walk, can_read, fixes_in, StopReason, OthersObserve}
 
-abbrev pub is_there : ℕ → State → Bool
-is_there t s = is_some (table_at s.world.tables t)
+abbrev pub exists_in : ℕ → State → Bool
+exists_in t s = is_some (table_at s.world.tables t)
 
 -- a key from which the traversal can go on
-pub record IsFound (t : ℕ) (s : State) (key : Term) : Type 0 where
-  pub slot : is_there t s ≡ true → list_any (same key) (keys_of (slots_in t s)) ≡ true
+pub record CanResume (t : ℕ) (s : State) (key : Term) : Type 0 where
+  pub slot : exists_in t s ≡ true → list_any (same key) (keys_of (slots_in t s)) ≡ true
   pub shallow : is_too_deep key ≡ false
   pub no_end : is_atom (codes "$end_of_table") key ≡ false
 
-abbrev pub CanGoOn : ℕ → State → Option Term → Type 0
-CanGoOn t s call = MatchOption call (Unit {0}) (λ key. IsFound t s key)
+abbrev pub CanContinue : ℕ → State → Option Term → Type 0
+CanContinue t s call = MatchOption call (Unit {0}) (λ key. CanResume t s key)
 
 module _ (p t : ℕ) where
   -- the call of the traversal: first, or next of a key
@@ -44,65 +44,65 @@ module _ (p t : ℕ) where
   call_of (Some key) = next p t key
 
   -- its result: a key or the end
-  abbrev pub Finds : Option Term → State → Result (Option Term) WalkFault → Type 0
-  Finds call s (Ok found) =
-      (can_read p t s ≡ true) × step s (call_of call) (key_reply found) s × CanGoOn t s found
-  Finds call s (Err fault.Lost) = can_read p t s ≡ false
-  Finds call s (Err fault.Memory) = Unit {0}
-  Finds call s (Err _) = ⊥
+  abbrev pub FindsKey : Option Term → State → Result (Option Term) WalkFault → Type 0
+  FindsKey call s (Ok found) =
+      (can_read p t s ≡ true) × step s (call_of call) (key_reply found) s × CanContinue t s found
+  FindsKey call s (Err fault.Lost) = can_read p t s ≡ false
+  FindsKey call s (Err fault.Memory) = Unit {0}
+  FindsKey call s (Err _) = ⊥
 
   -- one more fix of the process
-  abbrev pub Holds : State → Result (Unit {0}) WalkFault → State → Type 0
-  Holds old (Ok done) new =
+  abbrev pub FixesTable : State → Result (Unit {0}) WalkFault → State → Type 0
+  FixesTable old (Ok done) new =
       step old (fix p t) true_reply new × (fixes_in p t new ≡ suc (fixes_in p t old))
-  Holds old (Err fault.Lost) new = (can_read p t old ≡ false) × (new ≡ old)
-  Holds old (Err fault.SystemLimit) new =
+  FixesTable old (Err fault.Lost) new = (can_read p t old ≡ false) × (new ≡ old)
+  FixesTable old (Err fault.SystemLimit) new =
       (can_read p t old ≡ true) × (fixes_in p t old ≡ max_fixes) × (new ≡ old)
-  Holds old (Err fault.Memory) new =
+  FixesTable old (Err fault.Memory) new =
       (can_read p t old ≡ true) × (fixes_in p t old < max_fixes) × (new ≡ old)
-  Holds old (Err _) new = ⊥
+  FixesTable old (Err _) new = ⊥
 
   -- one fix less, if the table may be read
-  abbrev pub LetsGo : State → Bool → State → Type 0
-  LetsGo old true new =
+  abbrev pub UnfixesTable : State → Bool → State → Type 0
+  UnfixesTable old true new =
       (can_read p t old ≡ true) × step old (release p t) true_reply new
       × ((n : ℕ) → fixes_in p t old ≡ suc n → fixes_in p t new ≡ n)
-  LetsGo old false new = (can_read p t old ≡ false) × (new ≡ old)
+  UnfixesTable old false new = (can_read p t old ≡ false) × (new ≡ old)
 
   -- a run from a state on that is a traversal from this call on, in a table that stays fixed
-  pub record Walking (call : Option Term) (keys : List Term) (old : State) (steps : List Step)
+  pub record IsTraversal (call : Option Term) (keys : List Term) (old : State) (steps : List Step)
       (replies : List Reply) (new : State) : Type 0 where
     pub done : run old steps replies new
     pub answers : Walks p t call keys old steps replies new done
     pub held : StaysFixed t (states old steps replies new done)
 
   -- such a traversal was exact before, or is exact with what comes from now on
-  abbrev pub Leads : Option Term → List Term → State → List Step → List Reply → State → Type 0
-  Leads None keys fixed steps replies now = Walking None keys fixed steps replies now
-  Leads (Some key) keys fixed steps replies now =
+  abbrev pub Extends : Option Term → List Term → State → List Step → List Reply → State → Type 0
+  Extends None keys fixed steps replies now = IsTraversal None keys fixed steps replies now
+  Extends (Some key) keys fixed steps replies now =
       (further : List Term) (more : List Step) (others : List Reply) (end : State)
-      → Walking (Some key) further now more others end
-      → Walking None (keys ++ key ∷ further) fixed (steps ++ more) (replies ++ others) end
+      → IsTraversal (Some key) further now more others end
+      → IsTraversal None (keys ++ key ∷ further) fixed (steps ++ more) (replies ++ others) end
 
   -- the traversal so far, when the last of its calls found this
-  pub record Stands (old : State) (keys : List Term) (given : Given) (found : Option Term)
+  pub record WalkSoFar (old : State) (keys : List Term) (given : Given) (found : Option Term)
       (now : State) : Type 0 where
     pub fixed : State
     pub before : List Reply
     pub fix_done : step old (fix p t) true_reply fixed
     pub walk_done : run fixed (walk p t keys given) (before ++ key_reply found ∷ []) now
-    pub leads : Leads found keys fixed (walk p t keys given) (before ++ key_reply found ∷ []) now
+    pub leads : Extends found keys fixed (walk p t keys given) (before ++ key_reply found ∷ []) now
     pub replied : replies_to p (walk p t keys given) (before ++ key_reply found ∷ [])
         ≡ map (λ key. Value key) keys ++ key_reply found ∷ []
     pub others : AllByRecursion (λ g. is_step_of p g.1 ≡ false) given
     pub turns : AreTurns keys given
-    pub fixes : is_there t now ≡ true → fixes_in p t now ≡ suc (fixes_in p t old)
+    pub fixes : exists_in t now ≡ true → fixes_in p t now ≡ suc (fixes_in p t old)
     pub long : t < length now.world.tables
     pub readable : can_read p t now ≡ true
-    pub goes_on : CanGoOn t now found
+    pub goes_on : CanContinue t now found
 
   -- a traversal that stopped and left these steps, before the release
-  pub record Halts (old : State) (limit : ℕ) (keys : List Term) (given : Given) (why : WalkFault)
+  pub record WalkStopped (old : State) (limit : ℕ) (keys : List Term) (given : Given) (why : WalkFault)
       (left : List Step) (now : State) : Type 0 where
     pub done : List Step
     pub own_left : List Step
@@ -110,28 +110,28 @@ module _ (p t : ℕ) where
     pub order : walk p t keys given ≡ done ++ left
     pub own : walk p t keys [] ≡ filter (is_step_of p) done ++ own_left
     pub ran : run old (fix p t ∷ done) (true_reply ∷ replies) now
-    pub tells : Tells p keys given (fix p t ∷ done) (true_reply ∷ replies)
+    pub tells : OthersObserve p keys given (fix p t ∷ done) (true_reply ∷ replies)
     pub turns : AreTurns keys given
     pub reason :
-        Reason p t why old limit keys given (fix p t ∷ done) left (true_reply ∷ replies) now
-    pub fixes : is_there t now ≡ true → fixes_in p t now ≡ suc (fixes_in p t old)
+        StopReason p t why old limit keys given (fix p t ∷ done) left (true_reply ∷ replies) now
+    pub fixes : exists_in t now ≡ true → fixes_in p t now ≡ suc (fixes_in p t old)
 
   -- the same for the buckets:
   -- the fix is done
-  abbrev pub IsHeld : State → State → Type 0
-  IsHeld old new =
-      step (seen old) (fix p t) true_reply (seen new) × step_on_buckets old (fix p t) true_reply new
+  abbrev pub FixIsDone : State → State → Type 0
+  FixIsDone old new =
+      step (observable old) (fix p t) true_reply (observable new) × step_on_buckets old (fix p t) true_reply new
 
-  abbrev pub HoldsOn : State → Result (Unit {0}) WalkFault → State → Type 0
-  HoldsOn old (Ok done) new = step_on_buckets old (fix p t) true_reply new
-  HoldsOn old (Err why) new = new ≡ old
+  abbrev pub FixOnBuckets : State → Result (Unit {0}) WalkFault → State → Type 0
+  FixOnBuckets old (Ok done) new = step_on_buckets old (fix p t) true_reply new
+  FixOnBuckets old (Err why) new = new ≡ old
 
-  abbrev pub LetsGoOn : State → Bool → State → Type 0
-  LetsGoOn old true new = step_on_buckets old (release p t) true_reply new
-  LetsGoOn old false new = new ≡ old
+  abbrev pub UnfixOnBuckets : State → Bool → State → Type 0
+  UnfixOnBuckets old true new = step_on_buckets old (release p t) true_reply new
+  UnfixOnBuckets old false new = new ≡ old
 
   -- the fix is done, and of the steps of the traversal all but those left
-  pub record Weaves (old : State) (keys : List Term) (given : Given) (left : List Step)
+  pub record RunsInterleaved (old : State) (keys : List Term) (given : Given) (left : List Step)
       (now : State) : Type 0 where
     pub done : List Step
     pub replies : List Reply
@@ -139,48 +139,48 @@ module _ (p t : ℕ) where
     pub ran : run_on_buckets old (fix p t ∷ done) replies now
 
   -- what the turn of a key does, wherever the traversal began
-  abbrev pub TurnsTo : (keys : List Term) (given : Given) (key : Term) (was : State)
+  abbrev pub TurnResult : (keys : List Term) (given : Given) (key : Term) (was : State)
       (keys' : List Term) (given' : Given) → Result (Option Term) WalkFault → State → Type 0
-  TurnsTo keys given key was keys' given' (Ok found) now =
-      ((old : State) → Stands old keys given (Some key) (seen was)
-      → Stands old keys' given' found (seen now))
-      × ((old : State) → Weaves old keys given [] was → Weaves old keys' given' [] now)
-  TurnsTo keys given key was keys' given' (Err why) now =
+  TurnResult keys given key was keys' given' (Ok found) now =
+      ((old : State) → WalkSoFar old keys given (Some key) (observable was)
+      → WalkSoFar old keys' given' found (observable now))
+      × ((old : State) → RunsInterleaved old keys given [] was → RunsInterleaved old keys' given' [] now)
+  TurnResult keys given key was keys' given' (Err why) now =
       (left : List Step)
-      × ((old : State) → Stands old keys given (Some key) (seen was) → (limit : ℕ)
-      → Halts old limit keys' given' why left (seen now))
-      × ((old : State) → Weaves old keys given [] was → Weaves old keys' given' left now)
+      × ((old : State) → WalkSoFar old keys given (Some key) (observable was) → (limit : ℕ)
+      → WalkStopped old limit keys' given' why left (observable now))
+      × ((old : State) → RunsInterleaved old keys given [] was → RunsInterleaved old keys' given' left now)
 
   -- what the whole traversal does, before the release
-  abbrev pub EndsIn : (limit : ℕ) (was : State) (keys : List Term) (given : Given)
+  abbrev pub WalkResult : (limit : ℕ) (was : State) (keys : List Term) (given : Given)
       → Result Walk WalkFault → State → Type 0
-  EndsIn limit was keys given (Ok walk) now =
-      ((old : State) → Holds old (Ok tt) (seen was)
-      → (walk.keys ≡ keys) × (length keys ≤ limit) × Stands old keys given None (seen now))
-      × ((old : State) → IsHeld old was → Weaves old keys given [] now)
-  EndsIn limit was keys given (Err why) now =
+  WalkResult limit was keys given (Ok walk) now =
+      ((old : State) → FixesTable old (Ok tt) (observable was)
+      → (walk.keys ≡ keys) × (length keys ≤ limit) × WalkSoFar old keys given None (observable now))
+      × ((old : State) → FixIsDone old was → RunsInterleaved old keys given [] now)
+  WalkResult limit was keys given (Err why) now =
       (left : List Step)
-      × ((old : State) → Holds old (Ok tt) (seen was)
-      → Halts old limit keys given why left (seen now))
-      × ((old : State) → IsHeld old was → Weaves old keys given left now)
+      × ((old : State) → FixesTable old (Ok tt) (observable was)
+      → WalkStopped old limit keys given why left (observable now))
+      × ((old : State) → FixIsDone old was → RunsInterleaved old keys given left now)
 
 -- the steps handed in are done in order, none of them of this process: all, or those before one that is its own or ran
 -- out of memory
 abbrev pub steps_of : Given → List Step
 steps_of given = map (λ g. g.1) given
 
-pub record OthersDid (p : ℕ) (old : State) (given : Given) (new : State) : Type 0 where
+pub record OthersRan (p : ℕ) (old : State) (given : Given) (new : State) : Type 0 where
   pub replies : List Reply
   pub ran : run_on_buckets old (steps_of given) replies new
   pub others : AllByRecursion (λ s. is_step_of p s ≡ false) (steps_of given)
 
-abbrev pub StoppedAt : ℕ → WalkFault → Given → Type 0
-StoppedAt p fault.OwnStep left =
+abbrev pub StoppedAtStep : ℕ → WalkFault → Given → Type 0
+StoppedAtStep p fault.OwnStep left =
     (g : ℕ × Step) × (slice_get left 0 ≡ Some g) × (is_step_of p g.1 ≡ true)
-StoppedAt p fault.Memory left = Unit {0}
-StoppedAt p _ left = ⊥
+StoppedAtStep p fault.Memory left = Unit {0}
+StoppedAtStep p _ left = ⊥
 
-abbrev pub OthersRun : ℕ → State → Given → Result (Unit {0}) WalkFault → State → Type 0
-OthersRun p old given (Ok done) new = OthersDid p old given new
-OthersRun p old given (Err why) new =
-    (n : ℕ) × OthersDid p old (take n given) new × StoppedAt p why (drop n given)
+abbrev pub RunsOthers : ℕ → State → Given → Result (Unit {0}) WalkFault → State → Type 0
+RunsOthers p old given (Ok done) new = OthersRan p old given new
+RunsOthers p old given (Err why) new =
+    (n : ℕ) × OthersRan p old (take n given) new × StoppedAtStep p why (drop n given)

@@ -7,7 +7,7 @@ ghost use Rattle.ownership.specs.World.{fixed_at};
 ghost use Rattle.node_core.specs.Access.{may, usable, usable_fixed};
 
 use super::Node;
-use super::due::lend;
+use super::due::mark_dirty;
 use bucket_table::{Rows, SplitRows};
 use ets_term::{KeyHash, Term};
 use fixed_walk::Walked;
@@ -62,7 +62,7 @@ impl<H: KeyHash + Copy + Drop> Node<H> {
             (LendsTable H.row H.KeyHash H.Clone ⟦<SplitRows<H> as Rows>⟧ self.entry id result) }
         ensures value { option_copied_mut result ≡ fixed_at self.old.world.tables id }
     {
-        lend(&self.world, &mut self.due, id);
+        mark_dirty(&self.world, &mut self.pending, id);
         self.world.table_mut(id)
     }
 

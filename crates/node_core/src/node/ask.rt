@@ -4,7 +4,7 @@ ghost use Rattle.std.specs.List.{list_any};
 ghost use Rattle.ets_term.specs.Depth.{is_too_deep};
 ghost use Rattle.node_core.specs.Machine.{step};
 ghost use Rattle.node_core.specs.declared.step.Step.TheVariants.{Ask};
-ghost use Rattle.node_core.specs.inside.Refusals.{Told};
+ghost use Rattle.node_core.specs.inside.Refusals.{ToReply};
 
 use super::Node;
 use crate::step::{Call, Reply};
@@ -24,7 +24,7 @@ impl<H: KeyHash + Copy + Drop> Node<H> {
         if any_too_deep(args) {
             return Ok(Reply::SystemLimit);
         }
-        told(self.call(pid, call.name.text(), args))
+        into_reply(self.call(pid, call.name.text(), args))
     }
 }
 
@@ -47,8 +47,8 @@ fn is_too_deep(term: &Term) -> bool
 }
 
 /// Returns the reply for the result of a call.
-pub fn told(call: Result<Reply, Refusal>) -> Result<Reply, AllocError>
-    ensures { Told call result }
+pub fn into_reply(call: Result<Reply, Refusal>) -> Result<Reply, AllocError>
+    ensures { ToReply call result }
 {
     match call {
         Ok(reply) => Ok(reply),

@@ -2,7 +2,7 @@
 ghost use Rattle.std.specs.Prelude.{◌≡◌};
 ghost use Rattle.node_core.specs.Access.{writes};
 ghost use Rattle.node_core.specs.rules.Insertion.{objects_in, Insert, InsertNew};
-ghost use Rattle.node_core.specs.inside.Refusals.{Comes};
+ghost use Rattle.node_core.specs.inside.Refusals.{Refines};
 
 use super::Node;
 use super::access::Access;
@@ -19,7 +19,7 @@ impl<H: KeyHash + Copy + Drop> Node<H> {
         table: &Term,
         objects: &Term,
     ) -> Result<Reply, Refusal>
-        ensures { Comes (writes self.old pid table.now (Insert objects.now))
+        ensures { Refines (writes self.old pid table.now (Insert objects.now))
             self.old result self.new }
     {
         let alloc = self.alloc;
@@ -36,7 +36,7 @@ impl<H: KeyHash + Copy + Drop> Node<H> {
         table: &Term,
         objects: &Term,
     ) -> Result<Reply, Refusal>
-        ensures { Comes (writes self.old pid table.now (InsertNew objects.now))
+        ensures { Refines (writes self.old pid table.now (InsertNew objects.now))
             self.old result self.new }
     {
         let alloc = self.alloc;

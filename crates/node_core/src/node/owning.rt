@@ -1,11 +1,11 @@
 // Calls on owners, heirs, names and mailboxes.
 ghost use Rattle.std.specs.Prelude.{◌≡◌, IfOk};
 ghost use Rattle.ets_term.specs.declared.term.Term.{out-Term};
-ghost use Rattle.node_core.specs.rules.Owning.{GiveAway, SetOptions, Receive, Whereis, Info, told_or_undefined, names_form};
-ghost use Rattle.node_core.specs.inside.Refusals.{Comes};
+ghost use Rattle.node_core.specs.rules.Owning.{GiveAway, SetOptions, Receive, Whereis, Info, value_or_undefined, names_form};
+ghost use Rattle.node_core.specs.inside.Refusals.{Refines};
 
 use super::Node;
-use super::replies::{atom_reply, refused, true_reply};
+use super::replies::{atom_reply, refusal_of, true_reply};
 use crate::step::Reply;
 use ets_term::{KeyHash, Term};
 use ownership::InfoItem;
@@ -20,7 +20,7 @@ impl<H: KeyHash + Copy + Drop> Node<H> {
         to: &Term,
         gift: &Term,
     ) -> Result<Reply, Refusal>
-        ensures { Comes (GiveAway self.old pid table.now to.now gift.now) self.old result self.new }
+        ensures { Refines (GiveAway self.old pid table.now to.now gift.now) self.old result self.new }
     {
         let id = self.world.resolve(table).ok_or(Refusal::Badarg)?;
         let Term::Pid(to) = to else {
@@ -28,7 +28,7 @@ impl<H: KeyHash + Copy + Drop> Node<H> {
         };
         match self.world.give_away(pid, id, *to, gift) {
             Ok(()) => Ok(true_reply(self.alloc)),
-            Err(fault) => refused(fault),
+            Err(fault) => refusal_of(fault),
         }
     }
 
@@ -38,23 +38,23 @@ impl<H: KeyHash + Copy + Drop> Node<H> {
         table: &Term,
         options: &Term,
     ) -> Result<Reply, Refusal>
-        ensures { Comes (SetOptions self.old pid table.now options.now) self.old result self.new }
+        ensures { Refines (SetOptions self.old pid table.now options.now) self.old result self.new }
     {
         let id = self.world.resolve(table).ok_or(Refusal::Badarg)?;
         match self.world.set_options(pid, id, options) {
             Ok(()) => Ok(true_reply(self.alloc)),
-            Err(fault) => refused(fault),
+            Err(fault) => refusal_of(fault),
         }
     }
 
     pub(crate) fn receive(&mut self, pid: u32) -> Result<Reply, Refusal>
-        ensures { Comes (Receive self.old pid) self.old result self.new }
+        ensures { Refines (Receive self.old pid) self.old result self.new }
     {
         Ok(Reply::Value(Term::List(self.world.receive(pid))))
     }
 
     pub(crate) fn whereis(&self, name: &Term) -> Result<Reply, Refusal>
-        ensures { Comes (Whereis self.now name.now) self.now result self.now }
+        ensures { Refines (Whereis self.now name.now) self.now result self.now }
     {
         let Term::Atom(name) = name else {
             return Err(Refusal::Badarg);
@@ -66,17 +66,17 @@ impl<H: KeyHash + Copy + Drop> Node<H> {
     }
 
     pub(crate) fn info(&self, table: &Term, item: &Term) -> Result<Reply, Refusal>
-        ensures { Comes (Info self.now table.now item.now) self.now result self.now }
+        ensures { Refines (Info self.now table.now item.now) self.now result self.now }
     {
         let item = InfoItem::read(item).ok_or(Refusal::Badarg)?;
         if !can_name(table) {
             return Err(Refusal::Badarg);
         }
         let Some(id) = self.world.resolve(table) else {
-            return Ok(told_or_undefined(self.alloc, None));
+            return Ok(value_or_undefined(self.alloc, None));
         };
-        let told = self.world.info(id, item)?;
-        Ok(told_or_undefined(self.alloc, told))
+        let value = self.world.info(id, item)?;
+        Ok(value_or_undefined(self.alloc, value))
     }
 }
 
@@ -90,10 +90,10 @@ fn can_name(term: &Term) -> bool
     }
 }
 
-fn told_or_undefined(alloc: Global, told: Option<Term>) -> Reply
-    ensures { result ≡ told_or_undefined told }
+fn value_or_undefined(alloc: Global, value: Option<Term>) -> Reply
+    ensures { result ≡ value_or_undefined value }
 {
-    match told {
+    match value {
         Some(term) => Reply::Value(term),
         None => atom_reply(alloc, b"undefined"),
     }

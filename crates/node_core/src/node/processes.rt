@@ -4,8 +4,8 @@ ghost use Rattle.node_core.specs.Machine.{step};
 ghost use Rattle.node_core.specs.declared.step.Step.TheVariants.{Enrol, End};
 
 use super::Node;
-use super::ask::told;
-use super::replies::{refused, true_reply};
+use super::ask::into_reply;
+use super::replies::{refusal_of, true_reply};
 use crate::step::Reply;
 use ets_term::{KeyHash, Term};
 use std::alloc::AllocError;
@@ -17,7 +17,7 @@ impl<H: KeyHash + Copy + Drop> Node<H> {
     {
         match self.world.enrol(pid) {
             Ok(()) => Ok(Reply::Value(Term::Pid(pid))),
-            Err(fault) => told(refused(fault)),
+            Err(fault) => into_reply(refusal_of(fault)),
         }
     }
 
@@ -27,7 +27,7 @@ impl<H: KeyHash + Copy + Drop> Node<H> {
     {
         match self.world.end(pid) {
             Ok(()) => Ok(true_reply(self.alloc)),
-            Err(fault) => told(refused(fault)),
+            Err(fault) => into_reply(refusal_of(fault)),
         }
     }
 }

@@ -1,7 +1,7 @@
 // Calls that read a table.
 ghost use Rattle.node_core.specs.Access.{reads};
 ghost use Rattle.node_core.specs.rules.Reading.{Lookup, Member, LookupElement, LookupElementOr, Tab2list};
-ghost use Rattle.node_core.specs.inside.Refusals.{Comes};
+ghost use Rattle.node_core.specs.inside.Refusals.{Refines};
 
 use super::Node;
 use super::replies::{list_reply, truth_reply};
@@ -12,14 +12,14 @@ use table_ops::Refusal;
 
 impl<H: KeyHash + Copy + Drop> Node<H> {
     pub(crate) fn lookup(&self, pid: u32, table: &Term, key: &Term) -> Result<Reply, Refusal>
-        ensures { Comes (reads self.now pid table.now (Lookup key.now)) self.now result self.now }
+        ensures { Refines (reads self.now pid table.now (Lookup key.now)) self.now result self.now }
     {
         let table = self.readable(pid, table).ok_or(Refusal::Badarg)?;
         Ok(list_reply(self.alloc, table.lookup(key))?)
     }
 
     pub(crate) fn member(&self, pid: u32, table: &Term, key: &Term) -> Result<Reply, Refusal>
-        ensures { Comes (reads self.now pid table.now (Member key.now)) self.now result self.now }
+        ensures { Refines (reads self.now pid table.now (Member key.now)) self.now result self.now }
     {
         let table = self.readable(pid, table).ok_or(Refusal::Badarg)?;
         Ok(truth_reply(self.alloc, table.member(key)))
@@ -32,7 +32,7 @@ impl<H: KeyHash + Copy + Drop> Node<H> {
         key: &Term,
         position: &Term,
     ) -> Result<Reply, Refusal>
-        ensures { Comes (reads self.now pid table.now (LookupElement key.now position.now))
+        ensures { Refines (reads self.now pid table.now (LookupElement key.now position.now))
             self.now result self.now }
     {
         let table = self.readable(pid, table).ok_or(Refusal::Badarg)?;
@@ -49,7 +49,7 @@ impl<H: KeyHash + Copy + Drop> Node<H> {
         position: &Term,
         default: &Term,
     ) -> Result<Reply, Refusal>
-        ensures { Comes
+        ensures { Refines
             (reads self.now pid table.now (LookupElementOr key.now position.now default.now))
             self.now result self.now }
     {
@@ -60,7 +60,7 @@ impl<H: KeyHash + Copy + Drop> Node<H> {
     }
 
     pub(crate) fn tab2list(&self, pid: u32, table: &Term) -> Result<Reply, Refusal>
-        ensures { Comes (reads self.now pid table.now Tab2list) self.now result self.now }
+        ensures { Refines (reads self.now pid table.now Tab2list) self.now result self.now }
     {
         let table = self.readable(pid, table).ok_or(Refusal::Badarg)?;
         Ok(Reply::Value(Term::List(table.objects()?)))

@@ -4,7 +4,7 @@ ghost use Rattle.ets_term.specs.Character.{IsAtomText};
 ghost use Rattle.ets_term.specs.declared.term.Term.TheVariants as term;
 ghost use Rattle.node_core.specs.declared.step.Reply.TheVariants.{Value};
 ghost use Rattle.node_core.specs.rules.Replies.{true_reply, truth_reply, list_reply};
-ghost use Rattle.node_core.specs.inside.Refusals.{refused_as};
+ghost use Rattle.node_core.specs.inside.Refusals.{refusal_of};
 
 use crate::step::Reply;
 use crate::terms;
@@ -47,13 +47,13 @@ pub fn atom_reply(alloc: Global, text: &[u8]) -> Reply
 pub fn list_reply(alloc: Global, objects: &[Term]) -> Result<Reply, AllocError>
     ensures { IfOk result (λ r. r ≡ list_reply objects.now) }
 {
-    let copies = terms::copied(alloc, objects)?;
+    let copies = terms::copy_terms(alloc, objects)?;
     Ok(Reply::Value(Term::List(copies)))
 }
 
 /// Converts a refusal of the world into that of a call.
-pub fn refused(fault: WorldFault) -> Result<Reply, Refusal>
-    ensures { result ≡ refused_as fault }
+pub fn refusal_of(fault: WorldFault) -> Result<Reply, Refusal>
+    ensures { result ≡ refusal_of fault }
 {
     match fault {
         WorldFault::Badarg => Err(Refusal::Badarg),

@@ -5,7 +5,7 @@ ghost use Rattle.match_spec.specs.Specifications.{is_pattern, is_spec};
 ghost use Rattle.table_ops.specs.Refusals as table_refusals;
 ghost use Rattle.node_core.specs.Access.{reads, writes};
 ghost use Rattle.node_core.specs.rules.Searching.{answers_reply, count_reply, DeletesMatching, DeletesChosen, Match, MatchObject, MatchDelete, Select, SelectCount, SelectDelete};
-ghost use Rattle.node_core.specs.inside.Refusals.{Comes};
+ghost use Rattle.node_core.specs.inside.Refusals.{Refines};
 
 use super::Node;
 use super::access::Access;
@@ -25,7 +25,7 @@ impl<H: KeyHash + Copy + Drop> Node<H> {
         table: &Term,
         pattern: &Term,
     ) -> Result<Reply, Refusal>
-        ensures { Comes (reads self.now pid table.now (Match pattern.now))
+        ensures { Refines (reads self.now pid table.now (Match pattern.now))
             self.now result self.now }
     {
         let table = self.readable(pid, table).ok_or(Refusal::Badarg)?;
@@ -41,7 +41,7 @@ impl<H: KeyHash + Copy + Drop> Node<H> {
         table: &Term,
         pattern: &Term,
     ) -> Result<Reply, Refusal>
-        ensures { Comes (reads self.now pid table.now (MatchObject pattern.now))
+        ensures { Refines (reads self.now pid table.now (MatchObject pattern.now))
             self.now result self.now }
     {
         let table = self.readable(pid, table).ok_or(Refusal::Badarg)?;
@@ -57,7 +57,7 @@ impl<H: KeyHash + Copy + Drop> Node<H> {
         table: &Term,
         pattern: &Term,
     ) -> Result<Reply, Refusal>
-        ensures { Comes (writes self.old pid table.now (MatchDelete pattern.now))
+        ensures { Refines (writes self.old pid table.now (MatchDelete pattern.now))
             self.old result self.new }
     {
         let alloc = self.alloc;
@@ -69,7 +69,7 @@ impl<H: KeyHash + Copy + Drop> Node<H> {
     }
 
     pub(crate) fn select(&self, pid: u32, table: &Term, spec: &Term) -> Result<Reply, Refusal>
-        ensures { Comes (reads self.now pid table.now (Select spec.now)) self.now result self.now }
+        ensures { Refines (reads self.now pid table.now (Select spec.now)) self.now result self.now }
     {
         let table = self.readable(pid, table).ok_or(Refusal::Badarg)?;
         let spec = spec_of(self.alloc, spec)?;
@@ -79,7 +79,7 @@ impl<H: KeyHash + Copy + Drop> Node<H> {
     }
 
     pub(crate) fn select_count(&self, pid: u32, table: &Term, spec: &Term) -> Result<Reply, Refusal>
-        ensures { Comes (reads self.now pid table.now (SelectCount spec.now))
+        ensures { Refines (reads self.now pid table.now (SelectCount spec.now))
             self.now result self.now }
     {
         let table = self.readable(pid, table).ok_or(Refusal::Badarg)?;
@@ -95,7 +95,7 @@ impl<H: KeyHash + Copy + Drop> Node<H> {
         table: &Term,
         spec: &Term,
     ) -> Result<Reply, Refusal>
-        ensures { Comes (writes self.old pid table.now (SelectDelete spec.now))
+        ensures { Refines (writes self.old pid table.now (SelectDelete spec.now))
             self.old result self.new }
     {
         let alloc = self.alloc;

@@ -1,6 +1,6 @@
 // The table of calls: each name with its method, by number of arguments, with at most eight names in a function.
 ghost use Rattle.node_core.specs.Calls.{call, calls_of_none, calls_of_one, calls_of_two, other_calls_of_two, table_calls_of_two, calls_of_three, calls_of_four};
-ghost use Rattle.node_core.specs.inside.Refusals.{Comes};
+ghost use Rattle.node_core.specs.inside.Refusals.{Refines};
 
 use super::Node;
 use crate::step::Reply;
@@ -9,7 +9,7 @@ use table_ops::Refusal;
 
 impl<H: KeyHash + Copy + Drop> Node<H> {
     pub(crate) fn call(&mut self, pid: u32, name: &str, args: &[Term]) -> Result<Reply, Refusal>
-        ensures { Comes (call self.old pid name.now args.now) self.old result self.new }
+        ensures { Refines (call self.old pid name.now args.now) self.old result self.new }
     {
         match args {
             [] => self.calls_of_none(pid, name),
@@ -22,7 +22,7 @@ impl<H: KeyHash + Copy + Drop> Node<H> {
     }
 
     fn calls_of_none(&mut self, pid: u32, name: &str) -> Result<Reply, Refusal>
-        ensures { Comes (calls_of_none self.old pid name.now) self.old result self.new }
+        ensures { Refines (calls_of_none self.old pid name.now) self.old result self.new }
     {
         if name == "receive" {
             self.receive(pid)
@@ -32,7 +32,7 @@ impl<H: KeyHash + Copy + Drop> Node<H> {
     }
 
     fn calls_of_one(&mut self, pid: u32, name: &str, x: &Term) -> Result<Reply, Refusal>
-        ensures { Comes (calls_of_one self.old pid name.now x.now) self.old result self.new }
+        ensures { Refines (calls_of_one self.old pid name.now x.now) self.old result self.new }
     {
         if name == "tab2list" {
             self.tab2list(pid, x)
@@ -58,7 +58,7 @@ impl<H: KeyHash + Copy + Drop> Node<H> {
         x: &Term,
         y: &Term,
     ) -> Result<Reply, Refusal>
-        ensures { Comes (calls_of_two self.old pid name.now x.now y.now) self.old result self.new }
+        ensures { Refines (calls_of_two self.old pid name.now x.now y.now) self.old result self.new }
     {
         if name == "insert" {
             self.insert(pid, x, y)
@@ -86,7 +86,7 @@ impl<H: KeyHash + Copy + Drop> Node<H> {
         x: &Term,
         y: &Term,
     ) -> Result<Reply, Refusal>
-        ensures { Comes (other_calls_of_two self.old pid name.now x.now y.now)
+        ensures { Refines (other_calls_of_two self.old pid name.now x.now y.now)
             self.old result self.new }
     {
         if name == "match" {
@@ -113,7 +113,7 @@ impl<H: KeyHash + Copy + Drop> Node<H> {
         x: &Term,
         y: &Term,
     ) -> Result<Reply, Refusal>
-        ensures { Comes (table_calls_of_two self.old pid name.now x.now y.now)
+        ensures { Refines (table_calls_of_two self.old pid name.now x.now y.now)
             self.old result self.new }
     {
         if name == "new" {
@@ -141,7 +141,7 @@ impl<H: KeyHash + Copy + Drop> Node<H> {
         y: &Term,
         z: &Term,
     ) -> Result<Reply, Refusal>
-        ensures { Comes (calls_of_three self.old pid name.now x.now y.now z.now)
+        ensures { Refines (calls_of_three self.old pid name.now x.now y.now z.now)
             self.old result self.new }
     {
         if name == "lookup_element" {
@@ -166,7 +166,7 @@ impl<H: KeyHash + Copy + Drop> Node<H> {
         z: &Term,
         default: &Term,
     ) -> Result<Reply, Refusal>
-        ensures { Comes (calls_of_four self.old pid name.now x.now y.now z.now default.now)
+        ensures { Refines (calls_of_four self.old pid name.now x.now y.now z.now default.now)
             self.old result self.new }
     {
         if name == "lookup_element" {

@@ -3,13 +3,13 @@ ghost use Rattle.std.specs.Prelude.{◌≡◌, ◌≤◌, IfOk};
 ghost use Rattle.ownership.specs.Outcomes as outcomes;
 ghost use Rattle.ownership.specs.Tables as tables;
 ghost use Rattle.node_core.specs.rules.Tables.{New, DeleteTable, first_buckets, makes, new_table_of};
-ghost use Rattle.node_core.specs.inside.Due.{IsIndex};
-ghost use Rattle.node_core.specs.inside.Refusals.{Comes};
+ghost use Rattle.node_core.specs.inside.Due.{TracksPending};
+ghost use Rattle.node_core.specs.inside.Refusals.{Refines};
 
 use super::Node;
 use super::access::Access;
-use super::replies::{refused, true_reply};
-use crate::identifiers::Identifiers;
+use super::replies::{refusal_of, true_reply};
+use crate::pending_tables::PendingTables;
 use crate::step::Reply;
 use bucket_table::SplitRows;
 use ets_term::{Atom, KeyHash, Term};
@@ -25,7 +25,7 @@ impl<H: KeyHash + Copy + Drop> Node<H> {
         name: &Term,
         options: &Term,
     ) -> Result<Reply, Refusal>
-        ensures { Comes (New self.old pid name.now options.now) self.old result self.new }
+        ensures { Refines (New self.old pid name.now options.now) self.old result self.new }
     {
         let Term::Atom(name) = name else {
             return Err(Refusal::Badarg);
@@ -39,7 +39,7 @@ impl<H: KeyHash + Copy + Drop> Node<H> {
 
     fn new_table(&mut self, pid: u32, name: &Atom, options: NewOptions) -> Result<Reply, Refusal>
         requires { 1 ≤ options.keypos }
-        ensures { Comes (makes self.old pid name.now options first_buckets)
+        ensures { Refines (makes self.old pid name.now options first_buckets)
             self.old result self.new }
     {
         let table = match self.empty_table(&options) {
@@ -49,9 +49,16 @@ impl<H: KeyHash + Copy + Drop> Node<H> {
                 return Err(Refusal::Memory);
             }
         };
-        match enter(&mut self.world, &mut self.due, pid, name, options, table) {
+        match add_table(
+            &mut self.world,
+            &mut self.pending,
+            pid,
+            name,
+            options,
+            table,
+        ) {
             Ok(answer) => Ok(Reply::Value(answer)),
-            Err(fault) => refused(fault),
+            Err(fault) => refusal_of(fault),
         }
     }
 
@@ -61,7 +68,7 @@ impl<H: KeyHash + Copy + Drop> Node<H> {
         ensures { IfOk result (λ table.
             table ≡ new_table_of self.now.limits.objects options.now first_buckets) }
     {
-        let rows = SplitRows::new(self.alloc, self.hash)?;
+        let rows = SplitRows::new(self.alloc, self.hasher)?;
         let table = Table::new(
             self.alloc,
             rows,
@@ -73,7 +80,7 @@ impl<H: KeyHash + Copy + Drop> Node<H> {
     }
 
     pub(crate) fn delete_table(&mut self, pid: u32, table: &Term) -> Result<Reply, Refusal>
-        ensures { Comes (DeleteTable self.old pid table.now) self.old result self.new }
+        ensures { Refines (DeleteTable self.old pid table.now) self.old result self.new }
     {
         let id = self
             .usable_id(Access::Write, pid, table)
@@ -85,26 +92,26 @@ impl<H: KeyHash + Copy + Drop> Node<H> {
 
 /// Adds the table to the world. The queue of pending tables gets capacity for it first, so that no later step needs
 /// memory for it.
-fn enter<H: KeyHash + Copy + Drop>(
+fn add_table<H: KeyHash + Copy + Drop>(
     world: &mut World<SplitRows<H>>,
-    due: &mut Identifiers,
+    pending: &mut PendingTables,
     pid: u32,
     name: &Atom,
     options: NewOptions,
     table: Walked<SplitRows<H>>,
 ) -> Result<Term, WorldFault>
-    requires { IsIndex world.old.tables due.old }
+    requires { TracksPending world.old.tables pending.old }
     ensures made { outcomes.Refines (tables.New world.old pid name.now options table)
         world.old result world.new }
-    ensures index { IsIndex world.new.tables due.new }
+    ensures index { TracksPending world.new.tables pending.new }
 {
     let id = world.made();
-    if due.reserve(id as usize + 1).is_err() {
+    if pending.reserve(id as usize + 1).is_err() {
         drop(options);
         drop(table);
         return Err(WorldFault::Memory);
     }
     let answer = world.new_table(pid, name, options, table)?;
-    due.insert(id);
+    pending.insert(id);
     Ok(answer)
 }

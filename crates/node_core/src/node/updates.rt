@@ -2,8 +2,8 @@
 ghost use Rattle.std.specs.Prelude.{option_copied};
 ghost use Rattle.table_ops.specs.Refusals as table_refusals;
 ghost use Rattle.node_core.specs.Access.{writes};
-ghost use Rattle.node_core.specs.rules.Updates.{Counts, WritesTold, UpdateCounter, UpdateElement};
-ghost use Rattle.node_core.specs.inside.Refusals.{Comes};
+ghost use Rattle.node_core.specs.rules.Updates.{Counts, WritesElements, UpdateCounter, UpdateElement};
+ghost use Rattle.node_core.specs.inside.Refusals.{Refines};
 
 use super::Node;
 use super::access::Access;
@@ -25,7 +25,7 @@ impl<H: KeyHash + Copy + Drop> Node<H> {
         updates: &Term,
         default: Option<&Term>,
     ) -> Result<Reply, Refusal>
-        ensures { Comes
+        ensures { Refines
             (writes self.old pid table.now
             (UpdateCounter key.now updates.now (option_copied default.entry)))
             self.old result self.new }
@@ -46,7 +46,7 @@ impl<H: KeyHash + Copy + Drop> Node<H> {
         updates: &Term,
         default: Option<&Term>,
     ) -> Result<Reply, Refusal>
-        ensures { Comes
+        ensures { Refines
             (writes self.old pid table.now
             (UpdateElement key.now updates.now (option_copied default.entry)))
             self.old result self.new }
@@ -88,7 +88,7 @@ fn write<R: Rows>(
     default: Option<&Term>,
 ) -> Result<bool, Refusal>
     ensures { table_refusals.Refines
-        (WritesTold key.now updates.now (option_copied default.entry) table.old)
+        (WritesElements key.now updates.now (option_copied default.entry) table.old)
         table.old result table.new }
 {
     let specs = read_element_specs(alloc, updates, table.keypos())?;

@@ -4,9 +4,9 @@ ghost use Rattle.fixed_walk.specs.TableState.{IncrementsFix};
 ghost use Rattle.fixed_walk.specs.laws.Walks.{walk_answer};
 ghost use Rattle.table_ops.specs.Content.{IsContent};
 ghost use Rattle.ownership.specs.World as model;
-ghost use Rattle.node_core.specs.Seen.{seen};
+ghost use Rattle.node_core.specs.Observable.{observable};
 ghost use Rattle.node_core.specs.Woven.{can_read};
-ghost use Rattle.node_core.specs.inside.Walker.{CanGoOn, Finds, Holds, HoldsOn, LetsGo, LetsGoOn};
+ghost use Rattle.node_core.specs.inside.Walker.{CanContinue, FindsKey, FixesTable, FixOnBuckets, UnfixesTable, UnfixOnBuckets};
 
 use super::Node;
 use crate::walk::WalkFault;
@@ -27,9 +27,9 @@ impl<H: KeyHash + Copy + Drop> Node<H> {
     }
 
     /// Fixes the table once more.
-    pub(crate) fn hold(&mut self, pid: u32, id: u32) -> Result<(), WalkFault>
-        ensures holds { Holds pid id (seen self.old) result (seen self.new) }
-        ensures buckets { HoldsOn pid id self.old result self.new }
+    pub(crate) fn fix_table(&mut self, pid: u32, id: u32) -> Result<(), WalkFault>
+        ensures holds { FixesTable pid id (observable self.old) result (observable self.new) }
+        ensures buckets { FixOnBuckets pid id self.old result self.new }
     {
         if !self.can_read(pid, id) {
             return Err(WalkFault::Lost);
@@ -45,9 +45,9 @@ impl<H: KeyHash + Copy + Drop> Node<H> {
     }
 
     /// Releases one fix if the process may read the table, and returns whether it may. It takes no memory.
-    pub(crate) fn let_go(&mut self, pid: u32, id: u32) -> bool
-        ensures lets_go { LetsGo pid id (seen self.old) result (seen self.new) }
-        ensures buckets { LetsGoOn pid id self.old result self.new }
+    pub(crate) fn unfix_table(&mut self, pid: u32, id: u32) -> bool
+        ensures lets_go { UnfixesTable pid id (observable self.old) result (observable self.new) }
+        ensures buckets { UnfixOnBuckets pid id self.old result self.new }
     {
         if !self.can_read(pid, id) {
             return false;
@@ -60,14 +60,14 @@ impl<H: KeyHash + Copy + Drop> Node<H> {
     }
 
     /// Returns the first key, or the key after the last one, or `None` at the end.
-    pub(crate) fn key_behind(
+    pub(crate) fn next_key(
         &self,
         pid: u32,
         id: u32,
         last: Option<&Term>,
     ) -> Result<Option<Term>, WalkFault>
-        requires { CanGoOn id (seen self.now) (option_copied last) }
-        ensures { Finds pid id (option_copied last.entry) (seen self.now) result }
+        requires { CanContinue id (observable self.now) (option_copied last) }
+        ensures { FindsKey pid id (option_copied last.entry) (observable self.now) result }
     {
         if !self.can_read(pid, id) {
             return Err(WalkFault::Lost);

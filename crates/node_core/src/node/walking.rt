@@ -4,7 +4,7 @@ ghost use Rattle.std.specs.Map.Iter.{deref_pair};
 ghost use Rattle.node_core.specs.declared.node.access.Access.TheVariants.{Read};
 ghost use Rattle.node_core.specs.Access.{reads, changes};
 ghost use Rattle.node_core.specs.rules.Walking.{SafeFixtable, Fixes, Releases, First, Next, FirstLookup, NextLookup, key_reply, slot_reply};
-ghost use Rattle.node_core.specs.inside.Refusals.{Comes};
+ghost use Rattle.node_core.specs.inside.Refusals.{Refines};
 
 use super::Node;
 use super::access::Access;
@@ -23,7 +23,7 @@ impl<H: KeyHash + Copy + Drop> Node<H> {
         table: &Term,
         flag: &Term,
     ) -> Result<Reply, Refusal>
-        ensures { Comes (SafeFixtable self.old pid table.now flag.now) self.old result self.new }
+        ensures { Refines (SafeFixtable self.old pid table.now flag.now) self.old result self.new }
     {
         if flag.is_atom("true") {
             return self.fix(pid, table);
@@ -35,7 +35,7 @@ impl<H: KeyHash + Copy + Drop> Node<H> {
     }
 
     fn fix(&mut self, pid: u32, table: &Term) -> Result<Reply, Refusal>
-        ensures { Comes (changes self.old pid Read table.now (Fixes pid)) self.old result self.new }
+        ensures { Refines (changes self.old pid Read table.now (Fixes pid)) self.old result self.new }
     {
         let alloc = self.alloc;
         let Some(table) = self.usable_mut(Access::Read, pid, table) else {
@@ -49,7 +49,7 @@ impl<H: KeyHash + Copy + Drop> Node<H> {
     }
 
     fn release(&mut self, pid: u32, table: &Term) -> Result<Reply, Refusal>
-        ensures { Comes (changes self.old pid Read table.now (Releases pid))
+        ensures { Refines (changes self.old pid Read table.now (Releases pid))
             self.old result self.new }
     {
         let alloc = self.alloc;
@@ -61,14 +61,14 @@ impl<H: KeyHash + Copy + Drop> Node<H> {
     }
 
     pub(crate) fn first(&self, pid: u32, table: &Term) -> Result<Reply, Refusal>
-        ensures { Comes (reads self.now pid table.now First) self.now result self.now }
+        ensures { Refines (reads self.now pid table.now First) self.now result self.now }
     {
         let table = self.readable(pid, table).ok_or(Refusal::Badarg)?;
         Ok(key_reply(self.alloc, table.first())?)
     }
 
     pub(crate) fn next(&self, pid: u32, table: &Term, key: &Term) -> Result<Reply, Refusal>
-        ensures { Comes (reads self.now pid table.now (Next key.now)) self.now result self.now }
+        ensures { Refines (reads self.now pid table.now (Next key.now)) self.now result self.now }
     {
         let table = self.readable(pid, table).ok_or(Refusal::Badarg)?;
         match table.next(key) {
@@ -78,14 +78,14 @@ impl<H: KeyHash + Copy + Drop> Node<H> {
     }
 
     pub(crate) fn first_lookup(&self, pid: u32, table: &Term) -> Result<Reply, Refusal>
-        ensures { Comes (reads self.now pid table.now FirstLookup) self.now result self.now }
+        ensures { Refines (reads self.now pid table.now FirstLookup) self.now result self.now }
     {
         let table = self.readable(pid, table).ok_or(Refusal::Badarg)?;
         Ok(slot_reply(self.alloc, table.first_lookup())?)
     }
 
     pub(crate) fn next_lookup(&self, pid: u32, table: &Term, key: &Term) -> Result<Reply, Refusal>
-        ensures { Comes (reads self.now pid table.now (NextLookup key.now))
+        ensures { Refines (reads self.now pid table.now (NextLookup key.now))
             self.now result self.now }
     {
         let table = self.readable(pid, table).ok_or(Refusal::Badarg)?;
@@ -114,7 +114,7 @@ fn slot_reply(alloc: Global, slot: Option<(&Term, &[Term])>) -> Result<Reply, Al
         Some((key, objects)) => {
             let mut parts = Items::new(alloc);
             parts.push(key.try_clone(alloc)?)?;
-            parts.push(Term::List(terms::copied(alloc, objects)?))?;
+            parts.push(Term::List(terms::copy_terms(alloc, objects)?))?;
             Ok(Reply::Value(Term::Tuple(parts)))
         }
         None => Ok(atom_reply(alloc, b"$end_of_table")),

@@ -5,20 +5,20 @@ use Rattle.node_core.specs.State.{State}
 use Rattle.node_core.specs.inside.Codes.{state_code}
 use Rattle.node_shared.specs.declared.entry.Entry.{Entry}
 use Rattle.node_shared.specs.contracts.entry.Entry as entry
-use Rattle.node_shared.specs.Records.{Kept, Recorded}
-use Rattle.node_shared.specs.Serving.{Reached}
+use Rattle.node_shared.specs.Records.{BookState, RecordState}
+use Rattle.node_shared.specs.Serving.{ServedState}
 
-abbrev pub kept_code : Coded Kept
-kept_code =
+abbrev pub book_code : Coded BookState
+book_code =
     code_by ((State × List Entry) × ℕ) (coded× (coded× state_code (coded_list entry.the_row.coded)) coded_ℕ)
     (λ k. ((k.state, k.journal), k.total)) (λ p. record { state = p.0.0; journal = p.0.1; total = p.1 }) (λ _. refl)
 
-abbrev pub recorded_code : Coded Recorded
-recorded_code =
+abbrev pub record_code : Coded RecordState
+record_code =
     code_by (ℕ × List Entry) (coded× coded_ℕ (coded_list entry.the_row.coded))
     (λ c. (c.pid, c.entries)) (λ p. record { pid = p.0; entries = p.1 }) (λ _. refl)
 
-abbrev pub reached_code : Coded Reached
-reached_code =
+abbrev pub served_code : Coded ServedState
+served_code =
     code_by (State × List Entry) (coded× state_code (coded_list entry.the_row.coded))
     (λ r. (r.state, r.history)) (λ p. record { state = p.0; history = p.1 }) (λ _. refl)

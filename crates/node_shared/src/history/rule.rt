@@ -6,47 +6,47 @@ use std::collections::LinkedList;
 
 /// What a seat knows: the owner's seat the whole history, any other some of its entries, in order. No value of this
 /// type exists at run time.
-pub struct Known {
-    pub keeps: bool,
+pub struct HistoryView {
+    pub is_owner: bool,
     pub all: LinkedList<Entry>,
     pub own: LinkedList<Entry>,
 }
 
 /// The rule of the word: there is one history, at most one seat has all of it, and what any seat has is in it.
-pub struct Order;
+pub struct HistoryRule;
 
-impl TableRule<Entry, Known, ()> for Order {
-    ghost use Rattle.node_shared.specs.History.{IsOrdered, opening};
+impl TableRule<Entry, HistoryView, ()> for HistoryRule {
+    ghost use Rattle.node_shared.specs.History.{ViewsAgree, new_view};
 
-    ghost holds = { λ about s. IsOrdered s.views };
+    ghost holds = { λ about s. ViewsAgree s.views };
 
-    ghost first = { λ about. opening };
+    ghost first = { λ about. new_view };
 }
 
 /// The owner adds an entry: it is the last of the history, and of the owner's own.
-pub struct Adds;
+pub struct AppendEntry;
 
-impl Play<Entry, Known> for Adds {
-    ghost use Rattle.node_shared.specs.History.{Added};
+impl Play<Entry, HistoryView> for AppendEntry {
+    ghost use Rattle.node_shared.specs.History.{AppendsEntry};
 
-    ghost then = { Added };
+    ghost then = { AppendsEntry };
 }
 
 /// The owner's own entries: another seat's are taken in, or they are given out.
-pub struct Own;
+pub struct OwnEntries;
 
-impl Split<Known> for Own {
-    ghost use Rattle.node_shared.specs.History.{kept, given};
+impl Split<HistoryView> for OwnEntries {
+    ghost use Rattle.node_shared.specs.History.{own_only, without_own};
 
-    ghost left = { kept };
+    ghost left = { without_own };
 
-    ghost right = { given };
+    ghost right = { own_only };
 }
 
-impl Join<Known> for Own {
-    ghost use Rattle.node_shared.specs.History.{joined, spent};
+impl Join<HistoryView> for OwnEntries {
+    ghost use Rattle.node_shared.specs.History.{empty_view, take_own};
 
-    ghost both = { joined };
+    ghost both = { take_own };
 
-    ghost spent = { spent };
+    ghost spent = { empty_view };
 }

@@ -15,29 +15,29 @@ pub enum View {
 pub struct Numbers;
 
 impl TableRule<(), View, u64> for Numbers {
-    ghost use Rattle.node_shared.specs.Numbers.{Numbered, opening};
+    ghost use Rattle.node_shared.specs.Numbers.{Numbered, opening_view};
 
     ghost holds = { Numbered };
 
-    ghost first = { opening };
+    ghost first = { opening_view };
 }
 
 /// A seat is split off: the word stays, and the new seat has no number.
 pub struct SplitsOff;
 
 impl Split<View> for SplitsOff {
-    ghost use Rattle.node_shared.specs.Numbers.{one_fewer, undrawn};
+    ghost use Rattle.node_shared.specs.Numbers.{one_fewer, undrawn_view};
 
     ghost left = { one_fewer };
 
-    ghost right = { λ _. undrawn };
+    ghost right = { λ _. undrawn_view };
 }
 
 /// A number is drawn: the word is incremented, and the seat gets its previous value.
 pub struct Draws;
 
 impl Play<(), View> for Draws {
-    ghost use Rattle.node_shared.specs.Numbers.{Drew};
+    ghost use Rattle.node_shared.specs.Numbers.{DrawsNumber};
 
-    ghost then = { Drew };
+    ghost then = { DrawsNumber };
 }

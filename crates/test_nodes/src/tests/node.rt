@@ -1,7 +1,7 @@
 // Tests what no script of tests/scripts can say. A test is a table of rows: a step, and the reply that the rules of
 // docs/calls.md want, written by hand. A failed row is named by its place.
-use crate::tests::kept;
-use crate::tests::text::{is_told, term, terms};
+use crate::tests::keep_if_ok;
+use crate::tests::text::{is_spelled, term, terms};
 use ets_term::{AllSame, Atom, Fnv, Items, KeyHash, Term};
 use node_core::{Call, Limits, Node, Reply, Step};
 use std::alloc::{AllocError, Global};
@@ -70,24 +70,24 @@ fn items_of(term: Term) -> Result<Items<Term>, AllocError> {
 }
 
 /// The same in their order as terms.
-fn sorted(term: Term) -> Result<Vec<Term>, AllocError> {
+fn sort_items(term: Term) -> Result<Vec<Term>, AllocError> {
     let mut items = items_of(term)?.into_vec();
-    kept(items.sort(), items)
+    keep_if_ok(items.sort(), items)
 }
 
 /// Returns whether a list has these items, in any order.
 fn has_items(alloc: Global, value: &Term, wanted: &str) -> Result<bool, AllocError> {
-    let items = sorted(value.try_clone(alloc)?)?;
-    let same = are_told(alloc, items.as_slice(), wanted);
+    let items = sort_items(value.try_clone(alloc)?)?;
+    let same = are_spelled(alloc, items.as_slice(), wanted);
     drop(items);
     same
 }
 
 /// Returns whether a text tells a list of these sorted items, in any order.
-fn are_told(alloc: Global, items: &[Term], text: &str) -> Result<bool, AllocError> {
-    let told = sorted(term(alloc, text)?)?;
-    let same = items == told.as_slice();
-    drop(told);
+fn are_spelled(alloc: Global, items: &[Term], text: &str) -> Result<bool, AllocError> {
+    let expected = sort_items(term(alloc, text)?)?;
+    let same = items == expected.as_slice();
+    drop(expected);
     Ok(same)
 }
 
@@ -96,7 +96,7 @@ fn is(alloc: Global, reply: &Reply, wanted: &str) -> Result<bool, AllocError> {
     match reply {
         Reply::Value(value) => match wanted.strip_prefix("~") {
             Some(wanted) => has_items(alloc, value, wanted),
-            None => is_told(alloc, value, wanted),
+            None => is_spelled(alloc, value, wanted),
         },
         Reply::Badarg => Ok(wanted == "** badarg"),
         Reply::SystemLimit => Ok(wanted == "** system_limit"),
@@ -147,10 +147,10 @@ fn wrong_in<H: KeyHash + Copy + Drop>(
 fn wrong_by<H: KeyHash + Copy + Drop>(
     alloc: Global,
     limits: Limits,
-    hash: H,
+    hasher: H,
     rows: &[Row],
 ) -> Result<Option<usize>, AllocError> {
-    let mut node = Node::new(alloc, limits, hash);
+    let mut node = Node::new(alloc, limits, hasher);
     let place = wrong_in(alloc, &mut node, rows);
     drop(node);
     place

@@ -1,7 +1,7 @@
 // Terms as the tests write them: `{a,-1}`, `[x,[]]`, `#7` for an identifier, `<7` for a pid, `@7` for lists in lists,
 // seven deep. An atom is any other word, without quotes. A text that tells no term is a fault of its test, which then
 // fails as if memory ran out.
-use crate::tests::kept;
+use crate::tests::keep_if_ok;
 use ets_term::{Atom, Integer, Items, Term};
 use std::alloc::{AllocError, Global};
 use std::mem;
@@ -91,10 +91,10 @@ pub fn term(alloc: Global, text: &str) -> Result<Term, AllocError> {
 }
 
 /// Returns whether a text tells this term.
-pub fn is_told(alloc: Global, value: &Term, text: &str) -> Result<bool, AllocError> {
-    let told = term(alloc, text)?;
-    let same = *value == told;
-    drop(told);
+pub fn is_spelled(alloc: Global, value: &Term, text: &str) -> Result<bool, AllocError> {
+    let expected = term(alloc, text)?;
+    let same = *value == expected;
+    drop(expected);
     Ok(same)
 }
 
@@ -109,7 +109,7 @@ fn word(alloc: Global, word: &str) -> Result<Term, AllocError> {
         return Ok(Term::Pid(n));
     }
     match number(word, "@") {
-        Some(depth) => nested(alloc, depth),
+        Some(depth) => nest(alloc, depth),
         None => atom(alloc, word),
     }
 }
@@ -126,16 +126,16 @@ fn number(word: &str, sign: &str) -> Option<u32> {
     word.strip_prefix(sign)?.parse::<u32>().ok()
 }
 
-fn nested(alloc: Global, depth: u32) -> Result<Term, AllocError> {
+fn nest(alloc: Global, depth: u32) -> Result<Term, AllocError> {
     let mut term = Term::List(Items::new(alloc));
     for _ in 1..depth {
-        term = listed(alloc, term)?;
+        term = list_of_one(alloc, term)?;
     }
     Ok(term)
 }
 
 /// A list of one term.
-fn listed(alloc: Global, term: Term) -> Result<Term, AllocError> {
+fn list_of_one(alloc: Global, term: Term) -> Result<Term, AllocError> {
     let mut items = Items::new(alloc);
-    Ok(Term::List(kept(items.push(term), items)?))
+    Ok(Term::List(keep_if_ok(items.push(term), items)?))
 }

@@ -1,6 +1,6 @@
 // Values from outside: each test is a table of rows, a call and the answer that the rules want of it. A row that is
 // answered otherwise is named by its place.
-use crate::tests::text::{is_told, term};
+use crate::tests::text::{is_spelled, term};
 use bucket_table::PlainRows;
 use ets_term::{Atom, Integer, Items, Term};
 use fixed_walk::Walked;
@@ -43,7 +43,7 @@ type Row = (Event<'static>, &'static str);
 
 type Tables = World<PlainRows>;
 
-fn done(alloc: Global) -> Term {
+fn empty_tuple(alloc: Global) -> Term {
     Term::Tuple(Items::new(alloc))
 }
 
@@ -93,7 +93,7 @@ fn info(alloc: Global, world: &Tables, id: u32, item: &str) -> Result<Term, Worl
         return Err(WorldFault::Badarg);
     };
     match world.info(id, item)? {
-        Some(told) => Ok(told),
+        Some(value) => Ok(value),
         None => Ok(term(alloc, "undefined")?),
     }
 }
@@ -105,7 +105,7 @@ fn item_of(alloc: Global, item: &str) -> Result<Option<InfoItem>, AllocError> {
     Ok(read)
 }
 
-fn resolved(alloc: Global, world: &Tables, named: &str) -> Result<Term, WorldFault> {
+fn resolve(alloc: Global, world: &Tables, named: &str) -> Result<Term, WorldFault> {
     let named = term(alloc, named)?;
     let found = world.resolve(&named);
     drop(named);
@@ -142,18 +142,18 @@ fn fix(alloc: Global, world: &mut Tables, pid: u32, id: u32) -> Result<Term, Wor
         return Err(WorldFault::Badarg);
     };
     match table.fix(pid) {
-        Ok(()) => Ok(done(alloc)),
+        Ok(()) => Ok(empty_tuple(alloc)),
         Err(_) => Err(WorldFault::Memory),
     }
 }
 
 /// What a call answers that only looks.
-fn told(alloc: Global, world: &Tables, event: Event) -> Result<Term, WorldFault> {
+fn query(alloc: Global, world: &Tables, event: Event) -> Result<Term, WorldFault> {
     match event {
         Event::Info(id, item) => info(alloc, world, id, item),
-        Event::Resolve(named) => resolved(alloc, world, named),
+        Event::Resolve(named) => resolve(alloc, world, named),
         Event::May(pid, id) => rights(alloc, world, pid, id),
-        _ => Ok(done(alloc)),
+        _ => Ok(empty_tuple(alloc)),
     }
 }
 
@@ -166,9 +166,9 @@ fn give(
     gift: &str,
 ) -> Result<(), WorldFault> {
     let gift = term(alloc, gift)?;
-    let given = world.give_away(pid, id, to, &gift);
+    let gave = world.give_away(pid, id, to, &gift);
     drop(gift);
-    given
+    gave
 }
 
 fn set(
@@ -185,7 +185,7 @@ fn set(
 }
 
 /// What a call does that answers nothing of itself.
-fn doing(alloc: Global, world: &mut Tables, event: Event) -> Result<(), WorldFault> {
+fn run_call(alloc: Global, world: &mut Tables, event: Event) -> Result<(), WorldFault> {
     match event {
         Event::Enrol(pid) => world.enrol(pid),
         Event::End(pid) => world.end(pid),
@@ -205,8 +205,8 @@ fn answer(alloc: Global, world: &mut Tables, event: Event) -> Result<Term, World
         Event::Receive(pid) => Ok(Term::List(world.receive(pid))),
         Event::Fix(pid, id) => fix(alloc, world, pid, id),
         _ => {
-            doing(alloc, world, event)?;
-            told(alloc, world, event)
+            run_call(alloc, world, event)?;
+            query(alloc, world, event)
         }
     }
 }
@@ -225,7 +225,7 @@ fn refusal(fault: &WorldFault) -> &'static str {
 fn does(alloc: Global, world: &mut Tables, event: Event, wanted: &str) -> Result<bool, AllocError> {
     match answer(alloc, world, event) {
         Ok(answer) => {
-            let same = is_told(alloc, &answer, wanted);
+            let same = is_spelled(alloc, &answer, wanted);
             drop(answer);
             same
         }

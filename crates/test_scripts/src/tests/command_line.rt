@@ -6,7 +6,7 @@ use std::alloc::Global;
 
 /// Returns whether there are threads, whether the hash is the one for all keys, and the most objects, as these words
 /// ask; or the kind of the refusal.
-fn asked(alloc: Global, words: &[&str]) -> Result<(bool, bool, u32), ErrorKind> {
+fn parse_words(alloc: Global, words: &[&str]) -> Result<(bool, bool, u32), ErrorKind> {
     match settings(alloc, words) {
         Ok(settings) => Ok((settings.threads, settings.same, settings.objects)),
         Err(error) => Err(error.kind()),
@@ -48,7 +48,7 @@ fn settings_of_words(rt: HostRuntime) {
         ),
     ];
     for (words, wanted) in rows {
-        assert!(rt; asked(alloc, words) == Ok(wanted), "{words:?}");
+        assert!(rt; parse_words(alloc, words) == Ok(wanted), "{words:?}");
     }
 }
 
@@ -88,7 +88,7 @@ fn words_that_are_refused(rt: HostRuntime) {
         (&["ets_script", "--help"], ErrorKind::DisplayHelp),
     ];
     for (words, wanted) in rows {
-        assert!(rt; asked(alloc, words) == Err(wanted), "{words:?}");
+        assert!(rt; parse_words(alloc, words) == Err(wanted), "{words:?}");
     }
 }
 
@@ -178,5 +178,5 @@ fn limits_that_are_refused(rt: HostRuntime) {
         assert!(rt; limits(alloc, words) == Err(wanted), "{words:?}");
     }
     let unknown: [&str; 3] = ["ets_script", "--max-tables", "3"];
-    assert!(rt; asked(alloc, unknown.as_slice()) == Err(ErrorKind::UnknownArgument));
+    assert!(rt; parse_words(alloc, unknown.as_slice()) == Err(ErrorKind::UnknownArgument));
 }

@@ -7,8 +7,8 @@ use std::io::{self, Error, ErrorKind, Read, Write};
 #[derive(Clone, Copy)]
 pub struct Devices {
     /// The most bytes that one read gives, and one write takes.
-    pub most_read: usize,
-    pub most_written: usize,
+    pub max_read: usize,
+    pub max_written: usize,
     /// How many reads and writes there are before one fails.
     pub good_reads: u32,
     pub good_writes: u32,
@@ -17,8 +17,8 @@ pub struct Devices {
 
 /// Devices that give and take all, and never fail.
 pub const GOOD: Devices = Devices {
-    most_read: usize::MAX,
-    most_written: usize::MAX,
+    max_read: usize::MAX,
+    max_written: usize::MAX,
     good_reads: u32::MAX,
     good_writes: u32::MAX,
     fails_to_flush: false,
@@ -59,7 +59,7 @@ impl Seen {
 #[derive(Drop)]
 pub struct Source<'a> {
     pub left: &'a [u8],
-    pub most: usize,
+    pub max: usize,
     pub good: u32,
     pub seen: &'a Seen,
 }
@@ -75,7 +75,7 @@ impl Read for Source<'_> {
             return Err(Error::from(ErrorKind::Other));
         }
         self.good -= 1;
-        let count = self.left.len().min(buf.len()).min(self.most);
+        let count = self.left.len().min(buf.len()).min(self.max);
         buf[..count].copy_from_slice(&self.left[..count]);
         self.left = &self.left[count..];
         Ok(count)
@@ -86,7 +86,7 @@ impl Read for Source<'_> {
 #[derive(Drop)]
 pub struct Target<'a> {
     pub taken: Vec<u8>,
-    pub most: usize,
+    pub max: usize,
     pub good: u32,
     pub fails_to_flush: bool,
     pub seen: &'a Seen,
@@ -98,7 +98,7 @@ impl Write for Target<'_> {
             return Err(Error::from(ErrorKind::Other));
         }
         self.good -= 1;
-        let count = buf.len().min(self.most);
+        let count = buf.len().min(self.max);
         match self.taken.extend_from_slice(&buf[..count]) {
             Ok(()) => {
                 self.seen.written.set(self.taken.len());

@@ -31,13 +31,13 @@ fn due_after(alloc: Global, script: &[u8]) -> Due {
     let mut streams = Streams {
         input: Source {
             left: script,
-            most: GOOD.most_read,
+            max: GOOD.max_read,
             good: GOOD.good_reads,
             seen: &seen,
         },
         output: Target {
             taken: Vec::new(alloc),
-            most: GOOD.most_written,
+            max: GOOD.max_written,
             good: GOOD.good_writes,
             fails_to_flush: GOOD.fails_to_flush,
             seen: &seen,
@@ -45,7 +45,7 @@ fn due_after(alloc: Global, script: &[u8]) -> Due {
     };
     let settings = NodeSettings {
         limits: Limits::usual(),
-        hash: Fnv,
+        hasher: Fnv,
     };
     match run_script(alloc, &mut streams, settings) {
         Ok(node) => kind(node.due()),
@@ -54,7 +54,7 @@ fn due_after(alloc: Global, script: &[u8]) -> Due {
 }
 
 /// The parts of a script, one after the other.
-fn joined(alloc: Global, parts: [&str; 3]) -> Result<String, AllocError> {
+fn join(alloc: Global, parts: [&str; 3]) -> Result<String, AllocError> {
     let mut script = String::new(alloc);
     for part in parts {
         script.push_str(part)?;
@@ -91,7 +91,7 @@ const ROWS: [(&str, &str, Due); 12] = [
 /// The first of the rows that is not so.
 fn wrong_row(alloc: Global, rows: &[(&str, &str, Due)]) -> Result<Option<usize>, AllocError> {
     for (place, (lines, more, due)) in rows.iter().enumerate() {
-        let script = joined(alloc, [TABLE, *lines, *more])?;
+        let script = join(alloc, [TABLE, *lines, *more])?;
         if due_after(alloc, script.as_bytes()) != *due {
             return Ok(Some(place));
         }
@@ -100,7 +100,7 @@ fn wrong_row(alloc: Global, rows: &[(&str, &str, Due)]) -> Result<Option<usize>,
 }
 
 #[test]
-fn two_steps_behind_each_call(rt: HostRuntime) -> Result<(), Fail> {
+fn two_steps_after_each_call(rt: HostRuntime) -> Result<(), Fail> {
     assert_eq!(rt; wrong_row(rt.alloc(), &ROWS)?, None);
     Ok(())
 }

@@ -1,6 +1,6 @@
 //! What has gone out when a reader or a writer is slow, or fails.
 use super::devices::{Devices, GOOD};
-use super::{End, Run, is_run, is_run_by, usual};
+use super::{End, Run, is_run, is_run_by, usual_run};
 use ets_term::Fnv;
 use std::alloc::{AllocError, Global};
 use std::test::Fail;
@@ -10,17 +10,20 @@ const SCRIPT: &[u8] = b"spawn p\nspawn q\nspawn r\nspawn s\n";
 const ANSWERS: &[u8] = b"<0.0.0>\n<0.1.0>\n<0.2.0>\n<0.3.0>\n";
 
 /// The script by these devices, of which lines and answers both have eight bytes.
-fn by(devices: Devices) -> Run {
-    Run { devices, ..usual() }
+fn with_devices(devices: Devices) -> Run {
+    Run {
+        devices,
+        ..usual_run()
+    }
 }
 
 /// Returns whether the whole script is answered, however few bytes a read gives and a write takes.
 fn is_answered_slowly(alloc: Global) -> bool {
-    for most_read in [1, 3, 8, 31] {
-        for most_written in [1, 3, 8, 31] {
-            let run = by(Devices {
-                most_read,
-                most_written,
+    for max_read in [1, 3, 8, 31] {
+        for max_written in [1, 3, 8, 31] {
+            let run = with_devices(Devices {
+                max_read,
+                max_written,
                 ..GOOD
             });
             if !is_run(alloc, &run, SCRIPT, ANSWERS, End::Whole) {
@@ -38,11 +41,11 @@ fn slow_devices(rt: HostRuntime) {
 
 /// Returns whether the lines that came whole before a failing read are answered, and nothing else, when reads give a
 /// number bytes.
-fn answers_whole_lines(alloc: Global, most_read: usize) -> bool {
+fn answers_whole_lines(alloc: Global, max_read: usize) -> bool {
     for good_reads in 0..=10 {
-        let lines = most_read.saturating_mul(good_reads as usize) / 8;
-        let run = by(Devices {
-            most_read,
+        let lines = max_read.saturating_mul(good_reads as usize) / 8;
+        let run = with_devices(Devices {
+            max_read,
             good_reads,
             ..GOOD
         });
@@ -62,15 +65,15 @@ fn failing_reads(rt: HostRuntime) {
 
 /// Returns whether a front of the answers went out before a failing write, when writes take a number of bytes, of lines
 /// that come one a read.
-fn answers_a_front(alloc: Global, most_written: usize) -> bool {
+fn answers_a_front(alloc: Global, max_written: usize) -> bool {
     for good_writes in 0..4 {
-        let run = by(Devices {
-            most_read: 8,
-            most_written,
+        let run = with_devices(Devices {
+            max_read: 8,
+            max_written,
             good_writes,
             ..GOOD
         });
-        let written = most_written.saturating_mul(good_writes as usize);
+        let written = max_written.saturating_mul(good_writes as usize);
         let front = &ANSWERS[..ANSWERS.len().min(written)];
         if !is_run(alloc, &run, SCRIPT, front, End::Write) {
             return false;
@@ -88,12 +91,12 @@ fn failing_writes(rt: HostRuntime) {
 /// A writer that takes no byte, and one that fails to flush.
 #[test]
 fn stuck_writers(rt: HostRuntime) {
-    let stuck = by(Devices {
-        most_written: 0,
+    let stuck = with_devices(Devices {
+        max_written: 0,
         ..GOOD
     });
     assert!(rt; is_run(rt.alloc(), &stuck, SCRIPT, b"", End::Write));
-    let unflushed = by(Devices {
+    let unflushed = with_devices(Devices {
         fails_to_flush: true,
         ..GOOD
     });
@@ -103,12 +106,12 @@ fn stuck_writers(rt: HostRuntime) {
 /// How a script ends that may make a number of reads, of a line each.
 fn ends_within(alloc: Global, reads: u32, end: End) -> bool {
     let devices = Devices {
-        most_read: 8,
+        max_read: 8,
         ..GOOD
     };
     let run = Run {
         reads,
-        ..by(devices)
+        ..with_devices(devices)
     };
     is_run(alloc, &run, SCRIPT, ANSWERS, end)
 }
@@ -123,7 +126,7 @@ fn the_last_read_must_find_the_end(rt: HostRuntime) {
 /// A number of lines of eight bytes, whose answers have ten.
 const LINES: u32 = 120;
 
-fn repeated(alloc: Global, line: &[u8]) -> Result<Vec<u8>, AllocError> {
+fn repeat_line(alloc: Global, line: &[u8]) -> Result<Vec<u8>, AllocError> {
     let mut text = Vec::new(alloc);
     for _ in 0..LINES {
         text.extend_from_slice(line)?;
@@ -132,9 +135,9 @@ fn repeated(alloc: Global, line: &[u8]) -> Result<Vec<u8>, AllocError> {
 }
 
 /// Devices that give a line a read, and of which a read or a write fails after a number of them, as the end says.
-fn failing(end: End, lines: u32) -> Devices {
+fn failing_devices(end: End, lines: u32) -> Devices {
     let slow = Devices {
-        most_read: 8,
+        max_read: 8,
         ..GOOD
     };
     match end {
@@ -153,7 +156,7 @@ fn failing(end: End, lines: u32) -> Devices {
 fn wrong_front(alloc: Global, script: &[u8], answers: &[u8], end: End) -> Option<u32> {
     for lines in 0..LINES {
         let front = &answers[..answers.len().min(10 * lines as usize)];
-        let run = by(failing(end, lines));
+        let run = with_devices(failing_devices(end, lines));
         if !is_run_by(alloc, &run, Fnv, script, front, end) {
             return Some(lines);
         }
@@ -165,8 +168,8 @@ fn wrong_front(alloc: Global, script: &[u8], answers: &[u8], end: End) -> Option
 #[test]
 fn each_call_of_a_device_fails(rt: HostRuntime) -> Result<(), Fail> {
     let alloc = rt.alloc();
-    let script = repeated(alloc, b"p a(10)\n")?;
-    let answers = repeated(alloc, b"** noproc\n")?;
+    let script = repeat_line(alloc, b"p a(10)\n")?;
+    let answers = repeat_line(alloc, b"** noproc\n")?;
     let (script, answers) = (script.as_slice(), answers.as_slice());
     assert_eq!(rt; wrong_front(alloc, script, answers, End::Read), None);
     assert_eq!(rt; wrong_front(alloc, script, answers, End::Write), None);

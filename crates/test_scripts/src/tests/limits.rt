@@ -1,15 +1,18 @@
 //! Limits, and that the script goes on after a refusal.
-use super::{Run, answered, usual};
+use super::{Run, count_answered, usual_run};
 use node_core::Limits;
 
 /// By these limits.
-fn within(processes: u32, tables: u32, objects: u32) -> Run {
+fn with_limits(processes: u32, tables: u32, objects: u32) -> Run {
     let limits = Limits {
         processes,
         tables,
         objects,
     };
-    Run { limits, ..usual() }
+    Run {
+        limits,
+        ..usual_run()
+    }
 }
 
 #[test]
@@ -18,7 +21,10 @@ fn limits_of_nothing(rt: HostRuntime) {
         b"spawn p\np new(t,[])\nspawn q\nspawn p\nexit p\n",
         b"<0.0.0>\n** system_limit\n** system_limit\n** badarg\ntrue\n",
     )];
-    assert_eq!(rt; answered(rt.alloc(), &within(1, 0, 0), &rows), rows.len());
+    assert_eq!(rt;
+        count_answered(rt.alloc(), &with_limits(1, 0, 0), &rows),
+        rows.len()
+    );
 }
 
 #[test]
@@ -27,7 +33,10 @@ fn three_objects(rt: HostRuntime) {
         b"spawn p\np new(t,[named_table])\np insert(t,[{a,1},{b,1}])\np insert(t,[{c,1},{d,1}])\np lookup(t,c)\np insert(t,[{c,1},{a,2}])\np lookup(t,a)\np insert(t,{d,1})\n",
         b"<0.0.0>\nt\ntrue\n** system_limit\n[]\ntrue\n[{a,2}]\n** system_limit\n",
     )];
-    assert_eq!(rt; answered(rt.alloc(), &within(1, 1, 3), &rows), rows.len());
+    assert_eq!(rt;
+        count_answered(rt.alloc(), &with_limits(1, 1, 3), &rows),
+        rows.len()
+    );
 }
 
 #[test]
@@ -36,5 +45,8 @@ fn one_process(rt: HostRuntime) {
         b"spawn p\nspawn q\nq receive()\n",
         b"<0.0.0>\n** system_limit\n** noproc\n",
     )];
-    assert_eq!(rt; answered(rt.alloc(), &within(1, 1, 1), &rows), rows.len());
+    assert_eq!(rt;
+        count_answered(rt.alloc(), &with_limits(1, 1, 1), &rows),
+        rows.len()
+    );
 }

@@ -1,6 +1,6 @@
 //! Long scripts with known answers.
 use super::devices::{Devices, GOOD};
-use super::{End, Run, is_run, is_run_by, usual};
+use super::{End, Run, is_run, is_run_by, usual_run};
 use ets_term::Fnv;
 use node_core::Limits;
 use std::alloc::{AllocError, Global};
@@ -45,7 +45,7 @@ fn are_long_lines(alloc: Global, run: &Run) -> Result<bool, AllocError> {
 
 #[test]
 fn long_lines(rt: HostRuntime) -> Result<(), Fail> {
-    assert!(rt; are_long_lines(rt.alloc(), &usual())?);
+    assert!(rt; are_long_lines(rt.alloc(), &usual_run())?);
     Ok(())
 }
 
@@ -53,10 +53,13 @@ fn long_lines(rt: HostRuntime) -> Result<(), Fail> {
 #[test]
 fn long_lines_in_parts(rt: HostRuntime) -> Result<(), Fail> {
     let devices = Devices {
-        most_read: 5_000,
+        max_read: 5_000,
         ..GOOD
     };
-    let run = Run { devices, ..usual() };
+    let run = Run {
+        devices,
+        ..usual_run()
+    };
     assert!(rt; are_long_lines(rt.alloc(), &run)?);
     Ok(())
 }
@@ -69,7 +72,10 @@ fn is_answered_first(alloc: Global, letters: usize) -> Result<bool, AllocError> 
         good_reads: 1,
         ..GOOD
     };
-    let run = Run { devices, ..usual() };
+    let run = Run {
+        devices,
+        ..usual_run()
+    };
     Ok(is_run(alloc, &run, script.as_slice(), b"<0.0.0>\n", End::Read))
 }
 
@@ -113,7 +119,7 @@ fn is_long_binary(alloc: Global, bytes: usize) -> Result<bool, AllocError> {
     )?;
     Ok(is_run(
         alloc,
-        &usual(),
+        &usual_run(),
         script.as_slice(),
         answers.as_slice(),
         End::Whole,
@@ -131,10 +137,13 @@ fn is_read_by_bytes(alloc: Global, lines: usize) -> Result<bool, AllocError> {
     let script = with_repeats(alloc, b"spawn p\n", b"spawn p\n", lines, b"")?;
     let answers = with_repeats(alloc, b"<0.0.0>\n", b"** badarg\n", lines, b"")?;
     let devices = Devices {
-        most_read: 1,
+        max_read: 1,
         ..GOOD
     };
-    let run = Run { devices, ..usual() };
+    let run = Run {
+        devices,
+        ..usual_run()
+    };
     Ok(is_run(
         alloc,
         &run,
@@ -175,7 +184,10 @@ fn are_names(alloc: Global, count: u32) -> Result<bool, AllocError> {
         tables: 1,
         objects: 1,
     };
-    let run = Run { limits, ..usual() };
+    let run = Run {
+        limits,
+        ..usual_run()
+    };
     Ok(is_run_by(
         alloc,
         &run,

@@ -19,13 +19,13 @@ fn status(alloc: Global, devices: &Devices, words: &[u8]) -> io::Result<(u8, boo
     let mut streams = Streams {
         input: Source {
             left: b"spawn p\n",
-            most: devices.most_read,
+            max: devices.max_read,
             good: devices.good_reads,
             seen: &seen,
         },
         output: Target {
             taken: Vec::new(alloc),
-            most: devices.most_written,
+            max: devices.max_written,
             good: devices.good_writes,
             fails_to_flush: devices.fails_to_flush,
             seen: &seen,
@@ -37,18 +37,18 @@ fn status(alloc: Global, devices: &Devices, words: &[u8]) -> io::Result<(u8, boo
 }
 
 /// Returns whether a fault is reported in these words.
-fn is_told(alloc: Global, fault: &ScriptFault, words: &str) -> Result<bool, AllocError> {
+fn is_reported(alloc: Global, fault: &ScriptFault, words: &str) -> Result<bool, AllocError> {
     Ok(format!(in alloc; "{fault}")?.as_str() == words)
 }
 
 #[test]
 fn faults_in_words(rt: HostRuntime) -> Result<(), Fail> {
     let alloc = rt.alloc();
-    assert!(rt; is_told(alloc, &ScriptFault::Read, "read fault")?);
-    assert!(rt; is_told(alloc, &ScriptFault::Write, "write fault")?);
-    assert!(rt; is_told(alloc, &ScriptFault::Memory, "** nomem")?);
-    assert!(rt; is_told(alloc, &ScriptFault::Differs(7), "differs <0.7.0>")?);
-    assert!(rt; is_told(alloc, &ScriptFault::Missing(4095), "missing <0.4095.0>")?);
+    assert!(rt; is_reported(alloc, &ScriptFault::Read, "read fault")?);
+    assert!(rt; is_reported(alloc, &ScriptFault::Write, "write fault")?);
+    assert!(rt; is_reported(alloc, &ScriptFault::Memory, "** nomem")?);
+    assert!(rt; is_reported(alloc, &ScriptFault::Differs(7), "differs <0.7.0>")?);
+    assert!(rt; is_reported(alloc, &ScriptFault::Missing(4095), "missing <0.4095.0>")?);
     Ok(())
 }
 

@@ -1,5 +1,5 @@
 //! Scripts with their answers: what the calls do is in docs/calls.md.
-use super::{answered, usual};
+use super::{count_answered, usual_run};
 
 #[test]
 fn names_and_tables(rt: HostRuntime) {
@@ -27,7 +27,7 @@ fn names_and_tables(rt: HostRuntime) {
             b"<0.0.0>\nt\ntrue\n<0.1.0>\n** badarg\nt\n",
         ),
     ];
-    assert_eq!(rt; answered(rt.alloc(), &usual(), &rows), rows.len());
+    assert_eq!(rt; count_answered(rt.alloc(), &usual_run(), &rows), rows.len());
 }
 
 #[test]
@@ -58,5 +58,5 @@ fn objects(rt: HostRuntime) {
             b"<0.0.0>\nt\ntrue\n[{'A b',<<104,105>>,[97,98],0}]\n",
         ),
     ];
-    assert_eq!(rt; answered(rt.alloc(), &usual(), &rows), rows.len());
+    assert_eq!(rt; count_answered(rt.alloc(), &usual_run(), &rows), rows.len());
 }

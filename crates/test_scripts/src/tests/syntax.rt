@@ -1,5 +1,5 @@
 //! Lines that are no command, and how lines end.
-use super::{answered, usual};
+use super::{count_answered, usual_run};
 
 #[test]
 fn first_faults(rt: HostRuntime) {
@@ -30,7 +30,7 @@ fn first_faults(rt: HostRuntime) {
             b"** syntax 4\n** syntax 5\n",
         ),
     ];
-    assert_eq!(rt; answered(rt.alloc(), &usual(), &rows), rows.len());
+    assert_eq!(rt; count_answered(rt.alloc(), &usual_run(), &rows), rows.len());
 }
 
 #[test]
@@ -45,5 +45,5 @@ fn ends_of_lines(rt: HostRuntime) {
         (b"p lookup(t,\ra)\n", b"** syntax 11\n"),
         (b"\n\n \t spawn \t p \t\n\n%spawn q\n", b"<0.0.0>\n"),
     ];
-    assert_eq!(rt; answered(rt.alloc(), &usual(), &rows), rows.len());
+    assert_eq!(rt; count_answered(rt.alloc(), &usual_run(), &rows), rows.len());
 }

@@ -19,7 +19,7 @@ struct Row<'a> {
 }
 
 /// With good devices, to its end.
-fn whole<'a>(processes: u32, script: &'a [u8], output: &'a [u8]) -> Row<'a> {
+fn whole_row<'a>(processes: u32, script: &'a [u8], output: &'a [u8]) -> Row<'a> {
     Row {
         devices: GOOD,
         processes,
@@ -34,13 +34,13 @@ fn is_run<T: Threads + Wait + Sync>(rt: &T, alloc: Global, row: &Row<'_>) -> boo
     let mut streams = Streams {
         input: Source {
             left: row.script,
-            most: row.devices.most_read,
+            max: row.devices.max_read,
             good: row.devices.good_reads,
             seen: &seen,
         },
         output: Target {
             taken: Vec::new(alloc),
-            most: row.devices.most_written,
+            max: row.devices.max_written,
             good: row.devices.good_writes,
             fails_to_flush: row.devices.fails_to_flush,
             seen: &seen,
@@ -50,7 +50,10 @@ fn is_run<T: Threads + Wait + Sync>(rt: &T, alloc: Global, row: &Row<'_>) -> boo
         processes: row.processes,
         ..Limits::usual()
     };
-    let settings = NodeSettings { limits, hash: Fnv };
+    let settings = NodeSettings {
+        limits,
+        hasher: Fnv,
+    };
     let end = match run_threads(rt, alloc, &mut streams, settings) {
         Ok(()) => End::Whole,
         Err(fault) => end_at(&fault),
@@ -61,13 +64,13 @@ fn is_run<T: Threads + Wait + Sync>(rt: &T, alloc: Global, row: &Row<'_>) -> boo
 #[test]
 fn no_more_processes_than_the_most(rt: HostRuntime) {
     let rows = [
-        whole(1, b"", b""),
-        whole(
+        whole_row(1, b"", b""),
+        whole_row(
             0,
             b"spawn p\np receive()\n",
             b"** system_limit\n** noproc\n",
         ),
-        whole(
+        whole_row(
             1,
             b"spawn p\nspawn q\nq receive()\n",
             b"** system_limit\n** noproc\np <0.0.0>\n",
@@ -81,14 +84,14 @@ fn no_more_processes_than_the_most(rt: HostRuntime) {
 #[test]
 fn nothing_before_the_end_of_the_input(rt: HostRuntime) {
     let devices = Devices {
-        most_read: 8,
+        max_read: 8,
         good_reads: 1,
         ..GOOD
     };
     let row = Row {
         devices,
         end: End::Read,
-        ..whole(1, b"spawn p\nspawn p\n", b"")
+        ..whole_row(1, b"spawn p\nspawn p\n", b"")
     };
     assert!(rt; is_run(&rt, rt.alloc(), &row));
 }
@@ -96,14 +99,14 @@ fn nothing_before_the_end_of_the_input(rt: HostRuntime) {
 #[test]
 fn a_writer_that_fails(rt: HostRuntime) {
     let devices = Devices {
-        most_written: 3,
+        max_written: 3,
         good_writes: 2,
         ..GOOD
     };
     let row = Row {
         devices,
         end: End::Write,
-        ..whole(1, b"spawn p\n", b"p <0.0")
+        ..whole_row(1, b"spawn p\n", b"p <0.0")
     };
     assert!(rt; is_run(&rt, rt.alloc(), &row));
 }

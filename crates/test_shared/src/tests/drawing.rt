@@ -20,12 +20,12 @@ fn visit<L: Ledger, H: KeyHash + Copy + Drop, R: Wait>(
     shared: &Shared<L, H>,
     pids: &Pids,
     seat: Seat,
-    asked: &Call,
+    request: &Call,
 ) -> Option<Client<L>>
     requires { seat.seat.table_id ≡ pids.now.table.shared.table_id }
 {
     let mut client = shared.client(rt, pids.draw(seat)).ok()?;
-    client.ask(rt, shared, asked).ok()?;
+    client.ask(rt, shared, request).ok()?;
     Some(client)
 }
 
@@ -40,7 +40,7 @@ fn visits<
     pids: &Pids,
     one: Seat,
     other: Seat,
-    asked: &Call,
+    request: &Call,
 ) -> (Option<Client<L>>, Option<Client<L>>)
     requires one { one.seat.table_id ≡ pids.now.table.shared.table_id }
     requires other { other.seat.table_id ≡ pids.now.table.shared.table_id }
@@ -49,10 +49,10 @@ fn visits<
         rt,
         move || -> Option<Client<L>>
             requires { (IsSync R.row) × (one.seat.table_id ≡ pids.now.table.shared.table_id) }
-        { visit(rt, shared, pids, one, asked) },
+        { visit(rt, shared, pids, one, request) },
         move || -> Option<Client<L>>
             requires { (IsSync R.row) × (other.seat.table_id ≡ pids.now.table.shared.table_id) }
-        { visit(rt, shared, pids, other, asked) },
+        { visit(rt, shared, pids, other, request) },
     );
     (one_client, other_client)
 }
@@ -64,8 +64,8 @@ fn visitors<L: Ledger + Send + Sync, R: Threads + Wait + Sync>(
     shared: &Shared<L, Fnv>,
 ) -> Result<Vec<Client<L>>, Fail> {
     let (pids, one, other) = two_seats(alloc)?;
-    let asked = call(alloc, "receive", "[]")?;
-    let (one, other) = visits(rt, shared, &pids, one, other, &asked);
+    let request = call(alloc, "receive", "[]")?;
+    let (one, other) = visits(rt, shared, &pids, one, other, &request);
     both(alloc, one, other)
 }
 

@@ -2,7 +2,7 @@
 // steps.
 ghost use Rattle.std.specs.Prelude.{◌≡◌};
 
-use super::keeper::worked;
+use super::keeper::run_while_keeping;
 use super::{asks, joined, limits};
 use ets_term::AllSame;
 use node_core::Reply;
@@ -30,7 +30,7 @@ fn jobs(alloc: Global) -> Result<Vec<Job>, Fail> {
 }
 
 /// Two clients, after their jobs.
-fn ended<L: Ledger + Send + Sync, R: Threads + Wait + Sync>(
+fn run_two<L: Ledger + Send + Sync, R: Threads + Wait + Sync>(
     rt: &R,
     alloc: Global,
     shared: &Shared<L, AllSame>,
@@ -39,7 +39,7 @@ fn ended<L: Ledger + Send + Sync, R: Threads + Wait + Sync>(
     let second = clients.pop().ok_or("a client")?;
     let first = clients.pop().ok_or("a client")?;
     let work = vec![in alloc; (first, jobs(alloc)?), (second, jobs(alloc)?)]?;
-    worked(rt, alloc, shared, work)
+    run_while_keeping(rt, alloc, shared, work)
 }
 
 /// Returns whether the process is let in, asks three calls and ends, and all that it asks then has the reply
@@ -63,7 +63,7 @@ fn two_end<L: Ledger + Send + Sync, R: Threads + Wait + Sync>(
     requires enough { blank.parts ≡ 3 }
 {
     let shared = Shared::<L, AllSame>::new(alloc, blank, limits(2), AllSame);
-    let clients = ended(rt, alloc, &shared)?;
+    let clients = run_two(rt, alloc, &shared)?;
     let transcript = close(shared, clients).map_err(|_| "close")?;
     Ok(is_silent(transcript.of(0)?.as_slice()) && is_silent(transcript.of(1)?.as_slice()))
 }

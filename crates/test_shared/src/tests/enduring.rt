@@ -1,7 +1,7 @@
 // Eight clients with twenty thousand jobs each, on tables that grow, with ends and heirs among them.
 ghost use Rattle.std.specs.Prelude.{◌≡◌};
 
-use super::keeper::worked;
+use super::keeper::run_while_keeping;
 use super::{call, joined, limits};
 use ets_term::Fnv;
 use node_shared::{Client, Job, Shared, close};
@@ -83,7 +83,7 @@ fn steps_of_eight<L: Ledger + Send + Sync, R: Threads + Wait + Sync>(
 {
     let shared = Shared::<L, Fnv>::new(alloc, blank, limits(8), Fnv);
     let work = eight(rt, alloc, &shared)?;
-    let clients = worked(rt, alloc, &shared, work)?;
+    let clients = run_while_keeping(rt, alloc, &shared, work)?;
     let transcript = close(shared, clients).map_err(|_| "close")?;
     Ok(transcript.entries.len())
 }

@@ -36,7 +36,7 @@ fn a_number_joins_once(rt: HostRuntime) {
 }
 
 /// The number that comes back where the second client is refused by the limit.
-fn refused<L: Ledger, R: Wait>(
+fn refused_number<L: Ledger, R: Wait>(
     rt: &R,
     alloc: Global,
     shared: &Shared<L, Fnv>,
@@ -58,7 +58,7 @@ fn second_of_one<L: Ledger, R: Wait>(
     requires parts { blank.parts ≡ L.parts }
     requires enough { blank.parts ≡ 2 }
 {
-    refused(
+    refused_number(
         rt,
         alloc,
         &Shared::<L, Fnv>::new(alloc, blank, limits(1), Fnv),
@@ -100,7 +100,7 @@ fn fault_without_the_first<L: Ledger, R: Wait>(
 }
 
 #[test]
-fn a_client_that_is_missing_is_told(rt: HostRuntime) -> Result<(), Fail> {
+fn a_missing_client_is_reported(rt: HostRuntime) -> Result<(), Fail> {
     let fault = fault_without_the_first::<Brand, _>(&rt, rt.alloc(), Blank::new(3))?;
     assert_eq!(rt; fault, Some(CloseFault::Missing(0)));
     Ok(())

@@ -39,7 +39,7 @@ fn keep_until<L: Ledger, H: KeyHash + Copy + Drop, R: Wait>(
 }
 
 /// The clients, after all their jobs. The steps that are pending then are run, too.
-pub(super) fn worked<
+pub(super) fn run_while_keeping<
     L: Ledger + Send + Sync,
     H: KeyHash + Copy + Drop + Send + Sync,
     R: Threads + Wait + Sync,

@@ -36,7 +36,7 @@ fn fill<L: Ledger, R: Wait>(
 }
 
 /// Returns how many pending steps are done in 3, 9 and 9 turns, and then in 9 turns for another table.
-fn kept<L: Ledger, R: Wait>(
+fn keep_in_turns<L: Ledger, R: Wait>(
     rt: &R,
     alloc: Global,
     shared: &Shared<L, Fnv>,
@@ -56,7 +56,7 @@ fn due_steps<L: Ledger, R: Wait>(rt: &R, alloc: Global, blank: Blank) -> Result<
     requires parts { blank.parts ≡ L.parts }
     requires enough { blank.parts ≡ 2 }
 {
-    kept(
+    keep_in_turns(
         rt,
         alloc,
         &Shared::<L, Fnv>::new(alloc, blank, limits(1), Fnv),

@@ -96,7 +96,7 @@ fn is_last<L: Ledger>(alloc: Global, client: &Client<L>, wanted: &str) -> Result
 }
 
 /// The clients, after the first has read what the second inserted meanwhile.
-fn met<L: Ledger + Send + Sync, R: Threads + Wait + Sync>(
+fn run_meeting<L: Ledger + Send + Sync, R: Threads + Wait + Sync>(
     rt: &R,
     alloc: Global,
     shared: &Shared<L, Fnv>,
@@ -123,7 +123,7 @@ fn two_meet<L: Ledger + Send + Sync, R: Threads + Wait + Sync>(
     requires enough { blank.parts ≡ 3 }
 {
     let shared = Shared::<L, Fnv>::new(alloc, blank, limits(2), Fnv);
-    let clients = met(rt, alloc, &shared)?;
+    let clients = run_meeting(rt, alloc, &shared)?;
     entries_of(shared, clients, 0)
 }
 

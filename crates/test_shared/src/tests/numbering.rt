@@ -94,7 +94,7 @@ fn more_for_each<L: Ledger>(
 }
 
 /// Runs four clients, and notes each call of `Gate`.
-fn run_noted<L: Ledger + Send + Sync, R: Threads + Wait + Sync>(
+fn run_with_log<L: Ledger + Send + Sync, R: Threads + Wait + Sync>(
     rt: &R,
     alloc: Global,
     shared: &Shared<L, Fnv>,
@@ -106,7 +106,7 @@ fn run_noted<L: Ledger + Send + Sync, R: Threads + Wait + Sync>(
 }
 
 /// Returns the calls of `Gate`, and the number of entries of the last client.
-fn noted<L: Ledger + Send + Sync, R: Threads + Wait + Sync>(
+fn log_of_four<L: Ledger + Send + Sync, R: Threads + Wait + Sync>(
     rt: &R,
     alloc: Global,
     blank: Blank,
@@ -117,13 +117,13 @@ fn noted<L: Ledger + Send + Sync, R: Threads + Wait + Sync>(
 {
     let shared = Shared::<L, Fnv>::new(alloc, blank, limits(4), Fnv);
     let log = Log::new();
-    let clients = run_noted(rt, alloc, &shared, &log)?;
+    let clients = run_with_log(rt, alloc, &shared, &log)?;
     Ok((log.digits(), entries_of(shared, clients, 3)?))
 }
 
 #[test]
 fn the_gate_is_called_before_and_after_each_job(rt: HostRuntime) -> Result<(), Fail> {
-    let (calls, entries) = noted::<Brand, _>(&rt, rt.alloc(), Blank::new(5))?;
+    let (calls, entries) = log_of_four::<Brand, _>(&rt, rt.alloc(), Blank::new(5))?;
     assert_eq!(rt; calls, [12, 1_234, 123_456, 12_345_678, 0]);
     assert_eq!(rt; entries, 5);
     Ok(())

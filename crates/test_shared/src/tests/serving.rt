@@ -5,7 +5,7 @@ ghost use Rattle.std.specs.Thread.{IsSync};
 use super::{call, limits, two_seats};
 use ets_term::{Fnv, Integer, KeyHash, Term};
 use node_core::{Call, Limits, Reply};
-use node_shared::{Caller, Drawn, JoinFault, Opening, Room, Server};
+use node_shared::{Caller, Drawn, HistoryId, JoinFault, NewHistory, Server};
 use std::alloc::Global;
 use std::marker::Brand;
 use std::sync::Wait;
@@ -25,14 +25,14 @@ const OTHER: [&str; 2] = [
 ];
 
 /// Draws two numbers.
-fn drawn(alloc: Global) -> Result<(Drawn, Drawn), Fail> {
+fn draw_two(alloc: Global) -> Result<(Drawn, Drawn), Fail> {
     let (pids, one, other) = two_seats(alloc)?;
     let one = pids.draw(one);
     Ok((one, pids.draw(other)))
 }
 
 /// The caller makes a table, and gives it nine objects.
-fn fill<B: Room, R: Wait>(
+fn fill<B: HistoryId, R: Wait>(
     rt: &R,
     alloc: Global,
     server: &Server<B, Fnv>,
@@ -46,7 +46,7 @@ fn fill<B: Room, R: Wait>(
 }
 
 /// Returns whether four steps are pending after nine insertions: three turns leave one, and nine turns none.
-fn is_kept<B: Room, R: Wait>(
+fn is_kept<B: HistoryId, R: Wait>(
     rt: &R,
     alloc: Global,
     server: &Server<B, Fnv>,
@@ -59,7 +59,7 @@ fn is_kept<B: Room, R: Wait>(
 }
 
 /// Returns whether the process asks in vain once it has ended.
-fn is_silent<B: Room, R: Wait>(
+fn is_silent<B: HistoryId, R: Wait>(
     rt: &R,
     alloc: Global,
     server: &Server<B, Fnv>,
@@ -71,7 +71,7 @@ fn is_silent<B: Room, R: Wait>(
 }
 
 /// Returns whether the server refuses to start the process of a number, since there are as many as the limit allows.
-fn is_past_the_limit<B: Room, R: Wait>(rt: &R, server: &Server<B, Fnv>, drawn: Drawn) -> bool {
+fn is_past_the_limit<B: HistoryId, R: Wait>(rt: &R, server: &Server<B, Fnv>, drawn: Drawn) -> bool {
     let joined = server.client(rt, drawn);
     let is_past = matches!(&joined, Err(JoinFault::Refused(Reply::SystemLimit, _)));
     drop(joined);
@@ -79,7 +79,7 @@ fn is_past_the_limit<B: Room, R: Wait>(rt: &R, server: &Server<B, Fnv>, drawn: D
 }
 
 /// Returns whether pending steps are done, a second process is refused, and a process that has ended asks in vain.
-fn is_asked<B: Room, R: Wait>(
+fn is_asked<B: HistoryId, R: Wait>(
     rt: &R,
     alloc: Global,
     server: &Server<B, Fnv>,
@@ -92,20 +92,20 @@ fn is_asked<B: Room, R: Wait>(
 }
 
 /// Returns whether it is so of a server with these limits.
-fn is_served<B: Room, R: Wait>(
+fn is_served<B: HistoryId, R: Wait>(
     rt: &R,
     alloc: Global,
-    opening: Opening,
+    history: NewHistory,
     limits: Limits,
     drawn: (Drawn, Drawn),
 ) -> Result<bool, Fail>
-    requires table { opening.word.shared.table_id ≡ B.table }
+    requires table { history.word.shared.table_id ≡ B.table }
     requires limits { limits ≡ B.limits }
 {
     is_asked(
         rt,
         alloc,
-        &Server::<B, Fnv>::new(alloc, opening, limits, Fnv),
+        &Server::<B, Fnv>::new(alloc, history, limits, Fnv),
         drawn,
     )
 }
@@ -113,14 +113,14 @@ fn is_served<B: Room, R: Wait>(
 #[test]
 fn a_server_does_what_is_asked_and_due(rt: HostRuntime) -> Result<(), Fail> {
     let alloc = rt.alloc();
-    let drawn = drawn(alloc)?;
-    let opening = Opening::new(alloc)?;
-    assert!(rt; is_served::<Brand, _>(&rt, alloc, opening, limits(1), drawn)?);
+    let drawn = draw_two(alloc)?;
+    let history = NewHistory::new(alloc)?;
+    assert!(rt; is_served::<Brand, _>(&rt, alloc, history, limits(1), drawn)?);
     Ok(())
 }
 
 /// The callers of two numbers.
-fn two_callers<B: Room, R: Wait>(
+fn two_callers<B: HistoryId, R: Wait>(
     rt: &R,
     alloc: Global,
     server: &Server<B, Fnv>,
@@ -143,7 +143,7 @@ fn insertions(alloc: Global, first: u32) -> Result<Vec<Call>, Fail> {
 }
 
 /// The caller, once it has asked all these calls.
-fn asked_all<B: Room, H: KeyHash + Copy + Drop, R: Wait>(
+fn ask_all<B: HistoryId, H: KeyHash + Copy + Drop, R: Wait>(
     rt: &R,
     server: &Server<B, H>,
     mut caller: Caller<B>,
@@ -156,7 +156,7 @@ fn asked_all<B: Room, H: KeyHash + Copy + Drop, R: Wait>(
 }
 
 /// Two callers ask at once, each in a thread of its own.
-fn both_ask<B: Room + Send, H: KeyHash + Copy + Drop + Send + Sync, R: Threads + Wait + Sync>(
+fn both_ask<B: HistoryId + Send, H: KeyHash + Copy + Drop + Send + Sync, R: Threads + Wait + Sync>(
     rt: &R,
     server: &Server<B, H>,
     one: (Caller<B>, Vec<Call>),
@@ -168,16 +168,16 @@ fn both_ask<B: Room + Send, H: KeyHash + Copy + Drop + Send + Sync, R: Threads +
         rt,
         move || -> Option<Caller<B>>
             requires { IsSync R.row }
-        { asked_all(rt, server, one, calls) },
+        { ask_all(rt, server, one, calls) },
         move || -> Option<Caller<B>>
             requires { IsSync R.row }
-        { asked_all(rt, server, other, others) },
+        { ask_all(rt, server, other, others) },
     );
     (one_caller, other_caller)
 }
 
 /// How many objects there are once two callers have inserted fifty each.
-fn objects_of_both<B: Room + Send, R: Threads + Wait + Sync>(
+fn objects_of_both<B: HistoryId + Send, R: Threads + Wait + Sync>(
     rt: &R,
     alloc: Global,
     server: &Server<B, Fnv>,
@@ -193,26 +193,26 @@ fn objects_of_both<B: Room + Send, R: Threads + Wait + Sync>(
     }
 }
 
-fn is_shared<B: Room + Send, R: Threads + Wait + Sync>(
+fn is_shared<B: HistoryId + Send, R: Threads + Wait + Sync>(
     rt: &R,
     alloc: Global,
-    opening: Opening,
+    history: NewHistory,
     limits: Limits,
 ) -> Result<Option<Integer>, Fail>
-    requires table { opening.word.shared.table_id ≡ B.table }
+    requires table { history.word.shared.table_id ≡ B.table }
     requires limits { limits ≡ B.limits }
 {
     objects_of_both(
         rt,
         alloc,
-        &Server::<B, Fnv>::new(alloc, opening, limits, Fnv),
+        &Server::<B, Fnv>::new(alloc, history, limits, Fnv),
     )
 }
 
 #[test]
 fn two_callers_insert_at_once(rt: HostRuntime) -> Result<(), Fail> {
-    let opening = Opening::new(rt.alloc())?;
-    let objects = is_shared::<Brand, _>(&rt, rt.alloc(), opening, limits(2))?;
+    let history = NewHistory::new(rt.alloc())?;
+    let objects = is_shared::<Brand, _>(&rt, rt.alloc(), history, limits(2))?;
     assert_eq!(rt; objects, Some(100));
     Ok(())
 }

@@ -1,14 +1,14 @@
 use Rattle.std.proofs.Common.{arith, ap, codes, List, map, refl, subst}
 use Rattle.clap.specs.Words.{App, Row, app_of, fault_of}
 use Rattle.ets_script.specs.CommandLine.{Asks, command_line}
-use Rattle.ets_script.proofs.CommandLine.{answered, faults, has_number, lacks_memory, refused, rows, unanswered}
+use Rattle.ets_script.proofs.CommandLine.{parse-no_fault, faults, has_number, lacks-memory, parse-fault, rows, unanswered}
 use Rattle.ets_script.proofs.command_line.settings.Goals as goal
 
 pub returns-in_err-settings_command : goal.returns-in_err-settings_command
 returns-in_err-settings_command g c =
     let given = c.settings_command.ensures in
     let told = c.from_residual.ensures.1 in
-    record { hashes = given.0; names = given.1; faults = lacks_memory _ c.from_residual.result told; settings = unanswered _ _ c.from_residual.result told }
+    record { hashes = given.0; names = given.1; faults = lacks-memory _ c.from_residual.result told; settings = unanswered _ _ c.from_residual.result told }
 
 pub returns-in_err-matches : goal.returns-in_err-matches
 returns-in_err-matches g c =
@@ -20,7 +20,7 @@ returns-in_err-matches g c =
     record {
       hashes = given.0;
       names = given.1;
-      faults = refused (fault_of (command_line given.0) words) c.try_get_matches_from.result c.in_err-matches.field-0.0 c.from_residual-in_err-matches.result known c.in_err-matches.was told;
+      faults = parse-fault (fault_of (command_line given.0) words) c.try_get_matches_from.result c.in_err-matches.field-0.0 c.from_residual-in_err-matches.result known c.in_err-matches.was told;
       settings = unanswered _ _ c.from_residual-in_err-matches.result told;
     }
 
@@ -36,6 +36,6 @@ returns g c =
     record {
       hashes = given.0;
       names = given.1;
-      faults = answered _ c.try_get_matches_from.result matches known c.in_ok-matches.was;
-      settings = subst (λ (rs : List Row). Asks rs c.asked_settings.result) found (c.asked_settings.ensures objects);
+      faults = parse-no_fault _ c.try_get_matches_from.result matches known c.in_ok-matches.was;
+      settings = subst (λ (rs : List Row). Asks rs c.settings_of.result) found (c.settings_of.ensures objects);
     }

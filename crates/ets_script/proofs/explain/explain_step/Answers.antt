@@ -2,7 +2,7 @@ use Rattle.std.proofs.Common.{rules, ◌≡◌, ◌∙◌, sym, ap, subst, None,
 use Rattle.std.specs.Option.{option_map}
 use Rattle.node_core.specs.Machine.{step}
 use Rattle.node_reasons.specs.Why.{why}
-use Rattle.script_reasons.specs.declared.remark.Remark.TheVariants.{Broken}
+use Rattle.script_reasons.specs.declared.diagnostic.Diagnostic.TheVariants.{Broken}
 use Rattle.ets_script.proofs.explain.explain_step.Goals as goal
 
 pub returns-in_err-reason : goal.returns-in_err-reason

@@ -1,7 +1,7 @@
 use Rattle.std.proofs.Common.{◌≡◌, ◌+◌, drop, get_or, flat_map, rules}
 use Rattle.std.proofs.lemmas.Result.{err_from_is_err_and}
 use Rattle.ets_script.specs.Threads.{entry_text}
-use Rattle.ets_script.proofs.Printing.{printed_more, printed_broken, items_at}
+use Rattle.ets_script.proofs.Printing.{printed-more, printed-broken, items-at}
 use Rattle.ets_script.proofs.journal.print_entries.Goals as goal
 
 pub returns-in_err-print_entry-clause-err : goal.returns-in_err-print_entry-clause-err
@@ -12,8 +12,8 @@ returns-in_err-print_entry-clause-err g c =
     let x = c.entry-item.result in
     let same : get_or ts l.entry-index x ≡ x = search rules in
     rw (err_from_is_err_and c.from_residual.result c.from_residual.ensures.1).1
-    (printed_broken (g.W.Write.contents c.args.writer.now) (g.W.Write.contents l.writer) (g.W.Write.contents c.print_entry.new.writer) c.args.pending.now (flat_map f ts) l.pending (flat_map f (drop l.entry-index ts)) (f x) (flat_map f (drop (l.entry-index + 1) ts)) l.invariant
-    (items_at f ts l.entry-index x c.loop-entry-test.true same) c.in_err-print_entry.ensures.err)
+    (printed-broken (g.W.Write.contents c.args.writer.now) (g.W.Write.contents l.writer) (g.W.Write.contents c.print_entry.new.writer) c.args.output.now (flat_map f ts) l.output (flat_map f (drop l.entry-index ts)) (f x) (flat_map f (drop (l.entry-index + 1) ts)) l.invariant
+    (items-at f ts l.entry-index x c.loop-entry-test.true same) c.in_err-print_entry.ensures.err)
 
 pub loop-entry-preserved : goal.loop-entry-preserved
 loop-entry-preserved g c =
@@ -22,5 +22,5 @@ loop-entry-preserved g c =
     let f = entry_text c.args.names.now in
     let x = c.entry-item.result in
     let same : get_or ts l.entry-index x ≡ x = search rules in
-    printed_more (g.W.Write.contents c.args.writer.now) (g.W.Write.contents l.writer) (g.W.Write.contents c.print_entry.new.writer) c.args.pending.now (flat_map f ts) l.pending c.print_entry.new.pending (flat_map f (drop l.entry-index ts)) (f x) (flat_map f (drop (l.entry-index + 1) ts)) l.invariant
-    (items_at f ts l.entry-index x c.loop-entry-test.true same) c.in_ok-print_entry.ensures.ok
+    printed-more (g.W.Write.contents c.args.writer.now) (g.W.Write.contents l.writer) (g.W.Write.contents c.print_entry.new.writer) c.args.output.now (flat_map f ts) l.output c.print_entry.new.output (flat_map f (drop l.entry-index ts)) (f x) (flat_map f (drop (l.entry-index + 1) ts)) l.invariant
+    (items-at f ts l.entry-index x c.loop-entry-test.true same) c.in_ok-print_entry.ensures.ok

@@ -5,4 +5,4 @@ use Rattle.ets_script.proofs.journal.print_entries.Given as goal
 
 abbrev pub invariant-loop-entry : goal.invariant-loop-entry
 invariant-loop-entry g l =
-    Printed (g.W.Write.contents l.initial.writer) l.initial.pending (flat_map (entry_text l.names) l.entries) (g.W.Write.contents l.writer) l.pending (flat_map (entry_text l.names) (drop l.entry-index l.entries))
+    Printed (g.W.Write.contents l.initial.writer) l.initial.output (flat_map (entry_text l.names) l.entries) (g.W.Write.contents l.writer) l.output (flat_map (entry_text l.names) (drop l.entry-index l.entries))

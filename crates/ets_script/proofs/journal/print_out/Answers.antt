@@ -1,19 +1,19 @@
 use Rattle.std.proofs.lemmas.Result.{err_from_is_err_and}
 use Rattle.ets_script.specs.inside.Journal.{out_text}
-use Rattle.ets_script.proofs.Printing.{out_ok, out_err, out_broken}
+use Rattle.ets_script.proofs.Printing.{out-ok, out-err, out-broken}
 use Rattle.ets_script.proofs.journal.print_out.Goals as goal
 
 pub returns-in_err-print_all-clause-err : goal.returns-in_err-print_all-clause-err
 returns-in_err-print_all-clause-err g c =
     rw (err_from_is_err_and c.from_residual.result c.from_residual.ensures.1).1
-    (out_broken (g.W.Write.contents c.args.writer.now) (g.W.Write.contents c.print_all.new.writer) c.args.pending.now (out_text c.args.known.now c.args.ran.now) c.requires.waiting c.in_err-print_all.ensures.err)
+    (out-broken (g.W.Write.contents c.args.writer.now) (g.W.Write.contents c.print_all.new.writer) c.args.output.now (out_text c.args.planned.now c.args.run.now) c.requires.waiting c.in_err-print_all.ensures.err)
 
 pub returns-clause-ok : goal.returns-clause-ok
 returns-clause-ok g c =
-    out_ok c.flush.result (g.W.Write.contents c.args.writer.now) (g.W.Write.contents c.print_all.new.writer) (g.W.Write.contents c.flush.new.writer) c.args.pending.now (out_text c.args.known.now c.args.ran.now) c.print_all.new.pending c.flush.new.self
+    out-ok c.flush.result (g.W.Write.contents c.args.writer.now) (g.W.Write.contents c.print_all.new.writer) (g.W.Write.contents c.flush.new.writer) c.args.output.now (out_text c.args.planned.now c.args.run.now) c.print_all.new.output c.flush.new.self
     c.requires.waiting c.in_ok-print_all.ensures.ok c.flush.ensures.ok c.flush.ensures.empty
 
 pub returns-clause-err : goal.returns-clause-err
 returns-clause-err g c =
-    out_err c.flush.result (g.W.Write.contents c.args.writer.now) (g.W.Write.contents c.print_all.new.writer) (g.W.Write.contents c.flush.new.writer) c.args.pending.now (out_text c.args.known.now c.args.ran.now) c.print_all.new.pending
+    out-err c.flush.result (g.W.Write.contents c.args.writer.now) (g.W.Write.contents c.print_all.new.writer) (g.W.Write.contents c.flush.new.writer) c.args.output.now (out_text c.args.planned.now c.args.run.now) c.print_all.new.output
     c.requires.waiting c.in_ok-print_all.ensures.ok c.flush.ensures.err

@@ -3,7 +3,7 @@ use Rattle.std.proofs.lemmas.List.{append-nil, nil_from_length}
 use Rattle.std.specs.Vec.Iter.{into_iter_items}
 use Rattle.node_shared.specs.declared.job.Job.{Job}
 use Rattle.ets_script.specs.inside.Processes.{AreEnrolled, IsNew}
-use Rattle.ets_script.proofs.Clients.{enrolled_then}
+use Rattle.ets_script.proofs.Clients.{enrolled-then}
 use Rattle.ets_script.proofs.processes.enrol_each.Goals as goal
 
 pub loop-own-init : goal.loop-own-init
@@ -26,7 +26,7 @@ loop-own-preserved g c =
       all = append_assoc at.yielded (own ∷ []) _ ∙ rw (← steps) at.invariant.all;
       len = omega (arith, at.invariant.len, gone, short);
       done = rw c.in_ok-push.ensures.items
-          (enrolled_then 0 at.yielded at.work.items own (c.in_ok-client.client, c.into_vec.result) at.invariant.done (subst (λ n. IsNew n c.in_ok-client.client) counted c.in_ok-client.ensures) c.into_vec.ensures);
+          (enrolled-then 0 at.yielded at.work.items own (c.in_ok-client.client, c.into_vec.result) at.invariant.done (subst (λ n. IsNew n c.in_ok-client.client) counted c.in_ok-client.ensures) c.into_vec.ensures);
       counted = omega (arith, at.invariant.counted, length-append at.yielded (own ∷ []), one, pushed);
       seats = c.draw.ensures;
     }

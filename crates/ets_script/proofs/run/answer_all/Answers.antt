@@ -1,25 +1,25 @@
 use Rattle.std.proofs.Common.{◌≡◌, ℕ, drop, sym, subst}
 use Rattle.std.proofs.lemmas.Result.{err_from_is_err_and}
-use Rattle.ets_script.specs.Script.{Scripted}
-use Rattle.ets_script.proofs.HeldLines.{ended}
-use Rattle.ets_script.proofs.Progress.{Progress, nothing_yet, answered_line, read_on}
-use Rattle.ets_script.proofs.ScriptEnds.{broken_line, flush_broken, read_broken, completed, end_broken}
+use Rattle.ets_script.specs.Script.{ScriptState}
+use Rattle.ets_script.proofs.BufferedLines.{refill-end}
+use Rattle.ets_script.proofs.Progress.{Progress, progress-start, progress-line, progress-read}
+use Rattle.ets_script.proofs.ScriptEnds.{broken-line, flush-broken, read-broken, script-completes, end-broken}
 use Rattle.ets_script.proofs.run.answer_all.Goals as goal
 
 pub loop-next-init : goal.loop-next-init
-loop-next-init g c = nothing_yet c.args.script.now c.args.feed.now (g.R.Read.remaining c.args.streams.now.input) c.args.pending.now (g.W.Write.contents c.args.streams.now.output) c.requires.waiting c.requires.held.0 c.requires.held.1
+loop-next-init g c = progress-start c.args.script.now c.args.buffer.now (g.R.Read.remaining c.args.streams.now.input) c.args.output.now (g.W.Write.contents c.args.streams.now.output) c.requires.waiting c.requires.held.0 c.requires.held.1
 
 pub returns-in_err-flush-clause-err : goal.returns-in_err-flush-clause-err
 returns-in_err-flush-clause-err g c =
     let p = err_from_is_err_and c.from_residual.result c.from_residual.ensures.1 in
     let l = c.loop-next in
-    rw (p.1, p.2) (flush_broken c.args.script.now l.script (g.R.Read.remaining c.args.streams.now.input) (g.W.Write.contents c.args.streams.now.output) (g.W.Write.contents l.streams.output) (g.W.Write.contents c.flush.new.writer) l.feed (g.R.Read.remaining l.streams.input) l.pending l.invariant c.in_err-flush.ensures.err)
+    rw (p.1, p.2) (flush-broken c.args.script.now l.script (g.R.Read.remaining c.args.streams.now.input) (g.W.Write.contents c.args.streams.now.output) (g.W.Write.contents l.streams.output) (g.W.Write.contents c.flush.new.writer) l.buffer (g.R.Read.remaining l.streams.input) l.output l.invariant c.in_err-flush.ensures.err)
 
 pub returns-in_err-refill-clause-err : goal.returns-in_err-refill-clause-err
 returns-in_err-refill-clause-err g c =
     let p = err_from_is_err_and c.from_residual-in_err-refill.result c.from_residual-in_err-refill.ensures.1 in
     let l = c.loop-next in
-    rw (p.1, p.2) (read_broken c.args.script.now l.script (g.R.Read.remaining c.args.streams.now.input) (g.W.Write.contents c.args.streams.now.output) (g.W.Write.contents l.streams.output) (g.W.Write.contents c.flush.new.writer) l.feed c.skip_long.new.self (g.R.Read.remaining l.streams.input) (g.R.Read.remaining c.refill.new.reader) l.pending c.flush.new.self
+    rw (p.1, p.2) (read-broken c.args.script.now l.script (g.R.Read.remaining c.args.streams.now.input) (g.W.Write.contents c.args.streams.now.output) (g.W.Write.contents l.streams.output) (g.W.Write.contents c.flush.new.writer) l.buffer c.skip_long.new.self (g.R.Read.remaining l.streams.input) (g.R.Read.remaining c.refill.new.reader) l.output c.flush.new.self
     l.invariant c.in_default.ensures.0 c.in_ok-flush.ensures.ok c.in_ok-flush.ensures.empty c.skip_long.ensures c.in_err-refill.ensures.err.0)
 
 pub returns-in_err-answer_last-clause-err : goal.returns-in_err-answer_last-clause-err
@@ -30,10 +30,10 @@ returns-in_err-answer_last-clause-err g c =
     let left = g.R.Read.remaining c.refill.new.reader in
     let old = g.W.Write.contents c.args.streams.now.output in
     let w = g.W.Write.contents c.flush.new.writer in
-    let going = read_on c.args.script.now l.script before old (g.W.Write.contents l.streams.output) w l.feed c.skip_long.new.self c.refill.new.self (g.R.Read.remaining l.streams.input) left l.pending c.flush.new.self c.in_ok-refill.field-0 l.invariant c.in_default.ensures.0 c.in_ok-flush.ensures.ok c.skip_long.ensures c.in_ok-refill.ensures.ok in
-    let now = subst (λ (s : Scripted). Progress c.args.script.now before old c.refill.new.self left c.flush.new.self w s) (sym c.in_default.ensures.1) going in
-    rw (p.1, p.2) (end_broken c.args.script.now c.answer_next.new.script c.answer_last.new.script before old w (g.W.Write.contents c.answer_last.new.writer) c.refill.new.self left c.flush.new.self now
-    (ended l.feed c.skip_long.new.self c.refill.new.self (g.R.Read.remaining l.streams.input) left c.in_ok-refill.field-0 c.in_default.ensures.0 c.skip_long.ensures c.in_ok-refill.ensures.ok c.if-branch-eq0.true) c.in_err-answer_last.ensures.err)
+    let going = progress-read c.args.script.now l.script before old (g.W.Write.contents l.streams.output) w l.buffer c.skip_long.new.self c.refill.new.self (g.R.Read.remaining l.streams.input) left l.output c.flush.new.self c.in_ok-refill.field-0 l.invariant c.in_default.ensures.0 c.in_ok-flush.ensures.ok c.skip_long.ensures c.in_ok-refill.ensures.ok in
+    let now = subst (λ (s : ScriptState). Progress c.args.script.now before old c.refill.new.self left c.flush.new.self w s) (sym c.in_default.ensures.1) going in
+    rw (p.1, p.2) (end-broken c.args.script.now c.answer_next.new.script c.answer_last.new.script before old w (g.W.Write.contents c.answer_last.new.writer) c.refill.new.self left c.flush.new.self now
+    (refill-end l.buffer c.skip_long.new.self c.refill.new.self (g.R.Read.remaining l.streams.input) left c.in_ok-refill.field-0 c.in_default.ensures.0 c.skip_long.ensures c.in_ok-refill.ensures.ok c.if-branch-eq0.true) c.in_err-answer_last.ensures.err)
 
 pub returns-then-branch-eq0-clause-ok : goal.returns-then-branch-eq0-clause-ok
 returns-then-branch-eq0-clause-ok g c =
@@ -42,10 +42,10 @@ returns-then-branch-eq0-clause-ok g c =
     let left = g.R.Read.remaining c.refill.new.reader in
     let old = g.W.Write.contents c.args.streams.now.output in
     let w = g.W.Write.contents c.flush.new.writer in
-    let going = read_on c.args.script.now l.script before old (g.W.Write.contents l.streams.output) w l.feed c.skip_long.new.self c.refill.new.self (g.R.Read.remaining l.streams.input) left l.pending c.flush.new.self c.in_ok-refill.field-0 l.invariant c.in_default.ensures.0 c.in_ok-flush.ensures.ok c.skip_long.ensures c.in_ok-refill.ensures.ok in
-    let now = subst (λ (s : Scripted). Progress c.args.script.now before old c.refill.new.self left c.flush.new.self w s) (sym c.in_default.ensures.1) going in
-    completed c.args.script.now c.answer_next.new.script c.answer_last.new.script before old w (g.W.Write.contents c.answer_last.new.writer) c.refill.new.self left c.flush.new.self now
-    (ended l.feed c.skip_long.new.self c.refill.new.self (g.R.Read.remaining l.streams.input) left c.in_ok-refill.field-0 c.in_default.ensures.0 c.skip_long.ensures c.in_ok-refill.ensures.ok c.if-branch-eq0.true) c.in_ok-answer_last.ensures.ok
+    let going = progress-read c.args.script.now l.script before old (g.W.Write.contents l.streams.output) w l.buffer c.skip_long.new.self c.refill.new.self (g.R.Read.remaining l.streams.input) left l.output c.flush.new.self c.in_ok-refill.field-0 l.invariant c.in_default.ensures.0 c.in_ok-flush.ensures.ok c.skip_long.ensures c.in_ok-refill.ensures.ok in
+    let now = subst (λ (s : ScriptState). Progress c.args.script.now before old c.refill.new.self left c.flush.new.self w s) (sym c.in_default.ensures.1) going in
+    script-completes c.args.script.now c.answer_next.new.script c.answer_last.new.script before old w (g.W.Write.contents c.answer_last.new.writer) c.refill.new.self left c.flush.new.self now
+    (refill-end l.buffer c.skip_long.new.self c.refill.new.self (g.R.Read.remaining l.streams.input) left c.in_ok-refill.field-0 c.in_default.ensures.0 c.skip_long.ensures c.in_ok-refill.ensures.ok c.if-branch-eq0.true) c.in_ok-answer_last.ensures.ok
 
 pub loop-next-preserved-in_default : goal.loop-next-preserved-in_default
 loop-next-preserved-in_default g c =
@@ -54,21 +54,21 @@ loop-next-preserved-in_default g c =
     let left = g.R.Read.remaining c.refill.new.reader in
     let old = g.W.Write.contents c.args.streams.now.output in
     let w = g.W.Write.contents c.flush.new.writer in
-    let going = read_on c.args.script.now l.script before old (g.W.Write.contents l.streams.output) w l.feed c.skip_long.new.self c.refill.new.self (g.R.Read.remaining l.streams.input) left l.pending c.flush.new.self c.in_ok-refill.field-0 l.invariant c.in_default.ensures.0 c.in_ok-flush.ensures.ok c.skip_long.ensures c.in_ok-refill.ensures.ok in
-    subst (λ (s : Scripted). Progress c.args.script.now before old c.refill.new.self left c.flush.new.self w s) (sym c.in_default.ensures.1) going
+    let going = progress-read c.args.script.now l.script before old (g.W.Write.contents l.streams.output) w l.buffer c.skip_long.new.self c.refill.new.self (g.R.Read.remaining l.streams.input) left l.output c.flush.new.self c.in_ok-refill.field-0 l.invariant c.in_default.ensures.0 c.in_ok-flush.ensures.ok c.skip_long.ensures c.in_ok-refill.ensures.ok in
+    subst (λ (s : ScriptState). Progress c.args.script.now before old c.refill.new.self left c.flush.new.self w s) (sym c.in_default.ensures.1) going
 
 pub returns-in_err-print_line-clause-err : goal.returns-in_err-print_line-clause-err
 returns-in_err-print_line-clause-err g c =
     let p = err_from_is_err_and c.from_residual-in_err-print_line.result c.from_residual-in_err-print_line.ensures.1 in
     let l = c.loop-next in
     let n = c.in-Some.ensures in
-    rw (p.1, p.2) (broken_line c.args.script.now l.script c.answer_next.new.script (g.R.Read.remaining c.args.streams.now.input) (g.W.Write.contents c.args.streams.now.output) (g.W.Write.contents l.streams.output) (g.W.Write.contents c.print_line.new.writer) l.feed (g.R.Read.remaining l.streams.input) l.pending c.in-Some.next.taken n.line c.in-Some.next.answer
+    rw (p.1, p.2) (broken-line c.args.script.now l.script c.answer_next.new.script (g.R.Read.remaining c.args.streams.now.input) (g.W.Write.contents c.args.streams.now.output) (g.W.Write.contents l.streams.output) (g.W.Write.contents c.print_line.new.writer) l.buffer (g.R.Read.remaining l.streams.input) l.output c.in-Some.next.taken n.line c.in-Some.next.answer
     l.invariant n.ends n.answers c.in_err-print_line.ensures.err)
 
 pub loop-next-preserved : goal.loop-next-preserved
 loop-next-preserved g c =
     let l = c.loop-next in
     let n = c.in-Some.ensures in
-    let held = subst (λ (k : ℕ). c.consume.new.self.bytes ≡ drop k l.feed.bytes) c.in_ok-print_line.ensures.taken c.consume.ensures.bytes in
-    answered_line c.args.script.now l.script c.answer_next.new.script (g.R.Read.remaining c.args.streams.now.input) (g.W.Write.contents c.args.streams.now.output) (g.W.Write.contents l.streams.output) (g.W.Write.contents c.print_line.new.writer) l.feed c.consume.new.self (g.R.Read.remaining l.streams.input) l.pending c.print_line.new.pending c.in-Some.next.taken n.line c.in-Some.next.answer
+    let held = subst (λ (k : ℕ). c.consume.new.self.bytes ≡ drop k l.buffer.bytes) c.in_ok-print_line.ensures.taken c.consume.ensures.bytes in
+    progress-line c.args.script.now l.script c.answer_next.new.script (g.R.Read.remaining c.args.streams.now.input) (g.W.Write.contents c.args.streams.now.output) (g.W.Write.contents l.streams.output) (g.W.Write.contents c.print_line.new.writer) l.buffer c.consume.new.self (g.R.Read.remaining l.streams.input) l.output c.print_line.new.output c.in-Some.next.taken n.line c.in-Some.next.answer
     l.invariant n.ends n.answers c.in_ok-print_line.ensures.ok held c.consume.ensures.whole

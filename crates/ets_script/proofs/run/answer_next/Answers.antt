@@ -5,11 +5,11 @@ use Rattle.ets_script.proofs.run.answer_next.Goals as goal
 
 pub returns-in-Text : goal.returns-in-Text
 returns-in-Text g c = record {
-  line = text (take c.in-Text.text c.args.feed.now.bytes);
+  line = text (take c.in-Text.text c.args.buffer.now.bytes);
   some = c.in-Text.ensures.0;
   within = c.in-Text.ensures.1;
   ends = c.in-Text.ensures.3;
-  answers = subst (λ (l : List ℕ). AnswersLine c.args.script.now (text (take c.in-Text.text l)) c.answer-answer.result c.answer-answer.new.self) c.held.ensures c.answer-answer.ensures;
+  answers = subst (λ (l : List ℕ). AnswersLine c.args.script.now (text (take c.in-Text.text l)) c.answer-answer.result c.answer-answer.new.self) c.bytes.ensures c.answer-answer.ensures;
 }
 
 pub returns-in-TooLong : goal.returns-in-TooLong

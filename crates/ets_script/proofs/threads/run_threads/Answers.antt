@@ -1,25 +1,25 @@
 use Rattle.std.proofs.lemmas.Result.{err_from_is_err_and}
 use Rattle.ets_script.specs.Threads.{ThreadsStop}
-use Rattle.ets_script.proofs.KnownBytes.{between, appends_same}
-use Rattle.ets_script.proofs.Clients.{fault_told}
-use Rattle.ets_script.proofs.ThreadsEnds.{ended, broken, stopped}
+use Rattle.ets_script.proofs.KnownBytes.{between, appends-same}
+use Rattle.ets_script.proofs.Clients.{fault-told}
+use Rattle.ets_script.proofs.ThreadsEnds.{threads-end, threads-write_fault, threads-stop}
 use Rattle.ets_script.proofs.threads.run_threads.Goals as goal
 
 pub returns-in_default-clause-err : goal.returns-in_default-clause-err
-returns-in_default-clause-err g c = appends_same (g.W.Write.contents c.args.streams.now.output)
+returns-in_default-clause-err g c = appends-same (g.W.Write.contents c.args.streams.now.output)
 
-pub returns-in_err-known-clause-err : goal.returns-in_err-known-clause-err
-returns-in_err-known-clause-err g c =
+pub returns-in_err-planned-clause-err : goal.returns-in_err-planned-clause-err
+returns-in_err-planned-clause-err g c =
     let before = g.R.Read.remaining c.args.streams.now.input in
     let after = g.R.Read.remaining c.run_input.new.reader in
     let old = g.W.Write.contents c.args.streams.now.output in
-    fault_told (ThreadsStop c.args.settings.limits (between before after) (between old old)) c.from_residual.result _ c.from_residual.ensures.1 (stopped c.args.settings.limits before after old _ c.in_err-known.ensures.err)
+    fault-told (ThreadsStop c.args.settings.limits (between before after) (between old old)) c.from_residual.result _ c.from_residual.ensures.1 (threads-stop c.args.settings.limits before after old _ c.in_err-planned.ensures.err)
 
 pub returns-in_err-print_out-clause-err : goal.returns-in_err-print_out-clause-err
 returns-in_err-print_out-clause-err g c =
     let p = err_from_is_err_and c.from_residual-in_err-print_out.result c.from_residual-in_err-print_out.ensures.1 in
-    rw (p.1, p.2) (broken c.args.settings.limits (g.R.Read.remaining c.args.streams.now.input) (g.R.Read.remaining c.run_input.new.reader) (g.W.Write.contents c.args.streams.now.output) (g.W.Write.contents c.print_out.new.writer) c.in_ok-known.known c.in_ok-known.ran c.in_ok-known.ensures.ok c.in_err-print_out.ensures.err)
+    rw (p.1, p.2) (threads-write_fault c.args.settings.limits (g.R.Read.remaining c.args.streams.now.input) (g.R.Read.remaining c.run_input.new.reader) (g.W.Write.contents c.args.streams.now.output) (g.W.Write.contents c.print_out.new.writer) c.in_ok-planned.planned c.in_ok-planned.run' c.in_ok-planned.ensures.ok c.in_err-print_out.ensures.err)
 
 pub returns-clause-ok : goal.returns-clause-ok
 returns-clause-ok g c =
-    ended c.args.settings.limits (g.R.Read.remaining c.args.streams.now.input) (g.R.Read.remaining c.run_input.new.reader) (g.W.Write.contents c.args.streams.now.output) (g.W.Write.contents c.print_out.new.writer) c.in_ok-known.known c.in_ok-known.ran c.in_ok-known.ensures.ok c.in_ok-print_out.ensures.ok
+    threads-end c.args.settings.limits (g.R.Read.remaining c.args.streams.now.input) (g.R.Read.remaining c.run_input.new.reader) (g.W.Write.contents c.args.streams.now.output) (g.W.Write.contents c.print_out.new.writer) c.in_ok-planned.planned c.in_ok-planned.run' c.in_ok-planned.ensures.ok c.in_ok-print_out.ensures.ok

@@ -1,4 +1,4 @@
-use Rattle.node_core.proofs.Reached.{sound-run, sound-reached}
+use Rattle.node_core.proofs.moves.Reached.{sound-run, sound-reached}
 use Rattle.node_core.proofs.laws.runs_stay_sound.Goals as goal
 
 pub returns-clause-runs : goal.returns-clause-runs

@@ -1,4 +1,4 @@
-use Rattle.node_core.proofs.WholeWalks.{walks-whole}
+use Rattle.node_core.proofs.walks.WholeWalks.{walks-whole}
 use Rattle.node_core.proofs.laws.walks_are_whole.Goals as goal
 
 pub returns : goal.returns

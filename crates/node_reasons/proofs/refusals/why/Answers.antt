@@ -1,10 +1,10 @@
 use Rattle.std.proofs.Common.{◌∙◌, ap}
 use Rattle.std.specs.Prelude.{is_some}
-use Rattle.node_reasons.proofs.Exact.{told-right, told-where}
+use Rattle.node_reasons.proofs.Exact.{reason_for-right, reason_for-exact}
 use Rattle.node_reasons.proofs.refusals.why.Goals as goal
 
 pub returns-clause-exactly : goal.returns-clause-exactly
-returns-clause-exactly g c = ap is_some c.explained.ensures ∙ told-where c.args.node.now.world c.args.event.now c.args.reply.now
+returns-clause-exactly g c = ap is_some c.explain.ensures ∙ reason_for-exact c.args.node.now.world c.args.event.now c.args.reply.now
 
 pub returns-clause-named : goal.returns-clause-named
-returns-clause-named g c new h = c.explained.ensures ∙ told-right c.args.node.now new c.args.event.now c.args.reply.now h
+returns-clause-named g c new h = c.explain.ensures ∙ reason_for-right c.args.node.now new c.args.event.now c.args.reply.now h

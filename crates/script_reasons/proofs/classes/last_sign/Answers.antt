@@ -8,4 +8,4 @@ loop-byte-preserved c =
     let text = c.args.text.now in
     let i = c.loop-byte.byte-index in
     let within : i < length text = omega arith in
-    c.later-last.ensures ∙ ap (λ (n : ℕ). if is_gap (get_or text i 0) then n else get_or text i 0) c.loop-byte.invariant ∙ sym (sign_more text i within)
+    c.update_last_sign-last.ensures ∙ ap (λ (n : ℕ). if is_gap (get_or text i 0) then n else get_or text i 0) c.loop-byte.invariant ∙ sym (sign_more text i within)

@@ -65,10 +65,10 @@ fn wrong_due_in<H: KeyHash + Copy + Drop>(
 /// The same in a new node.
 fn wrong_due<H: KeyHash + Copy + Drop>(
     alloc: Global,
-    hash: H,
+    hasher: H,
     rows: &[DueRow],
 ) -> Result<Option<usize>, AllocError> {
-    let mut node = Node::new(alloc, Limits::usual(), hash);
+    let mut node = Node::new(alloc, Limits::usual(), hasher);
     let place = wrong_due_in(alloc, &mut node, rows);
     drop(node);
     place

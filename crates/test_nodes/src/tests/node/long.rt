@@ -7,7 +7,7 @@ mod runs;
 
 use super::Event::{Ask, Enrol};
 use super::{Row, does, wrong_in};
-use crate::tests::kept;
+use crate::tests::keep_if_ok;
 use ets_term::Fnv;
 use node_core::{Limits, Node};
 use std::alloc::{AllocError, Global};
@@ -17,20 +17,20 @@ use std::process::Abort;
 const COUNT: u32 = 2_100;
 
 /// Puts the text after another, the number for each N.
-fn push_numbered(
+fn push_template(
     alloc: Global,
     text: &mut String,
-    told: &str,
+    template: &str,
     number: u32,
 ) -> Result<(), AllocError> {
     let digits = format!(in alloc; "{number}")?;
-    let pushed = push_with(text, told, digits.as_str());
+    let pushed = push_with(text, template, digits.as_str());
     drop(digits);
     pushed
 }
 
-fn push_with(text: &mut String, told: &str, digits: &str) -> Result<(), AllocError> {
-    for letter in told.chars() {
+fn push_with(text: &mut String, template: &str, digits: &str) -> Result<(), AllocError> {
+    for letter in template.chars() {
         match letter {
             'N' => text.push_str(digits)?,
             _ => text.push(letter)?,
@@ -39,9 +39,9 @@ fn push_with(text: &mut String, told: &str, digits: &str) -> Result<(), AllocErr
     Ok(())
 }
 
-fn numbered(alloc: Global, told: &str, number: u32) -> Result<String, AllocError> {
+fn fill_template(alloc: Global, template: &str, number: u32) -> Result<String, AllocError> {
     let mut text = String::new(alloc);
-    kept(push_numbered(alloc, &mut text, told, number), text)
+    keep_if_ok(push_template(alloc, &mut text, template, number), text)
 }
 
 /// A process 0 and its table t, which is a duplicate bag.
@@ -98,28 +98,28 @@ fn answers(
 }
 
 /// Returns whether a call is answered so, both told for a number.
-fn does_numbered(
+fn does_with_number(
     alloc: Global,
     node: &mut Node<Fnv>,
     call: &str,
     wanted: &str,
     number: u32,
 ) -> Result<bool, AllocError> {
-    let call = numbered(alloc, call, number)?;
-    let answered = answers_numbered(alloc, node, call.as_str(), wanted, number);
+    let call = fill_template(alloc, call, number)?;
+    let answered = answers_with_number(alloc, node, call.as_str(), wanted, number);
     drop(call);
     answered
 }
 
 /// Returns whether a call is answered by the text for a number.
-fn answers_numbered(
+fn answers_with_number(
     alloc: Global,
     node: &mut Node<Fnv>,
     call: &str,
     wanted: &str,
     number: u32,
 ) -> Result<bool, AllocError> {
-    let wanted = numbered(alloc, wanted, number)?;
+    let wanted = fill_template(alloc, wanted, number)?;
     let answered = answers(alloc, node, call, wanted.as_str());
     drop(wanted);
     answered
@@ -133,7 +133,7 @@ fn wrong_number(
     wanted: &str,
 ) -> Result<Option<u32>, AllocError> {
     for number in 0..COUNT {
-        if !does_numbered(alloc, node, call, wanted, number)? {
+        if !does_with_number(alloc, node, call, wanted, number)? {
             return Ok(Some(number));
         }
     }

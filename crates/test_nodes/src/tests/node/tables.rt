@@ -30,7 +30,7 @@ const TWO: [Row; 3] = [
 ];
 
 /// The identifier of the table that a term names after these steps.
-fn resolved_after(
+fn resolve_after(
     alloc: Global,
     node: &mut Node<Fnv>,
     rows: &[Row],
@@ -41,17 +41,17 @@ fn resolved_after(
 }
 
 /// The same in a new node.
-fn resolved_in_new(alloc: Global, rows: &[Row], named: &Term) -> Result<Option<u32>, AllocError> {
+fn resolve_in_new(alloc: Global, rows: &[Row], named: &Term) -> Result<Option<u32>, AllocError> {
     let mut node = Node::new(alloc, Limits::usual(), Fnv);
-    let resolved = resolved_after(alloc, &mut node, rows, named);
+    let resolved = resolve_after(alloc, &mut node, rows, named);
     drop(node);
     resolved
 }
 
 /// The same where there is a table named t, and one that has no name.
-fn resolved(alloc: Global, named: &str) -> Result<Option<u32>, AllocError> {
+fn resolve(alloc: Global, named: &str) -> Result<Option<u32>, AllocError> {
     let named = term(alloc, named)?;
-    let resolved = resolved_in_new(alloc, &TWO, &named);
+    let resolved = resolve_in_new(alloc, &TWO, &named);
     drop(named);
     resolved
 }
@@ -73,7 +73,7 @@ fn wrong_named(
     rows: &[(&'static str, Option<u32>)],
 ) -> Result<Option<&'static str>, AllocError> {
     for (named, wanted) in rows {
-        if resolved(alloc, *named)? != *wanted {
+        if resolve(alloc, *named)? != *wanted {
             return Ok(Some(*named));
         }
     }

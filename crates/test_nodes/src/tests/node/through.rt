@@ -1,7 +1,7 @@
 // `run` and `run_through` answer each step, a refused one too, if there is memory.
 use super::Event::{Ask, End, Enrol, Grow, Ready};
 use super::{Row, is, step};
-use crate::tests::kept;
+use crate::tests::keep_if_ok;
 use ets_term::Fnv;
 use node_core::{Limits, Node, Reply, Step};
 use std::alloc::{AllocError, Global};
@@ -36,7 +36,7 @@ fn push_steps(alloc: Global, steps: &mut Vec<Step>, rows: &[Row]) -> Result<(), 
 
 fn steps_of(alloc: Global, rows: &[Row]) -> Result<Vec<Step>, AllocError> {
     let mut steps = Vec::new(alloc);
-    kept(push_steps(alloc, &mut steps, rows), steps)
+    keep_if_ok(push_steps(alloc, &mut steps, rows), steps)
 }
 
 /// The place of the first row whose step has another answer, or none.

@@ -3,16 +3,16 @@
 use super::Event::{Ask, Enrol};
 use super::{Event, Row, does, has_items, term, wrong_in};
 use ets_term::{AllSame, Fnv, KeyHash, Term};
-use handing::{Handing, Plan};
 use node_core::{Limits, Node, Others, Walk, WalkFault, walk_among};
+use plan_follower::{Plan, PlanFollower};
 use std::alloc::{AllocError, Global};
 use std::process::Abort;
 
-mod handing;
+mod plan_follower;
 
 /// A walk over the table t: the steps before it, the process that walks, its limit, and what others do meanwhile.
 #[derive(Clone, Copy)]
-struct Tried<'a> {
+struct WalkTrial<'a> {
     rows: &'a [Row],
     walker: u32,
     limit: u32,
@@ -26,7 +26,7 @@ type Outcome = (Result<Term, WalkFault>, usize);
 fn walk<H: KeyHash + Copy + Drop>(
     alloc: Global,
     node: &mut Node<H>,
-    tried: Tried,
+    tried: WalkTrial,
 ) -> Result<Outcome, AllocError> {
     if wrong_in(alloc, node, tried.rows)?.is_some() {
         return Err(AllocError);
@@ -40,10 +40,10 @@ fn walk<H: KeyHash + Copy + Drop>(
 fn walk_over<H: KeyHash + Copy + Drop>(
     alloc: Global,
     node: &mut Node<H>,
-    tried: Tried,
+    tried: WalkTrial,
     table: &Term,
 ) -> Outcome {
-    let mut others = Handing::new(alloc, tried.plan);
+    let mut others = PlanFollower::new(alloc, tried.plan);
     let walked = walk_among(node, tried.walker, table, tried.limit, &mut others);
     let seen = others.seen().len();
     drop(others);
@@ -57,10 +57,10 @@ fn keys_of(walked: Result<Walk, WalkFault>) -> Result<Term, WalkFault> {
     }
 }
 
-fn comes_to_in<H: KeyHash + Copy + Drop>(
+fn walk_finds_in<H: KeyHash + Copy + Drop>(
     alloc: Global,
     node: &mut Node<H>,
-    tried: Tried,
+    tried: WalkTrial,
     wanted: &str,
 ) -> Result<bool, AllocError> {
     let (walked, _) = walk(alloc, node, tried)?;
@@ -78,14 +78,14 @@ fn comes_to_in<H: KeyHash + Copy + Drop>(
 }
 
 /// Returns whether a walk in a new node comes to its end with these keys, in any order.
-fn comes_to<H: KeyHash + Copy + Drop>(
+fn walk_finds<H: KeyHash + Copy + Drop>(
     alloc: Global,
-    hash: H,
-    tried: Tried,
+    hasher: H,
+    tried: WalkTrial,
     wanted: &str,
 ) -> Result<bool, AllocError> {
-    let mut node = Node::new(alloc, Limits::usual(), hash);
-    let comes = comes_to_in(alloc, &mut node, tried, wanted);
+    let mut node = Node::new(alloc, Limits::usual(), hasher);
+    let comes = walk_finds_in(alloc, &mut node, tried, wanted);
     drop(node);
     comes
 }
@@ -96,7 +96,7 @@ type End = (Option<WalkFault>, usize, bool);
 fn end_in<H: KeyHash + Copy + Drop>(
     alloc: Global,
     node: &mut Node<H>,
-    tried: Tried,
+    tried: WalkTrial,
     then: Row,
 ) -> Result<End, AllocError> {
     let (walked, seen) = walk(alloc, node, tried)?;
@@ -114,11 +114,11 @@ fn end_in<H: KeyHash + Copy + Drop>(
 /// The same in a new node.
 fn end<H: KeyHash + Copy + Drop>(
     alloc: Global,
-    hash: H,
-    tried: Tried,
+    hasher: H,
+    tried: WalkTrial,
     then: Row,
 ) -> Result<End, AllocError> {
-    let mut node = Node::new(alloc, Limits::usual(), hash);
+    let mut node = Node::new(alloc, Limits::usual(), hasher);
     let end = end_in(alloc, &mut node, tried, then);
     drop(node);
     end
@@ -158,7 +158,7 @@ const NINE: [Row; 4] = [
     ),
 ];
 
-const KEYS_AGAIN: Tried<'static> = Tried {
+const KEYS_AGAIN: WalkTrial<'static> = WalkTrial {
     rows: &NINE,
     walker: 0,
     limit: 100,
@@ -168,8 +168,8 @@ const KEYS_AGAIN: Tried<'static> = Tried {
 #[test]
 fn keys_that_go_and_come_again_are_walked_once(rt: HostRuntime) {
     let all = "[1,2,3,4,5,6,7,8,9]";
-    assert!(rt; comes_to(rt.alloc(), Fnv, KEYS_AGAIN, all) == Ok(true));
-    assert!(rt; comes_to(rt.alloc(), AllSame, KEYS_AGAIN, all) == Ok(true));
+    assert!(rt; walk_finds(rt.alloc(), Fnv, KEYS_AGAIN, all) == Ok(true));
+    assert!(rt; walk_finds(rt.alloc(), AllSame, KEYS_AGAIN, all) == Ok(true));
 }
 
 const SEVENTY: [Row; 4] = [
@@ -185,7 +185,7 @@ const SEVENTY: [Row; 4] = [
     ),
 ];
 
-const BY_ANOTHER: Tried<'static> = Tried {
+const BY_ANOTHER: WalkTrial<'static> = WalkTrial {
     rows: &SEVENTY,
     walker: 7,
     limit: 70,
@@ -196,10 +196,10 @@ const BY_ANOTHER: Tried<'static> = Tried {
 fn seventy_keys_are_walked_by_another_process(rt: HostRuntime) {
     let all =
         "[1,2,3,4,5,6,7,8,9,10,11,12,13,14,15,16,17,18,19,20,21,22,23,24,25,26,27,28,29,30,31,32,33,34,35,36,37,38,39,40,41,42,43,44,45,46,47,48,49,50,51,52,53,54,55,56,57,58,59,60,61,62,63,64,65,66,67,68,69,70]";
-    assert!(rt; comes_to(rt.alloc(), Fnv, BY_ANOTHER, all) == Ok(true));
+    assert!(rt; walk_finds(rt.alloc(), Fnv, BY_ANOTHER, all) == Ok(true));
 }
 
-const FURTHER: Tried<'static> = Tried {
+const FURTHER: WalkTrial<'static> = WalkTrial {
     rows: &ONE,
     walker: 0,
     limit: 5,
@@ -258,7 +258,7 @@ fn wrong_stop(
 
 fn stops(alloc: Global, stop: Stop, wanted: &WalkFault) -> Result<bool, AllocError> {
     let (plan, then) = stop;
-    let tried = Tried {
+    let tried = WalkTrial {
         rows: &TWO,
         walker: 0,
         limit: 9,
@@ -308,7 +308,7 @@ fn want_of_memory_ends_the_walk(rt: HostRuntime) {
 
 const CLEARS: [Event; 1] = [Ask(1, "delete_all_objects(t)")];
 
-const EMPTIED: Tried<'static> = Tried {
+const EMPTIED: WalkTrial<'static> = WalkTrial {
     rows: &TWO,
     walker: 0,
     limit: 9,
@@ -335,7 +335,7 @@ const ENDED: [Row; 4] = [
 
 /// The fault of a walk, where the steps after it need no answer.
 fn fault_of(alloc: Global, rows: &[Row], limit: u32) -> Result<Option<WalkFault>, AllocError> {
-    let tried = Tried {
+    let tried = WalkTrial {
         rows,
         walker: 0,
         limit,
@@ -353,7 +353,7 @@ fn a_table_that_is_not_to_be_read_is_lost(rt: HostRuntime) {
     assert!(rt; fault_of(rt.alloc(), &[], 9) == lost);
 }
 
-const NO_LIMIT: Tried<'static> = Tried {
+const NO_LIMIT: WalkTrial<'static> = WalkTrial {
     rows: &EMPTY,
     walker: 0,
     limit: 0,
@@ -362,6 +362,6 @@ const NO_LIMIT: Tried<'static> = Tried {
 
 #[test]
 fn no_key_is_within_no_limit(rt: HostRuntime) {
-    assert!(rt; comes_to(rt.alloc(), Fnv, NO_LIMIT, "[]") == Ok(true));
+    assert!(rt; walk_finds(rt.alloc(), Fnv, NO_LIMIT, "[]") == Ok(true));
     assert!(rt; fault_of(rt.alloc(), &TWO, 0) == Ok(Some(WalkFault::LimitReached)));
 }

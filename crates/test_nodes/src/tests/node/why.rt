@@ -55,7 +55,7 @@ fn explains<H: KeyHash + Copy + Drop>(
 }
 
 /// The place of the first row that has another reason.
-fn unexplained_in<H: KeyHash + Copy + Drop>(
+fn wrong_reason_in<H: KeyHash + Copy + Drop>(
     alloc: Global,
     node: &mut Node<H>,
     rows: &[Row],
@@ -69,9 +69,9 @@ fn unexplained_in<H: KeyHash + Copy + Drop>(
 }
 
 /// The same in a new node.
-fn unexplained(alloc: Global, limits: Limits, rows: &[Row]) -> Result<Option<usize>, AllocError> {
+fn wrong_reason(alloc: Global, limits: Limits, rows: &[Row]) -> Result<Option<usize>, AllocError> {
     let mut node = Node::new(alloc, limits, Fnv);
-    let place = unexplained_in(alloc, &mut node, rows);
+    let place = wrong_reason_in(alloc, &mut node, rows);
     drop(node);
     place
 }
@@ -79,7 +79,7 @@ fn unexplained(alloc: Global, limits: Limits, rows: &[Row]) -> Result<Option<usi
 #[test]
 fn misuses_of_steps_have_their_reasons(rt: HostRuntime) {
     assert_eq!(rt;
-        unexplained(rt.alloc(), Limits::usual(), &misuses::STEPS),
+        wrong_reason(rt.alloc(), Limits::usual(), &misuses::STEPS),
         Ok(None)
     );
 }
@@ -87,7 +87,7 @@ fn misuses_of_steps_have_their_reasons(rt: HostRuntime) {
 #[test]
 fn misuses_of_objects_have_their_reasons(rt: HostRuntime) {
     assert_eq!(rt;
-        unexplained(rt.alloc(), Limits::usual(), &misuses::OBJECTS),
+        wrong_reason(rt.alloc(), Limits::usual(), &misuses::OBJECTS),
         Ok(None)
     );
 }
@@ -95,7 +95,7 @@ fn misuses_of_objects_have_their_reasons(rt: HostRuntime) {
 #[test]
 fn misuses_of_updates_have_their_reasons(rt: HostRuntime) {
     assert_eq!(rt;
-        unexplained(rt.alloc(), Limits::usual(), &misuses::UPDATES),
+        wrong_reason(rt.alloc(), Limits::usual(), &misuses::UPDATES),
         Ok(None)
     );
 }
@@ -103,7 +103,7 @@ fn misuses_of_updates_have_their_reasons(rt: HostRuntime) {
 #[test]
 fn misuses_of_tables_have_their_reasons(rt: HostRuntime) {
     assert_eq!(rt;
-        unexplained(rt.alloc(), Limits::usual(), &misuses::TABLES),
+        wrong_reason(rt.alloc(), Limits::usual(), &misuses::TABLES),
         Ok(None)
     );
 }
@@ -116,7 +116,7 @@ fn each_limit_has_its_reason(rt: HostRuntime) {
         objects: 1,
     };
     assert_eq!(rt;
-        unexplained(rt.alloc(), limits, &misuses::LIMITED),
+        wrong_reason(rt.alloc(), limits, &misuses::LIMITED),
         Ok(None)
     );
 }

@@ -19,7 +19,7 @@ fn make(alloc: Global, world: &mut Tables, pid: u32, heir: u32) -> Result<(), Wo
 }
 
 /// Whose the table is, and whether it is fixed; GONE if it does not exist.
-fn seen(world: &Tables, id: u32) -> (u32, bool) {
+fn owner_and_fix(world: &Tables, id: u32) -> (u32, bool) {
     match (world.metadata(id), world.table(id)) {
         (Some(metadata), Some(table)) => (metadata.owner, table.is_fixed()),
         _ => (GONE, false),
@@ -27,7 +27,7 @@ fn seen(world: &Tables, id: u32) -> (u32, bool) {
 }
 
 /// The identifiers of the tables whose messages a process has, in that order.
-fn comes_in_order(messages: &[Term], wanted: u32) -> bool {
+fn is_in_order(messages: &[Term], wanted: u32) -> bool {
     for (place, message) in messages.iter().enumerate() {
         let Term::Tuple(elements) = message else {
             return false;
@@ -50,9 +50,9 @@ fn make_seventy(alloc: Global, world: &mut Tables) -> Result<(), WorldFault> {
     Ok(())
 }
 
-fn have_gone(world: &Tables) -> bool {
+fn are_gone(world: &Tables) -> bool {
     for id in 0..70 {
-        if seen(world, id) != (GONE, false) {
+        if owner_and_fix(world, id) != (GONE, false) {
             return false;
         }
     }
@@ -63,9 +63,9 @@ fn have_gone(world: &Tables) -> bool {
 fn hands_seventy_on(alloc: Global, world: &mut Tables) -> Result<bool, WorldFault> {
     make_seventy(alloc, world)?;
     world.end(0)?;
-    let come = comes_in_order(world.mailbox(1), 70) && seen(world, 69) == (1, false);
+    let come = is_in_order(world.mailbox(1), 70) && owner_and_fix(world, 69) == (1, false);
     world.end(1)?;
-    Ok(come && have_gone(world))
+    Ok(come && are_gone(world))
 }
 
 fn seventy(alloc: Global) -> Result<bool, WorldFault> {
@@ -90,13 +90,13 @@ fn fixer_of(id: u32) -> u32 {
 }
 
 /// Who ends as the so manieth.
-fn ending(turn: u32) -> u32 {
+fn process_to_end(turn: u32) -> u32 {
     turn.wrapping_mul(7) % MANY
 }
 
 fn is_ended(pid: u32, turns: u32) -> bool {
     for turn in 0..turns {
-        if ending(turn) == pid {
+        if process_to_end(turn) == pid {
             return true;
         }
     }
@@ -104,7 +104,7 @@ fn is_ended(pid: u32, turns: u32) -> bool {
 }
 
 /// Whose a table is after a number of exits: it goes with its owner to its heir, or is gone where that has ended.
-fn wanted(id: u32, turns: u32) -> (u32, bool) {
+fn owner_and_fix_after(id: u32, turns: u32) -> (u32, bool) {
     let heir = heir_of(id);
     let owner = if !is_ended(id, turns) {
         id
@@ -133,7 +133,7 @@ fn fill(alloc: Global, world: &mut Tables) -> Result<(), WorldFault> {
 /// The first table that is otherwise than wanted after a number of exits.
 fn wrong_after(world: &Tables, turns: u32) -> Option<u32> {
     for id in 0..MANY {
-        if seen(world, id) != wanted(id, turns) {
+        if owner_and_fix(world, id) != owner_and_fix_after(id, turns) {
             return Some(id);
         }
     }
@@ -143,7 +143,7 @@ fn wrong_after(world: &Tables, turns: u32) -> Option<u32> {
 /// Ends all processes, one after the other. After how many ends a table is otherwise than wanted, and which.
 fn wrong_while_ending(world: &mut Tables) -> Result<Option<(u32, u32)>, WorldFault> {
     for turn in 0..MANY {
-        world.end(ending(turn))?;
+        world.end(process_to_end(turn))?;
         if turn % 16 == 0 || turn + 1 == MANY {
             if let Some(id) = wrong_after(world, turn + 1) {
                 return Ok(Some((turn, id)));

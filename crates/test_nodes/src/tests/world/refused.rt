@@ -3,8 +3,8 @@
 // called once. Where the refused allocation is one of the test's own, it is made again.
 use super::Event::{End, Enrol, Fix, Give, Info, New, Receive, Set};
 use super::{Event, Row, Tables, answer, refusal};
-use crate::tests::kept;
-use crate::tests::text::{is_told, term};
+use crate::tests::keep_if_ok;
+use crate::tests::text::{is_spelled, term};
 use ets_term::{Integer, Term};
 use ownership::{InfoItem, World, WorldFault};
 use std::alloc::{AllocError, Global};
@@ -66,8 +66,8 @@ const ITEMS: [InfoItem; 10] = [
     InfoItem::Fixed,
 ];
 
-fn note(seen: &mut Vec<Term>, told: Term) -> Result<(), AllocError> {
-    Ok(seen.push(told)?)
+fn note(seen: &mut Vec<Term>, term: Term) -> Result<(), AllocError> {
+    Ok(seen.push(term)?)
 }
 
 fn note_flag(seen: &mut Vec<Term>, value: bool) -> Result<(), AllocError> {
@@ -103,7 +103,7 @@ fn see_item(
     seen: &mut Vec<Term>,
 ) -> Result<(), AllocError> {
     match world.info(id, item)? {
-        Some(told) => note(seen, told),
+        Some(term) => note(seen, term),
         None => Ok(()),
     }
 }
@@ -171,22 +171,22 @@ fn see(
 }
 
 /// All that can be seen of a world.
-fn seen(alloc: Global, world: &Tables) -> Result<Vec<Term>, AllocError> {
+fn observe(alloc: Global, world: &Tables) -> Result<Vec<Term>, AllocError> {
     let mut seen = Vec::with_capacity(alloc, 128)?;
-    kept(see(alloc, world, &ITEMS, &NAMES, &mut seen), seen)
+    keep_if_ok(see(alloc, world, &ITEMS, &NAMES, &mut seen), seen)
 }
 
-fn seen_again(alloc: Global, world: &Tables) -> Result<Vec<Term>, AllocError> {
-    match seen(alloc, world) {
+fn observe_again(alloc: Global, world: &Tables) -> Result<Vec<Term>, AllocError> {
+    match observe(alloc, world) {
         Ok(seen) => Ok(seen),
-        Err(_) => seen(alloc, world),
+        Err(_) => observe(alloc, world),
     }
 }
 
-fn is_told_again(alloc: Global, value: &Term, wanted: &str) -> Result<bool, AllocError> {
-    match is_told(alloc, value, wanted) {
+fn is_spelled_again(alloc: Global, value: &Term, wanted: &str) -> Result<bool, AllocError> {
+    match is_spelled(alloc, value, wanted) {
         Ok(same) => Ok(same),
-        Err(_) => is_told(alloc, value, wanted),
+        Err(_) => is_spelled(alloc, value, wanted),
     }
 }
 
@@ -198,7 +198,7 @@ fn is_answer(
 ) -> Result<bool, AllocError> {
     match answered {
         Ok(answer) => {
-            let same = is_told_again(alloc, &answer, wanted);
+            let same = is_spelled_again(alloc, &answer, wanted);
             drop(answer);
             same
         }
@@ -207,7 +207,7 @@ fn is_answer(
 }
 
 fn is_unchanged(alloc: Global, world: &Tables, before: &[Term]) -> Result<bool, AllocError> {
-    let now = seen_again(alloc, world)?;
+    let now = observe_again(alloc, world)?;
     let same = now.as_slice() == before;
     drop(now);
     Ok(same)
@@ -239,7 +239,7 @@ fn does_again(
     event: Event,
     wanted: &str,
 ) -> Result<bool, AllocError> {
-    let before = seen_again(alloc, world)?;
+    let before = observe_again(alloc, world)?;
     let done = does_after(alloc, world, before.as_slice(), event, wanted);
     drop(before);
     done

@@ -1,4 +1,4 @@
-use Rattle.node_core.proofs.Arguments.{two, three, four}
+use Rattle.node_core.proofs.calls.Arguments.{two, three, four}
 use Rattle.node_core.proofs.node.Node.call.Goals as goal
 
 pub returns-in-len2 : goal.returns-in-len2

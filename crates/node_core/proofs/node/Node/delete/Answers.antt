@@ -2,7 +2,7 @@ use Rattle.std.proofs.Common.{refl}
 use Rattle.node_core.specs.declared.node.access.Access.TheVariants.{Write}
 use Rattle.node_core.specs.rules.Removal.{Delete}
 use Rattle.node_core.specs.rules.Replies.{true_reply}
-use Rattle.node_core.proofs.Changes.{changed}
+use Rattle.node_core.proofs.calls.Changes.{changed}
 use Rattle.node_core.proofs.node.Node.delete.Goals as goal
 
 pub returns : goal.returns

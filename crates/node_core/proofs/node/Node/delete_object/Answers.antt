@@ -4,8 +4,8 @@ use Rattle.fixed_walk.specs.TableState.{on_content}
 use Rattle.table_ops.specs.Drop.{DeletesObject}
 use Rattle.node_core.specs.declared.node.access.Access.TheVariants.{Write}
 use Rattle.node_core.specs.rules.Replies.{true_reply}
-use Rattle.node_core.proofs.Changes.{changed-ok, changed-err}
-use Rattle.node_core.proofs.Removals.{refused-object}
+use Rattle.node_core.proofs.calls.Changes.{changed-ok, changed-err}
+use Rattle.node_core.proofs.calls.Removals.{refused-object}
 use Rattle.node_core.proofs.node.Node.delete_object.Goals as goal
 
 pub returns-in_err-delete_object : goal.returns-in_err-delete_object

@@ -1,15 +1,15 @@
 use Rattle.ownership.specs.End as ends
 use Rattle.node_core.specs.State.{State}
 use Rattle.node_core.specs.Access.{asks}
-use Rattle.node_core.specs.inside.Refusals.{refused_as}
+use Rattle.node_core.specs.inside.Refusals.{refusal_of}
 use Rattle.node_core.specs.rules.Replies.{true_reply}
-use Rattle.node_core.proofs.Keeping.{end-keeps}
-use Rattle.node_core.proofs.Worlds.{asked-ok, asked-err, told-ok}
+use Rattle.node_core.proofs.pending.Keeping.{end-keeps}
+use Rattle.node_core.proofs.calls.Worlds.{asked-ok, asked-err, told-ok}
 use Rattle.node_core.proofs.node.Node.end.Goals.{in-Ok, in-Err}
 use Rattle.node_core.proofs.node.Node.end.Goals as goal
 
 pub invariant_of-self : goal.invariant_of-self
-invariant_of-self g c = end-keeps c.self.inside.due c.self.inside.world c.end.new.self c.self.invariant c.args.pid c.end.result c.end.ensures
+invariant_of-self g c = end-keeps c.self.inside.pending c.self.inside.world c.end.new.self c.self.invariant c.args.pid c.end.result c.end.ensures
 
 pub returns-clause-ok : goal.returns-clause-ok
 returns-clause-ok g c =
@@ -17,6 +17,6 @@ returns-clause-ok g c =
     let new : State = record { limits = c.self.inside.limits; world = c.end.new.self } in
     rw (← c.self.view_is) (elim c.match-end.branch [
       | in-Ok w ↦ rw (w.result-is, w.true_reply.ensures) (asked-ok was (λ _. true_reply) (ends.End was.world c.args.pid) c.end.new.self tt w.in-Ok.ensures)
-      | in-Err w ↦ rw w.result-is (told-ok (asks was (λ _. true_reply) (ends.End was.world c.args.pid)) was new (refused_as w.in-Err.fault) w.told.result
-          (asked-err was (λ _. true_reply) (ends.End was.world c.args.pid) c.end.new.self w.in-Err.fault w.in-Err.ensures) (rw (← w.refused.ensures) w.told.ensures))
+      | in-Err w ↦ rw w.result-is (told-ok (asks was (λ _. true_reply) (ends.End was.world c.args.pid)) was new (refusal_of w.in-Err.fault) w.into_reply.result
+          (asked-err was (λ _. true_reply) (ends.End was.world c.args.pid) c.end.new.self w.in-Err.fault w.in-Err.ensures) (rw (← w.refusal_of.ensures) w.into_reply.ensures))
     ])

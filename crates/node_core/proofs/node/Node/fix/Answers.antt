@@ -1,6 +1,6 @@
 use Rattle.std.proofs.Common.{Err, subst}
 use Rattle.fixed_walk.specs.TableState.{IncrementsFix}
-use Rattle.node_core.proofs.Fixing.{fixed, most-fixes, not-fixed}
+use Rattle.node_core.proofs.calls.Fixing.{fixed, most-fixes, not-fixed}
 use Rattle.node_core.proofs.node.Node.fix.Goals as goal
 
 pub returns-in-Ok : goal.returns-in-Ok

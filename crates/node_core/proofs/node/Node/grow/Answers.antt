@@ -1,6 +1,6 @@
 use Rattle.std.proofs.Common.{refl}
 use Rattle.node_core.specs.rules.Growth.{Grows, ok_reply}
-use Rattle.node_core.proofs.Growing.{done}
+use Rattle.node_core.proofs.buckets.Growing.{done}
 use Rattle.node_core.proofs.node.Node.grow.Goals as goal
 
 pub returns-clause-ok : goal.returns-clause-ok

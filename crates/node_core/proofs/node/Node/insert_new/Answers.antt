@@ -1,7 +1,7 @@
 use Rattle.std.proofs.Common.{Ok, Err, subst}
 use Rattle.std.proofs.lemmas.Result.{err_from_is_err_and}
 use Rattle.node_core.specs.declared.node.access.Access.TheVariants.{Write}
-use Rattle.node_core.proofs.Changes.{changed-ok, changed-err}
+use Rattle.node_core.proofs.calls.Changes.{changed-ok, changed-err}
 use Rattle.table_ops.specs.Put.{InsertsNew}
 use Rattle.table_ops.specs.Refusals.{Refines}
 use Rattle.fixed_walk.specs.TableState.{on_content}

@@ -2,7 +2,7 @@ use Rattle.std.proofs.lemmas.Result.{err_from_is_err_and}
 use Rattle.node_core.specs.declared.node.access.Access.TheVariants.{Write}
 use Rattle.node_core.specs.rules.Replies.{true_reply}
 use Rattle.node_core.specs.rules.Searching.{DeletesMatching}
-use Rattle.node_core.proofs.Changes.{changed-ok, changed-err}
+use Rattle.node_core.proofs.calls.Changes.{changed-ok, changed-err}
 use Rattle.node_core.proofs.node.Node.match_delete.Goals as goal
 
 pub returns-in_err-delete_matching : goal.returns-in_err-delete_matching

@@ -1,6 +1,6 @@
 use Rattle.std.proofs.Common.{rules, arith, ◌≡◌, ◌∙◌, ◌+◌, ◌<◌, ◌++◌, ◌∷◌, [], sym, ap, take, length}
 use Rattle.std.proofs.lemmas.List.{take_more}
-use Rattle.node_core.proofs.Runs.{run-push, run-on-buckets-push}
+use Rattle.node_core.proofs.buckets.Runs.{run-push, run-on-buckets-push}
 use Rattle.node_core.proofs.node.Node.run.Goals as goal
 
 pub loop-event-preserved : goal.loop-event-preserved

@@ -1,14 +1,14 @@
 use Rattle.std.proofs.Common.{◌≡◌, ◌≤◌, take, vec_len, vec_capacity, length}
-use Rattle.node_core.specs.Seen.{seen}
+use Rattle.node_core.specs.Observable.{observable}
 use Rattle.node_core.specs.Machine.{run}
 use Rattle.node_core.specs.Buckets.{run_on_buckets}
-use Rattle.node_core.specs.Through.{answered, replies_in}
+use Rattle.node_core.specs.Through.{steps_with_reply, replies_in}
 use Rattle.node_core.proofs.node.Node.run_through.Given as goal
 
 abbrev pub invariant-loop-event : goal.invariant-loop-event
 invariant-loop-event g l = record {
-  runs : run (seen l.fn.self) (answered (take l.event-index l.steps) l.answers.items) (replies_in l.answers.items) (seen l.self);
-  buckets : run_on_buckets l.fn.self (answered (take l.event-index l.steps) l.answers.items) (replies_in l.answers.items) l.self;
+  runs : run (observable l.fn.self) (steps_with_reply (take l.event-index l.steps) l.answers.items) (replies_in l.answers.items) (observable l.self);
+  buckets : run_on_buckets l.fn.self (steps_with_reply (take l.event-index l.steps) l.answers.items) (replies_in l.answers.items) l.self;
   room : length l.steps ≤ vec_capacity l.answers;
   count : vec_len l.answers ≡ l.event-index;
 }

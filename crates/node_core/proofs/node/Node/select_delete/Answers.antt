@@ -1,7 +1,7 @@
 use Rattle.std.proofs.lemmas.Result.{err_from_is_err_and}
 use Rattle.node_core.specs.declared.node.access.Access.TheVariants.{Write}
 use Rattle.node_core.specs.rules.Searching.{count_reply, DeletesChosen}
-use Rattle.node_core.proofs.Changes.{changed-ok, changed-err}
+use Rattle.node_core.proofs.calls.Changes.{changed-ok, changed-err}
 use Rattle.node_core.proofs.node.Node.select_delete.Goals as goal
 
 pub returns-in_err-deleted : goal.returns-in_err-deleted

@@ -1,11 +1,11 @@
 use Rattle.std.proofs.Common.{inr}
 use Rattle.ownership.specs.World.{table_at, fixed_in}
-use Rattle.node_core.proofs.Index.{lent}
+use Rattle.node_core.proofs.pending.Index.{set-tracked}
 use Rattle.node_core.proofs.node.Node.table_mut.Goals as goal
 
 pub invariant_of-self-lent : goal.invariant_of-self-lent
 invariant_of-self-lent g c =
     let tables = c.self.inside.world.tables in
-    let index = c.lend.new.index in
-    let is = c.lend.ensures.index in
-    λ _. (λ w. lent tables index c.args.id (fixed_in (table_at tables c.args.id) w) is (inr c.lend.ensures.lent), is)
+    let index = c.mark_dirty.new.index in
+    let is = c.mark_dirty.ensures.index in
+    λ _. (λ w. set-tracked tables index c.args.id (fixed_in (table_at tables c.args.id) w) is (inr c.mark_dirty.ensures.dirty), is)

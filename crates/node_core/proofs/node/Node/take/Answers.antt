@@ -3,7 +3,7 @@ use Rattle.std.proofs.lemmas.Result.{err_from_is_err_and}
 use Rattle.node_core.specs.declared.node.access.Access.TheVariants.{Write}
 use Rattle.node_core.specs.rules.Removal.{Take}
 use Rattle.node_core.specs.rules.Replies.{list_reply}
-use Rattle.node_core.proofs.Changes.{changed, unchanged}
+use Rattle.node_core.proofs.calls.Changes.{changed, unchanged}
 use Rattle.node_core.proofs.node.Node.take.Goals as goal
 
 pub returns-in_err-objects : goal.returns-in_err-objects

@@ -3,7 +3,7 @@ use Rattle.std.proofs.lemmas.Result.{err_from_is_err_and}
 use Rattle.node_core.specs.declared.node.access.Access.TheVariants.{Write}
 use Rattle.node_core.specs.declared.step.Reply.TheVariants.{Value}
 use Rattle.node_core.specs.rules.Updates.{Counts}
-use Rattle.node_core.proofs.Changes.{changed-ok, changed-err}
+use Rattle.node_core.proofs.calls.Changes.{changed-ok, changed-err}
 use Rattle.node_core.proofs.node.Node.update_counter.Goals as goal
 
 pub returns-in_err-answer : goal.returns-in_err-answer

@@ -1,6 +1,6 @@
 use Rattle.std.proofs.Common.{sym, ap}
 use Rattle.node_core.specs.rules.Replies.{list_reply}
-use Rattle.node_core.proofs.Trees.{terms-back}
+use Rattle.node_core.proofs.replies.Trees.{terms-back}
 use Rattle.node_core.proofs.node.searching.answers_reply.Goals as goal
 
 pub returns : goal.returns

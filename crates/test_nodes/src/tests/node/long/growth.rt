@@ -23,7 +23,7 @@ fn tend(node: &mut Node<Fnv>, most: u32) -> Result<u32, AllocError> {
     Ok(most)
 }
 
-fn is_tended(node: &Node<Fnv>) -> bool {
+fn has_no_pending(node: &Node<Fnv>) -> bool {
     let due = node.due();
     let none = due.is_none();
     drop(due);
@@ -31,9 +31,9 @@ fn is_tended(node: &Node<Fnv>) -> bool {
 }
 
 /// The first number whose object does not enter the table, which is tended after each.
-fn not_entered(alloc: Global, node: &mut Node<Fnv>) -> Result<Option<u32>, AllocError> {
+fn first_not_inserted(alloc: Global, node: &mut Node<Fnv>) -> Result<Option<u32>, AllocError> {
     for number in 0..COUNT {
-        if !does_numbered(alloc, node, "insert(t,{N,x})", "true", number)? {
+        if !does_with_number(alloc, node, "insert(t,{N,x})", "true", number)? {
             return Ok(Some(number));
         }
         let _steps = tend(node, 1)?;
@@ -58,7 +58,7 @@ fn does_calls(
     number: u32,
 ) -> Result<bool, AllocError> {
     for (call, wanted) in rows {
-        if !does_numbered(alloc, node, *call, *wanted, number)? {
+        if !does_with_number(alloc, node, *call, *wanted, number)? {
             return Ok(false);
         }
     }
@@ -66,7 +66,7 @@ fn does_calls(
 }
 
 /// The first number for which one of the calls is answered otherwise.
-fn not_grown(
+fn first_wrong_after_growth(
     alloc: Global,
     node: &mut Node<Fnv>,
     rows: &[(&str, &str)],
@@ -84,12 +84,12 @@ fn not_grown(
 pub fn grows(alloc: Global, node: &mut Node<Fnv>) -> Result<bool, AllocError> {
     Ok(
         starts(alloc, node)?
-            && not_entered(alloc, node)?.is_none()
+            && first_not_inserted(alloc, node)?.is_none()
             && answers(alloc, node, "info(t,size)", "2100")?
-            && not_grown(alloc, node, &GROWN)?.is_none()
+            && first_wrong_after_growth(alloc, node, &GROWN)?.is_none()
             && answers(alloc, node, "tab2list(t)", "[]")?
             && tend(node, COUNT)? < COUNT
-            && is_tended(node),
+            && has_no_pending(node),
     )
 }
 

@@ -41,22 +41,22 @@ struct Long<'a> {
     end: &'a str,
 }
 
-fn push_told(alloc: Global, text: &mut String, told: Long) -> Result<(), AllocError> {
-    text.push_str(told.start)?;
+fn push_long(alloc: Global, text: &mut String, long: Long) -> Result<(), AllocError> {
+    text.push_str(long.start)?;
     for number in 0..COUNT {
-        push_numbered(alloc, text, told.middle, number)?;
+        push_template(alloc, text, long.middle, number)?;
     }
-    text.push_str(told.end)
+    text.push_str(long.end)
 }
 
-fn text_of(alloc: Global, told: Long) -> Result<String, AllocError> {
+fn text_of(alloc: Global, long: Long) -> Result<String, AllocError> {
     let mut text = String::new(alloc);
-    kept(push_told(alloc, &mut text, told), text)
+    keep_if_ok(push_long(alloc, &mut text, long), text)
 }
 
 /// What is tried with a new node and two long texts.
 #[derive(Clone, Copy)]
-enum Told {
+enum TextTrial {
     Inserts,
     Finds,
     Counts,
@@ -65,18 +65,23 @@ enum Told {
 fn passes_in(
     alloc: Global,
     node: &mut Node<Fnv>,
-    trial: Told,
+    trial: TextTrial,
     first: &str,
     second: &str,
 ) -> Result<bool, AllocError> {
     match trial {
-        Told::Inserts => inserts_and_lists(alloc, node, first, second),
-        Told::Finds => finds(alloc, node, first, second),
-        Told::Counts => answers_on_set(alloc, node, first, second),
+        TextTrial::Inserts => inserts_and_lists(alloc, node, first, second),
+        TextTrial::Finds => finds(alloc, node, first, second),
+        TextTrial::Counts => answers_on_set(alloc, node, first, second),
     }
 }
 
-fn passes_with(alloc: Global, trial: Told, first: &str, second: &str) -> Result<bool, AllocError> {
+fn passes_with(
+    alloc: Global,
+    trial: TextTrial,
+    first: &str,
+    second: &str,
+) -> Result<bool, AllocError> {
     let mut node = Node::new(alloc, Limits::usual(), Fnv);
     let passed = passes_in(alloc, &mut node, trial, first, second);
     drop(node);
@@ -85,7 +90,7 @@ fn passes_with(alloc: Global, trial: Told, first: &str, second: &str) -> Result<
 
 fn passes_behind(
     alloc: Global,
-    trial: Told,
+    trial: TextTrial,
     first: &str,
     second: Long,
 ) -> Result<bool, AllocError> {
@@ -96,7 +101,12 @@ fn passes_behind(
 }
 
 /// Returns whether a new node passes a trial with these two texts.
-fn passes_told(alloc: Global, trial: Told, first: Long, second: Long) -> Result<bool, AllocError> {
+fn passes_with_texts(
+    alloc: Global,
+    trial: TextTrial,
+    first: Long,
+    second: Long,
+) -> Result<bool, AllocError> {
     let first = text_of(alloc, first)?;
     let passed = passes_behind(alloc, trial, first.as_str(), second);
     drop(first);
@@ -131,7 +141,7 @@ fn inserts(alloc: Global, start: &str, object: &str) -> Result<bool, AllocError>
         middle: object,
         end: "]",
     };
-    passes_told(alloc, Told::Inserts, insert, listed)
+    passes_with_texts(alloc, TextTrial::Inserts, insert, listed)
 }
 
 fn inserts_both(alloc: Global, start: &str) -> Result<bool, AllocError> {
@@ -175,7 +185,7 @@ const RESULTS: Long<'static> = Long {
 
 #[test]
 fn many_objects_are_found(rt: HostRuntime) {
-    assert!(rt; passes_told(rt.alloc(), Told::Finds, BOUND, RESULTS) == Ok(true));
+    assert!(rt; passes_with_texts(rt.alloc(), TextTrial::Finds, BOUND, RESULTS) == Ok(true));
 }
 
 /// Returns whether a call on a new table s is answered so.
@@ -207,5 +217,5 @@ const VALUES: Long<'static> = Long {
 
 #[test]
 fn many_operations_are_done_at_once(rt: HostRuntime) {
-    assert!(rt; passes_told(rt.alloc(), Told::Counts, COUNTED, VALUES) == Ok(true));
+    assert!(rt; passes_with_texts(rt.alloc(), TextTrial::Counts, COUNTED, VALUES) == Ok(true));
 }

@@ -11,7 +11,7 @@ fn does_for(
     wanted: &str,
     number: u32,
 ) -> Result<bool, AllocError> {
-    let wanted = numbered(alloc, wanted, number)?;
+    let wanted = fill_template(alloc, wanted, number)?;
     let done = does(alloc, node, event, wanted.as_str());
     drop(wanted);
     done
@@ -27,7 +27,7 @@ fn makes(alloc: Global, node: &mut Node<Fnv>, pid: u32, id: u32) -> Result<bool,
 }
 
 /// The table with this identifier, if it is there.
-fn resolved(node: &Node<Fnv>, id: u32) -> Option<u32> {
+fn resolve_identifier(node: &Node<Fnv>, id: u32) -> Option<u32> {
     let named = Term::Tid(id);
     let found = node.resolve(&named);
     drop(named);
@@ -59,7 +59,7 @@ pub fn serves(alloc: Global, node: &mut Node<Fnv>, count: u32) -> Result<bool, A
     if !all_enter(alloc, node, count)? || !some_end(alloc, node, count)? {
         return Ok(false);
     }
-    Ok((0..count).all(|pid| resolved(node, pid).is_some() == (pid % 16 != 0)))
+    Ok((0..count).all(|pid| resolve_identifier(node, pid).is_some() == (pid % 16 != 0)))
 }
 
 #[test]
@@ -85,7 +85,10 @@ pub fn has_tables(alloc: Global, node: &mut Node<Fnv>, count: u32) -> Result<boo
     {
         return Ok(false);
     }
-    Ok(node.next_identifier() == count && (0..count).all(|id| resolved(node, id).is_none()))
+    Ok(
+        node.next_identifier() == count
+            && (0..count).all(|id| resolve_identifier(node, id).is_none()),
+    )
 }
 
 #[test]

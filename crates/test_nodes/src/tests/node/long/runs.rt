@@ -5,7 +5,7 @@ use node_core::{Reply, Step};
 /// A process, its table, and a number of times an object and a lookup of it.
 fn life(alloc: Global, count: u32) -> Result<Vec<Step>, AllocError> {
     let mut steps = Vec::new(alloc);
-    kept(push_life(alloc, &mut steps, count), steps)
+    keep_if_ok(push_life(alloc, &mut steps, count), steps)
 }
 
 fn push_life(alloc: Global, steps: &mut Vec<Step>, count: u32) -> Result<(), AllocError> {
@@ -23,7 +23,7 @@ fn push(steps: &mut Vec<Step>, step: Step) -> Result<(), AllocError> {
 }
 
 fn insertion(alloc: Global, number: u32) -> Result<Step, AllocError> {
-    let call = numbered(alloc, "insert(#0,{a,N})", number)?;
+    let call = fill_template(alloc, "insert(#0,{a,N})", number)?;
     let step = ask(alloc, 0, call.as_str());
     drop(call);
     step

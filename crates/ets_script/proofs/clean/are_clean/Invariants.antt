@@ -1,7 +1,0 @@
-use Rattle.std.proofs.Common.{◌≡◌, take}
-use Rattle.std.specs.List.{list_all}
-use Rattle.ets_script.specs.Classes.{is_clean}
-use Rattle.ets_script.proofs.clean.are_clean.Given as goal
-
-abbrev pub invariant-loop-byte : goal.invariant-loop-byte
-invariant-loop-byte l = l.are ≡ list_all is_clean (take l.byte-index l.text)

@@ -1,0 +1,12 @@
+use Rattle.std.proofs.Common.{sym, ap, ◌∙◌, List}
+use Rattle.ets_term.specs.declared.term.Term.{Term}
+use Rattle.node_core.specs.declared.step.Call.{Call}
+use Rattle.ets_script.specs.inside.Parsing.{command_view}
+use Rattle.ets_script.proofs.Asking.{execute-ask-pending}
+use Rattle.ets_script.proofs.script.Script.execute.Goals as goal
+
+pub returns-in-Some-pid : goal.returns-in-Some-pid
+returns-in-Some-pid g c =
+    let call : List Term → Call = λ terms. record { name = c.in-Ask.word; args = terms } in
+    execute-ask-pending c.args.self.now c.step-answer.new.self c.tend.new.self (command_view c.args.command) c.in-Ask.name.now c.in-Ask.word c.in-Ask.terms c.in-Some-pid.pid c.new.result c.step-answer.result
+    (ap command_view c.in-Ask.is) (sym c.pid-in-Ask.ensures ∙ c.in-Some-pid.is) (c.new.ensures ∙ ap call c.into_vec.ensures) c.tend.ensures c.step-answer.ensures

@@ -1,6 +1,0 @@
-use Rattle.std.proofs.Common.{sym, ◌∙◌}
-use Rattle.ets_script.proofs.Tending.{due_unseen}
-use Rattle.ets_script.proofs.script.do_due.Goals as goal
-
-pub returns : goal.returns
-returns g c = due_unseen c.args.node.now c.step.new.self c.in-Some.due c.step.result (sym c.due.ensures ∙ c.in-Some.is) c.step.ensures.ok c.step.ensures.err

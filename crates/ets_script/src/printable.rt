@@ -1,0 +1,35 @@
+//! Clean bytes: those that are allowed on a line that is no comment.
+ghost use Rattle.std.specs.Prelude.{◌≡◌, ◌≤◌, length};
+ghost use Rattle.std.specs.List.{list_all, prefix_len};
+ghost use Rattle.ets_script.specs.Classes as spec;
+
+use term_text::is_character_byte;
+
+fn is_printable(byte: u8) -> bool
+    ensures { result ≡ spec.is_printable byte }
+{
+    byte == b'\t' || is_character_byte(byte)
+}
+
+/// Returns whether all of these are clean. Nearly all lines are, and a scan without an early exit handles many bytes at
+/// once.
+fn are_printable(text: &[u8]) -> bool
+    ensures { result ≡ list_all spec.is_printable text.now }
+{
+    let mut are = true;
+    for byte in text {
+        are &= is_printable(*byte);
+    }
+    are
+}
+
+/// Returns the number of clean bytes at the front.
+pub fn printable_len(text: &[u8]) -> usize
+    ensures len { result ≡ prefix_len spec.is_printable text.now }
+    ensures within { result ≤ length text.now }
+{
+    if are_printable(text) {
+        return text.len();
+    }
+    text.iter().take_while(|byte| is_printable(**byte)).count()
+}

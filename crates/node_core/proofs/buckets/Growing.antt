@@ -1,0 +1,33 @@
+-- A change of the table with an identifier is a change of the state.
+use Rattle.std.proofs.Common.{◌≡◌, ℕ, Option, None, Some, refl, ap, subst, ◌∙◌}
+use Rattle.std.specs.Prelude.{MatchOption, option_map}
+use Rattle.table_ops.specs.Outcomes.{Outcome, gives}
+use Rattle.fixed_walk.specs.TableState.{TableState}
+use Rattle.ownership.specs.World.{Table, table_at}
+use Rattle.ownership.proofs.MetadataLaws.{fixed-same}
+use Rattle.node_core.specs.declared.step.Reply.{Reply}
+use Rattle.node_core.specs.declared.step.Reply.TheVariants.{Badarg}
+use Rattle.node_core.specs.State.{State}
+use Rattle.node_core.specs.Access.{CallRule, with_table}
+use Rattle.node_core.specs.rules.Growth.{in_table}
+
+module _ (old : State) (t : ℕ) (was f : TableState) where
+  abbrev Found : CallRule → Option Table → Outcome Reply State
+  Found rule o reply new = MatchOption o (gives Badarg old reply new) (λ table. (fixed : TableState) × rule table.fixed reply fixed × (new ≡ with_table old t fixed))
+
+  found_at : (rule : CallRule) (reply : Reply) (o : Option Table) → Some was ≡ option_map (λ table. table.fixed) o → rule was reply f → Found rule o reply (with_table old t f)
+  found_at rule reply None e h = cc
+  found_at rule reply (Some table) e h = let same : was ≡ table.fixed = cc in (f, subst (λ x. rule x reply f) same h, refl)
+
+  same_at : (o : Option Table) → table_at old.world.tables t ≡ o → Some was ≡ option_map (λ table. table.fixed) o → f ≡ was → with_table old t f ≡ old
+  same_at None at e same = cc
+  same_at (Some table) at e same =
+      let is : f ≡ table.fixed = same ∙ (cc) in
+      ap (λ g. with_table old t g) is ∙ ap (λ ts. record old { world = record old.world { tables = ts } }) (fixed-same old.world.tables t table at)
+
+  module _ (there : Some was ≡ option_map (λ table. table.fixed) (table_at old.world.tables t)) where
+    pub done : (rule : CallRule) (reply : Reply) → rule was reply f → in_table old t rule reply (with_table old t f)
+    done rule reply h = found_at rule reply (table_at old.world.tables t) there h
+
+    pub not-done : f ≡ was → with_table old t f ≡ old
+    not-done same = same_at (table_at old.world.tables t) refl there same

@@ -1,0 +1,47 @@
+-- What the world answers is what the machine may, and what holds of it.
+use Rattle.std.proofs.Common.{◌≡◌, refl, sym, ap, subst}
+use Rattle.std.specs.Prelude.{List, Bool, Result, Ok, Err, IfOk, OnErr}
+use Rattle.std.specs.declared.alloc.AllocError.{AllocError}
+use Rattle.table_ops.specs.declared.refusal.Refusal.{Refusal}
+use Rattle.table_ops.specs.declared.refusal.Refusal.TheVariants as refusal
+use Rattle.table_ops.specs.Outcomes.{Outcome}
+use Rattle.ownership.specs.World.{World}
+use Rattle.ownership.specs.Outcomes as world
+use Rattle.ownership.specs.declared.fault.WorldFault.{WorldFault}
+use Rattle.ownership.specs.declared.fault.WorldFault.TheVariants.{Badarg, SystemLimit, NoProcess, Memory}
+use Rattle.node_core.specs.declared.step.Reply.{Reply}
+use Rattle.node_core.specs.State.{State}
+use Rattle.node_core.specs.Access.{asks}
+use Rattle.node_core.specs.inside.Refusals as called
+
+module _ {X : Type 0} (old : State) (answer : X → Reply) (outcome : Outcome (Result X WorldFault) World) (w : World) where
+  pub asked-ok : (x : X) → world.Refines outcome old.world (Ok x) w → asks old answer outcome (answer x) (record old { world = w })
+  asked-ok x h = (Ok x, h, refl, refl)
+
+  pub asked-err : (fault : WorldFault) → world.Refines outcome old.world (Err fault) w → called.Refines (asks old answer outcome) old (called.refusal_of fault) (record old { world = w })
+  asked-err Badarg h = (Err Badarg, h, refl, refl)
+  asked-err SystemLimit h = (Err SystemLimit, h, refl, refl)
+  asked-err NoProcess h = (Err NoProcess, h, refl, refl)
+  asked-err Memory h = ap (λ v. record old { world = v }) h
+
+-- the reply for the result of a calling method
+pub told-ok : (outcome : Outcome Reply State) (old new : State) (r : Result Reply Refusal) (told : Result Reply AllocError) → called.Refines outcome old r new → called.ToReply r told → IfOk told (λ reply. outcome reply new)
+told-ok outcome old new (Ok reply) (Ok answer) c e = subst (λ a. outcome a new) (sym e) c
+told-ok outcome old new (Err refusal.Badarg) (Ok answer) c e = subst (λ a. outcome a new) (sym e) c
+told-ok outcome old new (Err refusal.SystemLimit) (Ok answer) c e = subst (λ a. outcome a new) (sym e) c
+told-ok outcome old new (Err refusal.Memory) (Ok answer) c e = absurd e
+told-ok outcome old new r (Err error) c e = tt
+
+pub told-err : (outcome : Outcome Reply State) (old new : State) (r : Result Reply Refusal) (told : Result Reply AllocError) → called.Refines outcome old r new → called.ToReply r told → OnErr told (new ≡ old)
+told-err outcome old new r (Ok answer) c e = tt
+told-err outcome old new (Err refusal.Memory) (Err error) c e = c
+told-err outcome old new (Ok reply) (Err error) c e = absurd e
+told-err outcome old new (Err refusal.Badarg) (Err error) c e = absurd e
+told-err outcome old new (Err refusal.SystemLimit) (Err error) c e = absurd e
+
+-- an outcome for these buckets is one for some
+pub some-buckets : (outcome : List Bool → Outcome Reply State) (buckets : List Bool) (old new : State) (r : Result Reply Refusal) → called.Refines (outcome buckets) old r new → called.Refines (λ reply new. (some : List Bool) × outcome some reply new) old r new
+some-buckets outcome buckets old new (Ok reply) h = (buckets, h)
+some-buckets outcome buckets old new (Err refusal.Badarg) h = (buckets, h)
+some-buckets outcome buckets old new (Err refusal.SystemLimit) h = (buckets, h)
+some-buckets outcome buckets old new (Err refusal.Memory) h = h

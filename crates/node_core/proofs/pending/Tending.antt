@@ -1,0 +1,36 @@
+-- A pending step doubles a table, or readies one of its buckets.
+use Rattle.std.proofs.Common.{◌≡◌, ℕ, suc, Bool, true, false, not, Option, None, Some, [], ◌∷◌, option_map, subst}
+use Rattle.std.specs.Prelude.{if◌then◌else◌, position}
+use Rattle.std.specs.Option.{option_map_or}
+use Rattle.fixed_walk.specs.TableState.{TableState}
+use Rattle.ownership.specs.World.{Tables}
+use Rattle.node_core.specs.declared.step.Step.{Step}
+use Rattle.node_core.specs.declared.step.Step.TheVariants.{Grow, Ready}
+use Rattle.node_core.specs.State.{State}
+use Rattle.node_core.specs.rules.Growth.{is_crowded, pending_of, pending_from, due}
+
+module _ (Q : Step → Type 0) (grows : (t : ℕ) → Q (Grow t)) (readies : (t bucket : ℕ) → Q (Ready t bucket)) where
+  abbrev Where : Option Step → Type 0
+  Where None = Unit {0}
+  Where (Some s) = Q s
+
+  of-table : (t : ℕ) (f : TableState) → Where (pending_of t f)
+  of-table t f = by (is_crowded f) (position not f.buckets)
+    where
+      by : (crowded : Bool) (bucket : Option ℕ) → Where (if crowded then Some (Grow t) else option_map (λ place. Ready t place) bucket)
+      by true bucket = grows t
+      by false None = tt
+      by false (Some bucket) = readies t bucket
+
+  first : (here behind : Option Step) → Where here → Where behind → Where (option_map_or (λ step. Some step) here behind)
+  first None behind h b = b
+  first (Some s) behind h b = h
+
+  of-tables : (t : ℕ) (tables : Tables) → Where (pending_from t tables)
+  of-tables t [] = tt
+  of-tables t (None ∷ tables) = of-tables (suc t) tables
+  of-tables t (Some own ∷ tables) = first (pending_of t own.fixed) (pending_from (suc t) tables) (of-table t own.fixed) (of-tables (suc t) tables)
+
+  -- so what holds of these steps holds of the pending step
+  pub due-tends : (s : State) (event : Step) → due s ≡ Some event → Q event
+  due-tends s event e = subst Where e (of-tables 0 s.world.tables)

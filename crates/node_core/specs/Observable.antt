@@ -1,0 +1,25 @@
+-- The observable state: all that calls can observe, which excludes the buckets of a table that are ready.
+use Rattle.std.specs.Prelude.{◌≡◌, ℕ, Some, [], map, option_map}
+use Rattle.fixed_walk.specs.TableState.{TableState}
+use Rattle.ownership.specs.World.{Table, Tables, table_at}
+use Rattle.node_core.specs.State.{State}
+
+-- the content and the fixes of a table
+abbrev pub observable_fixed : TableState → TableState
+observable_fixed fixed = record fixed { buckets = [] }
+
+abbrev pub observable_table : Table → Table
+observable_table table = record table { fixed = observable_fixed table.fixed }
+
+abbrev pub observable_tables : Tables → Tables
+observable_tables tables = map (option_map observable_table) tables
+
+-- the state without the buckets of its tables; all else is unchanged
+abbrev pub observable : State → State
+observable s = record s { world = record s.world { tables = observable_tables s.world.tables } }
+
+-- a table that stays has the number of buckets that it had, and the same of them are ready
+abbrev pub KeepsBuckets : State → State → Type 0
+KeepsBuckets old new =
+    (t : ℕ) (was table : Table) → table_at old.world.tables t ≡ Some was
+    → table_at new.world.tables t ≡ Some table → table.fixed.buckets ≡ was.fixed.buckets

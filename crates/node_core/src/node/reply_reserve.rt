@@ -1,0 +1,254 @@
+// A step with its reply twice: memory for the copy is reserved before anything changes.
+ghost use Rattle.std.specs.Prelude.{◌≡◌, ℕ, true, false, ◌≤◌, [], length, vec_capacity, IfOk, OnErr, MatchOption};
+ghost use Rattle.std.specs.List.{list_all};
+ghost use Rattle.node_core.specs.Access.{writes};
+ghost use Rattle.node_core.specs.Calls.{call, calls_of_none, calls_of_two, calls_of_three, calls_of_four};
+ghost use Rattle.node_core.specs.rules.Removal.{Take};
+ghost use Rattle.node_core.specs.rules.Tables.{New};
+ghost use Rattle.node_core.specs.State.{State};
+ghost use Rattle.node_core.specs.inside.ReplyReserve.{StepsWithBuckets, is_flat_term, is_flat, is_nothing, list_terms, FitsCapacity, CanCopy, Predicts, Suffices};
+
+use super::Node;
+use super::replies::list_reply;
+use crate::step::{Reply, Step};
+use ets_term::{Items, KeyHash, Term};
+use std::alloc::{AllocError, Global};
+
+/// The greatest number of characters of an atom that is copied without memory.
+const MAX_INLINE: usize = 22;
+
+/// Memory reserved before a step for a second copy of its reply.
+#[derive(Drop)]
+pub enum ReplyReserve {
+    /// Nothing: the copy takes no memory, or the step changes nothing.
+    Nothing,
+    /// The reply itself, predicted, if it takes memory.
+    Predicted(Reply),
+    /// Capacity for the terms of a list, none of which takes memory.
+    Capacity(Vec<Term>),
+}
+
+impl<H: KeyHash + Copy + Drop> Node<H> {
+    /// Reserves what the copy of a step's reply needs.
+    pub(crate) fn reserve_for_step(&self, event: &Step) -> Result<ReplyReserve, AllocError>
+        ensures { IfOk result (Suffices self.now (StepsWithBuckets self.now event.now)) }
+    {
+        match event {
+            Step::Ask(pid, call) => self.reserve_for_call(
+                *pid,
+                call.name.text(),
+                call.args.as_slice(),
+            ),
+            _ => Ok(ReplyReserve::Nothing),
+        }
+    }
+
+    fn reserve_for_call(
+        &self,
+        pid: u32,
+        name: &str,
+        args: &[Term],
+    ) -> Result<ReplyReserve, AllocError>
+        ensures { IfOk result (Suffices self.now (call self.now pid name.now args.now)) }
+    {
+        match args {
+            [] => self.reserve_for_none(pid, name),
+            [_] => Ok(ReplyReserve::Nothing),
+            [x, y] => self.reserve_for_two(pid, name, x, y),
+            [x, y, z] => self.reserve_for_three(pid, name, x, y, z),
+            [x, y, z, default] => self.reserve_for_four(pid, name, x, y, z, default),
+            _ => Ok(ReplyReserve::Nothing),
+        }
+    }
+
+    fn reserve_for_none(&self, pid: u32, name: &str) -> Result<ReplyReserve, AllocError>
+        ensures { IfOk result (Suffices self.now (calls_of_none self.now pid name.now)) }
+    {
+        if name == "receive" {
+            let copy = list_reply(self.alloc, self.world.mailbox(pid))?;
+            Ok(ReplyReserve::Predicted(copy))
+        } else {
+            Ok(ReplyReserve::Nothing)
+        }
+    }
+
+    fn reserve_for_two(
+        &self,
+        pid: u32,
+        name: &str,
+        x: &Term,
+        y: &Term,
+    ) -> Result<ReplyReserve, AllocError>
+        ensures { IfOk result (Suffices self.now (calls_of_two self.now pid name.now x.now y.now)) }
+    {
+        if name == "take" {
+            let copy = self.predicted_take(pid, x, y)?;
+            Ok(ReplyReserve::Predicted(copy))
+        } else if name == "new" {
+            predicted_name(self.alloc, x)
+        } else {
+            Ok(ReplyReserve::Nothing)
+        }
+    }
+
+    fn reserve_for_three(
+        &self,
+        pid: u32,
+        name: &str,
+        x: &Term,
+        y: &Term,
+        updates: &Term,
+    ) -> Result<ReplyReserve, AllocError>
+        ensures { IfOk result
+            (Suffices self.now (calls_of_three self.now pid name.now x.now y.now updates.now)) }
+    {
+        if name == "update_counter" {
+            let room = capacity_for(self.alloc, updates)?;
+            Ok(ReplyReserve::Capacity(room))
+        } else {
+            Ok(ReplyReserve::Nothing)
+        }
+    }
+
+    fn reserve_for_four(
+        &self,
+        pid: u32,
+        name: &str,
+        x: &Term,
+        y: &Term,
+        updates: &Term,
+        default: &Term,
+    ) -> Result<ReplyReserve, AllocError>
+        ensures { IfOk result
+            (Suffices self.now
+            (calls_of_four self.now pid name.now x.now y.now updates.now default.now)) }
+    {
+        if name == "update_counter" {
+            let room = capacity_for(self.alloc, updates)?;
+            Ok(ReplyReserve::Capacity(room))
+        } else {
+            Ok(ReplyReserve::Nothing)
+        }
+    }
+
+    /// Predicts the reply of `take`, if it is allowed: a process that may write may read.
+    fn predicted_take(&self, pid: u32, table: &Term, key: &Term) -> Result<Reply, AllocError>
+        ensures { IfOk result (Predicts (writes self.now pid table.now (Take key.now))) }
+    {
+        match self.readable(pid, table) {
+            Some(table) => list_reply(self.alloc, table.lookup(key)),
+            None => Ok(Reply::Badarg),
+        }
+    }
+}
+
+/// Predicts the reply of `new` for a named table.
+fn predicted_name(alloc: Global, name: &Term) -> Result<ReplyReserve, AllocError>
+    ensures { (old : State) → (pid : ℕ) → (options : Term)
+        → IfOk result (Suffices old (New old pid name.now options)) }
+{
+    let Term::Atom(name) = name else {
+        return Ok(ReplyReserve::Nothing);
+    };
+    let copy = name.try_clone(alloc)?;
+    Ok(ReplyReserve::Predicted(Reply::Value(Term::Atom(copy))))
+}
+
+impl ReplyReserve {
+    /// Returns a copy of the reply.
+    pub fn copy(self, alloc: Global, reply: &Reply) -> Result<Reply, AllocError>
+        requires { CanCopy self reply.now }
+        ensures ok { IfOk result (λ r. r ≡ reply.now) }
+        ensures err { OnErr result ((is_nothing self ≡ true) × (is_flat reply.now ≡ false)) }
+    {
+        if let Some(copy) = flat_copy(alloc, reply) {
+            drop(self);
+            return Ok(copy);
+        }
+        match self {
+            ReplyReserve::Nothing => reply.try_clone(alloc),
+            ReplyReserve::Predicted(copy) => Ok(copy),
+            ReplyReserve::Capacity(room) => Ok(fill(alloc, room, reply)),
+        }
+    }
+}
+
+/// Returns a copy of a reply that takes no memory.
+fn flat_copy(alloc: Global, reply: &Reply) -> Option<Reply>
+    ensures { MatchOption result
+        (is_flat reply.now ≡ false) (λ r. (r ≡ reply.now) × (is_flat reply.now ≡ true)) }
+{
+    match reply {
+        Reply::Value(term) => match flat_term(alloc, term) {
+            Some(term) => Some(Reply::Value(term)),
+            None => None,
+        },
+        Reply::Badarg => Some(Reply::Badarg),
+        Reply::SystemLimit => Some(Reply::SystemLimit),
+        Reply::NoProcess => Some(Reply::NoProcess),
+    }
+}
+
+fn flat_term(alloc: Global, term: &Term) -> Option<Term>
+    ensures { MatchOption result
+        (is_flat_term term.now ≡ false) (λ t. (t ≡ term.now) × (is_flat_term term.now ≡ true)) }
+{
+    match term {
+        Term::Int(n) => Some(Term::Int(*n)),
+        Term::Pid(pid) => Some(Term::Pid(*pid)),
+        Term::Tid(id) => Some(Term::Tid(*id)),
+        Term::Atom(atom) => {
+            if atom.text().len() > MAX_INLINE {
+                return None;
+            }
+            match atom.try_clone(alloc) {
+                Ok(atom) => Some(Term::Atom(atom)),
+                Err(_) => unreachable!(),
+            }
+        }
+        _ => None,
+    }
+}
+
+/// Reserves capacity for one term per update of a list.
+fn capacity_for(alloc: Global, updates: &Term) -> Result<Vec<Term>, AllocError>
+    ensures { IfOk result (λ room.
+        (length (list_terms updates.now) ≤ vec_capacity room) × (room.items ≡ [])) }
+{
+    match updates {
+        Term::List(terms) => Vec::with_capacity(alloc, terms.len()),
+        _ => Ok(Vec::new(alloc)),
+    }
+}
+
+/// Copies a list of terms into the reserved capacity.
+fn fill(alloc: Global, room: Vec<Term>, reply: &Reply) -> Reply
+    requires fits { FitsCapacity (vec_capacity room) reply.now }
+    requires empty { room.items ≡ [] }
+    ensures { result ≡ reply.now }
+{
+    match reply {
+        Reply::Value(Term::List(terms)) => Reply::Value(Term::List(fill_terms(
+            alloc,
+            room,
+            terms.as_slice(),
+        ))),
+        _ => unreachable!(),
+    }
+}
+
+fn fill_terms(alloc: Global, room: Vec<Term>, terms: &[Term]) -> Items<Term>
+    requires flat { list_all is_flat_term terms.now ≡ true }
+    requires room { length terms.now ≤ vec_capacity room }
+    requires empty { room.items ≡ [] }
+    ensures { result ≡ terms.now }
+{
+    let mut copies = room;
+    for term in terms {
+        let Some(copy) = flat_term(alloc, term) else {
+            unreachable!()
+        };
+        copies.push_reserved(copy);
+    }
+    Items::from_vec(copies)
+}

@@ -1,0 +1,117 @@
+ghost use Rattle.std.specs.Prelude.{◌≡◌, ◌≤◌, ◌<◌, ℕ, [], length, drop, slice_get, OnOk, None, Some};
+ghost use Rattle.node_core.specs.inside.PendingTables.{Ascends, IsAmong, AreBelow, HasRoomFor};
+
+use std::alloc::{AllocError, Global};
+use std::collections::VecDeque;
+use std::marker::Model;
+
+/// The tables that may have a pending growth step: a queue of identifiers in ascending order, each once, and the dirty
+/// table, which was borrowed last. Capacity is reserved beforehand, so that adding one takes no memory.
+#[derive(Drop)]
+pub struct PendingTables {
+    ordered: VecDeque<u32>,
+    dirty: Option<u32>,
+}
+
+impl Model for PendingTables {
+    ghost use Rattle.std.specs.VecDeque.{deque_capacity};
+    ghost use Rattle.node_core.specs.inside.PendingTables.{PendingTablesState, pending_tables_code, Ascends};
+
+    ghost Value = { PendingTablesState };
+
+    ghost coded = { pending_tables_code };
+
+    ghost view = { λ s. record { ordered = s.ordered.items; dirty = s.dirty; room = deque_capacity s.ordered } };
+
+    ghost invariant = { λ s. Ascends s.ordered.items };
+}
+
+impl PendingTables {
+    pub fn new(alloc: Global) -> PendingTables
+        ensures { result.ordered ≡ [] }
+    {
+        PendingTables {
+            ordered: VecDeque::new(alloc),
+            dirty: None,
+        }
+    }
+
+    /// Gives a proof the invariant that they ascend; it does nothing at run time.
+    pub fn reveal_invariant(&self)
+        ensures { Ascends self.now.ordered }
+    {
+        let _ = self.ordered.len();
+    }
+
+    /// Returns the length of the queue.
+    pub fn len(&self) -> usize
+        ensures { result ≡ length self.now.ordered }
+    {
+        self.ordered.len()
+    }
+
+    /// Returns the identifier at an index of the queue.
+    pub fn get(&self, place: usize) -> Option<u32>
+        ensures { result ≡ slice_get self.now.ordered place }
+    {
+        self.ordered.get(place).copied()
+    }
+
+    /// Returns the dirty table.
+    pub fn dirty(&self) -> Option<u32>
+        ensures { result ≡ self.now.dirty }
+    {
+        self.dirty
+    }
+
+    /// Sets the dirty table, and returns the previous one.
+    pub fn set_dirty(&mut self, id: u32) -> Option<u32>
+        ensures before { result ≡ self.old.dirty }
+        ensures rest { self.new ≡ record self.old { dirty = Some id } }
+    {
+        self.dirty.replace(id)
+    }
+
+    /// Clears the dirty table.
+    pub fn clear_dirty(&mut self)
+        ensures { self.new ≡ record self.old { dirty = None } }
+    {
+        self.dirty = None;
+    }
+
+    /// Reserves capacity for `room` identifiers.
+    pub fn reserve(&mut self, len: usize) -> Result<(), AllocError>
+        ensures same { self.new.ordered ≡ self.old.ordered }
+        ensures dirty { self.new.dirty ≡ self.old.dirty }
+        ensures more { self.old.room ≤ self.new.room }
+        ensures ok { OnOk result (len ≤ self.new.room) }
+    {
+        self.ordered.reserve(len.saturating_sub(self.ordered.len()))
+    }
+
+    /// Queues an identifier, unless the queue has it.
+    pub fn insert(&mut self, id: u32)
+        requires { HasRoomFor self.old id }
+        ensures new { IsAmong self.new.ordered id }
+        ensures old { (other : ℕ) → IsAmong self.old.ordered other → IsAmong self.new.ordered other }
+        ensures below { (bound : ℕ) → AreBelow self.old.ordered bound → id < bound
+            → AreBelow self.new.ordered bound }
+        ensures dirty { self.new.dirty ≡ self.old.dirty }
+        ensures room { self.old.room ≤ self.new.room }
+    {
+        if let Err(place) = self.ordered.binary_search(&id) {
+            if self.ordered.insert(place, id).is_err() {
+                unreachable!()
+            }
+        }
+    }
+
+    /// Removes the front of the queue.
+    pub fn pop_front(&mut self)
+        ensures rest { self.new.ordered ≡ drop 1 self.old.ordered }
+        ensures dirty { self.new.dirty ≡ self.old.dirty }
+        ensures room { self.new.room ≡ self.old.room }
+    {
+        let _ = self.ordered.pop_front();
+    }
+}

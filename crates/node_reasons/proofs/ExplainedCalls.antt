@@ -1,0 +1,277 @@
+-- The reason of a call explains each of its replies, call by call.
+use Rattle.std.proofs.Common.{◌≡◌, ℕ, inl, inr, Bool, true, false, not, List, [], ◌∷◌, Option, None, Some, option_and_then, Result, Ok, Err, refl, ap, ◌∙◌, codes}
+use Rattle.std.specs.Prelude.{◌==◌, ◌&&◌, if◌then◌else◌, is_some, MatchOption, nat_le, length}
+use Rattle.std.specs.Option.{option_map_or}
+use Rattle.ets_term.specs.declared.term.Term.{Term, out-Term}
+use Rattle.ets_term.specs.declared.term.Term.TheVariants.{Tid}
+use Rattle.ets_term.specs.Atoms.{text_of, is_atom}
+use Rattle.table_ops.specs.Content.{is_present}
+use Rattle.table_ops.specs.Outcomes.{Outcome, gives, refuse}
+use Rattle.fixed_walk.specs.Walk.{first_key, first_slot}
+use Rattle.ownership.specs.declared.fault.WorldFault.{WorldFault}
+use Rattle.ownership.specs.declared.fault.WorldFault.TheVariants as fault
+use Rattle.ownership.specs.declared.metadata.Heir.{Heir}
+use Rattle.ownership.specs.declared.info.InfoItem.{InfoItem}
+use Rattle.ownership.specs.declared.options.NewOptions.{NewOptions}
+use Rattle.ownership.specs.World.{Table, World, table_at, resolve, whereis, lives}
+use Rattle.ownership.specs.Access.{owned_by}
+use Rattle.ownership.specs.Options.{options_of, pid_form, heir_after}
+use Rattle.ownership.specs.Info.{item_of}
+use Rattle.ownership.specs.Messages.{name_or_identifier, post, transfer_message}
+use Rattle.ownership.specs.Tables as tables
+use Rattle.ownership.specs.Tables.{without_table, with_changed, with_owner, with_heir, with_table, new_metadata}
+use Rattle.node_core.specs.declared.node.access.Access.TheVariants.{Read, Write}
+use Rattle.node_core.specs.declared.step.Reply.{Reply}
+use Rattle.node_core.specs.declared.step.Reply.TheVariants.{Value, Badarg}
+use Rattle.node_core.specs.State.{State}
+use Rattle.node_core.specs.Access.{WorldResultToReply, asks}
+use Rattle.node_core.specs.Calls.{calls_of_none, calls_of_one, table_calls_of_two, search_calls_of_two, object_calls_of_two, calls_of_three, calls_of_four, call}
+use Rattle.node_core.specs.rules.Insertion.{Insert, InsertNew}
+use Rattle.node_core.specs.rules.Reading.{Lookup, Member, LookupElement, LookupElementOr, Tab2list}
+use Rattle.node_core.specs.rules.Removal.{Take, Delete, DeleteObject, DeleteAllObjects}
+use Rattle.node_core.specs.rules.Searching.{Match, MatchObject, MatchDelete, Select, SelectCount, SelectDelete}
+use Rattle.node_core.specs.rules.Updates.{UpdateCounter, UpdateElement}
+use Rattle.node_core.specs.rules.Owning.{GiveAway, SetOptions, value_or_undefined, Whereis, names_form, info_at, Info}
+use Rattle.node_core.specs.rules.Replies.{true_reply, is_value}
+use Rattle.node_core.specs.rules.Tables.{new_table_of, New, DeleteTable}
+use Rattle.node_core.specs.rules.Walking.{Fixes, Releases, SafeFixtable, First, Next, FirstLookup, NextLookup}
+use Rattle.node_reasons.specs.declared.reason.Rule.TheVariants as rule
+use Rattle.node_reasons.specs.declared.reason.Reason.{Reason}
+use Rattle.node_reasons.specs.Reasons.{argument, whole, table_of_term, on_table}
+use Rattle.node_reasons.specs.Names.{is_call_name, no_call}
+use Rattle.node_reasons.specs.Objects.{no_further_rule, why_insert, why_delete_object, why_next, why_match, why_select, why_lookup_element, why_lookup_element_or}
+use Rattle.node_reasons.specs.Updates.{why_update_counter, why_update_element}
+use Rattle.node_reasons.specs.Tables.{why_whereis, why_new_with, why_new, why_info, why_safe_fixtable, on_owned_table, why_heir, why_setopts, why_receiver, why_give_away_to, why_give_away}
+use Rattle.node_reasons.specs.Calls.{why_none, why_one, table_why_two, search_why_two, why_two, why_three, why_four, why_call}
+use Rattle.node_reasons.proofs.Explained.{ReasonExplains, ReasonExplainsAll, Either, either-explained, row-explained, gives-explained, Where, used-explained, reads-explained, changes-explained, truth-value, world-badarg, world-limit, world-value}
+use Rattle.node_reasons.proofs.ExplainedRules.{insert-explained, insert_new-explained, deletion-explained, key-value, slot-value, next-explained, next_lookup-explained, fixes-explained, match-explained, match_object-explained, match_delete-explained, select-explained, select_count-explained, select_delete-explained, element-explained, element-or-explained}
+use Rattle.node_reasons.proofs.ExplainedUpdates.{counter-explained, update-explained}
+
+told-value : (o : Option Term) → is_value (value_or_undefined o) ≡ true
+told-value None = refl
+told-value (Some term) = refl
+
+module _ (old : State) where
+  no-call-explained : (name : List ℕ) → ReasonExplainsAll (Some (no_call name)) (gives Badarg old)
+  no-call-explained name = by (is_call_name name)
+    where
+      by : (b : Bool) → ReasonExplainsAll (Some (if b then whole rule.WrongArity else whole rule.NoCall)) (gives Badarg old)
+      by true reply new h = (h.0, refl)
+      by false reply new h = (h.0, refl)
+
+  naming-explained : (name : Term) → ReasonExplainsAll (why_whereis name) (Whereis old name)
+  naming-explained name = by (text_of name)
+    where
+      by : (o : Option (List ℕ)) → ReasonExplainsAll (if is_some o then None else Some (argument 1 rule.NotAnAtom))
+          (Where o old (λ text. gives (value_or_undefined (option_map_or (λ t. Some (Tid t)) (whereis old.world.tables text) None)) old))
+      by None reply new h = (h.0, refl)
+      by (Some text) reply new h = inl (ap is_value h.0 ∙ told-value (option_map_or (λ t. Some (Tid t)) (whereis old.world.tables text) None))
+
+  informing-explained : (term item : Term) → ReasonExplainsAll (why_info term item) (Info old term item)
+  informing-explained term item = by (item_of item)
+    where
+      named : (i : InfoItem) (b : Bool) → ReasonExplainsAll (if b then None else Some (argument 1 rule.NotAnAtom)) (Either b (gives (value_or_undefined (option_and_then (info_at i old.world) (resolve old.world.tables term))) old) (gives Badarg old))
+      named i true reply new h = inl (ap is_value h.0 ∙ told-value (option_and_then (info_at i old.world) (resolve old.world.tables term)))
+      named i false reply new h = (h.0, refl)
+
+      by : (o : Option InfoItem) → ReasonExplainsAll (if is_some o then (if names_form (out-Term term) then None else Some (argument 1 rule.NotAnAtom)) else Some (argument 2 rule.NotAnItem))
+          (Where o old (λ i. Either (names_form (out-Term term)) (gives (value_or_undefined (option_and_then (info_at i old.world) (resolve old.world.tables term))) old) (gives Badarg old)))
+      by None = λ reply new h. (h.0, refl)
+      by (Some i) = named i (names_form (out-Term term))
+
+  module _ (p : ℕ) where
+    fixing-explained : (term flag : Term) → ReasonExplainsAll (why_safe_fixtable p (table_of_term old.world.tables term) flag) (SafeFixtable old p term flag)
+    fixing-explained term flag =
+        either-explained (is_atom (codes "true") flag) _ _ _ _ (changes-explained old p term Read no_further_rule (Fixes p) (λ f g reply h. fixes-explained p f g reply h))
+        (either-explained (is_atom (codes "false") flag) _ _ _ _ (changes-explained old p term Read no_further_rule (Releases p) (λ f g reply h. inl (ap is_value h.0))) (λ reply new h. (h.0, refl)))
+
+    delete_table-explained : (term : Term) → ReasonExplainsAll (on_table Write p (table_of_term old.world.tables term) no_further_rule) (DeleteTable old p term)
+    delete_table-explained term =
+        used-explained old p Write no_further_rule (λ found. gives true_reply (record old { world = without_table old.world found.0 })) (λ found. gives-explained None true_reply (record old { world = without_table old.world found.0 }) (inl refl)) term
+
+  -- ---- what is asked of the world
+  abbrev ReasonExplainsWorld : {X : Type 0} → Option Reason → (X → Reply) → Outcome (Result X WorldFault) World → Type 0
+  ReasonExplainsWorld {X = X} v answer outcome = (r : Result X WorldFault) (new : World) (reply : Reply) → outcome r new → WorldResultToReply answer r reply → ReasonExplains v reply
+
+  pub asks-explained : {X : Type 0} (v : Option Reason) (answer : X → Reply) (outcome : Outcome (Result X WorldFault) World) → ReasonExplainsWorld v answer outcome → ReasonExplainsAll v (asks old answer outcome)
+  asks-explained v answer outcome explains reply new h = explains h.0 new.world reply h.1 h.2
+
+  pub done-explained : {X : Type 0} (answer : X → Reply) (x : X) (after : World) → is_value (answer x) ≡ true → ReasonExplainsWorld None answer (gives (Ok x) after)
+  done-explained answer x after v r new reply h e = inl (world-value answer r x reply v h.0 e)
+
+  pub within-explained : {X : Type 0} (answer : X → Reply) (b : Bool) (x : X) (after : World) → is_value (answer x) ≡ true → ReasonExplainsWorld None answer (refuse old.world b (Err fault.SystemLimit) (gives (Ok x) after))
+  within-explained answer true x after v = λ r new reply h e. inr (world-limit answer r reply h.0 e)
+  within-explained answer false x after v = done-explained answer x after v
+
+  abbrev IsBadarg : Option Reason → Type 0
+  IsBadarg v = (reply : Reply) → reply ≡ Badarg → ReasonExplains v reply
+
+  -- a refusal where a test fails, and one where it holds
+  unless-explained : {X : Type 0} (v w : Option Reason) (answer : X → Reply) (b : Bool) (otherwise : Outcome (Result X WorldFault) World) → IsBadarg w → ReasonExplainsWorld v answer otherwise → ReasonExplainsWorld (if b then v else w) answer (refuse old.world (not b) (Err fault.Badarg) otherwise)
+  unless-explained v w answer true otherwise bad explains = explains
+  unless-explained v w answer false otherwise bad explains = λ r new reply h e. bad reply (world-badarg answer r reply h.0 e)
+
+  pub where-explained : {X : Type 0} (v w : Option Reason) (answer : X → Reply) (b : Bool) (otherwise : Outcome (Result X WorldFault) World) → IsBadarg w → ReasonExplainsWorld v answer otherwise → ReasonExplainsWorld (if b then w else v) answer (refuse old.world b (Err fault.Badarg) otherwise)
+  where-explained v w answer false otherwise bad explains = explains
+  where-explained v w answer true otherwise bad explains = λ r new reply h e. bad reply (world-badarg answer r reply h.0 e)
+
+  -- ---- a new table
+  abbrev Enters : ℕ → List ℕ → NewOptions → Outcome (Result Term WorldFault) World
+  Enters p text options = tables.New old.world p text options (new_table_of old.limits.objects options)
+
+  told-term : (named : Bool) (name : List ℕ) (t : ℕ) → is_value (Value (name_or_identifier named name t)) ≡ true
+  told-term named name t = refl
+
+  enters-explained : (p : ℕ) (text : List ℕ) (options : NewOptions) → ReasonExplainsWorld (why_new_with old.world.tables text (Some options)) Value (Enters p text options)
+  enters-explained p text options =
+      where-explained None (Some (argument 1 rule.NameIsTaken)) Value (options.named && is_some (whereis old.world.tables text))
+      (refuse old.world (nat_le old.world.most_tables (length old.world.tables)) (Err fault.SystemLimit)
+      (gives (Ok (name_or_identifier options.named text (length old.world.tables))) (with_table old.world (new_metadata p text options) (new_table_of old.limits.objects options))))
+      (λ reply e. (e, refl))
+      (within-explained Value (nat_le old.world.most_tables (length old.world.tables)) (name_or_identifier options.named text (length old.world.tables)) (with_table old.world (new_metadata p text options) (new_table_of old.limits.objects options)) refl)
+
+  abbrev Makes : ℕ → List ℕ → NewOptions → Outcome Reply State
+  Makes p text options reply new = asks old Value (Enters p text options) reply new
+
+  making-explained : (p : ℕ) (name options : Term) → ReasonExplainsAll (why_new old.world.tables name options) (New old p name options)
+  making-explained p name options = by (text_of name)
+    where
+      given : (text : List ℕ) (o : Option NewOptions) → ReasonExplainsAll (why_new_with old.world.tables text o) (Where o old (λ options. Makes p text options))
+      given text None = λ reply new h. (h.0, refl)
+      given text (Some options) = λ reply new h. asks-explained (why_new_with old.world.tables text (Some options)) Value (Enters p text options) (enters-explained p text options) reply new h
+
+      by : (o : Option (List ℕ)) → ReasonExplainsAll (option_map_or (λ text. why_new_with old.world.tables text (options_of options)) o (Some (argument 1 rule.NotAnAtom)))
+          (Where o old (λ text. Where (options_of options) old (λ options. Makes p text options)))
+      by None = λ reply new h. (h.0, refl)
+      by (Some text) = given text (options_of options)
+
+  -- ---- a table of one's own
+  abbrev Owns : {X : Type 0} → ℕ → (Table → Outcome (Result X WorldFault) World) → Option Table → Outcome (Result X WorldFault) World
+  Owns p otherwise o r new = MatchOption o (gives (Err fault.Badarg) old.world r new) (λ table. refuse old.world (not (owned_by table.metadata p)) (Err fault.Badarg) (otherwise table) r new)
+
+  owns-explained : {X : Type 0} (p : ℕ) (v : Table → Option Reason) (answer : X → Reply) (otherwise : Table → Outcome (Result X WorldFault) World) (o : Option Table) → ((table : Table) → ReasonExplainsWorld (v table) answer (otherwise table)) → ReasonExplainsWorld (on_owned_table p o v) answer (Owns p otherwise o)
+  owns-explained p v answer otherwise None explains = λ r new reply h e. (world-badarg answer r reply h.0 e, refl)
+  owns-explained p v answer otherwise (Some table) explains = unless-explained (v table) (Some (argument 1 rule.NotOwner)) answer (owned_by table.metadata p) (otherwise table) (λ reply e. (e, refl)) (explains table)
+
+  abbrev Heirs : ℕ → Term → Table → Outcome (Result (Unit {0}) WorldFault) World
+  Heirs t options table r new = MatchOption (heir_after table.metadata.heir options) (gives (Err fault.Badarg) old.world r new) (λ heir.
+      gives (Ok (tt {0})) (record old.world { tables = with_changed (with_heir heir) old.world.tables t }) r new)
+
+  heirs-explained : (t : ℕ) (options : Term) (table : Table) → ReasonExplainsWorld (why_heir options table) (λ _. true_reply) (Heirs t options table)
+  heirs-explained t options table r new reply h e = by (heir_after table.metadata.heir options) h
+    where
+      by : (o : Option (Option Heir)) → MatchOption o (gives (Err fault.Badarg) old.world r new) (λ heir. gives (Ok (tt {0})) (record old.world { tables = with_changed (with_heir heir) old.world.tables t }) r new)
+          → ReasonExplains (if is_some o then None else Some (argument 2 rule.NotOptions)) reply
+      by None h = (world-badarg (λ _. true_reply) r reply h.0 e, refl)
+      by (Some heir) h = inl (world-value (λ _. true_reply) r (tt {0}) reply refl h.0 e)
+
+  setting-explained : (p : ℕ) (term options : Term) → ReasonExplainsAll (why_setopts p (table_of_term old.world.tables term) options) (SetOptions old p term options)
+  setting-explained p term options = by (resolve old.world.tables term)
+    where
+      by : (o : Option ℕ) → ReasonExplainsAll (why_setopts p (option_and_then (table_at old.world.tables) o) options) (Where o old (λ t. asks old (λ _. true_reply) (tables.SetOptions old.world p t options)))
+      by None = λ reply new h. (h.0, refl)
+      by (Some t) =
+          asks-explained (why_setopts p (table_at old.world.tables t) options) (λ _. true_reply) (tables.SetOptions old.world p t options)
+          (owns-explained p (why_heir options) (λ _. true_reply) (Heirs t options) (table_at old.world.tables t) (heirs-explained t options))
+
+  receiving-explained : (p q : ℕ) (after : World) → ReasonExplainsWorld (why_receiver old.world.processes p q) (λ _. true_reply)
+      (refuse old.world (q == p) (Err fault.Badarg) (refuse old.world (not (lives old.world.processes q)) (Err fault.Badarg) (gives (Ok (tt {0})) after)))
+  receiving-explained p q after =
+      where-explained (if lives old.world.processes q then None else Some (argument 2 rule.NotAlive)) (Some (argument 2 rule.ToSelf)) (λ _. true_reply) (q == p) (refuse old.world (not (lives old.world.processes q)) (Err fault.Badarg) (gives (Ok (tt {0})) after)) (λ reply e. (e, refl))
+      (unless-explained None (Some (argument 2 rule.NotAlive)) (λ _. true_reply) (lives old.world.processes q) (gives (Ok (tt {0})) after) (λ reply e. (e, refl)) (done-explained (λ _. true_reply) (tt {0}) after refl))
+
+  abbrev after-gift : ℕ → Term → ℕ → ℕ → Table → World
+  after-gift p gift t q table = record old.world { processes = post old.world.processes q (transfer_message table.metadata t p gift); tables = with_changed (with_owner q) old.world.tables t }
+
+  abbrev Gives : ℕ → Term → ℕ → ℕ → Table → Outcome (Result (Unit {0}) WorldFault) World
+  Gives p gift t q table = refuse old.world (q == p) (Err fault.Badarg) (refuse old.world (not (lives old.world.processes q)) (Err fault.Badarg) (gives (Ok (tt {0})) (after-gift p gift t q table)))
+
+  giving-explained : (p : ℕ) (term pid gift : Term) → ReasonExplainsAll (why_give_away old.world.processes p (table_of_term old.world.tables term) pid) (GiveAway old p term pid gift)
+  giving-explained p term pid gift = by (resolve old.world.tables term)
+    where
+      nowhere : (t : ℕ) (q : Option ℕ) → ReasonExplainsAll (Some (argument 1 rule.NoTable)) (Where q old (λ q. asks old (λ _. true_reply) (Owns p (Gives p gift t q) None)))
+      nowhere t None = λ reply new h. (h.0, refl)
+      nowhere t (Some q) = asks-explained (Some (argument 1 rule.NoTable)) (λ _. true_reply) (Owns p (Gives p gift t q) None) (λ r new reply h e. (world-badarg (λ _. true_reply) r reply h.0 e, refl))
+
+      to : (t : ℕ) (table : Table) (q : Option ℕ) → ReasonExplainsAll (why_give_away_to old.world.processes p (Some table) q) (Where q old (λ q. asks old (λ _. true_reply) (Owns p (Gives p gift t q) (Some table))))
+      to t table None = λ reply new h. (h.0, refl)
+      to t table (Some q) =
+          asks-explained (on_owned_table p (Some table) (λ _. why_receiver old.world.processes p q)) (λ _. true_reply) (Owns p (Gives p gift t q) (Some table))
+          (owns-explained p (λ _. why_receiver old.world.processes p q) (λ _. true_reply) (Gives p gift t q) (Some table) (λ own. receiving-explained p q (after-gift p gift t q own)))
+
+      at : (t : ℕ) (o : Option Table) → ReasonExplainsAll (why_give_away old.world.processes p o pid) (Where (pid_form (out-Term pid)) old (λ q. asks old (λ _. true_reply) (Owns p (Gives p gift t q) o)))
+      at t None = nowhere t (pid_form (out-Term pid))
+      at t (Some table) = to t table (pid_form (out-Term pid))
+
+      by : (o : Option ℕ) → ReasonExplainsAll (why_give_away old.world.processes p (option_and_then (table_at old.world.tables) o) pid) (Where o old (λ t. Where (pid_form (out-Term pid)) old (λ q. asks old (λ _. true_reply) (tables.GiveAway old.world p t q gift))))
+      by None = λ reply new h. (h.0, refl)
+      by (Some t) = at t (table_at old.world.tables t)
+
+  -- ---- the table of calls
+  module _ (p : ℕ) (name : List ℕ) where
+    none-explained : ReasonExplainsAll (why_none name) (calls_of_none old p name)
+    none-explained = row-explained name (codes "receive") _ _ _ _ (λ reply new h. inl (ap is_value h.0)) (no-call-explained name)
+
+    one-explained : (x : Term) → ReasonExplainsAll (why_one old.world.tables old.world.processes p name (table_of_term old.world.tables x) x) (calls_of_one old p name x)
+    one-explained x =
+        row-explained name (codes "tab2list") _ _ _ _ (reads-explained old p x no_further_rule Tab2list (λ f. inl refl)) (
+        row-explained name (codes "delete_all_objects") _ _ _ _ (changes-explained old p x Write no_further_rule DeleteAllObjects (λ f g reply h. inl (ap is_value h.0))) (
+        row-explained name (codes "delete") _ _ _ _ (delete_table-explained p x) (
+        row-explained name (codes "first") _ _ _ _ (reads-explained old p x no_further_rule First (λ f. inl (key-value (first_key f.content.slots)))) (
+        row-explained name (codes "first_lookup") _ _ _ _ (reads-explained old p x no_further_rule FirstLookup (λ f. inl (slot-value (first_slot f.content.slots)))) (
+        row-explained name (codes "whereis") _ _ _ _ (naming-explained x) (
+        no-call-explained name))))))
+
+    tables-explained : (x y : Term) → ReasonExplainsAll (table_why_two old.world.tables old.world.processes p name (table_of_term old.world.tables x) x y) (table_calls_of_two old p name x y)
+    tables-explained x y =
+        row-explained name (codes "new") _ _ _ _ (making-explained p x y) (
+        row-explained name (codes "next") _ _ _ _ (reads-explained old p x (why_next y) (Next y) (next-explained y)) (
+        row-explained name (codes "next_lookup") _ _ _ _ (reads-explained old p x (why_next y) (NextLookup y) (next_lookup-explained y)) (
+        row-explained name (codes "safe_fixtable") _ _ _ _ (fixing-explained p x y) (
+        row-explained name (codes "setopts") _ _ _ _ (setting-explained p x y) (
+        row-explained name (codes "info") _ _ _ _ (informing-explained x y) (
+        no-call-explained name))))))
+
+    searches-explained : (x y : Term) → ReasonExplainsAll (search_why_two old.world.tables old.world.processes p name (table_of_term old.world.tables x) x y) (search_calls_of_two old p name x y (table_calls_of_two old p name x y))
+    searches-explained x y =
+        row-explained name (codes "match") _ _ _ _ (reads-explained old p x (why_match y) (Match y) (match-explained y)) (
+        row-explained name (codes "match_object") _ _ _ _ (reads-explained old p x (why_match y) (MatchObject y) (match_object-explained y)) (
+        row-explained name (codes "match_delete") _ _ _ _ (changes-explained old p x Write (why_match y) (MatchDelete y) (match_delete-explained y)) (
+        row-explained name (codes "select") _ _ _ _ (reads-explained old p x (why_select y) (Select y) (select-explained y)) (
+        row-explained name (codes "select_count") _ _ _ _ (reads-explained old p x (why_select y) (SelectCount y) (select_count-explained y)) (
+        row-explained name (codes "select_delete") _ _ _ _ (changes-explained old p x Write (why_select y) (SelectDelete y) (select_delete-explained y)) (
+        tables-explained x y))))))
+
+    two-explained : (x y : Term) → ReasonExplainsAll (why_two old.world.tables old.world.processes p name (table_of_term old.world.tables x) x y) (object_calls_of_two old p name x y (search_calls_of_two old p name x y (table_calls_of_two old p name x y)))
+    two-explained x y =
+        row-explained name (codes "insert") _ _ _ _ (changes-explained old p x Write (why_insert y) (Insert y) (insert-explained y)) (
+        row-explained name (codes "insert_new") _ _ _ _ (changes-explained old p x Write (why_insert y) (InsertNew y) (insert_new-explained y)) (
+        row-explained name (codes "lookup") _ _ _ _ (reads-explained old p x no_further_rule (Lookup y) (λ f. inl refl)) (
+        row-explained name (codes "member") _ _ _ _ (reads-explained old p x no_further_rule (Member y) (λ f. inl (truth-value (is_present f.content.slots y)))) (
+        row-explained name (codes "take") _ _ _ _ (changes-explained old p x Write no_further_rule (Take y) (λ f g reply h. inl (ap is_value h.0))) (
+        row-explained name (codes "delete") _ _ _ _ (changes-explained old p x Write no_further_rule (Delete y) (λ f g reply h. inl (ap is_value h.0))) (
+        row-explained name (codes "delete_object") _ _ _ _ (changes-explained old p x Write (why_delete_object y) (DeleteObject y) (deletion-explained y)) (
+        searches-explained x y)))))))
+
+    three-explained : (x y z : Term) → ReasonExplainsAll (why_three old.world.tables old.world.processes p name (table_of_term old.world.tables x) x y z) (calls_of_three old p name x y z)
+    three-explained x y z =
+        row-explained name (codes "lookup_element") _ _ _ _ (reads-explained old p x (why_lookup_element y z) (LookupElement y z) (element-explained y z)) (
+        row-explained name (codes "update_counter") _ _ _ _ (changes-explained old p x Write (why_update_counter y z None) (UpdateCounter y z None) (counter-explained y z None)) (
+        row-explained name (codes "update_element") _ _ _ _ (changes-explained old p x Write (why_update_element y z None) (UpdateElement y z None) (update-explained y z None)) (
+        row-explained name (codes "give_away") _ _ _ _ (giving-explained p x y z) (
+        no-call-explained name))))
+
+    four-explained : (x y z default : Term) → ReasonExplainsAll (why_four old.world.tables old.world.processes p name (table_of_term old.world.tables x) x y z default) (calls_of_four old p name x y z default)
+    four-explained x y z default =
+        row-explained name (codes "lookup_element") _ _ _ _ (reads-explained old p x (why_lookup_element_or y z) (LookupElementOr y z default) (element-or-explained y z default)) (
+        row-explained name (codes "update_counter") _ _ _ _ (changes-explained old p x Write (why_update_counter y z (Some default)) (UpdateCounter y z (Some default)) (counter-explained y z (Some default))) (
+        row-explained name (codes "update_element") _ _ _ _ (changes-explained old p x Write (why_update_element y z (Some default)) (UpdateElement y z (Some default)) (update-explained y z (Some default))) (
+        no-call-explained name)))
+
+    pub call-explained : (args : List Term) → ReasonExplainsAll (why_call old.world p name args) (call old p name args)
+    call-explained [] = none-explained
+    call-explained (x ∷ []) = one-explained x
+    call-explained (x ∷ y ∷ []) = two-explained x y
+    call-explained (x ∷ y ∷ z ∷ []) = three-explained x y z
+    call-explained (x ∷ y ∷ z ∷ default ∷ []) = four-explained x y z default
+    call-explained (x ∷ y ∷ z ∷ default ∷ more ∷ args) = no-call-explained name

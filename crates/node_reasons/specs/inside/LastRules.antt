@@ -1,0 +1,102 @@
+-- The last reason, when a rule is broken: the last rule of a call need not be tried.
+use Rattle.std.specs.Prelude.{◌≡◌, ℕ, ◌==◌, Bool, if◌then◌else◌, List, [], ◌∷◌, Option, Some, None, is_some, codes}
+use Rattle.std.specs.Option.{option_map_or}
+use Rattle.ets_term.specs.declared.term.Term.{Term, out-Term}
+use Rattle.ets_term.specs.Atoms.{text_of, is_atom}
+use Rattle.counters.specs.Elements.{specs_of}
+use Rattle.counters.specs.Ops.{ops_of}
+use Rattle.table_ops.specs.Content.{Content, objects_under}
+use Rattle.table_ops.specs.Update.{is_set, default_is_object}
+use Rattle.fixed_walk.specs.TableState.{TableState}
+use Rattle.ownership.specs.declared.metadata.Metadata.{Metadata}
+use Rattle.ownership.specs.Access.{owned_by}
+use Rattle.ownership.specs.Options.{pid_form}
+use Rattle.ownership.specs.Info.{item_of}
+use Rattle.node_core.specs.Access.{may}
+use Rattle.node_core.specs.Positions.{position_of}
+use Rattle.node_core.specs.declared.node.access.Access.{Access}
+use Rattle.node_core.specs.declared.node.access.Access.TheVariants.{Read}
+use Rattle.node_reasons.specs.declared.reason.Rule.TheVariants as rule
+use Rattle.node_reasons.specs.declared.reason.Reason.{Reason}
+use Rattle.node_reasons.specs.Reasons.{argument, rule_of_access}
+use Rattle.node_reasons.specs.inside.Forms.{are_options}
+
+-- this reason is the one, if there is one
+abbrev pub NamesReason : Option Reason → Reason → Type 0
+NamesReason None named = Unit {0}
+NamesReason (Some reason) named = named ≡ reason
+
+-- the table exists, and the process may use it in this way, and then this
+abbrev pub needs_access : Access → ℕ → Option Metadata → Reason → Reason
+needs_access access p None rest = argument 1 rule.NoTable
+needs_access access p (Some metadata) rest = if may access metadata p then rest else argument 1 (rule_of_access access)
+
+-- there are no further rules
+abbrev pub last_rule_of_use : Access → ℕ → Option Metadata → Reason
+last_rule_of_use access p metadata = needs_access access p metadata (argument 1 (rule_of_access access))
+
+abbrev pub last_rule_of_content : Access → ℕ → Option Metadata → Option TableState → (Content → Reason) → Reason
+last_rule_of_content access p metadata fixed rest =
+    option_map_or (λ f. needs_access access p metadata (rest f.content)) fixed (argument 1 rule.NoTable)
+
+-- the table is the process's own, and then this
+abbrev pub needs_owner : ℕ → Option Metadata → Reason → Reason
+needs_owner p None rest = argument 1 rule.NoTable
+needs_owner p (Some metadata) rest = if owned_by metadata p then rest else argument 1 rule.NotOwner
+
+abbrev pub last_rule_of_give_away_to : ℕ → Metadata → Option ℕ → Reason
+last_rule_of_give_away_to p metadata None = argument 2 rule.NotAPid
+last_rule_of_give_away_to p metadata (Some q) =
+    needs_owner p (Some metadata) (if q == p then argument 2 rule.ToSelf else argument 2 rule.NotAlive)
+
+abbrev pub last_rule_of_give_away : ℕ → Option Metadata → Term → Reason
+last_rule_of_give_away p None pid = argument 1 rule.NoTable
+last_rule_of_give_away p (Some metadata) pid = last_rule_of_give_away_to p metadata (pid_form (out-Term pid))
+
+abbrev pub last_rule_of_safe_fixtable : ℕ → Option Metadata → Term → Reason
+last_rule_of_safe_fixtable p metadata flag =
+    if is_atom (codes "true") flag then last_rule_of_use Read p metadata
+    else if is_atom (codes "false") flag then last_rule_of_use Read p metadata
+    else argument 2 rule.NotABoolean
+
+abbrev pub last_rule_of_new : Term → Term → Reason
+last_rule_of_new name options =
+    if is_some (text_of name)
+    then (if are_options options then argument 1 rule.NameIsTaken else argument 2 rule.NotOptions)
+    else argument 1 rule.NotAnAtom
+
+abbrev pub last_rule_of_info : Term → Reason
+last_rule_of_info item = if is_some (item_of item) then argument 1 rule.NotAnAtom else argument 2 rule.NotAnItem
+
+-- the key has an object, if it needs one, and then this
+abbrev pub needs_key : Bool → Reason → List Term → Reason
+needs_key needed rest [] = if needed then argument 2 rule.NoKey else rest
+needs_key needed rest (object ∷ objects) = rest
+
+abbrev pub needs_position : Option ℕ → Reason → Reason
+needs_position None rest = argument 3 rule.NotAPosition
+needs_position (Some position) rest = if position == 0 then argument 3 rule.NotAPosition else rest
+
+abbrev pub last_rule_of_lookup_element : Term → Term → Bool → Content → Reason
+last_rule_of_lookup_element key position needed content =
+    needs_position (position_of position)
+    (needs_key needed (argument 3 rule.NoElement) (objects_under content.slots key))
+
+-- the table is a set, and the default an object, and then this
+abbrev pub needs_set : Term → Option Term → Content → Reason → Reason
+needs_set key default content rest =
+    if is_set content.kind
+    then (if default_is_object content.keypos key default then rest else argument 4 rule.NotAnObject)
+    else argument 1 rule.NotASet
+
+abbrev pub last_rule_of_update_counter : Term → Term → Option Term → Bool → Content → Reason
+last_rule_of_update_counter key updates default needed content =
+    if is_some (ops_of content.keypos updates)
+    then needs_set key default content (needs_key needed (argument 3 rule.NotACounter) (objects_under content.slots key))
+    else argument 3 rule.NotAnUpdate
+
+abbrev pub last_rule_of_update_element : Term → Term → Option Term → Content → Reason
+last_rule_of_update_element key values default content =
+    if is_some (specs_of content.keypos values)
+    then needs_set key default content (argument 3 rule.NoElement)
+    else argument 3 rule.NotAnUpdate

@@ -1,0 +1,28 @@
+use Rattle.std.proofs.Common.{◌≡◌, false, [], rules, ◌∙◌}
+use Rattle.node_core.specs.declared.step.Step.TheVariants.{Enrol}
+use Rattle.node_core.specs.rules.Replies.{is_value}
+use Rattle.node_core.proofs.calls.Enrolling.{not-enrolled}
+use Rattle.node_shared.proofs.Growing.{run-on, continues}
+use Rattle.node_shared.proofs.served.ServedNode.join.Goals as goal
+
+pub invariant_of-self-then-not-is_value : goal.invariant_of-self-then-not-is_value
+invariant_of-self-then-not-is_value g c =
+    let refused : is_value c.in-Ok.reply ≡ false = search rules in
+    let same : c.step.new.self ≡ c.self.inside.node = not-enrolled c.self.inside.node c.step.new.self c.args.pid c.in-Ok.reply refused c.in-Ok.ensures.ok c.in-Ok.ensures.buckets in
+    rw same c.self.invariant
+
+pub returns-then-not-is_value-clause-err : goal.returns-then-not-is_value-clause-err
+returns-then-not-is_value-clause-err g c =
+    let refused : is_value c.in-Ok.reply ≡ false = search rules in
+    let same : c.step.new.self ≡ c.self.inside.node = not-enrolled c.self.inside.node c.step.new.self c.args.pid c.in-Ok.reply refused c.in-Ok.ensures.ok c.in-Ok.ensures.buckets in
+    (λ i. record { state = same i; history = c.self.inside.owner }) ∙ c.self.view_is
+
+pub invariant_of-self-2 : goal.invariant_of-self-2
+invariant_of-self-2 g c =
+    let did = c.in-Ok.ensures in
+    rw c.enter-reply.ensures.all (rw c.new_writer-writer.ensures.same (run-on g.B.HistoryId.limits c.self.inside.node c.step.new.self c.self.inside.owner (Enrol c.args.pid) c.in-Ok.reply c.self.invariant (did.ok, did.buckets)))
+
+pub returns-clause-order : goal.returns-clause-order
+returns-clause-order g c =
+    let did = c.in-Ok.ensures in
+    rw c.enter-reply.ensures.reply (continues g.B.HistoryId.limits c.self.inside.node c.step.new.self c.self.inside.owner [] (Enrol c.args.pid) c.in-Ok.reply tt c.self.invariant (did.ok, did.buckets))

@@ -1,0 +1,14 @@
+-- What holds whenever the lock is free.
+use Rattle.std.specs.Prelude.{◌≡◌, ◌≤◌, ◌+◌, ℕ, List, length}
+use Rattle.node_core.specs.declared.limits.Limits.{Limits}
+use Rattle.node_core.specs.State.{State}
+use Rattle.node_shared.specs.declared.entry.Entry.{Entry}
+use Rattle.node_shared.specs.Journal.{IsRun, process_entries}
+
+-- The journal is a run to the node's state, the total counts its entries of processes, and the ledger has a part for
+-- each process that may still be enrolled, and one more.
+pub record BookInvariant (limits : Limits) (state : State) (journal : List Entry) (total parts : ℕ) : Type 0 where
+  pub same : state.limits ≡ limits
+  pub run : IsRun limits journal state
+  pub counted : total ≡ process_entries journal
+  pub enough : state.world.most_processes + 1 ≤ length state.world.processes + parts

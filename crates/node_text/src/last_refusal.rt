@@ -1,0 +1,63 @@
+//! Why a call was refused.
+ghost use Rattle.std.specs.Prelude.{◌≡◌, not, is_some, option_map, IfOk, string_bytes};
+ghost use Rattle.node_core.specs.Machine.{step};
+ghost use Rattle.node_core.specs.Observable.{observable};
+ghost use Rattle.node_core.specs.State.{State};
+ghost use Rattle.node_core.specs.rules.Replies.{is_value};
+ghost use Rattle.node_reasons.specs.Why.{why};
+ghost use Rattle.node_text.specs.Answers.{refusal_text};
+ghost use Rattle.node_text.specs.declared.last_refusal.LastRefusal.TheVariants.{Broken};
+
+use ets_term::Fnv;
+use node_core::{Node, Reply, Step};
+use node_reasons::{Reason, why};
+use script_reasons::SyntaxProblem;
+use std::alloc::{AllocError, Global};
+use std::fmt;
+
+/// Why a call was refused.
+#[derive(Clone, Copy, Debug, PartialEq, Eq)]
+pub enum LastRefusal {
+    /// The step breaks this rule.
+    Broken(Reason),
+    /// The text is not a call, and this is wrong where it has its first fault.
+    Syntax(SyntaxProblem),
+    /// Memory ran out.
+    NoMemory,
+}
+
+impl LastRefusal {
+    /// Returns why a step has this reply, which the node gave and after which it did not change. Allocates nothing.
+    pub(crate) fn of(node: &Node<Fnv>, event: &Step, reply: &Reply) -> Option<LastRefusal>
+        ensures exactly { is_some result ≡ not (is_value reply.now) }
+        ensures named { (new : State) → step (observable node.now) event.now reply.now new
+            → result ≡ option_map Broken (why (observable node.now) event.now reply.now) }
+    {
+        match why(node, event, reply) {
+            Some(reason) => Some(LastRefusal::Broken(reason)),
+            None => None,
+        }
+    }
+
+    /// Returns its text.
+    pub(crate) fn text(&self, alloc: Global) -> Result<String, AllocError>
+        ensures { IfOk result (λ text. string_bytes text ≡ refusal_text self.now) }
+    {
+        format!(in alloc; "{self}")
+    }
+}
+
+/// Writes `argument 1: no such table`, `unexpected '.'` or `out of memory`.
+impl fmt::Display for LastRefusal {
+    ghost use Rattle.std.specs.Prelude.{Some};
+
+    ghost output = { λ refusal. Some (refusal_text refusal) };
+
+    fn fmt<W: fmt::Write>(&self, f: &mut fmt::Formatter<W>) -> fmt::Result {
+        match self {
+            LastRefusal::Broken(reason) => write!(f, "{reason}"),
+            LastRefusal::Syntax(problem) => write!(f, "{problem}"),
+            LastRefusal::NoMemory => write!(f, "out of memory"),
+        }
+    }
+}

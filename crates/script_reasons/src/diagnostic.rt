@@ -1,0 +1,110 @@
+// The text that says why a line was refused.
+ghost use Rattle.std.specs.Prelude.{◌≡◌};
+ghost use Rattle.script_reasons.specs.Diagnostics.{name_text};
+
+use crate::syntax_problem::SyntaxProblem;
+use node_core::{Call, Step};
+use node_reasons::Reason;
+use std::fmt;
+
+/// The reason why a line was refused.
+#[derive(Drop)]
+pub enum Diagnostic<'a> {
+    /// The step of the line, and the rule that it breaks.
+    Broken(Step, Reason),
+    /// The line spawns a name that was already spawned.
+    AlreadySpawned(&'a [u8]),
+    /// The line makes a call as a name that was never spawned.
+    CallByUnknownName(&'a [u8], Call),
+    /// The line ends a name that was never spawned.
+    ExitOfUnknownName(&'a [u8]),
+    /// The line could not be read: the offset of its fault, and what is wrong there.
+    Faulty(usize, SyntaxProblem),
+    TooLong,
+    NoMemory,
+}
+
+/// Writes `lookup/2: argument 1: no such table`, or `byte 17: unexpected '.'`.
+impl fmt::Display for Diagnostic<'_> {
+    ghost use Rattle.std.specs.Prelude.{Some};
+    ghost use Rattle.script_reasons.specs.Diagnostics.{diagnostic_text};
+
+    ghost output = { λ diagnostic. Some (diagnostic_text diagnostic) };
+
+    fn fmt<W: fmt::Write>(&self, f: &mut fmt::Formatter<W>) -> fmt::Result {
+        match self {
+            Diagnostic::Broken(step, reason) => write!(f, "{}: {reason}", StepSubject { step }),
+            Diagnostic::AlreadySpawned(name) => write!(
+                f,
+                "spawn: {} was already spawned",
+                name_text(*name)
+            ),
+            Diagnostic::CallByUnknownName(name, call) => {
+                write!(
+                    f,
+                    "{}: {} was never spawned",
+                    CallSubject { call },
+                    name_text(*name)
+                )
+            }
+            Diagnostic::ExitOfUnknownName(name) => write!(
+                f,
+                "exit: {} was never spawned",
+                name_text(*name)
+            ),
+            Diagnostic::Faulty(at, problem) => write!(f, "byte {at}: {problem}"),
+            Diagnostic::TooLong => write!(f, "line longer than 65536 bytes"),
+            Diagnostic::NoMemory => write!(f, "out of memory"),
+        }
+    }
+}
+
+/// Returns the name of a step: the command's word, or the call.
+#[derive(Clone, Copy)]
+struct StepSubject<'a> {
+    step: &'a Step,
+}
+
+impl fmt::Display for StepSubject<'_> {
+    ghost use Rattle.std.specs.Prelude.{Some};
+    ghost use Rattle.script_reasons.specs.Diagnostics.{step_subject};
+
+    ghost output = { λ subject. Some (step_subject subject.step.now) };
+
+    fn fmt<W: fmt::Write>(&self, f: &mut fmt::Formatter<W>) -> fmt::Result {
+        match self.step {
+            Step::Enrol(_) => write!(f, "spawn"),
+            Step::End(_) => write!(f, "exit"),
+            Step::Ask(_, call) => write!(f, "{}", CallSubject { call }),
+            Step::Grow(_) => write!(f, "grow"),
+            Step::Ready(_, _) => write!(f, "ready"),
+        }
+    }
+}
+
+/// Returns the name of a call with its number of arguments: `lookup/2`.
+#[derive(Clone, Copy)]
+struct CallSubject<'a> {
+    call: &'a Call,
+}
+
+impl fmt::Display for CallSubject<'_> {
+    ghost use Rattle.std.specs.Prelude.{Some};
+    ghost use Rattle.script_reasons.specs.Diagnostics.{call_subject};
+
+    ghost output = { λ subject. Some (call_subject subject.call.now) };
+
+    fn fmt<W: fmt::Write>(&self, f: &mut fmt::Formatter<W>) -> fmt::Result {
+        write!(f, "{}/{}", self.call.name.text(), self.call.args.len())
+    }
+}
+
+/// Returns a process's name as the line has it.
+fn name_text(name: &[u8]) -> &str
+    ensures { result.now ≡ name_text name.now }
+{
+    match str::from_utf8(name) {
+        Ok(name) => name,
+        Err(_) => "the name",
+    }
+}

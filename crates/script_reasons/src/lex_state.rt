@@ -1,0 +1,94 @@
+//! The lexical state of a line at an offset: its open quotes and brackets.
+ghost use Rattle.std.specs.Prelude.{◌≡◌, ◌+◌, ◌^◌, ◌<◌};
+ghost use Rattle.script_reasons.specs.LexStates as spec;
+ghost use Rattle.script_reasons.specs.inside.Advance.{advance};
+
+/// Whether a text ends inside quotes.
+#[derive(Clone, Copy)]
+pub enum QuoteState {
+    Outside,
+    /// In quotes, which this sign closes.
+    Inside(u8),
+    /// In quotes, after a backslash.
+    Escaped(u8),
+}
+
+impl QuoteState {
+    pub fn is_quoted(self) -> bool
+        ensures { result ≡ spec.is_quoted self }
+    {
+        match self {
+            QuoteState::Outside => false,
+            QuoteState::Inside(_) | QuoteState::Escaped(_) => true,
+        }
+    }
+
+    /// Returns the state after one more byte.
+    fn after_byte(self, byte: u8) -> QuoteState
+        ensures { result ≡ spec.after_byte self byte }
+    {
+        match self {
+            QuoteState::Outside if byte == b'\'' || byte == b'"' => QuoteState::Inside(byte),
+            QuoteState::Outside => QuoteState::Outside,
+            QuoteState::Inside(quote) if byte == quote => QuoteState::Outside,
+            QuoteState::Inside(quote) if byte == b'\\' => QuoteState::Escaped(quote),
+            QuoteState::Inside(quote) => QuoteState::Inside(quote),
+            QuoteState::Escaped(quote) => QuoteState::Inside(quote),
+        }
+    }
+}
+
+/// The lexical state of a line at an offset.
+#[derive(Clone, Copy)]
+pub struct LexState {
+    pub quotes: QuoteState,
+    /// The number of open brackets of terms.
+    pub levels: usize,
+    /// Whether the parenthesis before arguments was read.
+    pub is_open: bool,
+    /// Whether the parenthesis after them was read.
+    pub is_closed: bool,
+}
+
+impl LexState {
+    /// Returns the state at the end of a text.
+    pub fn after(text: &[u8]) -> LexState
+        ensures { result ≡ spec.lex_state_of text.now }
+    {
+        let mut state = LexState {
+            quotes: QuoteState::Outside,
+            levels: 0,
+            is_open: false,
+            is_closed: false,
+        };
+        for byte in text {
+            state.advance(*byte);
+        }
+        state
+    }
+
+    /// Advances by one byte.
+    fn advance(&mut self, byte: u8)
+        requires { self.old.levels + 1 < 2 ^ 64 }
+        ensures { self.new ≡ advance self.old byte }
+    {
+        if !self.quotes.is_quoted() {
+            self.levels = level(self.levels, byte);
+            self.is_open |= byte == b'(';
+            self.is_closed |= byte == b')';
+        }
+        self.quotes = self.quotes.after_byte(byte);
+    }
+}
+
+/// Returns the number of open brackets after one more byte, which is outside quotes.
+fn level(levels: usize, byte: u8) -> usize
+    requires { levels + 1 < 2 ^ 64 }
+    ensures { result ≡ spec.level levels byte }
+{
+    match byte {
+        b'[' | b'{' => levels + 1,
+        b']' | b'}' => levels.saturating_sub(1),
+        _ => levels,
+    }
+}

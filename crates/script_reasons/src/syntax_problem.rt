@@ -1,0 +1,193 @@
+//! The problem at the fault of a line.
+ghost use Rattle.std.specs.Prelude.{◌≡◌};
+ghost use Rattle.script_reasons.specs.SyntaxProblems as spec;
+
+use crate::classes::{
+    begins_atom, begins_nested_term, begins_number, begins_variable, digits_len, expects_term,
+    is_line_byte, last, may_begin_term, name_len, starts_with_digit,
+};
+use crate::lex_state::{LexState, QuoteState};
+use ets_term::{MAX_CHARACTERS, MAX_DEPTH};
+use term_text::{is_digit_byte, is_lowercase_byte};
+
+/// A number with this many digits can be out of range in any position.
+const LONG_NUMBER: usize = 10;
+
+/// The problem at the fault of a line.
+#[derive(Clone, Copy, Debug, PartialEq, Eq)]
+pub enum SyntaxProblem {
+    /// The line ends, and no parenthesis was opened.
+    EndOfLine,
+    /// The line ends among the arguments.
+    EndOfLineInCall,
+    /// The line ends in a bracket, or in quotes.
+    EndOfLineInTerm,
+    /// A byte that is neither printable ASCII nor a tab.
+    NotPrintable(u8),
+    FullStop,
+    Comment,
+    /// More text after the parenthesis that ends a call.
+    TrailingText,
+    Variable,
+    Float,
+    Map,
+    /// Text after `#` that is neither a base nor a map.
+    Identifier,
+    /// A character as `$a`.
+    Character,
+    /// A number as `16#ff`.
+    Base,
+    ImproperList,
+    /// A colon, as between a module and its function.
+    Colon,
+    PlusSign,
+    /// A backslash before a byte that is neither this quote nor a backslash.
+    Escape(u8),
+    PastRange,
+    LongName,
+    TooDeep,
+    /// A whole term that is no call.
+    NoCall,
+    Other(u8),
+}
+
+/// Diagnoses a line that is no command, at the offset of its fault.
+pub fn diagnose_at(line: &[u8], at: usize) -> SyntaxProblem
+    ensures { result ≡ spec.diagnose_at line.now at }
+{
+    let (before, rest) = line.split_at(at.min(line.len()));
+    match rest {
+        [] => at_end(&LexState::after(before)),
+        [byte, after @ ..] => diagnose_byte(before, *byte, after),
+    }
+}
+
+/// Diagnoses a text that is no call as a tuple, such as `{lookup,t,a}`, at the offset of its fault; at offset 0 it is
+/// usually a term that is no call.
+pub fn diagnose_in_call(text: &[u8], at: usize) -> SyntaxProblem
+    ensures { result ≡ spec.diagnose_in_call text.now at }
+{
+    match diagnose_at(text, at) {
+        SyntaxProblem::Other(byte) if at == 0 && may_begin_term(byte) => SyntaxProblem::NoCall,
+        problem => problem,
+    }
+}
+
+fn at_end(state: &LexState) -> SyntaxProblem
+    ensures { result ≡ spec.at_end state.now }
+{
+    if state.quotes.is_quoted() || state.levels > 0 {
+        SyntaxProblem::EndOfLineInTerm
+    } else if state.is_open {
+        SyntaxProblem::EndOfLineInCall
+    } else {
+        SyntaxProblem::EndOfLine
+    }
+}
+
+/// Diagnoses a byte, between the text before it and the text after it.
+fn diagnose_byte(before: &[u8], byte: u8, after: &[u8]) -> SyntaxProblem
+    ensures { result ≡ spec.diagnose_byte before.now byte after.now }
+{
+    let state = LexState::after(before);
+    if !is_line_byte(byte) {
+        SyntaxProblem::NotPrintable(byte)
+    } else if state.quotes.is_quoted() {
+        in_quotes(&state, byte)
+    } else if state.is_closed {
+        after_call(byte)
+    } else if expects_term(before) {
+        at_term_start(&state, before, byte, after)
+    } else {
+        unexpected_byte(before, byte, after)
+    }
+}
+
+fn in_quotes(state: &LexState, byte: u8) -> SyntaxProblem
+    ensures { result ≡ spec.in_quotes state.now byte }
+{
+    match state.quotes {
+        QuoteState::Escaped(quote) => SyntaxProblem::Escape(quote),
+        _ if state.levels >= MAX_DEPTH - 1 => SyntaxProblem::TooDeep,
+        _ => SyntaxProblem::Other(byte),
+    }
+}
+
+fn after_call(byte: u8) -> SyntaxProblem
+    ensures { result ≡ spec.after_call byte }
+{
+    match byte {
+        b'.' => SyntaxProblem::FullStop,
+        b'%' => SyntaxProblem::Comment,
+        _ => SyntaxProblem::TrailingText,
+    }
+}
+
+/// Diagnoses a byte where a term must begin.
+fn at_term_start(state: &LexState, before: &[u8], byte: u8, after: &[u8]) -> SyntaxProblem
+    ensures { result ≡ spec.at_term_start state.now before.now byte after.now }
+{
+    if state.levels >= MAX_DEPTH && begins_nested_term(byte) {
+        SyntaxProblem::TooDeep
+    } else if begins_atom(byte) {
+        SyntaxProblem::LongName
+    } else if begins_number(byte) {
+        SyntaxProblem::PastRange
+    } else {
+        unexpected_byte(before, byte, after)
+    }
+}
+
+/// Diagnoses a byte of a kind that cannot come here.
+fn unexpected_byte(before: &[u8], byte: u8, after: &[u8]) -> SyntaxProblem
+    ensures { result ≡ spec.unexpected_byte before.now byte after.now }
+{
+    let last = last(before);
+    if last == b'#' {
+        return after_hash(byte);
+    }
+    let follows_digit = is_digit_byte(last);
+    match byte {
+        b'.' if follows_digit && starts_with_digit(after) => SyntaxProblem::Float,
+        b'#' if follows_digit => SyntaxProblem::Base,
+        _ => sign(byte, after),
+    }
+}
+
+fn after_hash(byte: u8) -> SyntaxProblem
+    ensures { result ≡ spec.after_hash byte }
+{
+    match byte {
+        b'{' => SyntaxProblem::Map,
+        _ => SyntaxProblem::Identifier,
+    }
+}
+
+/// Diagnoses a sign by itself.
+fn sign(byte: u8, after: &[u8]) -> SyntaxProblem
+    ensures { result ≡ spec.sign byte after.now }
+{
+    match byte {
+        b'.' => SyntaxProblem::FullStop,
+        b'%' => SyntaxProblem::Comment,
+        b'|' => SyntaxProblem::ImproperList,
+        b'$' => SyntaxProblem::Character,
+        b':' => SyntaxProblem::Colon,
+        b'+' => SyntaxProblem::PlusSign,
+        _ if begins_variable(byte) => SyntaxProblem::Variable,
+        _ => word(byte, after),
+    }
+}
+
+/// Diagnoses a name or a number where none can come, or that is too long.
+fn word(byte: u8, after: &[u8]) -> SyntaxProblem
+    ensures { result ≡ spec.word byte after.now }
+{
+    if is_lowercase_byte(byte) && name_len(after) >= MAX_CHARACTERS {
+        SyntaxProblem::LongName
+    } else if is_digit_byte(byte) && digits_len(after) + 1 >= LONG_NUMBER {
+        SyntaxProblem::PastRange
+    } else {
+        SyntaxProblem::Other(byte)
+    }
+}
