@@ -1,12 +1,13 @@
 -- The observable state: all that calls can observe, which excludes the buckets of a table that are ready.
-use Rattle.std.specs.Prelude.{◌≡◌, ℕ, Some, [], map, option_map}
+use Rattle.std.specs.Prelude.{◌≡◌, ℕ, Some, map, option_map}
 use Rattle.fixed_walk.specs.TableState.{TableState}
 use Rattle.ownership.specs.World.{Table, Tables, table_at}
 use Rattle.node_core.specs.State.{State}
+use Rattle.node_core.specs.rules.Tables.{first_buckets}
 
--- the content and the fixes of a table
+-- the content and the fixes of a table, with the buckets of a new one in place of its own
 abbrev pub observable_fixed : TableState → TableState
-observable_fixed fixed = record fixed { buckets = [] }
+observable_fixed fixed = record fixed { buckets = first_buckets }
 
 abbrev pub observable_table : Table → Table
 observable_table table = record table { fixed = observable_fixed table.fixed }
@@ -14,7 +15,7 @@ observable_table table = record table { fixed = observable_fixed table.fixed }
 abbrev pub observable_tables : Tables → Tables
 observable_tables tables = map (option_map observable_table) tables
 
--- the state without the buckets of its tables; all else is unchanged
+-- the state with the buckets of a new table in each table; all else is unchanged
 abbrev pub observable : State → State
 observable s = record s { world = record s.world { tables = observable_tables s.world.tables } }
 

@@ -23,7 +23,7 @@ use Rattle.node_core.specs.Machine.{step, run}
 use Rattle.node_core.specs.Buckets.{run_on_buckets}
 use Rattle.node_core.specs.rules.Replies.{true_reply}
 use Rattle.node_core.specs.laws.Kept.{StaysFixed}
-use Rattle.node_core.specs.laws.Walk.{states, Walks}
+use Rattle.node_core.specs.laws.Walk.{states, Walks, IsWhole}
 
 -- whether the step is one of this process
 abbrev pub is_step_of : ℕ → Step → Bool
@@ -59,8 +59,8 @@ AddsTurn keys given key new_keys new_given =
 -- What the others observe of a traversal that stopped. The replies to its steps are true, to its fix, then these keys
 -- in order, and then at most one key that they are not given. If not even the fix was done, they are given nothing, and
 -- hand nothing in.
-abbrev pub OthersObserve : ℕ → (keys : List Term) (given : Given) (done : List Step) (replies : List Reply)
-    → Type 0
+abbrev pub OthersObserve : ℕ → (keys : List Term) (given : Given) (done : List Step)
+    (replies : List Reply) → Type 0
 OthersObserve p keys given [] replies = (keys ≡ []) × (given ≡ [])
 OthersObserve p keys given (s ∷ done) replies =
     (more : List Term) × (length more ≤ 1)
@@ -105,8 +105,9 @@ module _ (p t : ℕ) where
   fixes_in s = option_map_or (λ table. fix_count table.fixed.fixes p) (table_at s.world.tables t) 0
 
   -- A traversal that reached its end: the interleaved steps, and then the release, are done. The replies to the
-  -- process's calls are these keys and then the end, the table stays fixed from the first of them to the last, and no
-  -- step handed in is the process's own or without a turn.
+  -- process's calls are these keys and then the end, and the table stays fixed from the first of them to the last. No
+  -- key comes twice, and each key that has objects in every state between the fix and the release comes. No step handed
+  -- in is the process's own or without a turn.
   pub record IsWalked (old : State) (limit : ℕ) (keys : List Term) (given : Given)
       (new : State) : Type 0 where
     pub fixed : State
@@ -117,6 +118,7 @@ module _ (p t : ℕ) where
     pub release_done : step last release true_reply new
     pub answers : Walks p t None keys fixed (walk keys given) replies last walk_done
     pub held : StaysFixed t (states fixed (walk keys given) replies last walk_done)
+    pub whole : IsWhole t (states fixed (walk keys given) replies last walk_done) keys
     pub others : AllByRecursion (λ g. is_step_of p g.1 ≡ false) given
     pub turns : AreTurns keys given
     pub few : length keys ≤ limit
@@ -150,8 +152,8 @@ module _ (p t : ℕ) where
 
   -- A traversal that stopped: of the interleaved steps the first are done and these are left. The process's own among
   -- those done are only its calls of the traversal.
-  pub record IsStopped (old : State) (limit : ℕ) (keys : List Term) (given : Given) (why : WalkFault)
-      (left : List Step) (new : State) : Type 0 where
+  pub record IsStopped (old : State) (limit : ℕ) (keys : List Term) (given : Given)
+      (why : WalkFault) (left : List Step) (new : State) : Type 0 where
     pub done : List Step
     pub own_left : List Step
     pub replies : List Reply
@@ -180,7 +182,8 @@ abbrev pub WalksAmong : State → ℕ → Term → ℕ → List Term → Given �
     → Type 0
 WalksAmong old p term limit keys given (Ok walk) new =
     (walk.keys ≡ keys) × MatchOption (resolve old.world.tables term) ⊥ (λ t.
-    IsWalked p t (observable old) limit keys given (observable new) × RunsWoven p t old keys given [] new)
+    IsWalked p t (observable old) limit keys given (observable new)
+    × RunsWoven p t old keys given [] new)
 WalksAmong old p term limit keys given (Err why) new =
     MatchOption (resolve old.world.tables term)
     ((why ≡ fault.Lost) × (new ≡ old) × (keys ≡ []) × (given ≡ [])) (λ t.

@@ -2,13 +2,21 @@
 
 ghost use Rattle.node_core.specs.laws.Kept.{StepsKeepKeys};
 ghost use Rattle.node_core.specs.laws.Reached.{RunsStaySound, ReachedAreSound};
-ghost use Rattle.node_core.specs.laws.Walk.{WalksAreWhole};
+ghost use Rattle.node_core.specs.laws.Runs.{RunsAreObservable, TranscriptsAreRuns};
+ghost use Rattle.node_core.specs.laws.Walk.{WalksAreWhole, SoundStatesHaveSoundKeys};
 
 /// In each state that a run reaches from the empty one, no two slots of a table have the same key, none has the key
 /// `'$end_of_table'`, and no two named tables have the same name. A run from any such state ends in one.
 pub fn runs_stay_sound()
     ensures reached { ReachedAreSound }
     ensures runs { RunsStaySound }
+{}
+
+/// A run of a node is a run of the machine: the same steps with the same replies, over the observable states. So the
+/// laws of the machine's runs hold of each journal, transcript and history.
+pub fn runs_are_observable()
+    ensures any { RunsAreObservable }
+    ensures empty { TranscriptsAreRuns }
 {}
 
 /// If a table is fixed before and after a step, by any process and any step, the keys of its slots before are among
@@ -19,7 +27,8 @@ pub fn steps_keep_keys()
 
 /// In each run, each traversal by `first` and `next` of a table that stays fixed, by any process, gives no key twice,
 /// and gives each key that has objects in every state of the traversal. It does so whatever processes do between its
-/// calls, and however the table grows.
+/// calls, and however the table grows. The premise is on that table alone, and holds in each state that a run reaches.
 pub fn walks_are_whole()
-    ensures { WalksAreWhole }
+    ensures whole { WalksAreWhole }
+    ensures sound { SoundStatesHaveSoundKeys }
 {}

@@ -2,8 +2,8 @@
 //! changes nothing.
 //!
 //! *Guarantee.* `Node::step` and `Node::run` have the machine of specs/Machine.antt as their contracts, word for word,
-//! over the observable state of a node (specs/Observable.antt). They also say what becomes of the buckets, which no call
-//! observes, and so does `walk_among`. Nothing panics, and running out of memory changes nothing.
+//! over the observable state of a node (specs/Observable.antt). They also say what becomes of the buckets, which no
+//! call observes, and so does `walk_among`. Nothing panics, and running out of memory changes nothing.
 //!
 //! *Weakness.* Any step may run out of memory; no contract says that memory is available.
 //!

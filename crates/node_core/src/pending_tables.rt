@@ -21,7 +21,11 @@ impl Model for PendingTables {
 
     ghost coded = { pending_tables_code };
 
-    ghost view = { λ s. record { ordered = s.ordered.items; dirty = s.dirty; room = deque_capacity s.ordered } };
+    ghost view = { λ s. record {
+      ordered = s.ordered.items;
+      dirty = s.dirty;
+      room = deque_capacity s.ordered;
+    } };
 
     ghost invariant = { λ s. Ascends s.ordered.items };
 }
@@ -93,7 +97,8 @@ impl PendingTables {
     pub fn insert(&mut self, id: u32)
         requires { HasRoomFor self.old id }
         ensures new { IsAmong self.new.ordered id }
-        ensures old { (other : ℕ) → IsAmong self.old.ordered other → IsAmong self.new.ordered other }
+        ensures old { (other : ℕ) → IsAmong self.old.ordered other
+            → IsAmong self.new.ordered other }
         ensures below { (bound : ℕ) → AreBelow self.old.ordered bound → id < bound
             → AreBelow self.new.ordered bound }
         ensures dirty { self.new.dirty ≡ self.old.dirty }

@@ -131,7 +131,8 @@ fn walk_turn<H: KeyHash + Copy + Drop, O: Others>(
 ) -> Result<Option<Term>, WalkFault>
     requires keys { O.keys others.old ≡ keys.old.items }
     requires stands { (old : State)
-        × WalkSoFar pid id old (O.keys others.old) (O.steps others.old) (Some key) (observable node.old) }
+        × WalkSoFar pid id old (O.keys others.old) (O.steps others.old) (Some key)
+        (observable node.old) }
     ensures keys { OnOk result (keys.new.items ≡ O.keys others.new) }
     ensures count { OnOk result (vec_len keys.new ≡ vec_len keys.old + 1) }
     ensures turn { TurnResult pid id (O.keys others.old) (O.steps others.old) key node.old

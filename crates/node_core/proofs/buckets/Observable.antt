@@ -1,5 +1,5 @@
 -- What steps do to the buckets of tables, which calls do not see: a step leaves those of each table that stays, and gives a new one its
--- first; growing and readying do nothing else.
+-- first two; growing and readying do nothing else.
 use Rattle.std.proofs.Common.{◌≡◌, ℕ, Bool, Option, None, Some, option_map, refl, sym, subst, ap, ◌∙◌}
 use Rattle.std.specs.Prelude.{MatchOption}
 use Rattle.std.specs.Option.{option_map_or}
@@ -13,8 +13,8 @@ use Rattle.node_core.specs.State.{State}
 use Rattle.node_core.specs.Observable.{observable_fixed, observable_table, observable, KeepsBuckets}
 use Rattle.node_core.specs.Access.{CallRule, with_table}
 use Rattle.node_core.specs.Machine.{step}
-use Rattle.node_core.specs.rules.Growth.{in_table, Grows, Readies, ok_reply, growth_reply, HasFreshBuckets}
-use Rattle.node_core.specs.rules.Tables.{IsFresh}
+use Rattle.node_core.specs.rules.Growth.{in_table, Grows, Readies, ok_reply, growth_reply, HasFirstBuckets}
+use Rattle.node_core.specs.rules.Tables.{first_buckets}
 use Rattle.node_core.proofs.moves.Moves.{Follows, Stays, Came}
 use Rattle.node_core.proofs.buckets.ObservableTables.{at-observable, same-observable}
 
@@ -25,12 +25,12 @@ stays-there {own = own} old new follows t was table before after = subst (λ (o 
 buckets-kept : {own : ℕ → Bool} (old new : State) → Follows own old.world.tables new.world.tables → KeepsBuckets old new
 buckets-kept old new follows t was table before after = let stays = stays-there old new follows t was table before after in stays.fixed.buckets
 
-came-fresh : (own : ℕ → Bool) (ts : Tables) (t : ℕ) (before : Option Table) (table : Table) → before ≡ None → Came own ts t before table → IsFresh table.fixed.buckets
+came-fresh : (own : ℕ → Bool) (ts : Tables) (t : ℕ) (before : Option Table) (table : Table) → before ≡ None → Came own ts t before table → table.fixed.buckets ≡ first_buckets
 came-fresh own ts t None table e came = came.fresh
 came-fresh own ts t (Some was) table e came = absurd (cc)
 
 -- and one that was not there is new
-pub buckets-follow : {own : ℕ → Bool} (old new : State) → Follows own old.world.tables new.world.tables → KeepsBuckets old new × HasFreshBuckets old new
+pub buckets-follow : {own : ℕ → Bool} (old new : State) → Follows own old.world.tables new.world.tables → KeepsBuckets old new × HasFirstBuckets old new
 buckets-follow {own = own} old new follows = (buckets-kept old new follows, λ t table before after. came-fresh own old.world.tables t (table_at old.world.tables t) table before (follows.came t table after))
 
 -- ---- growing and readying

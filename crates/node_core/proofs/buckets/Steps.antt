@@ -7,13 +7,13 @@ use Rattle.node_core.specs.declared.step.Reply.{Reply}
 use Rattle.node_core.specs.State.{State}
 use Rattle.node_core.specs.Observable.{observable, KeepsBuckets}
 use Rattle.node_core.specs.Machine.{step}
-use Rattle.node_core.specs.rules.Growth.{step_on_buckets, HasFreshBuckets}
+use Rattle.node_core.specs.rules.Growth.{step_on_buckets, HasFirstBuckets}
 use Rattle.node_core.specs.inside.ReplyReserve.{StepsWithBuckets}
 use Rattle.node_core.proofs.buckets.Observable.{buckets-follow, grown-observable, readied-observable}
 use Rattle.node_core.proofs.calls.Table.{step-lawful, step-follows}
 
 -- any step but growing and readying, of which only the observable state is known
-told-buckets : (old new : State) (event : Step) (reply : Reply) → step old event reply new → KeepsBuckets old new × HasFreshBuckets old new
+told-buckets : (old new : State) (event : Step) (reply : Reply) → step old event reply new → KeepsBuckets old new × HasFirstBuckets old new
 told-buckets old new event reply h = buckets-follow old new (step-follows old new event reply h)
 
 pub done-observable : (old new : State) (event : Step) (reply : Reply) → StepsWithBuckets old event reply new → step (observable old) event reply (observable new)

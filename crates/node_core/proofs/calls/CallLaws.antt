@@ -27,7 +27,7 @@ use Rattle.node_core.specs.Observable.{observable_fixed, observable_table, obser
 use Rattle.node_core.specs.Access.{usable, with_table, CallRule, WorldResultToReply, asks, reads, changes}
 use Rattle.node_core.specs.rules.Owning.{GiveAway, SetOptions, Receive, value_or_undefined, Whereis, names_form, info_at, Info}
 use Rattle.node_core.specs.rules.Replies.{true_reply}
-use Rattle.node_core.specs.rules.Tables.{new_table_of, IsFresh, New, DeleteTable}
+use Rattle.node_core.specs.rules.Tables.{new_table_of, makes, New, DeleteTable}
 use Rattle.node_core.specs.rules.Walking.{SafeFixtable}
 use Rattle.node_core.specs.inside.ReplyReserve.{is_flat}
 use Rattle.node_core.proofs.calls.Changes.{usable-there}
@@ -115,7 +115,7 @@ module _ (own : ℕ → Bool) (needs : Bool) (old : State) where
   pub tells-lawful : (answer : Reply) → Lawful (gives answer old) (gives answer (observable old))
   tells-lawful answer = gives-lawful answer old (observable old) refl (same-stands answer)
 
-  -- one that tells the same of the observable state
+  -- one that reads the same in the observable state
   pub tells-as : (answer other : Reply) → other ≡ answer → Lawful (gives answer old) (gives other (observable old))
   tells-as answer other same =
       subst (λ (r : Reply). Lawful (gives answer old) (gives r (observable old))) (sym same) (tells-lawful answer)
@@ -147,7 +147,7 @@ module _ (own : ℕ → Bool) (needs : Bool) (old : State) where
       (sym (usable-observable access old.world.tables p term))
       (found-lawful (usable access old.world.tables p term) outcome unobservable lawful)
 
-  -- the identifier that a term names, told to what follows
+  -- the identifier that a term names, passed to the rest of the rule
   resolved-lawful : (term : Term) {outcome unobservable : ℕ → Outcome Reply State} → ((t : ℕ) → Lawful (outcome t) (unobservable t))
       → Lawful (refuse_none old (resolve old.world.tables term) Badarg outcome)
       (refuse_none (observable old) (resolve (observable_tables old.world.tables) term) Badarg unobservable)
@@ -215,27 +215,13 @@ module _ (own : ℕ → Bool) (needs : Bool) (old : State) where
   still = moves-same own old.world
 
   module _ (p : ℕ) where
-    abbrev makes : State → List ℕ → NewOptions → List Bool → Outcome Reply State
-    makes s text options buckets =
-        asks s Value (tables.New s.world p text options (new_table_of s.limits.objects options buckets))
-
-    abbrev Makes : State → List ℕ → NewOptions → Outcome Reply State
-    Makes s text options reply new = (buckets : List Bool) × IsFresh buckets × makes s text options buckets reply new
-
     makes-lawful : needs ≡ true → (text : List ℕ) (options : NewOptions)
-        → Lawful (Makes old text options) (Makes (observable old) text options)
-    makes-lawful needed text options = record {
-      observable = λ reply new h. ([], inl refl, (at h.0 h.1).observable reply new h.2);
-      stands = λ reply new h. (at h.0 h.1).stands reply new h.2;
-    }
-      where
-        at : (buckets : List Bool) → IsFresh buckets
-            → Lawful (makes old text options buckets) (makes (observable old) text options [])
-        at buckets fresh =
-            let fixed = new_table_of old.limits.objects options buckets in
-            asks-lawful Value (λ n. contrary needed n)
-            (new-lawful (Moves own old.world) old.world still p text options fixed
-            (new-moves own old.world p text options fixed refl fresh))
+        → Lawful (makes old p text options) (makes (observable old) p text options)
+    makes-lawful needed text options =
+        let fixed = new_table_of old.limits.objects options in
+        asks-lawful Value (λ n. contrary needed n)
+        (new-lawful (Moves own old.world) old.world still p text options fixed
+        (new-moves own old.world p text options fixed refl refl))
 
     pub new_call-lawful : needs ≡ true → (name options : Term)
         → Lawful (New old p name options) (New (observable old) p name options)

@@ -1,4 +1,4 @@
--- What a step that enrols a process comes to: one process more, or nothing changed.
+-- What a step that enrols a process leaves: one process more, or nothing changed.
 use Rattle.std.proofs.Common.{◌≡◌, ℕ, ◌+◌, ◌<◌, Bool, true, false, [], ◌∷◌, Result, Ok, Err, refl, sym, ap, ◌∙◌, length, length-append}
 use Rattle.std.specs.Prelude.{nat_le, is_some}
 use Rattle.std.specs.Bool.{MatchBool}

@@ -174,7 +174,7 @@ module _ (own : ℕ → Bool) where
     abbrev deletes : Term → TableState → Change (Unit {0}) TableState
     deletes object table = on_content (DeletesObject (is_fixed table.fixes) object) table
 
-    -- the object's every instance goes
+    -- every instance of the object is removed
     object-at : (hold : Bool) (o : Option Term) (object : Term) (old new : Content) (r : Result (Unit {0}) Refusal)
         → MatchOption o (gives (Err Badarg) old r new) (λ _. gives (Ok tt) (without_those hold (equal_to object) old) r new)
         → StaysFree old.slots new.slots

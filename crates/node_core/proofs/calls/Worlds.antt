@@ -1,6 +1,6 @@
 -- What the world answers is what the machine may, and what holds of it.
 use Rattle.std.proofs.Common.{◌≡◌, refl, sym, ap, subst}
-use Rattle.std.specs.Prelude.{List, Bool, Result, Ok, Err, IfOk, OnErr}
+use Rattle.std.specs.Prelude.{Result, Ok, Err, IfOk, OnErr}
 use Rattle.std.specs.declared.alloc.AllocError.{AllocError}
 use Rattle.table_ops.specs.declared.refusal.Refusal.{Refusal}
 use Rattle.table_ops.specs.declared.refusal.Refusal.TheVariants as refusal
@@ -38,10 +38,3 @@ told-err outcome old new (Err refusal.Memory) (Err error) c e = c
 told-err outcome old new (Ok reply) (Err error) c e = absurd e
 told-err outcome old new (Err refusal.Badarg) (Err error) c e = absurd e
 told-err outcome old new (Err refusal.SystemLimit) (Err error) c e = absurd e
-
--- an outcome for these buckets is one for some
-pub some-buckets : (outcome : List Bool → Outcome Reply State) (buckets : List Bool) (old new : State) (r : Result Reply Refusal) → called.Refines (outcome buckets) old r new → called.Refines (λ reply new. (some : List Bool) × outcome some reply new) old r new
-some-buckets outcome buckets old new (Ok reply) h = (buckets, h)
-some-buckets outcome buckets old new (Err refusal.Badarg) h = (buckets, h)
-some-buckets outcome buckets old new (Err refusal.SystemLimit) h = (buckets, h)
-some-buckets outcome buckets old new (Err refusal.Memory) h = h

@@ -7,14 +7,14 @@ use Rattle.std.proofs.lemmas.List.{length-map}
 use Rattle.fixed_walk.specs.TableState.{TableState}
 use Rattle.ownership.specs.World.{Table, Tables, World, table_at, whereis, with_fixed, fixed_in}
 use Rattle.ownership.specs.Tables.{with_changed}
-use Rattle.node_core.specs.rules.Tables.{IsFresh}
+use Rattle.node_core.specs.rules.Tables.{first_buckets}
 use Rattle.node_core.proofs.moves.Preserves.{Preserves, preserves-same}
 
 -- a table that is new is last, has no slot and a new table's buckets, and has no name that another has
 pub record Enters (old : Tables) (t : ℕ) (table : Table) : Type 0 where
   pub place : t ≡ length old
   pub bare : table.fixed.content.slots ≡ []
-  pub fresh : IsFresh table.fixed.buckets
+  pub fresh : table.fixed.buckets ≡ first_buckets
   pub free : table.metadata.named ≡ true → whereis old table.metadata.name ≡ None
 
 -- ---- where tables are found after one place is written, one is added, or all are mapped
@@ -123,7 +123,7 @@ module _ (own : ℕ → Bool) where
     follows-changed change stays place =
         follows-set place (option_map change (table_at ts place)) (change-written change stays (table_at ts place))
 
-    pub follows-push : (new : Table) → new.fixed.content.slots ≡ [] → IsFresh new.fixed.buckets
+    pub follows-push : (new : Table) → new.fixed.content.slots ≡ [] → new.fixed.buckets ≡ first_buckets
         → (new.metadata.named ≡ true → whereis ts new.metadata.name ≡ None) → Follows ts (ts ++ Some new ∷ [])
     follows-push new bare fresh free =
         record { long = let e = length-append ts (Some new ∷ []) in omega (arith, e); came = λ t table at. by t table (push-at ts t new table at) }

@@ -31,7 +31,7 @@ run-keeps P keeps old (s ∷ steps) [] new r h = absurd r
 abbrev HasDistinctSlots : State → Type 0
 HasDistinctSlots s = (t : ℕ) (table : Table) → table_at s.world.tables t ≡ Some table → HasDistinctKeys table.fixed.content.slots
 
-distinct-none : HasDistinctKeys []
+pub distinct-none : HasDistinctKeys []
 unfolding IsDistinct
 distinct-none = tt
 

@@ -14,7 +14,7 @@ use Rattle.ownership.specs.Access.{owned_by}
 use Rattle.ownership.specs.Messages.{transfer_message, post, post_all, after_receive}
 use Rattle.ownership.specs.Tables.{after_enrol, new_metadata, with_table, without_table, with_owner, with_heir, after_set_heir}
 use Rattle.ownership.specs.End.{with_ended, living_heir, without_fixes, table_after_exit, messages_from, after_exit}
-use Rattle.node_core.specs.rules.Tables.{IsFresh}
+use Rattle.node_core.specs.rules.Tables.{first_buckets}
 use Rattle.node_core.proofs.moves.Moves.{Stays, Moves, stays-same, follows-same, follows-gone, follows-changed, follows-push, follows-map}
 use Rattle.node_core.proofs.moves.Preserves.{all_released-preserves}
 use Rattle.node_core.proofs.moves.WorldLaws.{given}
@@ -58,7 +58,7 @@ module _ (own : ℕ → Bool) (old : World) where
       record { most = refl; known = let e = length-received old.processes p in omega (arith, e); tables = follows-same own old.tables }
 
   pub new-moves : (p : ℕ) (name : List ℕ) (options : NewOptions) (fixed : TableState) → fixed.content.slots ≡ []
-      → IsFresh fixed.buckets → (options.named && is_some (whereis old.tables name)) ≡ false
+      → fixed.buckets ≡ first_buckets → (options.named && is_some (whereis old.tables name)) ≡ false
       → Moves own old (with_table old (new_metadata p name options) fixed)
   new-moves p name options fixed bare fresh free = record {
     most = refl;

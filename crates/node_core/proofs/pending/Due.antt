@@ -91,7 +91,7 @@ module _ (tables : Tables) (s : PendingTablesState) (place : ℕ) (due : (t : �
       | inr past ↦ omega (arith, at-place t from past)
     ]
 
-    -- the pending step of the one at a place is the first, unless there is one of the dirty one, which comes before it
+    -- the pending step of the table at an index is the first, unless the dirty table has one and comes before it
     pub due-here : (step : Step) → pending_at tables id ≡ Some step → pending_from 0 tables ≡ option_or (dirty_pending_before tables s.dirty id) (Some step)
     due-here step own = by s.dirty refl
       where

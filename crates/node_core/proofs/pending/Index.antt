@@ -73,7 +73,7 @@ module _ (tables : Tables) (index : PendingTablesState) (t : ℕ) (own : Option 
         | inr ne ↦ inl (subst (λ o. IsSome o) (other-due tables t own other ne) some)
       ])
 
--- a table goes
+-- a table is removed
 pub dropped : (tables : Tables) (index : PendingTablesState) (t : ℕ) → TracksPending tables index → TracksPending (set tables t None) index
 dropped tables index t is = replaced tables index t None is (λ h. cc)
 

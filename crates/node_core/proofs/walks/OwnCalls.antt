@@ -14,7 +14,7 @@ use Rattle.ets_term.specs.Atoms.{is_atom}
 use Rattle.ets_term.specs.Depth.{depth, is_too_deep, element_at, elements_form}
 use Rattle.ets_term.specs.Order.{same}
 use Rattle.ets_term.specs.laws.Same.{same-refl}
-use Rattle.bucket_table.specs.Slots.{Slot, has_objects, slots_behind}
+use Rattle.bucket_table.specs.Slots.{Slot, HasDistinctKeys, has_objects, slots_behind}
 use Rattle.table_ops.specs.declared.kind.Kind.{Kind}
 use Rattle.table_ops.specs.Content.{IsContent, IsSlot, AreSlots}
 use Rattle.table_ops.proofs.TupleLaws.{fit-of}
@@ -41,6 +41,7 @@ use Rattle.node_core.specs.rules.Growth.{step_on_buckets}
 use Rattle.node_core.specs.rules.Replies.{true_reply}
 use Rattle.node_core.specs.rules.Walking.{Fixes, Releases, key_reply, First, Next}
 use Rattle.node_core.specs.laws.Kept.{slots_in}
+use Rattle.node_core.specs.laws.Reached.{HasNoEnd}
 use Rattle.node_core.specs.Woven.{fix, release, first, next, can_read, fixes_in}
 use Rattle.node_core.specs.inside.Walker.{exists_in, CanContinue, call_of, FindsKey, FixesTable, UnfixesTable}
 use Rattle.node_core.proofs.buckets.ObservableTables.{at-observable}
@@ -258,6 +259,16 @@ module _ (p t : ℕ) where
   count-before : (s : State) (table : Table) → table_at s.world.tables t ≡ Some table → fixes_in p t (observable s) ≡ fix_count table.fixed.fixes p
   count-before s table at = fixes-observable s ∙ ap (λ o. option_map_or (λ table. fix_count table.fixed.fixes p) o 0) at
 
+  slots-after : (s : State) (f : TableState) (table : Table) → table_at s.world.tables t ≡ Some table → slots_in t (observable (with_table s t f)) ≡ f.content.slots
+  slots-after s f table at =
+      slots-observable (with_table s t f)
+      ∙ (ap (λ o. option_map_or (λ table. table.fixed.content.slots) o []) (set-here s.world.tables t (fixed_in (table_at s.world.tables t) f) table at)
+      ∙ ap (λ o. option_map_or (λ table. table.fixed.content.slots) (fixed_in o f) []) at)
+
+  slots-free : (kind : Kind) (keypos : ℕ) (ss : List Slot) → AreSlots kind keypos ss → HasNoEnd ss
+  slots-free kind keypos [] are = tt
+  slots-free kind keypos (s ∷ ss) are = (are.0.key, slots-free kind keypos ss are.1)
+
   -- the table that was lent, and what is known of it
   record Lent (s : State) (was : TableState) : Type 0 where
     table : Table
@@ -292,12 +303,13 @@ module _ (p t : ℕ) where
       ap (λ g. with_table s t g) e ∙ ap (λ ts. record s { world = record s.world { tables = ts } }) (fixed-same s.world.tables t table at)
 
   module _ (s : State) (was f : TableState) (there : Some was ≡ option_map (λ table. table.fixed) (table_at s.world.tables t)) (can : can_read p t s ≡ true) where
-    pub held : IncrementsFix p was (Ok tt) f → FixesTable p t (observable s) (Ok tt) (observable (with_table s t f))
-    held h =
+    pub held : IncrementsFix p was (Ok tt) f → IsContent was.content → FixesTable p t (observable s) (Ok tt) (observable (with_table s t f))
+    held h is =
         let l = lent s was there can in
         let once : IncrementsFix p l.table.fixed (Ok tt) f = subst (λ g. IncrementsFix p g (Ok tt) f) l.is h in (
           done-observable s (with_table s t f) (fix p t) true_reply (fix-done s l.table l.at l.living l.readable f once),
           count-after s f l.table l.at ∙ (ap (λ (g : TableState). fix_count g.fixes p) once.1 ∙ (own-count l.table.fixed.fixes p (fix_count l.table.fixed.fixes p + 1) ∙ (more (fix_count l.table.fixed.fixes p) ∙ ap suc (sym (count-before s l.table l.at))))),
+          subst (λ ss. HasDistinctKeys ss × HasNoEnd ss) (sym (slots-after s f l.table l.at ∙ ap (λ (g : TableState). g.content.slots) h.1)) (is.distinct, slots-free was.content.kind was.content.keypos was.content.slots is.slots),
         )
       where
         more : (n : ℕ) → n + 1 ≡ suc n

@@ -21,7 +21,7 @@ use Rattle.node_core.specs.Machine.{step, run}
 use Rattle.node_core.specs.rules.Replies.{true_reply}
 use Rattle.node_core.specs.rules.Walking.{key_reply}
 use Rattle.node_core.specs.laws.Kept.{is_fixed_in}
-use Rattle.node_core.specs.laws.Walk.{is_table, walk_step, Answers, Walks}
+use Rattle.node_core.specs.laws.Walk.{is_table, walk_step, Answers, Walks, HasSoundKeys}
 use Rattle.node_core.specs.Woven.{is_step_of, replies_to, Given, AreTurns, fix, first, next, walk, can_read, fixes_in, StopReason}
 use Rattle.node_core.specs.inside.Walker.{exists_in, call_of, FindsKey, IsTraversal, Extends, WalkSoFar, WalkStopped, steps_of, StoppedAtStep}
 use Rattle.node_core.proofs.walks.OthersRuns.{fixed-in, Ran, others-ran}
@@ -125,11 +125,12 @@ module _ (p t : ℕ) where
     begun-leads now None there fixed h = end-front None now there fixed h
     begun-leads now (Some key) there fixed h = λ further more others end w. key-front None key now there fixed h further more others end w
 
-    pub begun : (now : State) (found : Option Term) → step old (fix p t) true_reply now → fixes_in p t now ≡ suc count → t < length now.world.tables → FindsKey p t None now (Ok found) → WalkSoFar p t old [] [] found now
-    begun now found h more within finds = record {
+    pub begun : (now : State) (found : Option Term) → step old (fix p t) true_reply now → fixes_in p t now ≡ suc count → HasSoundKeys t now → t < length now.world.tables → FindsKey p t None now (Ok found) → WalkSoFar p t old [] [] found now
+    begun now found h more sound within finds = record {
       fixed = now;
       before = [];
       fix_done = h;
+      sound = sound;
       walk_done = (now, finds.1, refl);
       leads = begun-leads now found (readable-there now finds.0) (fixed-in p t count now more) finds.1;
       replied = own-replied p (first p t) (key_reply found) [] [] (number-same p);
@@ -171,7 +172,7 @@ module _ (p t : ℕ) where
       so_far = walk p t keys given
 
       -- ---- the walk halts, some steps of others having been done
-      -- of what the walk found the others were told these keys, and at most one is left
+      -- the others got these keys of those that the walk found; at most one is left
       pub record Untold (keys' : List Term) : Type 0 where
         pub more : List Term
         pub few : length more ≤ 1
@@ -204,7 +205,7 @@ module _ (p t : ℕ) where
       same-order : so_far ≡ (so_far ++ []) ++ []
       same-order = sym (append-none so_far) ∙ sym (append-none (so_far ++ []))
 
-    -- ---- the walk halts before the others are given a key that was found
+    -- ---- the walk stops before the others get a key that was found
     module _ (keys : List Term) (given : Given) (key : Term) (now : State) (limit : ℕ) (st : WalkSoFar p t old keys given (Some key) now) where
       untold : Untold keys given (Some key) now st keys
       untold = record { more = key ∷ []; few = omega arith; no_end = (st.goes_on.no_end, tt); told = sym (map-append value keys (key ∷ [])) }
@@ -321,6 +322,7 @@ module _ (p t : ℕ) where
           fixed = st.fixed;
           before = R ++ replies;
           fix_done = st.fix_done;
+          sound = st.sound;
           walk_done = subst₂ (λ (xs : List Step) (rs : List Reply). run st.fixed xs rs mid) (sym (walk-more p t keys key given steps st.turns)) (sym (append_assoc R replies (key_reply found ∷ [])))
               (run-append st.fixed now mid (walk p t keys given) (steps ++ next p t key ∷ []) R (replies ++ key_reply found ∷ []) st.walk_done
               (run-push now mid mid steps replies (next p t key) (key_reply found) ran finds.1));

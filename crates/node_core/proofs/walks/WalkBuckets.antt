@@ -6,7 +6,7 @@ use Rattle.node_core.specs.declared.step.Step.{Step}
 use Rattle.node_core.specs.State.{State}
 use Rattle.node_core.specs.Observable.{observable, KeepsBuckets}
 use Rattle.node_core.specs.Buckets.{run_on_buckets}
-use Rattle.node_core.specs.rules.Growth.{HasFreshBuckets}
+use Rattle.node_core.specs.rules.Growth.{HasFirstBuckets}
 use Rattle.node_core.specs.rules.Replies.{true_reply}
 use Rattle.node_core.specs.rules.Walking.{key_reply}
 use Rattle.node_core.specs.Woven.{Given, AreTurns, AddsTurn, fix, release, first, next, walk, woven, RunsWoven}
@@ -19,7 +19,7 @@ use Rattle.node_core.proofs.walks.WalkEnds.{last-given}
 use Rattle.node_core.proofs.walks.Weaving.{paired, walk-more}
 
 -- what only reads leaves the buckets
-reads : (s : State) → KeepsBuckets s s × HasFreshBuckets s s
+reads : (s : State) → KeepsBuckets s s × HasFirstBuckets s s
 reads s = buckets-follow s s (follows-same (λ w. false) s.world.tables)
 
 module _ (p t : ℕ) (old : State) where

@@ -93,7 +93,7 @@ read-at old new q t term answer r table (Some found) e is at h =
     let same : found.1 ≡ table = cc in
     inl (h.0 ∙ ap (λ (x : Table). answer x.fixed) same)
 
--- the slot that a call of a walk tells: the first, or the next of a key
+-- the slot whose key a call of a walk replies: the first, or the next of a key
 abbrev pub slot_told : Option Term → List Slot → Option (Option Slot)
 slot_told None slots = Some (first_slot slots)
 slot_told (Some key) slots = next_slot slots key
@@ -180,7 +180,7 @@ step-replies old new p t (End q) r table call objects at e h = cc
 step-replies old new p t (Grow u) r table call objects at e h = cc
 step-replies old new p t (Ready u bucket) r table call objects at e h = cc
 
--- ---- what a reply tells
+-- ---- what follows from a reply
 end-is : is_end (Atom (codes "$end_of_table")) ≡ true
 end-is = search (rules, the_lemmas)
 

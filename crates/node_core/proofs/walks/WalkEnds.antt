@@ -18,11 +18,12 @@ use Rattle.node_core.specs.Observable.{observable}
 use Rattle.node_core.specs.Machine.{step, run}
 use Rattle.node_core.specs.rules.Replies.{true_reply}
 use Rattle.node_core.specs.rules.Walking.{key_reply}
-use Rattle.node_core.specs.Woven.{is_step_of, Given, AddsTurn, fix, release, first, next, woven, can_read, fixes_in, IsWalked, IsStopped}
+use Rattle.node_core.specs.Woven.{is_step_of, Given, AddsTurn, fix, release, first, next, walk, woven, can_read, fixes_in, IsWalked, IsStopped}
 use Rattle.node_core.specs.inside.Walker.{CanContinue, FindsKey, FixesTable, UnfixesTable, WalkSoFar, WalkStopped, steps_of, OthersRan, StoppedAtStep, RunsOthers}
 use Rattle.node_core.proofs.walks.OthersRuns.{others-ran}
 use Rattle.node_core.proofs.buckets.Runs.{run-observable}
 use Rattle.node_core.proofs.walks.Weaving.{number-same, paired, own-kept}
+use Rattle.node_core.proofs.walks.WholeWalks.{walks-whole}
 use Rattle.node_core.proofs.walks.Turns.{steps-paired, readable-there, begun, not-begun, stopped-here, stopped, not-found, turned}
 
 -- ---- what a call answered
@@ -63,7 +64,7 @@ module _ (p t : ℕ) where
 
   -- ---- the walk begins
   pub so_far-first : (old now : State) (found : Option Term) → FixesTable p t old (Ok tt) now → FindsKey p t None now (Ok found) → WalkSoFar p t old [] [] found now
-  so_far-first old now found held finds = begun p t old now found held.0 held.1 (within now (fixes_in p t old) held.1) finds
+  so_far-first old now found held finds = begun p t old now found held.0 held.1 held.2 (within now (fixes_in p t old) held.1) finds
 
   pub stopped-first : (old now : State) (why : WalkFault) (limit : ℕ) → FixesTable p t old (Ok tt) now → FindsKey p t None now (Err why) → WalkStopped p t old limit [] [] why (first p t ∷ []) now
   stopped-first old now why limit held finds = not-begun p t old now why limit held.0 held.1 finds
@@ -122,6 +123,7 @@ module _ (p t : ℕ) where
             release_done = go.1;
             answers = walking.answers;
             held = walking.held;
+            whole = walks-whole st.fixed (walk p t keys given) (st.before ++ key_reply None ∷ []) now walking.done p t keys st.sound walking.held walking.answers;
             others = st.others;
             turns = st.turns;
             few = e.1;

@@ -18,7 +18,7 @@ use Rattle.node_core.proofs.walks.WalkBuckets.{interleaved-none, interleaved-bef
 module _ (p t : ℕ) where
   -- ---- the turn of a key
   module _ (now : State) (keys : List Term) (given : Given) (key : Term) (keys' : List Term) (given' : Given) where
-    -- the others are not told the key
+    -- the others do not get the key
     pub turn-untold : keys' ≡ keys → given' ≡ given → TurnResult p t keys given key now keys' given' (Err fault.Memory) now
     turn-untold e f = (
       [],

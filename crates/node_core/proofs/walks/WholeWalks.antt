@@ -20,9 +20,9 @@ use Rattle.node_core.specs.Machine.{step, run}
 use Rattle.node_core.specs.rules.Walking.{key_reply}
 use Rattle.node_core.specs.laws.Kept.{slots_in, is_fixed_in, StepsKeepKeys}
 use Rattle.node_core.specs.laws.Reached.{HasNoEnd, IsSound}
-use Rattle.node_core.specs.laws.Walk.{states, walk_step, IsKey, Answers, Walks, WalksAreWhole}
+use Rattle.node_core.specs.laws.Walk.{states, walk_step, IsKey, Answers, Walks, HasSoundKeys, SoundStatesHaveSoundKeys, WalksAreWhole}
 use Rattle.fixed_walk.proofs.ChangeLaws.{is_end}
-use Rattle.node_core.proofs.moves.Reached.{sound-step}
+use Rattle.node_core.proofs.moves.Reached.{distinct-none}
 use Rattle.node_core.proofs.buckets.Observable.{stays-there}
 use Rattle.node_core.proofs.calls.Table.{step-follows}
 use Rattle.node_core.proofs.walks.WalkCalls.{Replies, asked-free, step-replies, tells-end, tells-key}
@@ -124,13 +124,27 @@ module _ (p t : ℕ) (old mid : State) (s : Step) (r : Reply) (steps : List Step
   walked_at call keys None e w = passes call keys (further call keys w)
   walked_at call keys (Some asked) e w = answered call asked.1 keys (e ∙ (λ i. Some (w.0 i, asked.1))) w.1
 
-slots_apart : (t : ℕ) (s : State) → IsThere t s → IsSound s → HasDistinctKeys (slots_in t s)
-slots_apart t s is sound = subst HasDistinctKeys (own_slots t s is.table is.at) (sound.keys t is.table is.at)
+-- the keys of the table stay sound while it is fixed
+sound-kept : (old new : State) (s : Step) (r : Reply) (t : ℕ) → step old s r new → is_fixed_in t old ≡ true → is_fixed_in t new ≡ true → HasSoundKeys t old → HasSoundKeys t new
+sound-kept old new s r t h before after sound =
+    let was = there t old before in
+    let now = there t new after in
+    let stays = stays-there old new (step-follows old new s r h) t was.table now.table was.at now.at in
+    let back = sym (own_slots t old was.table was.at) in
+    let on = own_slots t new now.table now.at in
+    (subst HasDistinctKeys on (stays.fixed.keys.distinct (subst HasDistinctKeys back sound.0)), subst HasNoEnd on (stays.fixed.ends (subst HasNoEnd back sound.1)))
 
-slots_free : (t : ℕ) (s : State) → IsThere t s → IsSound s → HasNoEnd (slots_in t s)
-slots_free t s is sound = subst HasNoEnd (own_slots t s is.table is.at) (sound.ends t is.table is.at)
+abbrev slots_of : Option Table → List Slot
+slots_of o = option_map_or (λ table. table.fixed.content.slots) o []
 
-walked : (p t : ℕ) (call : Option Term) (keys : List Term) (old : State) (steps : List Step) (replies : List Reply) (new : State) (done : run old steps replies new) → IsSound old
+sound-at : (s : State) (t : ℕ) (o : Option Table) → table_at s.world.tables t ≡ o → IsSound s → HasDistinctKeys (slots_of o) × HasNoEnd (slots_of o)
+sound-at s t None at sound = (distinct-none, tt)
+sound-at s t (Some table) at sound = (sound.keys t table at, sound.ends t table at)
+
+pub sound-keys : SoundStatesHaveSoundKeys
+sound-keys s t sound = sound-at s t (table_at s.world.tables t) refl sound
+
+walked : (p t : ℕ) (call : Option Term) (keys : List Term) (old : State) (steps : List Step) (replies : List Reply) (new : State) (done : run old steps replies new) → HasSoundKeys t old
     → AllByRecursion (λ s. is_fixed_in t s ≡ true) (states old steps replies new done) → Walks p t call keys old steps replies new done → Walked p t call keys old (states old steps replies new done)
 walked p t call keys old [] [] new done sound fixed w = absurd w
 walked p t call keys old [] (r ∷ replies) new done sound fixed w = absurd w
@@ -138,9 +152,9 @@ walked p t call keys old (s ∷ steps) [] new done sound fixed w = absurd w
 walked p t call keys old (s ∷ steps) (r ∷ replies) new done sound fixed w =
     let is = there t old fixed.0 in
     let after = first_state (λ s. is_fixed_in t s ≡ true) done.0 steps replies new done.2 fixed.1 in
-    walked_at p t old done.0 s r steps (states done.0 steps replies new done.2) done.1 (slots_apart t old is sound) (slots_free t old is sound) is (ground old done.0 s r t done.1 fixed.0 after)
+    walked_at p t old done.0 s r steps (states done.0 steps replies new done.2) done.1 sound.0 sound.1 is (ground old done.0 s r t done.1 fixed.0 after)
     (λ call keys. Walks p t call keys done.0 steps replies new done.2)
-    (λ call keys w. walked p t call keys done.0 steps replies new done.2 (sound-step old done.0 s r done.1 sound) fixed.1 w)
+    (λ call keys w. walked p t call keys done.0 steps replies new done.2 (sound-kept old done.0 s r t done.1 fixed.0 after sound) fixed.1 w)
     call keys (walk_step old p t s) refl w
 
 later : (now : List Slot) (moments : List (List Slot)) (call : Option Term) (keys : List Term) → IsWalk call moments keys → MomentsKeepKeys (now ∷ moments) → MomentsKeepKeys moments

@@ -10,4 +10,5 @@ use Rattle.node_core.specs.rules.Growth.{step_on_buckets}
 -- a step of the machine if there is a reply; otherwise nothing has changed
 abbrev pub StepsOrUnchanged : State → Step → Option Reply → State → Type 0
 StepsOrUnchanged old s None new = new ≡ old
-StepsOrUnchanged old s (Some r) new = step (observable old) s r (observable new) × step_on_buckets old s r new
+StepsOrUnchanged old s (Some r) new =
+    step (observable old) s r (observable new) × step_on_buckets old s r new

@@ -22,7 +22,7 @@ use Rattle.node_core.specs.rules.Growth.{step_on_buckets}
 use Rattle.node_core.specs.rules.Replies.{true_reply}
 use Rattle.node_core.specs.rules.Walking.{key_reply}
 use Rattle.node_core.specs.laws.Kept.{slots_in, StaysFixed}
-use Rattle.node_core.specs.laws.Walk.{states, Walks}
+use Rattle.node_core.specs.laws.Walk.{states, Walks, HasSoundKeys}
 use Rattle.node_core.specs.Woven.{is_step_of, replies_to, Given, AreTurns, fix, release, first, next, walk, can_read, fixes_in, StopReason, OthersObserve}
 
 abbrev pub exists_in : ℕ → State → Bool
@@ -51,10 +51,11 @@ module _ (p t : ℕ) where
   FindsKey call s (Err fault.Memory) = Unit {0}
   FindsKey call s (Err _) = ⊥
 
-  -- one more fix of the process
+  -- one more fix of the process, in a table whose keys are sound
   abbrev pub FixesTable : State → Result (Unit {0}) WalkFault → State → Type 0
   FixesTable old (Ok done) new =
       step old (fix p t) true_reply new × (fixes_in p t new ≡ suc (fixes_in p t old))
+      × HasSoundKeys t new
   FixesTable old (Err fault.Lost) new = (can_read p t old ≡ false) × (new ≡ old)
   FixesTable old (Err fault.SystemLimit) new =
       (can_read p t old ≡ true) × (fixes_in p t old ≡ max_fixes) × (new ≡ old)
@@ -90,6 +91,7 @@ module _ (p t : ℕ) where
     pub fixed : State
     pub before : List Reply
     pub fix_done : step old (fix p t) true_reply fixed
+    pub sound : HasSoundKeys t fixed
     pub walk_done : run fixed (walk p t keys given) (before ++ key_reply found ∷ []) now
     pub leads : Extends found keys fixed (walk p t keys given) (before ++ key_reply found ∷ []) now
     pub replied : replies_to p (walk p t keys given) (before ++ key_reply found ∷ [])
@@ -102,8 +104,8 @@ module _ (p t : ℕ) where
     pub goes_on : CanContinue t now found
 
   -- a traversal that stopped and left these steps, before the release
-  pub record WalkStopped (old : State) (limit : ℕ) (keys : List Term) (given : Given) (why : WalkFault)
-      (left : List Step) (now : State) : Type 0 where
+  pub record WalkStopped (old : State) (limit : ℕ) (keys : List Term) (given : Given)
+      (why : WalkFault) (left : List Step) (now : State) : Type 0 where
     pub done : List Step
     pub own_left : List Step
     pub replies : List Reply
@@ -120,7 +122,8 @@ module _ (p t : ℕ) where
   -- the fix is done
   abbrev pub FixIsDone : State → State → Type 0
   FixIsDone old new =
-      step (observable old) (fix p t) true_reply (observable new) × step_on_buckets old (fix p t) true_reply new
+      step (observable old) (fix p t) true_reply (observable new)
+      × step_on_buckets old (fix p t) true_reply new
 
   abbrev pub FixOnBuckets : State → Result (Unit {0}) WalkFault → State → Type 0
   FixOnBuckets old (Ok done) new = step_on_buckets old (fix p t) true_reply new
@@ -144,12 +147,14 @@ module _ (p t : ℕ) where
   TurnResult keys given key was keys' given' (Ok found) now =
       ((old : State) → WalkSoFar old keys given (Some key) (observable was)
       → WalkSoFar old keys' given' found (observable now))
-      × ((old : State) → RunsInterleaved old keys given [] was → RunsInterleaved old keys' given' [] now)
+      × ((old : State) → RunsInterleaved old keys given [] was
+      → RunsInterleaved old keys' given' [] now)
   TurnResult keys given key was keys' given' (Err why) now =
       (left : List Step)
       × ((old : State) → WalkSoFar old keys given (Some key) (observable was) → (limit : ℕ)
       → WalkStopped old limit keys' given' why left (observable now))
-      × ((old : State) → RunsInterleaved old keys given [] was → RunsInterleaved old keys' given' left now)
+      × ((old : State) → RunsInterleaved old keys given [] was
+      → RunsInterleaved old keys' given' left now)
 
   -- what the whole traversal does, before the release
   abbrev pub WalkResult : (limit : ℕ) (was : State) (keys : List Term) (given : Given)

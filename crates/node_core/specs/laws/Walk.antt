@@ -6,6 +6,7 @@ use Rattle.std.specs.Option.{option_map_or}
 use Rattle.std.specs.Str.{bytes_eq}
 use Rattle.ets_term.specs.declared.term.Term.{Term}
 use Rattle.ets_term.specs.Order.{same}
+use Rattle.bucket_table.specs.Slots.{HasDistinctKeys}
 use Rattle.table_ops.specs.Content.{is_present}
 use Rattle.ownership.specs.World.{resolve}
 use Rattle.node_core.specs.declared.step.Reply.{Reply}
@@ -16,7 +17,7 @@ use Rattle.node_core.specs.State.{State}
 use Rattle.node_core.specs.Machine.{run}
 use Rattle.node_core.specs.rules.Walking.{key_reply, key_and_objects}
 use Rattle.node_core.specs.laws.Kept.{slots_in, StaysFixed}
-use Rattle.node_core.specs.laws.Reached.{IsSound}
+use Rattle.node_core.specs.laws.Reached.{HasNoEnd, IsSound}
 
 -- the states of a run, from the one before its first step to the one after its last
 abbrev pub states : (old : State) (steps : List Step) (replies : List Reply) (new : State)
@@ -87,11 +88,19 @@ pub record IsWhole (t : ℕ) (stretch : List State) (keys : List Term) : Type 0 
   pub all : (key : Term) → AllByRecursion (λ s. is_present (slots_in t s) key ≡ true) stretch
       → Contains keys key
 
+-- no two slots of the table have the same key, and none has the key '$end_of_table'
+abbrev pub HasSoundKeys : ℕ → State → Type 0
+HasSoundKeys t s = HasDistinctKeys (slots_in t s) × HasNoEnd (slots_in t s)
+
+-- that holds of each table of a sound state
+abbrev pub SoundStatesHaveSoundKeys : Type 0
+SoundStatesHaveSoundKeys = (s : State) (t : ℕ) → IsSound s → HasSoundKeys t s
+
 -- in every run, each traversal of a table that stays fixed, by any process, is exact, whatever others do
 abbrev pub WalksAreWhole : Type 0
 WalksAreWhole =
     (old : State) (steps : List Step) (replies : List Reply) (new : State)
     (done : run old steps replies new) (p t : ℕ) (keys : List Term)
-    → IsSound old → StaysFixed t (states old steps replies new done)
+    → HasSoundKeys t old → StaysFixed t (states old steps replies new done)
     → Walks p t None keys old steps replies new done
     → IsWhole t (states old steps replies new done) keys

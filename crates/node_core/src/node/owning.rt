@@ -20,7 +20,8 @@ impl<H: KeyHash + Copy + Drop> Node<H> {
         to: &Term,
         gift: &Term,
     ) -> Result<Reply, Refusal>
-        ensures { Refines (GiveAway self.old pid table.now to.now gift.now) self.old result self.new }
+        ensures { Refines (GiveAway self.old pid table.now to.now gift.now)
+            self.old result self.new }
     {
         let id = self.world.resolve(table).ok_or(Refusal::Badarg)?;
         let Term::Pid(to) = to else {

@@ -22,7 +22,8 @@ impl<H: KeyHash + Copy + Drop> Node<H> {
     }
 
     pub(crate) fn delete(&mut self, pid: u32, table: &Term, key: &Term) -> Result<Reply, Refusal>
-        ensures { Refines (writes self.old pid table.now (Delete key.now)) self.old result self.new }
+        ensures { Refines (writes self.old pid table.now (Delete key.now))
+            self.old result self.new }
     {
         let alloc = self.alloc;
         let Some(table) = self.usable_mut(Access::Write, pid, table) else {
@@ -50,7 +51,8 @@ impl<H: KeyHash + Copy + Drop> Node<H> {
     }
 
     pub(crate) fn delete_all_objects(&mut self, pid: u32, table: &Term) -> Result<Reply, Refusal>
-        ensures { Refines (writes self.old pid table.now DeleteAllObjects) self.old result self.new }
+        ensures { Refines (writes self.old pid table.now DeleteAllObjects)
+            self.old result self.new }
     {
         let alloc = self.alloc;
         let Some(table) = self.usable_mut(Access::Write, pid, table) else {

@@ -69,7 +69,8 @@ impl<H: KeyHash + Copy + Drop> Node<H> {
     }
 
     pub(crate) fn select(&self, pid: u32, table: &Term, spec: &Term) -> Result<Reply, Refusal>
-        ensures { Refines (reads self.now pid table.now (Select spec.now)) self.now result self.now }
+        ensures { Refines (reads self.now pid table.now (Select spec.now))
+            self.now result self.now }
     {
         let table = self.readable(pid, table).ok_or(Refusal::Badarg)?;
         let spec = spec_of(self.alloc, spec)?;

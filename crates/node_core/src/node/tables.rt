@@ -2,7 +2,7 @@
 ghost use Rattle.std.specs.Prelude.{◌≡◌, ◌≤◌, IfOk};
 ghost use Rattle.ownership.specs.Outcomes as outcomes;
 ghost use Rattle.ownership.specs.Tables as tables;
-ghost use Rattle.node_core.specs.rules.Tables.{New, DeleteTable, first_buckets, makes, new_table_of};
+ghost use Rattle.node_core.specs.rules.Tables.{New, DeleteTable, makes, new_table_of};
 ghost use Rattle.node_core.specs.inside.Due.{TracksPending};
 ghost use Rattle.node_core.specs.inside.Refusals.{Refines};
 
@@ -39,8 +39,7 @@ impl<H: KeyHash + Copy + Drop> Node<H> {
 
     fn new_table(&mut self, pid: u32, name: &Atom, options: NewOptions) -> Result<Reply, Refusal>
         requires { 1 ≤ options.keypos }
-        ensures { Refines (makes self.old pid name.now options first_buckets)
-            self.old result self.new }
+        ensures { Refines (makes self.old pid name.now options) self.old result self.new }
     {
         let table = match self.empty_table(&options) {
             Ok(table) => table,
@@ -66,7 +65,7 @@ impl<H: KeyHash + Copy + Drop> Node<H> {
     fn empty_table(&self, options: &NewOptions) -> Result<Walked<SplitRows<H>>, AllocError>
         requires { 1 ≤ options.now.keypos }
         ensures { IfOk result (λ table.
-            table ≡ new_table_of self.now.limits.objects options.now first_buckets) }
+            table ≡ new_table_of self.now.limits.objects options.now) }
     {
         let rows = SplitRows::new(self.alloc, self.hasher)?;
         let table = Table::new(

@@ -37,6 +37,7 @@ impl<H: KeyHash + Copy + Drop> Node<H> {
         let Some(table) = self.table_mut(id) else {
             return Err(WalkFault::Lost);
         };
+        table.reveal_invariant();
         match table.fix(pid) {
             Ok(()) => Ok(()),
             Err(FixFault::SystemLimit) => Err(WalkFault::SystemLimit),

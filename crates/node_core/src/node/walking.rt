@@ -35,7 +35,8 @@ impl<H: KeyHash + Copy + Drop> Node<H> {
     }
 
     fn fix(&mut self, pid: u32, table: &Term) -> Result<Reply, Refusal>
-        ensures { Refines (changes self.old pid Read table.now (Fixes pid)) self.old result self.new }
+        ensures { Refines (changes self.old pid Read table.now (Fixes pid))
+            self.old result self.new }
     {
         let alloc = self.alloc;
         let Some(table) = self.usable_mut(Access::Read, pid, table) else {

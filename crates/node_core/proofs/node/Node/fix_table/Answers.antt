@@ -7,7 +7,7 @@ use Rattle.node_core.proofs.node.Node.fix_table.Goals as goal
 pub returns-in-Ok-clause-holds : goal.returns-in-Ok-clause-holds
 returns-in-Ok-clause-holds g c =
     let can : can_read c.args.pid c.args.id c.args.self.now ≡ true = search rules in
-    held c.args.pid c.args.id c.args.self.now c.in-Some.table.now c.fix.new.self c.in-Some.ensures.value can c.in-Ok.ensures
+    held c.args.pid c.args.id c.args.self.now c.in-Some.table.now c.fix.new.self c.in-Some.ensures.value can c.in-Ok.ensures c.reveal_invariant.ensures.content
 
 pub returns-in-Err-SystemLimit-clause-holds : goal.returns-in-Err-SystemLimit-clause-holds
 returns-in-Err-SystemLimit-clause-holds g c =

@@ -1,0 +1,9 @@
+pub mod Arguments
+pub mod CallLaws
+pub mod Rules
+pub mod Table
+pub mod Changes
+pub mod Fixing
+pub mod Removals
+pub mod Worlds
+pub mod Enrolling

@@ -1,0 +1,6 @@
+pub mod Moves
+pub mod WorldMoves
+pub mod WorldLaws
+pub mod Preserves
+pub mod EndKeys
+pub mod Reached

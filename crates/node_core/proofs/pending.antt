@@ -1,0 +1,5 @@
+pub mod Ascending
+pub mod Index
+pub mod Due
+pub mod Keeping
+pub mod Tending

@@ -1,0 +1,3 @@
+pub mod Predicted
+pub mod Counting
+pub mod Trees
