@@ -1,4 +1,4 @@
--- The thread that walks takes with it what may go to another thread.
+-- What the thread that traverses captures may be sent to another thread.
 use denote.RattleType.{RattleType}
 use denote.Param.Send.{IsSend, IsSync, shr_send}
 use denote.Ref.{ShrRef}
@@ -16,9 +16,9 @@ use Rattle.node_shared.specs.contracts.shared.Shared as Shared
 use Rattle.node_shared.proofs.Sent.{captures_send, client_send, shared_sync}
 
 module _ (a b : Lifetime) (α β : Lft) (L H R : RattleType) (l : Ledger.Ghosts L.Denot) (k : KeyHash.Ghosts H.Denot) (c : Clone.Ghosts H.Denot) where
-  abbrev pub Walking : List RattleType
-  Walking = ShrRef a α R ∷ Global.the_row ∷ ShrRef b β (Shared.the_row L H l k c) ∷ Client.the_row L l ∷ []
+  abbrev pub Traversing : List RattleType
+  Traversing = ShrRef a α R ∷ Global.the_row ∷ ShrRef b β (Shared.the_row L H l k c) ∷ Client.the_row L l ∷ []
 
-  pub walking_send : (name : Sym) → IsSync R → IsSend H → IsSend (TupleAt name Walking)
-  walking_send name runs hash =
-      captures_send name Walking (shr_send a α R runs, (global.the_send, (shr_send b β (Shared.the_row L H l k c) (shared_sync L H l k c hash), (client_send L l, tt))))
+  pub traversing_send : (name : Sym) → IsSync R → IsSend H → IsSend (TupleAt name Traversing)
+  traversing_send name runs hash =
+      captures_send name Traversing (shr_send a α R runs, (global.the_send, (shr_send b β (Shared.the_row L H l k c) (shared_sync L H l k c hash), (client_send L l, tt))))

@@ -21,6 +21,7 @@ use Rattle.node_shared.specs.declared.entry.Entry.{Entry}
 use Rattle.node_shared.specs.Journal.{entry, Does, IsRun, process_of, process_entries}
 use Rattle.node_shared.specs.BookInvariant.{BookInvariant}
 use Rattle.node_shared.specs.History.{IsSubsequence}
+use Rattle.node_shared.specs.Running.{EndsRun}
 use Rattle.node_shared.specs.Serving.{Continues}
 
 abbrev step_of : Entry → Step
@@ -40,6 +41,11 @@ run-on limits old new es s r run does =
 -- a step that is done after a run, with entries that are in it
 pub continues : (limits : Limits) (old new : State) (es own : List Entry) (s : Step) (r : Reply) → IsSubsequence own es → IsRun limits es old → Does old s r new → Continues limits own s r
 continues limits old new es own s r stand run does = (es, new, stand, run-on limits old new es s r run does)
+
+-- a step that is done after a run ends one
+pub ends-run : (limits : Limits) (parts : ℕ) (old new : State) (es : List Entry) (s : Step) (r : Reply) → limits.processes + 1 ≡ parts → IsRun limits es old
+    → Does old s r new → EndsRun parts s r
+ends-run limits parts old new es s r most run does = (limits, es, new, most, run-on limits old new es s r run does)
 
 -- how many entries of processes an entry of this step is
 abbrev pub weight : Step → ℕ
@@ -68,9 +74,9 @@ own-weighs p (Ready t bucket) own = cc
 pub due-weighs : (old : State) (s : Step) → due old ≡ Some s → weight s ≡ 0
 due-weighs old s is = due-tends (λ s. weight s ≡ 0) (λ t. refl) (λ t bucket. refl) old s is
 
-module _ (limits : Limits) (es : List Entry) (old new : State) (total parts : ℕ) where
+module _ (limits : Limits) (all : ℕ) (es : List Entry) (old new : State) (total parts : ℕ) where
   -- after a step that goes last all holds
-  pub invariant-step : (s : Step) (r : Reply) (more : ℕ) → BookInvariant limits old es total parts → Does old s r new → weight s ≡ more → BookInvariant limits new (es ++ entry s r ∷ []) (total + more) parts
+  pub invariant-step : (s : Step) (r : Reply) (more : ℕ) → BookInvariant limits all old es total parts → Does old s r new → weight s ≡ more → BookInvariant limits all new (es ++ entry s r ∷ []) (total + more) parts
   invariant-step s r more was does adds =
       let m = step-remembers (observable old) (observable new) s r does.0 in
       let most : new.world.most_processes ≡ old.world.most_processes = m.most in
@@ -79,13 +85,14 @@ module _ (limits : Limits) (es : List Entry) (old new : State) (total parts : �
       let counted = was.counted in
       let grown = entries-on es s r in
       record {
+        most = was.most;
         same = m.limits ∙ was.same;
         run = run-on limits old new es s r was.run does;
         counted = omega arith;
         enough = omega arith;
       }
 
-  module _ (p : ℕ) (r : Reply) (granted : is_value r ≡ true) (was : BookInvariant limits old es total parts) (does : Does old (Enrol p) r new) where
+  module _ (p : ℕ) (r : Reply) (granted : is_value r ≡ true) (was : BookInvariant limits all old es total parts) (does : Does old (Enrol p) r new) where
     -- there is a part to give
     pub part-left : 1 < parts
     part-left =
@@ -94,11 +101,11 @@ module _ (limits : Limits) (es : List Entry) (old new : State) (total parts : �
         omega arith
 
     -- after an enrolment with which a part is given out all holds
-    pub invariant-join : (left : ℕ) → left + 1 ≡ parts → BookInvariant limits new (es ++ entry (Enrol p) r ∷ []) (total + 1) left
+    pub invariant-join : (left : ℕ) → left + 1 ≡ parts → BookInvariant limits all new (es ++ entry (Enrol p) r ∷ []) (total + 1) left
     invariant-join left gave =
         let s = invariant-step (Enrol p) r 1 was does refl in
         let m = step-remembers (observable old) (observable new) (Enrol p) r does.0 in
         let most : new.world.most_processes ≡ old.world.most_processes = m.most in
         let one_more : length new.world.processes ≡ length old.world.processes + 1 = (enrolled (observable old) (observable new) p r granted does.0).0 in
         let enough = was.enough in
-        record { same = s.same; run = s.run; counted = s.counted; enough = omega arith }
+        record { most = s.most; same = s.same; run = s.run; counted = s.counted; enough = omega arith }

@@ -1,5 +1,7 @@
 pub mod Numbering
 pub mod Growing
+pub mod Enrolments
+pub mod Recording
 pub mod Parts
 pub mod Jobs
 pub mod Ordering

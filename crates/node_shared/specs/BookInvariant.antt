@@ -5,9 +5,12 @@ use Rattle.node_core.specs.State.{State}
 use Rattle.node_shared.specs.declared.entry.Entry.{Entry}
 use Rattle.node_shared.specs.Journal.{IsRun, process_entries}
 
--- The journal is a run to the node's state, the total counts its entries of processes, and the ledger has a part for
--- each process that may still be enrolled, and one more.
-pub record BookInvariant (limits : Limits) (state : State) (journal : List Entry) (total parts : ℕ) : Type 0 where
+-- The journal is a run to the node's state, and the total counts its entries of processes. The ledger has as many parts
+-- as the limit of processes, and one more. Of these, enough are not given out for each process that may still be
+-- enrolled, and one more.
+pub record BookInvariant
+    (limits : Limits) (all_parts : ℕ) (state : State) (journal : List Entry) (total parts : ℕ) : Type 0 where
+  pub most : limits.processes + 1 ≡ all_parts
   pub same : state.limits ≡ limits
   pub run : IsRun limits journal state
   pub counted : total ≡ process_entries journal

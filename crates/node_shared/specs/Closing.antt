@@ -47,6 +47,13 @@ Compares journal clients (Err (Differs p)) = IsFirstMismatch journal clients p
 Compares journal clients (Err (Missing p)) = AreParts journal clients × IsLeastMissing journal clients p
 Compares journal clients (Err Memory) = Unit {0}
 
+-- the result is that of a comparison: memory did not run out
+abbrev pub IsDecided : Result Transcript CloseFault → Type 0
+IsDecided (Ok transcript) = Unit {0}
+IsDecided (Err (Differs p)) = Unit {0}
+IsDecided (Err (Missing p)) = Unit {0}
+IsDecided (Err Memory) = ⊥
+
 -- the same, with a journal that is a run of the node with these limits
 abbrev pub Closes : Limits → List RecordState → Result Transcript CloseFault → Type 0
 Closes limits clients result =

@@ -1,6 +1,7 @@
 -- Why a process is not enrolled.
 use Rattle.std.specs.Prelude.{◌≡◌, ℕ, false}
 use Rattle.node_core.specs.declared.step.Step.TheVariants.{Enrol}
+use Rattle.node_core.specs.declared.step.Reply.{Reply}
 use Rattle.node_core.specs.State.{State}
 use Rattle.node_core.specs.Observable.{observable}
 use Rattle.node_core.specs.Machine.{step}
@@ -15,6 +16,15 @@ use Rattle.node_shared.specs.declared.shared.JoinFault.TheVariants as join
 abbrev pub Refuses : State → ℕ → BookFault → Type 0
 Refuses s p (book.Refused r) = (is_value r ≡ false) × step (observable s) (Enrol p) r (observable s)
 Refuses s p book.Memory = Unit {0}
+
+-- the fault is a refusal of this kind, or out of memory
+abbrev pub RefusesWith : (Reply → Type 0) → BookFault → Type 0
+RefusesWith allowed (book.Refused r) = allowed r
+RefusesWith allowed book.Memory = Unit {0}
+
+abbrev pub JoinRefusesWith : (Reply → Type 0) → JoinFault → Type 0
+JoinRefusesWith allowed (join.Refused r back) = allowed r
+JoinRefusesWith allowed (join.Memory back) = Unit {0}
 
 -- the fault hands this number back
 abbrev pub HandsBack : Drawn → JoinFault → Type 0

@@ -58,4 +58,5 @@ view_with_entry v e = owner_view (v.all ++ e ∷ []) (v.own ++ e ∷ [])
 
 -- the entry that was written is the last of all, and of its own, which were in the history
 abbrev pub AppendsEntry : Step Entry → Me Entry HistoryView → ℕ → Me Entry HistoryView → Type 0
-AppendsEntry s v found w = (e : Entry) × (s.said ≡ some e) × (w ≡ (view_with_entry v.0 e, v.1)) × IsSubsequence v.0.own v.0.all
+AppendsEntry s v found w =
+    (e : Entry) × (s.said ≡ some e) × (w ≡ (view_with_entry v.0 e, v.1)) × IsSubsequence v.0.own v.0.all

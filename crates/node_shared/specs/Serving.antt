@@ -13,6 +13,7 @@ use Rattle.node_shared.specs.declared.entry.Entry.{Entry}
 use Rattle.node_shared.specs.Journal.{entry, Does, IsRun}
 use Rattle.node_shared.specs.Records.{RecordState, enrolled_record}
 use Rattle.node_shared.specs.History.{IsSubsequence}
+use Rattle.node_shared.specs.Running.{IsEnrolRefusal}
 
 -- a state, and the steps with their replies that led to it
 pub record ServedState : Type 0 where
@@ -30,11 +31,22 @@ ServesGrowth old new did =
     (IsSomeAnd (due old.state) (λ event. (r : Reply) × ServesStep old event r new))
     ((due old.state ≡ None) × (new ≡ old))
 
+-- the pending growth step is run in this way; or nothing changes
+abbrev pub TriesServingGrowth : ServedState → ServedState → Bool → Type 0
+TriesServingGrowth old new did =
+    MatchBool did
+    (IsSomeAnd (due old.state) (λ event. (r : Reply) × ServesStep old event r new))
+    (new ≡ old)
+
 -- some run of a node with these limits has these entries, in their order, and then ends with this step and this reply
 abbrev pub Continues : Limits → List Entry → Step → Reply → Type 0
 Continues limits entries s r =
     (before : List Entry) × (state : State)
     × IsSubsequence entries before × IsRun limits (before ++ entry s r ∷ []) state
+
+-- this refusal to enrol p ends some run of a node with these limits
+abbrev pub RefusesCaller : Limits → ℕ → Reply → Type 0
+RefusesCaller limits p r = IsEnrolRefusal r × Continues limits [] (Enrol p) r
 
 -- a caller whose process was enrolled, and did nothing else
 abbrev pub IsEnrolledCaller : Limits → ℕ → RecordState → Type 0

@@ -1,12 +1,15 @@
 ghost use Rattle.std.specs.Prelude.{◌≡◌, true, ◌+◌, [], IfOk, OnErr, IfErr};
 ghost use Rattle.node_core.specs.State.{State, empty};
 ghost use Rattle.node_core.specs.Woven.{is_step_of};
+ghost use Rattle.ets_term.specs.declared.term.Term.TheVariants.{Pid};
 ghost use Rattle.node_core.specs.rules.Replies.{is_value};
 ghost use Rattle.node_core.specs.declared.step.Reply.{Reply};
+ghost use Rattle.node_core.specs.declared.step.Reply.TheVariants.{Value};
 ghost use Rattle.node_core.specs.declared.step.Step.TheVariants.{Enrol};
 ghost use Rattle.node_shared.specs.Journal.{IsRun, process_entries};
-ghost use Rattle.node_shared.specs.Records.{Enters, Tends};
-ghost use Rattle.node_shared.specs.Faults.{Refuses};
+ghost use Rattle.node_shared.specs.Records.{Enters, Tends, TriesGrowth};
+ghost use Rattle.node_shared.specs.Running.{EndsRun, RefusesEnrol};
+ghost use Rattle.node_shared.specs.Faults.{Refuses, RefusesWith};
 ghost use Rattle.node_shared.specs.declared.book.BookFault.TheVariants.{Refused};
 
 use crate::entry::Entry;
@@ -42,7 +45,7 @@ impl<L: Ledger, H: KeyHash + Copy + Drop> Model for Book<L, H> {
 
     ghost view = { λ b. record { state = b.node; journal = b.journal.items; total = b.ledger.total } };
 
-    ghost invariant = { λ b. BookInvariant b.limits b.node b.journal.items b.ledger.total b.unissued.parts };
+    ghost invariant = { λ b. BookInvariant b.limits L.parts b.node b.journal.items b.ledger.total b.unissued.parts };
 }
 
 /// Why a process is not enrolled. Nothing has changed.
@@ -78,6 +81,7 @@ impl<L: Ledger, H: KeyHash + Copy + Drop> Book<L, H> {
     pub fn step(&mut self, share: &mut Share<L>, event: &Step) -> Result<Reply, AllocError>
         requires { is_step_of share.old.pid event.now ≡ true }
         ensures entered { IfOk result (λ r. Enters self.old event.now r self.new) }
+        ensures run { IfOk result (EndsRun L.parts event.now) }
         ensures counted { IfOk result (λ _. self.new.total ≡ self.old.total + 1) }
         ensures share { IfOk result (λ _. share.new ≡ record share.old { amount = share.old.amount + 1 }) }
         ensures err { OnErr result ((self.new ≡ self.old) × (share.new ≡ share.old)) }
@@ -90,6 +94,7 @@ impl<L: Ledger, H: KeyHash + Copy + Drop> Book<L, H> {
     pub(crate) fn enter(&mut self, share: &mut Share<L>, step: Step) -> Result<Reply, AllocError>
         requires { is_step_of share.old.pid step ≡ true }
         ensures entered { IfOk result (λ r. Enters self.old step r self.new) }
+        ensures run { IfOk result (EndsRun L.parts step) }
         ensures counted { IfOk result (λ _. self.new.total ≡ self.old.total + 1) }
         ensures share { IfOk result (λ _. share.new ≡ record share.old { amount = share.old.amount + 1 }) }
         ensures err { OnErr result ((self.new ≡ self.old) × (share.new ≡ share.old)) }
@@ -105,10 +110,13 @@ impl<L: Ledger, H: KeyHash + Copy + Drop> Book<L, H> {
     pub fn join(&mut self, pid: u32) -> Result<(Share<L>, Reply), BookFault>
         ensures entered { IfOk result (λ joined. Enters self.old (Enrol pid) joined.1 self.new) }
         ensures granted { IfOk result (λ joined. is_value joined.1 ≡ true) }
+        ensures pid { IfOk result (λ joined. joined.1 ≡ Value (Pid pid)) }
+        ensures run { IfOk result (λ joined. EndsRun L.parts (Enrol pid) joined.1) }
         ensures counted { IfOk result (λ _. self.new.total ≡ self.old.total + 1) }
         ensures share { IfOk result (λ joined. joined.0 ≡ record { pid = pid; amount = 1 }) }
         ensures err { OnErr result (self.new ≡ self.old) }
         ensures refused { IfErr result (Refuses self.old.state pid) }
+        ensures refused_run { IfErr result (RefusesWith (RefusesEnrol L.parts pid)) }
     {
         if self.journal.reserve(1).is_err() {
             return Err(BookFault::Memory);
@@ -142,6 +150,14 @@ impl<L: Ledger, H: KeyHash + Copy + Drop> Book<L, H> {
         Ok(true)
     }
 
+    /// Runs the pending growth step as `tend` does. Returns false if none is pending or memory runs out.
+    pub(crate) fn try_tend(&mut self) -> bool
+        ensures tried { TriesGrowth self.old self.new result }
+        ensures counted { self.new.total ≡ self.old.total }
+    {
+        matches!(self.tend(), Ok(true))
+    }
+
     /// Returns the journal: a run of the node from its empty state to its present state. The total counts its entries
     /// of processes. It takes no memory.
     pub fn journal(&self) -> &[Entry]
@@ -152,20 +168,27 @@ impl<L: Ledger, H: KeyHash + Copy + Drop> Book<L, H> {
         self.journal.as_slice()
     }
 
-    /// Returns the journal, which is a run of a node with the limits that come with it.
-    pub(crate) fn into_run(self) -> (Limits, Vec<Entry>)
-        ensures journal { result.1.items ≡ self.journal }
-        ensures run { IsRun result.0 self.journal self.state }
+    /// Returns the limits of the node.
+    pub(crate) fn limits(&self) -> Limits
+        ensures { result ≡ self.now.state.limits }
+    {
+        self.limits
+    }
+
+    /// Returns the journal, and drops all else.
+    pub(crate) fn into_journal(self) -> Vec<Entry>
+        ensures journal { result.items ≡ self.journal }
+        ensures run { IsRun self.state.limits self.journal self.state }
     {
         let Book {
             alloc: _,
-            limits,
+            limits: _,
             node: _,
             journal,
             ledger: _,
             unissued: _,
         } = self;
-        (limits, journal)
+        journal
     }
 }
 

@@ -3,6 +3,7 @@ ghost use Rattle.node_core.specs.declared.step.Reply.{Reply};
 ghost use Rattle.node_core.specs.declared.step.Step.TheVariants.{End, Ask};
 ghost use Rattle.node_core.specs.Woven.{is_step_of};
 ghost use Rattle.node_shared.specs.Records.{Begins, IsLast, with_entry};
+ghost use Rattle.node_shared.specs.Running.{AllEndRuns};
 
 use crate::entry::Entry;
 use crate::share::Share;
@@ -15,7 +16,8 @@ use std::sync::Wait;
 use std::sync::ledger::Ledger;
 
 /// The client of one process: its share, and a record of its steps, each with its reply. A contract sees the process
-/// and the record, which begins with the enrolment and is as long as the share's count.
+/// and the record, which begins with the enrolment and is as long as the share's count. Each entry ends some run: the
+/// machine may give its reply to its step.
 #[derive(Drop)]
 pub struct Client<L: Ledger> {
     alloc: Global,
@@ -26,6 +28,7 @@ pub struct Client<L: Ledger> {
 impl<L: Ledger> Model for Client<L> {
     ghost use Rattle.std.specs.Prelude.{◌≡◌, length};
     ghost use Rattle.node_shared.specs.Records.{RecordState, Begins};
+    ghost use Rattle.node_shared.specs.Running.{AllEndRuns};
     ghost use Rattle.node_shared.specs.inside.Codes.{record_code};
 
     ghost Value = { RecordState };
@@ -34,7 +37,8 @@ impl<L: Ledger> Model for Client<L> {
 
     ghost view = { λ c. record { pid = c.share.pid; entries = c.entries.items } };
 
-    ghost invariant = { λ c. (length c.entries.items ≡ c.share.amount) × Begins c.share.pid c.entries.items };
+    ghost invariant = { λ c. (length c.entries.items ≡ c.share.amount) × Begins c.share.pid c.entries.items
+        × AllEndRuns L.parts c.entries.items };
 }
 
 impl<L: Ledger> Client<L> {
@@ -45,6 +49,7 @@ impl<L: Ledger> Client<L> {
     pub(crate) fn of(alloc: Global, share: Share<L>, entries: Vec<Entry>) -> Self
         requires count { length entries.items ≡ share.amount }
         requires begins { Begins share.pid entries.items }
+        requires runs { AllEndRuns L.parts entries.items }
         ensures { result ≡ record { pid = share.pid; entries = entries.items } }
     {
         Client {
@@ -65,6 +70,7 @@ impl<L: Ledger> Client<L> {
     pub fn entries(&self) -> &[Entry]
         ensures entries { result.now ≡ self.now.entries }
         ensures begins { Begins self.now.pid self.now.entries }
+        ensures runs { AllEndRuns L.parts self.now.entries }
     {
         self.entries.as_slice()
     }

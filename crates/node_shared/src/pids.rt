@@ -1,4 +1,4 @@
-ghost use Rattle.std.specs.Prelude.{◌≡◌, ◌↔◌, ℕ, ◌<◌, ◌≤◌, [], All, IfOk, IfErr, vec_len};
+ghost use Rattle.std.specs.Prelude.{◌≡◌, ◌↔◌, ℕ, ◌<◌, ◌≤◌, [], All, IfOk, IfErr, MatchResult, vec_len};
 ghost use Rattle.node_shared.specs.Numbers.{drawn_view, undrawn_view};
 ghost use Rattle.node_shared.specs.declared.pids.PidsFault.TheVariants.{TooMany};
 
@@ -52,6 +52,7 @@ impl Pids {
             × All (λ s. s.seat.table_id ≡ opened.0.table.shared.table_id) opened.1.items) }
         ensures numbers { IfOk result (λ opened. (opened.0.table.shared.key ≡ n) × (n ≤ MAX_PIDS)) }
         ensures fault { IfErr result (λ fault. (fault ≡ TooMany) ↔ (MAX_PIDS < n)) }
+        ensures most { MatchResult result (λ _. n ≤ 4096) (λ fault. (fault ≡ TooMany) ↔ (4096 < n)) }
     {
         if n > MAX_PIDS {
             return Err(PidsFault::TooMany);

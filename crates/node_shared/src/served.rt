@@ -1,10 +1,12 @@
 ghost use Rattle.std.specs.Prelude.{◌≡◌, true, [], ◌∷◌, ◌++◌, IfOk, OnErr, IfErr};
+ghost use Rattle.ets_term.specs.declared.term.Term.TheVariants.{Pid};
+ghost use Rattle.node_core.specs.declared.step.Reply.TheVariants.{Value};
 ghost use Rattle.node_core.specs.State.{empty};
 ghost use Rattle.node_core.specs.rules.Replies.{is_value};
 ghost use Rattle.node_core.specs.declared.step.Step.TheVariants.{Enrol};
 ghost use Rattle.node_shared.specs.Journal.{entry};
-ghost use Rattle.node_shared.specs.Serving.{ServesStep, ServesGrowth, Continues};
-ghost use Rattle.node_shared.specs.Faults.{Refuses};
+ghost use Rattle.node_shared.specs.Serving.{Continues, RefusesCaller, ServesGrowth, ServesStep, TriesServingGrowth};
+ghost use Rattle.node_shared.specs.Faults.{Refuses, RefusesWith};
 
 use crate::book::BookFault;
 use crate::history::{HistoryId, HistoryOwner, HistoryWord, HistoryWriter};
@@ -79,10 +81,12 @@ impl<B: HistoryId, H: KeyHash + Copy + Drop> ServedNode<B, H> {
         requires one { word.now.shared.table_id.words ≡ 1 }
         ensures done { IfOk result (λ joined. ServesStep self.old (Enrol pid) joined.1 self.new) }
         ensures granted { IfOk result (λ joined. is_value joined.1 ≡ true) }
+        ensures pid { IfOk result (λ joined. joined.1 ≡ Value (Pid pid)) }
         ensures own { IfOk result (λ joined. joined.0 ≡ entry (Enrol pid) joined.1 ∷ []) }
         ensures order { IfOk result (λ joined. Continues B.limits [] (Enrol pid) joined.1) }
         ensures err { OnErr result (self.new ≡ self.old) }
         ensures refused { IfErr result (Refuses self.old.state pid) }
+        ensures refused_run { IfErr result (RefusesWith (RefusesCaller B.limits pid)) }
     {
         let enrol = Step::Enrol(pid);
         let Ok(reply) = self.node.step(&enrol) else {
@@ -111,5 +115,14 @@ impl<B: HistoryId, H: KeyHash + Copy + Drop> ServedNode<B, H> {
         let mut maintenance_writer = self.owner.new_writer(word);
         let _reply = self.owner.enter(word, &mut maintenance_writer, due, reply);
         Ok(true)
+    }
+
+    /// Runs the pending growth step as `tend` does. Returns false if none is pending or memory runs out.
+    pub(crate) fn try_tend(&mut self, word: &HistoryWord) -> bool
+        requires table { word.now.shared.table_id ≡ B.table }
+        requires one { word.now.shared.table_id.words ≡ 1 }
+        ensures { TriesServingGrowth self.old self.new result }
+    {
+        matches!(self.tend(word), Ok(true))
     }
 }

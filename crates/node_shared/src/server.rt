@@ -1,6 +1,9 @@
 ghost use Rattle.std.specs.Prelude.{◌≡◌, ◌≤◌, true, IfOk, IfErr};
-ghost use Rattle.node_shared.specs.Serving.{IsEnrolledCaller};
-ghost use Rattle.node_shared.specs.Faults.{HandsBack};
+ghost use Rattle.ets_term.specs.declared.term.Term.TheVariants.{Pid};
+ghost use Rattle.node_core.specs.declared.step.Reply.TheVariants.{Value};
+ghost use Rattle.node_shared.specs.Records.{enrolled_record};
+ghost use Rattle.node_shared.specs.Serving.{IsEnrolledCaller, RefusesCaller};
+ghost use Rattle.node_shared.specs.Faults.{HandsBack, JoinRefusesWith};
 
 use crate::book::BookFault;
 use crate::caller::Caller;
@@ -41,7 +44,9 @@ impl<B: HistoryId, H: KeyHash + Copy + Drop> Server<B, H> {
     /// Enrols the number that was drawn, and returns the caller of that process. It may wait for the lock.
     pub fn client<R: Wait>(&self, rt: &R, drawn: Drawn) -> Result<Caller<B>, JoinFault>
         ensures ok { IfOk result (IsEnrolledCaller B.limits drawn.number) }
+        ensures start { IfOk result (λ caller. caller ≡ enrolled_record drawn.number (Value (Pid drawn.number))) }
         ensures err { IfErr result (HandsBack drawn) }
+        ensures refused { IfErr result (JoinRefusesWith (RefusesCaller B.limits drawn.number)) }
     {
         let pid = drawn.pid();
         let joined = self.served.lock(rt).join(&self.word, pid);
@@ -59,16 +64,11 @@ impl<B: HistoryId, H: KeyHash + Copy + Drop> Server<B, H> {
     {
         let mut done = 0;
         for _ in 0..turns {
-            if !self.tend(rt) {
+            if !self.served.lock(rt).try_tend(&self.word) {
                 break;
             }
             done += 1;
         }
         done
-    }
-
-    /// Runs a pending growth step. Returns whether it did: it does not if none is pending or memory runs out.
-    fn tend<R: Wait>(&self, rt: &R) -> bool {
-        matches!(self.served.lock(rt).tend(&self.word), Ok(true))
     }
 }

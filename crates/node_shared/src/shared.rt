@@ -1,9 +1,10 @@
 ghost use Rattle.std.specs.Prelude.{◌≡◌, ◌≤◌, true, ◌+◌, IfOk, IfErr, IfSome};
 ghost use Rattle.std.specs.Bool.{Decides};
-ghost use Rattle.node_core.specs.State.{State};
-ghost use Rattle.node_shared.specs.Journal.{IsRun};
-ghost use Rattle.node_shared.specs.Records.{IsEnrolled};
-ghost use Rattle.node_shared.specs.Faults.{HandsBack};
+ghost use Rattle.ets_term.specs.declared.term.Term.TheVariants.{Pid};
+ghost use Rattle.node_core.specs.declared.step.Reply.TheVariants.{Value};
+ghost use Rattle.node_shared.specs.Records.{IsEnrolled, enrolled_record};
+ghost use Rattle.node_shared.specs.Running.{RefusesEnrol};
+ghost use Rattle.node_shared.specs.Faults.{HandsBack, JoinRefusesWith};
 
 use crate::book::{Book, BookFault};
 use crate::client::Client;
@@ -50,7 +51,9 @@ impl<L: Ledger, H: KeyHash + Copy + Drop> Shared<L, H> {
     /// Enrols the number that was drawn, and returns the client of that process. It may wait for the lock.
     pub fn client<R: Wait>(&self, rt: &R, drawn: Drawn) -> Result<Client<L>, JoinFault>
         ensures ok { IfOk result (IsEnrolled drawn.number) }
+        ensures start { IfOk result (λ client. client ≡ enrolled_record drawn.number (Value (Pid drawn.number))) }
         ensures err { IfErr result (HandsBack drawn) }
+        ensures refused { IfErr result (JoinRefusesWith (RefusesEnrol L.parts drawn.number)) }
     {
         let Ok(mut entries) = Vec::with_capacity(self.alloc, 1) else {
             return Err(JoinFault::Memory(drawn));
@@ -68,24 +71,19 @@ impl<L: Ledger, H: KeyHash + Copy + Drop> Shared<L, H> {
         }
     }
 
-    /// Runs a pending growth step. Returns whether it did: it does not if none is pending or memory runs out.
-    fn tend<R: Wait>(&self, rt: &R) -> bool {
-        matches!(self.book.lock(rt).tend(), Ok(true))
-    }
-
-    /// Returns the journal, which is a run of the node with these limits. A lock's value is known by its type only, so
-    /// the book says once more which limits it has; they are never others.
-    pub(crate) fn into_journal(self) -> Option<Vec<Entry>>
-        ensures { IfSome result (λ journal. (state : State) × IsRun self.limits journal.items state) }
+    /// Takes the book out of the lock. A lock's value is known by its type only, so the book says once more which limits
+    /// it has; they are never others.
+    pub(crate) fn into_book(self) -> Option<Book<L, H>>
+        ensures { IfSome result (λ book. book.state.limits ≡ self.limits) }
     {
         let Shared {
             alloc: _,
             limits,
             book,
         } = self;
-        let (own, journal) = book.into_inner().into_run();
-        if are_same(own, limits) {
-            Some(journal)
+        let book = book.into_inner();
+        if are_same(book.limits(), limits) {
+            Some(book)
         } else {
             None
         }
@@ -103,7 +101,7 @@ pub fn keep<L: Ledger, H: KeyHash + Copy + Drop, R: Wait>(
 {
     let mut done = 0;
     for _ in 0..turns {
-        if !shared.tend(rt) {
+        if !shared.book.lock(rt).try_tend() {
             break;
         }
         done += 1;

@@ -1,9 +1,10 @@
 ghost use Rattle.std.specs.Prelude.{◌≡◌, map, IfOk};
 ghost use Rattle.std.specs.Bool.{Decides};
-ghost use Rattle.node_shared.specs.Journal.{of};
-ghost use Rattle.node_shared.specs.Closing.{Closes, Compares, has_client};
+ghost use Rattle.node_shared.specs.Journal.{IsRun, of};
+ghost use Rattle.node_shared.specs.Closing.{Closes, Compares, IsDecided, has_client};
 ghost use Rattle.node_shared.specs.inside.Closing.{FindsMismatch, FindsMissing, FindsMissingNext};
 
+use crate::book::Book;
 use crate::client::Client;
 use crate::entry::Entry;
 use crate::shared::Shared;
@@ -36,14 +37,27 @@ pub fn close<L: Ledger, H: KeyHash + Copy + Drop>(
 ) -> Result<Transcript, CloseFault>
     ensures { Closes shared.limits clients.items result }
 {
-    let Some(journal) = shared.into_journal() else {
+    let Some(book) = shared.into_book() else {
         return Err(CloseFault::Memory);
     };
-    compare(journal, clients.as_slice())
+    book.close(clients.as_slice())
+}
+
+impl<L: Ledger, H: KeyHash + Copy + Drop> Book<L, H> {
+    /// Compares the journal with the records of clients, and returns it. `Differs` is the answer only if a record is
+    /// not its part of this journal, and `Missing` only if a process in it has no client. It takes no memory.
+    pub fn close(self, clients: &[Client<L>]) -> Result<Transcript, CloseFault>
+        ensures compared { Compares self.journal clients.now result }
+        ensures decided { IsDecided result }
+        ensures run { IsRun self.state.limits self.journal self.state }
+    {
+        compare(self.into_journal(), clients)
+    }
 }
 
 fn compare<L: Ledger>(journal: Vec<Entry>, clients: &[Client<L>]) -> Result<Transcript, CloseFault>
-    ensures { Compares journal.items clients.now result }
+    ensures compared { Compares journal.items clients.now result }
+    ensures decided { IsDecided result }
 {
     if let Some(pid) = first_mismatch(journal.as_slice(), clients) {
         return Err(CloseFault::Differs(pid));

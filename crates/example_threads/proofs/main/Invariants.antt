@@ -1,4 +1,4 @@
 use Rattle.example_threads.proofs.main.Given as goal
 
-abbrev pub ghosts-work_together : goal.ghosts-work_together
-ghosts-work_together g a = record { name = a.blank.name; parts = a.blank.parts }
+abbrev pub ghosts-share_node : goal.ghosts-share_node
+ghosts-share_node g a = record { name = a.blank.name; parts = a.blank.parts }

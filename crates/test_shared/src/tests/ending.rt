@@ -3,7 +3,7 @@
 ghost use Rattle.std.specs.Prelude.{◌≡◌};
 
 use super::keeper::run_while_keeping;
-use super::{asks, joined, limits};
+use super::{asks, join_clients, limits};
 use ets_term::AllSame;
 use node_core::Reply;
 use node_shared::{Client, Entry, Job, Shared, close};
@@ -35,7 +35,7 @@ fn run_two<L: Ledger + Send + Sync, R: Threads + Wait + Sync>(
     alloc: Global,
     shared: &Shared<L, AllSame>,
 ) -> Result<Vec<Client<L>>, Fail> {
-    let mut clients = joined(rt, alloc, shared, 2)?;
+    let mut clients = join_clients(rt, alloc, shared, 2)?;
     let second = clients.pop().ok_or("a client")?;
     let first = clients.pop().ok_or("a client")?;
     let work = vec![in alloc; (first, jobs(alloc)?), (second, jobs(alloc)?)]?;

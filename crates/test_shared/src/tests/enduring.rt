@@ -2,7 +2,7 @@
 ghost use Rattle.std.specs.Prelude.{◌≡◌};
 
 use super::keeper::run_while_keeping;
-use super::{call, joined, limits};
+use super::{call, join_clients, limits};
 use ets_term::Fnv;
 use node_shared::{Client, Job, Shared, close};
 use std::alloc::{AllocError, Global};
@@ -64,7 +64,7 @@ fn eight<L: Ledger, R: Wait>(
     shared: &Shared<L, Fnv>,
 ) -> Result<Vec<(Client<L>, Vec<Job>)>, Fail> {
     let mut work = Vec::with_capacity(alloc, 8)?;
-    for client in joined(rt, alloc, shared, 8)? {
+    for client in join_clients(rt, alloc, shared, 8)? {
         let jobs = jobs(alloc, client.pid())?;
         work.push((client, jobs))?;
     }

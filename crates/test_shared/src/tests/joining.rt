@@ -1,7 +1,7 @@
 // Numbers are opened, a process is let in once and up to the limit, and one that is missing at the end is reported.
 ghost use Rattle.std.specs.Prelude.{◌≡◌};
 
-use super::{joined, limits, two_seats};
+use super::{join_clients, limits, two_seats};
 use ets_term::Fnv;
 use node_core::Reply;
 use node_shared::{Book, BookFault, Client, CloseFault, JoinFault, Pids, PidsFault, Shared, close};
@@ -80,7 +80,7 @@ fn second_of_two<L: Ledger, R: Wait>(
     alloc: Global,
     shared: &Shared<L, Fnv>,
 ) -> Result<Vec<Client<L>>, Fail> {
-    let mut clients = joined(rt, alloc, shared, 2)?;
+    let mut clients = join_clients(rt, alloc, shared, 2)?;
     let second = clients.pop().ok_or("a client")?;
     Ok(vec![in alloc; second]?)
 }
@@ -104,4 +104,21 @@ fn a_missing_client_is_reported(rt: HostRuntime) -> Result<(), Fail> {
     let fault = fault_without_the_first::<Brand, _>(&rt, rt.alloc(), Blank::new(3))?;
     assert_eq!(rt; fault, Some(CloseFault::Missing(0)));
     Ok(())
+}
+
+/// Enrols process 1, and closes the book without clients.
+fn fault_without_clients<L: Ledger>(alloc: Global, blank: Blank) -> Option<CloseFault>
+    requires name { blank.name ≡ L.name }
+    requires parts { blank.parts ≡ L.parts }
+    requires enough { blank.parts ≡ 3 }
+{
+    let mut book = Book::<L, Fnv>::new(alloc, blank, limits(2), Fnv);
+    let _joined = book.join(1);
+    book.close(&[]).err()
+}
+
+#[test]
+fn a_book_names_the_process_without_a_client(rt: HostRuntime) {
+    let fault = fault_without_clients::<Brand>(rt.alloc(), Blank::new(3));
+    assert_eq!(rt; fault, Some(CloseFault::Missing(1)));
 }

@@ -1,7 +1,7 @@
 // Clients that work while another thread runs pending steps.
 ghost use Rattle.std.specs.Thread.{IsSync};
 
-use super::done;
+use super::clients_of;
 use ets_term::KeyHash;
 use node_shared::{Client, Gate, Job, Shared, Worked, keep, run_clients};
 use std::alloc::{AllocError, Global};
@@ -50,7 +50,7 @@ pub(super) fn run_while_keeping<
     work: Vec<(Client<L>, Vec<Job>)>,
 ) -> Result<Vec<Client<L>>, Fail> {
     let are_through = AtomicBool::new(false);
-    done(alloc, beside(rt, alloc, shared, work, &are_through)?)
+    clients_of(alloc, beside(rt, alloc, shared, work, &are_through)?)
 }
 
 /// What came of the clients. Another thread runs pending steps until they are through.

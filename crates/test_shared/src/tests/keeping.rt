@@ -1,7 +1,7 @@
 // Due steps are done in turns.
 ghost use Rattle.std.specs.Prelude.{◌≡◌};
 
-use super::{call, joined, limits};
+use super::{call, join_clients, limits};
 use ets_term::Fnv;
 use node_shared::{Client, Shared, keep};
 use std::alloc::Global;
@@ -41,7 +41,7 @@ fn keep_in_turns<L: Ledger, R: Wait>(
     alloc: Global,
     shared: &Shared<L, Fnv>,
 ) -> Result<[u32; 4], Fail> {
-    let mut clients = joined(rt, alloc, shared, 1)?;
+    let mut clients = join_clients(rt, alloc, shared, 1)?;
     let client = clients.first_mut().ok_or("a client")?;
     fill(rt, alloc, shared, client, TABLE)?;
     let three = keep(rt, shared, 3);

@@ -2,7 +2,7 @@
 // there.
 ghost use Rattle.std.specs.Prelude.{◌≡◌};
 
-use super::{asks, call, done, entries_of, joined, limits};
+use super::{asks, call, clients_of, entries_of, join_clients, limits};
 use ets_term::Fnv;
 use node_core::Reply;
 use node_shared::{Client, Gate, Job, Shared, run_clients};
@@ -76,7 +76,7 @@ fn reader_and_writer<L: Ledger, R: Wait>(
     alloc: Global,
     shared: &Shared<L, Fnv>,
 ) -> Result<Vec<(Client<L>, Vec<Job>)>, Fail> {
-    let mut clients = joined(rt, alloc, shared, 2)?;
+    let mut clients = join_clients(rt, alloc, shared, 2)?;
     let writer = clients.pop().ok_or("a client")?;
     let mut reader = clients.pop().ok_or("a client")?;
     let new = call(alloc, "new", "[t,[named_table,public]]")?;
@@ -103,7 +103,7 @@ fn run_meeting<L: Ledger + Send + Sync, R: Threads + Wait + Sync>(
 ) -> Result<Vec<Client<L>>, Fail> {
     let work = reader_and_writer(rt, alloc, shared)?;
     let meeting = Meeting::new();
-    let clients = done(alloc, run_clients(rt, alloc, shared, work, &meeting)?)?;
+    let clients = clients_of(alloc, run_clients(rt, alloc, shared, work, &meeting)?)?;
     if meeting.failed.load(Ordering::SeqCst) {
         return Err("one client waited in vain")?;
     }

@@ -1,7 +1,7 @@
 // Four clients run at once. `Gate` is called before and after each job, with the numbers of client and job.
 ghost use Rattle.std.specs.Prelude.{◌≡◌};
 
-use super::{call, done, entries_of, joined, limits};
+use super::{call, clients_of, entries_of, join_clients, limits};
 use ets_term::Fnv;
 use node_shared::{Client, Gate, Job, Shared, run_clients};
 use std::alloc::Global;
@@ -100,9 +100,9 @@ fn run_with_log<L: Ledger + Send + Sync, R: Threads + Wait + Sync>(
     shared: &Shared<L, Fnv>,
     log: &Log,
 ) -> Result<Vec<Client<L>>, Fail> {
-    let clients = joined(rt, alloc, shared, 4)?;
+    let clients = join_clients(rt, alloc, shared, 4)?;
     let work = more_for_each(alloc, clients)?;
-    done(alloc, run_clients(rt, alloc, shared, work, log)?)
+    clients_of(alloc, run_clients(rt, alloc, shared, work, log)?)
 }
 
 /// Returns the calls of `Gate`, and the number of entries of the last client.

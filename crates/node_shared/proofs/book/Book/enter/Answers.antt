@@ -1,13 +1,20 @@
 use Rattle.std.proofs.Common.{◌≡◌, ◌++◌, ◌∷◌, [], arith}
 use Rattle.std.proofs.lemmas.Grind.{common_steps}
 use Rattle.node_shared.specs.Journal.{entry}
-use Rattle.node_shared.proofs.Growing.{invariant-step, own-weighs}
+use Rattle.node_shared.proofs.Growing.{invariant-step, own-weighs, ends-run}
 use Rattle.node_shared.proofs.book.Book.enter.Goals as goal
 
 pub invariant_of-self-2 : goal.invariant_of-self-2
 invariant_of-self-2 g c =
     let both = c.in_ok-answer.ensures in
-    let s = invariant-step _ c.self.inside.journal.items c.self.inside.node c.step_twice.new.self c.self.inside.ledger.total c.self.inside.unissued.parts c.args.step c.in_ok-answer.answer 1 c.self.invariant (both.ok, both.buckets) (own-weighs _ _ c.requires) in
+    let s = invariant-step _ _ c.self.inside.journal.items c.self.inside.node c.step_twice.new.self c.self.inside.ledger.total c.self.inside.unissued.parts c.args.step c.in_ok-answer.answer 1 c.self.invariant (both.ok, both.buckets) (own-weighs _ _ c.requires) in
     let journal : c.push_reserved.new.self.items ≡ c.self.inside.journal.items ++ entry c.args.step c.in_ok-answer.answer ∷ [] = grind (arith, common_steps) in
     let total = c.add.ensures.total in
     rw (journal, total) s
+
+pub returns-clause-run : goal.returns-clause-run
+returns-clause-run g c =
+    let both = c.in_ok-answer.ensures in
+    let was = c.self.invariant in
+    ends-run c.self.inside.limits _ c.self.inside.node c.step_twice.new.self c.self.inside.journal.items c.args.step c.in_ok-answer.answer
+    was.most was.run (both.ok, both.buckets)

@@ -1,8 +1,10 @@
-use Rattle.std.proofs.Common.{◌≡◌, false, [], rules, ◌∙◌}
+use Rattle.std.proofs.Common.{◌≡◌, true, false, [], rules, ◌∙◌}
 use Rattle.node_core.specs.declared.step.Step.TheVariants.{Enrol}
 use Rattle.node_core.specs.rules.Replies.{is_value}
+use Rattle.node_core.specs.Observable.{observable}
 use Rattle.node_core.proofs.calls.Enrolling.{not-enrolled}
 use Rattle.node_shared.proofs.Growing.{run-on, continues}
+use Rattle.node_shared.proofs.Enrolments.{enrol-granted, enrol-refused}
 use Rattle.node_shared.proofs.served.ServedNode.join.Goals as goal
 
 pub invariant_of-self-then-not-is_value : goal.invariant_of-self-then-not-is_value
@@ -26,3 +28,16 @@ pub returns-clause-order : goal.returns-clause-order
 returns-clause-order g c =
     let did = c.in-Ok.ensures in
     rw c.enter-reply.ensures.reply (continues g.B.HistoryId.limits c.self.inside.node c.step.new.self c.self.inside.owner [] (Enrol c.args.pid) c.in-Ok.reply tt c.self.invariant (did.ok, did.buckets))
+
+pub returns-clause-pid : goal.returns-clause-pid
+returns-clause-pid g c =
+    let granted : is_value c.in-Ok.reply ≡ true = search rules in
+    rw c.enter-reply.ensures.reply (enrol-granted (observable c.self.inside.node) (observable c.step.new.self) c.args.pid c.in-Ok.reply granted c.in-Ok.ensures.ok)
+
+pub returns-then-not-is_value-clause-refused_run : goal.returns-then-not-is_value-clause-refused_run
+returns-then-not-is_value-clause-refused_run g c =
+    let refused : is_value c.in-Ok.reply ≡ false = search rules in
+    let did = c.in-Ok.ensures in (
+      enrol-refused (observable c.self.inside.node) (observable c.step.new.self) c.args.pid c.in-Ok.reply refused did.ok,
+      continues g.B.HistoryId.limits c.self.inside.node c.step.new.self c.self.inside.owner [] (Enrol c.args.pid) c.in-Ok.reply tt c.self.invariant (did.ok, did.buckets),
+    )

@@ -1,0 +1,42 @@
+//! The calls that the clients make.
+use ets_term::{Atom, Integer, KeyHash, Term};
+use node_core::{Call, Reply};
+use node_shared::{Client, Shared};
+use std::alloc::Global;
+use std::sync::Wait;
+use std::sync::ledger::Ledger;
+use term_text::read_term;
+
+/// Makes a call, and returns the integer of its reply, if the reply is one.
+pub(crate) fn ask_integer<L: Ledger, H: KeyHash + Copy + Drop, R: Wait>(
+    rt: &R,
+    shared: &Shared<L, H>,
+    client: &mut Client<L>,
+    call: &Call,
+) -> Option<Integer> {
+    match client.ask(rt, shared, call).ok()? {
+        Reply::Value(Term::Int(number)) => Some(*number),
+        _ => None,
+    }
+}
+
+/// Returns the call that inserts an object with this key.
+pub(crate) fn insertion(alloc: Global, key: Integer) -> Option<Call> {
+    let args = format!(in alloc; "[notes,{{{key},note}}]").ok()?;
+    call(alloc, "insert", args.as_str())
+}
+
+/// Returns the call for the next key.
+pub(crate) fn next_call(alloc: Global, key: Integer) -> Option<Call> {
+    let args = format!(in alloc; "[notes,{key}]").ok()?;
+    call(alloc, "next", args.as_str())
+}
+
+/// Returns a call by the text of its name and of the list of its arguments.
+pub(crate) fn call(alloc: Global, name: &str, args: &str) -> Option<Call> {
+    let name = Atom::new(alloc, name).ok()?;
+    match read_term(alloc, args).ok()? {
+        (Term::List(args), _) => Some(Call::new(name, args.into_vec())),
+        _ => None,
+    }
+}

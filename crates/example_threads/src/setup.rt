@@ -1,0 +1,100 @@
+//! The tables, the clients and their jobs.
+ghost use Rattle.std.specs.Prelude.{◌<◌};
+
+use crate::calls::{call, insertion};
+use ets_term::{Fnv, Integer};
+use node_shared::{Client, Job, Pids, Shared};
+use std::alloc::Global;
+use std::sync::Wait;
+use std::sync::ledger::Ledger;
+
+/// The number of objects that are in the bag at first, with the keys below it. Each client counts and inserts as often.
+pub(crate) const TIMES: u32 = 100;
+
+/// Returns the fifth client, which has created the tables, and the four others with their jobs.
+pub(crate) fn set_up<L: Ledger, R: Wait>(
+    rt: &R,
+    alloc: Global,
+    shared: &Shared<L, Fnv>,
+) -> Option<(Client<L>, Vec<(Client<L>, Vec<Job>)>)> {
+    let mut clients = clients(rt, alloc, shared, 5)?;
+    create_tables(rt, alloc, shared, clients.last_mut()?)?;
+    let fifth = clients.pop()?;
+    let work = with_jobs(alloc, clients)?;
+    Some((fifth, work))
+}
+
+/// Draws a number for each client, and returns the clients.
+fn clients<L: Ledger, R: Wait>(
+    rt: &R,
+    alloc: Global,
+    shared: &Shared<L, Fnv>,
+    count: usize,
+) -> Option<Vec<Client<L>>>
+    requires { 0 < count }
+{
+    let (pids, seats) = Pids::open(alloc, count).ok()?;
+    let mut clients = Vec::with_capacity(alloc, count).ok()?;
+    for seat in seats {
+        let client = shared.client(rt, pids.draw(seat)).ok()?;
+        clients.push(client).ok()?;
+    }
+    Some(clients)
+}
+
+/// Creates both tables, which all clients may write, and inserts the objects with the keys below `TIMES`.
+fn create_tables<L: Ledger, R: Wait>(
+    rt: &R,
+    alloc: Global,
+    shared: &Shared<L, Fnv>,
+    client: &mut Client<L>,
+) -> Option<()> {
+    let calls = [
+        ("new", "[counts,[named_table,public]]"),
+        ("new", "[notes,[named_table,public,bag]]"),
+        ("insert", "[counts,{total,0}]"),
+    ];
+    for (name, args) in calls {
+        client.ask(rt, shared, &call(alloc, name, args)?).ok()?;
+    }
+    fill(rt, alloc, shared, client)
+}
+
+fn fill<L: Ledger, R: Wait>(
+    rt: &R,
+    alloc: Global,
+    shared: &Shared<L, Fnv>,
+    client: &mut Client<L>,
+) -> Option<()> {
+    for key in 0..TIMES {
+        let insertion = insertion(alloc, Integer::from(key))?;
+        client.ask(rt, shared, &insertion).ok()?;
+    }
+    Some(())
+}
+
+/// Pairs each client with its jobs.
+fn with_jobs<L: Ledger>(
+    alloc: Global,
+    clients: Vec<Client<L>>,
+) -> Option<Vec<(Client<L>, Vec<Job>)>> {
+    let mut work = Vec::with_capacity(alloc, clients.len()).ok()?;
+    let mut key = Integer::from(TIMES);
+    for client in clients {
+        work.push((client, jobs(alloc, key)?)).ok()?;
+        key = key.wrapping_add(Integer::from(TIMES));
+    }
+    Some(work)
+}
+
+/// Returns jobs that, in turn, count, and insert an object with the next key from `first` on.
+fn jobs(alloc: Global, first: Integer) -> Option<Vec<Job>> {
+    let mut jobs = Vec::new(alloc);
+    for number in 0..TIMES {
+        let count = call(alloc, "update_counter", "[counts,total,1]")?;
+        jobs.push(Job::Ask(count)).ok()?;
+        let insertion = insertion(alloc, first.wrapping_add(Integer::from(number)))?;
+        jobs.push(Job::Ask(insertion)).ok()?;
+    }
+    Some(jobs)
+}

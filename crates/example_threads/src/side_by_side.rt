@@ -1,0 +1,111 @@
+//! Four clients in threads of their own, and at the same time the thread of the traversal.
+ghost use Rattle.std.specs.Thread.{IsSync};
+
+use crate::calls::{ask_integer, call};
+use crate::setup::set_up;
+use crate::traversal::traverse;
+use ets_term::{Fnv, Integer, KeyHash};
+use node_shared::{Client, Gate, Job, Shared, Worked, run_clients};
+use std::alloc::{AllocError, Global};
+use std::sync::Wait;
+use std::sync::ledger::Ledger;
+use std::thread;
+use std::thread::Threads;
+
+/// A gate that does nothing.
+#[derive(Drop)]
+struct NoGate;
+
+impl Gate for NoGate {
+    fn before(&self, _client: usize, _call: usize) {}
+
+    fn after(&self, _client: usize, _call: usize) {}
+}
+
+/// The results of all clients.
+#[derive(Drop)]
+pub(crate) struct Totals {
+    pub(crate) counter: Integer,
+    pub(crate) objects: Integer,
+    /// The number of keys that the traversal visited, of those that were in the bag before.
+    pub(crate) old_keys: usize,
+}
+
+/// Runs four clients while the fifth traverses. Then the fifth reads what the others wrote.
+pub(crate) fn run_clients_and_traversal<L: Ledger + Send + Sync, R: Threads + Wait + Sync>(
+    rt: &R,
+    alloc: Global,
+    shared: &Shared<L, Fnv>,
+) -> Option<(Vec<Client<L>>, Totals)> {
+    let (fifth, work) = set_up(rt, alloc, shared)?;
+    let (traversal, workers) = run_side_by_side(rt, alloc, shared, fifth, work);
+    let (mut clients, old_keys) = all_clients(alloc, traversal, workers)?;
+    let (counter, objects) = read(rt, alloc, shared, clients.last_mut()?)?;
+    let totals = Totals {
+        counter,
+        objects,
+        old_keys,
+    };
+    Some((clients, totals))
+}
+
+/// Returns what came of the traversal, and of the clients that ran at the same time.
+fn run_side_by_side<
+    L: Ledger + Send + Sync,
+    H: KeyHash + Copy + Drop + Send + Sync,
+    R: Threads + Wait + Sync,
+>(
+    rt: &R,
+    alloc: Global,
+    shared: &Shared<L, H>,
+    fifth: Client<L>,
+    work: Vec<(Client<L>, Vec<Job>)>,
+) -> (
+    Option<(Client<L>, usize)>,
+    Result<Vec<Worked<L>>, AllocError>,
+) {
+    let (traversal, workers) = thread::join(
+        rt,
+        move || -> Option<(Client<L>, usize)>
+            requires { IsSync R.row }
+        { traverse(rt, alloc, shared, fifth) },
+        move || -> Result<Vec<Worked<L>>, AllocError>
+            requires { IsSync R.row }
+        { run_clients(rt, alloc, shared, work, &NoGate) },
+    );
+    (traversal, workers)
+}
+
+/// Returns the clients that worked, then the client that traversed, and its count.
+fn all_clients<L: Ledger>(
+    alloc: Global,
+    traversal: Option<(Client<L>, usize)>,
+    workers: Result<Vec<Worked<L>>, AllocError>,
+) -> Option<(Vec<Client<L>>, usize)> {
+    let (fifth, old_keys) = traversal?;
+    let mut clients = clients_of(alloc, workers.ok()?)?;
+    clients.push(fifth).ok()?;
+    Some((clients, old_keys))
+}
+
+fn clients_of<L: Ledger>(alloc: Global, workers: Vec<Worked<L>>) -> Option<Vec<Client<L>>> {
+    let mut clients = Vec::with_capacity(alloc, 5).ok()?;
+    for worker in workers {
+        clients.push(worker.client).ok()?;
+    }
+    Some(clients)
+}
+
+/// Returns the counter's value, and the number of objects of the bag.
+fn read<L: Ledger, R: Wait>(
+    rt: &R,
+    alloc: Global,
+    shared: &Shared<L, Fnv>,
+    client: &mut Client<L>,
+) -> Option<(Integer, Integer)> {
+    let total = call(alloc, "lookup_element", "[counts,total,2]")?;
+    let size = call(alloc, "info", "[notes,size]")?;
+    let counter = ask_integer(rt, shared, client, &total)?;
+    let objects = ask_integer(rt, shared, client, &size)?;
+    Some((counter, objects))
+}

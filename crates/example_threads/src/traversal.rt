@@ -1,0 +1,49 @@
+//! A traversal of the bag, which is fixed meanwhile.
+use crate::calls::{ask_integer, call, next_call};
+use crate::setup::TIMES;
+use ets_term::{Integer, KeyHash};
+use node_shared::{Client, Shared};
+use std::alloc::Global;
+use std::sync::Wait;
+use std::sync::ledger::Ledger;
+
+/// Traverses the bag. Returns the client, and the number of keys that were in the bag before.
+pub(crate) fn traverse<L: Ledger, H: KeyHash + Copy + Drop, R: Wait>(
+    rt: &R,
+    alloc: Global,
+    shared: &Shared<L, H>,
+    mut client: Client<L>,
+) -> Option<(Client<L>, usize)> {
+    fix(rt, alloc, shared, &mut client)?;
+    let old_keys = count_old_keys(rt, alloc, shared, &mut client)?;
+    Some((client, old_keys))
+}
+
+fn fix<L: Ledger, H: KeyHash + Copy + Drop, R: Wait>(
+    rt: &R,
+    alloc: Global,
+    shared: &Shared<L, H>,
+    client: &mut Client<L>,
+) -> Option<()> {
+    let fix = call(alloc, "safe_fixtable", "[notes,true]")?;
+    client.ask(rt, shared, &fix).ok()?;
+    Some(())
+}
+
+fn count_old_keys<L: Ledger, H: KeyHash + Copy + Drop, R: Wait>(
+    rt: &R,
+    alloc: Global,
+    shared: &Shared<L, H>,
+    client: &mut Client<L>,
+) -> Option<usize> {
+    let mut count = 0usize;
+    let mut next = call(alloc, "first", "[notes]")?;
+    for _ in 0..1_000 {
+        let Some(key) = ask_integer(rt, shared, client, &next) else {
+            break;
+        };
+        count = count.wrapping_add(usize::from(key < Integer::from(TIMES)));
+        next = next_call(alloc, key)?;
+    }
+    Some(count)
+}
