@@ -9,6 +9,7 @@ mod Enrolments
 mod Words
 mod PrintableLines
 mod Arguments
+mod LineForms
 mod Fronts
 mod Defaults
 mod CommandLine

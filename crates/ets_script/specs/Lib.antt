@@ -5,6 +5,7 @@ pub mod Reads
 pub mod Terms
 pub mod Classes
 pub mod Commands
+pub mod LineForms
 pub mod Replies
 pub mod Script
 pub mod Stops

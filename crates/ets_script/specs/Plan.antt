@@ -46,7 +46,8 @@ abbrev pub add_command : ℕ → Command → PlanState → PlanState
 add_command max_names (faulty at) plan = add_answer (Syntax at) plan
 add_command max_names (spawn name) plan = add_spawn max_names (number_of plan name) name plan
 add_command max_names (exit name) plan = add_job_for (number_of plan name) job.End plan
-add_command max_names (ask name word terms) plan = add_job_for (number_of plan name) (job.Ask (record { name = word; args = terms })) plan
+add_command max_names (ask name word terms) plan =
+    add_job_for (number_of plan name) (job.Ask (record { name = word; args = terms })) plan
 add_command max_names (grow t) plan = plan
 add_command max_names (ready t bucket) plan = plan
 

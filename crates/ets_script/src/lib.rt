@@ -2,7 +2,8 @@
 //!
 //! *Guarantee.* From the bytes read to the bytes written: each line is answered as the language of scripts says, by a
 //! node that starts empty, and all answers to lines read are written before the next read. A script that stops early
-//! has answered all whole lines before, or a prefix of their answers if a write failed.
+//! has answered all whole lines before, or a prefix of their answers if a write failed. A law ties the parser of lines
+//! to the table of line forms in docs/script.md.
 //!
 //! *Weakness.* Only tests show that answers are flushed before each read, what `refuse` prints, and what
 //! `run_script_with_reasons` prints about refused lines, except for the reason of a step.
@@ -21,6 +22,7 @@ mod command_line;
 mod explain;
 mod fault;
 mod journal;
+pub mod laws;
 mod line_buffer;
 mod lines;
 mod names;
