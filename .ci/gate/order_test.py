@@ -3,7 +3,7 @@ import sys
 import types
 
 from parts import CHECKED
-from proofs import Check, Order, in_order, leave_checked
+from proofs import Order, in_order, leave_checked
 
 # Each crate, those below it, and the seconds of its proof and of its tests: a chain of three, two short ones, and one with tests.
 CRATES = {
@@ -18,25 +18,26 @@ CRATES = {
 SECONDS = {name: {"proofs": proofs, "tests": tests} for name, (_, proofs, tests) in CRATES.items()}
 
 
-def checks_of(call=None, memory=1):
+def order_of(processors, memory, call=None):
+    """Returns the order of checks that need a memory of 1 each."""
     tasks = {}
     for name, (below, proofs, tests) in CRATES.items():
         waits = [(it, "proof") for it in below]
-        tasks[name, "proof"] = (waits, proofs, memory, call)
-        tasks[name, "tests"] = (waits, tests, memory, call)
-        tasks[name, "edits"] = ([(name, "proof"), (name, "tests")], 0, memory, call)
-    return [Check(key, task, SECONDS) for key, task in tasks.items()]
+        tasks[name, "proof"] = (waits, proofs, 1, call)
+        tasks[name, "tests"] = (waits, tests, 1, call)
+        tasks[name, "edits"] = ([(name, "proof"), (name, "tests")], 0, 1, call)
+    return Order(tasks, SECONDS, processors, memory)
 
 
 def turns(processors, memory=100):
     """Returns what runs at the same time, turn by turn, each crate with its jobs; all checks of a turn end with it."""
-    order, seen = Order(checks_of(), processors, memory), []
+    order, seen = order_of(processors, memory), []
     while order.waiting or order.running:
-        while order.next_check() is not None:
+        while order.start():
             pass
-        if any(it.seconds for it in order.running):
-            seen.append({it.key[0]: it.jobs for it in order.running if it.seconds})
-        for it in order.running[:]:
+        busy = {it: order.jobs(is_head) for it, is_head in order.running.items() if order.seconds[it]}
+        seen += [{name: jobs for (name, _), jobs in busy.items()}] if busy else []
+        for it in [*order.running]:
             order.end(it)
     return seen
 
@@ -73,7 +74,7 @@ def main():
     def call(given, jobs):
         return dict(given), jobs
 
-    given = in_order(Order(checks_of(call), 4, 100))
+    given = in_order(order_of(4, 100, call))
     expect(len(given), 3 * len(CRATES), "each check is made once")
     expect({"middle", "high", "side"} <= {name for name, _ in given["top", "proof"][0]}, True, "a check has what it waits for")
 
@@ -81,7 +82,7 @@ def main():
         raise KeyError("planted")
 
     try:
-        in_order(Order(checks_of(fails), 4, 100))
+        in_order(order_of(4, 100, fails))
         expect("nothing", "an error", "an error in a check is raised")
     except KeyError:
         pass

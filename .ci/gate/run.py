@@ -13,17 +13,16 @@ from parts import BEGAN, BUDGET, PROGRAM, TOP, Part, end_on_signals, say, side_b
 from tools import Log, crates_of
 
 
+# Copies the files of the tree, with what is not committed yet, but no ignored file and no mutant.
+COPY = """set -o pipefail
+git ls-files -z --cached --others --exclude-standard -- ':(exclude,glob)crates/*/must-fail/**' |
+    tar cf - --ignore-failed-read --null -T - | tar xf - -C "$0" && git init -q "$0" """
+
+
 def copy_without_edits(to):
     """Copies the tree, with a .git of its own and without must-fail folders, since `rt ci` would try mutants one by one."""
-    listed = subprocess.run(["git", "ls-files", "-z", "--cached", "--others", "--exclude-standard"], cwd=TOP, stdout=subprocess.PIPE, check=True)
-    files = [it for it in listed.stdout.split(b"\0") if it and not re.match(rb"crates/\w+/must-fail/", it)]
-    packed = subprocess.Popen(["tar", "cf", "-", "--null", "-T", "-"], cwd=TOP, stdin=subprocess.PIPE, stdout=subprocess.PIPE)
-    unpacked = subprocess.Popen(["tar", "xf", "-", "-C", to], stdin=packed.stdout)
-    packed.stdin.write(b"\0".join(it for it in files if os.path.lexists(os.path.join(os.fsencode(TOP), it))))
-    packed.stdin.close()
-    if packed.wait() or unpacked.wait():
+    if subprocess.run(["bash", "-c", COPY, to], cwd=TOP, stdin=subprocess.DEVNULL).returncode:
         sys.exit("run: the tree could not be copied")
-    subprocess.run(["git", "init", "-q", to], check=True)
 
 
 def counted(pattern, text):

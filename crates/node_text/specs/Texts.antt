@@ -1,28 +1,20 @@
 -- The call that a text spells.
-use Rattle.std.specs.Prelude.{ℕ, List, [], ◌∷◌, length, ◌==◌, if◌then◌else◌, unwrap_or}
-use Rattle.ets_term.specs.declared.term.Term.{Term, out-Term}
-use Rattle.ets_term.specs.declared.term.Term.TheOpen.{Term-F}
+use Rattle.std.specs.Prelude.{ℕ, List, [], ◌∷◌, length, ◌==◌, if◌then◌else◌, unwrap_or, option_map}
+use Rattle.ets_term.specs.declared.term.Term.{Term}
+use Rattle.ets_term.specs.Views.{as_atom, as_tuple}
 use Rattle.term_text.specs.Faults.{offset}
 use Rattle.term_text.specs.Reading.{Reading, reads_on, found, fails, reading}
 use Rattle.node_text.specs.declared.parsed_call.ParsedCall.{ParsedCall}
 use Rattle.node_text.specs.declared.parsed_call.ParsedCall.TheVariants.{Call, Faulty}
 
--- arguments after a name, which is an atom
-abbrev pub named_form : List Term → Term-F Term → ParsedCall
-named_form args (Term-F.Atom name) = Call name args
-named_form args _ = Faulty 0
-
+-- a name, which is an atom, and arguments after it
 abbrev pub call_from_elements : List Term → ParsedCall
-call_from_elements (name ∷ args) = named_form args (out-Term name)
+call_from_elements (name ∷ args) = unwrap_or (option_map (λ atom. Call atom args) (as_atom name)) (Faulty 0)
 call_from_elements [] = Faulty 0
-
-abbrev pub call_form : Term-F Term → ParsedCall
-call_form (Term-F.Tuple terms) = call_from_elements terms
-call_form _ = Faulty 0
 
 -- a tuple that begins with an atom is a call: its name and its arguments
 abbrev pub call_from_term : Term → ParsedCall
-call_from_term term = call_form (out-Term term)
+call_from_term term = unwrap_or (option_map call_from_elements (as_tuple term)) (Faulty 0)
 
 -- The result of the reader of terms for this number of bytes: a term that takes them all is read as a call. At the end
 -- of a text the reader has found a term or a fault.

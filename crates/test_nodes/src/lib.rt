@@ -1,7 +1,6 @@
-//! Tests of the world of processes and of the node over it: rows of steps with the replies that the manual's rules
-//! want.
+//! Tests of worlds and nodes: rows of steps with the replies that the manual's rules want.
 //!
-//! They stand in a crate of their own because a crate with tests is proved twice, with them and without.
+//! They have a crate of their own, since a crate with tests is proved twice, with them and without.
 #![tactic(auto)]
 
 #[cfg(test)]

@@ -1,5 +1,5 @@
 // Tests what no script of tests/scripts can say. A test is a table of rows: a step, and the reply that the rules of
-// docs/calls.md want, written by hand. A failed row is named by its place.
+// docs/calls.md want, written by hand. A test reports the place of a wrong row.
 use crate::tests::keep_if_ok;
 use crate::tests::text::{is_spelled, term, terms};
 use ets_term::{AllSame, Atom, Fnv, Items, KeyHash, Term};
@@ -16,21 +16,21 @@ mod through;
 mod walk_among;
 mod why;
 
-/// A step, told.
+/// A step, whose call is a text.
 #[derive(Clone, Copy)]
 enum Event<'a> {
     Enrol(u32),
     End(u32),
-    /// The process asks this call, as `lookup(t,a)`.
+    /// The process makes this call, such as `lookup(t,a)`.
     Ask(u32, &'a str),
     Grow(u32),
     Ready(u32, u32),
 }
 
-/// A step, and its reply: a term, a list in some order after `~`, or `** badarg` and its like.
+/// A step, and its reply: a term, a list in any order after `~`, or a refusal such as `** badarg`.
 type Row = (Event<'static>, &'static str);
 
-/// The step in which a process asks a call.
+/// Returns the step of a call that a process makes.
 fn ask(alloc: Global, pid: u32, call: &str) -> Result<Step, AllocError> {
     let Some((name, rest)) = call.split_once('(') else {
         return Err(AllocError);
@@ -58,7 +58,7 @@ fn step(alloc: Global, event: Event) -> Result<Step, AllocError> {
     }
 }
 
-/// The items of a list. Any other term is a fault of the test, reported as out of memory.
+/// Returns the items of a list. Any other term is a fault of the test, reported as out of memory.
 fn items_of(term: Term) -> Result<Items<Term>, AllocError> {
     match term {
         Term::List(items) => Ok(items),
@@ -69,7 +69,7 @@ fn items_of(term: Term) -> Result<Items<Term>, AllocError> {
     }
 }
 
-/// The same in their order as terms.
+/// Returns the items of a list in the order of terms.
 fn sort_items(term: Term) -> Result<Vec<Term>, AllocError> {
     let mut items = items_of(term)?.into_vec();
     keep_if_ok(items.sort(), items)
@@ -83,7 +83,7 @@ fn has_items(alloc: Global, value: &Term, wanted: &str) -> Result<bool, AllocErr
     same
 }
 
-/// Returns whether a text tells a list of these sorted items, in any order.
+/// Returns whether a text spells a list of these sorted items, in any order.
 fn are_spelled(alloc: Global, items: &[Term], text: &str) -> Result<bool, AllocError> {
     let expected = sort_items(term(alloc, text)?)?;
     let same = items == expected.as_slice();
@@ -91,7 +91,7 @@ fn are_spelled(alloc: Global, items: &[Term], text: &str) -> Result<bool, AllocE
     Ok(same)
 }
 
-/// Returns whether this is the reply that is wanted.
+/// Returns whether the text is that of the reply.
 fn is(alloc: Global, reply: &Reply, wanted: &str) -> Result<bool, AllocError> {
     match reply {
         Reply::Value(value) => match wanted.strip_prefix("~") {
@@ -104,7 +104,7 @@ fn is(alloc: Global, reply: &Reply, wanted: &str) -> Result<bool, AllocError> {
     }
 }
 
-/// Returns whether the step is answered so.
+/// Returns whether the step has this reply.
 fn does<H: KeyHash + Copy + Drop>(
     alloc: Global,
     node: &mut Node<H>,
@@ -129,7 +129,7 @@ fn answers_step<H: KeyHash + Copy + Drop>(
     same
 }
 
-/// The place of the first row that a node answers otherwise.
+/// Returns the place of the first row with another reply.
 fn wrong_in<H: KeyHash + Copy + Drop>(
     alloc: Global,
     node: &mut Node<H>,
@@ -143,7 +143,7 @@ fn wrong_in<H: KeyHash + Copy + Drop>(
     Ok(None)
 }
 
-/// The place of the first row that a new node with this hash answers otherwise.
+/// Does so with a new node with this hasher.
 fn wrong_by<H: KeyHash + Copy + Drop>(
     alloc: Global,
     limits: Limits,
@@ -156,8 +156,7 @@ fn wrong_by<H: KeyHash + Copy + Drop>(
     place
 }
 
-/// The place of the first row that a new node with these limits answers otherwise, by a hash that spreads keys or by
-/// one that does not.
+/// Does so with new nodes with these limits, one whose hasher spreads keys and one whose hasher does not.
 fn wrong_within(alloc: Global, limits: Limits, rows: &[Row]) -> Result<Option<usize>, AllocError> {
     match wrong_by(alloc, limits, Fnv, rows)? {
         Some(place) => Ok(Some(place)),
@@ -165,7 +164,7 @@ fn wrong_within(alloc: Global, limits: Limits, rows: &[Row]) -> Result<Option<us
     }
 }
 
-/// The place of the first row that a new node answers otherwise, by each of the two hashes.
+/// Does so with the usual limits.
 fn wrong(alloc: Global, rows: &[Row]) -> Result<Option<usize>, AllocError> {
     wrong_within(alloc, Limits::usual(), rows)
 }

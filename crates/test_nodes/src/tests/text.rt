@@ -1,12 +1,12 @@
 // Terms as the tests write them: `{a,-1}`, `[x,[]]`, `#7` for an identifier, `<7` for a pid, `@7` for lists in lists,
-// seven deep. An atom is any other word, without quotes. A text that tells no term is a fault of its test, which then
+// seven deep. An atom is any other word, without quotes. A text that is no term is a fault of its test, which then
 // fails as if memory ran out.
 use crate::tests::keep_if_ok;
 use ets_term::{Atom, Integer, Items, Term};
 use std::alloc::{AllocError, Global};
 use std::mem;
 
-/// What is read so far: the terms before each sign that is open, those after the last one, and the word that goes on.
+/// The text read so far: the terms before each open bracket, those after the last one, and the word in progress.
 #[derive(Drop)]
 struct Reader {
     alloc: Global,
@@ -65,7 +65,7 @@ impl Reader {
     }
 }
 
-/// The terms that a text tells.
+/// Returns the terms that a text spells.
 pub fn terms(alloc: Global, text: &str) -> Result<Vec<Term>, AllocError> {
     let mut reader = Reader {
         alloc,
@@ -82,7 +82,7 @@ pub fn terms(alloc: Global, text: &str) -> Result<Vec<Term>, AllocError> {
     }
 }
 
-/// The one term that a text tells.
+/// Returns the one term that a text spells.
 pub fn term(alloc: Global, text: &str) -> Result<Term, AllocError> {
     let mut terms = terms(alloc, text)?;
     let last = terms.pop();
@@ -90,7 +90,7 @@ pub fn term(alloc: Global, text: &str) -> Result<Term, AllocError> {
     last.ok_or(AllocError)
 }
 
-/// Returns whether a text tells this term.
+/// Returns whether a text spells this term.
 pub fn is_spelled(alloc: Global, value: &Term, text: &str) -> Result<bool, AllocError> {
     let expected = term(alloc, text)?;
     let same = *value == expected;
@@ -121,7 +121,7 @@ fn atom(alloc: Global, word: &str) -> Result<Term, AllocError> {
     }
 }
 
-/// The number after this sign.
+/// Returns the number after this sign.
 fn number(word: &str, sign: &str) -> Option<u32> {
     word.strip_prefix(sign)?.parse::<u32>().ok()
 }
@@ -134,7 +134,7 @@ fn nest(alloc: Global, depth: u32) -> Result<Term, AllocError> {
     Ok(term)
 }
 
-/// A list of one term.
+/// Returns a list of one term.
 fn list_of_one(alloc: Global, term: Term) -> Result<Term, AllocError> {
     let mut items = Items::new(alloc);
     Ok(Term::List(keep_if_ok(items.push(term), items)?))

@@ -1,5 +1,4 @@
-// Values from outside: each test is a table of rows, a call and the answer that the rules want of it. A row that is
-// answered otherwise is named by its place.
+// Each test is a table of rows: a call, and the answer that the rules want. A test reports the place of a wrong row.
 use crate::tests::text::{is_spelled, term};
 use bucket_table::PlainRows;
 use ets_term::{Atom, Integer, Items, Term};
@@ -14,14 +13,14 @@ mod options;
 mod owners;
 mod refused;
 
-/// A call, told.
+/// A call of a world.
 #[derive(Clone, Copy)]
 enum Event<'a> {
     Enrol(u32),
     End(u32),
     /// The process makes a table of this name with these options.
     New(u32, &'a str, &'a str),
-    /// The table with this identifier goes.
+    /// The table with this identifier is deleted.
     Drop(u32),
     /// The process gives the table to another, with this gift.
     Give(u32, u32, u32, &'a str),
@@ -38,7 +37,7 @@ enum Event<'a> {
     Fix(u32, u32),
 }
 
-/// A call, and its answer: a term, `{}` where it only does something, or `** badarg` and its like.
+/// A call, and its answer: a term, `{}` for a call without a result, or a refusal such as `** badarg`.
 type Row = (Event<'static>, &'static str);
 
 type Tables = World<PlainRows>;
@@ -147,7 +146,7 @@ fn fix(alloc: Global, world: &mut Tables, pid: u32, id: u32) -> Result<Term, Wor
     }
 }
 
-/// What a call answers that only looks.
+/// Returns the answer of a call that only reads.
 fn query(alloc: Global, world: &Tables, event: Event) -> Result<Term, WorldFault> {
     match event {
         Event::Info(id, item) => info(alloc, world, id, item),
@@ -184,7 +183,7 @@ fn set(
     set
 }
 
-/// What a call does that answers nothing of itself.
+/// Makes a call that has no result.
 fn run_call(alloc: Global, world: &mut Tables, event: Event) -> Result<(), WorldFault> {
     match event {
         Event::Enrol(pid) => world.enrol(pid),
@@ -211,7 +210,7 @@ fn answer(alloc: Global, world: &mut Tables, event: Event) -> Result<Term, World
     }
 }
 
-/// The text of a refusal.
+/// Returns the text of a refusal.
 fn refusal(fault: &WorldFault) -> &'static str {
     match fault {
         WorldFault::Badarg => "** badarg",
@@ -221,7 +220,7 @@ fn refusal(fault: &WorldFault) -> &'static str {
     }
 }
 
-/// Returns whether a call is answered so.
+/// Returns whether a call has this answer.
 fn does(alloc: Global, world: &mut Tables, event: Event, wanted: &str) -> Result<bool, AllocError> {
     match answer(alloc, world, event) {
         Ok(answer) => {
@@ -234,7 +233,7 @@ fn does(alloc: Global, world: &mut Tables, event: Event, wanted: &str) -> Result
     }
 }
 
-/// The place of the first row that is answered otherwise.
+/// Returns the place of the first row with another answer.
 fn wrong_in(alloc: Global, world: &mut Tables, rows: &[Row]) -> Result<Option<usize>, AllocError> {
     for (place, (event, wanted)) in rows.iter().enumerate() {
         if !does(alloc, world, *event, *wanted)? {
@@ -244,7 +243,7 @@ fn wrong_in(alloc: Global, world: &mut Tables, rows: &[Row]) -> Result<Option<us
     Ok(None)
 }
 
-/// The place of the first row that a new world for three processes and four tables answers otherwise.
+/// Does so with a new world for three processes and four tables.
 fn wrong(alloc: Global, rows: &[Row]) -> Result<Option<usize>, AllocError> {
     let mut world = World::new(alloc, 3, 4);
     let place = wrong_in(alloc, &mut world, rows);
@@ -252,7 +251,7 @@ fn wrong(alloc: Global, rows: &[Row]) -> Result<Option<usize>, AllocError> {
     place
 }
 
-/// The places of the first life, and of the row in it, that a new world answers otherwise.
+/// Returns the place of the first life that has a wrong row in a new world, and of that row.
 fn wrong_life(
     alloc: Global,
     lives: &[&'static [Row]],

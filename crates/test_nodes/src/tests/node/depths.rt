@@ -2,8 +2,7 @@ use super::Event::{Ask, Enrol};
 use super::{Row, wrong};
 use std::process::Abort;
 
-/// What is asked is at most 128 deep, and so is what is stored. No process is looked up before the depth, and the depth
-/// before all else.
+/// Arguments and stored objects are at most 128 deep. A step checks its process first, then the depth, then all else.
 const DEEP: [Row; 27] = [
     (Enrol(0), "<0"),
     (Enrol(1), "<1"),

@@ -5,7 +5,7 @@ use node_core::{Limits, Node, Step};
 use std::alloc::{AllocError, Global};
 use std::process::Abort;
 
-/// The pending step, if any: to double a table, or to ready one of its buckets.
+/// Returns the pending step, if any: to double a table, or to ready one of its buckets.
 fn due<H: KeyHash + Copy + Drop>(node: &Node<H>) -> Option<(u32, Option<u32>)> {
     let step = node.due()?;
     let work = work_of(&step);
@@ -48,7 +48,7 @@ const DUE: [DueRow; 15] = [
     ((Ask(0, "delete_all_objects(#0)"), "true"), None),
 ];
 
-/// The place of the first row that is answered otherwise, or after which another step is pending.
+/// Returns the place of the first row with another reply or another pending step.
 fn wrong_due_in<H: KeyHash + Copy + Drop>(
     alloc: Global,
     node: &mut Node<H>,
@@ -62,7 +62,7 @@ fn wrong_due_in<H: KeyHash + Copy + Drop>(
     Ok(None)
 }
 
-/// The same in a new node.
+/// Does so with a new node.
 fn wrong_due<H: KeyHash + Copy + Drop>(
     alloc: Global,
     hasher: H,

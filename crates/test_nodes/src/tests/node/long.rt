@@ -1,5 +1,5 @@
-// Inputs so long that no body that gives up for lack of memory at a small size passes. A text is made for each number:
-// the number replaces each N of the text.
+// Inputs so long that no body passes that reports out of memory at a small size. A template is a text for each number,
+// which replaces each N.
 mod growth;
 mod objects;
 mod processes;
@@ -13,10 +13,10 @@ use node_core::{Limits, Node};
 use std::alloc::{AllocError, Global};
 use std::process::Abort;
 
-/// Past 2,048, at which what doubles is moved.
+/// More than 2,048, so that an array that doubles is moved.
 const COUNT: u32 = 2_100;
 
-/// Puts the text after another, the number for each N.
+/// Appends a template to a text, with the number for each N.
 fn push_template(
     alloc: Global,
     text: &mut String,
@@ -44,13 +44,13 @@ fn fill_template(alloc: Global, template: &str, number: u32) -> Result<String, A
     keep_if_ok(push_template(alloc, &mut text, template, number), text)
 }
 
-/// A process 0 and its table t, which is a duplicate bag.
+/// Process 0 and its table t, a duplicate bag.
 const STARTED: [Row; 2] = [
     (Enrol(0), "<0"),
     (Ask(0, "new(t,[named_table,duplicate_bag])"), "t"),
 ];
 
-/// What is tried with a new node.
+/// A trial of a new node.
 #[derive(Clone, Copy)]
 enum Trial {
     Growth,
@@ -82,12 +82,12 @@ fn passes(alloc: Global, trial: Trial) -> Result<bool, AllocError> {
     passed
 }
 
-/// Returns whether both start in a node.
+/// Returns whether process 0 and its table start in a node.
 fn starts(alloc: Global, node: &mut Node<Fnv>) -> Result<bool, AllocError> {
     Ok(wrong_in(alloc, node, &STARTED)?.is_none())
 }
 
-/// Returns whether a call of process 0 is answered so.
+/// Returns whether a call of process 0 has this reply.
 fn answers(
     alloc: Global,
     node: &mut Node<Fnv>,
@@ -97,7 +97,7 @@ fn answers(
     does(alloc, node, Ask(0, call), wanted)
 }
 
-/// Returns whether a call is answered so, both told for a number.
+/// Returns whether a call has this reply, both templates filled in with a number.
 fn does_with_number(
     alloc: Global,
     node: &mut Node<Fnv>,
@@ -111,7 +111,7 @@ fn does_with_number(
     answered
 }
 
-/// Returns whether a call is answered by the text for a number.
+/// Returns whether the reply to a call is the template, filled in with a number.
 fn answers_with_number(
     alloc: Global,
     node: &mut Node<Fnv>,
@@ -125,7 +125,7 @@ fn answers_with_number(
     answered
 }
 
-/// The first number for which the call is answered otherwise.
+/// Returns the first number for which the call has another reply.
 fn wrong_number(
     alloc: Global,
     node: &mut Node<Fnv>,

@@ -1,6 +1,5 @@
-// Out of memory. Run with each allocation refused in turn: `rt try --test --fail-alloc N`. A step that was refused
-// memory has changed nothing, so it answers when it is done again as if it had been done once. Where the refused
-// allocation is one of a test's own, it is made again.
+// Out of memory: run with each allocation refused in turn, by `rt try --test --fail-alloc N`. A step that runs out of
+// memory changes nothing, so it has the reply of a first run when it runs again. A test repeats its own allocations.
 use super::Event::{Ask, End, Enrol, Grow, Ready};
 use super::{Event, Row, is, step};
 use ets_term::Fnv;
@@ -89,7 +88,7 @@ const LIFE: [Row; 27] = [
     (Ask(2, "info(#0,fixed)"), "false"),
 ];
 
-/// The place of the first row that a node answers otherwise, where each call that ran out of memory is made again.
+/// Returns the place of the first row with another reply. Runs each step that runs out of memory again.
 fn wrong_again_in(
     alloc: Global,
     node: &mut Node<Fnv>,
@@ -103,7 +102,7 @@ fn wrong_again_in(
     Ok(None)
 }
 
-/// The same in a new node.
+/// Does so with a new node.
 fn wrong_again(alloc: Global, rows: &[Row]) -> Result<Option<usize>, AllocError> {
     let mut node = Node::new(alloc, Limits::usual(), Fnv);
     let place = wrong_again_in(alloc, &mut node, rows);

@@ -29,7 +29,7 @@ const TWO: [Row; 3] = [
     (Ask(0, "new(u,[])"), "#1"),
 ];
 
-/// The identifier of the table that a term names after these steps.
+/// Returns the identifier of the table that a term names after these steps.
 fn resolve_after(
     alloc: Global,
     node: &mut Node<Fnv>,
@@ -40,7 +40,7 @@ fn resolve_after(
     Ok(node.resolve(named))
 }
 
-/// The same in a new node.
+/// Does so with a new node.
 fn resolve_in_new(alloc: Global, rows: &[Row], named: &Term) -> Result<Option<u32>, AllocError> {
     let mut node = Node::new(alloc, Limits::usual(), Fnv);
     let resolved = resolve_after(alloc, &mut node, rows, named);
@@ -48,7 +48,7 @@ fn resolve_in_new(alloc: Global, rows: &[Row], named: &Term) -> Result<Option<u3
     resolved
 }
 
-/// The same where there is a table named t, and one that has no name.
+/// Does so after the steps that make a table named t, and one without a name.
 fn resolve(alloc: Global, named: &str) -> Result<Option<u32>, AllocError> {
     let named = term(alloc, named)?;
     let resolved = resolve_in_new(alloc, &TWO, &named);
@@ -67,7 +67,7 @@ const NAMED: [(&str, Option<u32>); 7] = [
     ("[t]", None),
 ];
 
-/// The first term that names another table than is wanted.
+/// Returns the first term that names another table.
 fn wrong_named(
     alloc: Global,
     rows: &[(&'static str, Option<u32>)],
@@ -92,13 +92,13 @@ const REFUSED: [Row; 4] = [
     (Ask(0, "new(t,[named_table])"), "** badarg"),
 ];
 
-/// The next identifier after these steps.
+/// Returns the next identifier after these steps.
 fn next_after(alloc: Global, node: &mut Node<Fnv>, rows: &[Row]) -> Result<u32, AllocError> {
     let _made = wrong_in(alloc, node, rows)?;
     Ok(node.next_identifier())
 }
 
-/// The next identifier of a node that made two tables and was refused a third.
+/// Returns the next identifier of a node that made two tables and refused a third.
 fn next(alloc: Global) -> Result<u32, AllocError> {
     let mut node = Node::new(alloc, Limits::usual(), Fnv);
     let next = next_after(alloc, &mut node, &REFUSED);

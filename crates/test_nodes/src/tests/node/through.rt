@@ -39,7 +39,7 @@ fn steps_of(alloc: Global, rows: &[Row]) -> Result<Vec<Step>, AllocError> {
     keep_if_ok(push_steps(alloc, &mut steps, rows), steps)
 }
 
-/// The place of the first row whose step has another answer, or none.
+/// Returns the place of the first row with another reply, or without one.
 fn wrong_answer(
     alloc: Global,
     rows: &[Row],
@@ -56,7 +56,7 @@ fn wrong_answer(
     Ok(None)
 }
 
-/// The same of a run through a node.
+/// Does so for a run through.
 fn wrong_through(
     alloc: Global,
     node: &mut Node<Fnv>,
@@ -71,7 +71,7 @@ fn wrong_through(
     place
 }
 
-/// The same of a new node.
+/// Does so with a new node.
 fn wrong_of_new(alloc: Global, rows: &[Row]) -> Result<Option<usize>, AllocError> {
     let mut node = Node::new(alloc, Limits::usual(), Fnv);
     let place = wrong_through(alloc, &mut node, rows);
@@ -92,7 +92,7 @@ const TWICE: [Row; 4] = [
     (End(0), "** noproc"),
 ];
 
-/// Returns the place of the first row whose reply in a run is another one, or none.
+/// Returns the place of the first row with another reply, or without one.
 fn wrong_reply(
     alloc: Global,
     rows: &[Row],
@@ -109,7 +109,7 @@ fn wrong_reply(
     Ok(None)
 }
 
-/// Runs the steps of these rows, and returns the place of the first wrong reply, or none.
+/// Runs the steps of these rows, and returns the place of the first row with another reply.
 fn wrong_run(
     alloc: Global,
     node: &mut Node<Fnv>,

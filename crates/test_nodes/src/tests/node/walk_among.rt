@@ -1,5 +1,5 @@
-// Walks among the steps of others: what each comes to, and the state that it leaves. The wanted values are those of the
-// rules.
+// Traversals among the steps of others: the result of each, and the state that it leaves. The rules give the wanted
+// values.
 use super::Event::{Ask, Enrol};
 use super::{Event, Row, does, has_items, term, wrong_in};
 use ets_term::{AllSame, Fnv, KeyHash, Term};
@@ -19,10 +19,10 @@ struct WalkTrial<'a> {
     plan: Plan,
 }
 
-/// What a walk came to: its keys as a list, or its fault. And how many keys the others saw.
+/// The keys of a walk as a list, or its fault; and how many keys the others saw.
 type Outcome = (Result<Term, WalkFault>, usize);
 
-/// Walks, if each step before it is answered as its row says.
+/// Walks, if each step before the walk has the reply of its row.
 fn walk<H: KeyHash + Copy + Drop>(
     alloc: Global,
     node: &mut Node<H>,
@@ -77,7 +77,7 @@ fn walk_finds_in<H: KeyHash + Copy + Drop>(
     }
 }
 
-/// Returns whether a walk in a new node comes to its end with these keys, in any order.
+/// Returns whether a walk in a new node ends with these keys, in any order.
 fn walk_finds<H: KeyHash + Copy + Drop>(
     alloc: Global,
     hasher: H,
@@ -90,7 +90,7 @@ fn walk_finds<H: KeyHash + Copy + Drop>(
     comes
 }
 
-/// The fault of a walk, how many keys the others saw, and whether a step is then answered so.
+/// The fault of a walk, how many keys the others saw, and whether a step after it has the reply of its row.
 type End = (Option<WalkFault>, usize, bool);
 
 fn end_in<H: KeyHash + Copy + Drop>(
@@ -111,7 +111,7 @@ fn end_in<H: KeyHash + Copy + Drop>(
     }
 }
 
-/// The same in a new node.
+/// Does so with a new node.
 fn end<H: KeyHash + Copy + Drop>(
     alloc: Global,
     hasher: H,
@@ -239,10 +239,10 @@ const ASKS: [Event; 3] = [
     Ask(1, "insert(t,{4,d})"),
 ];
 
-/// What others do in a walk over two keys, and a step that is then answered so.
+/// What others do in a walk over two keys, and a step after it with its reply.
 type Stop = (Plan, Row);
 
-/// The place of the first row of which the walk does not end with this fault, or the step is answered otherwise.
+/// Returns the place of the first row whose walk ends without this fault, or whose step has another reply.
 fn wrong_stop(
     alloc: Global,
     wanted: &WalkFault,
@@ -333,7 +333,7 @@ const ENDED: [Row; 4] = [
     (Event::End(0), "true"),
 ];
 
-/// The fault of a walk, where the steps after it need no answer.
+/// Returns the fault of a walk.
 fn fault_of(alloc: Global, rows: &[Row], limit: u32) -> Result<Option<WalkFault>, AllocError> {
     let tried = WalkTrial {
         rows,

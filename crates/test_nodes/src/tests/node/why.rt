@@ -1,4 +1,4 @@
-// Why a step is refused: each kind of misuse with its reason in words, as the rules want it; what is answered has none.
+// Why a step is refused: each kind of misuse with its reason in words, as the rules want it. A value has no reason.
 mod misuses;
 
 use super::{Event, Row, step};
@@ -15,7 +15,7 @@ fn is_in_words(alloc: Global, reason: Reason, wanted: &str) -> Result<bool, Allo
     Ok(same)
 }
 
-/// Returns whether the step with this reply has this reason in words, or is answered where there are no words.
+/// Returns whether the step with this reply has this reason. Without words, the reply must be a value.
 fn has_reason<H: KeyHash + Copy + Drop>(
     alloc: Global,
     node: &Node<H>,
@@ -29,7 +29,7 @@ fn has_reason<H: KeyHash + Copy + Drop>(
     }
 }
 
-/// The same of a step that is done now.
+/// Does so for the reply to a step that runs now.
 fn is_explained<H: KeyHash + Copy + Drop>(
     alloc: Global,
     node: &mut Node<H>,
@@ -54,7 +54,7 @@ fn explains<H: KeyHash + Copy + Drop>(
     explained
 }
 
-/// The place of the first row that has another reason.
+/// Returns the place of the first row with another reason.
 fn wrong_reason_in<H: KeyHash + Copy + Drop>(
     alloc: Global,
     node: &mut Node<H>,
@@ -68,7 +68,7 @@ fn wrong_reason_in<H: KeyHash + Copy + Drop>(
     Ok(None)
 }
 
-/// The same in a new node.
+/// Does so with a new node.
 fn wrong_reason(alloc: Global, limits: Limits, rows: &[Row]) -> Result<Option<usize>, AllocError> {
     let mut node = Node::new(alloc, limits, Fnv);
     let place = wrong_reason_in(alloc, &mut node, rows);

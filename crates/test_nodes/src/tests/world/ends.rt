@@ -17,7 +17,7 @@ const INHERITED: [Row; 11] = [
     (End(1), "** noproc"),
 ];
 
-/// Without a living heir tables go.
+/// Tables without a living heir are deleted.
 const NO_HEIR: [Row; 12] = [
     (Enrol(0), "{}"),
     (Enrol(1), "{}"),
@@ -51,7 +51,7 @@ const IN_ORDER: [Row; 11] = [
     (Info(3, "heir"), "<1"),
 ];
 
-/// An end ends the fixes of its process.
+/// An exit releases the fixes of its process.
 const FIXES: [Row; 12] = [
     (Enrol(0), "{}"),
     (Enrol(1), "{}"),

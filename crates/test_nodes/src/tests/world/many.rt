@@ -1,4 +1,4 @@
-// Worlds of hundreds of processes and tables; compared with a plain model.
+// Worlds of hundreds of processes and tables, compared with a plain model.
 use super::{Tables, fix, new_table};
 use ets_term::Term;
 use ownership::{World, WorldFault};
@@ -9,7 +9,7 @@ const MANY: u32 = 300;
 
 const GONE: u32 = 1_000;
 
-/// A table of the process, with this heir.
+/// Makes a table of the process, with this heir.
 fn make(alloc: Global, world: &mut Tables, pid: u32, heir: u32) -> Result<(), WorldFault> {
     let options = format!(in alloc; "[{{heir,<{heir},1}}]")?;
     let made = new_table(alloc, world, pid, "t", options.as_str());
@@ -18,7 +18,7 @@ fn make(alloc: Global, world: &mut Tables, pid: u32, heir: u32) -> Result<(), Wo
     Ok(())
 }
 
-/// Whose the table is, and whether it is fixed; GONE if it does not exist.
+/// Returns the owner of the table, and whether it is fixed; GONE if it does not exist.
 fn owner_and_fix(world: &Tables, id: u32) -> (u32, bool) {
     match (world.metadata(id), world.table(id)) {
         (Some(metadata), Some(table)) => (metadata.owner, table.is_fixed()),
@@ -26,7 +26,7 @@ fn owner_and_fix(world: &Tables, id: u32) -> (u32, bool) {
     }
 }
 
-/// The identifiers of the tables whose messages a process has, in that order.
+/// Returns whether the messages are of the first tables, a number of them, in that order.
 fn is_in_order(messages: &[Term], wanted: u32) -> bool {
     for (place, message) in messages.iter().enumerate() {
         let Term::Tuple(elements) = message else {
@@ -40,7 +40,7 @@ fn is_in_order(messages: &[Term], wanted: u32) -> bool {
     messages.len() == wanted as usize
 }
 
-/// Process 0 makes seventy tables, whose heir is process 1.
+/// Makes seventy tables of process 0, whose heir is process 1.
 fn make_seventy(alloc: Global, world: &mut Tables) -> Result<(), WorldFault> {
     world.enrol(0)?;
     world.enrol(1)?;
@@ -59,7 +59,7 @@ fn are_gone(world: &Tables) -> bool {
     true
 }
 
-/// Returns whether the seventy go to their heir, in order, and with the heir.
+/// Returns whether the owner's exit passes seventy tables to their heir, in order, and the heir's exit deletes them.
 fn hands_seventy_on(alloc: Global, world: &mut Tables) -> Result<bool, WorldFault> {
     make_seventy(alloc, world)?;
     world.end(0)?;
@@ -80,7 +80,7 @@ fn seventy_tables_go_to_one_heir(rt: HostRuntime) {
     assert!(rt; seventy(rt.alloc()) == Ok(true));
 }
 
-/// The heir of a table, and the process that fixes it.
+/// Returns the heir of a table.
 fn heir_of(id: u32) -> u32 {
     id.wrapping_mul(17).wrapping_add(1) % MANY
 }
@@ -89,7 +89,7 @@ fn fixer_of(id: u32) -> u32 {
     id.wrapping_mul(11).wrapping_add(5) % MANY
 }
 
-/// Who ends as the so manieth.
+/// Returns the process that exits in this turn.
 fn process_to_end(turn: u32) -> u32 {
     turn.wrapping_mul(7) % MANY
 }
@@ -103,7 +103,8 @@ fn is_ended(pid: u32, turns: u32) -> bool {
     false
 }
 
-/// Whose a table is after a number of exits: it goes with its owner to its heir, or is gone where that has ended.
+/// Returns the owner of a table after a number of exits, and whether it is fixed. The exit of its owner passes it to
+/// its heir, or deletes it if the heir has exited.
 fn owner_and_fix_after(id: u32, turns: u32) -> (u32, bool) {
     let heir = heir_of(id);
     let owner = if !is_ended(id, turns) {
@@ -116,7 +117,7 @@ fn owner_and_fix_after(id: u32, turns: u32) -> (u32, bool) {
     (owner, owner != GONE && !is_ended(fixer_of(id), turns))
 }
 
-/// Has each process a table with an heir, and each table fixed by a process.
+/// Makes a table with an heir for each process, and fixes each table by a process.
 fn fill(alloc: Global, world: &mut Tables) -> Result<(), WorldFault> {
     for pid in 0..MANY {
         world.enrol(pid)?;
@@ -130,7 +131,7 @@ fn fill(alloc: Global, world: &mut Tables) -> Result<(), WorldFault> {
     Ok(())
 }
 
-/// The first table that is otherwise than wanted after a number of exits.
+/// Returns the first table with another owner or fix after a number of exits.
 fn wrong_after(world: &Tables, turns: u32) -> Option<u32> {
     for id in 0..MANY {
         if owner_and_fix(world, id) != owner_and_fix_after(id, turns) {
@@ -140,7 +141,7 @@ fn wrong_after(world: &Tables, turns: u32) -> Option<u32> {
     None
 }
 
-/// Ends all processes, one after the other. After how many ends a table is otherwise than wanted, and which.
+/// Ends all processes one by one. Returns the first turn after which a table has another owner or fix, and the table.
 fn wrong_while_ending(world: &mut Tables) -> Result<Option<(u32, u32)>, WorldFault> {
     for turn in 0..MANY {
         world.end(process_to_end(turn))?;

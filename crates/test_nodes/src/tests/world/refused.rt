@@ -1,6 +1,6 @@
-// Out of memory. Run with each allocation refused in turn: `rt try --test --fail-alloc N`. A call that was refused
-// memory has changed nothing that can be seen from outside, and answers when it is called again as if it had been
-// called once. Where the refused allocation is one of the test's own, it is made again.
+// Out of memory: run with each allocation refused in turn, by `rt try --test --fail-alloc N`. A call that runs out of
+// memory changes nothing that can be observed, and has the answer of a first call when it is made again. A test repeats
+// its own allocations.
 use super::Event::{End, Enrol, Fix, Give, Info, New, Receive, Set};
 use super::{Event, Row, Tables, answer, refusal};
 use crate::tests::keep_if_ok;
@@ -74,7 +74,7 @@ fn note_flag(seen: &mut Vec<Term>, value: bool) -> Result<(), AllocError> {
     note(seen, Term::Int(Integer::from(value)))
 }
 
-/// Returns whether the process lives, and what is in its mailbox.
+/// Notes whether the process lives, and what is in its mailbox.
 fn see_process(
     alloc: Global,
     world: &Tables,
@@ -108,7 +108,7 @@ fn see_item(
     }
 }
 
-/// What there is to say of the table.
+/// Notes the items of the table.
 fn see_items(
     world: &Tables,
     id: u32,
@@ -122,7 +122,7 @@ fn see_items(
     Ok(())
 }
 
-/// Who may use the table.
+/// Notes who may use the table.
 fn see_rights(world: &Tables, id: u32, seen: &mut Vec<Term>) -> Result<(), AllocError> {
     for pid in 0..4 {
         note_flag(seen, world.may_read(pid, id))?;
@@ -132,7 +132,7 @@ fn see_rights(world: &Tables, id: u32, seen: &mut Vec<Term>) -> Result<(), Alloc
     Ok(())
 }
 
-/// Which table has this name.
+/// Notes which table has this name.
 fn see_name(
     alloc: Global,
     world: &Tables,
@@ -150,7 +150,7 @@ fn see_name(
 
 const NAMES: [&str; 5] = ["a_name_longer_than_its_place", "u", "v", "w", "x"];
 
-/// All that can be seen of processes, of these items of tables, and of these names.
+/// Notes all that can be observed of processes, of these items of tables, and of these names.
 fn see(
     alloc: Global,
     world: &Tables,
@@ -170,7 +170,7 @@ fn see(
     Ok(())
 }
 
-/// All that can be seen of a world.
+/// Returns all that can be observed of a world.
 fn observe(alloc: Global, world: &Tables) -> Result<Vec<Term>, AllocError> {
     let mut seen = Vec::with_capacity(alloc, 128)?;
     keep_if_ok(see(alloc, world, &ITEMS, &NAMES, &mut seen), seen)
@@ -213,8 +213,8 @@ fn is_unchanged(alloc: Global, world: &Tables, before: &[Term]) -> Result<bool, 
     Ok(same)
 }
 
-/// Returns whether a call is answered so, at once or, where it was refused memory and has changed nothing of what was
-/// seen before, when it is called again.
+/// Returns whether a call has this answer, at once or, if it runs out of memory and changes nothing that can be
+/// observed, when it is made again.
 fn does_after(
     alloc: Global,
     world: &mut Tables,
@@ -245,7 +245,7 @@ fn does_again(
     done
 }
 
-/// The place of the first row that is answered otherwise.
+/// Returns the place of the first row with another answer.
 fn wrong_again_in(
     alloc: Global,
     world: &mut Tables,

@@ -30,7 +30,7 @@ fn has_no_pending(node: &Node<Fnv>) -> bool {
     none
 }
 
-/// The first number whose object does not enter the table, which is tended after each.
+/// Returns the first number whose object is not inserted. Runs a pending step after each insertion.
 fn first_not_inserted(alloc: Global, node: &mut Node<Fnv>) -> Result<Option<u32>, AllocError> {
     for number in 0..COUNT {
         if !does_with_number(alloc, node, "insert(t,{N,x})", "true", number)? {
@@ -41,7 +41,7 @@ fn first_not_inserted(alloc: Global, node: &mut Node<Fnv>) -> Result<Option<u32>
     Ok(None)
 }
 
-/// Calls on each number, after which the table is tended, and their replies.
+/// Calls for each number, and their replies. A pending step runs after each number.
 const GROWN: [(&str, &str); 5] = [
     ("lookup(t,N)", "[{N,x}]"),
     ("insert(t,{N,y})", "true"),
@@ -50,7 +50,7 @@ const GROWN: [(&str, &str); 5] = [
     ("take(t,N)", "[{N,y}]"),
 ];
 
-/// Returns whether the calls on a number are answered so.
+/// Returns whether the calls for a number have these replies.
 fn does_calls(
     alloc: Global,
     node: &mut Node<Fnv>,
@@ -65,7 +65,7 @@ fn does_calls(
     Ok(true)
 }
 
-/// The first number for which one of the calls is answered otherwise.
+/// Returns the first number for which a call has another reply.
 fn first_wrong_after_growth(
     alloc: Global,
     node: &mut Node<Fnv>,
@@ -80,7 +80,7 @@ fn first_wrong_after_growth(
     Ok(None)
 }
 
-/// Returns whether a table of many objects, which grows meanwhile, is answered of as one that does not.
+/// Returns whether a table of many objects that grows has the same replies as one that does not.
 pub fn grows(alloc: Global, node: &mut Node<Fnv>) -> Result<bool, AllocError> {
     Ok(
         starts(alloc, node)?

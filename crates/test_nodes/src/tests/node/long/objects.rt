@@ -1,6 +1,6 @@
 use super::*;
 
-/// Calls, each asked for each number, and their replies.
+/// Calls, each made for each number, and their replies.
 const OBJECTS: [(&str, &str); 6] = [
     ("insert(t,{N,x})", "true"),
     ("lookup(t,N)", "[{N,x}]"),
@@ -10,7 +10,7 @@ const OBJECTS: [(&str, &str); 6] = [
     ("member(t,N)", "false"),
 ];
 
-/// Returns whether each of the calls is answered so for each number.
+/// Returns whether each call has its reply for each number.
 fn answers_each(
     alloc: Global,
     node: &mut Node<Fnv>,
@@ -33,7 +33,7 @@ fn a_table_has_many_objects(rt: HostRuntime) {
     assert!(rt; passes(rt.alloc(), Trial::Objects) == Ok(true));
 }
 
-/// A text: the middle, told for each of the numbers, between the two ends.
+/// A text: the middle, filled in with each of the numbers, between the two ends.
 #[derive(Clone, Copy)]
 struct Long<'a> {
     start: &'a str,
@@ -54,7 +54,7 @@ fn text_of(alloc: Global, long: Long) -> Result<String, AllocError> {
     keep_if_ok(push_long(alloc, &mut text, long), text)
 }
 
-/// What is tried with a new node and two long texts.
+/// A trial of a new node with two long texts.
 #[derive(Clone, Copy)]
 enum TextTrial {
     Inserts,
@@ -113,7 +113,7 @@ fn passes_with_texts(
     passed
 }
 
-/// Returns whether all are inserted by this call and listed.
+/// Returns whether this call inserts all objects, and the table lists them.
 fn inserts_and_lists(
     alloc: Global,
     node: &mut Node<Fnv>,
@@ -129,7 +129,7 @@ fn inserts_and_lists(
     )
 }
 
-/// Returns whether a number of objects are inserted by one call, of many keys or of one.
+/// Returns whether one call inserts many objects, of many keys or of one.
 fn inserts(alloc: Global, start: &str, object: &str) -> Result<bool, AllocError> {
     let insert = Long {
         start,
@@ -154,7 +154,7 @@ fn many_objects_are_inserted_at_once(rt: HostRuntime) {
     assert!(rt; inserts_both(rt.alloc(), "insert_new(t,[") == Ok(true));
 }
 
-/// Returns whether what a pattern and a specification find of many objects is this.
+/// Returns whether a pattern and a match specification find these results in many objects.
 fn finds(
     alloc: Global,
     node: &mut Node<Fnv>,
@@ -170,7 +170,7 @@ fn finds(
     )
 }
 
-/// The keys of many objects as what a pattern bound, and as results.
+/// The keys of many objects as bindings of a pattern, and as results.
 const BOUND: Long<'static> = Long {
     start: "~[",
     middle: "[N],",
@@ -188,7 +188,7 @@ fn many_objects_are_found(rt: HostRuntime) {
     assert!(rt; passes_with_texts(rt.alloc(), TextTrial::Finds, BOUND, RESULTS) == Ok(true));
 }
 
-/// Returns whether a call on a new table s is answered so.
+/// Returns whether a call on a new table s has this reply.
 fn answers_on_set(
     alloc: Global,
     node: &mut Node<Fnv>,
@@ -202,7 +202,7 @@ fn answers_on_set(
     )
 }
 
-/// A counter is counted up so often by one call.
+/// One call that counts a counter up many times.
 const COUNTED: Long<'static> = Long {
     start: "update_counter(s,c,[",
     middle: "{2,1},",

@@ -3,7 +3,7 @@ use super::super::{Event, term};
 use super::*;
 use ets_term::Term;
 
-/// Returns whether a step is answered by the text for a number.
+/// Returns whether the reply to a step is the template, filled in with a number.
 fn does_for(
     alloc: Global,
     node: &mut Node<Fnv>,
@@ -26,7 +26,7 @@ fn makes(alloc: Global, node: &mut Node<Fnv>, pid: u32, id: u32) -> Result<bool,
     does_for(alloc, node, Ask(pid, "new(u,[])"), "#N", id)
 }
 
-/// The table with this identifier, if it is there.
+/// Returns the table with this identifier, if it exists.
 fn resolve_identifier(node: &Node<Fnv>, id: u32) -> Option<u32> {
     let named = Term::Tid(id);
     let found = node.resolve(&named);
@@ -54,7 +54,7 @@ fn some_end(alloc: Global, node: &mut Node<Fnv>, count: u32) -> Result<bool, All
     Ok(true)
 }
 
-/// Returns whether a number of processes enrol, and the tables of those that end go.
+/// Returns whether a number of processes enrol, and the exits of some delete their tables.
 pub fn serves(alloc: Global, node: &mut Node<Fnv>, count: u32) -> Result<bool, AllocError> {
     if !all_enter(alloc, node, count)? || !some_end(alloc, node, count)? {
         return Ok(false);
@@ -77,7 +77,7 @@ fn makes_all(alloc: Global, node: &mut Node<Fnv>, count: u32) -> Result<bool, Al
     Ok(true)
 }
 
-/// Returns whether a process has a number of tables, and all go at its end.
+/// Returns whether a process has a number of tables, and its exit deletes all of them.
 pub fn has_tables(alloc: Global, node: &mut Node<Fnv>, count: u32) -> Result<bool, AllocError> {
     if !starts(alloc, node)?
         || !makes_all(alloc, node, count)?
@@ -96,7 +96,7 @@ fn a_process_has_many_tables(rt: HostRuntime) {
     assert!(rt; passes(rt.alloc(), Trial::Tables) == Ok(true));
 }
 
-/// Returns whether a table is named so, and its name leads to it.
+/// Returns whether a table gets this name, and the name resolves to it.
 fn takes_name(
     alloc: Global,
     node: &mut Node<Fnv>,
@@ -113,7 +113,7 @@ fn makes_named(alloc: Global, node: &mut Node<Fnv>, name: &str) -> Result<bool, 
     answered
 }
 
-/// Returns whether a name leads to this table.
+/// Returns whether a name resolves to this table.
 fn names(alloc: Global, node: &Node<Fnv>, name: &str, id: u32) -> Result<bool, AllocError> {
     let named = term(alloc, name)?;
     let found = node.resolve(&named);
@@ -121,7 +121,7 @@ fn names(alloc: Global, node: &Node<Fnv>, name: &str, id: u32) -> Result<bool, A
     Ok(found == Some(id))
 }
 
-/// Makes the name longer, up to the longest that an atom has: its first length by which no table is named.
+/// Makes the name longer, up to the greatest length of an atom. Returns the first length that is no table's name.
 fn wrong_length(
     alloc: Global,
     node: &mut Node<Fnv>,
@@ -136,7 +136,7 @@ fn wrong_length(
     Ok(None)
 }
 
-/// Returns whether tables are named by names of every length.
+/// Returns whether tables take names of every length.
 pub fn takes_names(alloc: Global, node: &mut Node<Fnv>) -> Result<bool, AllocError> {
     if !starts(alloc, node)? {
         return Ok(false);

@@ -2,7 +2,7 @@ use super::super::{ask, is, step};
 use super::*;
 use node_core::{Reply, Step};
 
-/// A process, its table, and a number of times an object and a lookup of it.
+/// Returns the steps of a process with a table, and then many times an insertion and a lookup.
 fn life(alloc: Global, count: u32) -> Result<Vec<Step>, AllocError> {
     let mut steps = Vec::new(alloc);
     keep_if_ok(push_life(alloc, &mut steps, count), steps)
@@ -29,7 +29,7 @@ fn insertion(alloc: Global, number: u32) -> Result<Step, AllocError> {
     step
 }
 
-/// Returns whether it is what was stored last.
+/// Returns whether the reply is the object that was inserted last.
 fn is_last(alloc: Global, reply: Option<&Reply>) -> Result<bool, AllocError> {
     match reply {
         Some(reply) => is(alloc, reply, "[{a,2099}]"),
@@ -37,7 +37,7 @@ fn is_last(alloc: Global, reply: Option<&Reply>) -> Result<bool, AllocError> {
     }
 }
 
-/// Returns whether a run gives a reply to each step, and the last is what was stored last.
+/// Returns whether a run has a reply to each step, of which the last is the object inserted last.
 fn replies_to_each(
     alloc: Global,
     node: &mut Node<Fnv>,
@@ -57,7 +57,7 @@ fn replies_to_each(
     }
 }
 
-/// The same of a run that passes over no step.
+/// Does so for a run through, which must skip no step.
 fn answers_each(alloc: Global, node: &mut Node<Fnv>, steps: &[Step]) -> Result<bool, AllocError> {
     let answers = node.run_through(steps)?;
     let is_whole = answers.iter().all(|answer| answer.is_some());

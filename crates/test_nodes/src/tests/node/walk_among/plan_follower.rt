@@ -1,4 +1,4 @@
-// Others that hand in what a plan says.
+// Others that hand in the steps of a plan.
 ghost use Rattle.std.specs.Prelude.{◌≡◌, []};
 
 use super::super::Event::{Ask, Grow, Ready};
@@ -8,16 +8,16 @@ use ets_term::{Integer, Term};
 use node_core::{Others, Step};
 use std::alloc::{AllocError, Global};
 
-/// What is handed in.
+/// Which steps are handed in after a key.
 #[derive(Clone, Copy)]
 pub enum Plan {
-    /// These, at each turn.
+    /// These, after each key.
     Always(&'static [Event<'static>]),
     /// Process 1 deletes the last key and inserts it again; the table grows, and the bucket of the turn becomes ready.
     Again,
     /// Process 1 inserts the turn and ten.
     Further,
-    /// There is no memory for it.
+    /// None: memory runs out.
     NoMemory,
 }
 
@@ -70,7 +70,7 @@ impl Others for PlanFollower {
     }
 }
 
-/// The steps of a turn.
+/// Returns the steps of a turn.
 fn plan_steps(
     alloc: Global,
     plan: Plan,
@@ -122,7 +122,7 @@ fn push_delete_and_insert(
     push_steps(alloc, steps, &[Grow(0), Ready(0, bucket)])
 }
 
-/// Process 1 asks a call.
+/// Appends a call of process 1.
 fn push_ask(alloc: Global, steps: &mut Vec<Step>, call: String) -> Result<(), AllocError> {
     let pushed = push_steps(alloc, steps, &[Ask(1, call.as_str())]);
     drop(call);

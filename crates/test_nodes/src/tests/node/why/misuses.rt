@@ -1,4 +1,4 @@
-// Misuses of each kind, and steps past a limit, after what they need, each with its reason in words.
+// Misuses of each kind, and steps past a limit, each with its reason in words. The steps before them have none.
 use super::Event::{Ask, End, Enrol, Grow, Ready};
 use super::Row;
 
@@ -168,7 +168,7 @@ pub const UPDATES: [Row; 21] = [
     ),
 ];
 
-/// Calls that make tables, tell of them, fix them or give them away.
+/// Calls that make tables, report on them, fix them or give them away.
 pub const TABLES: [Row; 22] = [
     (Enrol(6), ""),
     (Enrol(7), ""),
