@@ -2,11 +2,16 @@
 #![tactic(auto)]
 
 use ets_script::{Streams, answer_request, refuse, request};
+use std::alloc::Global;
 use std::process::ExitCode;
 use std::{env, io};
 
+/// The size in bytes of the block that `keep_freed_memory` takes and frees.
+const KEPT_BLOCK: usize = 1 << 20;
+
 fn main(rt: HostRuntime) -> io::Result<ExitCode> {
     let alloc = rt.alloc();
+    keep_freed_memory(alloc);
     let words = match env::args(&rt) {
         Ok(words) => words,
         Err(error) if error.kind() == io::ErrorKind::InvalidData => {
@@ -30,4 +35,12 @@ fn main(rt: HostRuntime) -> io::Result<ExitCode> {
         Err(error) => refuse(&rt, &error)?,
     };
     Ok(ExitCode::from(status))
+}
+
+/// Makes glibc's allocator keep freed memory for later blocks: once a block of this size was freed, it returns only
+/// larger ones to the system. Nothing else changes, also if there is no memory for the block.
+fn keep_freed_memory(alloc: Global) {
+    if let Ok(block) = Vec::<u8>::with_capacity(alloc, KEPT_BLOCK) {
+        drop(block);
+    }
 }
