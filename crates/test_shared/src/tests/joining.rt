@@ -105,20 +105,3 @@ fn a_missing_client_is_reported(rt: HostRuntime) -> Result<(), Fail> {
     assert_eq!(rt; fault, Some(CloseFault::Missing(0)));
     Ok(())
 }
-
-/// Enrols process 1, and closes the book without clients.
-fn fault_without_clients<L: Ledger>(alloc: Global, blank: Blank) -> Option<CloseFault>
-    requires name { blank.name ≡ L.name }
-    requires parts { blank.parts ≡ L.parts }
-    requires enough { blank.parts ≡ 3 }
-{
-    let mut book = Book::<L, Fnv>::new(alloc, blank, limits(2), Fnv);
-    let _joined = book.join(1);
-    book.close(&[]).err()
-}
-
-#[test]
-fn a_book_names_the_process_without_a_client(rt: HostRuntime) {
-    let fault = fault_without_clients::<Brand>(rt.alloc(), Blank::new(3));
-    assert_eq!(rt; fault, Some(CloseFault::Missing(1)));
-}
