@@ -1,7 +1,7 @@
 pub mod Arguments
 pub mod CallLaws
 pub mod Rules
-pub mod Table
+pub mod EachCall
 pub mod Changes
 pub mod Fixing
 pub mod Removals

@@ -3,6 +3,7 @@ pub mod Observable
 pub mod Positions
 pub mod Access
 pub mod rules
+pub mod CallName
 pub mod Calls
 pub mod Machine
 pub mod Buckets

@@ -7,13 +7,14 @@
 //!
 //! *Weakness.* Any step may run out of memory; no contract says that memory is available.
 //!
-//! *Mechanism.* A call is found by its number of arguments and its name. Its method borrows only the table that the
+//! *Mechanism.* `CallName` lists the names of calls. A call's method borrows only the table that the
 //! first argument names, so everything else is known to stay. A queue has the tables that may have a pending growth
 //! step.
 //!
 //! *Limits.* A node is a single value: sharing it between threads is for the layer above.
 #![tactic(auto)]
 
+mod call_name;
 pub mod laws;
 mod limits;
 mod node;
@@ -23,6 +24,7 @@ mod step;
 mod terms;
 mod walk;
 
+pub use call_name::CallName;
 pub use limits::Limits;
 pub use node::{Node, RunFault};
 pub use step::{Call, Reply, Step};

@@ -10,7 +10,7 @@ use Rattle.node_core.specs.Machine.{step}
 use Rattle.node_core.specs.rules.Growth.{step_on_buckets, HasFirstBuckets}
 use Rattle.node_core.specs.inside.ReplyReserve.{StepsWithBuckets}
 use Rattle.node_core.proofs.buckets.Observable.{buckets-follow, grown-observable, readied-observable}
-use Rattle.node_core.proofs.calls.Table.{step-lawful, step-follows}
+use Rattle.node_core.proofs.calls.EachCall.{step-lawful, step-follows}
 
 -- any step but growing and readying, of which only the observable state is known
 told-buckets : (old new : State) (event : Step) (reply : Reply) → step old event reply new → KeepsBuckets old new × HasFirstBuckets old new

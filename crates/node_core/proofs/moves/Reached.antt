@@ -18,7 +18,7 @@ use Rattle.node_core.specs.Machine.{step, run}
 use Rattle.node_core.specs.laws.Reached.{HasNoEnd, IsSound, RunsStaySound, ReachedAreSound}
 use Rattle.node_core.specs.Woven.{is_step_of}
 use Rattle.node_core.proofs.moves.Moves.{Came}
-use Rattle.node_core.proofs.calls.Table.{step-follows}
+use Rattle.node_core.proofs.calls.EachCall.{step-follows}
 
 pub run-keeps : (P : State → Type 0) → ((old new : State) (s : Step) (reply : Reply) → step old s reply new → P old → P new)
     → (old : State) (steps : List Step) (replies : List Reply) (new : State) → run old steps replies new → P old → P new

@@ -1,34 +1,32 @@
 -- What is reserved before a call suffices for its reply.
-use Rattle.std.proofs.Common.{◌≡◌, ℕ, ◌≤◌, ◌<◌, ◌⊎◌, inl, inr, Bool, true, false, not, List, [], ◌∷◌, Option, None, Some, Result, Ok, Err, refl, sym, ap, ◌∙◌, length, codes, arith}
+use Rattle.std.proofs.Common.{◌≡◌, ℕ, ◌≤◌, ◌<◌, ◌⊎◌, inl, inr, Bool, true, false, not, List, [], ◌∷◌, Option, None, Some, Result, Ok, Err, refl, sym, subst, ap, ◌∙◌, length, get_or, arith}
 use Rattle.std.specs.Prelude.{MatchOption, IfOk, vec_capacity}
 use Rattle.std.specs.List.{list_any}
-use Rattle.std.specs.Str.{bytes_eq}
-use Rattle.std.proofs.lemmas.Slice.Eq.{bytes_eq-Decides}
 use Rattle.ets_term.specs.declared.term.Term.{Term}
 use Rattle.ets_term.specs.Depth.{is_too_deep}
 use Rattle.table_ops.specs.declared.refusal.Refusal.{Refusal}
 use Rattle.table_ops.specs.declared.refusal.Refusal.TheVariants as refusal
 use Rattle.fixed_walk.specs.TableState.{TableState}
 use Rattle.ownership.specs.World.{Table, lives}
-use Rattle.ownership.specs.Messages.{mailbox_of}
+use Rattle.node_core.specs.declared.call_name.CallName.{CallName}
+use Rattle.node_core.specs.declared.call_name.CallName.TheVariants as name
 use Rattle.node_core.specs.declared.node.access.Access.TheVariants.{Write}
 use Rattle.node_core.specs.declared.step.Reply.{Reply}
 use Rattle.node_core.specs.declared.step.Reply.TheVariants.{Value, Badarg, SystemLimit, NoProcess}
 use Rattle.std.specs.declared.alloc.AllocError.{AllocError}
-use Rattle.table_ops.specs.Outcomes.{Outcome, gives, refuse}
+use Rattle.table_ops.specs.Outcomes.{Outcome, gives, refuse, refuse_none}
 use Rattle.node_core.specs.declared.step.Call.{Call}
 use Rattle.node_core.specs.declared.step.Step.TheVariants.{Ask}
 use Rattle.node_core.specs.declared.node.reply_reserve.ReplyReserve.{ReplyReserve}
 use Rattle.node_core.specs.declared.node.reply_reserve.ReplyReserve.TheVariants.{Nothing, Predicted, Capacity}
 use Rattle.node_core.specs.State.{State}
 use Rattle.node_core.specs.Access.{usable, with_table, ResultToReply, writes}
-use Rattle.node_core.specs.Calls.{calls_of_none, calls_of_three, calls_of_four, object_calls_of_two, search_calls_of_two, table_calls_of_two, call}
-use Rattle.node_core.specs.rules.Replies.{list_reply}
-use Rattle.node_core.specs.rules.Tables.{New}
+use Rattle.node_core.specs.CallName.{call_name}
+use Rattle.node_core.specs.Calls.{call, call_by_text}
 use Rattle.node_core.specs.rules.Updates.{UpdateCounter, Counts}
 use Rattle.node_core.specs.inside.ReplyReserve.{StepsWithBuckets, is_flat, list_terms, FitsCapacity, TakesNoMemory, Predicts, FitCapacity, Suffices}
 use Rattle.node_core.proofs.replies.Counting.{counts-as, IsCounted}
-use Rattle.node_core.proofs.calls.Table.{one-lawful, two-lawful, three-lawful, four-lawful}
+use Rattle.node_core.proofs.calls.EachCall.{may_need_copy, call-lawful}
 
 -- ---- update_counter
 roomy : (updates x : Term) (reply : Reply) (capacity : ℕ) → length (list_terms updates) ≤ capacity → reply ≡ Value x → IsCounted updates x → (is_flat reply ≡ true) ⊎ FitsCapacity capacity reply
@@ -59,51 +57,52 @@ refused-suffices old test why outcome Nothing flat s = refused (λ reply new. (i
 refused-suffices old test why outcome (Predicted copy) flat s = refused (λ reply new. (is_flat reply ≡ true) ⊎ (copy ≡ reply)) old test why outcome (inl flat) s
 refused-suffices old test why outcome (Capacity room) flat s = (refused (λ reply new. (is_flat reply ≡ true) ⊎ FitsCapacity (vec_capacity room) reply) old test why outcome (inl flat) s.0, s.1)
 
-pub asked-suffices : (old : State) (p : ℕ) (asked : Call) (r : Result ReplyReserve AllocError) → IfOk r (Suffices old (call old p asked.name asked.args)) → IfOk r (Suffices old (StepsWithBuckets old (Ask p asked)))
+-- ---- by the name of the call
+-- what is reserved for a step, by what is reserved for its call, if there is one of its name
+abbrev pub SufficesForName : State → ℕ → Option CallName → List Term → Result ReplyReserve AllocError → Type 0
+SufficesForName old p found args r = IfOk r (Suffices old (refuse_none old found Badarg (λ name. call old p name args)))
+
+unnamed-suffices : (old : State) (p : ℕ) (args : List Term) → Suffices old (refuse_none old None Badarg (λ name. call old p name args)) Nothing
+unnamed-suffices old p args reply new h = inl (ap is_flat h.0)
+
+pub asked-suffices : (old : State) (p : ℕ) (asked : Call) (r : Result ReplyReserve AllocError) → SufficesForName old p (call_name asked.name) asked.args r → IfOk r (Suffices old (StepsWithBuckets old (Ask p asked)))
 asked-suffices old p asked (Ok spare) h =
-    refused-suffices old (not (lives old.world.processes p)) NoProcess (refuse old (list_any is_too_deep asked.args) SystemLimit (call old p asked.name asked.args)) spare refl
-    (refused-suffices old (list_any is_too_deep asked.args) SystemLimit (call old p asked.name asked.args) spare refl h)
+    refused-suffices old (not (lives old.world.processes p)) NoProcess (refuse old (list_any is_too_deep asked.args) SystemLimit (call_by_text old p asked.name asked.args)) spare refl
+    (refused-suffices old (list_any is_too_deep asked.args) SystemLimit (call_by_text old p asked.name asked.args) spare refl h)
 asked-suffices old p asked (Err error) h = h
 
--- ---- by the names of the calls
-same-name : (name own : List ℕ) → bytes_eq name own ≡ true → name ≡ own
-same-name name own e = (bytes_eq-Decides name own).0 e
+pub named-suffices : (old : State) (p : ℕ) (asked : Call) (name : CallName) (r : Result ReplyReserve AllocError) → Some name ≡ call_name asked.name → IfOk r (Suffices old (call old p name asked.args)) → IfOk r (Suffices old (StepsWithBuckets old (Ask p asked)))
+named-suffices old p asked name r is h = asked-suffices old p asked r (subst (λ found. SufficesForName old p found asked.args r) is h)
 
-module _ (old : State) (p : ℕ) (name : List ℕ) where
-  pub receive-suffices : bytes_eq name (codes "receive") ≡ true → Predicts (calls_of_none old p name) (list_reply (mailbox_of old.world.processes p))
-  receive-suffices e = rw (same-name name (codes "receive") e) (λ reply new h. inr (sym h.0))
+pub other-suffices : (old : State) (p : ℕ) (asked : Call) → None ≡ call_name asked.name → Suffices old (StepsWithBuckets old (Ask p asked)) Nothing
+other-suffices old p asked is = asked-suffices old p asked (Ok Nothing) (subst (λ found. SufficesForName old p found asked.args (Ok Nothing)) is (unnamed-suffices old p asked.args))
 
-  pub one-suffices : (args : List Term) → 1 ≤ length args → length args < 2 → TakesNoMemory old (call old p name args)
-  one-suffices [] some few reply new g = absurd (omega (arith, some))
-  one-suffices (x ∷ []) some few reply new g = ((one-lawful p false old name x).stands reply new g).quiet refl
-  one-suffices (x ∷ y ∷ args) some few reply new g = absurd (omega (arith, few))
+pub quiet-suffices : (old : State) (p : ℕ) (name : CallName) (args : List Term) → may_need_copy name ≡ false → TakesNoMemory old (call old p name args)
+quiet-suffices old p name args quiet reply new h = ((call-lawful p false old name args (λ may. sym quiet ∙ may)).stands reply new h).quiet refl
 
-  pub more-suffices : (args : List Term) → 5 ≤ length args → TakesNoMemory old (call old p name args)
-  more-suffices [] more reply new g = absurd (omega (arith, more))
-  more-suffices (x ∷ []) more reply new g = absurd (omega (arith, more))
-  more-suffices (x ∷ y ∷ []) more reply new g = absurd (omega (arith, more))
-  more-suffices (x ∷ y ∷ z ∷ []) more reply new g = absurd (omega (arith, more))
-  more-suffices (x ∷ y ∷ z ∷ default ∷ []) more reply new g = absurd (omega (arith, more))
-  more-suffices (x ∷ y ∷ z ∷ default ∷ other ∷ args) more reply new g = inl (ap is_flat g.0)
+-- what suffices for the updates of counters with these arguments, with and without a default
+abbrev pub SufficesForUpdates : CallName → Term → Result ReplyReserve AllocError → Type 0
+SufficesForUpdates name updates r =
+    (old : State) → (p : ℕ) → (x y : Term)
+    → IfOk r (λ reserve. Suffices old (call old p name (x ∷ y ∷ updates ∷ [])) reserve
+    × ((default : Term) → Suffices old (call old p name (x ∷ y ∷ updates ∷ default ∷ [])) reserve))
 
-  module _ (x y : Term) where
-    abbrev pub two : Outcome Reply State
-    two = object_calls_of_two old p name x y (search_calls_of_two old p name x y (table_calls_of_two old p name x y))
+module _ (old : State) (p : ℕ) (name : CallName) where
+  pub updates-suffices : (args : List Term) (updates : Term) (r : Result ReplyReserve AllocError) → 3 ≤ length args → length args < 5 → updates ≡ get_or args 2 updates
+      → SufficesForUpdates name updates r → IfOk r (Suffices old (call old p name args))
+  updates-suffices [] updates r some few is h = absurd (omega (arith, some))
+  updates-suffices (x ∷ []) updates r some few is h = absurd (omega (arith, some))
+  updates-suffices (x ∷ y ∷ []) updates r some few is h = absurd (omega (arith, some))
+  updates-suffices (x ∷ y ∷ z ∷ []) updates (Ok reserve) some few is h = subst (λ t. Suffices old (call old p name (x ∷ y ∷ t ∷ [])) reserve) is (h old p x y).0
+  updates-suffices (x ∷ y ∷ z ∷ []) updates (Err error) some few is h = tt
+  updates-suffices (x ∷ y ∷ z ∷ default ∷ []) updates (Ok reserve) some few is h = subst (λ t. Suffices old (call old p name (x ∷ y ∷ t ∷ default ∷ [])) reserve) is ((h old p x y).1 default)
+  updates-suffices (x ∷ y ∷ z ∷ default ∷ []) updates (Err error) some few is h = tt
+  updates-suffices (x ∷ y ∷ z ∷ default ∷ w ∷ args) updates r some few is h = absurd (omega (arith, few))
 
-    pub new-suffices : bytes_eq name (codes "new") ≡ true → (r : Result ReplyReserve AllocError) → IfOk r (Suffices old (New old p x y)) → IfOk r (Suffices old two)
-    new-suffices e r h = rw (same-name name (codes "new") e) h
-
-    pub two-suffices : bytes_eq name (codes "take") ≡ false → bytes_eq name (codes "new") ≡ false → TakesNoMemory old two
-    two-suffices a b reply new h = ((two-lawful p false old name x y (λ e. sym a ∙ e) (λ e. sym b ∙ e)).stands reply new h).quiet refl
-
-    pub three-counts : (z : Term) (capacity : ℕ) → length (list_terms z) ≤ capacity → bytes_eq name (codes "update_counter") ≡ true → FitCapacity (calls_of_three old p name x y z) capacity
-    three-counts z capacity room e = rw (same-name name (codes "update_counter") e) (counter-room old p x y z None capacity room)
-
-    pub three-suffices : (z : Term) → bytes_eq name (codes "update_counter") ≡ false → TakesNoMemory old (calls_of_three old p name x y z)
-    three-suffices z other reply new h = ((three-lawful p false old name x y (λ e. sym other ∙ e) z).stands reply new h).quiet refl
-
-    pub four-counts : (z default : Term) (capacity : ℕ) → length (list_terms z) ≤ capacity → bytes_eq name (codes "update_counter") ≡ true → FitCapacity (calls_of_four old p name x y z default) capacity
-    four-counts z default capacity room e = rw (same-name name (codes "update_counter") e) (counter-room old p x y z (Some default) capacity room)
-
-    pub four-suffices : (z default : Term) → bytes_eq name (codes "update_counter") ≡ false → TakesNoMemory old (calls_of_four old p name x y z default)
-    four-suffices z default other reply new h = ((four-lawful p false old name x y (λ e. sym other ∙ e) z default).stands reply new h).quiet refl
+-- calls of two arguments, but for the two whose replies are predicted
+pub two-suffices : (old : State) (p : ℕ) (called : CallName) (x y : Term) → (called ≡ name.New → ⊥) → (called ≡ name.Take → ⊥) → TakesNoMemory old (call old p called (x ∷ y ∷ []))
+two-suffices old p name.New x y new take = absurd (new refl)
+two-suffices old p name.Take x y new take = absurd (take refl)
+two-suffices old p name.Receive x y new take = λ reply new h. inl (ap is_flat h.0)
+two-suffices old p name.UpdateCounter x y new take = λ reply new h. inl (ap is_flat h.0)
+two-suffices old p called x y new take = quiet-suffices old p called (x ∷ y ∷ []) refl

@@ -1,5 +1,5 @@
 -- While others do their steps the walker's fixes of a table stay, and with them the places of its keys.
-use Rattle.std.proofs.Common.{◌≡◌, ℕ, zero, suc, ◌<◌, ◌==◌, ◌⊎◌, inl, inr, Bool, true, false, ◌||◌, cond, List, [], ◌∷◌, ◌++◌, Option, None, Some, refl, sym, subst, ap, ◌∙◌, length, arith, true≢false, unwrap_or}
+use Rattle.std.proofs.Common.{◌≡◌, ℕ, zero, suc, ◌<◌, ◌==◌, ◌⊎◌, inl, inr, Bool, true, false, ◌||◌, cond, List, [], ◌∷◌, ◌++◌, Option, None, Some, option_and_then, refl, sym, subst, ap, ◌∙◌, length, arith, true≢false, unwrap_or}
 use Rattle.std.specs.Prelude.{MatchOption, is_some, nat_lt}
 use Rattle.std.specs.List.{AllByRecursion, list_any}
 use Rattle.std.specs.Map.{keys_of}
@@ -15,6 +15,7 @@ use Rattle.ownership.specs.World.{Table, Tables, table_at}
 use Rattle.node_core.specs.declared.step.Reply.{Reply}
 use Rattle.node_core.specs.declared.step.Step.{Step}
 use Rattle.node_core.specs.declared.step.Step.TheVariants.{Enrol, End, Ask, Grow, Ready}
+use Rattle.node_core.specs.CallName.{call_name}
 use Rattle.node_core.specs.State.{State}
 use Rattle.node_core.specs.Machine.{step, run}
 use Rattle.node_core.specs.laws.Kept.{slots_in, is_fixed_in}
@@ -22,7 +23,7 @@ use Rattle.node_core.specs.laws.Walk.{states, walk_call, walk_step, Answers, Wal
 use Rattle.node_core.specs.Woven.{is_step_of, fixes_in}
 use Rattle.node_core.specs.inside.Walker.{exists_in, IsTraversal}
 use Rattle.node_core.proofs.moves.Moves.{Came}
-use Rattle.node_core.proofs.calls.Table.{step-follows}
+use Rattle.node_core.proofs.calls.EachCall.{step-follows}
 use Rattle.node_core.proofs.walks.WholeWalks.{ground}
 
 -- ---- where the walker has a fix the table is fixed
@@ -105,7 +106,7 @@ module _ (p t : ℕ) where
   passed : (old : State) (s : Step) → is_step_of p s ≡ false → walk_step old p t s ≡ None
   passed old (Enrol q) h = refl
   passed old (End q) h = refl
-  passed old (Ask q call) h = not-asked (q == p) (walk_call old t call.name call.args) h
+  passed old (Ask q call) h = not-asked (q == p) (option_and_then (λ name. walk_call old t name call.args) (call_name call.name)) h
   passed old (Grow u) h = refl
   passed old (Ready u bucket) h = refl
 

@@ -35,7 +35,7 @@ use Rattle.node_core.specs.declared.walk.WalkFault.TheVariants as fault
 use Rattle.node_core.specs.State.{State}
 use Rattle.node_core.specs.Observable.{observable_table, observable}
 use Rattle.node_core.specs.Access.{allowed, usable, with_table, CallRule, changes}
-use Rattle.node_core.specs.Calls.{call}
+use Rattle.node_core.specs.Calls.{call_by_text}
 use Rattle.node_core.specs.Machine.{step}
 use Rattle.node_core.specs.rules.Growth.{step_on_buckets}
 use Rattle.node_core.specs.rules.Replies.{true_reply}
@@ -191,10 +191,10 @@ module _ (p t : ℕ) where
         ap (λ o. option_and_then (λ u. option_and_then (allowed Read p u) (table_at s.world.tables u)) (option_map (λ _. t) o)) at
         ∙ (ap (λ o. option_and_then (allowed Read p t) o) at ∙ ap (λ (b : Bool). cond b (Some (t, table)) None) readable)
 
-    asked-done : (name : List ℕ) (args : List Term) (r : Reply) (new : State) → list_any is_too_deep args ≡ false → call s p name args r new → step s (Ask p (record { name = name; args = args })) r new
+    asked-done : (name : List ℕ) (args : List Term) (r : Reply) (new : State) → list_any is_too_deep args ≡ false → call_by_text s p name args r new → step s (Ask p (record { name = name; args = args })) r new
     asked-done name args r new shallow h =
-        subst (λ (b : Bool). MatchBool (not b) (gives NoProcess s r new) (MatchBool (list_any is_too_deep args) (gives SystemLimit s r new) (call s p name args r new))) (sym living)
-        (subst (λ (b : Bool). MatchBool b (gives SystemLimit s r new) (call s p name args r new)) (sym shallow) h)
+        subst (λ (b : Bool). MatchBool (not b) (gives NoProcess s r new) (MatchBool (list_any is_too_deep args) (gives SystemLimit s r new) (call_by_text s p name args r new))) (sym living)
+        (subst (λ (b : Bool). MatchBool b (gives SystemLimit s r new) (call_by_text s p name args r new)) (sym shallow) h)
 
     abbrev slots : List Slot
     slots = table.fixed.content.slots

@@ -4,9 +4,7 @@ use Rattle.std.specs.Prelude.{MatchOption}
 use Rattle.std.specs.Bool.{MatchBool}
 use Rattle.std.specs.List.{list_any}
 use Rattle.std.specs.Option.{option_map_or}
-use Rattle.std.specs.Str.{bytes_eq}
 use Rattle.std.proofs.lemmas.Bool.Decides.{nat_tests}
-use Rattle.std.proofs.lemmas.Slice.Eq.{bytes_eq-Decides}
 use Rattle.ets_term.specs.declared.term.Term.{Term, the_lemmas}
 use Rattle.ets_term.specs.declared.term.Term.TheVariants.{Atom, Tuple, List as list_term}
 use Rattle.ets_term.specs.Depth.{is_too_deep, elements}
@@ -15,17 +13,20 @@ use Rattle.ets_term.specs.laws.Same.{same-exact}
 use Rattle.bucket_table.specs.Slots.{Slot, has_objects, slots_behind}
 use Rattle.fixed_walk.specs.TableState.{TableState}
 use Rattle.table_ops.proofs.TupleLaws.{elements-Tuple}
-use Rattle.table_ops.specs.Outcomes.{gives}
+use Rattle.table_ops.specs.Outcomes.{gives, refuse_none}
 use Rattle.fixed_walk.specs.Walk.{first_key, next_key, first_slot, next_slot}
 use Rattle.fixed_walk.specs.laws.Walks.{walk_answer}
 use Rattle.fixed_walk.proofs.FromLaws.{key_in, first-key, next-key-is}
 use Rattle.ownership.specs.World.{Table, Tables, table_at, resolve, lives}
+use Rattle.node_core.specs.declared.call_name.CallName.{CallName}
+use Rattle.node_core.specs.declared.call_name.CallName.TheVariants as name
 use Rattle.node_core.specs.declared.node.access.Access.{Access}
 use Rattle.node_core.specs.declared.node.access.Access.TheVariants.{Read}
 use Rattle.node_core.specs.declared.step.Reply.{Reply}
 use Rattle.node_core.specs.declared.step.Reply.TheVariants.{Value, Badarg, SystemLimit, NoProcess}
 use Rattle.node_core.specs.declared.step.Step.{Step}
 use Rattle.node_core.specs.declared.step.Step.TheVariants.{Enrol, End, Ask, Grow, Ready}
+use Rattle.node_core.specs.CallName.{call_name}
 use Rattle.node_core.specs.State.{State}
 use Rattle.node_core.specs.Access.{may, allowed, usable, reads}
 use Rattle.node_core.specs.Calls.{call}
@@ -114,9 +115,6 @@ replied : (objects : Bool) (asked : Option Term) (slots : List Slot) (r : Reply)
 replied objects asked slots r (inl e) = inl (sym e)
 replied objects asked slots r (inr e) = refused objects asked slots r e
 
-same-name : (name own : List ℕ) → bytes_eq name own ≡ true → name ≡ own
-same-name name own e = (bytes_eq-Decides name own).0 e
-
 module _ (old new : State) (q t : ℕ) (r : Reply) (table : Table) (at : table_at old.world.tables t ≡ Some table) where
   reading-replies : (term : Term) (answer : TableState → Reply) (objects : Bool) (call : Option Term) → answer table.fixed ≡ told_reply objects call table.fixed.content.slots → is_table old t term ≡ true → reads old q term answer r new
       → Replies objects call table.fixed.content.slots r
@@ -126,45 +124,44 @@ module _ (old new : State) (q t : ℕ) (r : Reply) (table : Table) (at : table_a
       by (inl e) = inl (e ∙ own)
       by (inr e) = inr e
 
-  asked-is : (asked : Option Term × Bool) (call : Option Term) (objects : Bool) → Some (call, objects) ≡ Some asked → Replies objects call table.fixed.content.slots r → Replies asked.1 asked.0 table.fixed.content.slots r
-  asked-is asked call objects e replies =
-      let is : (call, objects) ≡ asked = cc in
+  -- a call on this table that a walk makes
+  on-table : (here : Bool) (found asked : Option Term × Bool) → cond here (Some found) None ≡ Some asked → Replies found.1 found.0 table.fixed.content.slots r → Replies asked.1 asked.0 table.fixed.content.slots r
+  on-table true found asked e replies =
+      let is : found ≡ asked = cc in
       subst (λ (a : Option Term × Bool). Replies a.1 a.0 table.fixed.content.slots r) is replies
+  on-table false found asked e replies = absurd (cc)
 
-  first-replies : (name : List ℕ) (term : Term) (asked : Option Term × Bool) (here own lookup : Bool) → is_table old t term ≡ here → bytes_eq name (codes "first") ≡ own → bytes_eq name (codes "first_lookup") ≡ lookup
-      → cond here (option_map {U = Option Term × Bool} (λ objects. (None, objects)) (cond own (Some false) (cond lookup (Some true) None))) None ≡ Some asked → call old q name (term ∷ []) r new → Replies asked.1 asked.0 table.fixed.content.slots r
-  first-replies name term asked false own lookup is a b e h = cc
-  first-replies name term asked true true lookup is a b e h =
-      asked-is asked None false e (reading-replies term First false None refl is (subst (λ (n : List ℕ). call old q n (term ∷ []) r new) (same-name name (codes "first") a) h))
-  first-replies name term asked true false true is a b e h =
-      asked-is asked None true e (reading-replies term FirstLookup true None refl is (subst (λ (n : List ℕ). call old q n (term ∷ []) r new) (same-name name (codes "first_lookup") b) h))
-  first-replies name term asked true false false is a b e h = cc
+  is-here : (here : Bool) (found asked : Option Term × Bool) → cond here (Some found) None ≡ Some asked → here ≡ true
+  is-here true found asked e = refl
+  is-here false found asked e = absurd (cc)
 
-  next-replies : (name : List ℕ) (term key : Term) (asked : Option Term × Bool) (here own lookup : Bool) → is_table old t term ≡ here → bytes_eq name (codes "next") ≡ own → bytes_eq name (codes "next_lookup") ≡ lookup
-      → cond here (option_map {U = Option Term × Bool} (λ objects. (Some key, objects)) (cond own (Some false) (cond lookup (Some true) None))) None ≡ Some asked → call old q name (term ∷ key ∷ []) r new → Replies asked.1 asked.0 table.fixed.content.slots r
-  next-replies name term key asked false own lookup is a b e h = cc
-  next-replies name term key asked true true lookup is a b e h =
-      asked-is asked (Some key) false e (reading-replies term (Next key) false (Some key) refl is (subst (λ (n : List ℕ). call old q n (term ∷ key ∷ []) r new) (same-name name (codes "next") a) h))
-  next-replies name term key asked true false true is a b e h =
-      asked-is asked (Some key) true e (reading-replies term (NextLookup key) true (Some key) refl is (subst (λ (n : List ℕ). call old q n (term ∷ key ∷ []) r new) (same-name name (codes "next_lookup") b) h))
-  next-replies name term key asked true false false is a b e h = cc
+  reads-walk : (term : Term) (answer : TableState → Reply) (found asked : Option Term × Bool) → answer table.fixed ≡ told_reply found.1 found.0 table.fixed.content.slots
+      → cond (is_table old t term) (Some found) None ≡ Some asked → reads old q term answer r new → Replies asked.1 asked.0 table.fixed.content.slots r
+  reads-walk term answer found asked own e h =
+      on-table (is_table old t term) found asked e (reading-replies term answer found.1 found.0 own (is-here (is_table old t term) found asked e) h)
 
-  call-replies : (name : List ℕ) (args : List Term) (asked : Option Term × Bool) → walk_call old t name args ≡ Some asked → call old q name args r new → Replies asked.1 asked.0 table.fixed.content.slots r
-  call-replies name [] asked e h = cc
-  call-replies name (term ∷ []) asked e h = first-replies name term asked (is_table old t term) (bytes_eq name (codes "first")) (bytes_eq name (codes "first_lookup")) refl refl refl e h
-  call-replies name (term ∷ key ∷ []) asked e h = next-replies name term key asked (is_table old t term) (bytes_eq name (codes "next")) (bytes_eq name (codes "next_lookup")) refl refl refl e h
-  call-replies name (term ∷ key ∷ more ∷ args) asked e h = cc
+  call-replies : (name : CallName) (args : List Term) (asked : Option Term × Bool) → walk_call old t name args ≡ Some asked → call old q name args r new → Replies asked.1 asked.0 table.fixed.content.slots r
+  call-replies name.First (term ∷ []) asked e h = reads-walk term First (None, false) asked refl e h
+  call-replies name.FirstLookup (term ∷ []) asked e h = reads-walk term FirstLookup (None, true) asked refl e h
+  call-replies name.Next (term ∷ key ∷ []) asked e h = reads-walk term (Next key) (Some key, false) asked refl e h
+  call-replies name.NextLookup (term ∷ key ∷ []) asked e h = reads-walk term (NextLookup key) (Some key, true) asked refl e h
+  call-replies _ _ asked e h = absurd (cc)
 
   -- refusals that go before the call
-  deep-replies : (deep : Bool) (name : List ℕ) (args : List Term) (asked : Option Term × Bool) → walk_call old t name args ≡ Some asked → MatchBool deep (gives SystemLimit old r new) (call old q name args r new)
-      → Replies asked.1 asked.0 table.fixed.content.slots r
-  deep-replies true name args asked e h = let limit = h.0 in inr (λ x v. cc)
-  deep-replies false name args asked e h = call-replies name args asked e h
+  named-replies : (found : Option CallName) (args : List Term) (asked : Option Term × Bool) → option_and_then (λ name. walk_call old t name args) found ≡ Some asked
+      → refuse_none old found Badarg (λ name. call old q name args) r new → Replies asked.1 asked.0 table.fixed.content.slots r
+  named-replies None args asked e h = absurd (cc)
+  named-replies (Some name) args asked e h = call-replies name args asked e h
 
-  ask-replies : (ended deep : Bool) (name : List ℕ) (args : List Term) (asked : Option Term × Bool) → walk_call old t name args ≡ Some asked
-      → MatchBool ended (gives NoProcess old r new) (MatchBool deep (gives SystemLimit old r new) (call old q name args r new)) → Replies asked.1 asked.0 table.fixed.content.slots r
-  ask-replies true deep name args asked e h = let none = h.0 in inr (λ x v. cc)
-  ask-replies false deep name args asked e h = deep-replies deep name args asked e h
+  deep-replies : (deep : Bool) (found : Option CallName) (args : List Term) (asked : Option Term × Bool) → option_and_then (λ name. walk_call old t name args) found ≡ Some asked
+      → MatchBool deep (gives SystemLimit old r new) (refuse_none old found Badarg (λ name. call old q name args) r new) → Replies asked.1 asked.0 table.fixed.content.slots r
+  deep-replies true found args asked e h = let limit = h.0 in inr (λ x v. cc)
+  deep-replies false found args asked e h = named-replies found args asked e h
+
+  ask-replies : (ended deep : Bool) (found : Option CallName) (args : List Term) (asked : Option Term × Bool) → option_and_then (λ name. walk_call old t name args) found ≡ Some asked
+      → MatchBool ended (gives NoProcess old r new) (MatchBool deep (gives SystemLimit old r new) (refuse_none old found Badarg (λ name. call old q name args) r new)) → Replies asked.1 asked.0 table.fixed.content.slots r
+  ask-replies true deep found args asked e h = let none = h.0 in inr (λ x v. cc)
+  ask-replies false deep found args asked e h = deep-replies deep found args asked e h
 
 asks-walk : (b : Bool) (o : Option (Option Term × Bool)) (asked : Option Term × Bool) → cond b o None ≡ Some asked → o ≡ Some asked
 asks-walk true o asked e = e
@@ -173,8 +170,8 @@ asks-walk false o asked e = cc
 pub step-replies : (old new : State) (p t : ℕ) (s : Step) (r : Reply) (table : Table) (call : Option Term) (objects : Bool) → table_at old.world.tables t ≡ Some table → walk_step old p t s ≡ Some (call, objects) → step old s r new
     → Replies objects call table.fixed.content.slots r
 step-replies old new p t (Ask q asked_call) r table call objects at e h =
-    ask-replies old new q t r table at (not (lives old.world.processes q)) (list_any is_too_deep asked_call.args) asked_call.name asked_call.args (call, objects)
-    (asks-walk (q == p) (walk_call old t asked_call.name asked_call.args) (call, objects) e) h
+    ask-replies old new q t r table at (not (lives old.world.processes q)) (list_any is_too_deep asked_call.args) (call_name asked_call.name) asked_call.args (call, objects)
+    (asks-walk (q == p) (option_and_then (λ name. walk_call old t name asked_call.args) (call_name asked_call.name)) (call, objects) e) h
 step-replies old new p t (Enrol q) r table call objects at e h = cc
 step-replies old new p t (End q) r table call objects at e h = cc
 step-replies old new p t (Grow u) r table call objects at e h = cc

@@ -24,7 +24,7 @@ use Rattle.node_core.specs.laws.Walk.{states, walk_step, IsKey, Answers, Walks, 
 use Rattle.fixed_walk.proofs.ChangeLaws.{is_end}
 use Rattle.node_core.proofs.moves.Reached.{distinct-none}
 use Rattle.node_core.proofs.buckets.Observable.{stays-there}
-use Rattle.node_core.proofs.calls.Table.{step-follows}
+use Rattle.node_core.proofs.calls.EachCall.{step-follows}
 use Rattle.node_core.proofs.walks.WalkCalls.{Replies, asked-free, step-replies, tells-end, tells-key}
 
 -- a table that is there and fixed

@@ -1,18 +1,20 @@
 -- Exact traversals (stdlib manual, module ets, safe_fixtable/2, first/1, next/2, first_lookup/1 and next_lookup/2) in a
 -- run: its steps, replies and states.
-use Rattle.std.specs.Prelude.{◌≡◌, ℕ, ◌==◌, Bool, true, false, if◌then◌else◌, List, [], ◌∷◌, Option, Some, None, option_map, MatchOption, codes}
+use Rattle.std.specs.Prelude.{◌≡◌, ℕ, ◌==◌, Bool, true, false, if◌then◌else◌, List, [], ◌∷◌, Option, Some, None, MatchOption}
 use Rattle.std.specs.List.{AllByRecursion, IsDistinct, Contains}
-use Rattle.std.specs.Option.{option_map_or}
-use Rattle.std.specs.Str.{bytes_eq}
+use Rattle.std.specs.Option.{option_and_then, option_map_or}
 use Rattle.ets_term.specs.declared.term.Term.{Term}
 use Rattle.ets_term.specs.Order.{same}
 use Rattle.bucket_table.specs.Slots.{HasDistinctKeys}
 use Rattle.table_ops.specs.Content.{is_present}
 use Rattle.ownership.specs.World.{resolve}
+use Rattle.node_core.specs.declared.call_name.CallName.{CallName}
+use Rattle.node_core.specs.declared.call_name.CallName.TheVariants as name
 use Rattle.node_core.specs.declared.step.Reply.{Reply}
 use Rattle.node_core.specs.declared.step.Reply.TheVariants.{Value}
 use Rattle.node_core.specs.declared.step.Step.{Step}
 use Rattle.node_core.specs.declared.step.Step.TheVariants.{Ask}
+use Rattle.node_core.specs.CallName.{call_name}
 use Rattle.node_core.specs.State.{State}
 use Rattle.node_core.specs.Machine.{run}
 use Rattle.node_core.specs.rules.Walking.{key_reply, key_and_objects}
@@ -31,31 +33,21 @@ states old (s ∷ steps) [] new done = absurd done
 abbrev pub is_table : State → ℕ → Term → Bool
 is_table s t term = option_map_or (λ u. u == t) (resolve s.world.tables term) false
 
--- whether a call of a traversal, of the two with the same purpose, asks for the objects too, by its name
-abbrev pub walk_name : List ℕ → List ℕ → List ℕ → Option Bool
-walk_name name own lookup =
-    if bytes_eq name own then Some false
-    else if bytes_eq name lookup then Some true
-    else None
-
 -- what a call asks of the table for a traversal: None is first, Some is next of this key; with it, whether it asks for
 -- the objects too; the outer None is any other call
-abbrev pub walk_call : State → ℕ → List ℕ → List Term → Option (Option Term × Bool)
-walk_call s t name (term ∷ []) =
-    if is_table s t term
-    then option_map (λ objects. (None, objects))
-    (walk_name name (codes "first") (codes "first_lookup"))
-    else None
-walk_call s t name (term ∷ key ∷ []) =
-    if is_table s t term
-    then option_map (λ objects. (Some key, objects))
-    (walk_name name (codes "next") (codes "next_lookup"))
-    else None
-walk_call s t name _ = None
+abbrev pub walk_call : State → ℕ → CallName → List Term → Option (Option Term × Bool)
+walk_call s t name.First (term ∷ []) = if is_table s t term then Some (None, false) else None
+walk_call s t name.FirstLookup (term ∷ []) = if is_table s t term then Some (None, true) else None
+walk_call s t name.Next (term ∷ key ∷ []) = if is_table s t term then Some (Some key, false) else None
+walk_call s t name.NextLookup (term ∷ key ∷ []) = if is_table s t term then Some (Some key, true) else None
+walk_call s t _ _ = None
 
 -- the same for a step, if this process makes the call
 abbrev pub walk_step : State → ℕ → ℕ → Step → Option (Option Term × Bool)
-walk_step s p t (Ask q call) = if q == p then walk_call s t call.name call.args else None
+walk_step s p t (Ask q call) =
+    if q == p
+    then option_and_then (λ name. walk_call s t name call.args) (call_name call.name)
+    else None
 walk_step s p t _ = None
 
 -- the reply is this key, or, if the call asks for the objects too, the key with some objects

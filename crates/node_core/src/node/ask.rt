@@ -7,6 +7,7 @@ ghost use Rattle.node_core.specs.declared.step.Step.TheVariants.{Ask};
 ghost use Rattle.node_core.specs.inside.Refusals.{ToReply};
 
 use super::Node;
+use crate::call_name::CallName;
 use crate::step::{Call, Reply};
 use ets_term::{KeyHash, Term};
 use std::alloc::AllocError;
@@ -24,7 +25,10 @@ impl<H: KeyHash + Copy + Drop> Node<H> {
         if any_too_deep(args) {
             return Ok(Reply::SystemLimit);
         }
-        into_reply(self.call(pid, call.name.text(), args))
+        match CallName::read(call.name.text()) {
+            Some(name) => into_reply(self.call(pid, name, args)),
+            None => Ok(Reply::Badarg),
+        }
     }
 }
 

@@ -1,8 +1,8 @@
 // A step with its reply twice: memory for the copy is reserved before anything changes.
-ghost use Rattle.std.specs.Prelude.{◌≡◌, ℕ, true, false, ◌≤◌, [], length, vec_capacity, IfOk, OnErr, MatchOption};
+ghost use Rattle.std.specs.Prelude.{◌≡◌, ℕ, true, false, ◌≤◌, [], ◌∷◌, length, vec_capacity, IfOk, OnErr, MatchOption};
 ghost use Rattle.std.specs.List.{list_all};
 ghost use Rattle.node_core.specs.Access.{writes};
-ghost use Rattle.node_core.specs.Calls.{call, calls_of_none, calls_of_two, calls_of_three, calls_of_four};
+ghost use Rattle.node_core.specs.Calls.{call};
 ghost use Rattle.node_core.specs.rules.Removal.{Take};
 ghost use Rattle.node_core.specs.rules.Tables.{New};
 ghost use Rattle.node_core.specs.State.{State};
@@ -10,6 +10,7 @@ ghost use Rattle.node_core.specs.inside.ReplyReserve.{StepsWithBuckets, is_flat_
 
 use super::Node;
 use super::replies::list_reply;
+use crate::call_name::CallName;
 use crate::step::{Reply, Step};
 use ets_term::{Items, KeyHash, Term};
 use std::alloc::{AllocError, Global};
@@ -33,101 +34,60 @@ impl<H: KeyHash + Copy + Drop> Node<H> {
     pub(crate) fn reserve_for_step(&self, event: &Step) -> Result<ReplyReserve, AllocError>
         ensures { IfOk result (Suffices self.now (StepsWithBuckets self.now event.now)) }
     {
-        match event {
-            Step::Ask(pid, call) => self.reserve_for_call(
-                *pid,
-                call.name.text(),
-                call.args.as_slice(),
-            ),
-            _ => Ok(ReplyReserve::Nothing),
+        let Step::Ask(pid, call) = event else {
+            return Ok(ReplyReserve::Nothing);
+        };
+        match CallName::read(call.name.text()) {
+            Some(name) => self.reserve_for_call(*pid, name, call.args.as_slice()),
+            None => Ok(ReplyReserve::Nothing),
         }
     }
 
     fn reserve_for_call(
         &self,
         pid: u32,
-        name: &str,
+        name: CallName,
         args: &[Term],
     ) -> Result<ReplyReserve, AllocError>
-        ensures { IfOk result (Suffices self.now (call self.now pid name.now args.now)) }
+        ensures { IfOk result (Suffices self.now (call self.now pid name args.now)) }
     {
         match args {
             [] => self.reserve_for_none(pid, name),
             [_] => Ok(ReplyReserve::Nothing),
             [x, y] => self.reserve_for_two(pid, name, x, y),
-            [x, y, z] => self.reserve_for_three(pid, name, x, y, z),
-            [x, y, z, default] => self.reserve_for_four(pid, name, x, y, z, default),
+            [_, _, updates] | [_, _, updates, _] => reserve_for_updates(self.alloc, name, updates),
             _ => Ok(ReplyReserve::Nothing),
         }
     }
 
-    fn reserve_for_none(&self, pid: u32, name: &str) -> Result<ReplyReserve, AllocError>
-        ensures { IfOk result (Suffices self.now (calls_of_none self.now pid name.now)) }
+    fn reserve_for_none(&self, pid: u32, name: CallName) -> Result<ReplyReserve, AllocError>
+        ensures { IfOk result (Suffices self.now (call self.now pid name [])) }
     {
-        if name == "receive" {
-            let copy = list_reply(self.alloc, self.world.mailbox(pid))?;
-            Ok(ReplyReserve::Predicted(copy))
-        } else {
-            Ok(ReplyReserve::Nothing)
+        match name {
+            CallName::Receive => {
+                let copy = list_reply(self.alloc, self.world.mailbox(pid))?;
+                Ok(ReplyReserve::Predicted(copy))
+            }
+            _ => Ok(ReplyReserve::Nothing),
         }
     }
 
     fn reserve_for_two(
         &self,
         pid: u32,
-        name: &str,
+        name: CallName,
         x: &Term,
         y: &Term,
     ) -> Result<ReplyReserve, AllocError>
-        ensures { IfOk result (Suffices self.now (calls_of_two self.now pid name.now x.now y.now)) }
+        ensures { IfOk result (Suffices self.now (call self.now pid name (x.now ∷ y.now ∷ []))) }
     {
-        if name == "take" {
-            let copy = self.predicted_take(pid, x, y)?;
-            Ok(ReplyReserve::Predicted(copy))
-        } else if name == "new" {
-            predicted_name(self.alloc, x)
-        } else {
-            Ok(ReplyReserve::Nothing)
-        }
-    }
-
-    fn reserve_for_three(
-        &self,
-        pid: u32,
-        name: &str,
-        x: &Term,
-        y: &Term,
-        updates: &Term,
-    ) -> Result<ReplyReserve, AllocError>
-        ensures { IfOk result
-            (Suffices self.now (calls_of_three self.now pid name.now x.now y.now updates.now)) }
-    {
-        if name == "update_counter" {
-            let room = capacity_for(self.alloc, updates)?;
-            Ok(ReplyReserve::Capacity(room))
-        } else {
-            Ok(ReplyReserve::Nothing)
-        }
-    }
-
-    fn reserve_for_four(
-        &self,
-        pid: u32,
-        name: &str,
-        x: &Term,
-        y: &Term,
-        updates: &Term,
-        default: &Term,
-    ) -> Result<ReplyReserve, AllocError>
-        ensures { IfOk result
-            (Suffices self.now
-            (calls_of_four self.now pid name.now x.now y.now updates.now default.now)) }
-    {
-        if name == "update_counter" {
-            let room = capacity_for(self.alloc, updates)?;
-            Ok(ReplyReserve::Capacity(room))
-        } else {
-            Ok(ReplyReserve::Nothing)
+        match name {
+            CallName::Take => {
+                let copy = self.predicted_take(pid, x, y)?;
+                Ok(ReplyReserve::Predicted(copy))
+            }
+            CallName::New => predicted_name(self.alloc, x),
+            _ => Ok(ReplyReserve::Nothing),
         }
     }
 
@@ -139,6 +99,25 @@ impl<H: KeyHash + Copy + Drop> Node<H> {
             Some(table) => list_reply(self.alloc, table.lookup(key)),
             None => Ok(Reply::Badarg),
         }
+    }
+}
+
+/// Reserves capacity for the new values of counters.
+fn reserve_for_updates(
+    alloc: Global,
+    name: CallName,
+    updates: &Term,
+) -> Result<ReplyReserve, AllocError>
+    ensures { (old : State) → (pid : ℕ) → (x y : Term)
+        → IfOk result (λ r. Suffices old (call old pid name (x ∷ y ∷ updates.now ∷ [])) r
+        × ((default : Term) → Suffices old (call old pid name (x ∷ y ∷ updates.now ∷ default ∷ [])) r)) }
+{
+    match name {
+        CallName::UpdateCounter => {
+            let room = capacity_for(alloc, updates)?;
+            Ok(ReplyReserve::Capacity(room))
+        }
+        _ => Ok(ReplyReserve::Nothing),
     }
 }
 

@@ -1,6 +1,9 @@
-use Rattle.std.proofs.Common.{sym}
-use Rattle.node_core.proofs.replies.Predicted.{asked-suffices}
+use Rattle.std.proofs.Common.{sym, ap, ◌∙◌}
+use Rattle.node_core.specs.CallName.{call_name}
+use Rattle.node_core.proofs.replies.Predicted.{named-suffices}
 use Rattle.node_core.proofs.node.Node.reserve_for_step.Goals as goal
 
-pub returns-in-Ask : goal.returns-in-Ask
-returns-in-Ask g c = rw c.in-Ask.is (asked-suffices c.args.self.now c.in-Ask.pid c.in-Ask.call c.reserve_for_call.result (rw (sym c.text.ensures.text, sym c.as_slice.ensures) c.reserve_for_call.ensures))
+pub returns-in-Some : goal.returns-in-Some
+returns-in-Some g c =
+    rw c.in-Ask.is (named-suffices c.args.self.now c.in-Ask.pid c.in-Ask.call c.in-Some.name c.reserve_for_call.result
+    (c.in-Some.ensures ∙ ap call_name c.text.ensures.text) (rw (sym c.as_slice.ensures) c.reserve_for_call.ensures))

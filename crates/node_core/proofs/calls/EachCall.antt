@@ -1,0 +1,156 @@
+-- Each call is lawful, and so each step of the machine is.
+use Rattle.std.proofs.Common.{◌≡◌, ℕ, ◌≤◌, ◌==◌, Bool, true, false, not, List, [], ◌∷◌, Option, None, Some, refl, ap, ◌∙◌, length, codes, true≢false}
+use Rattle.std.specs.Prelude.{option_map}
+use Rattle.std.specs.List.{list_any}
+use Rattle.std.specs.Option.{option_map_or}
+use Rattle.ets_term.specs.declared.term.Term.{Term}
+use Rattle.ets_term.specs.declared.term.Term.TheVariants.{Pid}
+use Rattle.ets_term.specs.Depth.{is_too_deep}
+use Rattle.table_ops.specs.Outcomes.{Outcome, gives, refuse_none}
+use Rattle.fixed_walk.specs.TableState.{TableState}
+use Rattle.ownership.specs.World.{Table, lives, table_at}
+use Rattle.node_core.specs.declared.call_name.CallName.{CallName}
+use Rattle.node_core.specs.declared.call_name.CallName.TheVariants as name
+use Rattle.node_core.specs.declared.node.access.Access.TheVariants.{Write}
+use Rattle.node_core.specs.declared.step.Reply.{Reply}
+use Rattle.node_core.specs.declared.step.Reply.TheVariants.{Value, Badarg, SystemLimit, NoProcess}
+use Rattle.node_core.specs.declared.step.Step.{Step}
+use Rattle.node_core.specs.declared.step.Step.TheVariants.{Enrol, End, Ask, Grow, Ready}
+use Rattle.node_core.specs.State.{State}
+use Rattle.node_core.specs.Observable.{observable_fixed, observable_table, observable}
+use Rattle.node_core.specs.Access.{CallRule, reads, writes}
+use Rattle.node_core.specs.CallName.{call_name}
+use Rattle.node_core.specs.Calls.{call, call_by_text}
+use Rattle.node_core.specs.Machine.{step}
+use Rattle.node_core.specs.rules.Growth.{ok_reply, growth_reply}
+use Rattle.node_core.specs.rules.Reading.{Lookup, Member, LookupElement, LookupElementOr, Tab2list}
+use Rattle.node_core.specs.rules.Replies.{true_reply}
+use Rattle.node_core.specs.rules.Searching.{Match, MatchObject, Select, SelectCount}
+use Rattle.node_core.specs.rules.Walking.{First, Next, FirstLookup, NextLookup}
+use Rattle.node_core.specs.Woven.{is_step_of}
+use Rattle.node_core.proofs.calls.CallLaws.{WalkSoFar, IsLawfulCall, tells-lawful, tells-as, either-lawful, reads-lawful, changes-lawful, asks-lawful, new_call-lawful, delete_table-lawful, give_away-lawful, set_options_call-lawful, receive-lawful, whereis-lawful, info-lawful, fixtable-lawful}
+use Rattle.node_core.proofs.moves.Moves.{Follows, Moves, moves-same}
+use Rattle.node_core.proofs.calls.Rules.{IsLawful, insert-lawful, insert_new-lawful, take-lawful, delete-lawful, delete_all-lawful, delete_object-lawful, match_delete-lawful, select_delete-lawful, update_counter-lawful, update_element-lawful}
+use Rattle.node_core.proofs.buckets.ObservableTables.{at-observable}
+use Rattle.node_core.proofs.moves.WorldLaws.{enrol-lawful, end-lawful}
+use Rattle.node_core.proofs.moves.WorldMoves.{enrol-moves, end-moves}
+
+-- whether the reply of a call that changes something may take memory to copy
+abbrev pub may_need_copy : CallName → Bool
+may_need_copy name.New = true
+may_need_copy name.Receive = true
+may_need_copy name.Take = true
+may_need_copy name.UpdateCounter = true
+may_need_copy _ = false
+
+module _ (p : ℕ) (needs : Bool) (old : State) where
+  abbrev own : ℕ → Bool
+  own w = p == w
+
+  abbrev Laws : Outcome Reply State → Outcome Reply State → Type 0
+  Laws outcome unobservable = IsLawfulCall own needs old outcome unobservable
+
+  none : Laws (gives Badarg old) (gives Badarg (observable old))
+  none = tells-lawful own needs old Badarg
+
+  reading : (x : Term) (answer : TableState → Reply) → ((f : TableState) → answer (observable_fixed f) ≡ answer f)
+      → Laws (reads old p x answer) (reads (observable old) p x answer)
+  reading x answer same = reads-lawful own needs old p x answer same
+
+  writing : (x : Term) {rule : CallRule} → IsLawful own needs rule → Laws (writes old p x rule) (writes (observable old) p x rule)
+  writing x lawful = changes-lawful own needs old p Write x lawful
+
+  pub call-lawful : (name : CallName) (args : List Term) → (may_need_copy name ≡ true → needs ≡ true)
+      → Laws (call old p name args) (call (observable old) p name args)
+  call-lawful name.Receive [] copy = receive-lawful own needs old p (copy refl)
+  call-lawful name.Tab2list (x ∷ []) copy = reading x Tab2list (λ f. refl)
+  call-lawful name.DeleteAllObjects (x ∷ []) copy = writing x (delete_all-lawful own needs)
+  call-lawful name.Delete (x ∷ []) copy = delete_table-lawful own needs old p x
+  call-lawful name.First (x ∷ []) copy = reading x First (λ f. refl)
+  call-lawful name.FirstLookup (x ∷ []) copy = reading x FirstLookup (λ f. refl)
+  call-lawful name.Whereis (x ∷ []) copy = whereis-lawful own needs old x
+  call-lawful name.Insert (x ∷ y ∷ []) copy = writing x (insert-lawful own needs y)
+  call-lawful name.InsertNew (x ∷ y ∷ []) copy = writing x (insert_new-lawful own needs y)
+  call-lawful name.Lookup (x ∷ y ∷ []) copy = reading x (Lookup y) (λ f. refl)
+  call-lawful name.Member (x ∷ y ∷ []) copy = reading x (Member y) (λ f. refl)
+  call-lawful name.Take (x ∷ y ∷ []) copy = writing x (take-lawful own needs (copy refl) y)
+  call-lawful name.Delete (x ∷ y ∷ []) copy = writing x (delete-lawful own needs y)
+  call-lawful name.DeleteObject (x ∷ y ∷ []) copy = writing x (delete_object-lawful own needs y)
+  call-lawful name.Match (x ∷ y ∷ []) copy = reading x (Match y) (λ f. refl)
+  call-lawful name.MatchObject (x ∷ y ∷ []) copy = reading x (MatchObject y) (λ f. refl)
+  call-lawful name.MatchDelete (x ∷ y ∷ []) copy = writing x (match_delete-lawful own needs y)
+  call-lawful name.Select (x ∷ y ∷ []) copy = reading x (Select y) (λ f. refl)
+  call-lawful name.SelectCount (x ∷ y ∷ []) copy = reading x (SelectCount y) (λ f. refl)
+  call-lawful name.SelectDelete (x ∷ y ∷ []) copy = writing x (select_delete-lawful own needs y)
+  call-lawful name.New (x ∷ y ∷ []) copy = new_call-lawful own needs old p (copy refl) x y
+  call-lawful name.Next (x ∷ y ∷ []) copy = reading x (Next y) (λ f. refl)
+  call-lawful name.NextLookup (x ∷ y ∷ []) copy = reading x (NextLookup y) (λ f. refl)
+  call-lawful name.SafeFixtable (x ∷ y ∷ []) copy = fixtable-lawful p needs old x y
+  call-lawful name.SetOptions (x ∷ y ∷ []) copy = set_options_call-lawful own needs old p x y
+  call-lawful name.Info (x ∷ y ∷ []) copy = info-lawful own needs old x y
+  call-lawful name.LookupElement (x ∷ y ∷ z ∷ []) copy = reading x (LookupElement y z) (λ f. refl)
+  call-lawful name.UpdateCounter (x ∷ y ∷ z ∷ []) copy = writing x (update_counter-lawful own needs (copy refl) y z None)
+  call-lawful name.UpdateElement (x ∷ y ∷ z ∷ []) copy = writing x (update_element-lawful own needs y z None)
+  call-lawful name.GiveAway (x ∷ y ∷ z ∷ []) copy = give_away-lawful own needs old p x y z
+  call-lawful name.LookupElement (x ∷ y ∷ z ∷ w ∷ []) copy = reading x (LookupElementOr y z w) (λ f. refl)
+  call-lawful name.UpdateCounter (x ∷ y ∷ z ∷ w ∷ []) copy = writing x (update_counter-lawful own needs (copy refl) y z (Some w))
+  call-lawful name.UpdateElement (x ∷ y ∷ z ∷ w ∷ []) copy = writing x (update_element-lawful own needs y z (Some w))
+  call-lawful _ _ copy = none
+
+  pub call_by_text-lawful : (text : List ℕ) (args : List Term) → ((name : CallName) → call_name text ≡ Some name → may_need_copy name ≡ true → needs ≡ true)
+      → Laws (call_by_text old p text args) (call_by_text (observable old) p text args)
+  call_by_text-lawful text args copy = by (call_name text) copy
+    where
+      by : (found : Option CallName) → ((name : CallName) → found ≡ Some name → may_need_copy name ≡ true → needs ≡ true)
+          → Laws (refuse_none old found Badarg (λ name. call old p name args)) (refuse_none (observable old) found Badarg (λ name. call (observable old) p name args))
+      by None copy = none
+      by (Some name) copy = call-lawful name args (copy name refl)
+
+-- ---- and whatever the step is
+growth-at : (o : Option Table)
+    → option_map_or (λ _. ok_reply) (option_map observable_table o) Badarg ≡ option_map_or (λ _. ok_reply) o Badarg
+growth-at None = refl
+growth-at (Some table) = refl
+
+growth-observable : (old : State) (t : ℕ) → growth_reply (observable old) t ≡ growth_reply old t
+growth-observable old t =
+    ap (λ o. option_map_or (λ _. ok_reply) o Badarg) (at-observable old.world.tables t)
+    ∙ growth-at (table_at old.world.tables t)
+
+-- what is shown of a step: no reply need be copied
+abbrev pub IsLawfulStep : State → Step → Type 0
+IsLawfulStep old s = IsLawfulCall (λ w. is_step_of w s) true old (step old s) (step (observable old) s)
+
+pub step-lawful : (old : State) (s : Step) → IsLawfulStep old s
+step-lawful old (Enrol p) =
+    asks-lawful (λ w. p == w) true old (λ _. Value (Pid p)) (λ n. absurd (true≢false n))
+    (enrol-lawful (Moves (λ w. p == w) old.world) old.world (moves-same (λ w. p == w) old.world) p (enrol-moves (λ w. p == w) old.world p))
+step-lawful old (End p) =
+    asks-lawful (λ w. p == w) true old (λ _. true_reply) (λ n. absurd (true≢false n))
+    (end-lawful (Moves (λ w. p == w) old.world) old.world (moves-same (λ w. p == w) old.world) p (end-moves old.world p))
+step-lawful old (Ask p asked) =
+    either-lawful (λ w. p == w) true old (not (lives old.world.processes p)) (λ _. tells-lawful (λ w. p == w) true old NoProcess) (
+    either-lawful (λ w. p == w) true old (list_any is_too_deep asked.args) (λ _. tells-lawful (λ w. p == w) true old SystemLimit) (
+    call_by_text-lawful p true old asked.name asked.args (λ name is copy. refl)))
+step-lawful old (Grow t) =
+    tells-as (λ w. false) true old (growth_reply old t) (growth_reply (observable old) t) (growth-observable old t)
+step-lawful old (Ready t bucket) =
+    tells-as (λ w. false) true old (growth_reply old t) (growth_reply (observable old) t) (growth-observable old t)
+
+module _ (old new : State) (s : Step) (reply : Reply) (h : step old s reply new) where
+  pub step-stands : WalkSoFar (λ w. is_step_of w s) true old reply new
+  step-stands = let lawful = step-lawful old s in lawful.stands reply new h
+
+  -- after it each table stays or is new
+  pub step-follows : Follows (λ w. is_step_of w s) old.world.tables new.world.tables
+  step-follows = step-stands.moves.tables
+
+-- no process is forgotten, and the limits stay
+pub record Remembers (old new : State) : Type 0 where
+  pub limits : new.limits ≡ old.limits
+  pub most : new.world.most_processes ≡ old.world.most_processes
+  pub known : length old.world.processes ≤ length new.world.processes
+
+pub step-remembers : (old new : State) (s : Step) (reply : Reply) → step old s reply new → Remembers old new
+step-remembers old new s reply h =
+    let stands = step-stands old new s reply h in record { limits = stands.limits; most = stands.moves.most; known = stands.moves.known }

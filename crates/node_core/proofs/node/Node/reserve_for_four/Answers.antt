@@ -1,9 +1,0 @@
-use Rattle.std.proofs.Common.{sym, ◌∙◌}
-use Rattle.node_core.proofs.replies.Predicted.{four-counts, four-suffices}
-use Rattle.node_core.proofs.node.Node.reserve_for_four.Goals as goal
-
-pub returns-in_ok-room : goal.returns-in_ok-room
-returns-in_ok-room g c = (four-counts c.args.self.now c.args.pid c.args.name.now c.args.x.now c.args.y.now c.args.updates.now c.args.default.now _ c.in_ok-room.ensures.0 (sym c.eq.ensures ∙ c.if-eq.true), c.in_ok-room.ensures.1)
-
-pub returns-else-eq : goal.returns-else-eq
-returns-else-eq g c = four-suffices c.args.self.now c.args.pid c.args.name.now c.args.x.now c.args.y.now c.args.updates.now c.args.default.now (sym c.eq.ensures ∙ c.if-eq.false)

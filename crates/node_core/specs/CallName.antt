@@ -1,0 +1,48 @@
+-- The names of calls (stdlib manual, module ets).
+use Rattle.std.specs.Prelude.{ℕ, if◌then◌else◌, List, [], ◌∷◌, Option, Some, None, codes}
+use Rattle.std.specs.Str.{bytes_eq}
+use Rattle.node_core.specs.declared.call_name.CallName.{CallName}
+use Rattle.node_core.specs.declared.call_name.CallName.TheVariants.{Delete, DeleteAllObjects, DeleteObject, First, FirstLookup, GiveAway, Info, Insert, InsertNew, Lookup, LookupElement, Match, MatchDelete, MatchObject, Member, New, Next, NextLookup, Receive, SafeFixtable, Select, SelectCount, SelectDelete, SetOptions, Tab2list, Take, UpdateCounter, UpdateElement, Whereis}
+
+-- each name, as it is spelled
+abbrev pub spellings : List (List ℕ × CallName)
+spellings =
+    (codes "delete", Delete)
+    ∷ (codes "delete_all_objects", DeleteAllObjects)
+    ∷ (codes "delete_object", DeleteObject)
+    ∷ (codes "first", First)
+    ∷ (codes "first_lookup", FirstLookup)
+    ∷ (codes "give_away", GiveAway)
+    ∷ (codes "info", Info)
+    ∷ (codes "insert", Insert)
+    ∷ (codes "insert_new", InsertNew)
+    ∷ (codes "lookup", Lookup)
+    ∷ (codes "lookup_element", LookupElement)
+    ∷ (codes "match", Match)
+    ∷ (codes "match_delete", MatchDelete)
+    ∷ (codes "match_object", MatchObject)
+    ∷ (codes "member", Member)
+    ∷ (codes "new", New)
+    ∷ (codes "next", Next)
+    ∷ (codes "next_lookup", NextLookup)
+    ∷ (codes "receive", Receive)
+    ∷ (codes "safe_fixtable", SafeFixtable)
+    ∷ (codes "select", Select)
+    ∷ (codes "select_count", SelectCount)
+    ∷ (codes "select_delete", SelectDelete)
+    ∷ (codes "setopts", SetOptions)
+    ∷ (codes "tab2list", Tab2list)
+    ∷ (codes "take", Take)
+    ∷ (codes "update_counter", UpdateCounter)
+    ∷ (codes "update_element", UpdateElement)
+    ∷ (codes "whereis", Whereis)
+    ∷ []
+
+-- the first entry with this text
+abbrev pub look_up : List ℕ → List (List ℕ × CallName) → Option CallName
+look_up text [] = None
+look_up text (s ∷ entries) = if bytes_eq text s.0 then Some s.1 else look_up text entries
+
+-- the name with this spelling
+abbrev pub call_name : List ℕ → Option CallName
+call_name text = look_up text spellings
