@@ -1,14 +1,13 @@
 -- Reasons are exact: each reply of the machine to a step is what its reason says, and the last rule is that reason.
-use Rattle.std.proofs.Common.{◌≡◌, ℕ, inl, inr, Bool, true, false, cond, not, List, [], ◌∷◌, Option, None, Some, refl, sym, subst, ap, ◌∙◌, codes}
+use Rattle.std.proofs.Common.{◌≡◌, ℕ, inl, inr, Bool, true, false, cond, not, List, [], ◌∷◌, Option, None, Some, refl, sym, subst, ap, ◌∙◌}
 use Rattle.std.specs.Prelude.{◌+◌, ◌||◌, if◌then◌else◌, is_some, position, nat_le, length, Ok, Err}
 use Rattle.std.specs.List.{list_any, position_from}
 use Rattle.std.specs.Option.{option_map_or}
-use Rattle.std.specs.Str.{bytes_eq}
 use Rattle.std.proofs.lemmas.Iterator.Adapters.{position_from-zero}
 use Rattle.ets_term.specs.declared.term.Term.{Term}
 use Rattle.ets_term.specs.declared.term.Term.TheVariants.{Pid}
 use Rattle.ets_term.specs.Depth.{is_too_deep}
-use Rattle.table_ops.specs.Outcomes.{gives, refuse}
+use Rattle.table_ops.specs.Outcomes.{gives, refuse, refuse_none}
 use Rattle.ownership.specs.declared.fault.WorldFault.TheVariants as fault
 use Rattle.ownership.specs.World.{Table, World, lives, process_at, table_at}
 use Rattle.ownership.specs.End as ends
@@ -20,7 +19,10 @@ use Rattle.node_core.specs.declared.step.Reply.TheVariants.{Value, Badarg, Syste
 use Rattle.node_core.specs.declared.step.Step.{Step}
 use Rattle.node_core.specs.declared.step.Step.TheVariants.{Enrol, End, Ask, Grow, Ready}
 use Rattle.node_core.specs.Access.{WorldResultToReply}
-use Rattle.node_core.specs.Calls.{call}
+use Rattle.node_core.specs.CallName.{call_name}
+use Rattle.node_core.specs.Calls.{call, call_by_text}
+use Rattle.node_core.specs.declared.call_name.CallName.{CallName}
+use Rattle.node_core.specs.declared.call_name.CallName.TheVariants as name
 use Rattle.node_core.specs.Machine.{step}
 use Rattle.node_core.specs.Observable.{observable}
 use Rattle.node_core.specs.State.{State}
@@ -34,7 +36,7 @@ use Rattle.node_reasons.specs.Calls.{why_call}
 use Rattle.node_reasons.specs.Why.{limit_of, or_limit, why}
 use Rattle.node_reasons.specs.Laws.{Explains, ReasonsAreExact}
 use Rattle.node_reasons.specs.inside.LastRules.{NamesReason}
-use Rattle.node_reasons.specs.inside.LastRuleOfCalls.{last_rule_of_call, last_rule, reason_by_reply, reason_for}
+use Rattle.node_reasons.specs.inside.LastRuleOfCalls.{last_rule_of_call, last_rule_of_refused, last_rule, reason_by_reply, reason_for}
 use Rattle.node_reasons.proofs.Explained.{ReasonExplains, ReasonExplainsAll, Either}
 use Rattle.node_reasons.proofs.ExplainedCalls.{asks-explained, within-explained, where-explained, call-explained}
 use Rattle.node_reasons.proofs.NamedRules.{last-where}
@@ -62,15 +64,12 @@ limit-right limit other None reply l (inl e) named = by reply e
 limit-right limit other None reply l (inr e) named = subst (λ r. Right (or_limit limit None r) other (whole limit) r) (sym e) (sym l, refl)
 limit-right limit other (Some reason) reply l h named = subst (λ r. Right (Some reason) other (whole limit) r) (sym h.0) (sym h.1, ap Some named)
 
-limit-refuses : (name : List ℕ) → refusal_of (limit_of name) ≡ SystemLimit
-limit-refuses name = by (bytes_eq name (codes "insert")) (bytes_eq name (codes "insert_new")) (bytes_eq name (codes "new")) (bytes_eq name (codes "safe_fixtable"))
-  where
-    by : (a b c d : Bool) → refusal_of (if a then rule.TooManyObjects else if b then rule.TooManyObjects else if c then rule.TooManyTables else if d then rule.TooManyFixes else rule.LimitExceeded) ≡ SystemLimit
-    by true b c d = refl
-    by false true c d = refl
-    by false false true d = refl
-    by false false false true = refl
-    by false false false false = refl
+limit-refuses : (name : CallName) → refusal_of (limit_of name) ≡ SystemLimit
+limit-refuses name.Insert = refl
+limit-refuses name.InsertNew = refl
+limit-refuses name.New = refl
+limit-refuses name.SafeFixtable = refl
+limit-refuses _ = refl
 
 -- ---- arguments that are too deep
 abbrev Deep : Option ℕ → Bool → Type 0
@@ -90,22 +89,31 @@ deep-at test args = subst (λ (o : Option ℕ). Deep o (list_any test args)) (sy
 
 -- ---- the steps
 module _ (old : State) where
+  abbrev Called : ℕ → List Term → Reply → Option CallName → Type 0
+  Called p args reply o =
+      Right (option_map_or (λ name. or_limit (limit_of name) (why_call old.world p name args) reply) o (Some (whole rule.NoCall)))
+      (option_map_or (last_rule_of_refused old.world p args false) o (whole rule.NoCall)) (option_map_or (last_rule_of_refused old.world p args true) o (whole rule.NoCall)) reply
+
+  called-right : (p : ℕ) (args : List Term) (reply : Reply) (new : State) (o : Option CallName) → refuse_none old o Badarg (λ name. call old p name args) reply new → Called p args reply o
+  called-right p args reply new None h = subst (λ r. Called p args r None) (sym h.0) (refl, refl)
+  called-right p args reply new (Some name) h =
+      limit-right (limit_of name) (last_rule_of_call old.world p name args) (why_call old.world p name args) reply (limit-refuses name)
+      (call-explained old p name args reply new h) (call-named old.world p name args)
+
   abbrev Asked : ℕ → Call → Reply → Bool → Option ℕ → Type 0
   Asked p asked reply b o =
-      Right (if b then option_map_or (λ index. Some (argument (index + 1) rule.TooDeep)) o (or_limit (limit_of asked.name) (why_call old.world p asked.name asked.args) reply) else Some (whole rule.NoProcess))
-      (if b then option_map_or (λ index. argument (index + 1) rule.TooDeep) o (last_rule_of_call old.world p asked.name asked.args) else whole rule.NoProcess)
-      (if b then option_map_or (λ index. argument (index + 1) rule.TooDeep) o (whole (limit_of asked.name)) else whole rule.NoProcess) reply
+      Right (if b then option_map_or (λ index. Some (argument (index + 1) rule.TooDeep)) o (option_map_or (λ name. or_limit (limit_of name) (why_call old.world p name asked.args) reply) (call_name asked.name) (Some (whole rule.NoCall))) else Some (whole rule.NoProcess))
+      (if b then option_map_or (λ index. argument (index + 1) rule.TooDeep) o (option_map_or (last_rule_of_refused old.world p asked.args false) (call_name asked.name) (whole rule.NoCall)) else whole rule.NoProcess)
+      (if b then option_map_or (λ index. argument (index + 1) rule.TooDeep) o (option_map_or (last_rule_of_refused old.world p asked.args true) (call_name asked.name) (whole rule.NoCall)) else whole rule.NoProcess) reply
 
-  asked-right : (p : ℕ) (asked : Call) (reply : Reply) (new : State) (o : Option ℕ) (b : Bool) → Deep o b → Either b (gives SystemLimit old) (call old p asked.name asked.args) reply new → Asked p asked reply true o
+  asked-right : (p : ℕ) (asked : Call) (reply : Reply) (new : State) (o : Option ℕ) (b : Bool) → Deep o b → Either b (gives SystemLimit old) (call_by_text old p asked.name asked.args) reply new → Asked p asked reply true o
   asked-right p asked reply new None true d h = absurd (cc)
-  asked-right p asked reply new None false d h =
-      limit-right (limit_of asked.name) (last_rule_of_call old.world p asked.name asked.args) (why_call old.world p asked.name asked.args) reply (limit-refuses asked.name)
-      (call-explained old p asked.name asked.args reply new h) (call-named old.world p asked.name asked.args)
+  asked-right p asked reply new None false d h = called-right p asked.args reply new (call_name asked.name) h
   asked-right p asked reply new (Some index) true d h = subst (λ r. Asked p asked r true (Some index)) (sym h.0) (refl, refl)
   asked-right p asked reply new (Some index) false d h = absurd (cc)
 
   ask-right : (p : ℕ) (asked : Call) (reply : Reply) (new : State) (b : Bool)
-      → Either (not b) (gives NoProcess old) (Either (list_any is_too_deep asked.args) (gives SystemLimit old) (call old p asked.name asked.args)) reply new → Asked p asked reply b (position is_too_deep asked.args)
+      → Either (not b) (gives NoProcess old) (Either (list_any is_too_deep asked.args) (gives SystemLimit old) (call_by_text old p asked.name asked.args)) reply new → Asked p asked reply b (position is_too_deep asked.args)
   ask-right p asked reply new true h = asked-right p asked reply new (position is_too_deep asked.args) (list_any is_too_deep asked.args) (deep-at is_too_deep asked.args) h
   ask-right p asked reply new false h = subst (λ r. Asked p asked r false (position is_too_deep asked.args)) (sym h.0) (refl, refl)
 

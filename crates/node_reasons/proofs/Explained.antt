@@ -1,8 +1,7 @@
 -- The reason of a call explains each of its replies: the cases of the machine's calls, with those of reasons.
-use Rattle.std.proofs.Common.{◌≡◌, ℕ, ◌⊎◌, Bool, true, false, List, Option, None, Some, option_and_then, Result, Ok, Err, refl, sym, subst, ap, ◌∙◌}
+use Rattle.std.proofs.Common.{◌≡◌, ℕ, ◌⊎◌, Bool, true, false, Option, None, Some, option_and_then, Result, Ok, Err, refl, sym, subst, ap, ◌∙◌}
 use Rattle.std.specs.Prelude.{if◌then◌else◌, MatchOption}
 use Rattle.std.specs.Bool.{MatchBool}
-use Rattle.std.specs.Str.{bytes_eq}
 use Rattle.ets_term.specs.declared.term.Term.{Term}
 use Rattle.table_ops.specs.declared.refusal.Refusal.{Refusal}
 use Rattle.table_ops.specs.declared.refusal.Refusal.TheVariants as refusal
@@ -18,11 +17,9 @@ use Rattle.node_core.specs.declared.step.Reply.{Reply}
 use Rattle.node_core.specs.declared.step.Reply.TheVariants.{Badarg, SystemLimit}
 use Rattle.node_core.specs.State.{State}
 use Rattle.node_core.specs.Access.{may, allowed, usable, with_table, CallRule, ResultToReply, WorldResultToReply, reads, changes}
-use Rattle.node_core.specs.Calls.{called}
 use Rattle.node_core.specs.rules.Replies.{truth_reply, is_value}
 use Rattle.node_reasons.specs.declared.reason.Reason.{Reason}
 use Rattle.node_reasons.specs.Reasons.{refusal_of, argument, table_of_term, on_table, rule_of_access}
-use Rattle.node_reasons.specs.Calls.{row}
 
 -- badarg, by a rule whose refusal that is; or, where no rule is broken, an answer or a limit
 abbrev pub ReasonExplains : Option Reason → Reply → Type 0
@@ -39,9 +36,6 @@ Either test own otherwise reply new = MatchBool test (own reply new) (otherwise 
 pub either-explained : (test : Bool) (v w : Option Reason) (own otherwise : Outcome Reply State) → ReasonExplainsAll v own → ReasonExplainsAll w otherwise → ReasonExplainsAll (if test then v else w) (Either test own otherwise)
 either-explained true v w own otherwise a b = a
 either-explained false v w own otherwise a b = b
-
-pub row-explained : (name own : List ℕ) (v w : Option Reason) (rule others : Outcome Reply State) → ReasonExplainsAll v rule → ReasonExplainsAll w others → ReasonExplainsAll (row name own v w) (called name own rule others)
-row-explained name own v w rule others a b = either-explained (bytes_eq name own) v w rule others a b
 
 pub gives-explained : (v : Option Reason) (answer : Reply) (after : State) → ReasonExplains v answer → ReasonExplainsAll v (gives answer after)
 gives-explained v answer after f reply new h = subst (ReasonExplains v) (sym h.0) f

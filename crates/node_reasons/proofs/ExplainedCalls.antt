@@ -25,7 +25,9 @@ use Rattle.node_core.specs.declared.step.Reply.{Reply}
 use Rattle.node_core.specs.declared.step.Reply.TheVariants.{Value, Badarg}
 use Rattle.node_core.specs.State.{State}
 use Rattle.node_core.specs.Access.{WorldResultToReply, asks}
-use Rattle.node_core.specs.Calls.{calls_of_none, calls_of_one, table_calls_of_two, search_calls_of_two, object_calls_of_two, calls_of_three, calls_of_four, call}
+use Rattle.node_core.specs.Calls.{call}
+use Rattle.node_core.specs.declared.call_name.CallName.{CallName}
+use Rattle.node_core.specs.declared.call_name.CallName.TheVariants as name
 use Rattle.node_core.specs.rules.Insertion.{Insert, InsertNew}
 use Rattle.node_core.specs.rules.Reading.{Lookup, Member, LookupElement, LookupElementOr, Tab2list}
 use Rattle.node_core.specs.rules.Removal.{Take, Delete, DeleteObject, DeleteAllObjects}
@@ -37,13 +39,12 @@ use Rattle.node_core.specs.rules.Tables.{new_table_of, New, DeleteTable}
 use Rattle.node_core.specs.rules.Walking.{Fixes, Releases, SafeFixtable, First, Next, FirstLookup, NextLookup}
 use Rattle.node_reasons.specs.declared.reason.Rule.TheVariants as rule
 use Rattle.node_reasons.specs.declared.reason.Reason.{Reason}
-use Rattle.node_reasons.specs.Reasons.{argument, whole, table_of_term, on_table}
-use Rattle.node_reasons.specs.Names.{is_call_name, no_call}
+use Rattle.node_reasons.specs.Reasons.{argument, table_of_term, on_table}
 use Rattle.node_reasons.specs.Objects.{no_further_rule, why_insert, why_delete_object, why_next, why_match, why_select, why_lookup_element, why_lookup_element_or}
 use Rattle.node_reasons.specs.Updates.{why_update_counter, why_update_element}
 use Rattle.node_reasons.specs.Tables.{why_whereis, why_new_with, why_new, why_info, why_safe_fixtable, on_owned_table, why_heir, why_setopts, why_receiver, why_give_away_to, why_give_away}
-use Rattle.node_reasons.specs.Calls.{why_none, why_one, table_why_two, search_why_two, why_two, why_three, why_four, why_call}
-use Rattle.node_reasons.proofs.Explained.{ReasonExplains, ReasonExplainsAll, Either, either-explained, row-explained, gives-explained, Where, used-explained, reads-explained, changes-explained, truth-value, world-badarg, world-limit, world-value}
+use Rattle.node_reasons.specs.Calls.{why_call}
+use Rattle.node_reasons.proofs.Explained.{ReasonExplains, ReasonExplainsAll, Either, either-explained, gives-explained, Where, used-explained, reads-explained, changes-explained, truth-value, world-badarg, world-limit, world-value}
 use Rattle.node_reasons.proofs.ExplainedRules.{insert-explained, insert_new-explained, deletion-explained, key-value, slot-value, next-explained, next_lookup-explained, fixes-explained, match-explained, match_object-explained, match_delete-explained, select-explained, select_count-explained, select_delete-explained, element-explained, element-or-explained}
 use Rattle.node_reasons.proofs.ExplainedUpdates.{counter-explained, update-explained}
 
@@ -52,13 +53,6 @@ told-value None = refl
 told-value (Some term) = refl
 
 module _ (old : State) where
-  no-call-explained : (name : List ℕ) → ReasonExplainsAll (Some (no_call name)) (gives Badarg old)
-  no-call-explained name = by (is_call_name name)
-    where
-      by : (b : Bool) → ReasonExplainsAll (Some (if b then whole rule.WrongArity else whole rule.NoCall)) (gives Badarg old)
-      by true reply new h = (h.0, refl)
-      by false reply new h = (h.0, refl)
-
   naming-explained : (name : Term) → ReasonExplainsAll (why_whereis name) (Whereis old name)
   naming-explained name = by (text_of name)
     where
@@ -207,71 +201,40 @@ module _ (old : State) where
       by None = λ reply new h. (h.0, refl)
       by (Some t) = at t (table_at old.world.tables t)
 
-  -- ---- the table of calls
-  module _ (p : ℕ) (name : List ℕ) where
-    none-explained : ReasonExplainsAll (why_none name) (calls_of_none old p name)
-    none-explained = row-explained name (codes "receive") _ _ _ _ (λ reply new h. inl (ap is_value h.0)) (no-call-explained name)
-
-    one-explained : (x : Term) → ReasonExplainsAll (why_one old.world.tables old.world.processes p name (table_of_term old.world.tables x) x) (calls_of_one old p name x)
-    one-explained x =
-        row-explained name (codes "tab2list") _ _ _ _ (reads-explained old p x no_further_rule Tab2list (λ f. inl refl)) (
-        row-explained name (codes "delete_all_objects") _ _ _ _ (changes-explained old p x Write no_further_rule DeleteAllObjects (λ f g reply h. inl (ap is_value h.0))) (
-        row-explained name (codes "delete") _ _ _ _ (delete_table-explained p x) (
-        row-explained name (codes "first") _ _ _ _ (reads-explained old p x no_further_rule First (λ f. inl (key-value (first_key f.content.slots)))) (
-        row-explained name (codes "first_lookup") _ _ _ _ (reads-explained old p x no_further_rule FirstLookup (λ f. inl (slot-value (first_slot f.content.slots)))) (
-        row-explained name (codes "whereis") _ _ _ _ (naming-explained x) (
-        no-call-explained name))))))
-
-    tables-explained : (x y : Term) → ReasonExplainsAll (table_why_two old.world.tables old.world.processes p name (table_of_term old.world.tables x) x y) (table_calls_of_two old p name x y)
-    tables-explained x y =
-        row-explained name (codes "new") _ _ _ _ (making-explained p x y) (
-        row-explained name (codes "next") _ _ _ _ (reads-explained old p x (why_next y) (Next y) (next-explained y)) (
-        row-explained name (codes "next_lookup") _ _ _ _ (reads-explained old p x (why_next y) (NextLookup y) (next_lookup-explained y)) (
-        row-explained name (codes "safe_fixtable") _ _ _ _ (fixing-explained p x y) (
-        row-explained name (codes "setopts") _ _ _ _ (setting-explained p x y) (
-        row-explained name (codes "info") _ _ _ _ (informing-explained x y) (
-        no-call-explained name))))))
-
-    searches-explained : (x y : Term) → ReasonExplainsAll (search_why_two old.world.tables old.world.processes p name (table_of_term old.world.tables x) x y) (search_calls_of_two old p name x y (table_calls_of_two old p name x y))
-    searches-explained x y =
-        row-explained name (codes "match") _ _ _ _ (reads-explained old p x (why_match y) (Match y) (match-explained y)) (
-        row-explained name (codes "match_object") _ _ _ _ (reads-explained old p x (why_match y) (MatchObject y) (match_object-explained y)) (
-        row-explained name (codes "match_delete") _ _ _ _ (changes-explained old p x Write (why_match y) (MatchDelete y) (match_delete-explained y)) (
-        row-explained name (codes "select") _ _ _ _ (reads-explained old p x (why_select y) (Select y) (select-explained y)) (
-        row-explained name (codes "select_count") _ _ _ _ (reads-explained old p x (why_select y) (SelectCount y) (select_count-explained y)) (
-        row-explained name (codes "select_delete") _ _ _ _ (changes-explained old p x Write (why_select y) (SelectDelete y) (select_delete-explained y)) (
-        tables-explained x y))))))
-
-    two-explained : (x y : Term) → ReasonExplainsAll (why_two old.world.tables old.world.processes p name (table_of_term old.world.tables x) x y) (object_calls_of_two old p name x y (search_calls_of_two old p name x y (table_calls_of_two old p name x y)))
-    two-explained x y =
-        row-explained name (codes "insert") _ _ _ _ (changes-explained old p x Write (why_insert y) (Insert y) (insert-explained y)) (
-        row-explained name (codes "insert_new") _ _ _ _ (changes-explained old p x Write (why_insert y) (InsertNew y) (insert_new-explained y)) (
-        row-explained name (codes "lookup") _ _ _ _ (reads-explained old p x no_further_rule (Lookup y) (λ f. inl refl)) (
-        row-explained name (codes "member") _ _ _ _ (reads-explained old p x no_further_rule (Member y) (λ f. inl (truth-value (is_present f.content.slots y)))) (
-        row-explained name (codes "take") _ _ _ _ (changes-explained old p x Write no_further_rule (Take y) (λ f g reply h. inl (ap is_value h.0))) (
-        row-explained name (codes "delete") _ _ _ _ (changes-explained old p x Write no_further_rule (Delete y) (λ f g reply h. inl (ap is_value h.0))) (
-        row-explained name (codes "delete_object") _ _ _ _ (changes-explained old p x Write (why_delete_object y) (DeleteObject y) (deletion-explained y)) (
-        searches-explained x y)))))))
-
-    three-explained : (x y z : Term) → ReasonExplainsAll (why_three old.world.tables old.world.processes p name (table_of_term old.world.tables x) x y z) (calls_of_three old p name x y z)
-    three-explained x y z =
-        row-explained name (codes "lookup_element") _ _ _ _ (reads-explained old p x (why_lookup_element y z) (LookupElement y z) (element-explained y z)) (
-        row-explained name (codes "update_counter") _ _ _ _ (changes-explained old p x Write (why_update_counter y z None) (UpdateCounter y z None) (counter-explained y z None)) (
-        row-explained name (codes "update_element") _ _ _ _ (changes-explained old p x Write (why_update_element y z None) (UpdateElement y z None) (update-explained y z None)) (
-        row-explained name (codes "give_away") _ _ _ _ (giving-explained p x y z) (
-        no-call-explained name))))
-
-    four-explained : (x y z default : Term) → ReasonExplainsAll (why_four old.world.tables old.world.processes p name (table_of_term old.world.tables x) x y z default) (calls_of_four old p name x y z default)
-    four-explained x y z default =
-        row-explained name (codes "lookup_element") _ _ _ _ (reads-explained old p x (why_lookup_element_or y z) (LookupElementOr y z default) (element-or-explained y z default)) (
-        row-explained name (codes "update_counter") _ _ _ _ (changes-explained old p x Write (why_update_counter y z (Some default)) (UpdateCounter y z (Some default)) (counter-explained y z (Some default))) (
-        row-explained name (codes "update_element") _ _ _ _ (changes-explained old p x Write (why_update_element y z (Some default)) (UpdateElement y z (Some default)) (update-explained y z (Some default))) (
-        no-call-explained name)))
-
-    pub call-explained : (args : List Term) → ReasonExplainsAll (why_call old.world p name args) (call old p name args)
-    call-explained [] = none-explained
-    call-explained (x ∷ []) = one-explained x
-    call-explained (x ∷ y ∷ []) = two-explained x y
-    call-explained (x ∷ y ∷ z ∷ []) = three-explained x y z
-    call-explained (x ∷ y ∷ z ∷ default ∷ []) = four-explained x y z default
-    call-explained (x ∷ y ∷ z ∷ default ∷ more ∷ args) = no-call-explained name
+  -- ---- the calls
+  module _ (p : ℕ) where
+    pub call-explained : (name : CallName) (args : List Term) → ReasonExplainsAll (why_call old.world p name args) (call old p name args)
+    call-explained name.Receive [] = λ reply new h. inl (ap is_value h.0)
+    call-explained name.Tab2list (x ∷ []) = reads-explained old p x no_further_rule Tab2list (λ f. inl refl)
+    call-explained name.DeleteAllObjects (x ∷ []) = changes-explained old p x Write no_further_rule DeleteAllObjects (λ f g reply h. inl (ap is_value h.0))
+    call-explained name.Delete (x ∷ []) = delete_table-explained p x
+    call-explained name.First (x ∷ []) = reads-explained old p x no_further_rule First (λ f. inl (key-value (first_key f.content.slots)))
+    call-explained name.FirstLookup (x ∷ []) = reads-explained old p x no_further_rule FirstLookup (λ f. inl (slot-value (first_slot f.content.slots)))
+    call-explained name.Whereis (x ∷ []) = naming-explained x
+    call-explained name.Insert (x ∷ y ∷ []) = changes-explained old p x Write (why_insert y) (Insert y) (insert-explained y)
+    call-explained name.InsertNew (x ∷ y ∷ []) = changes-explained old p x Write (why_insert y) (InsertNew y) (insert_new-explained y)
+    call-explained name.Lookup (x ∷ y ∷ []) = reads-explained old p x no_further_rule (Lookup y) (λ f. inl refl)
+    call-explained name.Member (x ∷ y ∷ []) = reads-explained old p x no_further_rule (Member y) (λ f. inl (truth-value (is_present f.content.slots y)))
+    call-explained name.Take (x ∷ y ∷ []) = changes-explained old p x Write no_further_rule (Take y) (λ f g reply h. inl (ap is_value h.0))
+    call-explained name.Delete (x ∷ y ∷ []) = changes-explained old p x Write no_further_rule (Delete y) (λ f g reply h. inl (ap is_value h.0))
+    call-explained name.DeleteObject (x ∷ y ∷ []) = changes-explained old p x Write (why_delete_object y) (DeleteObject y) (deletion-explained y)
+    call-explained name.Match (x ∷ y ∷ []) = reads-explained old p x (why_match y) (Match y) (match-explained y)
+    call-explained name.MatchObject (x ∷ y ∷ []) = reads-explained old p x (why_match y) (MatchObject y) (match_object-explained y)
+    call-explained name.MatchDelete (x ∷ y ∷ []) = changes-explained old p x Write (why_match y) (MatchDelete y) (match_delete-explained y)
+    call-explained name.Select (x ∷ y ∷ []) = reads-explained old p x (why_select y) (Select y) (select-explained y)
+    call-explained name.SelectCount (x ∷ y ∷ []) = reads-explained old p x (why_select y) (SelectCount y) (select_count-explained y)
+    call-explained name.SelectDelete (x ∷ y ∷ []) = changes-explained old p x Write (why_select y) (SelectDelete y) (select_delete-explained y)
+    call-explained name.New (x ∷ y ∷ []) = making-explained p x y
+    call-explained name.Next (x ∷ y ∷ []) = reads-explained old p x (why_next y) (Next y) (next-explained y)
+    call-explained name.NextLookup (x ∷ y ∷ []) = reads-explained old p x (why_next y) (NextLookup y) (next_lookup-explained y)
+    call-explained name.SafeFixtable (x ∷ y ∷ []) = fixing-explained p x y
+    call-explained name.SetOptions (x ∷ y ∷ []) = setting-explained p x y
+    call-explained name.Info (x ∷ y ∷ []) = informing-explained x y
+    call-explained name.LookupElement (x ∷ y ∷ z ∷ []) = reads-explained old p x (why_lookup_element y z) (LookupElement y z) (element-explained y z)
+    call-explained name.UpdateCounter (x ∷ y ∷ z ∷ []) = changes-explained old p x Write (why_update_counter y z None) (UpdateCounter y z None) (counter-explained y z None)
+    call-explained name.UpdateElement (x ∷ y ∷ z ∷ []) = changes-explained old p x Write (why_update_element y z None) (UpdateElement y z None) (update-explained y z None)
+    call-explained name.GiveAway (x ∷ y ∷ z ∷ []) = giving-explained p x y z
+    call-explained name.LookupElement (x ∷ y ∷ z ∷ default ∷ []) = reads-explained old p x (why_lookup_element_or y z) (LookupElementOr y z default) (element-or-explained y z default)
+    call-explained name.UpdateCounter (x ∷ y ∷ z ∷ default ∷ []) = changes-explained old p x Write (why_update_counter y z (Some default)) (UpdateCounter y z (Some default)) (counter-explained y z (Some default))
+    call-explained name.UpdateElement (x ∷ y ∷ z ∷ default ∷ []) = changes-explained old p x Write (why_update_element y z (Some default)) (UpdateElement y z (Some default)) (update-explained y z (Some default))
+    call-explained _ _ = λ reply new h. (h.0, refl)

@@ -2,7 +2,6 @@
 use Rattle.std.proofs.Common.{◌≡◌, ℕ, Bool, true, false, List, [], ◌∷◌, Option, None, Some, Result, Ok, Err, refl, codes}
 use Rattle.std.specs.Prelude.{◌==◌, ◌&&◌, if◌then◌else◌, is_some}
 use Rattle.std.specs.Option.{option_map_or}
-use Rattle.std.specs.Str.{bytes_eq}
 use Rattle.ets_term.specs.declared.term.Term.{Term, out-Term}
 use Rattle.ets_term.specs.Atoms.{text_of, is_atom}
 use Rattle.counters.specs.declared.fault.CounterFault.{CounterFault}
@@ -34,18 +33,10 @@ use Rattle.node_reasons.specs.Reasons.{argument, rule_of_access, on_table}
 use Rattle.node_reasons.specs.Objects.{no_further_rule, why_element_of_key, why_element_at, why_lookup_element, why_lookup_element_or}
 use Rattle.node_reasons.specs.Updates.{if_badarg, on_set, why_counter_of_key, why_update_counter, why_elements_of_key, why_update_element}
 use Rattle.node_reasons.specs.Tables.{why_new_with, why_new, why_info, why_safe_fixtable, on_owned_table, why_heir, why_setopts, why_receiver, why_give_away_to, why_give_away}
-use Rattle.node_reasons.specs.Calls.{row}
 use Rattle.node_reasons.specs.inside.Forms.{are_options}
 use Rattle.node_reasons.specs.inside.LastRules.{NamesReason, needs_access, last_rule_of_use, last_rule_of_content, needs_owner, last_rule_of_give_away_to, last_rule_of_give_away, last_rule_of_safe_fixtable, last_rule_of_new, last_rule_of_info, needs_key, needs_position, last_rule_of_lookup_element, needs_set, last_rule_of_update_counter, last_rule_of_update_element}
-use Rattle.node_reasons.specs.inside.LastRuleOfCalls.{fixed_of, last_rule_of_row}
+use Rattle.node_reasons.specs.inside.LastRuleOfCalls.{fixed_of, content_in}
 use Rattle.node_reasons.proofs.FormLaws.{options-some}
-
-pub row-named : (name own : List ℕ) (v w : Option Reason) (a b : Reason) → NamesReason v a → NamesReason w b → NamesReason (row name own v w) (last_rule_of_row name own a b)
-row-named name own v w a b n m = by (bytes_eq name own)
-  where
-    by : (c : Bool) → NamesReason (if c then v else w) (if c then a else b)
-    by true = n
-    by false = m
 
 -- the last rule
 pub last : (b : Bool) (r : Reason) → NamesReason (if b then None else Some r) r
@@ -66,7 +57,7 @@ module _ (access : Access) (p : ℕ) (rest : Content → Option Reason) where
       by true = named table.fixed.content
       by false = refl
 
-  pub content-named : (o : Option Table) (last_rule : Content → Reason) → ((content : Content) → NamesReason (rest content) (last_rule content)) → NamesReason (on_table access p o rest) (last_rule_of_content access p (metadata_of o) (fixed_of o) last_rule)
+  pub content-named : (o : Option Table) (last_rule : Content → Reason) → ((content : Content) → NamesReason (rest content) (last_rule content)) → NamesReason (on_table access p o rest) (last_rule_of_content access p (metadata_of o) (content_in (fixed_of o)) last_rule)
   content-named None last_rule named = refl
   content-named (Some table) last_rule named = by (may access table.metadata p)
     where
@@ -181,7 +172,7 @@ formed : {X : Type 0} (o : Option X) (v : X → Option Reason) (r : Reason) → 
 formed None v r named = refl
 formed (Some x) v r named = named x
 
-pub counting-named : (key given : Term) (content : Content) → NamesReason (why_update_counter key given None content) (last_rule_of_update_counter key given None true content)
+pub counting-named : (key given : Term) (content : Content) → NamesReason (why_update_counter key given None content) (last_rule_of_update_counter key given None content)
 counting-named key given content =
     formed (ops_of content.keypos given) (λ ops. on_set key None content (why_counter_of_key key ops None content (objects_under content.slots key))) _
     (λ ops. set-named key None content _ _ (under ops (objects_under content.slots key)))
@@ -190,7 +181,7 @@ counting-named key given content =
     under ops [] = refl
     under ops (object ∷ objects) = badarg-named rule.NotACounter (apply_ops ops object)
 
-pub counting-or-named : (key given default : Term) (content : Content) → NamesReason (why_update_counter key given (Some default) content) (last_rule_of_update_counter key given (Some default) false content)
+pub counting-or-named : (key given default : Term) (content : Content) → NamesReason (why_update_counter key given (Some default) content) (last_rule_of_update_counter key given (Some default) content)
 counting-or-named key given default content =
     formed (ops_of content.keypos given) (λ ops. on_set key (Some default) content (why_counter_of_key key ops (Some default) content (objects_under content.slots key))) _
     (λ ops. set-named key (Some default) content _ _ (under ops (objects_under content.slots key)))

@@ -1,6 +1,5 @@
 pub mod Reasons
 pub mod Words
-pub mod Names
 pub mod Objects
 pub mod Updates
 pub mod Tables

@@ -1,14 +1,16 @@
 -- Why a step is refused: the first rule that is broken, in the order in which the machine refuses.
-use Rattle.std.specs.Prelude.{ℕ, ◌+◌, if◌then◌else◌, List, Option, Some, None, is_some, position, codes}
+use Rattle.std.specs.Prelude.{ℕ, ◌+◌, if◌then◌else◌, Option, Some, None, is_some, position}
 use Rattle.std.specs.Option.{option_map_or}
-use Rattle.std.specs.Str.{bytes_eq}
 use Rattle.ets_term.specs.Depth.{is_too_deep}
 use Rattle.ownership.specs.World.{World, lives, process_at, table_at}
+use Rattle.node_core.specs.declared.call_name.CallName.{CallName}
+use Rattle.node_core.specs.declared.call_name.CallName.TheVariants as name
 use Rattle.node_core.specs.declared.step.Call.{Call}
 use Rattle.node_core.specs.declared.step.Reply.{Reply}
 use Rattle.node_core.specs.declared.step.Step.{Step}
 use Rattle.node_core.specs.declared.step.Step.TheVariants.{Enrol, End, Ask, Grow, Ready}
 use Rattle.node_core.specs.State.{State}
+use Rattle.node_core.specs.CallName.{call_name}
 use Rattle.node_core.specs.rules.Replies.{is_value}
 use Rattle.node_reasons.specs.declared.reason.Rule.{Rule}
 use Rattle.node_reasons.specs.declared.reason.Rule.TheVariants as rule
@@ -17,24 +19,25 @@ use Rattle.node_reasons.specs.Reasons.{whole, argument}
 use Rattle.node_reasons.specs.Calls.{why_call}
 
 -- the limit that a call can exceed
-abbrev pub limit_of : List ℕ → Rule
-limit_of name =
-    if bytes_eq name (codes "insert") then rule.TooManyObjects
-    else if bytes_eq name (codes "insert_new") then rule.TooManyObjects
-    else if bytes_eq name (codes "new") then rule.TooManyTables
-    else if bytes_eq name (codes "safe_fixtable") then rule.TooManyFixes
-    else rule.LimitExceeded
+abbrev pub limit_of : CallName → Rule
+limit_of name.Insert = rule.TooManyObjects
+limit_of name.InsertNew = rule.TooManyObjects
+limit_of name.New = rule.TooManyTables
+limit_of name.SafeFixtable = rule.TooManyFixes
+limit_of _ = rule.LimitExceeded
 
 -- the rule that is broken; if none is, the limit, if the step is refused all the same
 abbrev pub or_limit : Rule → Option Reason → Reply → Option Reason
 or_limit limit (Some reason) reply = Some reason
 or_limit limit None reply = if is_value reply then None else Some (whole limit)
 
--- a call of a process that lives: the first argument that is too deep, then the table of calls, then its limit
+-- a call of a process that lives: the first argument that is too deep, then the name, then the rules of the call, then
+-- its limit
 abbrev pub why_ask : World → ℕ → Call → Reply → Option Reason
 why_ask w p asked reply =
-    option_map_or (λ index. Some (argument (index + 1) rule.TooDeep)) (position is_too_deep asked.args)
-    (or_limit (limit_of asked.name) (why_call w p asked.name asked.args) reply)
+    option_map_or (λ index. Some (argument (index + 1) rule.TooDeep)) (position is_too_deep asked.args) (
+    option_map_or (λ name. or_limit (limit_of name) (why_call w p name asked.args) reply) (call_name asked.name) (
+    Some (whole rule.NoCall)))
 
 -- a process that is already known
 abbrev pub why_enrol : World → ℕ → Option Reason

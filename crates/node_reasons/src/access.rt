@@ -1,4 +1,4 @@
-// The table that a call names, and the processes that may use it.
+// The table that a call names, and the process that uses it.
 ghost use Rattle.std.specs.Prelude.{◌≡◌, option_copied};
 ghost use Rattle.ownership.specs.World.{metadata_of};
 ghost use Rattle.node_core.specs.declared.node.access.Access.TheVariants.{Read, Write};
@@ -12,65 +12,83 @@ use ets_term::Term;
 use fixed_walk::Walked;
 use ownership::{Metadata, World};
 
-/// Returns the metadata of the table that a term names.
-pub fn metadata_of_term<'a, R: Rows>(world: &'a World<R>, term: &Term) -> Option<&'a Metadata>
-    ensures { option_copied result ≡ metadata_of (table_of_term world.now.tables term.now) }
-{
-    let id = world.resolve(term)?;
-    world.metadata(id)
+/// The table that a term names, if there is one, and the process that uses it.
+#[derive(Drop)]
+pub struct TableUse<'a, R: Rows> {
+    pub pid: u32,
+    pub term: &'a Term,
+    pub metadata: Option<&'a Metadata>,
+    pub table: Option<&'a Walked<R>>,
 }
 
-/// Returns the table that a term names.
-pub fn table_of_term<'a, R: Rows>(world: &'a World<R>, term: &Term) -> Option<&'a Walked<R>>
-    ensures { option_copied result ≡ fixed_of (table_of_term world.now.tables term.now) }
-{
-    let id = world.resolve(term)?;
-    world.table(id)
-}
-
-/// Checks that the table exists, and that the process may read it, and then this.
-pub fn needs_read<R: Rows>(world: &World<R>, pid: u32, term: &Term, rest: Reason) -> Reason
-    ensures { result ≡ needs_access Read pid (metadata_of (table_of_term world.now.tables term.now)) rest }
-{
-    match metadata_of_term(world, term) {
-        None => Reason::argument(1, Rule::NoTable),
-        Some(metadata) if metadata.may_read(pid) => rest,
-        Some(_) => Reason::argument(1, Rule::NotReadable),
+impl<'a, R: Rows> TableUse<'a, R> {
+    /// Finds the table that a term names.
+    pub fn find(world: &'a World<R>, pid: u32, term: &'a Term) -> TableUse<'a, R>
+        ensures pid { result.pid ≡ pid }
+        ensures term { result.term.now ≡ term.now }
+        ensures metadata { option_copied result.metadata ≡ metadata_of (table_of_term world.now.tables term.now) }
+        ensures table { option_copied result.table ≡ fixed_of (table_of_term world.now.tables term.now) }
+    {
+        match world.resolve(term) {
+            None => TableUse {
+                pid,
+                term,
+                metadata: None,
+                table: None,
+            },
+            Some(id) => TableUse {
+                pid,
+                term,
+                metadata: world.metadata(id),
+                table: world.table(id),
+            },
+        }
     }
-}
 
-/// Checks that the table exists, and that the process may write to it, and then this.
-pub fn needs_write<R: Rows>(world: &World<R>, pid: u32, term: &Term, rest: Reason) -> Reason
-    ensures { result ≡ needs_access Write pid (metadata_of (table_of_term world.now.tables term.now)) rest }
-{
-    match metadata_of_term(world, term) {
-        None => Reason::argument(1, Rule::NoTable),
-        Some(metadata) if metadata.may_write(pid) => rest,
-        Some(_) => Reason::argument(1, Rule::NotWritable),
+    /// Checks that the table exists, and that the process may read it, and then this.
+    pub fn needs_read(&self, rest: Reason) -> Reason
+        ensures { result ≡ needs_access Read self.now.pid (option_copied self.now.metadata) rest }
+    {
+        match self.metadata {
+            None => Reason::argument(1, Rule::NoTable),
+            Some(metadata) if metadata.may_read(self.pid) => rest,
+            Some(_) => Reason::argument(1, Rule::NotReadable),
+        }
     }
-}
 
-/// Checks that the process may read the table. This is the last rule.
-pub fn last_rule_of_read<R: Rows>(world: &World<R>, pid: u32, term: &Term) -> Reason
-    ensures { result ≡ last_rule_of_use Read pid (metadata_of (table_of_term world.now.tables term.now)) }
-{
-    needs_read(world, pid, term, Reason::argument(1, Rule::NotReadable))
-}
+    /// Checks that the table exists, and that the process may write to it, and then this.
+    pub fn needs_write(&self, rest: Reason) -> Reason
+        ensures { result ≡ needs_access Write self.now.pid (option_copied self.now.metadata) rest }
+    {
+        match self.metadata {
+            None => Reason::argument(1, Rule::NoTable),
+            Some(metadata) if metadata.may_write(self.pid) => rest,
+            Some(_) => Reason::argument(1, Rule::NotWritable),
+        }
+    }
 
-/// Checks that the process may write to the table. This is the last rule.
-pub fn last_rule_of_write<R: Rows>(world: &World<R>, pid: u32, term: &Term) -> Reason
-    ensures { result ≡ last_rule_of_use Write pid (metadata_of (table_of_term world.now.tables term.now)) }
-{
-    needs_write(world, pid, term, Reason::argument(1, Rule::NotWritable))
-}
+    /// Checks that the process may read the table. This is the last rule.
+    pub fn last_rule_of_read(&self) -> Reason
+        ensures { result ≡ last_rule_of_use Read self.now.pid (option_copied self.now.metadata) }
+    {
+        self.needs_read(Reason::argument(1, Rule::NotReadable))
+    }
 
-/// Checks that the table is the process's own, and then this.
-pub fn needs_owner<R: Rows>(world: &World<R>, pid: u32, term: &Term, rest: Reason) -> Reason
-    ensures { result ≡ needs_owner pid (metadata_of (table_of_term world.now.tables term.now)) rest }
-{
-    match metadata_of_term(world, term) {
-        None => Reason::argument(1, Rule::NoTable),
-        Some(metadata) if metadata.is_owned_by(pid) => rest,
-        Some(_) => Reason::argument(1, Rule::NotOwner),
+    /// Checks that the process may write to the table. This is the last rule.
+    pub fn last_rule_of_write(&self) -> Reason
+        ensures { result ≡ last_rule_of_use Write self.now.pid (option_copied self.now.metadata) }
+    {
+        self.needs_write(Reason::argument(1, Rule::NotWritable))
+    }
+
+    /// Checks that the table is the process's own, and then this.
+    pub fn needs_owner(&self, rest: Reason) -> Reason
+        ensures { result ≡ needs_owner self.now.pid (option_copied self.now.metadata) rest }
+    {
+        match self.metadata {
+            None => Reason::argument(1, Rule::NoTable),
+            Some(metadata) if metadata.is_owned_by(self.pid) => rest,
+            Some(_) => Reason::argument(1, Rule::NotOwner),
+        }
     }
 }

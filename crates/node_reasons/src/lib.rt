@@ -17,7 +17,6 @@ mod access;
 mod calls;
 mod forms;
 pub mod laws;
-mod names;
 mod options;
 mod reason;
 mod refusals;

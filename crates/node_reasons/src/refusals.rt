@@ -8,12 +8,11 @@ ghost use Rattle.node_core.specs.rules.Replies.{is_value};
 ghost use Rattle.node_reasons.specs.Why.{why};
 ghost use Rattle.node_reasons.specs.inside.LastRuleOfCalls.{reason_for, last_rule, last_rule_of_ask};
 
-use crate::calls;
-use crate::names::limit_of;
+use crate::calls::{last_rule_of_call, limit_of};
 use crate::reason::{Reason, Rule};
 use bucket_table::Rows;
 use ets_term::{KeyHash, Term};
-use node_core::{Call, Node, Reply, Step};
+use node_core::{Call, CallName, Node, Reply, Step};
 use ownership::World;
 
 /// Returns why a step has this reply, which the node gave it, or would give it now: the first rule that the step
@@ -68,11 +67,10 @@ fn last_rule_of_ask<R: Rows>(world: &World<R>, pid: u32, call: &Call, limited: b
     if let Some(index) = first_too_deep(args) {
         return Reason::argument(index + 1, Rule::TooDeep);
     }
-    let name = call.name.text();
-    if limited {
-        Reason::whole(limit_of(name))
-    } else {
-        calls::last_rule_of_call(world, pid, name, args)
+    match CallName::read(call.name.text()) {
+        None => Reason::whole(Rule::NoCall),
+        Some(name) if limited => Reason::whole(limit_of(name)),
+        Some(name) => last_rule_of_call(world, pid, name, args),
     }
 }
 

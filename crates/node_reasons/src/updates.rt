@@ -1,159 +1,90 @@
 // The rules of calls that examine the objects of a key.
-ghost use Rattle.std.specs.Prelude.{◌≡◌, None, Some, true, false, if◌then◌else◌};
-ghost use Rattle.table_ops.specs.Update.{is_set};
+ghost use Rattle.std.specs.Prelude.{◌≡◌, option_copied};
+ghost use Rattle.table_ops.specs.Update.{is_set, default_is_object};
 ghost use Rattle.node_core.specs.Positions.{position_of};
 ghost use Rattle.node_core.specs.declared.node.access.Access.TheVariants.{Read, Write};
-ghost use Rattle.node_reasons.specs.declared.reason.Rule.TheVariants.{NotASet};
-ghost use Rattle.node_reasons.specs.Reasons.{argument, table_of_term};
-ghost use Rattle.node_reasons.specs.inside.LastRules.{needs_key, needs_position, last_rule_of_lookup_element, needs_set, last_rule_of_update_counter, last_rule_of_update_element};
-ghost use Rattle.node_reasons.specs.inside.LastRuleOfCalls.{last_rule_of_table};
+ghost use Rattle.node_reasons.specs.inside.LastRules.{last_rule_of_content, needs_key, needs_position, last_rule_of_lookup_element, needs_set, last_rule_of_update_counter, last_rule_of_update_element};
+ghost use Rattle.node_reasons.specs.inside.LastRuleOfCalls.{content_in};
 
-use crate::access::{needs_read, needs_write, table_of_term};
+use crate::access::TableUse;
 use crate::forms::{are_ops, are_specs};
 use crate::reason::{Reason, Rule};
 use bucket_table::Rows;
 use counters::is_default;
 use ets_term::Term;
 use fixed_walk::Walked;
-use ownership::World;
 use table_ops::Kind;
 
-/// Checks that the position is one, and that the key has an object if it needs one; the last rule is that the object
-/// has the element.
-pub fn for_lookup_element<R: Rows>(
-    world: &World<R>,
-    pid: u32,
-    term: &Term,
+/// Checks that the process may read the table, and that the position is one. Then the key must have an object, if it
+/// needs one. The last rule is that the object has the element.
+pub fn last_rule_of_lookup_element<R: Rows>(
+    used: &TableUse<R>,
     key: &Term,
     position: &Term,
+    needed: bool,
 ) -> Reason
-    ensures { result ≡ last_rule_of_table Read pid (table_of_term world.now.tables term.now)
-        (last_rule_of_lookup_element key.now position.now true) }
+    ensures { result ≡ last_rule_of_content Read used.now.pid (option_copied used.now.metadata)
+        (content_in (option_copied used.now.table)) (last_rule_of_lookup_element key.now position.now needed) }
 {
-    let Some(table) = table_of_term(world, term) else {
-        return Reason::argument(1, Rule::NoTable);
+    let Some(table) = used.table else {
+        return used.needs_read(Reason::argument(1, Rule::NoTable));
     };
     let element = Reason::argument(3, Rule::NoElement);
-    let rest = needs_position(position, needs_key(true, element, table.lookup(key)));
-    needs_read(world, pid, term, rest)
+    let rest = needs_position(position, needs_key(needed, element, table.lookup(key)));
+    used.needs_read(rest)
 }
 
-/// Does the same with a default.
-pub fn for_lookup_element_or<R: Rows>(
-    world: &World<R>,
-    pid: u32,
-    term: &Term,
-    key: &Term,
-    position: &Term,
-) -> Reason
-    ensures { result ≡ last_rule_of_table Read pid (table_of_term world.now.tables term.now)
-        (last_rule_of_lookup_element key.now position.now false) }
-{
-    let Some(table) = table_of_term(world, term) else {
-        return Reason::argument(1, Rule::NoTable);
-    };
-    let element = Reason::argument(3, Rule::NoElement);
-    let rest = needs_position(position, needs_key(false, element, table.lookup(key)));
-    needs_read(world, pid, term, rest)
-}
-
-/// Checks that the operations have their form, that the table is a set, and that the key has an object; the last rule
-/// is that it has integers there.
-pub fn for_update_counter<R: Rows>(
-    world: &World<R>,
-    pid: u32,
-    term: &Term,
+/// Checks that the process may write to the table, and that the operations have their form. Then the table must be a
+/// set, and a default an object once it has the key. Without a default, the key must have an object. The last rule is
+/// that the object has integers there.
+pub fn last_rule_of_update_counter<R: Rows>(
+    used: &TableUse<R>,
     key: &Term,
     updates: &Term,
+    default: Option<&Term>,
 ) -> Reason
-    ensures { result ≡ last_rule_of_table Write pid (table_of_term world.now.tables term.now)
-        (last_rule_of_update_counter key.now updates.now None true) }
+    ensures { result ≡ last_rule_of_content Write used.now.pid (option_copied used.now.metadata)
+        (content_in (option_copied used.now.table))
+        (last_rule_of_update_counter key.now updates.now (option_copied default.entry)) }
 {
-    let Some(table) = table_of_term(world, term) else {
-        return Reason::argument(1, Rule::NoTable);
+    let Some(table) = used.table else {
+        return used.needs_write(Reason::argument(1, Rule::NoTable));
     };
     let rest = if are_ops(table.keypos(), updates) {
         let counter = Reason::argument(3, Rule::NotACounter);
-        needs_set(table, needs_key(true, counter, table.lookup(key)))
-    } else {
-        Reason::argument(3, Rule::NotAnUpdate)
-    };
-    needs_write(world, pid, term, rest)
-}
-
-/// Does the same with a default, which must be an object once it has the key.
-pub fn for_update_counter_or<R: Rows>(
-    world: &World<R>,
-    pid: u32,
-    term: &Term,
-    key: &Term,
-    updates: &Term,
-    default: &Term,
-) -> Reason
-    ensures { result ≡ last_rule_of_table Write pid (table_of_term world.now.tables term.now)
-        (last_rule_of_update_counter key.now updates.now (Some default.now) false) }
-{
-    let Some(table) = table_of_term(world, term) else {
-        return Reason::argument(1, Rule::NoTable);
-    };
-    let rest = if are_ops(table.keypos(), updates) {
-        let counter = Reason::argument(3, Rule::NotACounter);
-        needs_default(
+        needs_set(
             table,
             key,
             default,
-            needs_key(false, counter, table.lookup(key)),
+            needs_key(default.is_none(), counter, table.lookup(key)),
         )
     } else {
         Reason::argument(3, Rule::NotAnUpdate)
     };
-    needs_write(world, pid, term, rest)
+    used.needs_write(rest)
 }
 
-/// Checks that the values have their form, and that the table is a set; the last rule is that the object has the
-/// elements.
-pub fn for_update_element<R: Rows>(
-    world: &World<R>,
-    pid: u32,
-    term: &Term,
+/// Checks that the process may write to the table, and that the values have their form. Then the table must be a set,
+/// and a default an object once it has the key. The last rule is that the object has the elements.
+pub fn last_rule_of_update_element<R: Rows>(
+    used: &TableUse<R>,
     key: &Term,
     values: &Term,
+    default: Option<&Term>,
 ) -> Reason
-    ensures { result ≡ last_rule_of_table Write pid (table_of_term world.now.tables term.now)
-        (last_rule_of_update_element key.now values.now None) }
+    ensures { result ≡ last_rule_of_content Write used.now.pid (option_copied used.now.metadata)
+        (content_in (option_copied used.now.table))
+        (last_rule_of_update_element key.now values.now (option_copied default.entry)) }
 {
-    let Some(table) = table_of_term(world, term) else {
-        return Reason::argument(1, Rule::NoTable);
+    let Some(table) = used.table else {
+        return used.needs_write(Reason::argument(1, Rule::NoTable));
     };
     let rest = if are_specs(table.keypos(), values) {
-        needs_set(table, Reason::argument(3, Rule::NoElement))
+        needs_set(table, key, default, Reason::argument(3, Rule::NoElement))
     } else {
         Reason::argument(3, Rule::NotAnUpdate)
     };
-    needs_write(world, pid, term, rest)
-}
-
-/// Does the same with a default, which must be an object once it has the key.
-pub fn for_update_element_or<R: Rows>(
-    world: &World<R>,
-    pid: u32,
-    term: &Term,
-    key: &Term,
-    values: &Term,
-    default: &Term,
-) -> Reason
-    ensures { result ≡ last_rule_of_table Write pid (table_of_term world.now.tables term.now)
-        (last_rule_of_update_element key.now values.now (Some default.now)) }
-{
-    let Some(table) = table_of_term(world, term) else {
-        return Reason::argument(1, Rule::NoTable);
-    };
-    let rest = if are_specs(table.keypos(), values) {
-        needs_default(table, key, default, Reason::argument(3, Rule::NoElement))
-    } else {
-        Reason::argument(3, Rule::NotAnUpdate)
-    };
-    needs_write(world, pid, term, rest)
+    used.needs_write(rest)
 }
 
 fn needs_position(position: &Term, rest: Reason) -> Reason
@@ -181,24 +112,25 @@ fn is_set<R: Rows>(table: &Walked<R>) -> bool
     matches!(table.kind(), Kind::Set)
 }
 
-/// Checks that the table is a set, and then this.
-fn needs_set<R: Rows>(table: &Walked<R>, rest: Reason) -> Reason
-    ensures { result ≡ (if is_set table.now.content.kind then rest else argument 1 NotASet) }
+/// Checks that the table is a set, and that a default is an object once it has the key, and then this.
+fn needs_set<R: Rows>(table: &Walked<R>, key: &Term, default: Option<&Term>, rest: Reason) -> Reason
+    ensures { result ≡ needs_set key.now (option_copied default.entry) table.now.content rest }
 {
-    if is_set(table) {
+    if !is_set(table) {
+        Reason::argument(1, Rule::NotASet)
+    } else if default_is_object(table.keypos(), key, default) {
         rest
     } else {
-        Reason::argument(1, Rule::NotASet)
+        Reason::argument(4, Rule::NotAnObject)
     }
 }
 
-/// Checks that the table is a set, and that the default is an object once it has the key, and then this.
-fn needs_default<R: Rows>(table: &Walked<R>, key: &Term, default: &Term, rest: Reason) -> Reason
-    ensures { result ≡ needs_set key.now (Some default.now) table.now.content rest }
+/// Returns whether a default, if there is one, is an object once it has the key.
+fn default_is_object(keypos: u32, key: &Term, default: Option<&Term>) -> bool
+    ensures { result ≡ default_is_object keypos key.now (option_copied default.entry) }
 {
-    if is_default(default, table.keypos(), key) {
-        needs_set(table, rest)
-    } else {
-        needs_set(table, Reason::argument(4, Rule::NotAnObject))
+    match default {
+        Some(default) => is_default(default, keypos, key),
+        None => true,
     }
 }

@@ -1,12 +1,15 @@
--- The last reason of each call, row by row as in the table of calls.
-use Rattle.std.specs.Prelude.{ℕ, ◌+◌, Bool, true, false, if◌then◌else◌, List, [], ◌∷◌, Option, Some, None, option_map, position, codes}
+-- The last reason of each call: of each name with a number of arguments, the rule that remains when all others hold.
+use Rattle.std.specs.Prelude.{ℕ, ◌+◌, Bool, true, false, if◌then◌else◌, List, [], ◌∷◌, Option, Some, None, option_map, position}
 use Rattle.std.specs.Option.{option_map_or}
-use Rattle.std.specs.Str.{bytes_eq}
 use Rattle.ets_term.specs.declared.term.Term.{Term}
 use Rattle.ets_term.specs.Depth.{is_too_deep}
 use Rattle.table_ops.specs.Content.{Content}
 use Rattle.fixed_walk.specs.TableState.{TableState}
-use Rattle.ownership.specs.World.{Table, World, metadata_of, lives}
+use Rattle.ownership.specs.World.{Table, Tables, World, metadata_of, lives}
+use Rattle.ownership.specs.declared.metadata.Metadata.{Metadata}
+use Rattle.node_core.specs.CallName.{call_name}
+use Rattle.node_core.specs.declared.call_name.CallName.{CallName}
+use Rattle.node_core.specs.declared.call_name.CallName.TheVariants as name
 use Rattle.node_core.specs.declared.node.access.Access.{Access}
 use Rattle.node_core.specs.declared.node.access.Access.TheVariants.{Read, Write}
 use Rattle.node_core.specs.declared.step.Call.{Call}
@@ -14,100 +17,89 @@ use Rattle.node_core.specs.declared.step.Reply.{Reply}
 use Rattle.node_core.specs.declared.step.Reply.TheVariants.{Value, Badarg, SystemLimit, NoProcess}
 use Rattle.node_core.specs.declared.step.Step.{Step}
 use Rattle.node_core.specs.declared.step.Step.TheVariants.{Enrol, End, Ask, Grow, Ready}
+use Rattle.node_reasons.specs.declared.reason.Rule.{Rule}
 use Rattle.node_reasons.specs.declared.reason.Rule.TheVariants as rule
 use Rattle.node_reasons.specs.declared.reason.Reason.{Reason}
 use Rattle.node_reasons.specs.Reasons.{whole, argument, table_of_term}
-use Rattle.node_reasons.specs.Names.{no_call}
 use Rattle.node_reasons.specs.Why.{limit_of}
 use Rattle.node_reasons.specs.inside.LastRules.{needs_access, last_rule_of_use, last_rule_of_content, needs_owner, last_rule_of_give_away, last_rule_of_safe_fixtable, last_rule_of_new, last_rule_of_info, last_rule_of_lookup_element, last_rule_of_update_counter, last_rule_of_update_element}
 
 abbrev pub fixed_of : Option Table → Option TableState
 fixed_of table = option_map (λ t. t.fixed) table
 
--- of a table as a call names it: the process may use it in this way, and then this of its content
-abbrev pub last_rule_of_table : Access → ℕ → Option Table → (Content → Reason) → Reason
-last_rule_of_table access p table rest = last_rule_of_content access p (metadata_of table) (fixed_of table) rest
+abbrev pub content_in : Option TableState → Option Content
+content_in fixed = option_map (λ f. f.content) fixed
 
-abbrev pub last_rule_of_row : List ℕ → List ℕ → Reason → Reason → Reason
-last_rule_of_row name own reason otherwise = if bytes_eq name own then reason else otherwise
+-- the table that the first argument names
+abbrev pub table_of_first : Tables → List Term → Option Table
+table_of_first tables [] = None
+table_of_first tables (x ∷ args) = table_of_term tables x
 
-module _ (p : ℕ) (name : List ℕ) (table : Option Table) where
-  abbrev pub last_rule_of_one : Reason
-  last_rule_of_one =
-      last_rule_of_row name (codes "tab2list") (last_rule_of_use Read p (metadata_of table)) (
-      last_rule_of_row name (codes "delete_all_objects") (last_rule_of_use Write p (metadata_of table)) (
-      last_rule_of_row name (codes "delete") (last_rule_of_use Write p (metadata_of table)) (
-      last_rule_of_row name (codes "first") (last_rule_of_use Read p (metadata_of table)) (
-      last_rule_of_row name (codes "first_lookup") (last_rule_of_use Read p (metadata_of table)) (
-      last_rule_of_row name (codes "whereis") (argument 1 rule.NotAnAtom) (
-      no_call name))))))
+-- of a call whose first argument names a table of this metadata and content
+module _ (p : ℕ) (metadata : Option Metadata) (content : Option Content) where
+  -- the process may use the table in this way, and then this rule on the second argument
+  abbrev pub last_on_second : Access → Rule → Reason
+  last_on_second access broken = needs_access access p metadata (argument 2 broken)
 
-  module _ (x y : Term) where
-    abbrev pub last_rule_of_table_two : Reason
-    last_rule_of_table_two =
-        last_rule_of_row name (codes "new") (last_rule_of_new x y) (
-        last_rule_of_row name (codes "next") (needs_access Read p (metadata_of table) (argument 2 rule.NoKey)) (
-        last_rule_of_row name (codes "next_lookup") (needs_access Read p (metadata_of table) (argument 2 rule.NoKey)) (
-        last_rule_of_row name (codes "safe_fixtable") (last_rule_of_safe_fixtable p (metadata_of table) y) (
-        last_rule_of_row name (codes "setopts") (needs_owner p (metadata_of table) (argument 2 rule.NotOptions)) (
-        last_rule_of_row name (codes "info") (last_rule_of_info y) (
-        no_call name))))))
+  -- the process may use the table in this way, and then this of its content
+  abbrev pub last_on_content : Access → (Content → Reason) → Reason
+  last_on_content access rest = last_rule_of_content access p metadata content rest
 
-    abbrev pub last_rule_of_search_two : Reason
-    last_rule_of_search_two =
-        last_rule_of_row name (codes "match") (needs_access Read p (metadata_of table) (argument 2 rule.NotAPattern)) (
-        last_rule_of_row name (codes "match_object") (needs_access Read p (metadata_of table) (argument 2 rule.NotAPattern)) (
-        last_rule_of_row name (codes "match_delete") (needs_access Write p (metadata_of table) (argument 2 rule.NotAPattern)) (
-        last_rule_of_row name (codes "select") (needs_access Read p (metadata_of table) (argument 2 rule.NotASpecification)) (
-        last_rule_of_row name (codes "select_count") (needs_access Read p (metadata_of table) (argument 2 rule.NotASpecification)) (
-        last_rule_of_row name (codes "select_delete") (needs_access Write p (metadata_of table) (argument 2 rule.NotASpecification)) (
-        last_rule_of_table_two))))))
+  -- by the call's name; a name with any other number of arguments breaks the rule on their number
+  abbrev pub last_rule_of_known : CallName → List Term → Reason
+  last_rule_of_known name.Tab2list (x ∷ []) = last_rule_of_use Read p metadata
+  last_rule_of_known name.DeleteAllObjects (x ∷ []) = last_rule_of_use Write p metadata
+  last_rule_of_known name.Delete (x ∷ []) = last_rule_of_use Write p metadata
+  last_rule_of_known name.First (x ∷ []) = last_rule_of_use Read p metadata
+  last_rule_of_known name.FirstLookup (x ∷ []) = last_rule_of_use Read p metadata
+  last_rule_of_known name.Whereis (x ∷ []) = argument 1 rule.NotAnAtom
+  last_rule_of_known name.Insert (x ∷ y ∷ []) = last_on_second Write rule.NotAnObject
+  last_rule_of_known name.InsertNew (x ∷ y ∷ []) = last_on_second Write rule.NotAnObject
+  last_rule_of_known name.Lookup (x ∷ y ∷ []) = last_rule_of_use Read p metadata
+  last_rule_of_known name.Member (x ∷ y ∷ []) = last_rule_of_use Read p metadata
+  last_rule_of_known name.Take (x ∷ y ∷ []) = last_rule_of_use Write p metadata
+  last_rule_of_known name.Delete (x ∷ y ∷ []) = last_rule_of_use Write p metadata
+  last_rule_of_known name.DeleteObject (x ∷ y ∷ []) = last_on_second Write rule.NotAnObject
+  last_rule_of_known name.Match (x ∷ y ∷ []) = last_on_second Read rule.NotAPattern
+  last_rule_of_known name.MatchObject (x ∷ y ∷ []) = last_on_second Read rule.NotAPattern
+  last_rule_of_known name.MatchDelete (x ∷ y ∷ []) = last_on_second Write rule.NotAPattern
+  last_rule_of_known name.Select (x ∷ y ∷ []) = last_on_second Read rule.NotASpecification
+  last_rule_of_known name.SelectCount (x ∷ y ∷ []) = last_on_second Read rule.NotASpecification
+  last_rule_of_known name.SelectDelete (x ∷ y ∷ []) = last_on_second Write rule.NotASpecification
+  last_rule_of_known name.New (x ∷ y ∷ []) = last_rule_of_new x y
+  last_rule_of_known name.Next (x ∷ y ∷ []) = last_on_second Read rule.NoKey
+  last_rule_of_known name.NextLookup (x ∷ y ∷ []) = last_on_second Read rule.NoKey
+  last_rule_of_known name.SafeFixtable (x ∷ y ∷ []) = last_rule_of_safe_fixtable p metadata y
+  last_rule_of_known name.SetOptions (x ∷ y ∷ []) = needs_owner p metadata (argument 2 rule.NotOptions)
+  last_rule_of_known name.Info (x ∷ y ∷ []) = last_rule_of_info y
+  last_rule_of_known name.LookupElement (x ∷ y ∷ z ∷ []) = last_on_content Read (last_rule_of_lookup_element y z true)
+  last_rule_of_known name.UpdateCounter (x ∷ y ∷ z ∷ []) = last_on_content Write (last_rule_of_update_counter y z None)
+  last_rule_of_known name.UpdateElement (x ∷ y ∷ z ∷ []) = last_on_content Write (last_rule_of_update_element y z None)
+  last_rule_of_known name.GiveAway (x ∷ y ∷ z ∷ []) = last_rule_of_give_away p metadata y
+  last_rule_of_known name.LookupElement (x ∷ y ∷ z ∷ default ∷ []) =
+      last_on_content Read (last_rule_of_lookup_element y z false)
+  last_rule_of_known name.UpdateCounter (x ∷ y ∷ z ∷ default ∷ []) =
+      last_on_content Write (last_rule_of_update_counter y z (Some default))
+  last_rule_of_known name.UpdateElement (x ∷ y ∷ z ∷ default ∷ []) =
+      last_on_content Write (last_rule_of_update_element y z (Some default))
+  last_rule_of_known _ _ = whole rule.WrongArity
 
-    abbrev pub last_rule_of_two : Reason
-    last_rule_of_two =
-        last_rule_of_row name (codes "insert") (needs_access Write p (metadata_of table) (argument 2 rule.NotAnObject)) (
-        last_rule_of_row name (codes "insert_new") (needs_access Write p (metadata_of table) (argument 2 rule.NotAnObject)) (
-        last_rule_of_row name (codes "lookup") (last_rule_of_use Read p (metadata_of table)) (
-        last_rule_of_row name (codes "member") (last_rule_of_use Read p (metadata_of table)) (
-        last_rule_of_row name (codes "take") (last_rule_of_use Write p (metadata_of table)) (
-        last_rule_of_row name (codes "delete") (last_rule_of_use Write p (metadata_of table)) (
-        last_rule_of_row name (codes "delete_object") (needs_access Write p (metadata_of table) (argument 2 rule.NotAnObject)) (
-        last_rule_of_search_two)))))))
-
-  module _ (y z : Term) where
-    abbrev pub last_rule_of_three : Reason
-    last_rule_of_three =
-        last_rule_of_row name (codes "lookup_element") (last_rule_of_table Read p table (last_rule_of_lookup_element y z true)) (
-        last_rule_of_row name (codes "update_counter") (last_rule_of_table Write p table (last_rule_of_update_counter y z None true)) (
-        last_rule_of_row name (codes "update_element") (last_rule_of_table Write p table (last_rule_of_update_element y z None)) (
-        last_rule_of_row name (codes "give_away") (last_rule_of_give_away p (metadata_of table) y) (
-        no_call name))))
-
-    abbrev pub last_rule_of_four : Term → Reason
-    last_rule_of_four default =
-        last_rule_of_row name (codes "lookup_element") (last_rule_of_table Read p table (last_rule_of_lookup_element y z false)) (
-        last_rule_of_row name (codes "update_counter") (last_rule_of_table Write p table (last_rule_of_update_counter y z (Some default) false)) (
-        last_rule_of_row name (codes "update_element") (last_rule_of_table Write p table (last_rule_of_update_element y z (Some default))) (
-        no_call name)))
-
-module _ (w : World) (p : ℕ) (name : List ℕ) where
-  abbrev pub last_rule_of_call : List Term → Reason
-  last_rule_of_call [] = no_call name
-  last_rule_of_call (x ∷ []) = last_rule_of_one p name (table_of_term w.tables x)
-  last_rule_of_call (x ∷ y ∷ []) = last_rule_of_two p name (table_of_term w.tables x) x y
-  last_rule_of_call (x ∷ y ∷ z ∷ []) = last_rule_of_three p name (table_of_term w.tables x) y z
-  last_rule_of_call (x ∷ y ∷ z ∷ default ∷ []) = last_rule_of_four p name (table_of_term w.tables x) y z default
-  last_rule_of_call _ = no_call name
+-- the last reason of a call that is badarg
+abbrev pub last_rule_of_call : World → ℕ → CallName → List Term → Reason
+last_rule_of_call w p name args =
+    last_rule_of_known p (metadata_of (table_of_first w.tables args)) (content_in (fixed_of (table_of_first w.tables args)))
+    name args
 
 -- the last reason of a call that exceeds a limit, or is badarg
-abbrev pub last_rule_of_refused : World → ℕ → Call → Bool → Reason
-last_rule_of_refused w p asked limited = if limited then whole (limit_of asked.name) else last_rule_of_call w p asked.name asked.args
+abbrev pub last_rule_of_refused : World → ℕ → List Term → Bool → CallName → Reason
+last_rule_of_refused w p args limited name =
+    if limited then whole (limit_of name) else last_rule_of_call w p name args
 
 abbrev pub last_rule_of_ask : World → ℕ → Call → Bool → Reason
 last_rule_of_ask w p asked limited =
     if lives w.processes p
     then option_map_or (λ index. argument (index + 1) rule.TooDeep) (position is_too_deep asked.args)
-    (last_rule_of_refused w p asked limited)
+    (option_map_or (last_rule_of_refused w p asked.args limited) (call_name asked.name) (whole rule.NoCall))
     else whole rule.NoProcess
 
 abbrev pub last_rule_of_enrol : Bool → Reason

@@ -1,5 +1,5 @@
 -- The last reason, when a rule is broken: the last rule of a call need not be tried.
-use Rattle.std.specs.Prelude.{◌≡◌, ℕ, ◌==◌, Bool, if◌then◌else◌, List, [], ◌∷◌, Option, Some, None, is_some, codes}
+use Rattle.std.specs.Prelude.{◌≡◌, ℕ, ◌==◌, Bool, not, if◌then◌else◌, List, [], ◌∷◌, Option, Some, None, is_some, codes}
 use Rattle.std.specs.Option.{option_map_or}
 use Rattle.ets_term.specs.declared.term.Term.{Term, out-Term}
 use Rattle.ets_term.specs.Atoms.{text_of, is_atom}
@@ -7,7 +7,6 @@ use Rattle.counters.specs.Elements.{specs_of}
 use Rattle.counters.specs.Ops.{ops_of}
 use Rattle.table_ops.specs.Content.{Content, objects_under}
 use Rattle.table_ops.specs.Update.{is_set, default_is_object}
-use Rattle.fixed_walk.specs.TableState.{TableState}
 use Rattle.ownership.specs.declared.metadata.Metadata.{Metadata}
 use Rattle.ownership.specs.Access.{owned_by}
 use Rattle.ownership.specs.Options.{pid_form}
@@ -31,13 +30,14 @@ abbrev pub needs_access : Access → ℕ → Option Metadata → Reason → Reas
 needs_access access p None rest = argument 1 rule.NoTable
 needs_access access p (Some metadata) rest = if may access metadata p then rest else argument 1 (rule_of_access access)
 
+-- the process may use the table in this way, and then this of its content
+abbrev pub last_rule_of_content : Access → ℕ → Option Metadata → Option Content → (Content → Reason) → Reason
+last_rule_of_content access p metadata content rest =
+    needs_access access p metadata (option_map_or rest content (argument 1 rule.NoTable))
+
 -- there are no further rules
 abbrev pub last_rule_of_use : Access → ℕ → Option Metadata → Reason
 last_rule_of_use access p metadata = needs_access access p metadata (argument 1 (rule_of_access access))
-
-abbrev pub last_rule_of_content : Access → ℕ → Option Metadata → Option TableState → (Content → Reason) → Reason
-last_rule_of_content access p metadata fixed rest =
-    option_map_or (λ f. needs_access access p metadata (rest f.content)) fixed (argument 1 rule.NoTable)
 
 -- the table is the process's own, and then this
 abbrev pub needs_owner : ℕ → Option Metadata → Reason → Reason
@@ -89,10 +89,11 @@ needs_set key default content rest =
     then (if default_is_object content.keypos key default then rest else argument 4 rule.NotAnObject)
     else argument 1 rule.NotASet
 
-abbrev pub last_rule_of_update_counter : Term → Term → Option Term → Bool → Content → Reason
-last_rule_of_update_counter key updates default needed content =
+abbrev pub last_rule_of_update_counter : Term → Term → Option Term → Content → Reason
+last_rule_of_update_counter key updates default content =
     if is_some (ops_of content.keypos updates)
-    then needs_set key default content (needs_key needed (argument 3 rule.NotACounter) (objects_under content.slots key))
+    then needs_set key default content
+    (needs_key (not (is_some default)) (argument 3 rule.NotACounter) (objects_under content.slots key))
     else argument 3 rule.NotAnUpdate
 
 abbrev pub last_rule_of_update_element : Term → Term → Option Term → Content → Reason
