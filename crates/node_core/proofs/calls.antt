@@ -7,3 +7,4 @@ pub mod Fixing
 pub mod Removals
 pub mod Worlds
 pub mod Enrolling
+pub mod ReadCalls

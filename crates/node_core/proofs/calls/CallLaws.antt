@@ -1,6 +1,6 @@
 -- The laws of calls: no call sees the buckets of a table, each moves the world as a step may, and a reply that takes memory to copy is one
 -- of a call that changed nothing, or that is named. What holds of a call is proved here once for each form that a call may have.
-use Rattle.std.proofs.Common.{◌≡◌, ℕ, ◌==◌, ◌⊎◌, inl, inr, Bool, true, false, List, [], Option, None, Some, option_map, option_and_then, Result, Ok, Err, refl, sym, subst, subst₂, ap, ◌∙◌, codes}
+use Rattle.std.proofs.Common.{◌≡◌, ℕ, ◌==◌, ◌⊎◌, inl, inr, Bool, true, false, List, Option, None, Some, option_map, option_and_then, Result, Ok, Err, refl, sym, subst, subst₂, ap, ◌∙◌, codes}
 use Rattle.std.specs.Bool.{MatchBool}
 use Rattle.std.specs.Option.{option_map_or}
 use Rattle.ets_term.specs.declared.term.Term.{Term, out-Term}
@@ -16,7 +16,6 @@ use Rattle.ownership.specs.declared.options.NewOptions.{NewOptions}
 use Rattle.ownership.specs.World.{Table, World, table_at, resolve, whereis}
 use Rattle.ownership.specs.Info.{item_of, info_of}
 use Rattle.ownership.specs.Options.{options_of, pid_form}
-use Rattle.ownership.specs.Tables as tables
 use Rattle.ownership.specs.Tables.{without_table}
 use Rattle.node_core.specs.declared.node.access.Access.{Access}
 use Rattle.node_core.specs.declared.node.access.Access.TheVariants.{Read, Write}

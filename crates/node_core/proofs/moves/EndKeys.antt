@@ -1,11 +1,10 @@
 -- No change of a table gives it the key '$end_of_table'.
 use Rattle.std.proofs.Common.{◌≡◌, ◌∙◌, Bool, true, false, ◌||◌, not, cond, List, [], ◌∷◌, ◌++◌, Option, Result, refl, sym, subst, ap}
 use Rattle.std.specs.List.{AllByRecursion}
-use Rattle.std.specs.Map.{keys_of}
 use Rattle.std.proofs.lemmas.Map.{keys-set_value}
 use Rattle.ets_term.specs.declared.term.Term.{Term}
 use Rattle.ets_term.specs.Order.{same}
-use Rattle.bucket_table.specs.Slots.{Slot, Enters, with_objects, has_objects, purged}
+use Rattle.bucket_table.specs.Slots.{Slot, has_objects, purged}
 use Rattle.counters.specs.declared.elements.ElementSpecs.{ElementSpecs}
 use Rattle.counters.specs.declared.ops.Ops.{Ops}
 use Rattle.table_ops.specs.declared.refusal.Refusal.{Refusal}

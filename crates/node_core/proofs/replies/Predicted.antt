@@ -24,7 +24,7 @@ use Rattle.node_core.specs.Access.{usable, with_table, ResultToReply, writes}
 use Rattle.node_core.specs.CallName.{call_name}
 use Rattle.node_core.specs.Calls.{call, call_by_text}
 use Rattle.node_core.specs.rules.Updates.{UpdateCounter, Counts}
-use Rattle.node_core.specs.inside.ReplyReserve.{StepsWithBuckets, is_flat, list_terms, FitsCapacity, TakesNoMemory, Predicts, FitCapacity, Suffices}
+use Rattle.node_core.specs.inside.ReplyReserve.{StepsWithBuckets, is_flat, list_terms, FitsCapacity, TakesNoMemory, FitCapacity, Suffices}
 use Rattle.node_core.proofs.replies.Counting.{counts-as, IsCounted}
 use Rattle.node_core.proofs.calls.EachCall.{may_need_copy, call-lawful}
 

@@ -3,8 +3,10 @@ ghost use Rattle.std.specs.Prelude.{◌≡◌, IfOk, OnErr};
 ghost use Rattle.std.specs.List.{list_any};
 ghost use Rattle.ets_term.specs.Depth.{is_too_deep};
 ghost use Rattle.node_core.specs.Machine.{step};
+ghost use Rattle.node_core.specs.Observable.{observable};
+ghost use Rattle.node_core.specs.Reads.{reads_only, Reads};
 ghost use Rattle.node_core.specs.declared.step.Step.TheVariants.{Ask};
-ghost use Rattle.node_core.specs.inside.Refusals.{ToReply};
+ghost use Rattle.node_core.specs.inside.Refusals.{early_refusal, ToReply};
 
 use super::Node;
 use crate::call_name::CallName;
@@ -14,21 +16,80 @@ use std::alloc::AllocError;
 use table_ops::Refusal;
 
 impl<H: KeyHash + Copy + Drop> Node<H> {
+    /// Replies to a call that changes nothing, as `step` does, and changes nothing. Returns `None` for any other call.
+    pub fn read(&self, pid: u32, call: &Call) -> Result<Option<Reply>, AllocError>
+        ensures { IfOk result (Reads (observable self.now) pid call.now) }
+    {
+        let Some(name) = CallName::read(call.name.text()) else {
+            return Ok(None);
+        };
+        let args = call.args.as_slice();
+        if !reads_only(name, args) {
+            return Ok(None);
+        }
+        if let Some(refusal) = self.early_refusal(pid, args) {
+            return Ok(Some(refusal));
+        }
+        match self.read_call(pid, name, args) {
+            Some(result) => Ok(Some(into_reply(result)?)),
+            None => Ok(None),
+        }
+    }
+
     pub(crate) fn ask(&mut self, pid: u32, call: &Call) -> Result<Reply, AllocError>
         ensures ok { IfOk result (λ r. step self.old (Ask pid call.now) r self.new) }
         ensures err { OnErr result (self.new ≡ self.old) }
     {
-        if !self.world.lives(pid) {
-            return Ok(Reply::NoProcess);
-        }
         let args = call.args.as_slice();
+        if let Some(refusal) = self.early_refusal(pid, args) {
+            return Ok(refusal);
+        }
+        let Some(name) = CallName::read(call.name.text()) else {
+            return Ok(Reply::Badarg);
+        };
+        match self.read_call(pid, name, args) {
+            Some(result) => into_reply(result),
+            None => into_reply(self.change_call(pid, name, args)),
+        }
+    }
+
+    /// Returns the refusal that does not depend on the call's name, if one applies.
+    fn early_refusal(&self, pid: u32, args: &[Term]) -> Option<Reply>
+        ensures { result ≡ early_refusal self.now pid args.now }
+    {
+        if !self.world.lives(pid) {
+            return Some(Reply::NoProcess);
+        }
         if any_too_deep(args) {
-            return Ok(Reply::SystemLimit);
+            return Some(Reply::SystemLimit);
         }
-        match CallName::read(call.name.text()) {
-            Some(name) => into_reply(self.call(pid, name, args)),
-            None => Ok(Reply::Badarg),
-        }
+        None
+    }
+}
+
+/// Returns whether a call with these arguments changes nothing.
+fn reads_only(name: CallName, args: &[Term]) -> bool
+    ensures { result ≡ reads_only name args.now }
+{
+    match args {
+        [_] => matches!(
+            name,
+            CallName::First | CallName::FirstLookup | CallName::Tab2list | CallName::Whereis
+        ),
+        [_, _] => matches!(
+            name,
+            CallName::Info
+                | CallName::Lookup
+                | CallName::Match
+                | CallName::MatchObject
+                | CallName::Member
+                | CallName::Next
+                | CallName::NextLookup
+                | CallName::Select
+                | CallName::SelectCount
+        ),
+        [_, _, _] | [_, _, _, _] => matches!(name, CallName::LookupElement),
+        _ => false,
     }
 }
 

@@ -10,6 +10,7 @@ mod depths;
 mod growth;
 mod long;
 mod processes;
+mod reads;
 mod refused;
 mod tables;
 mod through;

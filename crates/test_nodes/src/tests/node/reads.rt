@@ -1,0 +1,96 @@
+// `read` replies as `step` does, and only to calls that change nothing.
+use super::Event::{Ask, Enrol};
+use super::{Row, ask, is, wrong_in};
+use ets_term::Fnv;
+use node_core::{Limits, Node, Step};
+use std::alloc::{AllocError, Global};
+use std::process::Abort;
+
+const MADE: [Row; 3] = [
+    (Enrol(0), "<0"),
+    (Ask(0, "new(t,[named_table])"), "t"),
+    (Ask(0, "insert(t,{a,1})"), "true"),
+];
+
+/// A process, its call, and the reply; the empty text for a call that `read` leaves to `step`.
+type ReadRow = (u32, &'static str, &'static str);
+
+const READS: [ReadRow; 24] = [
+    (0, "lookup(t,a)", "[{a,1}]"),
+    (0, "lookup(t,b)", "[]"),
+    (0, "lookup_element(t,a,2)", "1"),
+    (0, "lookup_element(t,b,2)", "** badarg"),
+    (0, "lookup_element(t,b,2,no)", "no"),
+    (0, "member(t,a)", "true"),
+    (0, "tab2list(t)", "[{a,1}]"),
+    (0, "match(t,{a,$1})", "[[1]]"),
+    (0, "match_object(t,{a,_})", "[{a,1}]"),
+    (0, "select(t,[{{$1,1},[],[$1]}])", "[a]"),
+    (0, "select_count(t,[{{$1,1},[],[true]}])", "1"),
+    (0, "first(t)", "a"),
+    (0, "next(t,a)", "$end_of_table"),
+    (0, "first_lookup(t)", "{a,[{a,1}]}"),
+    (0, "next_lookup(t,a)", "$end_of_table"),
+    (0, "whereis(t)", "#0"),
+    (0, "info(t,size)", "1"),
+    (0, "lookup(u,a)", "** badarg"),
+    (1, "lookup(t,a)", "** noproc"),
+    (0, "insert(t,{b,2})", ""),
+    (0, "take(t,a)", ""),
+    (1, "delete(t)", ""),
+    (0, "lookup(t)", ""),
+    (0, "lookups(t,a)", ""),
+];
+
+/// Returns whether a call by `read` has this reply.
+fn reads(alloc: Global, node: &Node<Fnv>, row: ReadRow) -> Result<bool, AllocError> {
+    let (pid, call, wanted) = row;
+    let step = ask(alloc, pid, call)?;
+    let same = reads_step(alloc, node, &step, wanted);
+    drop(step);
+    same
+}
+
+fn reads_step(
+    alloc: Global,
+    node: &Node<Fnv>,
+    step: &Step,
+    wanted: &str,
+) -> Result<bool, AllocError> {
+    let Step::Ask(pid, call) = step else {
+        return Err(AllocError);
+    };
+    match node.read(*pid, call)? {
+        Some(reply) => {
+            let same = is(alloc, &reply, wanted);
+            drop(reply);
+            same
+        }
+        None => Ok(wanted.is_empty()),
+    }
+}
+
+/// Returns the place of the first row with another reply.
+fn wrong_read(
+    alloc: Global,
+    node: &Node<Fnv>,
+    rows: &[ReadRow],
+) -> Result<Option<usize>, AllocError> {
+    for (place, row) in rows.iter().enumerate() {
+        if !reads(alloc, node, *row)? {
+            return Ok(Some(place));
+        }
+    }
+    Ok(None)
+}
+
+#[test]
+fn a_read_replies_as_a_step(rt: HostRuntime) {
+    let alloc = rt.alloc();
+    let mut node = Node::new(alloc, Limits::usual(), Fnv);
+    let made = wrong_in(alloc, &mut node, &MADE);
+    let read = wrong_read(alloc, &node, &READS);
+    drop(node);
+    assert_eq!(rt; made, Ok(None));
+    assert_eq!(rt; read, Ok(None));
+}
