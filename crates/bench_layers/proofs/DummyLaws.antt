@@ -11,25 +11,25 @@ use Rattle.node_list.proofs.CellLaws.{from-on}
 use Rattle.node_list.proofs.CallerLaws.{put-from_new, put-from_other}
 use Rattle.bench_layers.specs.Buckets.{IsDummyOf, HasDummies}
 
--- a fresh place is one without a node
-pub fresh-apart : (place at : ℕ) (cs : List Cell) (d : Cell) (ds : List Cell) → IsFresh place cs → from at cs ≡ d ∷ ds → place ≢ at
-fresh-apart place at [] d ds f e = absurd (cc)
-fresh-apart place at (c ∷ cs) d ds f e =
+-- a fresh place differs from the place of each node
+pub fresh-differs : (place at : ℕ) (cs : List Cell) (d : Cell) (ds : List Cell) → IsFresh place cs → from at cs ≡ d ∷ ds → place ≢ at
+fresh-differs place at [] d ds f e = absurd (cc)
+fresh-differs place at (c ∷ cs) d ds f e =
     elim (cases_eq c.at at) [
       | inl here ↦ λ same. f.0 (here ∙ sym same)
-      | inr other ↦ fresh-apart place at cs d ds f.1 (sym (from-on at c cs other) ∙ e)
+      | inr other ↦ fresh-differs place at cs d ds f.1 (sym (from-on at c cs other) ∙ e)
     ]
 
 -- a dummy is before the keys that are not below its own
-pub dummy-stands : (bucket at key : ℕ) (cs : List Cell) → IsDummyOf bucket at cs → key_of_dummy bucket ≤ key → HasKeyAtMost key at cs
-dummy-stands bucket at key cs d h = record { cell = new_cell at (key_of_dummy bucket) None; later = d.later; is = d.is; up_to = h }
+pub dummy-has_key_at_most : (bucket at key : ℕ) (cs : List Cell) → IsDummyOf bucket at cs → key_of_dummy bucket ≤ key → HasKeyAtMost key at cs
+dummy-has_key_at_most bucket at key cs d h = record { cell = new_cell at (key_of_dummy bucket) None; later = d.later; is = d.is; up_to = h }
 
--- so does one whose place was read from the directory
-pub read-stands : (bucket at n key : ℕ) (places : List ℕ) (cs : List Cell) → at ≡ get_or places bucket at → bucket < n → n ≡ length places → HasDummies places cs → key_of_dummy bucket ≤ key → HasKeyAtMost key at cs
-read-stands bucket at n key places cs read below len h before =
+-- so is a dummy whose place was read from the directory
+pub read-has_key_at_most : (bucket at n key : ℕ) (places : List ℕ) (cs : List Cell) → at ≡ get_or places bucket at → bucket < n → n ≡ length places → HasDummies places cs → key_of_dummy bucket ≤ key → HasKeyAtMost key at cs
+read-has_key_at_most bucket at n key places cs read below len h before =
     let P : ℕ → Type 0 = λ p. HasKeyAtMost key p cs in
     let within : bucket < length places = omega (arith, below, len) in
-    subst P (sym (get_or_read_under places bucket n at 0 read below len)) (dummy-stands bucket (get_or places bucket 0) key cs (h bucket within) before)
+    subst P (sym (get_or_read_under places bucket n at 0 read below len)) (dummy-has_key_at_most bucket (get_or places bucket 0) key cs (h bucket within) before)
 
 -- the bucket of a hash is one of the buckets
 pub bucket-below : (hash size bucket n : ℕ) → bucket ≡ hash % size → size ≡ n → IsPowerOfTwo n → bucket < n
@@ -40,20 +40,20 @@ bucket-below hash size bucket n e s p =
     let below : bucket < size = subst Q (sym e) (mod_below hash size some) in
     omega (arith, below, s)
 
--- an insertion at a fresh place keeps each dummy
-pub dummies-kept : (x : Cell) (places : List ℕ) (old new : List Cell) → IsFresh x.at old → new ≡ put_cell x old → HasDummies places old → HasDummies places new
-dummies-kept x places old new f e h bucket below =
+-- an insertion at a fresh place keeps each dummy where it is
+pub put-keeps_dummies : (x : Cell) (places : List ℕ) (old new : List Cell) → IsFresh x.at old → new ≡ put_cell x old → HasDummies places old → HasDummies places new
+put-keeps_dummies x places old new f e h bucket below =
     let d = h bucket below in
-    let kept = put-from_other x old (get_or places bucket 0) (new_cell (get_or places bucket 0) (key_of_dummy bucket) None) d.later (fresh-apart x.at (get_or places bucket 0) old (new_cell (get_or places bucket 0) (key_of_dummy bucket) None) d.later f d.is) d.is in
+    let kept = put-from_other x old (get_or places bucket 0) (new_cell (get_or places bucket 0) (key_of_dummy bucket) None) d.later (fresh-differs x.at (get_or places bucket 0) old (new_cell (get_or places bucket 0) (key_of_dummy bucket) None) d.later f d.is) d.is in
     record { later = kept.0; is = ap (from (get_or places bucket 0)) e ∙ kept.1 }
 
--- one dummy more
-pub dummies-pushed : (at : ℕ) (places : List ℕ) (old new : List Cell) → IsFresh at old → new ≡ put_cell (new_cell at (key_of_dummy (length places)) None) old → HasDummies places old → HasDummies (places ++ at ∷ []) new
-dummies-pushed at places old new f e h bucket below =
+-- an insertion of a dummy, and of its place at the end of the directory, adds one
+pub push-adds_dummy : (at : ℕ) (places : List ℕ) (old new : List Cell) → IsFresh at old → new ≡ put_cell (new_cell at (key_of_dummy (length places)) None) old → HasDummies places old → HasDummies (places ++ at ∷ []) new
+push-adds_dummy at places old new f e h bucket below =
     let P : ℕ → Type 0 = λ p. IsDummyOf bucket p new in
     elim (cases_lt bucket (length places)) [
       | inl earlier ↦
-          subst P (sym (get_or_append_left places (at ∷ []) 0 bucket earlier)) (dummies-kept (new_cell at (key_of_dummy (length places)) None) places old new f e h bucket earlier)
+          subst P (sym (get_or_append_left places (at ∷ []) 0 bucket earlier)) (put-keeps_dummies (new_cell at (key_of_dummy (length places)) None) places old new f e h bucket earlier)
       | inr last ↦
           let here : length places ≡ bucket = omega (arith, below, last, length-append places (at ∷ [])) in
           let s = put-from_new (new_cell at (key_of_dummy (length places)) None) old f in

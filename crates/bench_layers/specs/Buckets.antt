@@ -10,7 +10,7 @@ pub record IsDummyOf (bucket at : ℕ) (cells : List Cell) : Type 0 where
   pub later : List Cell
   pub is : from at cells ≡ new_cell at (key_of_dummy bucket) None ∷ later
 
--- each bucket has its dummy at the place that is written down for it
+-- each bucket has its dummy at its place in the directory
 abbrev pub HasDummies : List ℕ → List Cell → Type 0
 HasDummies places cells = (bucket : ℕ) → bucket < length places → IsDummyOf bucket (slice_index places bucket) cells
 

@@ -1,4 +1,4 @@
-//! The phases of the store that a bench times: each is safe, ends, and answers a number that the driver compares.
+//! The phases of the store that a benchmark times. Each is safe, ends, and returns a number that the driver compares.
 #![tactic(auto)]
 
 mod list;

@@ -4,29 +4,28 @@ ghost use Rattle.node_list.specs.ListState.{HasRoom};
 ghost use Rattle.bench_layers.specs.Buckets.{IsReady};
 
 use crate::lists::Lists;
-use crate::order::{places, shuffled};
+use crate::order::{number_at, order_len};
 use ets_term::Integer;
 use node_list::Steps;
 use std::alloc::{AllocError, Global};
 
-/// The most items, and the most buckets.
-const MOST: u64 = 1 << 31;
+/// The greatest number of items, and of buckets.
+const MAX_COUNT: u64 = 1 << 31;
 
-/// Puts the items `{K,1}`, for each K below `items` in shuffled order, into a list of a number of buckets; where
-/// `finds` is not 0 it then looks each up in another order, and answers how many it found. It answers 0 at once where
-/// the number of buckets is no power of two or a number is above 2^31, and if memory runs out. It promises an answer,
-/// and no more.
+/// Inserts the items `{K,1}`, for each K below `items` in shuffled order, into a list of `buckets` buckets. If `finds`
+/// is not 0, it then searches for each item in another order, and returns how many it found. It returns 0 if `buckets`
+/// is not a power of two, if a number is above 2^31, and if memory runs out.
 #[unsafe(no_mangle)]
 pub extern "C" fn bench_layers_list(alloc: Global, items: u64, buckets: u64, finds: u64) -> u64
     ensures { finds ≡ 0 → result ≡ 0 }
 {
-    if items > MOST || buckets == 0 || buckets > MOST {
+    if items > MAX_COUNT || buckets == 0 || buckets > MAX_COUNT {
         return 0;
     }
     if buckets.next_power_of_two() != buckets {
         return 0;
     }
-    let Ok(lists) = filled(alloc, items, buckets) else {
+    let Ok(lists) = build_lists(alloc, items, buckets) else {
         return 0;
     };
     if finds == 0 {
@@ -35,8 +34,8 @@ pub extern "C" fn bench_layers_list(alloc: Global, items: u64, buckets: u64, fin
     count_found(&lists, items)
 }
 
-/// A list of a number of buckets with the items in it.
-fn filled(alloc: Global, items: u64, buckets: u64) -> Result<Lists, AllocError>
+/// Builds a list of `buckets` buckets with the items in it.
+fn build_lists(alloc: Global, items: u64, buckets: u64) -> Result<Lists, AllocError>
     requires some { 0 < buckets }
     requires power { IsPowerOfTwo buckets }
     requires few_items { items ≤ 2 ^ 31 }
@@ -48,7 +47,7 @@ fn filled(alloc: Global, items: u64, buckets: u64) -> Result<Lists, AllocError>
     Ok(lists)
 }
 
-/// A list of a number of buckets, with room for the items.
+/// Builds a list of `buckets` buckets without items, with capacity for the items.
 fn with_dummies(alloc: Global, items: u64, buckets: u64) -> Result<Lists, AllocError>
     requires some { 0 < buckets }
     requires power { IsPowerOfTwo buckets }
@@ -64,17 +63,17 @@ fn with_dummies(alloc: Global, items: u64, buckets: u64) -> Result<Lists, AllocE
     Ok(lists)
 }
 
-/// Puts the items in, in shuffled order.
+/// Inserts the items in shuffled order.
 fn insert(alloc: Global, lists: &mut Lists, items: u64) -> Result<(), AllocError>
     requires ready { IsReady lists.old }
     requires few_items { items ≤ 2 ^ 31 }
     requires room { HasRoom lists.old.list items }
     ensures { IsReady lists.new }
 {
-    let places = places(items);
+    let len = order_len(items);
     let mut left = items;
-    for i in 0..places {
-        let number = shuffled(i, 1, places - 1);
+    for i in 0..len {
+        let number = number_at(i, 1, len - 1);
         if number < items && left > 0 {
             left -= 1;
             lists.add_item(alloc, Integer::from(number))?;
@@ -83,16 +82,16 @@ fn insert(alloc: Global, lists: &mut Lists, items: u64) -> Result<(), AllocError
     Ok(())
 }
 
-/// How many of the items are found.
+/// Searches for each item, and returns how many it found.
 fn count_found(lists: &Lists, items: u64) -> u64
     requires ready { IsReady lists.now }
     requires few_items { items ≤ 2 ^ 31 }
 {
-    let places = places(items);
+    let len = order_len(items);
     let mut steps = Steps::new();
     let mut found = 0;
-    for i in 0..places {
-        let number = shuffled(i, 2, places - 1);
+    for i in 0..len {
+        let number = number_at(i, 2, len - 1);
         if number < items && lists.has_item(Integer::from(number), &mut steps) {
             found += 1;
         }

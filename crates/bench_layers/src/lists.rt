@@ -9,7 +9,7 @@ use node_list::{At, Chain, NodeList, Steps};
 use split_key::{bucket_of, dummy_key, item_key, laws, parent};
 use std::alloc::{AllocError, Global};
 
-/// A list and the places of the dummies of its buckets.
+/// A node list and the place of the dummy of each bucket.
 #[derive(Drop)]
 pub struct Lists {
     list: NodeList,
@@ -17,12 +17,12 @@ pub struct Lists {
 }
 
 impl Lists {
-    /// A list of one bucket, with room for a number of nodes and buckets more.
+    /// Builds a list of one bucket, with capacity for `nodes` more nodes and `buckets` more buckets.
     pub fn new(alloc: Global, nodes: usize, buckets: usize) -> Result<Lists, AllocError>
-        ensures stands { IfOk result (λ l. HasDummies l.dummies.items l.list.cells) }
+        ensures dummies { IfOk result (λ l. HasDummies l.dummies.items l.list.cells) }
         ensures one { IfOk result (λ l. vec_len l.dummies ≡ 1) }
         ensures room { IfOk result (λ l. HasRoom l.list nodes) }
-        ensures spare { IfOk result (λ l. 1 + buckets ≤ vec_capacity l.dummies) }
+        ensures capacity { IfOk result (λ l. 1 + buckets ≤ vec_capacity l.dummies) }
     {
         let mut list = NodeList::new(alloc)?;
         list.reserve(nodes)?;
@@ -32,16 +32,16 @@ impl Lists {
         Ok(Lists { list, dummies })
     }
 
-    /// Puts the dummy of the next bucket into the list, from its parent's on.
+    /// Inserts the dummy of the next bucket. The search for its place begins at the dummy of its parent.
     pub fn add_dummy(&mut self)
-        requires stands { HasDummies self.old.dummies.items self.old.list.cells }
+        requires dummies { HasDummies self.old.dummies.items self.old.list.cells }
         requires some { 0 < vec_len self.old.dummies }
         requires few { vec_len self.old.dummies < 2 ^ 32 }
         requires room { HasRoom self.old.list 1 }
-        requires spare { vec_len self.old.dummies < vec_capacity self.old.dummies }
-        ensures stands { HasDummies self.new.dummies.items self.new.list.cells }
+        requires capacity { vec_len self.old.dummies < vec_capacity self.old.dummies }
+        ensures dummies { HasDummies self.new.dummies.items self.new.list.cells }
         ensures len { vec_len self.new.dummies ≡ vec_len self.old.dummies + 1 }
-        ensures spare { vec_capacity self.new.dummies ≡ vec_capacity self.old.dummies }
+        ensures capacity { vec_capacity self.new.dummies ≡ vec_capacity self.old.dummies }
         ensures nodes { length self.new.list.cells ≡ length self.old.list.cells + 1 }
         ensures room { self.new.list.capacity ≡ self.old.list.capacity }
     {
@@ -53,7 +53,7 @@ impl Lists {
         self.dummies.push_reserved(at);
     }
 
-    /// Where a search or an insertion by this hash begins: the dummy of its bucket.
+    /// Returns where a search or an insertion by this hash begins: at the dummy of its bucket.
     fn start(&self, hash: u32) -> At
         requires { IsReady self.now }
         ensures { HasKeyAtMost (key_of_item hash) result self.now.list.cells }
@@ -64,7 +64,7 @@ impl Lists {
         self.dummies[bucket as usize]
     }
 
-    /// Puts the object `{K,1}` of a number K into its bucket.
+    /// Inserts the object `{K,1}` of a number K into its bucket.
     pub fn add_item(&mut self, alloc: Global, number: Integer) -> Result<(), AllocError>
         requires ready { IsReady self.old }
         requires room { HasRoom self.old.list 1 }

@@ -1,7 +1,7 @@
 ghost use Rattle.std.specs.Prelude.{◌≤◌, ◌<◌, ◌^◌};
 
-/// How many places the order of `count` numbers has: the least power of two that is not less.
-pub fn places(count: u64) -> u64
+/// Returns the length of the order of `count` numbers: the least power of two that is not less.
+pub fn order_len(count: u64) -> u64
     requires { count ≤ 2 ^ 63 }
     ensures all { count ≤ result }
     ensures some { 0 < result }
@@ -9,9 +9,9 @@ pub fn places(count: u64) -> u64
     count.next_power_of_two()
 }
 
-/// The number at place `i` of an order that jumps about, with multipliers of its own for each seed, so that no order runs
-/// along another one. Where `mask` is one less than a power of two, each number up to it comes once.
-pub fn shuffled(i: u64, seed: u64, mask: u64) -> u64 {
+/// Returns the number at index `i` of a shuffled order. Each seed has its own multipliers, so that no order follows
+/// another. If `mask` is one less than a power of two, each number up to it occurs once.
+pub fn number_at(i: u64, seed: u64, mask: u64) -> u64 {
     let odd = seed.wrapping_mul(0xD6E8_FEB8_6659_FD92) | 1;
     let a = i.wrapping_mul(odd) & mask;
     let b = (a ^ (a >> 9)).wrapping_mul(0x85EB_CA6B ^ seed.wrapping_mul(0x2C1B_3C6C)) & mask;

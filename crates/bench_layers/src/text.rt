@@ -3,8 +3,8 @@ use term_text::{print_term, read_term};
 
 const TEXT: &str = "{key123,456,[1,2,3],'Hello World'}";
 
-/// Reads one text a number of times, and answers how many bytes it read in all, modulo 2^64, or 0 if memory runs out.
-/// Its contract promises safety and an end; the driver compares the answer.
+/// Reads one text `turns` times. Returns how many bytes it read in all, modulo 2^64, or 0 if memory runs out. Its
+/// contract promises safety and an end; the driver compares the number.
 #[unsafe(no_mangle)]
 pub extern "C" fn bench_layers_read(alloc: Global, turns: u64) -> u64 {
     let mut bytes: u64 = 0;
@@ -17,8 +17,8 @@ pub extern "C" fn bench_layers_read(alloc: Global, turns: u64) -> u64 {
     bytes
 }
 
-/// Reads the text once, prints its term a number of times into one `String`, and answers how many bytes it printed in
-/// all, modulo 2^64, or 0 if memory runs out. Its contract promises safety and an end; the driver compares the answer.
+/// Reads the text once, and prints its term `turns` times into one `String`. Returns how many bytes it printed in all,
+/// modulo 2^64, or 0 if memory runs out. Its contract promises safety and an end; the driver compares the number.
 #[unsafe(no_mangle)]
 pub extern "C" fn bench_layers_print(alloc: Global, turns: u64) -> u64 {
     let Ok((term, _taken)) = read_term(alloc, TEXT) else {

@@ -1,4 +1,6 @@
-//! Times a table and its rows, phase by phase, and prints lines of WHO OPERATION FIGURE: bench_tables times|longest|bytes|check rows|table COUNT.
+//! Times a table and its rows, phase by phase, and prints lines `STORE OPERATION NUMBER`.
+//!
+//! Usage: `bench_tables times|longest|bytes|check rows|table COUNT`.
 #![tactic(auto)]
 
 mod order;
@@ -10,27 +12,27 @@ mod table;
 
 use bucket_table::SplitRows;
 use ets_term::Fnv;
-use report::{check, longest, measure, times};
+use report::{print_bytes, print_counts, print_longest, print_times};
 use std::alloc::Global;
 use std::rt::{Clock, Files};
 use std::{env, io};
 use store::Store;
 use table_ops::Table;
 
-/// The number of objects that is taken where no other is asked for.
+/// The number of objects if the command line has no number.
 const OBJECTS: u64 = 1_000_000;
 
-/// Does one part of the measuring for one store.
+/// Runs one part of the benchmark on one store.
 fn run<S: Store>(
     rt: &(impl Print + Alloc<A = Global> + Clock + Files),
     part: &str,
     count: u64,
 ) -> io::Result<()> {
     match part {
-        "times" => times::<S>(rt, count),
-        "longest" => longest::<S>(rt, count),
-        "bytes" => measure::<S>(rt, count),
-        _ => check::<S>(rt, count),
+        "times" => print_times::<S>(rt, count),
+        "longest" => print_longest::<S>(rt, count),
+        "bytes" => print_bytes::<S>(rt, count),
+        _ => print_counts::<S>(rt, count),
     }
 }
 

@@ -1,8 +1,8 @@
-use crate::order::shuffled;
+use crate::order::shuffle;
 use crate::store::Store;
 use std::alloc::{AllocError, Global};
 
-/// A phase of the life of a table: one call for each key, in an order of its own.
+/// A phase of the benchmark: one call for each key, in an order of its own.
 #[derive(Clone, Copy)]
 pub enum Phase {
     Insert,
@@ -32,18 +32,18 @@ impl Phase {
         }
     }
 
-    /// The keys, in this phase's order. Those of a miss are not in the table.
+    /// Returns the keys in this phase's order. Those of a miss are not in the table.
     pub(crate) fn keys(self, alloc: Global, count: u64) -> Result<Vec<u64>, AllocError> {
         match self {
-            Phase::Insert => shuffled(alloc, count, 1),
-            Phase::Hit => shuffled(alloc, count, 2),
-            Phase::Miss => absent(alloc, count),
-            Phase::Counter => shuffled(alloc, count, 4),
-            Phase::Delete => shuffled(alloc, count, 5),
+            Phase::Insert => shuffle(alloc, count, 1),
+            Phase::Hit => shuffle(alloc, count, 2),
+            Phase::Miss => absent_keys(alloc, count),
+            Phase::Counter => shuffle(alloc, count, 4),
+            Phase::Delete => shuffle(alloc, count, 5),
         }
     }
 
-    /// Does the phase, and answers how many of its calls did what they should.
+    /// Runs the phase. Returns how many of its calls did what they should.
     pub(crate) fn run<S: Store>(
         self,
         alloc: Global,
@@ -60,8 +60,9 @@ impl Phase {
     }
 }
 
-fn absent(alloc: Global, count: u64) -> Result<Vec<u64>, AllocError> {
-    let mut keys = shuffled(alloc, count, 3)?;
+/// Returns keys that are not in the table.
+fn absent_keys(alloc: Global, count: u64) -> Result<Vec<u64>, AllocError> {
+    let mut keys = shuffle(alloc, count, 3)?;
     for key in &mut keys {
         *key = key.wrapping_add(count);
     }

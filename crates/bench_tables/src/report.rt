@@ -5,14 +5,14 @@ use std::rt::{Clock, Files};
 use std::time::{Duration, Instant};
 use std::{fs, io};
 
-/// Small tables are made again and again, and each figure is the least.
+/// A small table is built again until about this many calls are made, and the least time counts.
 const CALLS: u64 = 300_000;
 
-fn repeats(count: u64) -> u64 {
+fn repeat_count(count: u64) -> u64 {
     (CALLS / count.max(1)).max(1)
 }
 
-/// A phase with its keys, and the least time that it has taken, in nanoseconds.
+/// A phase with its keys, and its least time so far in nanoseconds.
 #[derive(Drop)]
 struct Timed {
     phase: Phase,
@@ -21,8 +21,8 @@ struct Timed {
 }
 
 impl Timed {
-    /// Does the phase once more.
-    fn turn<S: Store>(
+    /// Runs the phase once more.
+    fn run<S: Store>(
         &mut self,
         rt: &(impl Print + Alloc<A = Global> + Clock),
         store: &mut S,
@@ -37,12 +37,12 @@ impl Timed {
         Ok(())
     }
 
-    /// Prints the nanoseconds of one call.
-    fn show(&self, rt: &impl Print, who: &str) -> io::Result<()> {
+    /// Prints the nanoseconds of one call, after the name of the store.
+    fn print(&self, rt: &impl Print, store: &str) -> io::Result<()> {
         let tenths = self.best.saturating_mul(10) / (self.keys.len() as u64).max(1);
         println!(rt;
             "{} {} {}.{}",
-            who,
+            store,
             self.phase.name(),
             tenths / 10,
             tenths % 10
@@ -69,41 +69,41 @@ fn one_life<S: Store>(
 ) -> io::Result<()> {
     let mut store = S::empty(rt.alloc())?;
     for timed in phases {
-        timed.turn(rt, &mut store)?;
+        timed.run(rt, &mut store)?;
     }
     Ok(())
 }
 
-/// How long one doubling of the buckets of a full table takes, in nanoseconds.
-fn doubling<S: Store>(rt: &(impl Alloc<A = Global> + Clock), keys: &[u64]) -> io::Result<u64> {
-    let mut store: S = filled(rt.alloc(), keys)?;
+/// Returns how long one doubling of the buckets of a full table takes, in nanoseconds.
+fn time_doubling<S: Store>(rt: &(impl Alloc<A = Global> + Clock), keys: &[u64]) -> io::Result<u64> {
+    let mut store: S = build_store(rt.alloc(), keys)?;
     let start = Instant::now(rt)?;
     store.double()?;
     Ok(nanoseconds(start.elapsed(rt)?))
 }
 
-/// Prints nanoseconds a call for each phase, and the nanoseconds of one doubling of the full table's buckets.
-pub(crate) fn times<S: Store>(
+/// Prints the nanoseconds a call for each phase, and those of one doubling of a full table's buckets.
+pub(crate) fn print_times<S: Store>(
     rt: &(impl Print + Alloc<A = Global> + Clock),
     count: u64,
 ) -> io::Result<()> {
     let mut phases = all_phases(rt.alloc(), count)?;
-    for _turn in 0..repeats(count) {
+    for _turn in 0..repeat_count(count) {
         one_life::<S>(rt, phases.as_mut_slice())?;
     }
     for timed in phases.as_slice() {
-        timed.show(rt, S::name())?;
+        timed.print(rt, S::name())?;
     }
     let keys = Phase::Insert.keys(rt.alloc(), count)?;
     println!(rt;
         "{} doubling {}",
         S::name(),
-        doubling::<S>(rt, keys.as_slice())?
+        time_doubling::<S>(rt, keys.as_slice())?
     )
 }
 
-/// Prints the nanoseconds of the longest of a number of insertions into one table, each with its steps of growth.
-pub(crate) fn longest<S: Store>(
+/// Prints the nanoseconds of the longest of `count` insertions into one table, each with its growth steps.
+pub(crate) fn print_longest<S: Store>(
     rt: &(impl Print + Alloc<A = Global> + Clock),
     count: u64,
 ) -> io::Result<()> {
@@ -122,33 +122,33 @@ fn nanoseconds(spent: Duration) -> u64 {
     u64::try_from(spent.as_nanos()).unwrap_or(u64::MAX)
 }
 
-/// A table with the objects of these keys.
-fn filled<S: Store>(alloc: Global, keys: &[u64]) -> Result<S, AllocError> {
+/// Builds a table with an object for each of these keys.
+fn build_store<S: Store>(alloc: Global, keys: &[u64]) -> Result<S, AllocError> {
     let mut store = S::empty(alloc)?;
     Phase::Insert.run(alloc, &mut store, keys)?;
     Ok(store)
 }
 
-/// Prints bytes an object, of as many tables as make about 300,000 objects, so that the pages of a small one do not
-/// blur it.
-pub(crate) fn measure<S: Store>(
+/// Prints the bytes an object. It builds tables until there are about 300,000 objects, so that the rounding to whole
+/// pages matters little.
+pub(crate) fn print_bytes<S: Store>(
     rt: &(impl Print + Alloc<A = Global> + Files),
     count: u64,
 ) -> io::Result<()> {
     let alloc = rt.alloc();
     let keys = Phase::Insert.keys(alloc, count)?;
-    let before = resident(rt)?;
+    let before = resident_bytes(rt)?;
     let mut tables: Vec<S> = Vec::new(alloc);
-    for _table in 0..repeats(count) {
-        tables.push(filled(alloc, keys.as_slice())?)?;
+    for _table in 0..repeat_count(count) {
+        tables.push(build_store(alloc, keys.as_slice())?)?;
     }
-    let bytes = resident(rt)?.saturating_sub(before);
-    let objects = count.saturating_mul(repeats(count));
+    let bytes = resident_bytes(rt)?.saturating_sub(before);
+    let objects = count.saturating_mul(repeat_count(count));
     println!(rt; "{} bytes {}", S::name(), bytes / objects.max(1))
 }
 
-/// The bytes that this process has in memory now, on Linux.
-fn resident(rt: &(impl Alloc<A = Global> + Files)) -> io::Result<u64> {
+/// Returns the bytes that this program has in memory now, on Linux.
+fn resident_bytes(rt: &(impl Alloc<A = Global> + Files)) -> io::Result<u64> {
     let text = fs::read_to_string(rt, "/proc/self/statm")?;
     let pages: u64 = match text.split(' ').nth(1) {
         Some(word) => word.parse().unwrap_or(0),
@@ -158,7 +158,10 @@ fn resident(rt: &(impl Alloc<A = Global> + Files)) -> io::Result<u64> {
 }
 
 /// Prints how many calls of each phase did what they should.
-pub(crate) fn check<S: Store>(rt: &(impl Print + Alloc<A = Global>), count: u64) -> io::Result<()> {
+pub(crate) fn print_counts<S: Store>(
+    rt: &(impl Print + Alloc<A = Global>),
+    count: u64,
+) -> io::Result<()> {
     let alloc = rt.alloc();
     let mut store = S::empty(alloc)?;
     for phase in PHASES {

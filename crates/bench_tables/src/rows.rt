@@ -21,8 +21,8 @@ impl Store for SplitRows<Fnv> {
         };
         let objects = Chain::one(alloc, object(alloc, k)?);
         self.put_at(hash, key, objects)?;
-        if grow_if_due(self)? {
-            grow_if_due(self)?;
+        if grow_if_pending(self)? {
+            grow_if_pending(self)?;
         }
         Ok(true)
     }
@@ -69,8 +69,9 @@ impl Store for SplitRows<Fnv> {
     }
 }
 
-/// Makes the least bucket ready that is not, or doubles the buckets where they are full; answers whether either was due.
-fn grow_if_due(rows: &mut SplitRows<Fnv>) -> Result<bool, AllocError> {
+/// Makes the first unready bucket ready, or doubles the buckets if they are full. Returns whether a growth step was
+/// pending.
+fn grow_if_pending(rows: &mut SplitRows<Fnv>) -> Result<bool, AllocError> {
     if let Some(bucket) = rows.first_unready() {
         rows.ready(bucket)?;
         return Ok(true);

@@ -6,15 +6,15 @@ use ets_term::Fnv;
 use std::alloc::{AllocError, Global};
 use table_ops::{Kind, Refusal, Table};
 
-/// One more in the second element.
+/// The operation that adds one to the second element.
 const ONE_MORE: Ops = Ops::One(Op {
     position: 2,
     increment: 1,
     threshold: None,
 });
 
-/// Out of memory, and any other refusal.
-fn memory(refusal: Refusal) -> Result<bool, AllocError> {
+/// Returns the error of out of memory, or false for any other refusal.
+fn memory_or_false(refusal: Refusal) -> Result<bool, AllocError> {
     match refusal {
         Refusal::Memory => Err(AllocError),
         _ => Ok(false),
@@ -34,10 +34,10 @@ impl Store for Table<SplitRows<Fnv>> {
     fn insert(&mut self, alloc: Global, k: u64) -> Result<bool, AllocError> {
         let objects = [object(alloc, k)?];
         if let Err(refusal) = Table::insert(self, &objects) {
-            return memory(refusal);
+            return memory_or_false(refusal);
         }
-        if grow_if_due(self)? {
-            grow_if_due(self)?;
+        if grow_if_pending(self)? {
+            grow_if_pending(self)?;
         }
         Ok(true)
     }
@@ -53,7 +53,7 @@ impl Store for Table<SplitRows<Fnv>> {
     fn count_up(&mut self, _alloc: Global, k: u64) -> Result<bool, AllocError> {
         match self.update_counter(&number(k), &ONE_MORE, None) {
             Ok(_) => Ok(true),
-            Err(refusal) => memory(refusal),
+            Err(refusal) => memory_or_false(refusal),
         }
     }
 
@@ -69,9 +69,9 @@ impl Store for Table<SplitRows<Fnv>> {
     }
 }
 
-/// Makes the least bucket ready that is not, or doubles the buckets where they are full; answers whether either was
-/// due.
-fn grow_if_due(table: &mut Table<SplitRows<Fnv>>) -> Result<bool, AllocError> {
+/// Makes the first unready bucket ready, or doubles the buckets if they are full. Returns whether a growth step was
+/// pending.
+fn grow_if_pending(table: &mut Table<SplitRows<Fnv>>) -> Result<bool, AllocError> {
     if let Some(bucket) = table.least() {
         table.ready(bucket)?;
         return Ok(true);

@@ -8,8 +8,8 @@ mod terms;
 mod text;
 mod updates;
 
-/// The value, if what was done to it succeeded.
-fn kept<T: Drop, E>(done: Result<(), E>, value: T) -> Result<T, E> {
+/// Returns the value if what was done to it succeeded, else drops it.
+fn keep_if_ok<T: Drop, E>(done: Result<(), E>, value: T) -> Result<T, E> {
     match done {
         Ok(()) => Ok(value),
         Err(error) => {
@@ -19,8 +19,8 @@ fn kept<T: Drop, E>(done: Result<(), E>, value: T) -> Result<T, E> {
     }
 }
 
-/// The value, if all was put into it.
-fn filled<T: Drop>(put: Option<()>, value: T) -> Option<T> {
+/// Returns the value if what was put into it succeeded, else drops it.
+fn keep_if_some<T: Drop>(put: Option<()>, value: T) -> Option<T> {
     match put {
         Some(()) => Some(value),
         None => {

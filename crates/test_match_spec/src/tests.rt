@@ -1,5 +1,5 @@
-// Bound keys, in rows of text; long and deep forms; and random forms against a plain reading of the rules. `None` means
-// out of memory too.
+// Tests of bound keys, of long and deep terms, and of random terms compared with a plain reading of the rules. `None`
+// means out of memory too.
 use ets_term::{Integer, Items, Term};
 use match_spec::{Pattern, Spec};
 use std::alloc::Global;

@@ -1,26 +1,26 @@
-//! A term so deep that no call may go down through it. Who makes one takes it apart: its drop goes down too.
-use super::filled;
+//! A term so deep that no call may recurse through it. A test must take it apart, because its drop recurses too.
+use super::keep_if_some;
 use ets_term::{Items, Term};
 use std::alloc::Global;
 
 const LEVELS: usize = 200_000;
 
-/// A list of one term.
-fn listed(alloc: Global, term: Term) -> Option<Term> {
+/// Builds the list of one term.
+fn list_of(alloc: Global, term: Term) -> Option<Term> {
     let mut outer = Items::new(alloc);
-    Some(Term::List(filled(outer.push(term).ok(), outer)?))
+    Some(Term::List(keep_if_some(outer.push(term).ok(), outer)?))
 }
 
-/// A list within a list, to a depth.
-pub fn nested(alloc: Global, levels: usize) -> Option<Term> {
+/// Builds lists within lists, to this depth.
+pub fn nest(alloc: Global, levels: usize) -> Option<Term> {
     let mut term = Term::List(Items::new(alloc));
     for _ in 1..levels {
-        term = listed(alloc, term)?;
+        term = list_of(alloc, term)?;
     }
     Some(term)
 }
 
-/// The last item of a list, if it has one; None where the term is no list.
+/// Returns the last item of a list, if it has one. The outer None means that the term is not a list.
 fn last_of(term: Term) -> Option<Option<Term>> {
     match term {
         Term::List(items) => {
@@ -36,7 +36,7 @@ fn last_of(term: Term) -> Option<Option<Term>> {
     }
 }
 
-/// Takes the lists of a nest apart, the outermost first, and counts them.
+/// Takes nested lists apart, the outermost first, and counts them.
 fn unnest(term: Term) -> usize {
     let mut left = Some(term);
     for levels in 0..LEVELS {
@@ -53,12 +53,12 @@ fn unnest(term: Term) -> usize {
 }
 
 fn is_too_deep(alloc: Global) -> Option<bool> {
-    let term = nested(alloc, LEVELS)?;
+    let term = nest(alloc, LEVELS)?;
     let deep = term.is_too_deep();
     Some(unnest(term) == LEVELS && deep)
 }
 
 #[test]
-fn the_depth_is_looked_at_no_further_than_the_limit(rt: HostRuntime) {
+fn the_depth_is_read_no_further_than_the_limit(rt: HostRuntime) {
     assert!(rt; is_too_deep(rt.alloc()) == Some(true));
 }

@@ -1,6 +1,6 @@
-// Values from outside: each test is a table of rows, each a call and what it is to answer, over both kept forms of
-// rows. `None` means out of memory.
-use super::filled;
+// Expected answers from the rules of `ets`. A test is a list of calls with their answers, over both forms of rows.
+// `None` means out of memory.
+use super::keep_if_some;
 use bucket_table::{PlainRows, Rows, SplitRows};
 use ets_term::{AllSame, Fnv, Integer, Items, Term};
 use fixed_walk::{Badarg, Walked};
@@ -10,17 +10,18 @@ use table_ops::{Kind, Table};
 
 mod calls;
 mod free;
-mod held;
 mod refused;
+mod tombstones;
 mod walks;
 
-fn plain(alloc: Global, kind: Kind) -> Walked<PlainRows> {
+fn plain_table(alloc: Global, kind: Kind) -> Walked<PlainRows> {
     let table = Table::new(alloc, PlainRows::new(alloc), kind, 1, 1_000_000);
     Walked::new(alloc, table)
 }
 
-/// With one hash for all keys. The slots come in the order of insertion until one goes, whose place is taken again.
-fn one_bucket(alloc: Global, kind: Kind) -> Option<Walked<SplitRows<AllSame>>> {
+/// Builds a table with one hash for all keys. Its slots are in the order of insertion, until the place of a removed
+/// slot is used again.
+fn one_bucket_table(alloc: Global, kind: Kind) -> Option<Walked<SplitRows<AllSame>>> {
     let table = Table::new(
         alloc,
         SplitRows::new(alloc, AllSame).ok()?,
@@ -31,15 +32,15 @@ fn one_bucket(alloc: Global, kind: Kind) -> Option<Walked<SplitRows<AllSame>>> {
     Some(Walked::new(alloc, table))
 }
 
-fn split(alloc: Global, kind: Kind) -> Option<Walked<SplitRows<Fnv>>> {
+fn split_table(alloc: Global, kind: Kind) -> Option<Walked<SplitRows<Fnv>>> {
     let table = Table::new(alloc, SplitRows::new(alloc, Fnv).ok()?, kind, 1, 1_000_000);
     Some(Walked::new(alloc, table))
 }
 
-/// `{key,value}`.
+/// Builds the object `{Key,Value}`.
 fn object(alloc: Global, key: Integer, value: Integer) -> Option<Term> {
     let mut items = Items::new(alloc);
-    Some(Term::Tuple(filled(push_both(&mut items, key, value), items)?))
+    Some(Term::Tuple(keep_if_some(push_both(&mut items, key, value), items)?))
 }
 
 fn push_both(items: &mut Items<Term>, key: Integer, value: Integer) -> Option<()> {
@@ -65,7 +66,7 @@ fn delete<R: Rows>(table: &mut Walked<R>, key: Integer) {
     drop(key);
 }
 
-/// How many objects the key has.
+/// Returns how many objects the key has.
 fn count_of<R: Rows>(table: &Walked<R>, key: Integer) -> usize {
     let key = Term::Int(key);
     let count = table.lookup(&key).len();
@@ -73,16 +74,16 @@ fn count_of<R: Rows>(table: &Walked<R>, key: Integer) -> usize {
     count
 }
 
-/// The next key in a walk.
-fn behind<R: Rows>(table: &Walked<R>, key: Integer) -> Result<Option<&Term>, Badarg> {
+/// Returns the key after this one in a traversal.
+fn key_after<R: Rows>(table: &Walked<R>, key: Integer) -> Result<Option<&Term>, Badarg> {
     let key = Term::Int(key);
     let found = table.next(&key);
     drop(key);
     found
 }
 
-/// Returns whether a walk came to this key, or to the end.
-fn is(found: Option<&Term>, wanted: Option<Integer>) -> bool {
+/// Returns whether a traversal came to this key, or to the end.
+fn is_key(found: Option<&Term>, wanted: Option<Integer>) -> bool {
     match (found, wanted) {
         (Some(Term::Int(key)), Some(number)) => *key == number,
         (None, None) => true,
@@ -90,7 +91,7 @@ fn is(found: Option<&Term>, wanted: Option<Integer>) -> bool {
     }
 }
 
-/// Doubles the buckets, or makes the next one ready.
+/// Makes the first unready bucket ready, or doubles the buckets.
 fn grow<R: Rows>(table: &mut Walked<R>) -> Option<()> {
     if let Some(bucket) = table.least() {
         let _ = table.ready(bucket).ok()?;

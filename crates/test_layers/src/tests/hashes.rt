@@ -1,9 +1,9 @@
-//! FNV-1a, compared with a plain implementation of it.
+//! The hasher FNV-1a, compared with a plain implementation.
 use ets_term::{Atom, Fnv, Integer, KeyHash, Term};
 use std::alloc::Global;
 use std::process::Abort;
 
-/// FNV-1a of 32 bits, as its authors have it.
+/// Computes FNV-1a of 32 bits, as its authors define it.
 fn fnv_1a(bytes: &[u8]) -> u32 {
     fnv_1a_from(0x811c9dc5, bytes)
 }
@@ -48,7 +48,7 @@ fn hash_of_an_integer(number: Integer) -> u32 {
     hash
 }
 
-/// Returns whether the crate's hash of the atom of each text is that of its encoding, which ends with the text.
+/// Returns whether the crate's hash of the atom of each text is that of its encoding: two bytes and the text.
 fn are_hashed_as_atoms(alloc: Global, rows: &[(&'static str, u32)]) -> bool {
     for (text, _) in rows {
         let Ok(length) = u8::try_from(text.len()) else {

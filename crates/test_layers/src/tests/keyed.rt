@@ -1,10 +1,10 @@
-//! The hash with a seed; compared with values of its definition that were computed outside.
-use super::filled;
+//! The seeded hash, compared with values that another program computed from its definition.
+use super::keep_if_some;
 use ets_term::{Atom, Items, KeyHash, Keyed, Term};
 use std::alloc::Global;
 use std::process::Abort;
 
-/// The elements `a` and -2^64-1, whose two words differ.
+/// Pushes the elements `a` and -2^64-1, whose two words differ.
 fn push_pair(alloc: Global, pair: &mut Items<Term>) -> Option<()> {
     pair.push(Term::Atom(Atom::new(alloc, "a").ok()?)).ok()?;
     pair.push(Term::Int(-18446744073709551617)).ok()
@@ -12,14 +12,14 @@ fn push_pair(alloc: Global, pair: &mut Items<Term>) -> Option<()> {
 
 fn pair(alloc: Global) -> Option<Items<Term>> {
     let mut pair = Items::new(alloc);
-    filled(push_pair(alloc, &mut pair), pair)
+    keep_if_some(push_pair(alloc, &mut pair), pair)
 }
 
 fn binary(alloc: Global) -> Option<Term> {
     Some(Term::Binary(Items::from_vec([0, 255].to_vec(alloc).ok()?)))
 }
 
-/// A term of each kind, built anew.
+/// Pushes a term of each kind.
 fn push_terms(alloc: Global, terms: &mut Items<Term>) -> Option<()> {
     push_pair(alloc, terms)?;
     terms.push(Term::Pid(7)).ok()?;
@@ -29,7 +29,7 @@ fn push_terms(alloc: Global, terms: &mut Items<Term>) -> Option<()> {
     terms.push(binary(alloc)?).ok()
 }
 
-/// Returns whether these are the numbers of the terms, one after the other.
+/// Returns whether the terms have these hashes, in order.
 fn are_hashed(hash: Keyed, terms: &[Term], wanted: &[u32]) -> bool {
     for (term, number) in terms.iter().zip(wanted) {
         if hash.hash32(term) != *number {
@@ -48,17 +48,18 @@ fn hash_to(alloc: Global, seed: u64, wanted: &[u32]) -> Option<bool> {
     Some(hashed)
 }
 
-/// The numbers of the terms by the least seed, and by the greatest.
+/// The hashes of the terms by the least seed.
 const LEAST: [u32; 7] = [
     3020293046, 4059663398, 1234998835, 1461041013, 751183608, 4116343985, 1269847963,
 ];
 
+/// The hashes of the terms by the greatest seed.
 const GREATEST: [u32; 7] = [
     3212429134, 1991252696, 160548916, 3176778760, 509562988, 4265502097, 1497524047,
 ];
 
 #[test]
-fn numbers_of_two_seeds(rt: HostRuntime) {
+fn hashes_by_two_seeds(rt: HostRuntime) {
     assert!(rt; hash_to(rt.alloc(), 0, &LEAST) == Some(true));
     assert!(rt; hash_to(rt.alloc(), u64::MAX, &GREATEST) == Some(true));
 }

@@ -1,7 +1,7 @@
 use split_key::{bucket_of, dummy_key, item_key, parent, rev32};
 use std::process::Abort;
 
-/// Bucket b of 8 is at its three bits, reversed; each takes an eighth of the keys.
+/// The 8 buckets in the order of their split keys: by their three bits, reversed. Each has an eighth of the split keys.
 const EIGHT_IN_ORDER: [u32; 8] = [0, 4, 2, 6, 1, 5, 3, 7];
 
 fn are_in_order(buckets: &[u32]) -> bool {

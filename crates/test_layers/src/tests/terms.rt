@@ -1,6 +1,6 @@
-//! Values from outside: the order across kinds, the bounds of atoms, and each public call on its happy path.
-use super::depths::nested;
-use super::filled;
+//! Expected values from the rules of terms: the order across kinds, the limits of atoms, and each public call once.
+use super::depths::nest;
+use super::keep_if_some;
 use super::text::long_text;
 use ets_term::{AllSame, Atom, AtomFault, Fnv, Integer, Items, KeyHash, MAX_DEPTH, Position, Term};
 use std::alloc::Global;
@@ -26,10 +26,10 @@ fn push_atoms(alloc: Global, items: &mut Items<Term>, letters: &str) -> Option<(
     Some(())
 }
 
-/// An atom for each letter.
+/// Builds an atom for each letter.
 fn atoms(alloc: Global, letters: &str) -> Option<Items<Term>> {
     let mut items = Items::new(alloc);
-    filled(push_atoms(alloc, &mut items, letters), items)
+    keep_if_some(push_atoms(alloc, &mut items, letters), items)
 }
 
 fn tuple(alloc: Global, letters: &str) -> Option<Term> {
@@ -52,7 +52,7 @@ fn copy_has_text(alloc: Global, atom: &Atom, text: &str) -> Option<bool> {
 }
 
 /// Returns whether an atom and its copy have its text.
-fn is_kept(alloc: Global, text: &str) -> Option<bool> {
+fn keeps_this_text(alloc: Global, text: &str) -> Option<bool> {
     let made = Atom::new(alloc, text).ok()?;
     let same = made.text() == text;
     let copied = copy_has_text(alloc, &made, text);
@@ -63,9 +63,9 @@ fn is_kept(alloc: Global, text: &str) -> Option<bool> {
 /// Returns whether an atom of a number of characters and its copy have its text.
 fn keeps_text(alloc: Global, count: usize) -> Option<bool> {
     let text = long_text(alloc, "", "a", count, "").ok()?;
-    let kept = is_kept(alloc, text.as_str());
+    let same = keeps_this_text(alloc, text.as_str());
     drop(text);
-    kept
+    same
 }
 
 fn keep_text(alloc: Global, counts: &[usize]) -> Option<bool> {
@@ -100,9 +100,9 @@ fn characters_of_atoms_are_printable(rt: HostRuntime) {
     assert!(rt; is_unprintable(rt.alloc(), "\t") && is_unprintable(rt.alloc(), "é"));
 }
 
-/// A term, told.
+/// A term that a constant can hold.
 #[derive(Clone, Copy)]
-enum Told<'a> {
+enum Literal<'a> {
     Int(Integer),
     Atom(&'a str),
     Tid(u32),
@@ -113,52 +113,52 @@ enum Told<'a> {
     Binary(&'a str),
 }
 
-fn term(alloc: Global, told: Told) -> Option<Term> {
-    match told {
-        Told::Int(n) => Some(Term::Int(n)),
-        Told::Atom(text) => atom(alloc, text),
-        Told::Tid(n) => Some(Term::Tid(n)),
-        Told::Pid(n) => Some(Term::Pid(n)),
-        Told::Tuple(letters) => tuple(alloc, letters),
-        Told::List(letters) => list(alloc, letters),
-        Told::Binary(text) => binary(alloc, text.as_bytes()),
+fn term(alloc: Global, literal: Literal) -> Option<Term> {
+    match literal {
+        Literal::Int(n) => Some(Term::Int(n)),
+        Literal::Atom(text) => atom(alloc, text),
+        Literal::Tid(n) => Some(Term::Tid(n)),
+        Literal::Pid(n) => Some(Term::Pid(n)),
+        Literal::Tuple(letters) => tuple(alloc, letters),
+        Literal::List(letters) => list(alloc, letters),
+        Literal::Binary(text) => binary(alloc, text.as_bytes()),
     }
 }
 
-fn push_terms(alloc: Global, terms: &mut Items<Term>, rows: &[Told]) -> Option<()> {
-    for told in rows {
-        terms.push(term(alloc, *told)?).ok()?;
+fn push_terms(alloc: Global, terms: &mut Items<Term>, rows: &[Literal]) -> Option<()> {
+    for literal in rows {
+        terms.push(term(alloc, *literal)?).ok()?;
     }
     Some(())
 }
 
-/// Terms in rising order, each kind in its place.
-const RISING: [Told<'static>; 22] = [
-    Told::Int(Integer::MIN),
-    Told::Int(-1),
-    Told::Int(7),
-    Told::Int(18446744073709551616),
-    Told::Atom(""),
-    Told::Atom("a"),
-    Told::Atom("aa"),
-    Told::Atom("b"),
-    Told::Tid(0),
-    Told::Tid(1),
-    Told::Pid(0),
-    Told::Pid(1),
-    Told::Tuple(""),
-    Told::Tuple("z"),
-    Told::Tuple("aa"),
-    Told::List(""),
-    Told::List("a"),
-    Told::List("aa"),
-    Told::List("b"),
-    Told::Binary(""),
-    Told::Binary("1~"),
-    Told::Binary("2"),
+/// Terms in ascending order, of each kind.
+const RISING: [Literal<'static>; 22] = [
+    Literal::Int(Integer::MIN),
+    Literal::Int(-1),
+    Literal::Int(7),
+    Literal::Int(18446744073709551616),
+    Literal::Atom(""),
+    Literal::Atom("a"),
+    Literal::Atom("aa"),
+    Literal::Atom("b"),
+    Literal::Tid(0),
+    Literal::Tid(1),
+    Literal::Pid(0),
+    Literal::Pid(1),
+    Literal::Tuple(""),
+    Literal::Tuple("z"),
+    Literal::Tuple("aa"),
+    Literal::List(""),
+    Literal::List("a"),
+    Literal::List("aa"),
+    Literal::List("b"),
+    Literal::Binary(""),
+    Literal::Binary("1~"),
+    Literal::Binary("2"),
 ];
 
-/// Returns whether terms compare as their places do.
+/// Returns whether two terms compare as their indices do.
 fn compare(low: (usize, &Term), high: (usize, &Term)) -> bool {
     let (i, first) = low;
     let (j, second) = high;
@@ -175,8 +175,8 @@ fn compares_with_all(terms: &[Term], i: usize, low: &Term) -> bool {
     all
 }
 
-/// The first of the terms that does not compare with all of them as its place says.
-fn misplaced(terms: &[Term]) -> Option<usize> {
+/// Returns the index of the first term that does not compare with some term as their indices do.
+fn first_order_mismatch(terms: &[Term]) -> Option<usize> {
     for (i, low) in terms.iter().enumerate() {
         if !compares_with_all(terms, i, low) {
             return Some(i);
@@ -188,7 +188,7 @@ fn misplaced(terms: &[Term]) -> Option<usize> {
 fn rise(alloc: Global) -> Option<bool> {
     let mut terms = Items::new(alloc);
     let pushed = push_terms(alloc, &mut terms, &RISING);
-    let rising = terms.len() == 22 && misplaced(terms.as_slice()) == None;
+    let rising = terms.len() == 22 && first_order_mismatch(terms.as_slice()) == None;
     drop(terms);
     pushed?;
     Some(rising)
@@ -199,7 +199,7 @@ fn terms_rise(rt: HostRuntime) {
     assert!(rt; rise(rt.alloc()) == Some(true));
 }
 
-/// Returns whether a term is so deep, and a copy equals it.
+/// Returns whether a term has this depth, and equals its copy.
 fn is_of_depth(alloc: Global, term: &Term, depth: usize) -> Option<bool> {
     term.fits();
     ets_term::laws::hash_writes_encoding(term);
@@ -209,7 +209,7 @@ fn is_of_depth(alloc: Global, term: &Term, depth: usize) -> Option<bool> {
     Some(same && term.depth() == depth)
 }
 
-/// The same of a term that is made for it.
+/// Does so with a term that it then drops.
 fn has_depth(alloc: Global, made: Option<Term>, depth: usize) -> Option<bool> {
     let term = made?;
     let same = is_of_depth(alloc, &term, depth);
@@ -217,7 +217,7 @@ fn has_depth(alloc: Global, made: Option<Term>, depth: usize) -> Option<bool> {
     same
 }
 
-/// Returns whether a tuple and a list of these atoms are so deep.
+/// Returns whether a tuple and a list of these atoms have this depth.
 fn are_of_depth(alloc: Global, letters: &str, depth: usize) -> Option<bool> {
     Some(
         has_depth(alloc, tuple(alloc, letters), depth)?
@@ -225,23 +225,23 @@ fn are_of_depth(alloc: Global, letters: &str, depth: usize) -> Option<bool> {
     )
 }
 
-fn push_uneven(alloc: Global, parts: &mut Items<Term>) -> Option<()> {
+fn push_uneven_items(alloc: Global, parts: &mut Items<Term>) -> Option<()> {
     parts.push(Term::default()).ok()?;
     parts.push(tuple(alloc, "ab")?).ok()
 }
 
-/// A list of an integer and a tuple of atoms.
-fn uneven(alloc: Global) -> Option<Term> {
+/// Builds a list of an integer and a tuple of atoms.
+fn uneven_list(alloc: Global) -> Option<Term> {
     let mut parts = Items::new(alloc);
-    Some(Term::List(filled(push_uneven(alloc, &mut parts), parts)?))
+    Some(Term::List(keep_if_some(push_uneven_items(alloc, &mut parts), parts)?))
 }
 
-/// The deepest part counts.
+/// Returns whether the depth of other terms is right: the deepest part decides.
 fn other_terms_are_of_depth(alloc: Global) -> Option<bool> {
     Some(
         has_depth(alloc, Some(Term::Int(5)), 1)?
             && has_depth(alloc, binary(alloc, &[0, 255]), 1)?
-            && has_depth(alloc, uneven(alloc), 3)?,
+            && has_depth(alloc, uneven_list(alloc), 3)?,
     )
 }
 
@@ -253,15 +253,15 @@ fn depths_and_copies(rt: HostRuntime) {
     assert!(rt; other_terms_are_of_depth(alloc) == Some(true));
 }
 
-/// Returns whether a list within a list, at a depth, has this depth, and differs from one that is too deep.
+/// Returns whether nested lists have this depth, and `is_too_deep` says whether it is above the limit.
 fn is_nested(alloc: Global, levels: usize) -> Option<bool> {
-    let term = nested(alloc, levels)?;
-    let told = term.is_too_deep() == (levels > MAX_DEPTH);
-    Some(has_depth(alloc, Some(term), levels)? && told)
+    let term = nest(alloc, levels)?;
+    let agrees = term.is_too_deep() == (levels > MAX_DEPTH);
+    Some(has_depth(alloc, Some(term), levels)? && agrees)
 }
 
-/// The first of these numbers of levels at which a nested term is not so deep.
-fn misnested(alloc: Global, rows: &[usize]) -> Option<Option<usize>> {
+/// Returns the first of these depths at which nested lists have another depth.
+fn first_depth_mismatch(alloc: Global, rows: &[usize]) -> Option<Option<usize>> {
     for levels in rows {
         if !is_nested(alloc, *levels)? {
             return Some(Some(*levels));
@@ -274,7 +274,7 @@ const LEVELS: [usize; 8] = [4, 9, 17, 33, 65, 128, 129, 2000];
 
 #[test]
 fn deep_terms_are_copied(rt: HostRuntime) {
-    assert!(rt; misnested(rt.alloc(), &LEVELS) == Some(None));
+    assert!(rt; first_depth_mismatch(rt.alloc(), &LEVELS) == Some(None));
 }
 
 fn push_numbers(items: &mut Items<Term>, count: u32) -> Option<()> {
@@ -286,7 +286,7 @@ fn push_numbers(items: &mut Items<Term>, count: u32) -> Option<()> {
 
 fn long_tuple(alloc: Global, count: u32) -> Option<Term> {
     let mut items = Items::new(alloc);
-    Some(Term::Tuple(filled(push_numbers(&mut items, count), items)?))
+    Some(Term::Tuple(keep_if_some(push_numbers(&mut items, count), items)?))
 }
 
 fn long_tuple_is_copied(alloc: Global) -> Option<bool> {
@@ -355,14 +355,14 @@ fn elements_count_from_one(rt: HostRuntime) {
     assert!(rt; a_list_has_none(rt.alloc()) == Some(true));
 }
 
-/// The hash of a term by the library's hasher.
-fn hashed(term: &Term) -> u64 {
+/// Returns the hash of a term by the hasher of the standard library.
+fn hash_of(term: &Term) -> u64 {
     let mut hasher = DefaultHasher::new();
     term.hash(&mut hasher);
     hasher.finish()
 }
 
-fn hashed_bytes(bytes: &[u8]) -> u64 {
+fn hash_of_bytes(bytes: &[u8]) -> u64 {
     let mut hasher = DefaultHasher::new();
     hasher.write(bytes);
     hasher.finish()
@@ -370,17 +370,17 @@ fn hashed_bytes(bytes: &[u8]) -> u64 {
 
 fn hash_of_an_atom(alloc: Global, text: &str) -> Option<u64> {
     let term = atom(alloc, text)?;
-    let hash = hashed(&term);
+    let hash = hash_of(&term);
     drop(term);
     Some(hash)
 }
 
 #[test]
 fn hashes_take_the_encoding(rt: HostRuntime) {
-    assert!(rt; hash_of_an_atom(rt.alloc(), "a") == Some(hashed_bytes(&[2, 1, 97])));
+    assert!(rt; hash_of_an_atom(rt.alloc(), "a") == Some(hash_of_bytes(&[2, 1, 97])));
 }
 
-/// The hash of a term by each of two hashes.
+/// Returns the hash of a term by each of two hashers.
 fn hashes(made: Option<Term>) -> Option<(u32, u32)> {
     let term = made?;
     let hashes = (AllSame.hash32(&term), Fnv.hash32(&term));
@@ -400,7 +400,7 @@ fn hashes_tell_tuples_from_lists(rt: HostRuntime) {
     assert!(rt; tuple_and_list_hash_apart(rt.alloc()) == Some(true));
 }
 
-/// Returns whether items grow by three numbers and lose the last.
+/// Returns whether three numbers can be pushed, and the last popped.
 fn grow_and_shrink(items: &mut Items<u8>) -> Option<bool> {
     let empty = items.is_empty();
     items.push(1).ok()?;

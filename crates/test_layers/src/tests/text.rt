@@ -1,47 +1,48 @@
-//! Values from outside: the rules of the text, row by row, and a writer that fails at its k-th write.
+//! Expected values from the rules of the text, row by row, and a writer that fails at its k-th write.
 mod against_reference;
 mod long;
 mod reference;
 pub(crate) mod refused;
 
-use super::kept;
+use super::keep_if_ok;
 use ets_term::Term;
 use std::alloc::{AllocError, Global};
 use std::io::{self, Error, ErrorKind, Write};
 use std::process::Abort;
 use term_text::{WriteFault, print_term, read_term, read_term_bytes, write_bytes, write_term};
 
-fn printed(alloc: Global, term: &Term, taken: usize) -> Result<String, AllocError> {
+/// Prints a term, and how many bytes its text has.
+fn print_with_length(alloc: Global, term: &Term, taken: usize) -> Result<String, AllocError> {
     let mut text = String::new(alloc);
-    let told = match print_term(alloc, term, &mut text) {
+    let result = match print_term(alloc, term, &mut text) {
         Ok(()) => format!(in alloc; "{text} {taken}"),
         Err(error) => Err(error),
     };
     drop(text);
-    told
+    result
 }
 
-/// What the text gives: the printed term and how many bytes it took, or the fault.
-fn given(alloc: Global, text: &[u8]) -> Result<String, AllocError> {
+/// Reads a text. Returns the printed term and how many bytes it has, or the syntax error.
+fn result_of(alloc: Global, text: &[u8]) -> Result<String, AllocError> {
     match read_term_bytes(alloc, text) {
         Ok((term, taken)) => {
-            let told = printed(alloc, &term, taken);
+            let result = print_with_length(alloc, &term, taken);
             drop(term);
-            told
+            result
         }
         Err(fault) => format!(in alloc; "{fault:?}"),
     }
 }
 
 fn gives(alloc: Global, text: &[u8], wanted: &str) -> Result<bool, AllocError> {
-    let given = given(alloc, text)?;
-    let same = given.as_str() == wanted;
-    drop(given);
+    let result = result_of(alloc, text)?;
+    let same = result.as_str() == wanted;
+    drop(result);
     Ok(same)
 }
 
-/// The first text that gives another than is wanted of it.
-fn wrong(
+/// Returns the first text with another result than the wanted one.
+fn first_mismatch(
     alloc: Global,
     rows: &[(&'static str, &'static str)],
 ) -> Result<Option<&'static str>, AllocError> {
@@ -97,7 +98,7 @@ const NUMBERS_AND_ATOMS: [(&str, &str); 26] = [
 
 #[test]
 fn numbers_and_atoms(rt: HostRuntime) {
-    assert_eq!(rt; wrong(rt.alloc(), &NUMBERS_AND_ATOMS), Ok(None));
+    assert_eq!(rt; first_mismatch(rt.alloc(), &NUMBERS_AND_ATOMS), Ok(None));
 }
 
 const BRACKETS_AND_STRINGS: [(&str, &str); 11] = [
@@ -119,7 +120,7 @@ const BRACKETS_AND_STRINGS: [(&str, &str); 11] = [
 
 #[test]
 fn brackets_and_strings(rt: HostRuntime) {
-    assert_eq!(rt; wrong(rt.alloc(), &BRACKETS_AND_STRINGS), Ok(None));
+    assert_eq!(rt; first_mismatch(rt.alloc(), &BRACKETS_AND_STRINGS), Ok(None));
 }
 
 const BINARIES_PIDS_AND_IDENTIFIERS: [(&str, &str); 20] = [
@@ -147,10 +148,13 @@ const BINARIES_PIDS_AND_IDENTIFIERS: [(&str, &str); 20] = [
 
 #[test]
 fn binaries_pids_and_identifiers(rt: HostRuntime) {
-    assert_eq!(rt; wrong(rt.alloc(), &BINARIES_PIDS_AND_IDENTIFIERS), Ok(None));
+    assert_eq!(rt;
+        first_mismatch(rt.alloc(), &BINARIES_PIDS_AND_IDENTIFIERS),
+        Ok(None)
+    );
 }
 
-/// A start, a part so often and an end, and what the text of them gives.
+/// A start, a part, how often it is repeated, an end, and the result of the text.
 type LongRow<'a> = (&'a str, &'a str, usize, &'a str, &'a str);
 
 /// Terms of 128 levels, and atoms of 255 characters.
@@ -178,7 +182,7 @@ fn push_long(
     text.push_str(end)
 }
 
-/// A start, a part a number of times, and an end.
+/// Builds the text of a start, a repeated part, and an end.
 pub fn long_text(
     alloc: Global,
     start: &str,
@@ -187,7 +191,7 @@ pub fn long_text(
     end: &str,
 ) -> Result<String, AllocError> {
     let mut text = String::new(alloc);
-    kept(push_long(&mut text, start, part, count, end), text)
+    keep_if_ok(push_long(&mut text, start, part, count, end), text)
 }
 
 fn gives_long(alloc: Global, row: LongRow) -> Result<bool, AllocError> {
@@ -198,8 +202,8 @@ fn gives_long(alloc: Global, row: LongRow) -> Result<bool, AllocError> {
     same
 }
 
-/// The first long text that gives another than is wanted of it: which one it is.
-fn wrong_long(alloc: Global, rows: &[LongRow]) -> Result<Option<usize>, AllocError> {
+/// Returns the index of the first long text with another result than the wanted one.
+fn first_long_mismatch(alloc: Global, rows: &[LongRow]) -> Result<Option<usize>, AllocError> {
     for (i, row) in rows.iter().enumerate() {
         if !gives_long(alloc, *row)? {
             return Ok(Some(i));
@@ -210,7 +214,7 @@ fn wrong_long(alloc: Global, rows: &[LongRow]) -> Result<Option<usize>, AllocErr
 
 #[test]
 fn past_the_levels_and_lengths(rt: HostRuntime) {
-    assert_eq!(rt; wrong_long(rt.alloc(), &LONG), Ok(None));
+    assert_eq!(rt; first_long_mismatch(rt.alloc(), &LONG), Ok(None));
 }
 
 fn longest_atom_is_read(alloc: Global) -> Result<bool, AllocError> {
@@ -232,7 +236,7 @@ fn deepest_term(alloc: Global) -> Result<String, AllocError> {
     text
 }
 
-/// The depth of a term and how many bytes it took.
+/// Returns the depth of the term of a text, and how many bytes it has.
 fn depth_of(alloc: Global, text: &[u8]) -> Option<(usize, usize)> {
     let (term, taken) = read_term_bytes(alloc, text).ok()?;
     let depth = term.depth();
@@ -252,15 +256,15 @@ fn the_deepest_term(rt: HostRuntime) {
     assert!(rt; depth_of_deepest(rt.alloc()) == Some((128, 256)));
 }
 
-/// A writer that takes at most a number of bytes a write, and fails at its k-th.
+/// A writer that takes at most `most` bytes a write, and fails after `left` writes.
 #[derive(Drop)]
-struct Failing {
+struct FailingWriter {
     taken: Vec<u8>,
     most: usize,
     left: usize,
 }
 
-impl Write for Failing {
+impl Write for FailingWriter {
     fn write(&mut self, buf: &[u8]) -> io::Result<usize> {
         if self.left == 0 {
             return Err(Error::from(ErrorKind::Other));
@@ -278,9 +282,9 @@ impl Write for Failing {
     }
 }
 
-/// Returns whether a writer that fails after a number of bytes has that front of the text.
-fn leaves_a_front(alloc: Global, term: &Term, text: &str, left: usize) -> bool {
-    let mut out = Failing {
+/// Returns whether a writer that fails after `left` bytes has this prefix of the text.
+fn leaves_a_prefix(alloc: Global, term: &Term, text: &str, left: usize) -> bool {
+    let mut out = FailingWriter {
         taken: Vec::new(alloc),
         most: 1,
         left,
@@ -288,12 +292,12 @@ fn leaves_a_front(alloc: Global, term: &Term, text: &str, left: usize) -> bool {
     let written = write_term(term, &mut out);
     let failed = matches!(&written, Err(WriteFault::Io(_)));
     drop(written);
-    let front = out.taken.len() == left && text.as_bytes().starts_with(out.taken.as_slice());
+    let is_prefix = out.taken.len() == left && text.as_bytes().starts_with(out.taken.as_slice());
     drop(out);
-    failed && front
+    failed && is_prefix
 }
 
-/// Returns whether the text of a term is this.
+/// Returns whether a term is written as this text.
 fn writes(alloc: Global, term: &Term, text: &str) -> bool {
     let mut whole = Vec::new(alloc);
     let written = write_term(term, &mut whole);
@@ -304,20 +308,20 @@ fn writes(alloc: Global, term: &Term, text: &str) -> bool {
     done && same
 }
 
-fn leaves_each_front(alloc: Global, term: &Term, text: &str) -> bool {
+fn leaves_each_prefix(alloc: Global, term: &Term, text: &str) -> bool {
     for left in 0..text.len() {
-        if !leaves_a_front(alloc, term, text, left) {
+        if !leaves_a_prefix(alloc, term, text, left) {
             return false;
         }
     }
     true
 }
 
-/// Returns whether a term of a text is written as this text, and a fault leaves a front of it.
+/// Returns whether the term of a text is written as this text, and after a fault as a prefix of it.
 fn is_written(alloc: Global, text: &str) -> bool {
     match read_term(alloc, text) {
         Ok((term, _)) => {
-            let done = writes(alloc, &term, text) && leaves_each_front(alloc, &term, text);
+            let done = writes(alloc, &term, text) && leaves_each_prefix(alloc, &term, text);
             drop(term);
             done
         }
@@ -326,14 +330,14 @@ fn is_written(alloc: Global, text: &str) -> bool {
 }
 
 #[test]
-fn a_fault_leaves_a_front_of_the_text(rt: HostRuntime) {
+fn a_fault_leaves_a_prefix_of_the_text(rt: HostRuntime) {
     assert!(rt; is_written(rt.alloc(), "{a,'B',[<0.1.0>,#Tid<2>],<<1,2>>,-3}"));
 }
 
 /// Returns whether 100,000 bytes are written to a writer that takes 1,000 at a time.
 fn is_written_in_parts(alloc: Global) -> Result<bool, AllocError> {
     let text = long_text(alloc, "", "0123456789", 10_000, "")?;
-    let mut out = Failing {
+    let mut out = FailingWriter {
         taken: Vec::new(alloc),
         most: 1_000,
         left: 100,
@@ -354,7 +358,7 @@ fn a_writer_may_take_a_hundredth(rt: HostRuntime) {
 
 /// Returns whether a writer that takes nothing is a fault.
 fn is_stuck(alloc: Global) -> bool {
-    let mut stuck = Failing {
+    let mut stuck = FailingWriter {
         taken: Vec::new(alloc),
         most: 0,
         left: 9,

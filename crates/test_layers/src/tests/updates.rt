@@ -1,4 +1,4 @@
-//! Values from outside: updates of one object, as rows of text. `None` means out of memory.
+//! Expected values from the rules of `ets`: updates of one object, as rows of text. `None` means out of memory.
 use counters::{
     CounterFault, ElementSpecs, Ops, apply_elements, apply_ops, is_default, read_element_specs,
     read_ops, start_counter, start_with_elements, update_counter, with_key, write_elements,
@@ -15,19 +15,19 @@ mod elements;
 mod refused;
 mod rows;
 
-/// Returns whether a call answers this, where `badarg` and `system_limit` are its refusals.
-fn is_told(outcome: &Result<Term, CounterFault>, wanted: &Term) -> bool {
+/// Returns whether a call has this answer. The atoms `badarg` and `system_limit` are its refusals.
+fn is_answer(outcome: &Result<Term, CounterFault>, wanted: &Term) -> bool {
     match outcome {
         Ok(answer) => *answer == *wanted,
         Err(fault) => is_refusal(fault, wanted),
     }
 }
 
-/// The same of an answer that is not needed after.
+/// Does so with an outcome that it then drops.
 fn answers(outcome: Result<Term, CounterFault>, wanted: &Term) -> bool {
-    let told = is_told(&outcome, wanted);
+    let same = is_answer(&outcome, wanted);
     drop(outcome);
-    told
+    same
 }
 
 fn is_refusal(fault: &CounterFault, wanted: &Term) -> bool {

@@ -1,18 +1,19 @@
-// Random forms against a plain reading of the rules.
+// Compares random patterns and match specifications with a plain reading of the rules.
 use super::*;
 use crate::tests::plain;
 use crate::tests::random::Random;
 
-/// How many of the random forms matched, were good and gave a result, and how many differed.
+/// How many patterns matched, how many match specifications compiled, how many of these gave a result, and how many
+/// answers differed from the plain reading.
 #[derive(Drop)]
 struct Tally {
-    matched: u32,
-    good: u32,
-    given: u32,
-    different: u32,
+    matches: u32,
+    compiled: u32,
+    results: u32,
+    mismatches: u32,
 }
 
-/// What a pattern finds in an object, where it is one: None where it does not match.
+/// Returns the bindings of a pattern, or None if it does not match. The outer None means that it does not compile.
 fn bindings(alloc: Global, pattern: &Term, object: &Term) -> Option<Option<Term>> {
     let pattern = Pattern::compile(alloc, pattern).ok()?;
     match pattern.bindings(alloc, object).ok()? {
@@ -24,22 +25,22 @@ fn bindings(alloc: Global, pattern: &Term, object: &Term) -> Option<Option<Term>
 impl Tally {
     fn count(&mut self, same: bool) {
         if !same {
-            self.different = self.different.saturating_add(1);
+            self.mismatches = self.mismatches.saturating_add(1);
         }
     }
 
     fn pattern(&mut self, alloc: Global, pattern: &Term, object: &Term) {
         let found = bindings(alloc, pattern, object);
-        self.matched = self
-            .matched
+        self.matches = self
+            .matches
             .saturating_add(matches!(found, Some(Some(_))) as u32);
         self.count(found == Some(plain::bindings(alloc, pattern, object)));
     }
 
     fn result(&mut self, alloc: Global, compiled: &Spec, spec: &Term, object: &Term) {
         let result = compiled.result(alloc, object).ok();
-        self.given = self
-            .given
+        self.results = self
+            .results
             .saturating_add(matches!(result, Some(Some(_))) as u32);
         self.count(result == Some(plain::result(alloc, spec, object)));
     }
@@ -48,7 +49,7 @@ impl Tally {
         let is_spec = plain::is_spec(alloc, spec);
         match Spec::compile(alloc, spec) {
             Ok(compiled) => {
-                self.good = self.good.saturating_add(1);
+                self.compiled = self.compiled.saturating_add(1);
                 self.count(is_spec);
                 self.result(alloc, &compiled, spec, object);
             }
@@ -61,7 +62,7 @@ impl Tally {
         Some(())
     }
 
-    // A random object with a pattern and a specification of its own.
+    // Adds a random object with a pattern and a match specification of its own.
     fn one_more(&mut self, alloc: Global, random: &mut Random) -> Option<()> {
         let object = random.object(alloc)?;
         self.pattern_of(alloc, random, &object)?;
@@ -77,22 +78,22 @@ impl Tally {
     }
 
     fn is_good(&self) -> bool {
-        self.different == 0
-            && self.matched > 2_500
-            && self.good > 1_000
-            && self.good < 4_000
-            && self.given > 500
+        self.mismatches == 0
+            && self.matches > 2_500
+            && self.compiled > 1_000
+            && self.compiled < 4_000
+            && self.results > 500
     }
 }
 
-/// Returns whether 5,000 random objects, each with a pattern and a specification, agree, and enough of them say
-/// something.
+/// Returns whether 5,000 random objects, each with a pattern and a match specification, give no mismatch, and enough of
+/// them match and give results.
 fn agree(alloc: Global, seed: u64) -> bool {
     let mut tally = Tally {
-        matched: 0,
-        good: 0,
-        given: 0,
-        different: 0,
+        matches: 0,
+        compiled: 0,
+        results: 0,
+        mismatches: 0,
     };
     let done = tally.add(alloc, &mut Random::new(seed), 5_000);
     done == Some(()) && tally.is_good()

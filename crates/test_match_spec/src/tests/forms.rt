@@ -1,4 +1,4 @@
-// Terms as the tests need them.
+// Terms that the tests are built of.
 use ets_term::{Atom, Items, Term};
 use std::alloc::Global;
 

@@ -1,4 +1,4 @@
-// The keys that patterns and specifications bind.
+// The keys that patterns and match specifications bind.
 use super::*;
 use ets_term::Position;
 use term_text::read_term;
@@ -7,7 +7,7 @@ fn read(alloc: Global, text: &str) -> Option<Term> {
     Some(read_term(alloc, text).ok()?.0)
 }
 
-/// Returns whether a key that was found is that of a text, or there is not one and no text.
+/// Returns whether a key is that of a text, or both are missing.
 fn is_key(alloc: Global, found: Option<&Term>, wanted: Option<&'static str>) -> Option<bool> {
     match (found, wanted) {
         (Some(key), Some(text)) => Some(*key == read(alloc, text)?),
@@ -52,7 +52,7 @@ fn a_pattern_binds_its_key(rt: HostRuntime) {
     assert!(rt; patterns_bind(rt.alloc(), &PATTERNS));
 }
 
-/// A specification, and the key at position 1 that it binds.
+/// A match specification, and the key at position 1 that it binds.
 type SpecRow = (&'static str, Option<&'static str>);
 
 const SPECS: [SpecRow; 6] = [

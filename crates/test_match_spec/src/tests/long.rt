@@ -1,4 +1,4 @@
-// Patterns, specifications and expressions past the numbers at which a lazy body could stop.
+// Patterns, match specifications and expressions past the sizes at which a lazy body could stop.
 use super::*;
 use crate::tests::forms::{atom, one, pair, triple};
 
@@ -31,7 +31,7 @@ fn many_numbers(alloc: Global) -> Option<Term> {
     Some(Term::Tuple(numbers))
 }
 
-/// Returns whether each value is the number of its place.
+/// Returns whether each value is its index.
 fn are_numbered(values: &[Term]) -> bool {
     for (i, value) in values.iter().enumerate() {
         if *value != Term::Int(i as Integer) {
@@ -46,14 +46,14 @@ fn binds_in_order(alloc: Global, pattern: &Pattern) -> Option<bool> {
     Some(are_numbered(values.as_slice()))
 }
 
-fn many_bind_in_order(alloc: Global) -> Option<bool> {
+fn binds_many_in_order(alloc: Global) -> Option<bool> {
     let pattern = Pattern::compile(alloc, &many_variables(alloc)?).ok()?;
     binds_in_order(alloc, &pattern)
 }
 
 #[test]
 fn thousands_of_variables_are_bound_in_order(rt: HostRuntime) {
-    assert!(rt; many_bind_in_order(rt.alloc()) == Some(true));
+    assert!(rt; binds_many_in_order(rt.alloc()) == Some(true));
 }
 
 /// `[$1]`.
@@ -61,7 +61,7 @@ fn body(alloc: Global) -> Option<Term> {
     Some(Term::List(one(alloc, atom(alloc, "$1")?)?))
 }
 
-/// A clause that gives an object with this key its second element.
+/// Builds a clause that gives the second element of an object with this key.
 fn clause(alloc: Global, key: Integer) -> Option<Term> {
     let head = pair(alloc, Term::Int(key), atom(alloc, "$1")?)?;
     triple(alloc, head, Term::List(Items::new(alloc)), body(alloc)?)
@@ -80,7 +80,7 @@ fn gives_itself(alloc: Global, spec: &Spec, n: Integer) -> Option<bool> {
     Some(spec.result(alloc, &object).ok()?? == Term::Int(n))
 }
 
-fn give_themselves(alloc: Global, spec: &Spec, numbers: &[Integer]) -> bool {
+fn all_give_themselves(alloc: Global, spec: &Spec, numbers: &[Integer]) -> bool {
     for n in numbers {
         if gives_itself(alloc, spec, *n) != Some(true) {
             return false;
@@ -89,15 +89,15 @@ fn give_themselves(alloc: Global, spec: &Spec, numbers: &[Integer]) -> bool {
     true
 }
 
-fn many_are_tried(alloc: Global, numbers: &[Integer]) -> Option<bool> {
+fn tries_many(alloc: Global, numbers: &[Integer]) -> Option<bool> {
     let spec = Spec::compile(alloc, &many_clauses(alloc)?).ok()?;
-    Some(give_themselves(alloc, &spec, numbers))
+    Some(all_give_themselves(alloc, &spec, numbers))
 }
 
 #[test]
 fn thousands_of_clauses_are_tried_in_order(rt: HostRuntime) {
     let numbers = [0, 1, 2, 255, 256, 4_096, 8_192, 9_999];
-    assert!(rt; many_are_tried(rt.alloc(), &numbers) == Some(true));
+    assert!(rt; tries_many(rt.alloc(), &numbers) == Some(true));
 }
 
 /// `{+,{+,..{+,2,1}..,1},1}`.
@@ -109,8 +109,8 @@ fn deep_sum(alloc: Global, levels: usize) -> Option<Term> {
     Some(sum)
 }
 
-/// The specification that gives each object the value of an expression.
-fn giving(alloc: Global, expression: Term) -> Option<Term> {
+/// Builds the match specification whose result is the value of an expression.
+fn spec_of(alloc: Global, expression: Term) -> Option<Term> {
     let body = Term::List(one(alloc, expression)?);
     let clause = triple(
         alloc,
@@ -122,7 +122,7 @@ fn giving(alloc: Global, expression: Term) -> Option<Term> {
 }
 
 fn value(alloc: Global, expression: Term) -> Option<Term> {
-    let spec = Spec::compile(alloc, &giving(alloc, expression)?).ok()?;
+    let spec = Spec::compile(alloc, &spec_of(alloc, expression)?).ok()?;
     spec.result(alloc, &Term::Tuple(one(alloc, Term::Int(1))?))
         .ok()?
 }

@@ -1,5 +1,4 @@
-// A plain reading of the rules over raw terms. It shares nothing with the crate: no place, no compiled form, no shared
-// code.
+// A plain reading of the rules over terms. It shares no code with the crate: it has no paths and compiles nothing.
 use crate::tests::forms::{atom, copy};
 use ets_term::{Integer, Items, Term};
 use std::alloc::Global;

@@ -1,8 +1,9 @@
-// Random objects, patterns and specifications, made from pools of terms that grow by tuples and lists of what is there.
+// Random objects, patterns and match specifications. They are built from pools of terms, which grow by tuples and lists
+// of the terms in them.
 use super::*;
 use crate::tests::forms::{atom, copy, one, triple};
 
-/// Numbers that are the same in each run.
+/// Pseudo-random numbers, the same in each run.
 #[derive(Drop)]
 pub(crate) struct Random {
     state: u64,
@@ -21,7 +22,7 @@ impl Random {
         (self.state >> 33).checked_rem(n).unwrap_or(0)
     }
 
-    // One of the terms, again.
+    // Returns a copy of one of the terms.
     fn one_of(&mut self, alloc: Global, terms: &[Term]) -> Option<Term> {
         let at = self.below(terms.len() as u64) as usize;
         copy(alloc, terms.get(at)?)
@@ -62,8 +63,8 @@ impl Random {
         }
     }
 
-    // A tuple or a list of up to two of the terms.
-    fn nested(&mut self, alloc: Global, terms: &[Term]) -> Option<Term> {
+    // Builds a tuple or a list of up to two of the terms.
+    fn tuple_or_list(&mut self, alloc: Global, terms: &[Term]) -> Option<Term> {
         let inner = self.some_of(alloc, terms, 2)?;
         if self.below(2) == 0 {
             Some(Term::Tuple(inner))
@@ -77,13 +78,13 @@ impl Random {
             pool.push(self.plain_term(alloc)?).ok()?;
         }
         for _ in 0..2 {
-            let nested = self.nested(alloc, pool.as_slice())?;
-            pool.push(nested).ok()?;
+            let term = self.tuple_or_list(alloc, pool.as_slice())?;
+            pool.push(term).ok()?;
         }
         Some(())
     }
 
-    /// A tuple of up to three elements, some of them tuples and lists.
+    /// Builds a tuple of up to three elements, some of them tuples and lists.
     pub(crate) fn object(&mut self, alloc: Global) -> Option<Term> {
         let mut pool = Vec::new(alloc);
         self.push_parts(alloc, &mut pool)?;
@@ -102,8 +103,8 @@ impl Random {
         }
     }
 
-    // A part of a pattern: half of the tuples and lists have holes inside.
-    fn part(&mut self, alloc: Global, term: &Term) -> Option<Term> {
+    // Builds a part of a pattern: half of the tuples and lists have holes inside.
+    fn pattern_part(&mut self, alloc: Global, term: &Term) -> Option<Term> {
         match term {
             Term::Tuple(inner) if self.below(2) == 0 => {
                 Some(Term::Tuple(self.inner_holes(alloc, inner.as_slice())?))
@@ -118,7 +119,7 @@ impl Random {
     fn holes(&mut self, alloc: Global, terms: &[Term]) -> Option<Items<Term>> {
         let mut parts = Items::new(alloc);
         for term in terms {
-            parts.push(self.part(alloc, term)?).ok()?;
+            parts.push(self.pattern_part(alloc, term)?).ok()?;
         }
         Some(parts)
     }
@@ -131,7 +132,7 @@ impl Random {
         Some(parts)
     }
 
-    /// The object with variables and other terms in place of some of its parts.
+    /// Builds a pattern: the object with variables and other terms in place of some of its parts.
     pub(crate) fn pattern(&mut self, alloc: Global, object: &Term) -> Option<Term> {
         match object {
             Term::Tuple(items) if self.below(10) > 0 => {
@@ -192,7 +193,7 @@ impl Random {
         }
     }
 
-    // A function, mostly with its number of arguments.
+    // Builds the application of a function, mostly with its number of arguments.
     fn application(&mut self, alloc: Global, pool: &[Term]) -> Option<Term> {
         let (name, count) = self.function();
         let count = if self.below(40) == 0 {
@@ -205,7 +206,7 @@ impl Random {
         Some(Term::Tuple(parts))
     }
 
-    // An expression of those that are there.
+    // Builds an expression of those in the pool.
     fn expression(&mut self, alloc: Global, pool: &[Term]) -> Option<Term> {
         match self.below(8) {
             0 => Some(Term::List(self.some_of(alloc, pool, 2)?)),
@@ -243,7 +244,7 @@ impl Random {
         triple(alloc, head, conditions, body)
     }
 
-    /// One or two clauses whose heads are made from the object.
+    /// Builds a match specification of one or two clauses whose patterns are made from the object.
     pub(crate) fn spec(&mut self, alloc: Global, object: &Term) -> Option<Term> {
         let mut clauses = Items::new(alloc);
         for _ in 0..self.below(2).saturating_add(1) {

@@ -1,5 +1,5 @@
-// Out of memory. Run with each allocation refused in turn, by `.ci/refusals`: what is compiled or tried again is what
-// it is at once.
+// Out of memory. `.ci/refusals` runs these tests with each allocation refused in turn. What is compiled or evaluated
+// again must give the result of ample memory.
 use super::*;
 use term_text::{TextFault, read_term};
 
@@ -28,25 +28,25 @@ fn spec_again(alloc: Global, term: &Term) -> Option<Spec> {
     }
 }
 
-/// The values by which an object matches, as a list, or the atom `none`.
-fn found_again(alloc: Global, pattern: &Pattern, object: &Term) -> Option<Term> {
-    let found = match pattern.bindings(alloc, object) {
-        Ok(found) => found,
+/// Returns the bindings by which an object matches, as a list, or the atom `none`.
+fn bindings_again(alloc: Global, pattern: &Pattern, object: &Term) -> Option<Term> {
+    let bindings = match pattern.bindings(alloc, object) {
+        Ok(bindings) => bindings,
         Err(_) => pattern.bindings(alloc, object).ok()?,
     };
-    match found {
+    match bindings {
         Some(values) => Some(Term::List(Items::from_vec(values))),
         None => term_again(alloc, "none"),
     }
 }
 
-/// What a specification gives of an object, or the atom `none`.
-fn given_again(alloc: Global, spec: &Spec, object: &Term) -> Option<Term> {
-    let given = match spec.result(alloc, object) {
-        Ok(given) => given,
+/// Returns the result of a match specification on an object, or the atom `none`.
+fn result_again(alloc: Global, spec: &Spec, object: &Term) -> Option<Term> {
+    let result = match spec.result(alloc, object) {
+        Ok(result) => result,
         Err(_) => spec.result(alloc, object).ok()?,
     };
-    match given {
+    match result {
         Some(value) => Some(value),
         None => term_again(alloc, "none"),
     }
@@ -59,18 +59,18 @@ fn is_true_again(alloc: Global, spec: &Spec, object: &Term) -> Option<bool> {
     }
 }
 
-fn is_found(alloc: Global, pattern: &Term, object: &Term, wanted: &Term) -> Option<bool> {
+fn has_bindings(alloc: Global, pattern: &Term, object: &Term, wanted: &Term) -> Option<bool> {
     let pattern = pattern_again(alloc, pattern)?;
-    Some(found_again(alloc, &pattern, object)? == *wanted)
+    Some(bindings_again(alloc, &pattern, object)? == *wanted)
 }
 
-fn is_given(alloc: Global, spec: &Term, object: &Term, wanted: &Term) -> Option<bool> {
+fn has_result(alloc: Global, spec: &Term, object: &Term, wanted: &Term) -> Option<bool> {
     let spec = spec_again(alloc, spec)?;
     let is_true = is_true_again(alloc, &spec, object)? == wanted.is_atom("true");
-    Some(is_true && given_again(alloc, &spec, object)? == *wanted)
+    Some(is_true && result_again(alloc, &spec, object)? == *wanted)
 }
 
-/// What a row is about: `[Pattern,Object,Values]`, or `[Specification,Object,Result]`.
+/// The form of a row: `[Pattern,Object,Values]` or `[Specification,Object,Result]`.
 #[derive(Clone, Copy)]
 enum Form {
     Pattern,
@@ -79,23 +79,23 @@ enum Form {
 
 fn holds(alloc: Global, form: Form, row: &[Term]) -> Option<bool> {
     match (form, row) {
-        (Form::Pattern, [pattern, object, wanted]) => is_found(alloc, pattern, object, wanted),
-        (Form::Spec, [spec, object, wanted]) => is_given(alloc, spec, object, wanted),
+        (Form::Pattern, [pattern, object, wanted]) => has_bindings(alloc, pattern, object, wanted),
+        (Form::Spec, [spec, object, wanted]) => has_result(alloc, spec, object, wanted),
         _ => None,
     }
 }
 
-fn holds_read(alloc: Global, form: Form, row: &str) -> Option<bool> {
+fn holds_in_text(alloc: Global, form: Form, row: &str) -> Option<bool> {
     match term_again(alloc, row)? {
         Term::List(parts) => holds(alloc, form, parts.as_slice()),
         _ => None,
     }
 }
 
-/// The first row that does not hold.
-fn wrong(alloc: Global, rows: &[(Form, &'static str)]) -> Option<&'static str> {
+/// Returns the first row that does not hold.
+fn first_mismatch(alloc: Global, rows: &[(Form, &'static str)]) -> Option<&'static str> {
     for (form, row) in rows {
-        if holds_read(alloc, *form, *row) != Some(true) {
+        if holds_in_text(alloc, *form, *row) != Some(true) {
             return Some(*row);
         }
     }
@@ -144,5 +144,5 @@ const ROWS: [(Form, &str); 10] = [
 
 #[test]
 fn what_was_refused_is_compiled_and_tried_again(rt: HostRuntime) {
-    assert_eq!(rt; wrong(rt.alloc(), &ROWS), None);
+    assert_eq!(rt; first_mismatch(rt.alloc(), &ROWS), None);
 }

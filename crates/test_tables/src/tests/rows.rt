@@ -1,6 +1,6 @@
 ghost use Rattle.std.specs.Prelude.{◌<◌};
 
-// What no clause says: that calls succeed at every size, and that searches are short where they must be.
+// What no contract says: calls succeed at every size, and searches are short in ready buckets.
 use bucket_table::{Growth, PlainRows, Readying, Rows, SlotEntry, SplitRows};
 use ets_term::{AllSame, Fnv, Integer, KeyHash, Term};
 use node_list::{Chain, Steps};
@@ -18,7 +18,7 @@ mod sizes;
 
 use self::hashes::{Even, Last, Plain};
 
-/// Numbers that look random, the same in each run.
+/// Pseudo-random numbers, the same in each run.
 #[derive(Drop)]
 struct Draws {
     state: u64,
@@ -40,73 +40,73 @@ impl Draws {
     }
 }
 
-/// What a key has.
+/// What rows have under a key.
 #[derive(Clone, Copy, PartialEq, Eq)]
-enum Kept {
+enum KeyState {
     Nothing,
-    Held,
+    Tombstone,
     Object(Integer),
 }
 
-fn kept_in(objects: &[Term]) -> Kept {
+fn state_in(objects: &[Term]) -> KeyState {
     match objects.first() {
-        Some(Term::Int(value)) => Kept::Object(*value),
-        _ => Kept::Held,
+        Some(Term::Int(value)) => KeyState::Object(*value),
+        _ => KeyState::Tombstone,
     }
 }
 
-fn kept_at<R: Rows>(rows: &R, key: Integer) -> Kept {
+fn state_at<R: Rows>(rows: &R, key: Integer) -> KeyState {
     let term = Term::Int(key);
-    let kept = match rows.get(&term) {
-        Some(objects) => kept_in(objects),
-        None => Kept::Nothing,
+    let state = match rows.get(&term) {
+        Some(objects) => state_in(objects),
+        None => KeyState::Nothing,
     };
     drop(term);
-    kept
+    state
 }
 
-/// What a slot had that is taken away.
-fn kept_of(objects: Option<Chain>) -> Kept {
+/// Returns the state of a key whose slot had these objects, before it was removed or changed.
+fn state_of(objects: Option<Chain>) -> KeyState {
     match objects {
         Some(objects) => {
-            let kept = kept_in(objects.as_slice());
+            let state = state_in(objects.as_slice());
             drop(objects);
-            kept
+            state
         }
-        None => Kept::Nothing,
+        None => KeyState::Nothing,
     }
 }
 
-/// Gives a key one object, in a new slot or in its own, and answers what it had.
+/// Inserts or replaces the object of a key. Returns the state before.
 fn insert<R: Rows>(
     rows: &mut R,
     alloc: Global,
     key: Integer,
     value: Integer,
-) -> Result<Kept, AllocError> {
+) -> Result<KeyState, AllocError> {
     let term = Term::Int(key);
     let objects = Chain::one(alloc, Term::Int(value));
     match rows.entry(&term) {
         SlotEntry::Vacant(hash) => {
             rows.put_at(hash, term, objects)?;
-            Ok(Kept::Nothing)
+            Ok(KeyState::Nothing)
         }
         SlotEntry::Occupied(place) => {
             drop(term);
-            Ok(kept_of(Some(rows.replace_at(place, objects))))
+            Ok(state_of(Some(rows.replace_at(place, objects))))
         }
     }
 }
 
-/// Takes a key's slot away, and answers what it had.
-fn remove<R: Rows>(rows: &mut R, key: Integer) -> Kept {
+/// Removes the slot of a key. Returns the state before.
+fn remove<R: Rows>(rows: &mut R, key: Integer) -> KeyState {
     let term = Term::Int(key);
     let objects = rows.remove(&term);
     drop(term);
-    kept_of(objects)
+    state_of(objects)
 }
 
-/// Doubles the buckets now and then, and readies some of them in any order.
+/// Doubles the buckets now and then, and makes some of them ready in any order.
 fn ready_some<R: Rows>(rows: &mut R, draws: &mut Draws) -> Result<(), AllocError> {
     if rows.buckets() < 4096 && draws.below(50) == 0 {
         rows.grow()?;

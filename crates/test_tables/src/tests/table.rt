@@ -1,5 +1,5 @@
-// Values from the manual's rules. A test is a list of steps with their answers, each told as a number, which one helper
-// runs on tables over each form of rows.
+// Expected answers from the rules of the manual. A test is a list of steps, each with its answer as a number. One
+// function runs it on tables over each form of rows.
 use bucket_table::{PlainRows, Rows, SplitRows};
 use ets_term::{AllSame, Fnv, Integer, Position};
 use std::alloc::Global;
@@ -48,14 +48,14 @@ pub enum Step {
     Grow,
 }
 
-/// Refusals as numbers.
+/// The numbers of refusals.
 const BADARG: Integer = -1;
 
 const LIMIT: Integer = -2;
 
 const MEMORY: Integer = -3;
 
-/// What a step answers.
+/// Runs a step. Returns its answer.
 fn answer<R: Rows>(alloc: Global, table: &mut Table<R>, step: Step) -> Integer {
     change(alloc, table, step).unwrap_or(MEMORY)
 }
@@ -70,27 +70,37 @@ fn runs<R: Rows>(alloc: Global, table: &mut Table<R>, steps: &[(Step, Integer)])
     true
 }
 
-fn plain(alloc: Global, kind: Kind, keypos: u32, limit: u32) -> Table<PlainRows> {
+fn plain_table(alloc: Global, kind: Kind, keypos: u32, limit: u32) -> Table<PlainRows> {
     Table::new(alloc, PlainRows::new(alloc), kind, keypos.max(1), limit)
 }
 
-fn split(alloc: Global, kind: Kind, keypos: u32, limit: u32) -> Option<Table<SplitRows<Fnv>>> {
+fn split_table(
+    alloc: Global,
+    kind: Kind,
+    keypos: u32,
+    limit: u32,
+) -> Option<Table<SplitRows<Fnv>>> {
     let rows = SplitRows::new(alloc, Fnv).ok()?;
     Some(Table::new(alloc, rows, kind, keypos.max(1), limit))
 }
 
-/// With one hash for all keys.
-fn same(alloc: Global, kind: Kind, keypos: u32, limit: u32) -> Option<Table<SplitRows<AllSame>>> {
+/// Builds a table over split rows with one hash for all keys.
+fn one_bucket_table(
+    alloc: Global,
+    kind: Kind,
+    keypos: u32,
+    limit: u32,
+) -> Option<Table<SplitRows<AllSame>>> {
     let rows = SplitRows::new(alloc, AllSame).ok()?;
     Some(Table::new(alloc, rows, kind, keypos.max(1), limit))
 }
 
-/// A table, by its kind, the position of the key and how many objects it may have; and steps on it, with their answers.
+/// A table by its kind, its keypos and its greatest number of objects, and the steps on it with their answers.
 type Life = (Kind, u32, u32, &'static [(Step, Integer)]);
 
 fn plain_runs(alloc: Global, life: Life) -> bool {
     let (kind, keypos, limit, steps) = life;
-    let mut table = plain(alloc, kind, keypos, limit);
+    let mut table = plain_table(alloc, kind, keypos, limit);
     let all = runs(alloc, &mut table, steps);
     drop(table);
     all
@@ -98,15 +108,15 @@ fn plain_runs(alloc: Global, life: Life) -> bool {
 
 fn split_runs(alloc: Global, life: Life) -> Option<bool> {
     let (kind, keypos, limit, steps) = life;
-    let mut table = split(alloc, kind, keypos, limit)?;
+    let mut table = split_table(alloc, kind, keypos, limit)?;
     let all = runs(alloc, &mut table, steps);
     drop(table);
     Some(all)
 }
 
-fn same_runs(alloc: Global, life: Life) -> Option<bool> {
+fn one_bucket_runs(alloc: Global, life: Life) -> Option<bool> {
     let (kind, keypos, limit, steps) = life;
-    let mut table = same(alloc, kind, keypos, limit)?;
+    let mut table = one_bucket_table(alloc, kind, keypos, limit)?;
     let all = runs(alloc, &mut table, steps);
     drop(table);
     Some(all)
@@ -115,14 +125,14 @@ fn same_runs(alloc: Global, life: Life) -> Option<bool> {
 fn all_run(alloc: Global, life: Life) -> bool {
     plain_runs(alloc, life)
         && split_runs(alloc, life) == Some(true)
-        && same_runs(alloc, life) == Some(true)
+        && one_bucket_runs(alloc, life) == Some(true)
 }
 
-/// The place of the first life that goes otherwise over one of the forms of rows.
-fn wrong(alloc: Global, lives: &[Life]) -> Option<usize> {
-    for (place, life) in lives.iter().enumerate() {
+/// Returns the index of the first life with a wrong answer over some form of rows.
+fn first_mismatch(alloc: Global, lives: &[Life]) -> Option<usize> {
+    for (index, life) in lives.iter().enumerate() {
         if !all_run(alloc, *life) {
-            return Some(place);
+            return Some(index);
         }
     }
     None

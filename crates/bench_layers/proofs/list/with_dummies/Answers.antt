@@ -6,4 +6,4 @@ pub returns-clause-ready : goal.returns-clause-ready
 returns-clause-ready c =
     let P : ℕ → Type 0 = λ n. IsPowerOfTwo n in
     let len : vec_len c.loop-bucket.lists.dummies ≡ c.args.buckets = omega arith in
-    record { dummies = c.loop-bucket.invariant.stands; power = subst P (sym len) c.requires.power; few = omega (arith, len) }
+    record { dummies = c.loop-bucket.invariant.dummies; power = subst P (sym len) c.requires.power; few = omega (arith, len) }

@@ -4,8 +4,8 @@ use Rattle.bench_layers.proofs.list.with_dummies.Given as goal
 
 abbrev pub invariant-loop-bucket : goal.invariant-loop-bucket
 invariant-loop-bucket l = record {
-  stands : HasDummies l.lists.dummies.items l.lists.list.cells;
+  dummies : HasDummies l.lists.dummies.items l.lists.list.cells;
   len : vec_len l.lists.dummies ≡ l._bucket;
-  spare : l.buckets ≤ vec_capacity l.lists.dummies;
+  capacity : l.buckets ≤ vec_capacity l.lists.dummies;
   room : length l.lists.list.cells + l.items + l.buckets ≤ l.lists.list.capacity + l._bucket;
 }

@@ -76,7 +76,7 @@ fn all_succeed<R: Rows>(alloc: Global, table: &mut Walked<R>, keys: u32) -> Opti
     Some(true)
 }
 
-/// Returns whether a number of processes fix the table, and release it.
+/// Returns whether a number of processes can fix the table, and release it.
 fn fix_and_release<R: Rows>(table: &mut Walked<R>, processes: u32) -> bool {
     for pid in 0..processes {
         if table.fix(pid).is_err() {
@@ -92,7 +92,7 @@ fn fix_and_release<R: Rows>(table: &mut Walked<R>, processes: u32) -> bool {
     !table.is_fixed()
 }
 
-/// How many objects there are; None if memory runs out.
+/// Returns how many objects a table has, or None if memory runs out.
 fn count_all<R: Rows>(table: &Walked<R>) -> Option<usize> {
     let objects = table.objects().ok()?;
     let count = objects.len();
@@ -101,7 +101,7 @@ fn count_all<R: Rows>(table: &Walked<R>) -> Option<usize> {
 }
 
 /// Returns whether the calls on the whole table succeed.
-fn whole_table<R: Rows>(table: &mut Walked<R>, keys: usize) -> bool {
+fn lists_and_clears<R: Rows>(table: &mut Walked<R>, keys: usize) -> bool {
     let all = count_all(table) == Some(keys) && table.size() == keys;
     table.delete_all();
     all && table.size() == 0 && table.slots() == 0
@@ -109,18 +109,18 @@ fn whole_table<R: Rows>(table: &mut Walked<R>, keys: usize) -> bool {
 
 fn serves<R: Rows>(alloc: Global, table: &mut Walked<R>) -> Option<bool> {
     let each = all_succeed(alloc, table, 5_000)?;
-    Some(each && fix_and_release(table, 5_000) && whole_table(table, 5_000))
+    Some(each && fix_and_release(table, 5_000) && lists_and_clears(table, 5_000))
 }
 
 fn plain_serves(alloc: Global) -> Option<bool> {
-    let mut table = plain(alloc, Kind::Set);
+    let mut table = plain_table(alloc, Kind::Set);
     let done = serves(alloc, &mut table);
     drop(table);
     done
 }
 
 fn split_serves(alloc: Global) -> Option<bool> {
-    let mut table = split(alloc, Kind::Set)?;
+    let mut table = split_table(alloc, Kind::Set)?;
     let done = serves(alloc, &mut table);
     drop(table);
     done

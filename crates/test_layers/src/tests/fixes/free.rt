@@ -1,16 +1,16 @@
 // Calls that take no memory: `.ci/refusals` refuses each allocation between two marks.
 use super::*;
 
-/// More bytes than any machine has. Each request for these is refused. For `.ci/refusals` it marks the begin or the
-/// end of a part that takes no memory.
+/// More bytes than any machine has, so that each request is refused. To `.ci/refusals` such a request marks the begin
+/// or the end of a part that takes no memory.
 const MARK: usize = 1 << 60;
 
 fn mark(alloc: Global) -> bool {
     Vec::<u8>::with_capacity(alloc, MARK).is_err()
 }
 
-/// Walks by `first_lookup` and `next_lookup`. Returns the number of keys and of their objects.
-fn walked<R: Rows>(table: &Walked<R>) -> (usize, usize) {
+/// Traverses by `first_lookup` and `next_lookup`. Returns the number of keys and of their objects.
+fn count_traversed<R: Rows>(table: &Walked<R>) -> (usize, usize) {
     let mut keys = 0usize;
     let mut objects = 0usize;
     let mut at = table.first_lookup();
@@ -23,15 +23,16 @@ fn walked<R: Rows>(table: &Walked<R>) -> (usize, usize) {
     (keys, objects)
 }
 
-/// Returns whether a walk skips a deleted key, whose slot goes when both processes have released their fixes.
-fn walks_and_releases<R: Rows>(table: &mut Walked<R>) -> bool {
-    let whole = walked(table) == (3, 3);
+/// Returns whether a traversal skips a deleted key, and its tombstone is removed when both processes have released
+/// their fixes.
+fn traverses_and_releases<R: Rows>(table: &mut Walked<R>) -> bool {
+    let whole = count_traversed(table) == (3, 3);
     delete(table, 2);
-    let passed = walked(table) == (2, 2) && table.slots() == 3;
+    let passed = count_traversed(table) == (2, 2) && table.slots() == 3;
     table.release_all(0);
-    let held = table.is_fixed() && table.slots() == 3;
+    let still_fixed = table.is_fixed() && table.slots() == 3;
     table.release_all(1);
-    whole && passed && held && !table.is_fixed() && table.slots() == 2
+    whole && passed && still_fixed && !table.is_fixed() && table.slots() == 2
 }
 
 /// Inserts the keys 1 to 3, and fixes the table twice for process 0 and once for process 1.
@@ -50,27 +51,27 @@ fn is_free<R: Rows>(alloc: Global, table: &mut Walked<R>) -> Option<bool> {
     delete(table, 3);
     let _ = insert(alloc, table, 3, 3)?;
     let began = mark(alloc);
-    let done = walks_and_releases(table);
+    let done = traverses_and_releases(table);
     let ended = mark(alloc);
     Some(began && done && ended)
 }
 
 fn is_free_of_plain(alloc: Global) -> Option<bool> {
-    let mut table = plain(alloc, Kind::Bag);
+    let mut table = plain_table(alloc, Kind::Bag);
     let free = is_free(alloc, &mut table);
     drop(table);
     free
 }
 
 fn is_free_of_split(alloc: Global) -> Option<bool> {
-    let mut table = split(alloc, Kind::Set)?;
+    let mut table = split_table(alloc, Kind::Set)?;
     let free = is_free(alloc, &mut table);
     drop(table);
     free
 }
 
 #[test]
-fn walks_and_releases_take_no_memory(rt: HostRuntime) {
+fn traversals_and_releases_take_no_memory(rt: HostRuntime) {
     assert_eq!(rt; is_free_of_plain(rt.alloc()), Some(true));
     assert_eq!(rt; is_free_of_split(rt.alloc()), Some(true));
 }

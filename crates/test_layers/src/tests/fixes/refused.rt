@@ -1,12 +1,11 @@
-// Out of memory. Run with each allocation refused in turn, by `.ci/refusals`: a call that ran out of memory has
-// changed nothing, neither keys nor their order nor fixes, and answers when it is called again as if it had been called
-// once.
+// Out of memory. `.ci/refusals` runs these tests with each allocation refused in turn. A call that ran out of memory
+// must have changed nothing: no key, no order, no fix. Made again, it must have the answer of ample memory.
 use super::*;
 use bucket_table::{Growth, Readying};
 use fixed_walk::FixFault;
 use table_ops::Refusal;
 
-/// A call, of numbers for keys, values and processes.
+/// A call, with numbers for keys, values and processes.
 #[derive(Clone, Copy)]
 enum Step {
     Insert(Integer, Integer),
@@ -22,12 +21,13 @@ enum Step {
     Ready,
 }
 
-/// The answer of a call that was refused memory, and of one that was refused otherwise.
+/// The answer of a call that was refused memory.
 const MEMORY: Integer = -1;
 
+/// The answer of a call with another refusal.
 const OTHERWISE: Integer = -2;
 
-fn refusal(refused: &Refusal) -> Integer {
+fn refusal_code(refused: &Refusal) -> Integer {
     match refused {
         Refusal::Memory => MEMORY,
         Refusal::Badarg | Refusal::SystemLimit => OTHERWISE,
@@ -41,7 +41,7 @@ fn object_again(alloc: Global, key: Integer, value: Integer) -> Option<Term> {
     }
 }
 
-fn inserted<R: Rows>(table: &mut Walked<R>, object: Option<Term>) -> Integer {
+fn try_insert<R: Rows>(table: &mut Walked<R>, object: Option<Term>) -> Integer {
     let Some(object) = object else {
         return OTHERWISE;
     };
@@ -50,11 +50,11 @@ fn inserted<R: Rows>(table: &mut Walked<R>, object: Option<Term>) -> Integer {
     drop(objects);
     match inserted {
         Ok(()) => 1,
-        Err(refused) => refusal(&refused),
+        Err(refused) => refusal_code(&refused),
     }
 }
 
-fn inserted_new<R: Rows>(table: &mut Walked<R>, object: Option<Term>) -> Integer {
+fn try_insert_new<R: Rows>(table: &mut Walked<R>, object: Option<Term>) -> Integer {
     let Some(object) = object else {
         return OTHERWISE;
     };
@@ -63,11 +63,11 @@ fn inserted_new<R: Rows>(table: &mut Walked<R>, object: Option<Term>) -> Integer
     drop(objects);
     match inserted {
         Ok(done) => Integer::from(done),
-        Err(refused) => refusal(&refused),
+        Err(refused) => refusal_code(&refused),
     }
 }
 
-fn deleted_object<R: Rows>(table: &mut Walked<R>, object: Option<Term>) -> Integer {
+fn try_delete_object<R: Rows>(table: &mut Walked<R>, object: Option<Term>) -> Integer {
     let Some(object) = object else {
         return OTHERWISE;
     };
@@ -75,7 +75,7 @@ fn deleted_object<R: Rows>(table: &mut Walked<R>, object: Option<Term>) -> Integ
     drop(object);
     match deleted {
         Ok(()) => 1,
-        Err(refused) => refusal(&refused),
+        Err(refused) => refusal_code(&refused),
     }
 }
 
@@ -89,11 +89,11 @@ fn element<R: Rows>(table: &Walked<R>, key: Integer) -> Integer {
             drop(element);
             value
         }
-        Err(refused) => refusal(&refused),
+        Err(refused) => refusal_code(&refused),
     }
 }
 
-/// An integer, or 0.
+/// Returns an integer, or 0 for any other term.
 fn number_of(term: &Term) -> Integer {
     match term {
         Term::Int(number) => *number,
@@ -101,7 +101,7 @@ fn number_of(term: &Term) -> Integer {
     }
 }
 
-fn taken<R: Rows>(table: &mut Walked<R>, key: Integer) -> Integer {
+fn try_take<R: Rows>(table: &mut Walked<R>, key: Integer) -> Integer {
     let key = Term::Int(key);
     let taken = table.take(&key);
     drop(key);
@@ -115,7 +115,7 @@ fn taken<R: Rows>(table: &mut Walked<R>, key: Integer) -> Integer {
     }
 }
 
-fn listed<R: Rows>(table: &Walked<R>) -> Integer {
+fn count_objects<R: Rows>(table: &Walked<R>) -> Integer {
     match table.objects() {
         Ok(objects) => {
             let count = objects.len() as Integer;
@@ -126,7 +126,7 @@ fn listed<R: Rows>(table: &Walked<R>) -> Integer {
     }
 }
 
-fn fixed<R: Rows>(table: &mut Walked<R>, pid: u32) -> Integer {
+fn try_fix<R: Rows>(table: &mut Walked<R>, pid: u32) -> Integer {
     match table.fix(pid) {
         Ok(()) => 1,
         Err(FixFault::Memory) => MEMORY,
@@ -134,14 +134,14 @@ fn fixed<R: Rows>(table: &mut Walked<R>, pid: u32) -> Integer {
     }
 }
 
-fn grown<R: Rows>(table: &mut Walked<R>) -> Integer {
+fn try_grow<R: Rows>(table: &mut Walked<R>) -> Integer {
     match table.grow() {
         Ok(growth) => Integer::from(growth == Growth::Grown),
         Err(_) => MEMORY,
     }
 }
 
-fn readied<R: Rows>(table: &mut Walked<R>) -> Integer {
+fn try_ready<R: Rows>(table: &mut Walked<R>) -> Integer {
     let bucket = table.least().unwrap_or(0);
     match table.ready(bucket) {
         Ok(readying) => Integer::from(readying == Readying::Ready),
@@ -151,59 +151,60 @@ fn readied<R: Rows>(table: &mut Walked<R>) -> Integer {
 
 fn answer<R: Rows>(alloc: Global, table: &mut Walked<R>, step: Step) -> Integer {
     match step {
-        Step::Insert(key, value) => inserted(table, object_again(alloc, key, value)),
-        Step::InsertNew(key, value) => inserted_new(table, object_again(alloc, key, value)),
-        Step::DeleteObject(key, value) => deleted_object(table, object_again(alloc, key, value)),
+        Step::Insert(key, value) => try_insert(table, object_again(alloc, key, value)),
+        Step::InsertNew(key, value) => try_insert_new(table, object_again(alloc, key, value)),
+        Step::DeleteObject(key, value) => try_delete_object(table, object_again(alloc, key, value)),
         Step::Element(key) => element(table, key),
-        Step::Take(key) => taken(table, key),
+        Step::Take(key) => try_take(table, key),
         Step::Delete(key) => {
             delete(table, key);
             1
         }
-        Step::Objects => listed(table),
-        Step::Fix(pid) => fixed(table, pid),
+        Step::Objects => count_objects(table),
+        Step::Fix(pid) => try_fix(table, pid),
         Step::Release(pid) => {
             table.release(pid);
             Integer::from(table.is_fixed())
         }
-        Step::Grow => grown(table),
-        Step::Ready => readied(table),
+        Step::Grow => try_grow(table),
+        Step::Ready => try_ready(table),
     }
 }
 
-/// A number for a key of a walk, with its objects, after those before.
-fn mixed<R: Rows>(table: &Walked<R>, told: Integer, key: &Term) -> Integer {
+/// Adds a key and the number of its objects to a digest.
+fn mix_key<R: Rows>(table: &Walked<R>, digest: Integer, key: &Term) -> Integer {
     let own = number_of(key);
     let objects = table.lookup(key).len() as Integer;
-    told.wrapping_mul(1_000_003)
+    digest
+        .wrapping_mul(1_000_003)
         .wrapping_add(own.wrapping_mul(16).wrapping_add(objects))
 }
 
-/// A number for all keys of a walk, in their order.
-fn walked<R: Rows>(table: &Walked<R>) -> Integer {
-    let mut told = 1;
+/// Returns a number for all keys of a traversal, in their order.
+fn traversal_digest<R: Rows>(table: &Walked<R>) -> Integer {
+    let mut digest = 1;
     let mut at = table.first();
     for _ in 0..table.slots() {
         let Some(key) = at else { break };
-        told = mixed(table, told, key);
+        digest = mix_key(table, digest, key);
         at = table.next(key).unwrap_or(None);
     }
-    told
+    digest
 }
 
-/// What can be seen of a table.
+/// Returns what a caller can see of a table.
 fn state<R: Rows>(table: &Walked<R>) -> (Integer, usize, u32, bool) {
     (
-        walked(table),
+        traversal_digest(table),
         table.size(),
         table.buckets(),
         table.is_fixed(),
     )
 }
 
-/// Returns whether a call has its answer, at once or, where it was refused memory and has changed nothing, when it is
-/// called again.
-fn does_again<R: Rows>(alloc: Global, table: &mut Walked<R>, step: Step, wanted: Integer) -> bool {
+/// Returns whether a call has its answer at once, or was refused memory, changed nothing, and has its answer when it is
+/// made again.
+fn runs_again<R: Rows>(alloc: Global, table: &mut Walked<R>, step: Step, wanted: Integer) -> bool {
     let before = state(table);
     let first = answer(alloc, table, step);
     if first != MEMORY {
@@ -212,15 +213,15 @@ fn does_again<R: Rows>(alloc: Global, table: &mut Walked<R>, step: Step, wanted:
     state(table) == before && answer(alloc, table, step) == wanted
 }
 
-/// The place of the first call that is answered otherwise.
-fn wrong_again<R: Rows>(
+/// Returns the index of the first call with another answer.
+fn first_mismatch_again<R: Rows>(
     alloc: Global,
     table: &mut Walked<R>,
     steps: &[(Step, Integer)],
 ) -> Option<usize> {
-    for (place, (step, wanted)) in steps.iter().enumerate() {
-        if !does_again(alloc, table, *step, *wanted) {
-            return Some(place);
+    for (index, (step, wanted)) in steps.iter().enumerate() {
+        if !runs_again(alloc, table, *step, *wanted) {
+            return Some(index);
         }
     }
     None
@@ -264,30 +265,30 @@ const GROWTH: [(Step, Integer); 8] = [
     (Step::Ready, 1),
 ];
 
-fn wrong_on_plain_rows(alloc: Global, steps: &[(Step, Integer)]) -> Option<usize> {
-    let mut table = plain(alloc, Kind::Bag);
-    let place = wrong_again(alloc, &mut table, steps);
+fn first_mismatch_on_plain_rows(alloc: Global, steps: &[(Step, Integer)]) -> Option<usize> {
+    let mut table = plain_table(alloc, Kind::Bag);
+    let mismatch = first_mismatch_again(alloc, &mut table, steps);
     drop(table);
-    place
+    mismatch
 }
 
 #[test]
 fn a_refused_call_of_plain_rows_is_called_again(rt: HostRuntime) {
-    assert_eq!(rt; wrong_on_plain_rows(rt.alloc(), &LIFE), None);
+    assert_eq!(rt; first_mismatch_on_plain_rows(rt.alloc(), &LIFE), None);
 }
 
-fn one_bucket_again(alloc: Global, kind: Kind) -> Option<Walked<SplitRows<AllSame>>> {
-    match one_bucket(alloc, kind) {
+fn one_bucket_table_again(alloc: Global, kind: Kind) -> Option<Walked<SplitRows<AllSame>>> {
+    match one_bucket_table(alloc, kind) {
         Some(table) => Some(table),
-        None => one_bucket(alloc, kind),
+        None => one_bucket_table(alloc, kind),
     }
 }
 
-/// Returns whether the calls are answered so over split rows, whose buckets then double.
+/// Returns whether the calls have their answers over split rows, whose buckets then double.
 fn holds_on_split_rows(alloc: Global) -> Option<bool> {
-    let mut table = one_bucket_again(alloc, Kind::Bag)?;
-    let life = wrong_again(alloc, &mut table, &LIFE);
-    let growth = wrong_again(alloc, &mut table, &GROWTH);
+    let mut table = one_bucket_table_again(alloc, Kind::Bag)?;
+    let life = first_mismatch_again(alloc, &mut table, &LIFE);
+    let growth = first_mismatch_again(alloc, &mut table, &GROWTH);
     drop(table);
     Some(life.is_none() && growth.is_none())
 }

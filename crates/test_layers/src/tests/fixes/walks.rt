@@ -1,41 +1,41 @@
 use super::*;
 
-/// The next of a row of numbers, each of which tells little of the one before.
-fn stirred(seed: u64) -> u64 {
+/// Returns the next number of a pseudo-random sequence.
+fn next_seed(seed: u64) -> u64 {
     seed.wrapping_mul(6_364_136_223_846_793_005)
         .wrapping_add(1_442_695_040_888_963_407)
 }
 
-/// What the table should have next to a traversal. Others put in and delete as many keys; it begins with the lower
-/// half.
+/// What a table should have during a traversal, while other processes insert and delete. It begins with the lower half
+/// of the keys.
 #[derive(Drop)]
-struct Beside {
+struct Expectation {
     keys: u32,
-    /// The values that a key has, each one bit.
+    /// The values of each key, one bit for each value.
     values: Vec<u32>,
-    /// Whether a key had values after each step so far.
-    stayed: Vec<bool>,
-    /// Whether the walk came to a key.
-    came: Vec<bool>,
+    /// Whether each key has had values at all times so far.
+    stable: Vec<bool>,
+    /// Whether the traversal has visited each key.
+    visited: Vec<bool>,
 }
 
-impl Beside {
-    fn new(alloc: Global, keys: u32) -> Option<Beside> {
-        let mut beside = Beside {
+impl Expectation {
+    fn new(alloc: Global, keys: u32) -> Option<Expectation> {
+        let mut expectation = Expectation {
             keys,
             values: Vec::new(alloc),
-            stayed: Vec::new(alloc),
-            came: Vec::new(alloc),
+            stable: Vec::new(alloc),
+            visited: Vec::new(alloc),
         };
-        filled(beside.fill(), beside)
+        keep_if_some(expectation.fill(), expectation)
     }
 
     fn fill(&mut self) -> Option<()> {
         for key in 0..self.keys {
             let has = key < self.keys / 2;
             self.values.push(u32::from(has)).ok()?;
-            self.stayed.push(has).ok()?;
-            self.came.push(false).ok()?;
+            self.stable.push(has).ok()?;
+            self.visited.push(false).ok()?;
         }
         Some(())
     }
@@ -48,36 +48,37 @@ impl Beside {
         if let Some(own) = self.values.get_mut(key as usize) {
             *own = values;
         }
-        if let Some(stayed) = self.stayed.get_mut(key as usize) {
-            *stayed = *stayed && values != 0;
+        if let Some(stable) = self.stable.get_mut(key as usize) {
+            *stable = *stable && values != 0;
         }
     }
 
-    /// Returns whether the walk came to a key that has values, for the first time.
-    fn comes(&mut self, key: u32) -> bool {
+    /// Marks a key as visited. Returns whether it has values and is visited for the first time.
+    fn visit(&mut self, key: u32) -> bool {
         let present = self.values(key) != 0;
-        match self.came.get_mut(key as usize) {
-            Some(came) => {
-                let first = !*came;
-                *came = true;
+        match self.visited.get_mut(key as usize) {
+            Some(visited) => {
+                let first = !*visited;
+                *visited = true;
                 present && first
             }
             None => false,
         }
     }
 
-    /// How many keys had values at each moment, and how many of them the walk came to.
-    fn stayed(&self) -> (usize, usize) {
-        let stayed = self.stayed.iter().filter(|stayed| **stayed).count();
-        let both = self.stayed.iter().zip(self.came.iter());
+    /// Returns how many keys had values at all times, and how many of these the traversal has visited.
+    fn count_stable(&self) -> (usize, usize) {
+        let stable = self.stable.iter().filter(|stable| **stable).count();
+        let both = self.stable.iter().zip(self.visited.iter());
         (
-            stayed,
-            both.filter(|(stayed, came)| **stayed && **came).count(),
+            stable,
+            both.filter(|(stable, visited)| **stable && **visited)
+                .count(),
         )
     }
 
-    /// How many keys have values.
-    fn present(&self) -> usize {
+    /// Returns how many keys have values.
+    fn count_present(&self) -> usize {
         self.values.iter().filter(|values| **values != 0).count()
     }
 }
@@ -86,16 +87,16 @@ impl Beside {
 fn put<R: Rows>(
     alloc: Global,
     table: &mut Walked<R>,
-    beside: &mut Beside,
+    expectation: &mut Expectation,
     key: u32,
     value: u32,
 ) -> Option<bool> {
     let before = if table.kind() == Kind::Set {
         0
     } else {
-        beside.values(key)
+        expectation.values(key)
     };
-    beside.set(key, before | value);
+    expectation.set(key, before | value);
     insert(alloc, table, Integer::from(key), Integer::from(value))
 }
 
@@ -103,50 +104,52 @@ fn put<R: Rows>(
 fn delete_object<R: Rows>(
     alloc: Global,
     table: &mut Walked<R>,
-    beside: &mut Beside,
+    expectation: &mut Expectation,
     key: u32,
     value: u32,
 ) -> Option<bool> {
-    beside.set(key, beside.values(key) & !value);
+    expectation.set(key, expectation.values(key) & !value);
     let object = object(alloc, Integer::from(key), Integer::from(value))?;
     let deleted = table.delete_object(&object).is_ok();
     drop(object);
     Some(deleted)
 }
 
-fn delete_all<R: Rows>(table: &mut Walked<R>, beside: &mut Beside, key: u32) -> bool {
-    beside.set(key, 0);
+fn delete_all<R: Rows>(table: &mut Walked<R>, expectation: &mut Expectation, key: u32) -> bool {
+    expectation.set(key, 0);
     delete(table, Integer::from(key));
     true
 }
 
-/// Deletes all objects of a key and inserts one, so that it has some before and after.
-fn renew<R: Rows>(
+/// Deletes all objects of a key and inserts one, so that the key has objects afterwards.
+fn replace_all<R: Rows>(
     alloc: Global,
     table: &mut Walked<R>,
-    beside: &mut Beside,
+    expectation: &mut Expectation,
     key: u32,
     value: u32,
 ) -> Option<bool> {
     delete(table, Integer::from(key));
-    beside.set(key, value);
+    expectation.set(key, value);
     insert(alloc, table, Integer::from(key), Integer::from(value))
 }
 
-/// A step of another process; whether it succeeds.
-fn meddle<R: Rows>(
+/// Runs a step of another process. Returns whether it succeeds.
+fn run_other_step<R: Rows>(
     alloc: Global,
     table: &mut Walked<R>,
-    beside: &mut Beside,
+    expectation: &mut Expectation,
     seed: u64,
 ) -> Option<bool> {
-    let key = ((seed >> 33) as u32).checked_rem(beside.keys).unwrap_or(0);
+    let key = ((seed >> 33) as u32)
+        .checked_rem(expectation.keys)
+        .unwrap_or(0);
     let value = 1u32 << ((seed >> 30) % 3);
     match (seed >> 20) % 10 {
-        0 | 1 => put(alloc, table, beside, key, value),
-        2 | 3 => Some(delete_all(table, beside, key)),
-        4 => delete_object(alloc, table, beside, key, value),
-        5 | 6 => renew(alloc, table, beside, key, value),
+        0 | 1 => put(alloc, table, expectation, key, value),
+        2 | 3 => Some(delete_all(table, expectation, key)),
+        4 => delete_object(alloc, table, expectation, key, value),
+        5 | 6 => replace_all(alloc, table, expectation, key, value),
         7 => {
             let _ = table.ready((seed >> 52) as u32).ok()?;
             Some(true)
@@ -158,28 +161,28 @@ fn meddle<R: Rows>(
     }
 }
 
-/// Ten steps, and the seed after them; None where one fails.
-fn meddle_often<R: Rows>(
+/// Runs ten steps of other processes. Returns the seed after them, or None if one fails.
+fn run_other_steps<R: Rows>(
     alloc: Global,
     table: &mut Walked<R>,
-    beside: &mut Beside,
+    expectation: &mut Expectation,
     seed: u64,
 ) -> Option<u64> {
     let mut seed = seed;
     for _ in 0..10 {
-        seed = stirred(seed);
-        if !meddle(alloc, table, beside, seed)? {
+        seed = next_seed(seed);
+        if !run_other_step(alloc, table, expectation, seed)? {
             return None;
         }
     }
     Some(seed)
 }
 
-/// The key after one, or the first; None at the end.
-fn next<R: Rows>(table: &Walked<R>, last: Option<u32>) -> Result<Option<u32>, Badarg> {
+/// Returns the first key, or the key after this one.
+fn first_or_next<R: Rows>(table: &Walked<R>, last: Option<u32>) -> Result<Option<u32>, Badarg> {
     let found = match last {
         None => table.first(),
-        Some(key) => behind(table, Integer::from(key))?,
+        Some(key) => key_after(table, Integer::from(key))?,
     };
     match found {
         Some(Term::Int(number)) => match u32::try_from(*number) {
@@ -191,42 +194,46 @@ fn next<R: Rows>(table: &Walked<R>, last: Option<u32>) -> Result<Option<u32>, Ba
     }
 }
 
-/// How many keys came, with ten steps of others between any two of them; None where a call failed, or a key came for
-/// the second time or without objects.
-fn walked<R: Rows>(alloc: Global, table: &mut Walked<R>, beside: &mut Beside) -> Option<u32> {
+/// Traverses a table, with ten steps of other processes after each key. Returns the number of keys, or None if a call
+/// fails, a key comes twice, or a key has no objects.
+fn traverse<R: Rows>(
+    alloc: Global,
+    table: &mut Walked<R>,
+    expectation: &mut Expectation,
+) -> Option<u32> {
     let mut seed = 20251122;
     let mut last = None;
-    for count in 0..=beside.keys {
-        let found = next(table, last).ok()?;
+    for count in 0..=expectation.keys {
+        let found = first_or_next(table, last).ok()?;
         let Some(key) = found else {
             return Some(count);
         };
-        if !beside.comes(key) {
+        if !expectation.visit(key) {
             return None;
         }
-        seed = meddle_often(alloc, table, beside, seed)?;
+        seed = run_other_steps(alloc, table, expectation, seed)?;
         last = found;
     }
     None
 }
 
 /// Returns whether each key has as many objects as it should.
-fn agrees<R: Rows>(table: &Walked<R>, beside: &Beside) -> bool {
-    for key in 0..beside.keys {
-        if count_of(table, Integer::from(key)) != beside.values(key).count_ones() as usize {
+fn agrees<R: Rows>(table: &Walked<R>, expectation: &Expectation) -> bool {
+    for key in 0..expectation.keys {
+        if count_of(table, Integer::from(key)) != expectation.values(key).count_ones() as usize {
             return false;
         }
     }
     true
 }
 
-/// Returns whether held slots stand until the last of two fixes goes, and then none.
+/// Returns whether there are tombstones until the last of two fixes is released, and none after.
 fn is_purged<R: Rows>(table: &mut Walked<R>, present: usize) -> bool {
-    let held = table.slots() > present;
+    let before = table.slots() > present;
     table.release(8);
-    let kept = table.is_fixed() && table.slots() > present;
+    let between = table.is_fixed() && table.slots() > present;
     table.release(7);
-    held && kept && !table.is_fixed() && table.slots() == present
+    before && between && !table.is_fixed() && table.slots() == present
 }
 
 fn fill<R: Rows>(alloc: Global, table: &mut Walked<R>, keys: u32) -> Option<bool> {
@@ -238,34 +245,39 @@ fn fill<R: Rows>(alloc: Global, table: &mut Walked<R>, keys: u32) -> Option<bool
     Some(true)
 }
 
-/// Returns whether a walk that reached a number of keys came to each that stayed, and enough of them stayed and came.
-fn came_to_all(beside: &Beside, count: u32) -> bool {
-    let (stayed, came) = beside.stayed();
-    came == stayed && stayed >= beside.keys as usize / 20 && count >= beside.keys / 2
+/// Returns whether a traversal of `count` keys visited each stable key, and there are enough stable and visited keys.
+fn visits_all(expectation: &Expectation, count: u32) -> bool {
+    let (stable, visited) = expectation.count_stable();
+    visited == stable && stable >= expectation.keys as usize / 20 && count >= expectation.keys / 2
 }
 
-/// Returns whether a walk over a fixed table is whole, the keys have their objects and the held slots go in time.
-fn walks_whole<R: Rows>(alloc: Global, table: &mut Walked<R>, beside: &mut Beside) -> Option<bool> {
+/// Returns whether a traversal of a fixed table is exact, all keys then have their objects, and the tombstones are
+/// removed in time.
+fn is_whole_traversal<R: Rows>(
+    alloc: Global,
+    table: &mut Walked<R>,
+    expectation: &mut Expectation,
+) -> Option<bool> {
     let fixed = table.fix(7).is_ok() && table.fix(8).is_ok();
-    let count = walked(alloc, table, beside)?;
+    let count = traverse(alloc, table, expectation)?;
     Some(
         fixed
-            && came_to_all(beside, count)
-            && agrees(table, beside)
-            && is_purged(table, beside.present()),
+            && visits_all(expectation, count)
+            && agrees(table, expectation)
+            && is_purged(table, expectation.count_present()),
     )
 }
 
-/// Returns whether a walk over a table of half of the keys is whole.
+/// Returns whether a traversal of a table that begins with half of the keys is exact.
 fn is_whole<R: Rows>(alloc: Global, table: &mut Walked<R>, keys: u32) -> Option<bool> {
     let filled = fill(alloc, table, keys / 2)?;
-    let mut beside = Beside::new(alloc, keys)?;
-    let whole = walks_whole(alloc, table, &mut beside);
-    drop(beside);
+    let mut expectation = Expectation::new(alloc, keys)?;
+    let whole = is_whole_traversal(alloc, table, &mut expectation);
+    drop(expectation);
     Some(filled && whole?)
 }
 
-/// The same of a table that has more than a number of buckets at the end.
+/// Returns whether it is exact, and the table has more than `buckets` buckets at the end.
 fn is_whole_growing<R: Rows>(
     alloc: Global,
     table: &mut Walked<R>,
@@ -276,7 +288,7 @@ fn is_whole_growing<R: Rows>(
 }
 
 fn is_whole_plain(alloc: Global) -> Option<bool> {
-    let mut table = plain(alloc, Kind::Bag);
+    let mut table = plain_table(alloc, Kind::Bag);
     let whole = is_whole(alloc, &mut table, 4000);
     drop(table);
     whole
@@ -288,7 +300,7 @@ fn whole_over_plain_rows(rt: HostRuntime) {
 }
 
 fn is_whole_split(alloc: Global, kind: Kind) -> Option<bool> {
-    let mut table = split(alloc, kind)?;
+    let mut table = split_table(alloc, kind)?;
     let whole = is_whole_growing(alloc, &mut table, 4000, 1000);
     drop(table);
     whole
@@ -301,7 +313,7 @@ fn whole_over_split_rows(rt: HostRuntime) {
 }
 
 fn is_whole_in_one_bucket(alloc: Global) -> Option<bool> {
-    let mut table = one_bucket(alloc, Kind::Bag)?;
+    let mut table = one_bucket_table(alloc, Kind::Bag)?;
     let whole = is_whole_growing(alloc, &mut table, 800, 50);
     drop(table);
     whole

@@ -1,4 +1,4 @@
-use crate::tests::kept;
+use crate::tests::keep_if_ok;
 use ets_term::{Integer, Term};
 use node_list::Chain;
 use std::alloc::{AllocError, Global};
@@ -13,7 +13,7 @@ fn push_numbers(chain: &mut Chain, numbers: &[Integer]) -> Result<(), AllocError
 
 fn chain_of(alloc: Global, numbers: &[Integer]) -> Result<Chain, AllocError> {
     let mut chain = Chain::new(alloc);
-    kept(push_numbers(&mut chain, numbers), chain)
+    keep_if_ok(push_numbers(&mut chain, numbers), chain)
 }
 
 pub fn is_number(term: &Term, number: Integer) -> bool {
@@ -52,7 +52,7 @@ fn push_all(chain: &mut Chain, count: u32) -> Result<(), AllocError> {
     Ok(())
 }
 
-/// Returns whether the last term is this number, and is taken.
+/// Pops the last term. Returns whether it is this number.
 pub fn pops(chain: &mut Chain, number: Integer) -> bool {
     match chain.pop() {
         Some(last) => {
@@ -64,13 +64,13 @@ pub fn pops(chain: &mut Chain, number: Integer) -> bool {
     }
 }
 
-/// Returns whether what is pushed is popped, the last first.
+/// Returns whether terms that are pushed are popped, the last first.
 fn pushes_and_pops(chain: &mut Chain) -> Result<bool, AllocError> {
     push_all(chain, 5_000)?;
     Ok(chain.len() == 5_000 && pops(chain, 4_999) && pops(chain, 4_998))
 }
 
-fn a_chain_pushes_and_pops(alloc: Global) -> Result<bool, AllocError> {
+fn a_new_chain_pushes_and_pops(alloc: Global) -> Result<bool, AllocError> {
     let mut chain = Chain::new(alloc);
     let done = pushes_and_pops(&mut chain);
     drop(chain);
@@ -79,11 +79,11 @@ fn a_chain_pushes_and_pops(alloc: Global) -> Result<bool, AllocError> {
 
 #[test]
 fn pushed_terms_are_popped(rt: HostRuntime) {
-    assert!(rt; a_chain_pushes_and_pops(rt.alloc()) == Ok(true));
+    assert!(rt; a_new_chain_pushes_and_pops(rt.alloc()) == Ok(true));
 }
 
-/// Removes a number in any position, and says how often it did.
-fn removed(chain: &mut Chain, number: Integer) -> usize {
+/// Removes each term that is this number. Returns how many it removed.
+fn remove_number(chain: &mut Chain, number: Integer) -> usize {
     let term = Term::Int(number);
     let count = chain.remove_all(&term);
     drop(term);
@@ -91,8 +91,8 @@ fn removed(chain: &mut Chain, number: Integer) -> usize {
 }
 
 fn removes(chain: &mut Chain) -> bool {
-    let none = removed(chain, 4) == 0;
-    none && removed(chain, 1) == 3 && has(chain.as_slice(), &[2, 3])
+    let none = remove_number(chain, 4) == 0;
+    none && remove_number(chain, 1) == 3 && has(chain.as_slice(), &[2, 3])
 }
 
 fn replaces(chain: &mut Chain) -> bool {
@@ -112,7 +112,7 @@ fn cuts_off(chain: &mut Chain) -> bool {
     whole && has(chain.as_slice(), &[7])
 }
 
-/// Returns whether changes of a chain of 1, 2, 1, 3 and 1 leave what they must.
+/// Returns whether a chain of 1, 2, 1, 3 and 1 has the right terms after each change.
 fn changes(alloc: Global) -> Result<bool, AllocError> {
     let mut chain = chain_of(alloc, &[1, 2, 1, 3, 1])?;
     let done = removes(&mut chain) && replaces(&mut chain) && cuts_off(&mut chain);
@@ -125,7 +125,7 @@ fn terms_are_removed_replaced_and_cut_off(rt: HostRuntime) {
     assert!(rt; changes(rt.alloc()) == Ok(true));
 }
 
-/// Puts the terms of a chain after those of a list.
+/// Moves the terms of a chain to the end of a list.
 fn move_behind(terms: &mut Vec<Term>, chain: Chain) -> Result<(), AllocError> {
     match terms.reserve(chain.len()) {
         Ok(()) => {

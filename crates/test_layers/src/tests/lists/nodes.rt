@@ -10,7 +10,7 @@ use ets_term::{Integer, Term};
 use node_list::{At, Chain, NodeList, Steps};
 use std::alloc::{AllocError, Global};
 
-/// What a search from the head finds of a key and a term, and how many nodes it reads.
+/// Searches from the head for a key and a term. Returns the place, and how many nodes it visits.
 fn search(list: &NodeList, key: u64, term: &Term) -> (Option<At>, u64) {
     let mut steps = Steps::new();
     let head = list.head();
@@ -18,15 +18,15 @@ fn search(list: &NodeList, key: u64, term: &Term) -> (Option<At>, u64) {
     (found, steps.count())
 }
 
-/// The same of a term that is made for it.
+/// Does so with a term that it then drops.
 fn search_for(list: &NodeList, key: u64, term: Term) -> (Option<At>, u64) {
     let found = search(list, key, &term);
     drop(term);
     found
 }
 
-/// How many nodes a search reads for an item of this key that is not there: those up to the key, and the next one.
-fn reads(list: &NodeList, key: u64) -> u64 {
+/// Returns how many nodes a search for a missing item of this key visits: those up to the key, and the next one.
+fn count_visited(list: &NodeList, key: u64) -> u64 {
     search_for(list, key, Term::Pid(0)).1
 }
 
@@ -47,7 +47,7 @@ fn add_item(list: &mut NodeList, alloc: Global, key: u64, number: Integer) -> Re
     Ok(list.insert_item(head, key, Term::Int(number), chain))
 }
 
-/// Puts the dummies of the buckets 1 to 3, and an item of hash 3, after that of bucket 0.
+/// Inserts the dummies of the buckets 1 to 3, and an item of hash 3, after the dummy of bucket 0.
 fn add_in_split_order(list: &mut NodeList, alloc: Global) -> Result<(), AllocError> {
     add_dummy(list, 4_294_967_296)?;
     add_item(list, alloc, 6_442_450_945, 3)?;
@@ -56,7 +56,7 @@ fn add_in_split_order(list: &mut NodeList, alloc: Global) -> Result<(), AllocErr
     Ok(())
 }
 
-/// Keys, and how many nodes a search for each reads: they stand by their keys, so each time one more.
+/// Keys, and how many nodes a search for each visits: one more each time, because nodes are sorted by their keys.
 const SPLIT_ORDER: [(u64, u64); 5] = [
     (0, 2),
     (2_147_483_648, 3),
@@ -65,27 +65,27 @@ const SPLIT_ORDER: [(u64, u64); 5] = [
     (6_442_450_945, 5),
 ];
 
-/// The first of the keys for which a search reads another number of nodes.
-fn misread(list: &NodeList, wanted: &[(u64, u64)]) -> Option<u64> {
+/// Returns the first key for which a search visits another number of nodes.
+fn first_key_mismatch(list: &NodeList, wanted: &[(u64, u64)]) -> Option<u64> {
     for (key, nodes) in wanted {
-        if reads(list, *key) != *nodes {
+        if count_visited(list, *key) != *nodes {
             return Some(*key);
         }
     }
     None
 }
 
-/// Returns whether keys stand in split order.
+/// Returns whether nodes are in split order.
 fn has_split_order(
     list: &mut NodeList,
     alloc: Global,
     wanted: &[(u64, u64)],
 ) -> Result<bool, AllocError> {
     add_in_split_order(list, alloc)?;
-    Ok(misread(list, wanted) == None && list.len() == 5)
+    Ok(first_key_mismatch(list, wanted) == None && list.len() == 5)
 }
 
-/// Puts two items of key 5 and one of key 7. Returns the places of the two.
+/// Inserts two items of key 5 and one of key 7. Returns the places of the first two.
 fn add_equal(list: &mut NodeList, alloc: Global) -> Result<(At, At), AllocError> {
     let first = add_item(list, alloc, 5, 1)?;
     let second = add_item(list, alloc, 5, 2)?;
@@ -93,12 +93,12 @@ fn add_equal(list: &mut NodeList, alloc: Global) -> Result<(At, At), AllocError>
     Ok((first, second))
 }
 
-/// The place after the head.
+/// Returns the place after the head.
 fn second_place(list: &NodeList) -> Option<At> {
     list.after(list.head())
 }
 
-/// Returns whether two items of one key stand in the order in which they came, and a search counts what it passes.
+/// Returns whether two items of one key are in the order of insertion, and a search counts the nodes that it visits.
 fn finds_equal_keys(list: &mut NodeList, alloc: Global) -> Result<bool, AllocError> {
     let (first, second) = add_equal(list, alloc)?;
     Ok(
@@ -125,14 +125,14 @@ fn has_head(list: &NodeList) -> bool {
     list.key(head) == 0 && list.item(head).is_none()
 }
 
-/// Returns whether an item that was put is read at its place, with its key.
+/// Returns whether an inserted item is read at its place, with its key.
 fn reads_item(list: &mut NodeList, alloc: Global) -> Result<bool, AllocError> {
     let at = add_item(list, alloc, 5, 1)?;
     list.reveal_invariant();
     Ok(list.key(at) == 5 && is_item(list, at, 1) && has_head(list))
 }
 
-/// Returns whether a chain of 1 grows by two terms and gives one back.
+/// Returns whether two terms can be pushed to a chain of 1, and one popped.
 fn changes(chain: &mut Chain) -> Result<bool, AllocError> {
     chain.push(Term::Int(2))?;
     chain.push(Term::Int(3))?;
@@ -145,7 +145,7 @@ fn changes_chain(list: &mut NodeList, alloc: Global) -> Result<bool, AllocError>
     changes(list.chain_mut(at))
 }
 
-/// Unlinks the item at a place. Whether it had this number as its term and as its chain.
+/// Unlinks the item at a place. Returns whether it had this number as its term and as its chain.
 fn unlinks(list: &mut NodeList, at: At, number: Integer) -> bool
     requires { HasItem at list.old.cells }
 {
@@ -157,7 +157,7 @@ fn unlinks(list: &mut NodeList, at: At, number: Integer) -> bool
     same
 }
 
-/// Returns whether an item is unlinked, and its place is given out again.
+/// Returns whether an item is unlinked, and its place is used again.
 fn unlinks_item(
     list: &mut NodeList,
     alloc: Global,
@@ -165,12 +165,14 @@ fn unlinks_item(
 ) -> Result<bool, AllocError> {
     add_dummy(list, 8)?;
     let at = add_item(list, alloc, 5, 1)?;
-    let unlinked = unlinks(list, at, 1) && misread(list, wanted) == None && list.len() == 2;
+    let unlinked = unlinks(list, at, 1)
+        && first_key_mismatch(list, wanted) == None
+        && list.len() == 2;
     Ok(add_item(list, alloc, 9, 1)? == at && unlinked)
 }
 
-/// The first place at which `next_item_at` gives another than is wanted there.
-fn misfound(list: &NodeList, wanted: &[Option<At>]) -> Option<usize> {
+/// Returns the first place for which `next_item_at` returns another place than the wanted one.
+fn first_place_mismatch(list: &NodeList, wanted: &[Option<At>]) -> Option<usize> {
     for (start, at) in wanted.iter().enumerate() {
         if list.next_item_at(start) != *at {
             return Some(start);
@@ -179,7 +181,7 @@ fn misfound(list: &NodeList, wanted: &[Option<At>]) -> Option<usize> {
     None
 }
 
-/// Puts a dummy, two items, a dummy and an item. The places 1 to 5 are given out in turn, whatever the keys.
+/// Inserts a dummy, two items, a dummy and an item. They get the places 1 to 5 in this order, whatever their keys.
 fn add_five(list: &mut NodeList, alloc: Global) -> Result<(), AllocError> {
     add_dummy(list, 8)?;
     add_item(list, alloc, 9, 1)?;
@@ -206,17 +208,17 @@ fn finds_places(
     wanted: &[Option<At>],
 ) -> Result<bool, AllocError> {
     add_five(list, alloc)?;
-    Ok(misfound(list, wanted) == None && list.next_item_at(usize::MAX) == None)
+    Ok(first_place_mismatch(list, wanted) == None && list.next_item_at(usize::MAX) == None)
 }
 
-/// Puts two items and unlinks the first: the place 2 alone has an item.
+/// Inserts two items and unlinks the first, so that only the place 2 has an item.
 fn leaves_second(list: &mut NodeList, alloc: Global) -> Result<bool, AllocError> {
     let first = add_item(list, alloc, 9, 1)?;
     add_item(list, alloc, 5, 2)?;
     Ok(unlinks(list, first, 1))
 }
 
-/// Puts a dummy and an item, and unlinks the item.
+/// Inserts a dummy and an item, and unlinks the item.
 fn comes_and_goes(list: &mut NodeList, alloc: Global) -> Result<bool, AllocError> {
     add_dummy(list, 6)?;
     let last = add_item(list, alloc, 7, 3)?;
@@ -225,26 +227,32 @@ fn comes_and_goes(list: &mut NodeList, alloc: Global) -> Result<bool, AllocError
 
 const PLACE_OF_SECOND: [Option<At>; 7] = [Some(2), Some(2), Some(2), None, None, None, None];
 
-/// Returns whether a place that was given back has no item, until a later one gets it.
+/// Returns whether a free place has no item until a later item gets it.
 fn finds_no_unlinked(
     list: &mut NodeList,
     alloc: Global,
     wanted: &[Option<At>],
 ) -> Result<bool, AllocError> {
-    let left = leaves_second(list, alloc)? && misfound(list, wanted) == None;
-    Ok(comes_and_goes(list, alloc)? && left && misfound(list, wanted) == None)
+    let left = leaves_second(list, alloc)? && first_place_mismatch(list, wanted) == None;
+    Ok(comes_and_goes(list, alloc)? && left && first_place_mismatch(list, wanted) == None)
 }
 
-/// Returns whether dummies are no items, and running out of memory changes nothing.
+/// Returns whether dummies are not items, and a refused `reserve` changes nothing.
 fn has_dummies_alone(list: &mut NodeList) -> Result<bool, AllocError> {
     let none = list.next_item_at(0) == None;
     add_dummy(list, 8)?;
     let dummies = list.next_item_at(0) == None && list.next_item_at(2) == None;
     let refused = list.reserve(usize::MAX).is_err();
-    Ok(none && dummies && refused && reads(list, 4) == 2 && reads(list, 8) == 2 && list.len() == 2)
+    Ok(
+        none && dummies
+            && refused
+            && count_visited(list, 4) == 2
+            && count_visited(list, 8) == 2
+            && list.len() == 2,
+    )
 }
 
-/// Puts each node at the head, from 2,099 down to 1: the slab grows many times.
+/// Inserts each node at the head, from 2,099 down to 1, so that the slab grows many times.
 fn add_many(list: &mut NodeList, alloc: Global) -> Result<(), AllocError> {
     for number in 1..2_100 {
         add_item(list, alloc, 2_100 - number, 1)?;
@@ -252,23 +260,23 @@ fn add_many(list: &mut NodeList, alloc: Global) -> Result<(), AllocError> {
     Ok(())
 }
 
-/// Returns whether the keys stand in order, so that each search reads one node more.
+/// Returns whether nodes are in the order of their keys: each search visits one node more.
 fn reads_many(list: &NodeList) -> bool {
     for key in 0..2_099 {
-        if reads(list, key) != key + 2 {
+        if count_visited(list, key) != key + 2 {
             return false;
         }
     }
-    reads(list, 2_099) == 2_100
+    count_visited(list, 2_099) == 2_100
 }
 
-/// Returns whether many nodes are held, in order.
+/// Returns whether a list can have many nodes, in order.
 fn has_many(list: &mut NodeList, alloc: Global) -> Result<bool, AllocError> {
     add_many(list, alloc)?;
     Ok(list.len() == 2_100 && reads_many(list))
 }
 
-/// Returns whether room for many nodes is there for the asking.
+/// Returns whether capacity for many nodes can be reserved.
 fn has_much_room(list: &mut NodeList) -> Result<bool, AllocError> {
     list.reserve(5_000)?;
     list.reserve(100_000)?;

@@ -1,24 +1,24 @@
-//! The reader's answers compared with those of the reference, on every front of good texts and on texts with one byte
-//! changed.
+//! The results of the reader, compared with those of the reference, on each prefix of good texts and on texts with one
+//! byte changed.
 use super::gives;
-use super::reference::by_rules;
+use super::reference::read_by_rules;
 use std::alloc::{AllocError, Global};
 use std::process::Abort;
 
-/// What the rules say that the text gives.
-fn wanted(alloc: Global, text: &[u8]) -> Result<String, AllocError> {
-    match by_rules(alloc, text) {
+/// Returns the result of a text by the rules.
+fn reference_result(alloc: Global, text: &[u8]) -> Result<String, AllocError> {
+    match read_by_rules(alloc, text) {
         Ok((printed, taken)) => {
-            let told = format!(in alloc; "{printed} {taken}");
+            let result = format!(in alloc; "{printed} {taken}");
             drop(printed);
-            told
+            result
         }
         Err(fault) => format!(in alloc; "{fault:?}"),
     }
 }
 
 fn is_alike(alloc: Global, text: &[u8]) -> Result<bool, AllocError> {
-    let wanted = wanted(alloc, text)?;
+    let wanted = reference_result(alloc, text)?;
     let alike = gives(alloc, text, wanted.as_str());
     drop(wanted);
     alike
@@ -70,7 +70,7 @@ const CHANGED: [&str; 10] = [
     "#Tid<3>",
 ];
 
-fn fronts_are_alike(alloc: Global, text: &[u8]) -> Result<bool, AllocError> {
+fn prefixes_are_alike(alloc: Global, text: &[u8]) -> Result<bool, AllocError> {
     for n in 0..=text.len() {
         if !is_alike(alloc, text.get(..n).unwrap_or(text))? {
             return Ok(false);
@@ -79,10 +79,13 @@ fn fronts_are_alike(alloc: Global, text: &[u8]) -> Result<bool, AllocError> {
     Ok(true)
 }
 
-/// The first text of which a front is read otherwise than by the rules.
-fn wrong_fronts(alloc: Global, texts: &[&'static str]) -> Result<Option<&'static str>, AllocError> {
+/// Returns the first text with a prefix that is not read by the rules.
+fn first_prefix_mismatch(
+    alloc: Global,
+    texts: &[&'static str],
+) -> Result<Option<&'static str>, AllocError> {
     for text in texts {
-        if !fronts_are_alike(alloc, text.as_bytes())? {
+        if !prefixes_are_alike(alloc, text.as_bytes())? {
             return Ok(Some(*text));
         }
     }
@@ -90,8 +93,8 @@ fn wrong_fronts(alloc: Global, texts: &[&'static str]) -> Result<Option<&'static
 }
 
 #[test]
-fn every_front_of_good_texts(rt: HostRuntime) {
-    assert_eq!(rt; wrong_fronts(rt.alloc(), &GOOD), Ok(None));
+fn every_prefix_of_good_texts(rt: HostRuntime) {
+    assert_eq!(rt; first_prefix_mismatch(rt.alloc(), &GOOD), Ok(None));
 }
 
 fn put_byte(text: &mut [u8], at: usize, b: u8) {
@@ -100,15 +103,15 @@ fn put_byte(text: &mut [u8], at: usize, b: u8) {
     }
 }
 
-/// Returns whether each other byte at a place is read by the rules.
+/// Returns whether the text is read by the rules with each of the 256 bytes at this offset.
 fn changes_are_alike(alloc: Global, text: &mut [u8], at: usize) -> Result<bool, AllocError> {
-    let kept = text.get(at).copied().unwrap_or(0);
+    let own = text.get(at).copied().unwrap_or(0);
     let mut all = true;
     for b in 0..=255 {
         put_byte(text, at, b);
         all = is_alike(alloc, text)? && all;
     }
-    put_byte(text, at, kept);
+    put_byte(text, at, own);
     Ok(all)
 }
 
@@ -127,8 +130,8 @@ fn is_alike_changed(alloc: Global, text: &[u8]) -> Result<bool, AllocError> {
     alike
 }
 
-/// The first text that is read otherwise than by the rules once a byte of it is changed.
-fn wrong_changes(
+/// Returns the first text that is not read by the rules when one byte is changed.
+fn first_change_mismatch(
     alloc: Global,
     texts: &[&'static str],
 ) -> Result<Option<&'static str>, AllocError> {
@@ -142,5 +145,5 @@ fn wrong_changes(
 
 #[test]
 fn every_changed_byte(rt: HostRuntime) {
-    assert_eq!(rt; wrong_changes(rt.alloc(), &CHANGED), Ok(None));
+    assert_eq!(rt; first_change_mismatch(rt.alloc(), &CHANGED), Ok(None));
 }

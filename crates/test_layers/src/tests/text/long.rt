@@ -1,4 +1,4 @@
-//! Long and deep texts with known terms.
+//! Long and deep texts whose terms are known.
 use super::{long_text, writes};
 use ets_term::{MAX_DEPTH, Term};
 use std::alloc::{AllocError, Global};
@@ -7,7 +7,7 @@ use term_text::{TextFault, print_term, read_term};
 /// One more than each power of two up to 1,024, and 70,000.
 const COUNTS: [usize; 12] = [2, 3, 5, 9, 17, 33, 65, 129, 257, 513, 1_025, 70_000];
 
-/// Returns whether a term is printed as this text, and written so too.
+/// Returns whether a term is printed and written as this text.
 fn is_printed(alloc: Global, term: &Term, printed: &str) -> Result<bool, AllocError> {
     let mut out = String::new(alloc);
     let done = print_term(alloc, term, &mut out);
@@ -29,7 +29,7 @@ fn is_read_whole(alloc: Global, text: &str, printed: &str) -> Result<bool, Alloc
     }
 }
 
-/// A text of which a part comes again and again, and how its term is printed.
+/// A start, a repeated part and an end of a text, and those of the printed term.
 #[derive(Clone, Copy)]
 struct Repeated {
     text: [&'static str; 3],
@@ -51,26 +51,26 @@ const TUPLE: Repeated = Repeated {
     printed: ["{'A b'", ",'A b'", "}"],
 };
 
-fn repeats(alloc: Global, parts: [&'static str; 3], count: usize) -> Result<String, AllocError> {
+fn repeat(alloc: Global, parts: [&'static str; 3], count: usize) -> Result<String, AllocError> {
     let [front, part, end] = parts;
     long_text(alloc, front, part, count, end)
 }
 
-/// Returns whether the text of these parts is that of a term which is printed so.
+/// Returns whether the text of these parts is that of a term that is printed as `printed`.
 fn is_printed_so(
     alloc: Global,
     parts: [&'static str; 3],
     count: usize,
     printed: &str,
 ) -> Result<bool, AllocError> {
-    let text = repeats(alloc, parts, count)?;
+    let text = repeat(alloc, parts, count)?;
     let whole = is_read_whole(alloc, text.as_str(), printed);
     drop(text);
     whole
 }
 
 fn is_long(alloc: Global, row: Repeated, count: usize) -> Result<bool, AllocError> {
-    let printed = repeats(alloc, row.printed, count)?;
+    let printed = repeat(alloc, row.printed, count)?;
     let text = is_printed_so(alloc, row.text, count, printed.as_str());
     let again = is_read_whole(alloc, printed.as_str(), printed.as_str());
     drop(printed);
@@ -93,8 +93,8 @@ fn long_texts(rt: HostRuntime) {
     assert!(rt; is_long_at_each(rt.alloc(), TUPLE, &COUNTS) == Ok(true));
 }
 
-/// Brackets in brackets, to a depth.
-fn nested(alloc: Global, open: &str, close: &str, levels: usize) -> Result<String, AllocError> {
+/// Builds brackets within brackets, to this depth.
+fn nest(alloc: Global, open: &str, close: &str, levels: usize) -> Result<String, AllocError> {
     let closing = long_text(alloc, "", close, levels, "")?;
     let text = long_text(alloc, "", open, levels, closing.as_str());
     drop(closing);
@@ -102,7 +102,7 @@ fn nested(alloc: Global, open: &str, close: &str, levels: usize) -> Result<Strin
 }
 
 fn is_nested(alloc: Global, open: &str, close: &str, levels: usize) -> Result<bool, AllocError> {
-    let text = nested(alloc, open, close, levels)?;
+    let text = nest(alloc, open, close, levels)?;
     let whole = is_read_whole(alloc, text.as_str(), text.as_str());
     drop(text);
     whole
@@ -115,15 +115,15 @@ fn is_refused_as_too_deep(alloc: Global, text: &str) -> bool {
     refused
 }
 
-/// Returns whether brackets one level past that are refused at the last that opens.
+/// Returns whether brackets one level deeper than the limit are refused at the last opening bracket.
 fn is_too_deep(alloc: Global, open: &str, close: &str) -> Result<bool, AllocError> {
-    let text = nested(alloc, open, close, 129)?;
+    let text = nest(alloc, open, close, 129)?;
     let refused = is_refused_as_too_deep(alloc, text.as_str());
     drop(text);
     Ok(refused)
 }
 
-/// Returns whether brackets are read and printed at every depth that a term may have, and refused at the next.
+/// Returns whether brackets are read and printed at each depth up to the limit, and refused above it.
 fn are_nested(alloc: Global, open: &str, close: &str) -> Result<bool, AllocError> {
     for levels in 1..=MAX_DEPTH {
         if !is_nested(alloc, open, close, levels)? {

@@ -1,24 +1,24 @@
-//! A slow plain reader, written from the rules of the text alone: one loop, with the open brackets in a row.
+//! A slow plain reader, written from the rules of the text alone: one loop, with a stack of the open brackets.
 use std::alloc::Global;
 use term_text::TextFault;
 
 mod pieces;
-mod printed;
+mod printer;
 mod singles;
 
-/// What is at the front of a text, as far as it has been read.
+/// A reader with the state after the bytes that it has read.
 #[derive(Drop)]
 struct Reader<'t> {
     alloc: Global,
     text: &'t [u8],
     at: usize,
-    /// The text as it is printed.
+    /// The printed term.
     out: String,
     /// The characters between the last quotes.
     quoted: Vec<u8>,
-    /// What closes each open bracket.
+    /// The closing bracket of each open one.
     closing: Vec<u8>,
-    /// Whether a term must come, if no bracket closes.
+    /// Whether a term must follow, unless a bracket closes.
     wanted: bool,
     /// Whether the last bracket has just been opened.
     fresh: bool,
@@ -38,7 +38,7 @@ impl<'t> Reader<'t> {
         }
     }
 
-    /// Prints a sign and passes it. Whether a term must come, and whether a bracket has just been opened.
+    /// Prints a character and passes it. `wanted` and `fresh` are the new state.
     fn pass(&mut self, sign: u8, wanted: bool, fresh: bool) -> Result<(), TextFault> {
         self.out.push(sign as char)?;
         self.at = self.at.saturating_add(1);
@@ -68,7 +68,7 @@ impl<'t> Reader<'t> {
         self.pass(sign, true, true)
     }
 
-    /// A term begins here.
+    /// Reads the start of a term.
     fn begin(&mut self, sign: u8) -> Result<(), TextFault> {
         if self.closing.len() >= 128 {
             return Err(TextFault::TooDeep(self.at));
@@ -78,7 +78,7 @@ impl<'t> Reader<'t> {
         }
         self.wanted = false;
         self.fresh = false;
-        self.single(sign)
+        self.single_term(sign)
     }
 
     fn sign(&mut self, sign: u8) -> Result<(), TextFault> {
@@ -107,8 +107,8 @@ impl<'t> Reader<'t> {
     }
 }
 
-/// The printed term at the front, and how many bytes it takes, by the rules.
-pub fn by_rules(alloc: Global, text: &[u8]) -> Result<(String, usize), TextFault> {
+/// Reads the first term of a text by the rules. Returns its printed text, and how many bytes it has.
+pub fn read_by_rules(alloc: Global, text: &[u8]) -> Result<(String, usize), TextFault> {
     let mut reader = Reader::new(alloc, text);
     match reader.term() {
         Ok(()) => Ok((reader.out, reader.at)),

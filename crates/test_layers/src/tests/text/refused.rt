@@ -1,9 +1,9 @@
-// Out of memory. Run with each allocation refused in turn, by `.ci/refusals`: a text that is read again is read as it
-// is at once, and a term that is printed again is printed so; where printing was refused, nothing has come.
+// Out of memory. `.ci/refusals` runs these tests with each allocation refused in turn. What is read or printed again
+// must give the result of ample memory. Printing that is refused memory must leave the text as it was.
 use super::*;
 use term_text::TextFault;
 
-/// What a text is read as, again if memory runs out.
+/// Reads a text, again if memory runs out.
 pub(crate) fn read_again(alloc: Global, text: &str) -> Result<(Term, usize), TextFault> {
     let read = read_term(alloc, text);
     if !matches!(&read, Err(TextFault::Memory)) {
@@ -13,7 +13,7 @@ pub(crate) fn read_again(alloc: Global, text: &str) -> Result<(Term, usize), Tex
     read_term(alloc, text)
 }
 
-/// The term of a text.
+/// Returns the term of a text.
 pub(crate) fn term_again(alloc: Global, text: &str) -> Option<Term> {
     match read_again(alloc, text) {
         Ok((term, _)) => Some(term),
@@ -21,7 +21,7 @@ pub(crate) fn term_again(alloc: Global, text: &str) -> Option<Term> {
     }
 }
 
-/// What is before a term that is printed.
+/// The text before a printed term.
 const FRONT: &str = "a front: ";
 
 fn front_again(alloc: Global) -> Option<String> {
@@ -31,7 +31,8 @@ fn front_again(alloc: Global) -> Option<String> {
     }
 }
 
-/// Returns whether a term is printed after the front: at once, or again where memory was refused and nothing had come.
+/// Returns whether a term is printed after the front at once, or was refused memory, changed nothing, and is printed
+/// again.
 fn prints_again(alloc: Global, term: &Term, text: &mut String) -> bool {
     match print_term(alloc, term, text) {
         Ok(()) => true,
@@ -39,7 +40,7 @@ fn prints_again(alloc: Global, term: &Term, text: &mut String) -> bool {
     }
 }
 
-/// Returns whether the term of a text is printed as this, the front included.
+/// Returns whether the term of a text is printed as this text, with the front.
 fn is_same_again(alloc: Global, text: &str, printed: &str) -> Option<bool> {
     let term = term_again(alloc, text)?;
     let same = is_printed_again(alloc, &term, printed);
@@ -48,14 +49,17 @@ fn is_same_again(alloc: Global, text: &str, printed: &str) -> Option<bool> {
 }
 
 fn is_printed_again(alloc: Global, term: &Term, printed: &str) -> Option<bool> {
-    let mut told = front_again(alloc)?;
-    let same = prints_again(alloc, term, &mut told) && told.as_str() == printed;
-    drop(told);
+    let mut text = front_again(alloc)?;
+    let same = prints_again(alloc, term, &mut text) && text.as_str() == printed;
+    drop(text);
     Some(same)
 }
 
-/// The first text that is read or printed otherwise.
-fn wrong_again(alloc: Global, rows: &[(&'static str, &'static str)]) -> Option<&'static str> {
+/// Returns the first text that is read or printed otherwise.
+fn first_mismatch_again(
+    alloc: Global,
+    rows: &[(&'static str, &'static str)],
+) -> Option<&'static str> {
     for (text, printed) in rows {
         if is_same_again(alloc, *text, *printed) != Some(true) {
             return Some(*text);
@@ -88,11 +92,14 @@ const TERMS: [(&str, &str); 7] = [
 
 #[test]
 fn what_was_refused_is_read_and_printed_again(rt: HostRuntime) {
-    assert_eq!(rt; wrong_again(rt.alloc(), &TERMS), None);
+    assert_eq!(rt; first_mismatch_again(rt.alloc(), &TERMS), None);
 }
 
-/// The first text whose fault is another.
-fn wrong_fault_again(alloc: Global, rows: &[(&'static str, TextFault)]) -> Option<&'static str> {
+/// Returns the first text with another syntax error.
+fn first_fault_mismatch_again(
+    alloc: Global,
+    rows: &[(&'static str, TextFault)],
+) -> Option<&'static str> {
     for (text, fault) in rows {
         if read_again(alloc, *text).err() != Some(*fault) {
             return Some(*text);
@@ -116,5 +123,5 @@ const FAULTS: [(&str, TextFault); 4] = [
 
 #[test]
 fn what_was_refused_has_its_fault_again(rt: HostRuntime) {
-    assert_eq!(rt; wrong_fault_again(rt.alloc(), &FAULTS), None);
+    assert_eq!(rt; first_fault_mismatch_again(rt.alloc(), &FAULTS), None);
 }

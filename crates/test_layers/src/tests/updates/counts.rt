@@ -1,40 +1,40 @@
-use super::rows::{Call, wrong};
+use super::rows::{Call, first_mismatch};
 use super::*;
 
-/// Returns whether operations answer this, and leave the object of the row where they are refused.
-fn counts_in_place(alloc: Global, object: &mut Term, ops: &Ops, told: (&Term, &Term)) -> bool {
-    answers(update_counter(alloc, object, ops), told.0) && *object == *told.1
+/// Returns whether operations have the expected answer and leave the expected object.
+fn counts_in_place(alloc: Global, object: &mut Term, ops: &Ops, expected: (&Term, &Term)) -> bool {
+    answers(update_counter(alloc, object, ops), expected.0) && *object == *expected.1
 }
 
-fn counts_on_a_copy(alloc: Global, object: &Term, ops: &Ops, told: (&Term, &Term)) -> bool {
+fn counts_on_a_copy(alloc: Global, object: &Term, ops: &Ops, expected: (&Term, &Term)) -> bool {
     match apply_ops(alloc, object, ops) {
         Ok(copied) => {
-            let same = copied.1 == *told.0 && copied.0 == *told.1;
+            let same = copied.1 == *expected.0 && copied.0 == *expected.1;
             drop(copied);
             same
         }
-        Err(fault) => is_refusal(&fault, told.0),
+        Err(fault) => is_refusal(&fault, expected.0),
     }
 }
 
-fn counts_both(alloc: Global, object: &Term, ops: &Ops, told: (&Term, &Term)) -> Option<bool> {
+fn counts_both(alloc: Global, object: &Term, ops: &Ops, expected: (&Term, &Term)) -> Option<bool> {
     let mut own = object.try_clone(alloc).ok()?;
-    let in_place = counts_in_place(alloc, &mut own, ops, told);
+    let in_place = counts_in_place(alloc, &mut own, ops, expected);
     drop(own);
-    Some(in_place && counts_on_a_copy(alloc, object, ops, told))
+    Some(in_place && counts_on_a_copy(alloc, object, ops, expected))
 }
 
-/// Returns whether the operations answer and make this, in place and on a copy.
+/// Returns whether operations have the expected answer and object, in place and on a copy.
 pub fn counts(
     alloc: Global,
     keypos: u32,
     object: &Term,
     updates: &Term,
-    told: (&Term, &Term),
+    expected: (&Term, &Term),
 ) -> Option<bool> {
     match read_ops(alloc, updates, keypos) {
         Ok(ops) => {
-            let both = counts_both(alloc, object, &ops, told);
+            let both = counts_both(alloc, object, &ops, expected);
             drop(ops);
             both
         }
@@ -63,10 +63,13 @@ const COUNTED: [&str; 16] = [
 
 #[test]
 fn operations_on_counters(rt: HostRuntime) {
-    assert_eq!(rt; wrong(rt.alloc(), Call::Count(1), &COUNTED), Some(None));
+    assert_eq!(rt;
+        first_mismatch(rt.alloc(), Call::Count(1), &COUNTED),
+        Some(None)
+    );
 }
 
-/// A sum past the integers, in any step of a list, and an element that is no counter of the object.
+/// Sums out of range at any operation of a list, and elements that are not counters of the object.
 const REFUSED: [&str; 10] = [
     "[{c,170141183460469231731687303715884105727},1,system_limit,{c,170141183460469231731687303715884105727}]",
     "[{c,-170141183460469231731687303715884105728},-1,system_limit,{c,-170141183460469231731687303715884105728}]",
@@ -82,10 +85,13 @@ const REFUSED: [&str; 10] = [
 
 #[test]
 fn refused_operations(rt: HostRuntime) {
-    assert_eq!(rt; wrong(rt.alloc(), Call::Count(1), &REFUSED), Some(None));
+    assert_eq!(rt;
+        first_mismatch(rt.alloc(), Call::Count(1), &REFUSED),
+        Some(None)
+    );
 }
 
-/// An integer alone counts after the key. An atom and what is no tuple have no counter.
+/// The operation of an integer alone is on the element after the key. An atom is not a counter, and 5 is not a tuple.
 const KEY_SECOND: [&str; 3] = [
     "[{1,2,3},4,7,{1,2,7}]",
     "[{c,5},{1,1},badarg,{c,5}]",
@@ -93,11 +99,14 @@ const KEY_SECOND: [&str; 3] = [
 ];
 
 #[test]
-fn operations_where_the_key_stands_second(rt: HostRuntime) {
-    assert_eq!(rt; wrong(rt.alloc(), Call::Count(2), &KEY_SECOND), Some(None));
+fn operations_with_the_key_second(rt: HostRuntime) {
+    assert_eq!(rt;
+        first_mismatch(rt.alloc(), Call::Count(2), &KEY_SECOND),
+        Some(None)
+    );
 }
 
-/// Returns whether a text is no operation on an object whose key is first.
+/// Returns whether a text is not an operation on an object whose key is first.
 fn is_no_update(alloc: Global, text: &str) -> Option<bool> {
     let (update, _) = read_term(alloc, text).ok()?;
     let fault = read_ops(alloc, &update, 1).err();
@@ -105,8 +114,8 @@ fn is_no_update(alloc: Global, text: &str) -> Option<bool> {
     Some(matches!(fault, Some(CounterFault::Badarg)))
 }
 
-/// The first text that is read as operations on an object whose key is first.
-fn read_as_updates(alloc: Global, texts: &[&'static str]) -> Option<Option<&'static str>> {
+/// Returns the first text that is read as operations on an object whose key is first.
+fn first_valid_update(alloc: Global, texts: &[&'static str]) -> Option<Option<&'static str>> {
     for text in texts {
         if !is_no_update(alloc, *text)? {
             return Some(Some(*text));
@@ -138,5 +147,5 @@ const WRONG: [&str; 18] = [
 
 #[test]
 fn what_is_no_operation(rt: HostRuntime) {
-    assert_eq!(rt; read_as_updates(rt.alloc(), &WRONG), Some(None));
+    assert_eq!(rt; first_valid_update(rt.alloc(), &WRONG), Some(None));
 }

@@ -1,12 +1,12 @@
-use super::rows::{Call, wrong};
+use super::rows::{Call, first_mismatch};
 use super::*;
 
-/// Returns whether what is started is that of a row: `{Answer,Made}`.
-fn is_started(told: &Term, answer: &Term, made: &Term) -> bool {
-    told.element(1) == Some(answer) && told.element(2) == Some(made)
+/// Returns whether the answer and the object are those of a row: `{Answer,Made}`.
+fn is_start(expected: &Term, answer: &Term, made: &Term) -> bool {
+    expected.element(1) == Some(answer) && expected.element(2) == Some(made)
 }
 
-/// Returns whether a Default makes an object of the key, as both calls have it.
+/// Returns whether a Default with this key is an object, by both functions.
 fn is_object(alloc: Global, keypos: u32, default: &Term, key: &Term) -> bool {
     let made = with_key(alloc, default, keypos, key);
     let is_made = made.is_ok();
@@ -19,29 +19,35 @@ fn is_no_object(alloc: Global, keypos: u32, default: &Term, key: &Term) -> bool 
     !is_default(default, keypos, key) && matches!(fault, Some(CounterFault::Badarg))
 }
 
-fn starts_with(alloc: Global, keypos: u32, object: (&Term, &Term), ops: &Ops, told: &Term) -> bool {
+fn starts_with(
+    alloc: Global,
+    keypos: u32,
+    object: (&Term, &Term),
+    ops: &Ops,
+    expected: &Term,
+) -> bool {
     let (default, key) = object;
     match start_counter(alloc, default, keypos, key, ops) {
         Ok(started) => {
-            let same = is_started(told, &started.1, &started.0);
+            let same = is_start(expected, &started.1, &started.0);
             drop(started);
             same && is_object(alloc, keypos, default, key)
         }
-        Err(fault) => is_refusal(&fault, told),
+        Err(fault) => is_refusal(&fault, expected),
     }
 }
 
-/// Returns whether a Default with a key and the operations done gives this.
+/// Returns whether a Default with a key gives the expected answer and object by these operations.
 pub fn starts(
     alloc: Global,
     keypos: u32,
     object: (&Term, &Term),
     updates: &Term,
-    told: &Term,
+    expected: &Term,
 ) -> Option<bool> {
     match read_ops(alloc, updates, keypos) {
         Ok(ops) => {
-            let started = starts_with(alloc, keypos, object, &ops, told);
+            let started = starts_with(alloc, keypos, object, &ops, expected);
             drop(ops);
             Some(started)
         }
@@ -49,7 +55,7 @@ pub fn starts(
     }
 }
 
-/// Returns whether a Default with a key and the values written is this.
+/// Returns whether a Default with a key becomes this object by these element values.
 pub fn writes_default(
     alloc: Global,
     default: &Term,
@@ -75,7 +81,10 @@ const STARTED: [&str; 7] = [
 
 #[test]
 fn counters_begin_at_their_defaults(rt: HostRuntime) {
-    assert_eq!(rt; wrong(rt.alloc(), Call::Start(1), &STARTED), Some(None));
+    assert_eq!(rt;
+        first_mismatch(rt.alloc(), Call::Start(1), &STARTED),
+        Some(None)
+    );
 }
 
 const WRITTEN: [&str; 4] = [
@@ -87,10 +96,13 @@ const WRITTEN: [&str; 4] = [
 
 #[test]
 fn values_of_a_default(rt: HostRuntime) {
-    assert_eq!(rt; wrong(rt.alloc(), Call::WriteDefault, &WRITTEN), Some(None));
+    assert_eq!(rt;
+        first_mismatch(rt.alloc(), Call::WriteDefault, &WRITTEN),
+        Some(None)
+    );
 }
 
-/// Returns whether a Default with a key of this text is an object, and whether it is not.
+/// Returns whether a Default with a key of this text is an object, and whether it is refused.
 fn is_either(alloc: Global, keypos: u32, default: &Term, key: &str) -> Option<(bool, bool)> {
     let (key, _) = read_term(alloc, key).ok()?;
     let is_object = is_object(alloc, keypos, default, &key);
@@ -99,7 +111,7 @@ fn is_either(alloc: Global, keypos: u32, default: &Term, key: &str) -> Option<(b
     Some((is_object, is_none))
 }
 
-/// Returns whether a Default is an object with a key, or is not: as the text says.
+/// Returns whether a Default with a key is an object. None means that the functions disagree.
 fn is_object_of(alloc: Global, keypos: u32, default: &str, key: &str) -> Option<bool> {
     let (default, _) = read_term(alloc, default).ok()?;
     let either = is_either(alloc, keypos, &default, key);
@@ -111,7 +123,7 @@ fn is_object_of(alloc: Global, keypos: u32, default: &str, key: &str) -> Option<
     }
 }
 
-/// What is no object with a key: the position of the key, what there is, and the key.
+/// Keypos, Default and key that do not make an object.
 const NO_OBJECTS: [(u32, &str, &str); 4] = [
     (2, "{x}", "h"),
     (0, "{x}", "h"),

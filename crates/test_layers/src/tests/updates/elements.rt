@@ -1,7 +1,7 @@
-use super::rows::{Call, wrong};
+use super::rows::{Call, first_mismatch};
 use super::*;
 
-/// Returns whether values make this of the object, or are refused and leave it.
+/// Returns whether an object becomes this one by element values, or is unchanged if they are refused.
 fn writes_in_place(
     alloc: Global,
     object: &mut Term,
@@ -29,7 +29,7 @@ fn writes_in_own(alloc: Global, own: &mut Term, values: &Term, before: &Term, ma
     }
 }
 
-/// Returns whether the values make this, in place and on a copy.
+/// Returns whether an object becomes this one by element values, in place and as a copy.
 pub fn writes(alloc: Global, object: &Term, values: &Term, made: &Term) -> Option<bool> {
     let mut own = object.try_clone(alloc).ok()?;
     let in_place = writes_in_own(alloc, &mut own, values, object, made);
@@ -37,7 +37,7 @@ pub fn writes(alloc: Global, object: &Term, values: &Term, made: &Term) -> Optio
     Some(in_place && writes_on_a_copy(alloc, object, values, made))
 }
 
-/// Of several values for a position the last stays. A position past the tuple is refused, in any position.
+/// Of several values for a position the last is written. A position above the size is refused anywhere in a list.
 const WRITTEN: [&str; 11] = [
     "[{k,1,2},{2,y},{k,y,2}]",
     "[{k,1,2},[{2,y}],{k,y,2}]",
@@ -54,10 +54,13 @@ const WRITTEN: [&str; 11] = [
 
 #[test]
 fn values_of_elements(rt: HostRuntime) {
-    assert_eq!(rt; wrong(rt.alloc(), Call::Write, &WRITTEN), Some(None));
+    assert_eq!(rt;
+        first_mismatch(rt.alloc(), Call::Write, &WRITTEN),
+        Some(None)
+    );
 }
 
-/// Returns whether a text is no value for an object whose key is first.
+/// Returns whether a text is not an element value for an object whose key is first.
 fn is_no_value(alloc: Global, text: &str) -> Option<bool> {
     let (values, _) = read_term(alloc, text).ok()?;
     let fault = read_element_specs(alloc, &values, 1).err();
@@ -65,8 +68,8 @@ fn is_no_value(alloc: Global, text: &str) -> Option<bool> {
     Some(matches!(fault, Some(CounterFault::Badarg)))
 }
 
-/// The first text that is read as values for an object whose key is first.
-fn read_as_values(alloc: Global, texts: &[&'static str]) -> Option<Option<&'static str>> {
+/// Returns the first text that is read as element values for an object whose key is first.
+fn first_valid_value(alloc: Global, texts: &[&'static str]) -> Option<Option<&'static str>> {
     for text in texts {
         if !is_no_value(alloc, *text)? {
             return Some(Some(*text));
@@ -95,5 +98,5 @@ const WRONG: [&str; 15] = [
 
 #[test]
 fn what_is_no_value(rt: HostRuntime) {
-    assert_eq!(rt; read_as_values(rt.alloc(), &WRONG), Some(None));
+    assert_eq!(rt; first_valid_value(rt.alloc(), &WRONG), Some(None));
 }

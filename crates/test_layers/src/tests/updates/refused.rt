@@ -1,5 +1,5 @@
-// Out of memory. Run with each allocation refused in turn, by `.ci/refusals`: a call that ran out of memory has left
-// the object as it was, and answers when it is called again as if it had been called once.
+// Out of memory. `.ci/refusals` runs these tests with each allocation refused in turn. A call that ran out of memory
+// must have left the object as it was. Made again, it must have the answer of ample memory.
 use super::*;
 use crate::tests::text::refused::term_again;
 
@@ -28,8 +28,8 @@ fn is_refused_memory<T>(outcome: &Result<T, CounterFault>) -> bool {
     matches!(outcome, Err(CounterFault::Memory))
 }
 
-/// What operations answer on an object, again where they were refused memory and the object is as it was.
-fn counted_again(
+/// Updates an object by operations, again if they were refused memory and the object is unchanged.
+fn update_again(
     alloc: Global,
     object: &mut Term,
     before: &Term,
@@ -43,7 +43,7 @@ fn counted_again(
     update_counter(alloc, object, ops)
 }
 
-fn copied_again(alloc: Global, object: &Term, ops: &Ops) -> Result<(Term, Term), CounterFault> {
+fn apply_again(alloc: Global, object: &Term, ops: &Ops) -> Result<(Term, Term), CounterFault> {
     let outcome = apply_ops(alloc, object, ops);
     if !is_refused_memory(&outcome) {
         return outcome;
@@ -52,7 +52,7 @@ fn copied_again(alloc: Global, object: &Term, ops: &Ops) -> Result<(Term, Term),
     apply_ops(alloc, object, ops)
 }
 
-fn started_again(
+fn start_again(
     alloc: Global,
     default: &Term,
     key: &Term,
@@ -66,28 +66,28 @@ fn started_again(
     start_counter(alloc, default, 1, key, ops)
 }
 
-/// Returns whether an answer and what was made are these.
-fn are_told(outcome: Result<(Term, Term), CounterFault>, told: (&Term, &Term)) -> bool {
+/// Returns whether an outcome has the expected answer and object.
+fn are_answers(outcome: Result<(Term, Term), CounterFault>, expected: (&Term, &Term)) -> bool {
     match outcome {
         Ok(both) => {
-            let same = both.1 == *told.0 && both.0 == *told.1;
+            let same = both.1 == *expected.0 && both.0 == *expected.1;
             drop(both);
             same
         }
-        Err(fault) => is_refusal(&fault, told.0),
+        Err(fault) => is_refusal(&fault, expected.0),
     }
 }
 
-/// Returns whether operations answer and make this of an object.
+/// Returns whether operations have the expected answer and object.
 fn counts_in_place_again(
     alloc: Global,
     object: &Term,
     ops: &Ops,
-    told: (&Term, &Term),
+    expected: (&Term, &Term),
 ) -> Option<bool> {
     let mut own = clone_again(alloc, object)?;
-    let answered = answers(counted_again(alloc, &mut own, object, ops), told.0);
-    let made = own == *told.1;
+    let answered = answers(update_again(alloc, &mut own, object, ops), expected.0);
+    let made = own == *expected.1;
     drop(own);
     Some(answered && made)
 }
@@ -96,11 +96,11 @@ fn counts_again(
     alloc: Global,
     object: &Term,
     updates: &Term,
-    told: (&Term, &Term),
+    expected: (&Term, &Term),
 ) -> Option<bool> {
     let ops = ops_again(alloc, updates, 1)?;
-    let in_place = counts_in_place_again(alloc, object, &ops, told);
-    let copied = are_told(copied_again(alloc, object, &ops), told);
+    let in_place = counts_in_place_again(alloc, object, &ops, expected);
+    let copied = are_answers(apply_again(alloc, object, &ops), expected);
     drop(ops);
     Some(in_place? && copied)
 }
@@ -110,15 +110,15 @@ fn starts_again(
     default: &Term,
     key: &Term,
     updates: &Term,
-    told: (&Term, &Term),
+    expected: (&Term, &Term),
 ) -> Option<bool> {
     let ops = ops_again(alloc, updates, 1)?;
-    let started = started_again(alloc, default, key, &ops);
+    let started = start_again(alloc, default, key, &ops);
     drop(ops);
-    Some(are_told(started, told))
+    Some(are_answers(started, expected))
 }
 
-/// Returns whether values make this of an object, again where they were refused memory.
+/// Returns whether an object becomes this one by element values, again if they were refused memory.
 fn writes_again(alloc: Global, object: &Term, values: &Term, made: &Term) -> Option<bool> {
     let specs = specs_again(alloc, values)?;
     let outcome = apply_elements(alloc, object, &specs);
@@ -130,7 +130,7 @@ fn writes_again(alloc: Global, object: &Term, values: &Term, made: &Term) -> Opt
     Some(answers(again, made))
 }
 
-/// The same of a Default with a key.
+/// Does so with a Default and a key.
 fn writes_default_again(
     alloc: Global,
     default: &Term,
@@ -148,7 +148,7 @@ fn writes_default_again(
     Some(answers(again, made))
 }
 
-/// What a row is about.
+/// The form of a row.
 #[derive(Clone, Copy)]
 enum Call {
     /// `[Object,Updates,Answer,Made]`
@@ -177,7 +177,7 @@ fn holds_again(alloc: Global, call: Call, row: &[Term]) -> Option<bool> {
     }
 }
 
-fn holds_read_again(alloc: Global, call: Call, row: &str) -> Option<bool> {
+fn holds_in_text_again(alloc: Global, call: Call, row: &str) -> Option<bool> {
     let row = term_again(alloc, row)?;
     let holds = match &row {
         Term::List(parts) => holds_again(alloc, call, parts.as_slice()),
@@ -187,10 +187,10 @@ fn holds_read_again(alloc: Global, call: Call, row: &str) -> Option<bool> {
     holds
 }
 
-/// The first row that does not hold.
-fn wrong_again(alloc: Global, rows: &[(Call, &'static str)]) -> Option<&'static str> {
+/// Returns the first row that does not hold.
+fn first_mismatch_again(alloc: Global, rows: &[(Call, &'static str)]) -> Option<&'static str> {
     for (call, row) in rows {
-        if holds_read_again(alloc, *call, *row) != Some(true) {
+        if holds_in_text_again(alloc, *call, *row) != Some(true) {
             return Some(*row);
         }
     }
@@ -223,5 +223,5 @@ const REFUSED: [(Call, &str); 9] = [
 
 #[test]
 fn a_refused_update_is_done_again(rt: HostRuntime) {
-    assert_eq!(rt; wrong_again(rt.alloc(), &REFUSED), None);
+    assert_eq!(rt; first_mismatch_again(rt.alloc(), &REFUSED), None);
 }

@@ -3,17 +3,17 @@ use super::defaults::{starts, writes_default};
 use super::elements::writes;
 use super::*;
 
-/// What a row of text is about.
+/// The form of a row of text.
 #[derive(Clone, Copy)]
 pub enum Call {
     /// Operations on an object whose key is at this position: `[Object,Updates,Answer,Made]`.
     Count(u32),
-    /// Values for an object whose key is first: `[Object,Values,Made]`.
+    /// Element values for an object whose key is first: `[Object,Values,Made]`.
     Write,
     /// Operations on a Default whose key is at this position: `[Default,Key,Updates,Answer]`, where the answer is
     /// `{Answer,Made}`, or a refusal.
     Start(u32),
-    /// Values for a Default whose key is first: `[Default,Key,Values,Made]`.
+    /// Element values for a Default whose key is first: `[Default,Key,Values,Made]`.
     WriteDefault,
 }
 
@@ -33,7 +33,7 @@ fn holds(alloc: Global, call: Call, row: &[Term]) -> Option<bool> {
     }
 }
 
-fn holds_read(alloc: Global, call: Call, row: &str) -> Option<bool> {
+fn holds_in_text(alloc: Global, call: Call, row: &str) -> Option<bool> {
     let (row, _) = read_term(alloc, row).ok()?;
     let holds = match &row {
         Term::List(parts) => holds(alloc, call, parts.as_slice()),
@@ -43,10 +43,14 @@ fn holds_read(alloc: Global, call: Call, row: &str) -> Option<bool> {
     holds
 }
 
-/// The first row that does not hold.
-pub fn wrong(alloc: Global, call: Call, rows: &[&'static str]) -> Option<Option<&'static str>> {
+/// Returns the first row that does not hold.
+pub fn first_mismatch(
+    alloc: Global,
+    call: Call,
+    rows: &[&'static str],
+) -> Option<Option<&'static str>> {
     for row in rows {
-        if !holds_read(alloc, call, *row)? {
+        if !holds_in_text(alloc, call, *row)? {
             return Some(Some(*row));
         }
     }

@@ -1,11 +1,11 @@
-// Which terms are specifications.
+// Which terms are match specifications.
 use super::*;
 use crate::tests::plain::clauses::elements;
 use crate::tests::plain::functions::{is_kind_test, is_one_of};
-use crate::tests::plain::matching::{Binding, bound, number, push};
+use crate::tests::plain::matching::{Binding, number, push, value_of};
 use crate::tests::plain::operations::is_operation;
 
-/// Functions of any number of arguments but none, of one and of two; the tests of kinds and the operations.
+/// Functions of at least one argument, of one, and of two. The type tests and the operators are elsewhere.
 const OF_SOME: [&str; 4] = ["and", "or", "andalso", "orelse"];
 
 const OF_ONE: [&str; 7] = ["is_number", "not", "abs", "hd", "tl", "length", "size"];
@@ -28,7 +28,7 @@ fn is_function(name: &Term, count: usize) -> bool {
 fn is_expression(term: &Term, bindings: &[Binding]) -> bool {
     match term {
         Term::Atom(_) => match number(term) {
-            Some(n) => bound(n, bindings).is_some(),
+            Some(n) => value_of(n, bindings).is_some(),
             None => true,
         },
         Term::List(items) => are_expressions(items.as_slice(), 0, bindings),
@@ -65,12 +65,12 @@ fn is_tuple_expression(items: &[Term], bindings: &[Binding]) -> bool {
     }
 }
 
-// The variables of a pattern, each bound to itself.
+// Collects the variables of a pattern, each bound to itself.
 #[cycle(plain_variables)]
-fn collect(alloc: Global, pattern: &Term, found: &mut Vec<Binding>) {
+fn collect_variables(alloc: Global, pattern: &Term, found: &mut Vec<Binding>) {
     match pattern {
-        Term::Tuple(items) => collect_all(alloc, items.as_slice(), found),
-        Term::List(items) => collect_all(alloc, items.as_slice(), found),
+        Term::Tuple(items) => collect_all_variables(alloc, items.as_slice(), found),
+        Term::List(items) => collect_all_variables(alloc, items.as_slice(), found),
         _ => {
             if let Some(n) = number(pattern) {
                 let _pushed = push(alloc, n, pattern, found);
@@ -80,9 +80,9 @@ fn collect(alloc: Global, pattern: &Term, found: &mut Vec<Binding>) {
 }
 
 #[cycle(plain_variables)]
-fn collect_all(alloc: Global, parts: &[Term], found: &mut Vec<Binding>) {
+fn collect_all_variables(alloc: Global, parts: &[Term], found: &mut Vec<Binding>) {
     for part in parts {
-        collect(alloc, part, found);
+        collect_variables(alloc, part, found);
     }
 }
 
@@ -97,11 +97,11 @@ fn is_clause(alloc: Global, clause: &Term) -> bool {
         return false;
     };
     let mut found = Vec::new(alloc);
-    collect(alloc, head, &mut found);
+    collect_variables(alloc, head, &mut found);
     matches!(head, Term::Atom(_) | Term::Tuple(_)) && are_good(conditions, body, found.as_slice())
 }
 
-/// Returns whether a list of tuples with lists after the head is a specification.
+/// Returns whether a list of tuples, each with lists after the head, is a match specification.
 pub(crate) fn is_spec(alloc: Global, spec: &Term) -> bool {
     for clause in elements(spec) {
         if !is_clause(alloc, clause) {

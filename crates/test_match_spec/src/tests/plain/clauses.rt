@@ -1,4 +1,4 @@
-// What a specification makes of an object.
+// The result of a match specification on an object.
 use super::*;
 use crate::tests::plain::matching::{Binding, matches};
 use crate::tests::plain::values::value;
@@ -27,7 +27,7 @@ fn all_true(alloc: Global, conditions: &[Term], object: &Term, bindings: &[Bindi
     true
 }
 
-// The last of the values; None where one of them fails.
+// Returns the last of the values, or None if an expression fails.
 fn last_value(alloc: Global, body: &[Term], object: &Term, bindings: &[Binding]) -> Option<Term> {
     let mut last = Term::default();
     for expression in body {
@@ -54,8 +54,8 @@ fn clause_result(alloc: Global, clause: &Term, object: &Term) -> Option<Term> {
 
 pub(crate) fn result(alloc: Global, spec: &Term, object: &Term) -> Option<Term> {
     for clause in elements(spec) {
-        if let Some(given) = clause_result(alloc, clause, object) {
-            return Some(given);
+        if let Some(result) = clause_result(alloc, clause, object) {
+            return Some(result);
         }
     }
     None

@@ -1,6 +1,6 @@
-// What a function gives; None where it fails.
+// The value of a function, or None if it fails.
 use super::*;
-use crate::tests::plain::operations::{compared, difference, is_operation, operated};
+use crate::tests::plain::operations::{calculate, compare, difference, is_operation};
 
 pub(crate) fn boolean(term: &Term) -> Option<bool> {
     if term.is_atom("true") {
@@ -12,13 +12,13 @@ pub(crate) fn boolean(term: &Term) -> Option<bool> {
     }
 }
 
-pub(crate) fn truth(alloc: Global, b: bool) -> Option<Term> {
+pub(crate) fn boolean_term(alloc: Global, b: bool) -> Option<Term> {
     atom(alloc, if b { "true" } else { "false" })
 }
 
-pub(crate) fn applied(alloc: Global, name: &Term, arguments: &[Term]) -> Option<Term> {
+pub(crate) fn apply(alloc: Global, name: &Term, arguments: &[Term]) -> Option<Term> {
     if name.is_atom("and") || name.is_atom("or") {
-        return truth(alloc, joined(arguments, name.is_atom("or"))?);
+        return boolean_term(alloc, join(arguments, name.is_atom("or"))?);
     }
     match arguments {
         [x] => one(alloc, name, x),
@@ -27,7 +27,7 @@ pub(crate) fn applied(alloc: Global, name: &Term, arguments: &[Term]) -> Option<
     }
 }
 
-fn joined(arguments: &[Term], stop: bool) -> Option<bool> {
+fn join(arguments: &[Term], stop: bool) -> Option<bool> {
     let mut found = !stop;
     for argument in arguments {
         if boolean(argument)? == stop {
@@ -72,19 +72,19 @@ pub(crate) fn is_kind_test(name: &Term) -> bool {
     is_one_of(name, &KIND_TESTS)
 }
 
-fn integer(n: Option<Integer>) -> Option<Term> {
+fn integer_term(n: Option<Integer>) -> Option<Term> {
     Some(Term::Int(n?))
 }
 
 fn one(alloc: Global, name: &Term, x: &Term) -> Option<Term> {
     if is_kind_test(name) {
-        truth(alloc, name.is_atom(kind(x)))
+        boolean_term(alloc, name.is_atom(kind(x)))
     } else if name.is_atom("is_number") {
-        truth(alloc, matches!(x, Term::Int(_)))
+        boolean_term(alloc, matches!(x, Term::Int(_)))
     } else if name.is_atom("not") {
-        truth(alloc, !boolean(x)?)
+        boolean_term(alloc, !boolean(x)?)
     } else {
-        measured(alloc, name, x)
+        measure(alloc, name, x)
     }
 }
 
@@ -92,29 +92,29 @@ fn absolute(n: Integer) -> Option<Integer> {
     if n < 0 { difference(0, n) } else { Some(n) }
 }
 
-fn measured(alloc: Global, name: &Term, x: &Term) -> Option<Term> {
+fn measure(alloc: Global, name: &Term, x: &Term) -> Option<Term> {
     match x {
-        Term::Int(n) if name.is_atom("abs") => integer(absolute(*n)),
-        Term::List(items) if name.is_atom("length") => integer(Some(items.len() as Integer)),
-        Term::Tuple(items) if name.is_atom("size") => integer(Some(items.len() as Integer)),
-        Term::Binary(bytes) if name.is_atom("size") => integer(Some(bytes.len() as Integer)),
-        Term::List(items) => end(alloc, name, items.as_slice()),
+        Term::Int(n) if name.is_atom("abs") => integer_term(absolute(*n)),
+        Term::List(items) if name.is_atom("length") => integer_term(Some(items.len() as Integer)),
+        Term::Tuple(items) if name.is_atom("size") => integer_term(Some(items.len() as Integer)),
+        Term::Binary(bytes) if name.is_atom("size") => integer_term(Some(bytes.len() as Integer)),
+        Term::List(items) => head_or_tail(alloc, name, items.as_slice()),
         _ => None,
     }
 }
 
-fn end(alloc: Global, name: &Term, items: &[Term]) -> Option<Term> {
+fn head_or_tail(alloc: Global, name: &Term, items: &[Term]) -> Option<Term> {
     let (first, rest) = items.split_first()?;
     if name.is_atom("hd") {
         copy(alloc, first)
     } else if name.is_atom("tl") {
-        all_of(alloc, rest)
+        list_of(alloc, rest)
     } else {
         None
     }
 }
 
-fn all_of(alloc: Global, terms: &[Term]) -> Option<Term> {
+fn list_of(alloc: Global, terms: &[Term]) -> Option<Term> {
     let mut items = Items::new(alloc);
     for term in terms {
         items.push(copy(alloc, term)?).ok()?;
@@ -124,17 +124,17 @@ fn all_of(alloc: Global, terms: &[Term]) -> Option<Term> {
 
 fn two(alloc: Global, name: &Term, x: &Term, y: &Term) -> Option<Term> {
     if name.is_atom("xor") {
-        truth(alloc, boolean(x)? != boolean(y)?)
+        boolean_term(alloc, boolean(x)? != boolean(y)?)
     } else if name.is_atom("element") {
         copy(alloc, element(x, y)?)
     } else if is_operation(name) {
-        integer(operated(name, whole(x)?, whole(y)?))
+        integer_term(calculate(name, integer_of(x)?, integer_of(y)?))
     } else {
-        truth(alloc, compared(name, x, y)?)
+        boolean_term(alloc, compare(name, x, y)?)
     }
 }
 
-fn whole(term: &Term) -> Option<Integer> {
+fn integer_of(term: &Term) -> Option<Integer> {
     match term {
         Term::Int(n) => Some(*n),
         _ => None,
@@ -142,7 +142,7 @@ fn whole(term: &Term) -> Option<Integer> {
 }
 
 fn element<'t>(position: &Term, term: &'t Term) -> Option<&'t Term> {
-    let position = whole(position)?;
+    let position = integer_of(position)?;
     let Term::Tuple(items) = term else {
         return None;
     };

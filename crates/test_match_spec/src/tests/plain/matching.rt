@@ -1,7 +1,7 @@
-// What a pattern matches and binds.
+// Which terms a pattern matches, and what it binds.
 use super::*;
 
-/// What is bound to a variable.
+/// A variable and the term that it is bound to.
 #[derive(Drop)]
 pub(crate) struct Binding {
     pub(crate) number: u32,
@@ -17,7 +17,7 @@ pub(crate) fn number(term: &Term) -> Option<u32> {
     None
 }
 
-pub(crate) fn bound(n: u32, bindings: &[Binding]) -> Option<&Term> {
+pub(crate) fn value_of(n: u32, bindings: &[Binding]) -> Option<&Term> {
     for binding in bindings {
         if binding.number == n {
             return Some(&binding.value);
@@ -67,17 +67,17 @@ pub(crate) fn push(alloc: Global, n: u32, term: &Term, bindings: &mut Vec<Bindin
 }
 
 fn bind(alloc: Global, n: u32, term: &Term, bindings: &mut Vec<Binding>) -> bool {
-    match bound(n, bindings.as_slice()) {
+    match value_of(n, bindings.as_slice()) {
         Some(value) => *value == *term,
         None => push(alloc, n, term, bindings) == Some(()),
     }
 }
 
-// The values in order of number.
-pub(crate) fn in_order(alloc: Global, bindings: &[Binding]) -> Option<Term> {
+// Returns the values in the order of the variables.
+pub(crate) fn values_in_order(alloc: Global, bindings: &[Binding]) -> Option<Term> {
     let mut values = Items::new(alloc);
     for n in 0..3 {
-        if let Some(value) = bound(n, bindings) {
+        if let Some(value) = value_of(n, bindings) {
             values.push(copy(alloc, value)?).ok()?;
         }
     }
@@ -89,5 +89,5 @@ pub(crate) fn bindings(alloc: Global, pattern: &Term, object: &Term) -> Option<T
     if !matches(alloc, pattern, object, &mut bindings) {
         return None;
     }
-    in_order(alloc, bindings.as_slice())
+    values_in_order(alloc, bindings.as_slice())
 }

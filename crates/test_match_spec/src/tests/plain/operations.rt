@@ -1,4 +1,4 @@
-// What operations on integers and comparisons give.
+// The values of arithmetic and comparison operators.
 use super::*;
 use crate::tests::plain::functions::is_one_of;
 
@@ -8,7 +8,7 @@ pub(crate) fn is_operation(name: &Term) -> bool {
     is_one_of(name, &OPERATIONS)
 }
 
-/// Past the range a sum comes round to the other side of its first number.
+/// A sum that overflows wraps to the other side of its first number.
 fn sum(m: Integer, n: Integer) -> Option<Integer> {
     let sum = m.wrapping_add(n);
     if (sum < m) == (n < 0) {
@@ -27,7 +27,7 @@ pub(crate) fn difference(m: Integer, n: Integer) -> Option<Integer> {
     }
 }
 
-/// A product that came round is not parted into its numbers again.
+/// The quotient of a product that wrapped is not its second number.
 fn product(m: Integer, n: Integer) -> Option<Integer> {
     let product = m.wrapping_mul(n);
     if m == 0 || product.checked_div(m) == Some(n) {
@@ -37,12 +37,12 @@ fn product(m: Integer, n: Integer) -> Option<Integer> {
     }
 }
 
-/// What is left by -1 is 0 of every number, also of the least, which has no quotient by it.
-fn left(m: Integer, n: Integer) -> Option<Integer> {
+/// The remainder by -1 is 0 for every number, also for the least, whose quotient overflows.
+fn remainder(m: Integer, n: Integer) -> Option<Integer> {
     if n == -1 { Some(0) } else { m.checked_rem(n) }
 }
 
-pub(crate) fn operated(name: &Term, m: Integer, n: Integer) -> Option<Integer> {
+pub(crate) fn calculate(name: &Term, m: Integer, n: Integer) -> Option<Integer> {
     if name.is_atom("+") {
         sum(m, n)
     } else if name.is_atom("-") {
@@ -52,11 +52,11 @@ pub(crate) fn operated(name: &Term, m: Integer, n: Integer) -> Option<Integer> {
     } else if name.is_atom("div") {
         m.checked_div(n)
     } else {
-        left(m, n)
+        remainder(m, n)
     }
 }
 
-pub(crate) fn compared(name: &Term, x: &Term, y: &Term) -> Option<bool> {
+pub(crate) fn compare(name: &Term, x: &Term, y: &Term) -> Option<bool> {
     if is_one_of(name, &["=:=", "=="]) {
         Some(*x == *y)
     } else if is_one_of(name, &["=/=", "/="]) {

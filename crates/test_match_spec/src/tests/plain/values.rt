@@ -1,7 +1,7 @@
-// What an expression is worth; None where it fails.
+// The value of an expression, or None if it fails.
 use super::*;
-use crate::tests::plain::functions::{applied, boolean, truth};
-use crate::tests::plain::matching::{Binding, bound, in_order, number};
+use crate::tests::plain::functions::{apply, boolean, boolean_term};
+use crate::tests::plain::matching::{Binding, number, value_of, values_in_order};
 
 #[cycle(plain_value)]
 pub(crate) fn value(
@@ -11,7 +11,7 @@ pub(crate) fn value(
     bindings: &[Binding],
 ) -> Option<Term> {
     match expression {
-        Term::Atom(_) => named(alloc, expression, object, bindings),
+        Term::Atom(_) => atom_value(alloc, expression, object, bindings),
         Term::List(items) => {
             let values = values(alloc, items.as_slice(), 0, object, bindings)?;
             Some(Term::List(values))
@@ -21,13 +21,13 @@ pub(crate) fn value(
     }
 }
 
-fn named(alloc: Global, name: &Term, object: &Term, bindings: &[Binding]) -> Option<Term> {
+fn atom_value(alloc: Global, name: &Term, object: &Term, bindings: &[Binding]) -> Option<Term> {
     if let Some(n) = number(name) {
-        copy(alloc, bound(n, bindings)?)
+        copy(alloc, value_of(n, bindings)?)
     } else if name.is_atom("$_") {
         copy(alloc, object)
     } else if name.is_atom("$$") {
-        in_order(alloc, bindings)
+        values_in_order(alloc, bindings)
     } else {
         copy(alloc, name)
     }
@@ -65,16 +65,16 @@ fn tuple_value(alloc: Global, items: &[Term], object: &Term, bindings: &[Binding
                 return copy(alloc, items.get(1)?);
             }
             if name.is_atom("andalso") || name.is_atom("orelse") {
-                return decided(alloc, items, name.is_atom("orelse"), object, bindings);
+                return short_circuit_value(alloc, items, name.is_atom("orelse"), object, bindings);
             }
             let values = values(alloc, items, 1, object, bindings)?;
-            applied(alloc, name, values.as_slice())
+            apply(alloc, name, values.as_slice())
         }
     }
 }
 
 #[cycle(plain_value)]
-fn decided(
+fn short_circuit_value(
     alloc: Global,
     items: &[Term],
     stop: bool,
@@ -84,8 +84,8 @@ fn decided(
     for i in 1..items.len() {
         let term = value(alloc, &items[i], object, bindings)?;
         if boolean(&term)? == stop {
-            return truth(alloc, stop);
+            return boolean_term(alloc, stop);
         }
     }
-    truth(alloc, !stop)
+    boolean_term(alloc, !stop)
 }

@@ -1,6 +1,6 @@
 use super::*;
 
-/// How many keys there are to be called with.
+/// The number of keys that calls are made with.
 const KEYS: u32 = 150;
 
 /// A call on one key.
@@ -13,7 +13,7 @@ enum Call {
     RemoveAtPlace,
 }
 
-fn drawn(draws: &mut Draws) -> Call {
+fn draw_call(draws: &mut Draws) -> Call {
     let value = Integer::from(draws.below(1000));
     match draws.below(8) {
         0 => Call::Hold,
@@ -24,16 +24,16 @@ fn drawn(draws: &mut Draws) -> Call {
     }
 }
 
-/// What a key has after a call.
-fn after(call: Call, had: Kept) -> Kept {
+/// Returns the state of a key after a call.
+fn state_after_call(call: Call, had: KeyState) -> KeyState {
     match (call, had) {
-        (Call::Insert(value), _) => Kept::Object(value),
-        (Call::Put(value), Kept::Nothing) => Kept::Object(value),
+        (Call::Insert(value), _) => KeyState::Object(value),
+        (Call::Put(value), KeyState::Nothing) => KeyState::Object(value),
         (Call::Put(_), had) => had,
-        (Call::Hold, Kept::Nothing) => Kept::Nothing,
-        (Call::Hold, _) => Kept::Held,
-        (Call::Remove, _) => Kept::Nothing,
-        (Call::RemoveAtPlace, _) => Kept::Nothing,
+        (Call::Hold, KeyState::Nothing) => KeyState::Nothing,
+        (Call::Hold, _) => KeyState::Tombstone,
+        (Call::Remove, _) => KeyState::Nothing,
+        (Call::RemoveAtPlace, _) => KeyState::Nothing,
     }
 }
 
@@ -42,25 +42,25 @@ fn put<R: Rows>(
     alloc: Global,
     key: Integer,
     value: Integer,
-) -> Result<Kept, AllocError> {
+) -> Result<KeyState, AllocError> {
     let term = Term::Int(key);
     if let Some(objects) = rows.get(&term) {
-        let had = kept_in(objects);
+        let had = state_in(objects);
         drop(term);
         return Ok(had);
     }
     rows.put(vec![in alloc; (term, Chain::one(alloc, Term::Int(value)))]?)?;
-    Ok(Kept::Nothing)
+    Ok(KeyState::Nothing)
 }
 
-fn hold<R: Rows>(rows: &mut R, alloc: Global, key: Integer) -> Kept {
+fn hold<R: Rows>(rows: &mut R, alloc: Global, key: Integer) -> KeyState {
     let term = Term::Int(key);
     let objects = rows.replace(&term, Chain::new(alloc));
     drop(term);
-    kept_of(objects)
+    state_of(objects)
 }
 
-fn remove_at_place<R: Rows>(rows: &mut R, key: Integer) -> Kept {
+fn remove_at_place<R: Rows>(rows: &mut R, key: Integer) -> KeyState {
     let term = Term::Int(key);
     let found = rows.find(&term);
     drop(term);
@@ -68,19 +68,19 @@ fn remove_at_place<R: Rows>(rows: &mut R, key: Integer) -> Kept {
         Some(place) => {
             let (own, objects) = rows.remove_at(place);
             drop(own);
-            kept_of(Some(objects))
+            state_of(Some(objects))
         }
-        None => Kept::Nothing,
+        None => KeyState::Nothing,
     }
 }
 
-/// Does a call, and answers what the key had.
-fn done<R: Rows>(
+/// Makes a call on rows. Returns the state of the key before.
+fn run_call<R: Rows>(
     rows: &mut R,
     alloc: Global,
     key: Integer,
     call: Call,
-) -> Result<Kept, AllocError> {
+) -> Result<KeyState, AllocError> {
     match call {
         Call::Insert(value) => insert(rows, alloc, key, value),
         Call::Put(value) => put(rows, alloc, key, value),
@@ -90,39 +90,39 @@ fn done<R: Rows>(
     }
 }
 
-/// Does a call on a list of what each key has, and answers what the key had.
-fn listed_done(list: &mut [Kept], key: u32, call: Call) -> Option<Kept> {
+/// Makes a call on the list with the state of each key. Returns the state of the key before.
+fn run_on_list(list: &mut [KeyState], key: u32, call: Call) -> Option<KeyState> {
     let own = list.get_mut(key as usize)?;
     let had = *own;
-    *own = after(call, had);
+    *own = state_after_call(call, had);
     Some(had)
 }
 
-/// Returns whether a call on one key answers what the list says.
+/// Makes a call on rows and on the list. Returns whether they agree.
 fn agrees<R: Rows>(
     rows: &mut R,
     alloc: Global,
-    list: &mut [Kept],
+    list: &mut [KeyState],
     draws: &mut Draws,
 ) -> Result<bool, AllocError> {
     let key = draws.below(KEYS);
-    let call = drawn(draws);
-    let had = done(rows, alloc, Integer::from(key), call)?;
-    Ok(listed_done(list, key, call) == Some(had))
+    let call = draw_call(draws);
+    let had = run_call(rows, alloc, Integer::from(key), call)?;
+    Ok(run_on_list(list, key, call) == Some(had))
 }
 
-/// What a key has when all slots were cleared or purged.
-fn swept(hold: Option<bool>, had: Kept) -> Kept {
+/// Returns the state of a key after all slots were cleared, with tombstones or without, or purged.
+fn state_after_sweep(hold: Option<bool>, had: KeyState) -> KeyState {
     match (hold, had) {
-        (Some(true), Kept::Object(_)) => Kept::Held,
-        (Some(false), Kept::Object(_)) => Kept::Nothing,
-        (None, Kept::Held) => Kept::Nothing,
+        (Some(true), KeyState::Object(_)) => KeyState::Tombstone,
+        (Some(false), KeyState::Object(_)) => KeyState::Nothing,
+        (None, KeyState::Tombstone) => KeyState::Nothing,
         (_, had) => had,
     }
 }
 
-/// Purges now and then, and clears less often.
-fn sweep<R: Rows>(rows: &mut R, list: &mut [Kept], draws: &mut Draws) {
+/// Purges most of the time, and clears less often.
+fn sweep<R: Rows>(rows: &mut R, list: &mut [KeyState], draws: &mut Draws) {
     let hold = match draws.below(6) {
         0 => Some(true),
         1 => Some(false),
@@ -134,22 +134,25 @@ fn sweep<R: Rows>(rows: &mut R, list: &mut [Kept], draws: &mut Draws) {
     }
     for own in list.iter_mut() {
         let had = *own;
-        *own = swept(hold, had);
+        *own = state_after_sweep(hold, had);
     }
 }
 
-/// Returns whether each key has what the list says, and no other has a slot.
-fn agree<R: Rows>(rows: &R, list: &[Kept]) -> bool {
+/// Returns whether each key has the state of the list, and no other key has a slot.
+fn agree<R: Rows>(rows: &R, list: &[KeyState]) -> bool {
     let mut slots = 0usize;
     let mut all = true;
     for number in 0..KEYS {
-        let wanted = list.get(number as usize).copied().unwrap_or(Kept::Nothing);
-        all = kept_at(rows, Integer::from(number)) == wanted && all;
-        if wanted != Kept::Nothing {
+        let wanted = list
+            .get(number as usize)
+            .copied()
+            .unwrap_or(KeyState::Nothing);
+        all = state_at(rows, Integer::from(number)) == wanted && all;
+        if wanted != KeyState::Nothing {
             slots = slots.wrapping_add(1);
         }
     }
-    all && rows.len() == slots && walks(rows)
+    all && rows.len() == slots && traverses(rows)
 }
 
 fn number_of(key: &Term) -> Integer {
@@ -159,14 +162,14 @@ fn number_of(key: &Term) -> Integer {
     }
 }
 
-fn first_of<R: Rows>(rows: &R) -> Option<Integer> {
+fn first_key<R: Rows>(rows: &R) -> Option<Integer> {
     let place = rows.first_place()?;
     let (key, _objects) = rows.slot_at(place);
     Some(number_of(key))
 }
 
-/// The key after another, by places.
-fn behind<R: Rows>(rows: &R, key: Integer) -> Option<Integer> {
+/// Returns the key after another, found by places.
+fn key_after<R: Rows>(rows: &R, key: Integer) -> Option<Integer> {
     let term = Term::Int(key);
     let found = rows.find(&term);
     drop(term);
@@ -176,8 +179,8 @@ fn behind<R: Rows>(rows: &R, key: Integer) -> Option<Integer> {
     Some(number_of(key))
 }
 
-/// Returns whether the slot after a key's own has this key.
-fn is_behind<R: Rows>(rows: &R, key: Integer, next: Option<Integer>) -> bool {
+/// Returns whether `next_at` gives this key after another.
+fn is_key_after<R: Rows>(rows: &R, key: Integer, next: Option<Integer>) -> bool {
     let term = Term::Int(key);
     let is_next = match rows.next_at(&term) {
         Some(Some((key, _objects))) => next == Some(number_of(key)),
@@ -188,14 +191,14 @@ fn is_behind<R: Rows>(rows: &R, key: Integer, next: Option<Integer>) -> bool {
     is_next
 }
 
-/// Returns whether a walk from the first slot on comes to each slot and ends there.
-fn walks<R: Rows>(rows: &R) -> bool {
+/// Returns whether a traversal from the first slot visits each slot and then ends.
+fn traverses<R: Rows>(rows: &R) -> bool {
     let mut all = true;
-    let mut at = first_of(rows);
+    let mut at = first_key(rows);
     for _ in 0..rows.len() {
         if let Some(key) = at {
-            at = behind(rows, key);
-            all = is_behind(rows, key, at) && all;
+            at = key_after(rows, key);
+            all = is_key_after(rows, key, at) && all;
         } else {
             all = false;
         }
@@ -203,9 +206,9 @@ fn walks<R: Rows>(rows: &R) -> bool {
     all && at == None
 }
 
-fn listed(alloc: Global) -> Result<Vec<Kept>, AllocError> {
+fn new_list(alloc: Global) -> Result<Vec<KeyState>, AllocError> {
     let mut list = Vec::new(alloc);
-    match list.resize(KEYS as usize, Kept::Nothing) {
+    match list.resize(KEYS as usize, KeyState::Nothing) {
         Ok(()) => Ok(list),
         Err(_) => {
             drop(list);
@@ -214,11 +217,11 @@ fn listed(alloc: Global) -> Result<Vec<Kept>, AllocError> {
     }
 }
 
-/// A few calls on keys, growth, and sometimes one on all slots.
-fn round<R: Rows>(
+/// Makes a few calls on keys, growth steps, and sometimes one call on all slots.
+fn runs_round<R: Rows>(
     rows: &mut R,
     alloc: Global,
-    list: &mut [Kept],
+    list: &mut [KeyState],
     draws: &mut Draws,
 ) -> Result<bool, AllocError> {
     let mut all = true;
@@ -232,50 +235,57 @@ fn round<R: Rows>(
     Ok(agree(rows, list) && all)
 }
 
-fn rounds<R: Rows>(rows: &mut R, alloc: Global, list: &mut [Kept]) -> Result<bool, AllocError> {
+fn runs_rounds<R: Rows>(
+    rows: &mut R,
+    alloc: Global,
+    list: &mut [KeyState],
+) -> Result<bool, AllocError> {
     let mut draws = Draws::new();
     let mut all = true;
     for _ in 0..200 {
-        all = round(rows, alloc, list, &mut draws)? && all;
+        all = runs_round(rows, alloc, list, &mut draws)? && all;
     }
     Ok(all)
 }
 
-/// Returns whether some thousands of calls give what a list gives.
-fn thousands<R: Rows>(rows: &mut R, alloc: Global) -> Result<bool, AllocError> {
-    let mut list = listed(alloc)?;
-    let all = rounds(rows, alloc, list.as_mut_slice());
+/// Returns whether 5,000 calls on rows and on a list agree.
+fn runs_thousands<R: Rows>(rows: &mut R, alloc: Global) -> Result<bool, AllocError> {
+    let mut list = new_list(alloc)?;
+    let all = runs_rounds(rows, alloc, list.as_mut_slice());
     drop(list);
     all
 }
 
-fn split_thousands<H: KeyHash + Copy + Drop>(alloc: Global, hash: H) -> Result<bool, AllocError> {
+fn split_runs_thousands<H: KeyHash + Copy + Drop>(
+    alloc: Global,
+    hash: H,
+) -> Result<bool, AllocError> {
     let mut rows = SplitRows::new(alloc, hash)?;
-    let all = thousands(&mut rows, alloc);
+    let all = runs_thousands(&mut rows, alloc);
     drop(rows);
     all
 }
 
-fn plain_thousands(alloc: Global) -> Result<bool, AllocError> {
+fn plain_runs_thousands(alloc: Global) -> Result<bool, AllocError> {
     let mut rows = PlainRows::new(alloc);
-    let all = thousands(&mut rows, alloc);
+    let all = runs_thousands(&mut rows, alloc);
     drop(rows);
     all
 }
 
 #[test]
 fn plain_rows_are_a_list(rt: HostRuntime) {
-    assert!(rt; plain_thousands(rt.alloc()) == Ok(true));
+    assert!(rt; plain_runs_thousands(rt.alloc()) == Ok(true));
 }
 
 #[test]
 fn split_rows_are_a_list(rt: HostRuntime) {
-    assert!(rt; split_thousands(rt.alloc(), Fnv) == Ok(true));
-    assert!(rt; split_thousands(rt.alloc(), Even) == Ok(true));
+    assert!(rt; split_runs_thousands(rt.alloc(), Fnv) == Ok(true));
+    assert!(rt; split_runs_thousands(rt.alloc(), Even) == Ok(true));
 }
 
 #[test]
 fn split_rows_of_one_hash_are_a_list(rt: HostRuntime) {
-    assert!(rt; split_thousands(rt.alloc(), AllSame) == Ok(true));
-    assert!(rt; split_thousands(rt.alloc(), Last) == Ok(true));
+    assert!(rt; split_runs_thousands(rt.alloc(), AllSame) == Ok(true));
+    assert!(rt; split_runs_thousands(rt.alloc(), Last) == Ok(true));
 }

@@ -1,8 +1,8 @@
 // Calls that take no memory: `.ci/refusals` refuses each allocation between two marks.
 use super::*;
 
-/// More bytes than any machine has. Each request for these is refused. For `.ci/refusals` it marks the begin or the
-/// end of a part that takes no memory.
+/// More bytes than any machine has, so that each request is refused. To `.ci/refusals` such a request marks the begin
+/// or the end of a part that takes no memory.
 const MARK: usize = 1 << 60;
 
 fn mark(alloc: Global) -> bool {
@@ -53,14 +53,14 @@ fn sum<R: Rows>(rows: &R) -> Integer {
 fn calls<R: Rows>(rows: &mut R, alloc: Global) -> [Integer; 4] {
     let before = sum(rows);
     let one = Term::Int(1);
-    let was = kept_of(rows.replace(&one, Chain::one(alloc, Term::Int(10))));
+    let was = state_of(rows.replace(&one, Chain::one(alloc, Term::Int(10))));
     drop(one);
     let replaced = sum(rows);
     let gone = remove(rows, 2);
     let removed = sum(rows);
     rows.clear(true);
     rows.purge();
-    if was != Kept::Object(1) || gone != Kept::Object(2) {
+    if was != KeyState::Object(1) || gone != KeyState::Object(2) {
         return [0; 4];
     }
     [before, replaced, removed, rows.len() as Integer]

@@ -1,10 +1,10 @@
 use super::*;
 
-/// Returns whether `ready` answers this, and the bucket is ready then where there is one.
+/// Returns whether `ready` answers this, and the bucket, if it exists, is then ready.
 fn readies<R: Rows>(rows: &mut R, bucket: u32, answer: Readying) -> Result<bool, AllocError> {
-    let told = rows.ready(bucket)?;
+    let readying = rows.ready(bucket)?;
     let is_bucket = answer != Readying::NotABucket;
-    Ok(told == answer && rows.is_ready(bucket) == is_bucket)
+    Ok(readying == answer && rows.is_ready(bucket) == is_bucket)
 }
 
 fn grows<R: Rows>(rows: &mut R, times: usize, answer: Growth) -> Result<bool, AllocError> {
@@ -49,8 +49,8 @@ const AT_MOST_BUCKETS: [(u32, Readying); 5] = [
     (1_048_575, Readying::Ready),
 ];
 
-/// Returns whether buckets are readied in this way after a number of doublings, and bucket 1 is the least that is not
-/// ready before and after.
+/// Returns whether `ready` gives these answers after a number of doublings, and bucket 1 is the first unready bucket
+/// before and after.
 fn readies_some<R: Rows>(
     rows: &mut R,
     times: usize,
@@ -58,8 +58,8 @@ fn readies_some<R: Rows>(
 ) -> Result<bool, AllocError> {
     let grown = grows(rows, times, Growth::Grown)?;
     let least = rows.first_unready();
-    let told = readies_each(rows, wanted)?;
-    Ok(grown && told && least == Some(1) && rows.first_unready() == Some(1))
+    let readied = readies_each(rows, wanted)?;
+    Ok(grown && readied && least == Some(1) && rows.first_unready() == Some(1))
 }
 
 fn split_readies(alloc: Global, wanted: &[(u32, Readying)]) -> Result<bool, AllocError> {
@@ -77,16 +77,16 @@ fn readies_buckets(rt: HostRuntime) {
 const ONE_BUCKET: [(u32, Readying); 2] = [(0, Readying::AlreadyReady), (1, Readying::NotABucket)];
 
 fn is_one_bucket<R: Rows>(rows: &mut R, wanted: &[(u32, Readying)]) -> Result<bool, AllocError> {
-    let told = readies_each(rows, wanted)?;
+    let readied = readies_each(rows, wanted)?;
     let grown = grows(rows, 1, Growth::AtMost)?;
-    Ok(told && grown && rows.buckets() == 1 && rows.first_unready() == None)
+    Ok(readied && grown && rows.buckets() == 1 && rows.first_unready() == None)
 }
 
 fn plain_is_one_bucket(alloc: Global, wanted: &[(u32, Readying)]) -> Result<bool, AllocError> {
     let mut rows = PlainRows::new(alloc);
-    let told = is_one_bucket(&mut rows, wanted);
+    let one = is_one_bucket(&mut rows, wanted);
     drop(rows);
-    told
+    one
 }
 
 #[test]

@@ -1,16 +1,16 @@
 use super::*;
 
-/// At how many moments of growth there are searches, with each of four hashes.
+/// The number of moments of growth with searches, for each of four hashers.
 const MOMENTS: usize = 1_000;
 
-/// How many searches there are at each, so that there are more than a million in all.
+/// The number of searches at each moment. In all there are more than a million.
 const AT_ONCE: usize = 334;
 
 fn bucket_of<H: KeyHash + Copy + Drop>(hash: H, key: &Term, buckets: u32) -> u32 {
     hash.hash32(key).checked_rem(buckets).unwrap_or(0)
 }
 
-/// Counts a key of a slot with those of its bucket.
+/// Adds the slot of a key to the count of its bucket.
 fn count_slot<H: KeyHash + Copy + Drop>(counts: &mut [u64], hash: H, buckets: u32, number: u32) {
     let key = Term::Int(Integer::from(number));
     let bucket = bucket_of(hash, &key, buckets);
@@ -31,8 +31,8 @@ fn zeros(alloc: Global, count: usize) -> Result<Vec<u64>, AllocError> {
     }
 }
 
-/// How many keys of slots each bucket has.
-fn counted<H: KeyHash + Copy + Drop>(
+/// Returns how many slots each bucket has.
+fn count_by_bucket<H: KeyHash + Copy + Drop>(
     alloc: Global,
     hash: H,
     buckets: u32,
@@ -45,8 +45,8 @@ fn counted<H: KeyHash + Copy + Drop>(
     Ok(counts)
 }
 
-/// Returns whether a search finds the numbers below that of the slots alone, and looks at one node at least for them,
-/// and in a ready bucket at no more than its keys and two.
+/// Returns whether a search finds a key exactly if it is below the number of slots, and visits at least one node then.
+/// In a ready bucket of n keys it must visit at most n + 2 nodes.
 fn is_right<H: KeyHash + Copy + Drop>(
     rows: &SplitRows<H>,
     hash: H,
@@ -83,7 +83,7 @@ fn are_right<H: KeyHash + Copy + Drop>(
     all
 }
 
-/// Puts a few slots more, up to a total, each number after the other, and answers how many there are now.
+/// Inserts the next few keys, up to a total. Returns how many there are now.
 fn put_some<R: Rows>(
     rows: &mut R,
     alloc: Global,
@@ -98,7 +98,7 @@ fn put_some<R: Rows>(
     Ok(now)
 }
 
-/// Returns whether searches of rows with a number of slots are right.
+/// Returns whether searches in rows with this number of slots are right.
 fn are_right_now<H: KeyHash + Copy + Drop>(
     rows: &SplitRows<H>,
     alloc: Global,
@@ -106,13 +106,13 @@ fn are_right_now<H: KeyHash + Copy + Drop>(
     slots: u32,
     draws: &mut Draws,
 ) -> Result<bool, AllocError> {
-    let counts = counted(alloc, hash, rows.buckets(), slots)?;
+    let counts = count_by_bucket(alloc, hash, rows.buckets(), slots)?;
     let right = are_right(rows, hash, counts.as_slice(), slots, draws);
     drop(counts);
     Ok(right)
 }
 
-/// Returns whether all searches of rows with this hash are right, at moments of growth up to a number of slots.
+/// Returns whether all searches in rows with this hasher are right, at moments of growth up to a number of slots.
 fn finds<H: KeyHash + Copy + Drop>(
     rows: &mut SplitRows<H>,
     alloc: Global,
@@ -130,7 +130,7 @@ fn finds<H: KeyHash + Copy + Drop>(
     Ok(all)
 }
 
-fn searches<H: KeyHash + Copy + Drop>(
+fn searches_rightly<H: KeyHash + Copy + Drop>(
     alloc: Global,
     hash: H,
     most: u32,
@@ -143,26 +143,26 @@ fn searches<H: KeyHash + Copy + Drop>(
 
 #[test]
 fn by_fnv(rt: HostRuntime) {
-    assert!(rt; searches(rt.alloc(), Fnv, 10_000) == Ok(true));
+    assert!(rt; searches_rightly(rt.alloc(), Fnv, 10_000) == Ok(true));
 }
 
 #[test]
 fn by_even_hashes(rt: HostRuntime) {
-    assert!(rt; searches(rt.alloc(), Even, 10_000) == Ok(true));
+    assert!(rt; searches_rightly(rt.alloc(), Even, 10_000) == Ok(true));
 }
 
 #[test]
 fn by_one_hash(rt: HostRuntime) {
-    assert!(rt; searches(rt.alloc(), AllSame, 50) == Ok(true));
+    assert!(rt; searches_rightly(rt.alloc(), AllSame, 50) == Ok(true));
 }
 
 #[test]
 fn by_the_greatest_hash_alone(rt: HostRuntime) {
-    assert!(rt; searches(rt.alloc(), Last, 8) == Ok(true));
+    assert!(rt; searches_rightly(rt.alloc(), Last, 8) == Ok(true));
 }
 
-/// How many nodes a search looks at.
-fn steps_for<H: KeyHash + Copy + Drop>(rows: &SplitRows<H>, key: Term) -> u64 {
+/// Returns how many nodes a search visits.
+fn count_visited<H: KeyHash + Copy + Drop>(rows: &SplitRows<H>, key: Term) -> u64 {
     let mut steps = Steps::new();
     let _found = rows.get_counted(&key, &mut steps);
     drop(key);
@@ -183,7 +183,7 @@ fn put_process<R: Rows>(rows: &mut R, alloc: Global, number: u32) -> Result<(), 
     }
 }
 
-/// Returns whether searches for the keys 0 to 7 in 8 ready buckets, and for others, are short.
+/// Returns whether searches for the keys 0 to 63 are short if the keys 0 to 7 are in 8 ready buckets.
 fn eight_in_eight(rows: &mut SplitRows<Plain>, alloc: Global) -> Result<bool, AllocError> {
     rows.grow()?;
     rows.grow()?;
@@ -193,7 +193,7 @@ fn eight_in_eight(rows: &mut SplitRows<Plain>, alloc: Global) -> Result<bool, Al
     }
     let mut all = true;
     for number in 0..64u32 {
-        all = steps_for(rows, Term::Pid(number)) <= 3 && all;
+        all = count_visited(rows, Term::Pid(number)) <= 3 && all;
     }
     Ok(all)
 }
@@ -206,13 +206,13 @@ fn new_eight_in_eight(alloc: Global) -> Result<bool, AllocError> {
 }
 
 #[test]
-fn few_steps_in_ready_buckets(rt: HostRuntime) {
+fn few_nodes_in_ready_buckets(rt: HostRuntime) {
     assert!(rt; new_eight_in_eight(rt.alloc()) == Ok(true));
 }
 
-/// Returns whether readying a bucket tells the first slots of its eighths and of its parent's: a search then looks at
-/// no node where the eighth is empty, and at one alone where the key's slot is the first.
-fn eighths_in_eight(rows: &mut SplitRows<Plain>, alloc: Global) -> Result<bool, AllocError> {
+/// Returns whether the readying of a bucket sets the hints of its intervals and of those of its parent. A search then
+/// visits no node if the interval is empty, and one node if the slot of the key is the first of its interval.
+fn hints_in_eight(rows: &mut SplitRows<Plain>, alloc: Global) -> Result<bool, AllocError> {
     for number in 0..8u32 {
         put_process(rows, alloc, number)?;
     }
@@ -224,33 +224,33 @@ fn eighths_in_eight(rows: &mut SplitRows<Plain>, alloc: Global) -> Result<bool, 
     let mut all = true;
     for number in 0..64u32 {
         let most = u64::from(number < 8);
-        all = steps_for(rows, Term::Pid(number)) == most && all;
+        all = count_visited(rows, Term::Pid(number)) == most && all;
     }
     Ok(all)
 }
 
-fn new_eighths_in_eight(alloc: Global) -> Result<bool, AllocError> {
+fn new_hints_in_eight(alloc: Global) -> Result<bool, AllocError> {
     let mut rows = SplitRows::new(alloc, Plain)?;
-    let told = eighths_in_eight(&mut rows, alloc);
+    let known = hints_in_eight(&mut rows, alloc);
     drop(rows);
-    told
+    known
 }
 
 #[test]
-fn readying_tells_the_eighths(rt: HostRuntime) {
-    assert!(rt; new_eighths_in_eight(rt.alloc()) == Ok(true));
+fn readying_sets_hints(rt: HostRuntime) {
+    assert!(rt; new_hints_in_eight(rt.alloc()) == Ok(true));
 }
 
-/// Returns whether searches among a thousand keys of one hash pass all of them, and no more.
+/// Returns whether searches among a thousand keys of one hash visit at most all of them.
 fn thousand_in_one(rows: &mut SplitRows<AllSame>, alloc: Global) -> Result<bool, AllocError> {
     for number in 0..1000u32 {
         insert(rows, alloc, Integer::from(number), 1)?;
     }
     let mut all = true;
     for number in 0..1000u32 {
-        all = steps_for(rows, Term::Int(Integer::from(number))) <= 1002 && all;
+        all = count_visited(rows, Term::Int(Integer::from(number))) <= 1002 && all;
     }
-    let missed = steps_for(rows, Term::Int(1000));
+    let missed = count_visited(rows, Term::Int(1000));
     Ok(all && 1000 <= missed && missed <= 1002)
 }
 

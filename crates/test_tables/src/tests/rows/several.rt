@@ -3,13 +3,13 @@ use super::*;
 /// How often three rows are put at once.
 const TIMES: u32 = 100;
 
-/// One object, this number.
+/// Builds the chain of one object, this number.
 fn one(alloc: Global, number: Integer) -> Chain {
     Chain::one(alloc, Term::Int(number))
 }
 
-/// Puts the rows of three keys at once, each with its own number, unless two are the same or one has a slot, and
-/// answers whether it did.
+/// Puts the rows of three keys at once, each with its own number. Returns false without a change if two keys are the
+/// same or one has a slot.
 pub fn put_three<R: Rows>(
     rows: &mut R,
     alloc: Global,
@@ -35,13 +35,13 @@ pub fn put_three<R: Rows>(
     Ok(true)
 }
 
-/// The three keys of a time, which no other time has.
+/// Returns three keys for a number, different from those of any other number.
 pub fn three(time: u32) -> (Integer, Integer, Integer) {
     let first = Integer::from(time).wrapping_mul(3);
     (first, first.wrapping_add(1), first.wrapping_add(2))
 }
 
-/// Returns whether three rows at a time go in, at moments of growth, and each of them is found.
+/// Returns whether three rows at a time are put, at moments of growth, and each of them is found.
 fn puts_three_by_three<R: Rows>(rows: &mut R, alloc: Global) -> Result<bool, AllocError> {
     let mut draws = Draws::new();
     let mut all = true;
@@ -51,7 +51,7 @@ fn puts_three_by_three<R: Rows>(rows: &mut R, alloc: Global) -> Result<bool, All
     }
     for key in 0..TIMES.wrapping_mul(3) {
         let key = Integer::from(key);
-        all = kept_at(rows, key) == Kept::Object(key) && all;
+        all = state_at(rows, key) == KeyState::Object(key) && all;
     }
     Ok(all && rows.len() == 3 * TIMES as usize)
 }

@@ -1,20 +1,20 @@
 use super::*;
 
-/// Past the last power of two but one that a table of a hundred thousand slots would reach.
+/// More than 65,536 slots, so that arrays and directories pass each lower power of two.
 const SLOTS: u32 = 70_000;
 
-/// Returns whether each key from none on goes in as a new one, the buckets doubled and readied as they fill.
+/// Returns whether each key is inserted as a new one, while the buckets are doubled and made ready as they fill.
 fn fills<R: Rows>(rows: &mut R, alloc: Global) -> Result<bool, AllocError> {
     let mut all = true;
     for key in 0..SLOTS {
         let key = Integer::from(key);
-        all = insert(rows, alloc, key, key)? == Kept::Nothing && all;
+        all = insert(rows, alloc, key, key)? == KeyState::Nothing && all;
         keep_up(rows)?;
     }
     Ok(all && rows.len() == SLOTS as usize)
 }
 
-/// Doubles the buckets where there are four slots for each, and readies the next two.
+/// Doubles the buckets if they have more than four slots each, and makes the next two ready.
 fn keep_up<R: Rows>(rows: &mut R) -> Result<(), AllocError> {
     if rows.len() / 4 > rows.buckets() as usize {
         rows.grow()?;
@@ -32,18 +32,18 @@ fn changes<R: Rows>(rows: &mut R, alloc: Global) -> Result<bool, AllocError> {
     let mut all = true;
     for key in 0..SLOTS {
         let key = Integer::from(key);
-        all = kept_at(rows, key) == Kept::Object(key) && all;
-        all = insert(rows, alloc, key, key.wrapping_add(1))? == Kept::Object(key) && all;
+        all = state_at(rows, key) == KeyState::Object(key) && all;
+        all = insert(rows, alloc, key, key.wrapping_add(1))? == KeyState::Object(key) && all;
     }
-    Ok(all && kept_at(rows, Integer::from(SLOTS)) == Kept::Nothing)
+    Ok(all && state_at(rows, Integer::from(SLOTS)) == KeyState::Nothing)
 }
 
-/// Returns whether each key goes, the last first.
+/// Returns whether each key is removed, the last first.
 fn empties<R: Rows>(rows: &mut R) -> bool {
     let mut all = true;
     for back in 0..SLOTS {
         let key = Integer::from(SLOTS.wrapping_sub(back).wrapping_sub(1));
-        all = remove(rows, key) == Kept::Object(key.wrapping_add(1)) && all;
+        all = remove(rows, key) == KeyState::Object(key.wrapping_add(1)) && all;
     }
     all && rows.len() == 0 && rows.first_at().is_none()
 }
@@ -53,16 +53,16 @@ fn serves<R: Rows>(rows: &mut R, alloc: Global) -> Result<bool, AllocError> {
     Ok(fills(rows, alloc)? && changes(rows, alloc)? && empties(rows))
 }
 
-/// Returns whether all slots become held and are purged then, and go at once where they are not held.
+/// Returns whether `clear` leaves a tombstone for each slot and `purge` removes them, or `clear` removes all at once.
 fn sweeps<R: Rows>(rows: &mut R, alloc: Global) -> Result<bool, AllocError> {
     let filled = fills(rows, alloc)?;
     rows.clear(true);
-    let held = rows.len() == SLOTS as usize && kept_at(rows, 0) == Kept::Held;
+    let cleared = rows.len() == SLOTS as usize && state_at(rows, 0) == KeyState::Tombstone;
     rows.purge();
     let purged = rows.len() == 0;
     let again = fills(rows, alloc)?;
     rows.clear(false);
-    Ok(filled && held && purged && again && rows.len() == 0)
+    Ok(filled && cleared && purged && again && rows.len() == 0)
 }
 
 fn split_serves(alloc: Global) -> Result<bool, AllocError> {

@@ -1,5 +1,5 @@
 // Each call, and each refusal.
-use super::{BADARG, LIMIT, Life, Step, wrong};
+use super::{BADARG, LIMIT, Life, Step, first_mismatch};
 use ets_term::Integer;
 use std::process::Abort;
 use table_ops::Kind;
@@ -132,5 +132,5 @@ const LIVES: [Life; 6] = [
 
 #[test]
 fn calls_answer_and_refuse(rt: HostRuntime) {
-    assert_eq!(rt; wrong(rt.alloc(), &LIVES), None);
+    assert_eq!(rt; first_mismatch(rt.alloc(), &LIVES), None);
 }

@@ -1,5 +1,5 @@
-// Long runs: the same answers over each form of rows, past every power of two.
-use super::{Step, answer, plain, runs, same, split};
+// Long runs: the same answers over each form of rows, past many powers of two.
+use super::{Step, answer, one_bucket_table, plain_table, runs, split_table};
 use bucket_table::Rows;
 use ets_term::Integer;
 use std::alloc::Global;
@@ -8,7 +8,7 @@ use table_ops::{Kind, Table};
 
 const CALLS: u32 = 10_000;
 
-/// The step of a number: the calls on keys that spread with it.
+/// Returns the call of a number, on a key that spreads with it.
 fn step_at(i: u32) -> Step {
     let mixed = i.wrapping_mul(2_654_435_761);
     let key = (mixed >> 16) as Integer % 97;
@@ -34,7 +34,7 @@ fn step_at(i: u32) -> Step {
     }
 }
 
-/// The steps that look at the whole table, now and then.
+/// Returns a call on the whole table now and then, else that of `step_at`.
 fn whole_step_at(i: u32) -> Step {
     match i % 1024 {
         0 => Step::Objects,
@@ -62,28 +62,28 @@ fn agree<A: Rows, B: Rows>(
 }
 
 fn agrees_with_plain<B: Rows>(alloc: Global, second: &mut Table<B>) -> bool {
-    let mut first = plain(alloc, second.kind(), 1, 1_000_000);
+    let mut first = plain_table(alloc, second.kind(), 1, 1_000_000);
     let alike = agree(alloc, &mut first, second, CALLS);
     drop(first);
     alike
 }
 
-fn fnv_agrees(alloc: Global, kind: Kind) -> Option<bool> {
-    let mut table = split(alloc, kind, 1, 1_000_000)?;
+fn split_agrees(alloc: Global, kind: Kind) -> Option<bool> {
+    let mut table = split_table(alloc, kind, 1, 1_000_000)?;
     let alike = agrees_with_plain(alloc, &mut table);
     drop(table);
     Some(alike)
 }
 
-fn same_agrees(alloc: Global, kind: Kind) -> Option<bool> {
-    let mut table = same(alloc, kind, 1, 1_000_000)?;
+fn one_bucket_agrees(alloc: Global, kind: Kind) -> Option<bool> {
+    let mut table = one_bucket_table(alloc, kind, 1, 1_000_000)?;
     let alike = agrees_with_plain(alloc, &mut table);
     drop(table);
     Some(alike)
 }
 
 fn both_agree(alloc: Global, kind: Kind) -> bool {
-    fnv_agrees(alloc, kind) == Some(true) && same_agrees(alloc, kind) == Some(true)
+    split_agrees(alloc, kind) == Some(true) && one_bucket_agrees(alloc, kind) == Some(true)
 }
 
 #[test]
@@ -101,7 +101,7 @@ fn duplicate_bags_answer_alike(rt: HostRuntime) {
     assert!(rt; both_agree(rt.alloc(), Kind::DuplicateBag));
 }
 
-/// Returns whether a table of one more object each time has what it must, and gives it all up again.
+/// Returns whether a table answers as it must while it grows object by object, and deletes all at the end.
 fn fills<R: Rows>(alloc: Global, table: &mut Table<R>, most: u32) -> bool {
     for i in 0..most {
         if answer(alloc, table, Step::Insert(i as Integer, 1)) != 1 {
@@ -120,7 +120,7 @@ fn fills<R: Rows>(alloc: Global, table: &mut Table<R>, most: u32) -> bool {
     answer(alloc, table, Step::DeleteBelow(2, false)) == most as Integer
 }
 
-/// Returns whether each call does what it must on a table of the keys up to this one, with the value 1.
+/// Returns whether each call answers as it must on a table of the keys up to this one, each with the value 1.
 fn has_all<R: Rows>(alloc: Global, table: &mut Table<R>, last: Integer) -> bool {
     let count = last.wrapping_add(1);
     let rows = [
@@ -145,14 +145,14 @@ fn has_all<R: Rows>(alloc: Global, table: &mut Table<R>, last: Integer) -> bool 
 }
 
 fn plain_fills(alloc: Global) -> bool {
-    let mut table = plain(alloc, Kind::Set, 1, 1_000_000);
+    let mut table = plain_table(alloc, Kind::Set, 1, 1_000_000);
     let filled = fills(alloc, &mut table, 10_000);
     drop(table);
     filled
 }
 
-fn fnv_fills(alloc: Global) -> Option<bool> {
-    let mut table = split(alloc, Kind::Set, 1, 1_000_000)?;
+fn split_fills(alloc: Global) -> Option<bool> {
+    let mut table = split_table(alloc, Kind::Set, 1, 1_000_000)?;
     let filled = fills(alloc, &mut table, 10_000);
     drop(table);
     Some(filled)
@@ -161,5 +161,5 @@ fn fnv_fills(alloc: Global) -> Option<bool> {
 #[test]
 fn fills_and_empties(rt: HostRuntime) {
     assert!(rt; plain_fills(rt.alloc()));
-    assert!(rt; fnv_fills(rt.alloc()) == Some(true));
+    assert!(rt; split_fills(rt.alloc()) == Some(true));
 }

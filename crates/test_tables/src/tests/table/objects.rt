@@ -1,7 +1,7 @@
-// What is an object: its key, its depth, and lists with an element that is no object.
-use super::steps::{count_of, insert, inserted, inserted_new, ops, specs};
-use super::terms::{Part, atom, tuple, tuple_of, whole};
-use super::{BADARG, LIMIT, Life, Step, plain, split, wrong};
+// What an object is: its key, its depth, and lists with an element that is not an object.
+use super::steps::{count_of, insert, ops, specs, try_insert, try_insert_new};
+use super::terms::{Part, as_integer, atom, tuple, tuple_of};
+use super::{BADARG, LIMIT, Life, Step, first_mismatch, plain_table, split_table};
 use bucket_table::Rows;
 use ets_term::{Integer, Items, Term};
 use std::alloc::Global;
@@ -69,21 +69,21 @@ const LIVES: [Life; 3] = [
 
 #[test]
 fn keys_and_depths_of_objects(rt: HostRuntime) {
-    assert_eq!(rt; wrong(rt.alloc(), &LIVES), None);
+    assert_eq!(rt; first_mismatch(rt.alloc(), &LIVES), None);
 }
 
-/// The pair of `'$end_of_table'` and 1.
-fn at_end(alloc: Global) -> Option<Term> {
+/// Builds the pair of `'$end_of_table'` and 1.
+fn object_at_end(alloc: Global) -> Option<Term> {
     tuple_of(alloc, &[Part::Atom("$end_of_table"), Part::Int(1)])
 }
 
 /// Returns whether an object whose key is `'$end_of_table'` is not inserted.
 fn inserts_none<R: Rows>(table: &mut Table<R>, object: &Term) -> bool {
-    inserted(table, slice::from_ref(object)) == BADARG
-        && inserted_new(table, slice::from_ref(object)) == BADARG
+    try_insert(table, slice::from_ref(object)) == BADARG
+        && try_insert_new(table, slice::from_ref(object)) == BADARG
 }
 
-/// Returns whether no counter of that key is counted, with the object as a Default or without.
+/// Returns whether no counter of that key is updated, with the object as a Default or without.
 fn counts_none<R: Rows>(
     alloc: Global,
     table: &mut Table<R>,
@@ -119,7 +119,7 @@ fn reads_none<R: Rows>(table: &Table<R>, end: &Term) -> bool {
     element.is_some() && table.lookup(end).is_empty() && !table.member(end)
 }
 
-/// Returns whether the calls answer so of `'$end_of_table'` and an object of that key.
+/// Returns whether no call finds or changes anything under the key `'$end_of_table'`.
 fn refuses_end<R: Rows>(
     alloc: Global,
     table: &mut Table<R>,
@@ -136,7 +136,7 @@ fn refuses_end<R: Rows>(
 }
 
 fn has_none_at<R: Rows>(alloc: Global, table: &mut Table<R>, end: &Term) -> Option<bool> {
-    let object = at_end(alloc)?;
+    let object = object_at_end(alloc)?;
     let none = refuses_end(alloc, table, end, &object);
     drop(object);
     none
@@ -150,14 +150,14 @@ fn has_no_end<R: Rows>(alloc: Global, table: &mut Table<R>) -> Option<bool> {
 }
 
 fn plain_has_no_end(alloc: Global) -> Option<bool> {
-    let mut table = plain(alloc, Kind::Set, 1, 10);
+    let mut table = plain_table(alloc, Kind::Set, 1, 10);
     let none = has_no_end(alloc, &mut table);
     drop(table);
     none
 }
 
 fn split_has_no_end(alloc: Global) -> Option<bool> {
-    let mut table = split(alloc, Kind::Set, 1, 10)?;
+    let mut table = split_table(alloc, Kind::Set, 1, 10)?;
     let none = has_no_end(alloc, &mut table);
     drop(table);
     none
@@ -169,12 +169,12 @@ fn end_of_table_is_no_key(rt: HostRuntime) {
     assert!(rt; split_has_no_end(rt.alloc()) == Some(true));
 }
 
-/// The bad term at its place, and objects of the keys at all others.
+/// Returns a copy of the bad term at its index, and an object of the key at each other index.
 fn object_at(alloc: Global, key: usize, place: usize, bad: &Term) -> Option<Term> {
     if key == place {
         bad.try_clone(alloc).ok()
     } else {
-        tuple(alloc, &[whole(key), 1])
+        tuple(alloc, &[as_integer(key), 1])
     }
 }
 
@@ -191,7 +191,7 @@ fn push_objects(
     Some(())
 }
 
-/// Returns whether a list of this length with such a term at a place is not inserted.
+/// Returns whether a list of this length with such a term at an index is not inserted.
 fn refuses_at<R: Rows>(
     alloc: Global,
     table: &mut Table<R>,
@@ -201,14 +201,14 @@ fn refuses_at<R: Rows>(
 ) -> Option<bool> {
     let mut objects = Items::new(alloc);
     let pushed = push_objects(alloc, &mut objects, length, place, bad);
-    let first = inserted(table, objects.as_slice());
-    let second = inserted_new(table, objects.as_slice());
+    let first = try_insert(table, objects.as_slice());
+    let second = try_insert_new(table, objects.as_slice());
     drop(objects);
     pushed?;
     Some(first == BADARG && second == BADARG && table.size() == 1)
 }
 
-/// Returns whether no list of five with such a term in it is inserted, in any position, nor one of it alone.
+/// Returns whether no list of five terms with such a term at any index is inserted, nor the list of it alone.
 fn refuses<R: Rows>(alloc: Global, table: &mut Table<R>, bad: &Term) -> bool {
     for place in 0..5 {
         if refuses_at(alloc, table, 5, place, bad) != Some(true) {
@@ -218,7 +218,7 @@ fn refuses<R: Rows>(alloc: Global, table: &mut Table<R>, bad: &Term) -> bool {
     refuses_at(alloc, table, 1, 0, bad) == Some(true)
 }
 
-/// The same of a term that is made for it.
+/// Does so with a term that it then drops.
 fn refuses_made<R: Rows>(alloc: Global, table: &mut Table<R>, made: Option<Term>) -> Option<bool> {
     let bad = made?;
     let refused = refuses(alloc, table, &bad);
@@ -226,25 +226,25 @@ fn refuses_made<R: Rows>(alloc: Global, table: &mut Table<R>, made: Option<Term>
     Some(refused)
 }
 
-/// Returns whether no list with a term that is no object is inserted into a table of `{3,0}`.
+/// Returns whether no list with a term that is not an object is inserted into a table of `{3,0}`.
 fn refuses_all<R: Rows>(alloc: Global, table: &mut Table<R>) -> Option<bool> {
     Some(
         insert(table, tuple(alloc, &[3, 0]))? == 1
             && refuses_made(alloc, table, Some(Term::Int(7)))?
             && refuses_made(alloc, table, tuple(alloc, &[]))?
-            && refuses_made(alloc, table, at_end(alloc))?,
+            && refuses_made(alloc, table, object_at_end(alloc))?,
     )
 }
 
 fn plain_refuses_all(alloc: Global) -> Option<bool> {
-    let mut table = plain(alloc, Kind::Set, 1, 10);
+    let mut table = plain_table(alloc, Kind::Set, 1, 10);
     let refused = refuses_all(alloc, &mut table);
     drop(table);
     refused
 }
 
 fn split_refuses_all(alloc: Global) -> Option<bool> {
-    let mut table = split(alloc, Kind::DuplicateBag, 1, 10)?;
+    let mut table = split_table(alloc, Kind::DuplicateBag, 1, 10)?;
     let refused = refuses_all(alloc, &mut table);
     drop(table);
     refused

@@ -1,9 +1,9 @@
-// Out of memory. Run with each allocation refused in turn: `rt try --test --fail-alloc N`. A step that was refused
-// memory has changed nothing: the table has what it had, and the step answers when it is done again as if it had been
-// done once. Where the refused allocation is one of a test's own, it is made again.
-use super::steps::{count_of, every};
-use super::terms::{below, under};
-use super::{MEMORY, Step, answer, plain};
+// Out of memory. `.ci/refusals` runs these tests with each allocation refused in turn. A step that is refused memory
+// must change nothing, and must have the answer of ample memory when it is run again. If the refused allocation is one
+// of the test itself, the test makes it again.
+use super::steps::{count_of, total_of_objects};
+use super::terms::{pattern_of_key, spec_below};
+use super::{MEMORY, Step, answer, plain_table};
 use bucket_table::{Rows, SplitRows};
 use ets_term::{AllSame, Fnv, Integer, KeyHash};
 use match_spec::{Pattern, Spec};
@@ -53,14 +53,14 @@ const BAG_LIFE: [(Step, Integer); 10] = [
     (Step::Lookup(2), 5),
 ];
 
-/// What a table has: its objects, and how many objects and slots there are.
+/// Returns a number for the objects of a table, and how many objects and slots it has.
 fn state<R: Rows>(table: &Table<R>) -> Option<(Integer, usize, usize)> {
-    let objects = every(table).or_else(|| every(table))?;
+    let objects = total_of_objects(table).or_else(|| total_of_objects(table))?;
     Some((objects, table.size(), table.slots()))
 }
 
-/// Returns whether a step has its answer, at once or, where it was refused memory and has changed nothing, when it is
-/// done again.
+/// Returns whether a step has its answer at once, or was refused memory, changed nothing, and has its answer when it is
+/// run again.
 fn does_again<R: Rows>(alloc: Global, table: &mut Table<R>, step: Step, wanted: Integer) -> bool {
     let before = state(table);
     let first = answer(alloc, table, step);
@@ -70,31 +70,34 @@ fn does_again<R: Rows>(alloc: Global, table: &mut Table<R>, step: Step, wanted: 
     state(table) == before && answer(alloc, table, step) == wanted
 }
 
-/// The place of the first step that is answered otherwise.
-fn wrong_again<R: Rows>(
+/// Returns the index of the first step with another answer.
+fn first_mismatch_again<R: Rows>(
     alloc: Global,
     table: &mut Table<R>,
     steps: &[(Step, Integer)],
 ) -> Option<usize> {
-    for (place, (step, wanted)) in steps.iter().enumerate() {
+    for (index, (step, wanted)) in steps.iter().enumerate() {
         if !does_again(alloc, table, *step, *wanted) {
-            return Some(place);
+            return Some(index);
         }
     }
     None
 }
 
-fn wrong_plain(alloc: Global, kind: Kind, steps: &[(Step, Integer)]) -> Option<usize> {
-    let mut table = plain(alloc, kind, 1, 9);
-    let place = wrong_again(alloc, &mut table, steps);
+fn first_plain_mismatch(alloc: Global, kind: Kind, steps: &[(Step, Integer)]) -> Option<usize> {
+    let mut table = plain_table(alloc, kind, 1, 9);
+    let mismatch = first_mismatch_again(alloc, &mut table, steps);
     drop(table);
-    place
+    mismatch
 }
 
 #[test]
 fn refused_steps_of_plain_rows(rt: HostRuntime) {
-    assert_eq!(rt; wrong_plain(rt.alloc(), Kind::Set, &LIFE), None);
-    assert_eq!(rt; wrong_plain(rt.alloc(), Kind::Bag, &BAG_LIFE), None);
+    assert_eq!(rt; first_plain_mismatch(rt.alloc(), Kind::Set, &LIFE), None);
+    assert_eq!(rt;
+        first_plain_mismatch(rt.alloc(), Kind::Bag, &BAG_LIFE),
+        None
+    );
 }
 
 fn try_split<H: KeyHash + Copy>(alloc: Global, hash: H, kind: Kind) -> Option<Table<SplitRows<H>>> {
@@ -104,7 +107,7 @@ fn try_split<H: KeyHash + Copy>(alloc: Global, hash: H, kind: Kind) -> Option<Ta
     }
 }
 
-/// A table over split rows, which are made again where they are refused memory.
+/// Builds a table over split rows, again if it is refused memory.
 fn split_again<H: KeyHash + Copy>(
     alloc: Global,
     hash: H,
@@ -116,24 +119,27 @@ fn split_again<H: KeyHash + Copy>(
     }
 }
 
-/// The place of the first step that is answered otherwise over split rows.
-fn wrong_split<H: KeyHash + Copy + Drop>(
+/// Returns the index of the first step with another answer over split rows.
+fn first_split_mismatch<H: KeyHash + Copy + Drop>(
     alloc: Global,
     hash: H,
     kind: Kind,
     steps: &[(Step, Integer)],
 ) -> Option<usize> {
     let mut table = split_again(alloc, hash, kind)?;
-    let place = wrong_again(alloc, &mut table, steps);
+    let mismatch = first_mismatch_again(alloc, &mut table, steps);
     drop(table);
-    place
+    mismatch
 }
 
 #[test]
 fn refused_steps_of_split_rows(rt: HostRuntime) {
-    assert_eq!(rt; wrong_split(rt.alloc(), Fnv, Kind::Set, &LIFE), None);
     assert_eq!(rt;
-        wrong_split(rt.alloc(), AllSame, Kind::Bag, &BAG_LIFE),
+        first_split_mismatch(rt.alloc(), Fnv, Kind::Set, &LIFE),
+        None
+    );
+    assert_eq!(rt;
+        first_split_mismatch(rt.alloc(), AllSame, Kind::Bag, &BAG_LIFE),
         None
     );
 }
@@ -161,11 +167,11 @@ fn never_falls<R: Rows>(
     front && third <= fourth && fourth <= fifth && fifth <= looks.count()
 }
 
-/// Does so with the pattern of a key and the specification that chooses the objects below it.
+/// Does so with the pattern of a key and the match specification that chooses the objects below it.
 fn never_falls_under<R: Rows>(alloc: Global, table: &mut Table<R>, key: Integer) -> Option<bool> {
     let mut looks = Looks::new();
-    let pattern = under(alloc, key)?;
-    let Some(spec) = below(alloc, key) else {
+    let pattern = pattern_of_key(alloc, key)?;
+    let Some(spec) = spec_below(alloc, key) else {
         drop(pattern);
         return None;
     };
@@ -178,7 +184,7 @@ fn never_falls_under<R: Rows>(alloc: Global, table: &mut Table<R>, key: Integer)
 
 /// Does so on a table of four objects, or of fewer if memory runs out.
 fn never_falls_of_four(alloc: Global) -> bool {
-    let mut table = plain(alloc, Kind::Set, 1, 9);
+    let mut table = plain_table(alloc, Kind::Set, 1, 9);
     for key in 1..5u32 {
         let key = Integer::from(key);
         let _ = answer(alloc, &mut table, Step::Insert(key, key));

@@ -1,8 +1,8 @@
-// How many objects a search tries: those of the key that is bound, else all. The objects are `{Key,0}` of the keys 1 to
+// How many objects a search tests: those of the bound key, else all. The objects are `{Key,0}` for the keys 1 to
 // 1,000.
-use super::steps::{count_of, insert, insert_all, matched};
-use super::terms::{of_keys, tuple, tuples, under, with_value};
-use super::{plain, split};
+use super::steps::{count_matches, count_of, insert, insert_all};
+use super::terms::{pattern_of_key, pattern_of_value, spec_of_keys, tuple, tuples};
+use super::{plain_table, split_table};
 use bucket_table::Rows;
 use ets_term::{Integer, Term};
 use match_spec::{Pattern, Spec};
@@ -10,7 +10,7 @@ use std::alloc::Global;
 use std::process::Abort;
 use table_ops::{Kind, Looks, Table};
 
-/// What a search answers: how many it finds by either of two calls, and how many objects the two try.
+/// How many objects each of two calls finds, and how many objects both test.
 type Found = Option<(usize, usize, u64)>;
 
 fn fill<R: Rows>(alloc: Global, table: &mut Table<R>) -> Option<()> {
@@ -20,36 +20,36 @@ fn fill<R: Rows>(alloc: Global, table: &mut Table<R>) -> Option<()> {
     Some(())
 }
 
-/// By `select` and `select_count`.
-fn selected_by<R: Rows>(table: &Table<R>, spec: &Spec) -> Found {
+/// Searches by `select` and `select_count`.
+fn select_by_spec<R: Rows>(table: &Table<R>, spec: &Spec) -> Found {
     let mut looks = Looks::new();
     let results = count_of(table.select_counted(spec, &mut looks).ok())?;
     let count = table.select_count_counted(spec, &mut looks).ok()?;
     Some((results, count, looks.count()))
 }
 
-/// The same with a clause for each key.
-fn selected<R: Rows>(alloc: Global, table: &Table<R>, keys: &[Integer]) -> Found {
-    let spec = of_keys(alloc, keys)?;
-    let found = selected_by(table, &spec);
+/// Searches by a match specification with a clause for each key.
+fn select_by_keys<R: Rows>(alloc: Global, table: &Table<R>, keys: &[Integer]) -> Found {
+    let spec = spec_of_keys(alloc, keys)?;
+    let found = select_by_spec(table, &spec);
     drop(spec);
     found
 }
 
-/// By `match` and `match_object` with a pattern that is made for it.
-fn matched_by<R: Rows>(table: &Table<R>, made: Option<Pattern>) -> Found {
+/// Searches by `match` and `match_object` with a pattern.
+fn match_by_pattern<R: Rows>(table: &Table<R>, made: Option<Pattern>) -> Found {
     let pattern = made?;
-    let found = matched(table, &pattern);
+    let found = count_matches(table, &pattern);
     drop(pattern);
     found
 }
 
 fn matches_key<R: Rows>(alloc: Global, table: &Table<R>, key: Integer) -> Found {
-    matched_by(table, under(alloc, key))
+    match_by_pattern(table, pattern_of_key(alloc, key))
 }
 
 fn matches_value<R: Rows>(alloc: Global, table: &Table<R>, value: Integer) -> Found {
-    matched_by(table, with_value(alloc, value))
+    match_by_pattern(table, pattern_of_value(alloc, value))
 }
 
 fn matches_all<R: Rows>(alloc: Global, table: &Table<R>) -> bool {
@@ -66,9 +66,9 @@ fn is_zero_alone(bindings: &[Term]) -> bool {
     }
 }
 
-/// `{7,'$1'}` answers `[[0]]`.
+/// Returns whether `match` of `{7,'$1'}` answers `[[0]]`.
 fn answers_bindings<R: Rows>(alloc: Global, table: &Table<R>) -> Option<bool> {
-    let pattern = under(alloc, 7)?;
+    let pattern = pattern_of_key(alloc, 7)?;
     let found = table.matches(&pattern);
     drop(pattern);
     let bindings = found.ok()?;
@@ -78,25 +78,25 @@ fn answers_bindings<R: Rows>(alloc: Global, table: &Table<R>) -> Option<bool> {
 }
 
 fn selects_all<R: Rows>(alloc: Global, table: &Table<R>) -> bool {
-    selected(alloc, table, &[7]) == Some((1, 1, 2))
-        && selected(alloc, table, &[7, 7]) == Some((1, 1, 2))
-        && selected(alloc, table, &[7, 8]) == Some((2, 2, 2_000))
-        && selected(alloc, table, &[2_000]) == Some((0, 0, 0))
-        && selected(alloc, table, &[2_000, 7]) == Some((1, 1, 2_000))
+    select_by_keys(alloc, table, &[7]) == Some((1, 1, 2))
+        && select_by_keys(alloc, table, &[7, 7]) == Some((1, 1, 2))
+        && select_by_keys(alloc, table, &[7, 8]) == Some((2, 2, 2_000))
+        && select_by_keys(alloc, table, &[2_000]) == Some((0, 0, 0))
+        && select_by_keys(alloc, table, &[2_000, 7]) == Some((1, 1, 2_000))
 }
 
-/// Deletes by a clause for each key: how many go and how many are left, and how many objects are tried.
-fn deleted<R: Rows>(alloc: Global, table: &mut Table<R>, keys: &[Integer]) -> Found {
-    let spec = of_keys(alloc, keys)?;
+/// Deletes by a clause for each key. Returns how many objects it deletes, leaves and tests.
+fn delete_by_keys<R: Rows>(alloc: Global, table: &mut Table<R>, keys: &[Integer]) -> Found {
+    let spec = spec_of_keys(alloc, keys)?;
     let mut looks = Looks::new();
     let gone = table.select_delete_counted(&spec, false, &mut looks);
     drop(spec);
     Some((gone.ok()?, table.size(), looks.count()))
 }
 
-/// Deletes by the pattern of a key: how many are left, with slots and without, and how many objects are tried.
-fn unmatched<R: Rows>(alloc: Global, table: &mut Table<R>, key: Integer) -> Found {
-    let pattern = under(alloc, key)?;
+/// Deletes by the pattern of a key. Returns how many slots and objects it leaves, and how many objects it tests.
+fn delete_by_pattern<R: Rows>(alloc: Global, table: &mut Table<R>, key: Integer) -> Found {
+    let pattern = pattern_of_key(alloc, key)?;
     let mut looks = Looks::new();
     let done = table.match_delete_counted(&pattern, true, &mut looks);
     drop(pattern);
@@ -105,23 +105,23 @@ fn unmatched<R: Rows>(alloc: Global, table: &mut Table<R>, key: Integer) -> Foun
 }
 
 fn deletes_all<R: Rows>(alloc: Global, table: &mut Table<R>) -> bool {
-    deleted(alloc, table, &[2_000]) == Some((0, 1_000, 0))
-        && deleted(alloc, table, &[7]) == Some((1, 999, 1))
-        && deleted(alloc, table, &[7, 8]) == Some((1, 998, 999))
-        && unmatched(alloc, table, 9) == Some((998, 997, 1))
-        && unmatched(alloc, table, 9) == Some((998, 997, 0))
-        && unmatched(alloc, table, 2_000) == Some((998, 997, 0))
-        && selected(alloc, table, &[10, 11]) == Some((2, 2, 1_994))
+    delete_by_keys(alloc, table, &[2_000]) == Some((0, 1_000, 0))
+        && delete_by_keys(alloc, table, &[7]) == Some((1, 999, 1))
+        && delete_by_keys(alloc, table, &[7, 8]) == Some((1, 998, 999))
+        && delete_by_pattern(alloc, table, 9) == Some((998, 997, 1))
+        && delete_by_pattern(alloc, table, 9) == Some((998, 997, 0))
+        && delete_by_pattern(alloc, table, 2_000) == Some((998, 997, 0))
+        && select_by_keys(alloc, table, &[10, 11]) == Some((2, 2, 1_994))
 }
 
-/// The pairs of the key 7, three times, and of its neighbours.
+/// Pairs of the key 7, three times, and of its neighbours.
 const SEVEN_THRICE: [[Integer; 2]; 5] = [[6, 0], [7, 0], [7, 0], [7, 0], [8, 0]];
 
-/// Three objects under one key of a duplicate bag are three tries.
+/// Returns whether a search tests each of three objects under one key of a duplicate bag.
 fn tries_three<R: Rows>(alloc: Global, table: &mut Table<R>) -> Option<bool> {
     insert_all(table, tuples(alloc, &SEVEN_THRICE))?;
     let three = matches_key(alloc, table, 7) == Some((3, 3, 6));
-    let all = selected(alloc, table, &[7, 6]) == Some((4, 4, 10));
+    let all = select_by_keys(alloc, table, &[7, 6]) == Some((4, 4, 10));
     Some(three && all)
 }
 
@@ -132,28 +132,28 @@ fn searches<R: Rows>(alloc: Global, table: &mut Table<R>) -> Option<bool> {
 }
 
 fn plain_searches(alloc: Global) -> Option<bool> {
-    let mut table = plain(alloc, Kind::Set, 1, 1_000);
+    let mut table = plain_table(alloc, Kind::Set, 1, 1_000);
     let found = searches(alloc, &mut table);
     drop(table);
     found
 }
 
 fn split_searches(alloc: Global) -> Option<bool> {
-    let mut table = split(alloc, Kind::Set, 1, 1_000)?;
+    let mut table = split_table(alloc, Kind::Set, 1, 1_000)?;
     let found = searches(alloc, &mut table);
     drop(table);
     found
 }
 
 fn plain_tries_three(alloc: Global) -> Option<bool> {
-    let mut table = plain(alloc, Kind::DuplicateBag, 1, 10);
+    let mut table = plain_table(alloc, Kind::DuplicateBag, 1, 10);
     let tried = tries_three(alloc, &mut table);
     drop(table);
     tried
 }
 
 fn split_tries_three(alloc: Global) -> Option<bool> {
-    let mut table = split(alloc, Kind::DuplicateBag, 1, 10)?;
+    let mut table = split_table(alloc, Kind::DuplicateBag, 1, 10)?;
     let tried = tries_three(alloc, &mut table);
     drop(table);
     tried

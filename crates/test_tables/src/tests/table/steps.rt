@@ -1,5 +1,7 @@
-// What a step does to a table, and the number that tells its answer.
-use super::terms::{below, both, digits, nested, number, total, tuple, tuples, under, whole};
+// How a step runs on a table, and the number for its answer.
+use super::terms::{
+    as_integer, digits, nest, number, pair, pattern_of_key, spec_below, total_of, tuple, tuples,
+};
 use super::{BADARG, LIMIT, MEMORY, Step};
 use bucket_table::Rows;
 use counters::{ElementSpecs, Ops, read_element_specs, read_ops};
@@ -9,7 +11,7 @@ use std::alloc::Global;
 use std::slice;
 use table_ops::{Looks, Refusal, Table};
 
-pub fn refused(refusal: Refusal) -> Integer {
+pub fn refusal_code(refusal: Refusal) -> Integer {
     match refusal {
         Refusal::Badarg => BADARG,
         Refusal::SystemLimit => LIMIT,
@@ -17,18 +19,18 @@ pub fn refused(refusal: Refusal) -> Integer {
     }
 }
 
-pub fn inserted<R: Rows>(table: &mut Table<R>, objects: &[Term]) -> Integer {
+pub fn try_insert<R: Rows>(table: &mut Table<R>, objects: &[Term]) -> Integer {
     match table.insert(objects) {
         Ok(()) => 1,
-        Err(refusal) => refused(refusal),
+        Err(refusal) => refusal_code(refusal),
     }
 }
 
-pub fn inserted_new<R: Rows>(table: &mut Table<R>, objects: &[Term]) -> Integer {
+pub fn try_insert_new<R: Rows>(table: &mut Table<R>, objects: &[Term]) -> Integer {
     match table.insert_new(objects) {
         Ok(true) => 1,
         Ok(false) => 0,
-        Err(refusal) => refused(refusal),
+        Err(refusal) => refusal_code(refusal),
     }
 }
 
@@ -38,48 +40,48 @@ fn element<R: Rows>(table: &Table<R>, key: Integer, position: Position) -> Integ
     drop(key);
     match found {
         Ok(element) => {
-            let told = told_by(&element);
+            let number = number_or_length(&element);
             drop(element);
-            told
+            number
         }
-        Err(refusal) => refused(refusal),
+        Err(refusal) => refusal_code(refusal),
     }
 }
 
-/// The length of a list, or an integer.
-fn told_by(element: &Term) -> Integer {
+/// Returns the length of a list, or an integer.
+fn number_or_length(element: &Term) -> Integer {
     match element {
-        Term::List(elements) => whole(elements.len()),
+        Term::List(elements) => as_integer(elements.len()),
         _ => number(Some(element)),
     }
 }
 
-fn taken<R: Rows>(table: &mut Table<R>, key: Integer, hold: bool) -> Integer {
+fn take<R: Rows>(table: &mut Table<R>, key: Integer, hold: bool) -> Integer {
     let key = Term::Int(key);
     let taken = table.take(&key, hold);
     drop(key);
     match taken {
         Ok(objects) => {
-            let told = digits(objects.as_slice());
+            let digits = digits(objects.as_slice());
             drop(objects);
-            told
+            digits
         }
         Err(_) => MEMORY,
     }
 }
 
-/// Deletes an object that is made for it.
-fn gone<R: Rows>(table: &mut Table<R>, made: Option<Term>, hold: bool) -> Option<Integer> {
+/// Deletes an object, and drops the argument.
+fn delete_object<R: Rows>(table: &mut Table<R>, made: Option<Term>, hold: bool) -> Option<Integer> {
     let object = made?;
     let deleted = table.delete_object(&object, hold);
     drop(object);
     match deleted {
-        Ok(()) => Some(whole(table.size())),
-        Err(refusal) => Some(refused(refusal)),
+        Ok(()) => Some(as_integer(table.size())),
+        Err(refusal) => Some(refusal_code(refusal)),
     }
 }
 
-/// The update that adds an increment to the element after the key.
+/// Builds the operation that adds an increment to the element after the key.
 pub fn ops(alloc: Global, increment: Integer, keypos: u32) -> Option<Ops> {
     let update = Term::Int(increment);
     let ops = read_ops(alloc, &update, keypos);
@@ -87,8 +89,8 @@ pub fn ops(alloc: Global, increment: Integer, keypos: u32) -> Option<Ops> {
     ops.ok()
 }
 
-/// A counter's update of the element after the key, with a Default `{0,Start}` or without.
-fn counted<R: Rows>(
+/// Updates the counter after the key, with a Default or without.
+fn update_counter<R: Rows>(
     alloc: Global,
     table: &mut Table<R>,
     key: Integer,
@@ -102,15 +104,15 @@ fn counted<R: Rows>(
     drop(ops);
     match counted {
         Ok(answer) => {
-            let told = number(Some(&answer));
+            let value = number(Some(&answer));
             drop(answer);
-            Some(told)
+            Some(value)
         }
-        Err(refusal) => Some(refused(refusal)),
+        Err(refusal) => Some(refusal_code(refusal)),
     }
 }
 
-fn counted_from<R: Rows>(
+fn update_counter_from<R: Rows>(
     alloc: Global,
     table: &mut Table<R>,
     key: Integer,
@@ -118,12 +120,12 @@ fn counted_from<R: Rows>(
     start: Integer,
 ) -> Option<Integer> {
     let default = tuple(alloc, &[0, start])?;
-    let told = counted(alloc, table, key, increment, Some(&default));
+    let answer = update_counter(alloc, table, key, increment, Some(&default));
     drop(default);
-    told
+    answer
 }
 
-/// The update that writes a value to the second element. It is read as for a key that is first: a table asks again.
+/// Builds the element value for the second element. It is read for a key that is first; the table checks it again.
 pub fn specs(alloc: Global, value: Integer) -> Option<ElementSpecs> {
     let update = tuple(alloc, &[2, value])?;
     let specs = read_element_specs(alloc, &update, 1);
@@ -132,7 +134,7 @@ pub fn specs(alloc: Global, value: Integer) -> Option<ElementSpecs> {
 }
 
 /// Writes the second element.
-fn written<R: Rows>(
+fn update_element<R: Rows>(
     alloc: Global,
     table: &mut Table<R>,
     key: Integer,
@@ -146,11 +148,11 @@ fn written<R: Rows>(
     match updated {
         Ok(true) => Some(1),
         Ok(false) => Some(0),
-        Err(refusal) => Some(refused(refusal)),
+        Err(refusal) => Some(refusal_code(refusal)),
     }
 }
 
-/// How many there are.
+/// Counts the results, and drops them.
 pub fn count_of(found: Option<Items<Term>>) -> Option<usize> {
     let items = found?;
     let count = items.len();
@@ -158,21 +160,21 @@ pub fn count_of(found: Option<Items<Term>>) -> Option<usize> {
     Some(count)
 }
 
-/// How many answers a pattern has by `match` and by `match_object`, and how many objects the two try.
-pub fn matched<R: Rows>(table: &Table<R>, pattern: &Pattern) -> Option<(usize, usize, u64)> {
+/// Returns how many results `match` and `match_object` have, and how many objects the two test.
+pub fn count_matches<R: Rows>(table: &Table<R>, pattern: &Pattern) -> Option<(usize, usize, u64)> {
     let mut looks = Looks::new();
     let bindings = count_of(table.matches_counted(pattern, &mut looks).ok())?;
     let objects = count_of(table.match_objects_counted(pattern, &mut looks).ok())?;
     Some((bindings, objects, looks.count()))
 }
 
-/// How many answers the pattern of a key has, and how many objects it tried.
-fn matching<R: Rows>(alloc: Global, table: &Table<R>, key: Integer) -> Option<Integer> {
-    let pattern = under(alloc, key)?;
-    let found = matched(table, &pattern);
+/// Returns a number for how many results the pattern of a key has, and how many objects it tests.
+fn count_matches_of_key<R: Rows>(alloc: Global, table: &Table<R>, key: Integer) -> Option<Integer> {
+    let pattern = pattern_of_key(alloc, key)?;
+    let found = count_matches(table, &pattern);
     drop(pattern);
     let (bindings, objects, looks) = found?;
-    let counts = whole(bindings).wrapping_add(whole(objects));
+    let counts = as_integer(bindings).wrapping_add(as_integer(objects));
     Some(
         counts
             .wrapping_mul(100)
@@ -180,52 +182,52 @@ fn matching<R: Rows>(alloc: Global, table: &Table<R>, key: Integer) -> Option<In
     )
 }
 
-fn selected<R: Rows>(alloc: Global, table: &Table<R>, limit: Integer) -> Option<Integer> {
-    let spec = below(alloc, limit)?;
+fn select_below<R: Rows>(alloc: Global, table: &Table<R>, limit: Integer) -> Option<Integer> {
+    let spec = spec_below(alloc, limit)?;
     let results = count_of(table.select(&spec).ok());
     let count = table.select_count(&spec).ok();
     drop(spec);
     Some(
-        whole(results?)
+        as_integer(results?)
             .wrapping_mul(100_000)
-            .wrapping_add(whole(count?)),
+            .wrapping_add(as_integer(count?)),
     )
 }
 
-fn deleted<R: Rows>(
+fn delete_below<R: Rows>(
     alloc: Global,
     table: &mut Table<R>,
     limit: Integer,
     hold: bool,
 ) -> Option<Integer> {
-    let spec = below(alloc, limit)?;
+    let spec = spec_below(alloc, limit)?;
     let gone = table.select_delete(&spec, hold);
     drop(spec);
-    Some(whole(gone.ok()?))
+    Some(as_integer(gone.ok()?))
 }
 
-fn unmatched<R: Rows>(
+fn delete_matching<R: Rows>(
     alloc: Global,
     table: &mut Table<R>,
     key: Integer,
     hold: bool,
 ) -> Option<Integer> {
-    let pattern = under(alloc, key)?;
+    let pattern = pattern_of_key(alloc, key)?;
     let done = table.match_delete(&pattern, hold);
     drop(pattern);
     done.ok()?;
-    Some(whole(table.size()))
+    Some(as_integer(table.size()))
 }
 
-pub fn every<R: Rows>(table: &Table<R>) -> Option<Integer> {
+pub fn total_of_objects<R: Rows>(table: &Table<R>) -> Option<Integer> {
     let objects = table.objects().ok()?;
-    let told = total(objects.as_slice());
+    let total = total_of(objects.as_slice());
     drop(objects);
-    Some(told)
+    Some(total)
 }
 
-/// Doubles the buckets and readies the least that is not ready.
-fn grown<R: Rows>(table: &mut Table<R>) -> Option<Integer> {
+/// Doubles the buckets and makes the first unready one ready.
+fn grow<R: Rows>(table: &mut Table<R>) -> Option<Integer> {
     let _growth = table.grow().ok()?;
     if let Some(bucket) = table.least() {
         let _readying = table.ready(bucket).ok()?;
@@ -237,49 +239,49 @@ fn delete_key<R: Rows>(table: &mut Table<R>, key: Integer, hold: bool) -> Intege
     let key = Term::Int(key);
     table.delete_key(&key, hold);
     drop(key);
-    whole(table.size())
+    as_integer(table.size())
 }
 
 fn clear<R: Rows>(table: &mut Table<R>, hold: bool) -> Integer {
     table.delete_all(hold);
-    whole(table.slots())
+    as_integer(table.slots())
 }
 
 fn purge<R: Rows>(table: &mut Table<R>) -> Integer {
     table.purge();
-    whole(table.slots())
+    as_integer(table.slots())
 }
 
-/// The pair of a key and a term of this depth.
-fn deep(alloc: Global, key: Integer, depth: usize) -> Option<Term> {
-    let value = nested(alloc, depth)?;
-    both(alloc, Term::Int(key), value)
+/// Builds the pair of a key and a term of this depth.
+fn deep_object(alloc: Global, key: Integer, depth: usize) -> Option<Term> {
+    let value = nest(alloc, depth)?;
+    pair(alloc, Term::Int(key), value)
 }
 
-/// Inserts an object that is made for it.
+/// Inserts an object, and drops the argument.
 pub fn insert<R: Rows>(table: &mut Table<R>, made: Option<Term>) -> Option<Integer> {
     let object = made?;
-    let told = inserted(table, slice::from_ref(&object));
+    let answer = try_insert(table, slice::from_ref(&object));
     drop(object);
-    Some(told)
+    Some(answer)
 }
 
 fn insert_new<R: Rows>(table: &mut Table<R>, made: Option<Term>) -> Option<Integer> {
     let object = made?;
-    let told = inserted_new(table, slice::from_ref(&object));
+    let answer = try_insert_new(table, slice::from_ref(&object));
     drop(object);
-    Some(told)
+    Some(answer)
 }
 
-/// The same of all of these objects.
+/// Inserts a list of objects, and drops the argument.
 pub fn insert_all<R: Rows>(table: &mut Table<R>, made: Option<Items<Term>>) -> Option<Integer> {
     let objects = made?;
-    let told = inserted(table, objects.as_slice());
+    let answer = try_insert(table, objects.as_slice());
     drop(objects);
-    Some(told)
+    Some(answer)
 }
 
-/// Does a step that inserts.
+/// Runs a step: here one that inserts.
 pub fn change<R: Rows>(alloc: Global, table: &mut Table<R>, step: Step) -> Option<Integer> {
     match step {
         Step::Insert(key, value) => insert(table, tuple(alloc, &[key, value])),
@@ -289,56 +291,60 @@ pub fn change<R: Rows>(alloc: Global, table: &mut Table<R>, step: Step) -> Optio
         Step::InsertNew(key, value) => insert_new(table, tuple(alloc, &[key, value])),
         Step::InsertOne(value) => insert(table, Some(Term::Int(value))),
         Step::InsertThree(a, b, c) => insert(table, tuple(alloc, &[a, b, c])),
-        Step::InsertDeep(key, depth) => insert(table, deep(alloc, key, depth)),
-        Step::InsertNewDeep(key, depth) => insert_new(table, deep(alloc, key, depth)),
-        _ => removal(alloc, table, step),
+        Step::InsertDeep(key, depth) => insert(table, deep_object(alloc, key, depth)),
+        Step::InsertNewDeep(key, depth) => insert_new(table, deep_object(alloc, key, depth)),
+        _ => remove(alloc, table, step),
     }
 }
 
-/// Does a step that deletes.
-fn removal<R: Rows>(alloc: Global, table: &mut Table<R>, step: Step) -> Option<Integer> {
+/// Runs a step that deletes.
+fn remove<R: Rows>(alloc: Global, table: &mut Table<R>, step: Step) -> Option<Integer> {
     match step {
-        Step::Take(key, hold) => Some(taken(table, key, hold)),
+        Step::Take(key, hold) => Some(take(table, key, hold)),
         Step::Delete(key, hold) => Some(delete_key(table, key, hold)),
-        Step::DeleteObject(key, value, hold) => gone(table, tuple(alloc, &[key, value]), hold),
+        Step::DeleteObject(key, value, hold) => delete_object(
+            table,
+            tuple(alloc, &[key, value]),
+            hold,
+        ),
         Step::DeleteAll(hold) => Some(clear(table, hold)),
         Step::Purge => Some(purge(table)),
         _ => update(alloc, table, step),
     }
 }
 
-/// Does a step that updates, or deletes what a pattern or a specification chooses.
+/// Runs a step that updates, or deletes what a pattern or a match specification chooses.
 fn update<R: Rows>(alloc: Global, table: &mut Table<R>, step: Step) -> Option<Integer> {
     match step {
-        Step::Count(key, increment) => counted(alloc, table, key, increment, None),
+        Step::Count(key, increment) => update_counter(alloc, table, key, increment, None),
         Step::CountFrom(key, increment, start) => {
-            counted_from(alloc, table, key, increment, start)
+            update_counter_from(alloc, table, key, increment, start)
         }
-        Step::Write(key, value) => written(alloc, table, key, value),
-        Step::DeleteBelow(limit, hold) => deleted(alloc, table, limit, hold),
-        Step::DeleteMatching(key, hold) => unmatched(alloc, table, key, hold),
-        Step::Grow => grown(table),
+        Step::Write(key, value) => update_element(alloc, table, key, value),
+        Step::DeleteBelow(limit, hold) => delete_below(alloc, table, limit, hold),
+        Step::DeleteMatching(key, hold) => delete_matching(alloc, table, key, hold),
+        Step::Grow => grow(table),
         _ => read(alloc, table, step),
     }
 }
 
-/// The second elements of a key's objects, as digits.
-pub fn looked_up<R: Rows>(table: &Table<R>, key: Integer) -> Integer {
+/// Returns the second elements of the objects of a key, as digits.
+pub fn lookup_digits<R: Rows>(table: &Table<R>, key: Integer) -> Integer {
     let key = Term::Int(key);
-    let told = digits(table.lookup(&key));
+    let digits = digits(table.lookup(&key));
     drop(key);
-    told
+    digits
 }
 
-/// Does a step that changes nothing.
+/// Runs a step that changes nothing.
 fn read<R: Rows>(alloc: Global, table: &Table<R>, step: Step) -> Option<Integer> {
     match step {
-        Step::Lookup(key) => Some(looked_up(table, key)),
+        Step::Lookup(key) => Some(lookup_digits(table, key)),
         Step::Element(key, position) => Some(element(table, key, position)),
-        Step::Matches(key) => matching(alloc, table, key),
-        Step::Below(limit) => selected(alloc, table, limit),
-        Step::Objects => every(table),
-        Step::Slots => Some(whole(table.slots())),
-        _ => Some(whole(table.size())),
+        Step::Matches(key) => count_matches_of_key(alloc, table, key),
+        Step::Below(limit) => select_below(alloc, table, limit),
+        Step::Objects => total_of_objects(table),
+        Step::Slots => Some(as_integer(table.slots())),
+        _ => Some(as_integer(table.size())),
     }
 }

@@ -1,10 +1,10 @@
-// Terms, patterns and specifications as the tests need them, and what a test tells of objects.
+// Terms, patterns and match specifications that the tests are built of, and numbers for objects.
 use ets_term::{Atom, Integer, Items, Term};
 use match_spec::{Pattern, Spec};
 use std::alloc::Global;
 
-/// The value, if all was put into it.
-fn filled<T: Drop>(put: Option<()>, value: T) -> Option<T> {
+/// Returns the value if what was put into it succeeded, else drops it.
+fn keep_if_some<T: Drop>(put: Option<()>, value: T) -> Option<T> {
     match put {
         Some(()) => Some(value),
         None => {
@@ -21,10 +21,10 @@ fn push_numbers(items: &mut Items<Term>, numbers: &[Integer]) -> Option<()> {
     Some(())
 }
 
-/// The tuple of these integers.
+/// Builds the tuple of these integers.
 pub fn tuple(alloc: Global, numbers: &[Integer]) -> Option<Term> {
     let mut items = Items::new(alloc);
-    Some(Term::Tuple(filled(push_numbers(&mut items, numbers), items)?))
+    Some(Term::Tuple(keep_if_some(push_numbers(&mut items, numbers), items)?))
 }
 
 fn push_pairs(alloc: Global, items: &mut Items<Term>, pairs: &[[Integer; 2]]) -> Option<()> {
@@ -34,14 +34,13 @@ fn push_pairs(alloc: Global, items: &mut Items<Term>, pairs: &[[Integer; 2]]) ->
     Some(())
 }
 
-/// The tuples of these pairs.
+/// Builds the tuples of these pairs.
 pub fn tuples(alloc: Global, pairs: &[[Integer; 2]]) -> Option<Items<Term>> {
     let mut items = Items::new(alloc);
-    filled(push_pairs(alloc, &mut items, pairs), items)
+    keep_if_some(push_pairs(alloc, &mut items, pairs), items)
 }
 
-/// A number of things.
-pub fn whole(count: usize) -> Integer {
+pub fn as_integer(count: usize) -> Integer {
     count as Integer
 }
 
@@ -52,7 +51,7 @@ pub fn number(term: Option<&Term>) -> Integer {
     }
 }
 
-/// The second elements of pairs as the digits of one number.
+/// Returns the second elements of pairs as the digits of one number.
 pub fn digits(objects: &[Term]) -> Integer {
     let mut all: Integer = 0;
     for object in objects {
@@ -61,8 +60,8 @@ pub fn digits(objects: &[Term]) -> Integer {
     all
 }
 
-/// A number of pairs that does not know their order.
-pub fn total(objects: &[Term]) -> Integer {
+/// Returns a number for pairs, whatever their order.
+pub fn total_of(objects: &[Term]) -> Integer {
     let mut all: Integer = 0;
     for object in objects {
         let pair = number(object.element(1))
@@ -77,7 +76,7 @@ pub fn atom(alloc: Global, text: &str) -> Option<Term> {
     Some(Term::Atom(Atom::new(alloc, text).ok()?))
 }
 
-fn push_both(items: &mut Items<Term>, first: Term, second: Term) -> Option<()> {
+fn push_two(items: &mut Items<Term>, first: Term, second: Term) -> Option<()> {
     match items.push(first) {
         Ok(()) => items.push(second).ok(),
         Err(_) => {
@@ -87,10 +86,10 @@ fn push_both(items: &mut Items<Term>, first: Term, second: Term) -> Option<()> {
     }
 }
 
-/// The tuple of two terms.
-pub fn both(alloc: Global, first: Term, second: Term) -> Option<Term> {
+/// Builds the tuple of two terms.
+pub fn pair(alloc: Global, first: Term, second: Term) -> Option<Term> {
     let mut items = Items::new(alloc);
-    Some(Term::Tuple(filled(push_both(&mut items, first, second), items)?))
+    Some(Term::Tuple(keep_if_some(push_two(&mut items, first, second), items)?))
 }
 
 /// A part of a term: an integer, or the atom of a text.
@@ -112,52 +111,52 @@ fn push_parts(alloc: Global, items: &mut Items<Term>, parts: &[Part]) -> Option<
 
 fn items_of(alloc: Global, parts: &[Part]) -> Option<Items<Term>> {
     let mut items = Items::new(alloc);
-    filled(push_parts(alloc, &mut items, parts), items)
+    keep_if_some(push_parts(alloc, &mut items, parts), items)
 }
 
 pub fn tuple_of(alloc: Global, parts: &[Part]) -> Option<Term> {
     Some(Term::Tuple(items_of(alloc, parts)?))
 }
 
-/// The pattern of a term that is made for it.
+/// Compiles a pattern, and drops its term.
 fn pattern_of(alloc: Global, term: Term) -> Option<Pattern> {
     let pattern = Pattern::compile(alloc, &term);
     drop(term);
     pattern.ok()
 }
 
-/// The pattern `{Key,'$1'}`.
-pub fn under(alloc: Global, key: Integer) -> Option<Pattern> {
+/// Builds the pattern `{Key,'$1'}`.
+pub fn pattern_of_key(alloc: Global, key: Integer) -> Option<Pattern> {
     pattern_of(alloc, tuple_of(alloc, &[Part::Int(key), Part::Atom("$1")])?)
 }
 
-/// The pattern `{'$1',Value}`.
-pub fn with_value(alloc: Global, value: Integer) -> Option<Pattern> {
+/// Builds the pattern `{'$1',Value}`.
+pub fn pattern_of_value(alloc: Global, value: Integer) -> Option<Pattern> {
     pattern_of(
         alloc,
         tuple_of(alloc, &[Part::Atom("$1"), Part::Int(value)])?,
     )
 }
 
-/// The list of one term.
-fn one(alloc: Global, term: Term) -> Option<Term> {
+/// Builds the list of one term.
+fn list_of(alloc: Global, term: Term) -> Option<Term> {
     let mut items = Items::new(alloc);
-    Some(Term::List(filled(items.push(term).ok(), items)?))
+    Some(Term::List(keep_if_some(items.push(term).ok(), items)?))
 }
 
-/// 0 in as many lists as it takes to have this depth.
-pub fn nested(alloc: Global, depth: usize) -> Option<Term> {
+/// Builds 0 in lists within lists, to this depth.
+pub fn nest(alloc: Global, depth: usize) -> Option<Term> {
     let mut term = Term::Int(0);
     for _ in 1..depth {
-        term = one(alloc, term)?;
+        term = list_of(alloc, term)?;
     }
     Some(term)
 }
 
-/// The list of a condition, if there is one.
+/// Builds the list of one condition or none.
 fn conditions(alloc: Global, condition: Option<&[Part]>) -> Option<Term> {
     match condition {
-        Some(parts) => one(alloc, tuple_of(alloc, parts)?),
+        Some(parts) => list_of(alloc, tuple_of(alloc, parts)?),
         None => Some(Term::List(Items::new(alloc))),
     }
 }
@@ -170,28 +169,28 @@ fn push_clause(
 ) -> Option<()> {
     items.push(tuple_of(alloc, head)?).ok()?;
     items.push(conditions(alloc, condition)?).ok()?;
-    items.push(one(alloc, atom(alloc, "true")?)?).ok()
+    items.push(list_of(alloc, atom(alloc, "true")?)?).ok()
 }
 
-/// The clause `{Head,Conditions,[true]}`.
+/// Builds the clause `{Head,Conditions,[true]}`.
 fn clause(alloc: Global, head: &[Part], condition: Option<&[Part]>) -> Option<Term> {
     let mut items = Items::new(alloc);
-    Some(Term::Tuple(filled(push_clause(alloc, &mut items, head, condition), items)?))
+    Some(Term::Tuple(keep_if_some(push_clause(alloc, &mut items, head, condition), items)?))
 }
 
-/// The specification of a term that is made for it.
+/// Compiles a match specification, and drops its term.
 fn spec_of(alloc: Global, term: Term) -> Option<Spec> {
     let spec = Spec::compile(alloc, &term);
     drop(term);
     spec.ok()
 }
 
-/// The specification `[{{'_','$1'},[{'<','$1',Limit}],[true]}]`.
-pub fn below(alloc: Global, limit: Integer) -> Option<Spec> {
+/// Builds the match specification `[{{'_','$1'},[{'<','$1',Limit}],[true]}]`.
+pub fn spec_below(alloc: Global, limit: Integer) -> Option<Spec> {
     let head = [Part::Atom("_"), Part::Atom("$1")];
     let condition = [Part::Atom("<"), Part::Atom("$1"), Part::Int(limit)];
     let clause = clause(alloc, head.as_slice(), Some(condition.as_slice()))?;
-    spec_of(alloc, one(alloc, clause)?)
+    spec_of(alloc, list_of(alloc, clause)?)
 }
 
 fn push_clauses(alloc: Global, clauses: &mut Items<Term>, keys: &[Integer]) -> Option<()> {
@@ -202,11 +201,11 @@ fn push_clauses(alloc: Global, clauses: &mut Items<Term>, keys: &[Integer]) -> O
     Some(())
 }
 
-/// A specification of a clause `{{Key,'_'},[],[true]}` for each of these keys.
-pub fn of_keys(alloc: Global, keys: &[Integer]) -> Option<Spec> {
+/// Builds the match specification with a clause `{{Key,'_'},[],[true]}` for each of these keys.
+pub fn spec_of_keys(alloc: Global, keys: &[Integer]) -> Option<Spec> {
     let mut clauses = Items::new(alloc);
     spec_of(
         alloc,
-        Term::List(filled(push_clauses(alloc, &mut clauses, keys), clauses)?),
+        Term::List(keep_if_some(push_clauses(alloc, &mut clauses, keys), clauses)?),
     )
 }

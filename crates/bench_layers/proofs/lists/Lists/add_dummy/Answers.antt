@@ -3,17 +3,17 @@ use Rattle.split_key.specs.Keys.{key_of_dummy}
 use Rattle.node_list.specs.Cells.{new_cell}
 use Rattle.node_list.specs.Changes.{put_cell}
 use Rattle.bench_layers.specs.Buckets.{HasDummies}
-use Rattle.bench_layers.proofs.DummyLaws.{read-stands, dummies-pushed}
+use Rattle.bench_layers.proofs.DummyLaws.{read-has_key_at_most, push-adds_dummy}
 use Rattle.bench_layers.proofs.lists.Lists.add_dummy.Goals as goal
 
 pub insert_dummy-at-requires-clause-start : goal.insert_dummy-at-requires-clause-start
 insert_dummy-at-requires-clause-start c =
-    read-stands c.parent-before.result c.index-start.result.now (vec_len c.args.self.now.dummies) c.dummy_key.result c.args.self.now.dummies.items c.args.self.now.list.cells c.index-start.ensures (omega (arith, c.parent_stands_before.ensures.below, c.len-bucket.ensures)) c.args.self.now.dummies.ok.0 c.requires.stands (omega (arith, c.dummy_key.ensures, c.parent_stands_before.ensures.before))
+    read-has_key_at_most c.parent-before.result c.index-start.result.now (vec_len c.args.self.now.dummies) c.dummy_key.result c.args.self.now.dummies.items c.args.self.now.list.cells c.index-start.ensures (omega (arith, c.parent_stands_before.ensures.below, c.len-bucket.ensures)) c.args.self.now.dummies.ok.0 c.requires.dummies (omega (arith, c.dummy_key.ensures, c.parent_stands_before.ensures.before))
 
-pub returns-clause-stands : goal.returns-clause-stands
-returns-clause-stands c =
+pub returns-clause-dummies : goal.returns-clause-dummies
+returns-clause-dummies c =
     let at = c.insert_dummy-at.result in
     let P : List ℕ → Type 0 = λ places. HasDummies places c.insert_dummy-at.new.self.cells in
     let key = c.dummy_key.ensures ∙ ap key_of_dummy (c.len-bucket.ensures ∙ c.args.self.now.dummies.ok.0) in
     let put = c.insert_dummy-at.ensures.cells ∙ ap (λ (k : ℕ). put_cell (new_cell at k None) c.args.self.now.list.cells) key in
-    subst P (sym c.push_reserved.ensures.items) (dummies-pushed at c.args.self.now.dummies.items c.args.self.now.list.cells c.insert_dummy-at.new.self.cells c.insert_dummy-at.ensures.fresh put c.requires.stands)
+    subst P (sym c.push_reserved.ensures.items) (push-adds_dummy at c.args.self.now.dummies.items c.args.self.now.list.cells c.insert_dummy-at.new.self.cells c.insert_dummy-at.ensures.fresh put c.requires.dummies)

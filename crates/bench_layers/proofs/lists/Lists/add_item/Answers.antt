@@ -2,14 +2,14 @@ use Rattle.std.proofs.Common.{Some, to_z, of_z}
 use Rattle.std.specs.Int.{w128}
 use Rattle.ets_term.specs.declared.term.Term.TheVariants.{Int}
 use Rattle.node_list.specs.Cells.{new_cell, new_item}
-use Rattle.bench_layers.proofs.DummyLaws.{dummies-kept}
+use Rattle.bench_layers.proofs.DummyLaws.{put-keeps_dummies}
 use Rattle.bench_layers.proofs.lists.Lists.add_item.Goals as goal
 
 pub returns-clause-ready : goal.returns-clause-ready
 returns-clause-ready c =
     let cell = new_cell c.insert_item.result c.item_key.result (Some (new_item (Int (to_z w128 (of_z w128 c.args.number))) c.one.result)) in
     record {
-      dummies = dummies-kept cell c.args.self.now.dummies.items c.args.self.now.list.cells c.insert_item.new.self.cells c.insert_item.ensures.fresh c.insert_item.ensures.cells c.requires.ready.dummies;
+      dummies = put-keeps_dummies cell c.args.self.now.dummies.items c.args.self.now.list.cells c.insert_item.new.self.cells c.insert_item.ensures.fresh c.insert_item.ensures.cells c.requires.ready.dummies;
       power = c.requires.ready.power;
       few = c.requires.ready.few;
     }

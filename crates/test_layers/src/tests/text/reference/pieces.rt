@@ -24,7 +24,7 @@ impl Reader<'_> {
         self.at = self.text.len();
     }
 
-    /// Passes a name, and answers where it began.
+    /// Passes a name. Returns where it begins.
     pub(super) fn skip_name(&mut self) -> usize {
         let from = self.at;
         for at in from..self.text.len() {
@@ -46,7 +46,7 @@ impl Reader<'_> {
         Some(u128::from(digit))
     }
 
-    /// One digit or more, of a number that begins at the start.
+    /// Reads one digit or more, of a number that begins at `start`.
     pub(super) fn digits(&mut self, start: usize, limit: u128) -> Result<u128, TextFault> {
         let _first = self.byte()?;
         let from = self.at;
@@ -65,7 +65,7 @@ impl Reader<'_> {
         Ok(n)
     }
 
-    /// The signs that must come.
+    /// Passes the characters that must follow.
     pub(super) fn signs(&mut self, wanted: &[u8]) -> Result<(), TextFault> {
         for sign in wanted {
             if self.byte()? != *sign {
@@ -76,7 +76,8 @@ impl Reader<'_> {
         Ok(())
     }
 
-    /// Keeps a character between quotes; past a limit there is this fault. Whether the next one is escaped.
+    /// Pushes a character between quotes, or fails with `fault` above the limit. Returns whether it is the backslash
+    /// of an escape.
     fn character(&mut self, b: u8, most: usize, fault: TextFault) -> Result<bool, TextFault> {
         if !matches!(b, b' '..=b'~') {
             return Err(TextFault::Unexpected(self.at));
@@ -90,15 +91,15 @@ impl Reader<'_> {
         Ok(b == b'\\')
     }
 
-    fn escaped(&mut self, b: u8, quote: u8) -> Result<(), TextFault> {
+    fn push_escaped(&mut self, b: u8, quote: u8) -> Result<(), TextFault> {
         if b != quote && b != b'\\' {
             return Err(TextFault::Unexpected(self.at));
         }
         Ok(self.quoted.push(b)?)
     }
 
-    /// The characters from a quote up to the closing quote. Past a limit there is this fault.
-    pub(super) fn quoted(
+    /// Reads the characters from a quote up to the closing quote, or fails with `fault` above the limit.
+    pub(super) fn read_quoted(
         &mut self,
         quote: u8,
         most: usize,
@@ -110,7 +111,7 @@ impl Reader<'_> {
             self.at = self.at.saturating_add(1);
             let b = self.byte()?;
             if is_escaped {
-                self.escaped(b, quote)?;
+                self.push_escaped(b, quote)?;
                 is_escaped = false;
             } else if b == quote {
                 self.at = self.at.saturating_add(1);

@@ -1,11 +1,11 @@
-//! Terms that are no tuple and no list in brackets.
+//! Terms other than tuples and lists in brackets.
 use super::Reader;
-use super::printed::{put_atom, put_number, put_row};
+use super::printer::{put_atom, put_number, put_numbers};
 use term_text::TextFault;
 
 impl Reader<'_> {
-    /// A term with this first sign.
-    pub(super) fn single(&mut self, sign: u8) -> Result<(), TextFault> {
+    /// Reads a term with this first character.
+    pub(super) fn single_term(&mut self, sign: u8) -> Result<(), TextFault> {
         match sign {
             b'-' => self.negative(),
             b'0'..=b'9' => self.number(self.at, 170141183460469231731687303715884105727),
@@ -33,7 +33,7 @@ impl Reader<'_> {
     }
 
     fn quoted_atom(&mut self) -> Result<(), TextFault> {
-        self.quoted(b'\'', 255, TextFault::AtomTooLong(self.at))?;
+        self.read_quoted(b'\'', 255, TextFault::AtomTooLong(self.at))?;
         Ok(put_atom(&mut self.out, self.quoted.as_slice())?)
     }
 
@@ -44,33 +44,33 @@ impl Reader<'_> {
             0
         };
         let fault = TextFault::TooDeep(self.at.saturating_add(1));
-        self.quoted(b'"', most, fault)?;
+        self.read_quoted(b'"', most, fault)?;
         self.out.push('[')?;
-        put_row(self.alloc, &mut self.out, self.quoted.as_slice())?;
+        put_numbers(self.alloc, &mut self.out, self.quoted.as_slice())?;
         Ok(self.out.push(']')?)
     }
 
-    /// Signs, a number of 32 bits and signs.
-    fn numbered(&mut self, before: &str, behind: &str) -> Result<(), TextFault> {
+    /// Reads a number of 32 bits between two texts.
+    fn number_between(&mut self, before: &str, after: &str) -> Result<(), TextFault> {
         self.signs(before.as_bytes())?;
         self.out.push_str(before)?;
         self.number(self.at, 4294967295)?;
-        self.signs(behind.as_bytes())?;
-        Ok(self.out.push_str(behind)?)
+        self.signs(after.as_bytes())?;
+        Ok(self.out.push_str(after)?)
     }
 
     fn identifier(&mut self) -> Result<(), TextFault> {
-        self.numbered("#Tid<", ">")
+        self.number_between("#Tid<", ">")
     }
 
     fn pid_or_binary(&mut self) -> Result<(), TextFault> {
         match self.text.get(self.at.saturating_add(1)) {
             Some(b'<') => self.binary(),
-            _ => self.numbered("<0.", ".0>"),
+            _ => self.number_between("<0.", ".0>"),
         }
     }
 
-    /// The rest of a row of bytes, with a comma between two.
+    /// Reads bytes with commas between them.
     fn bytes(&mut self) -> Result<(), TextFault> {
         for _ in 0..self.text.len() {
             let n = self.digits(self.at, 255)?;
@@ -85,13 +85,13 @@ impl Reader<'_> {
         Ok(())
     }
 
-    /// What is between the signs of a binary.
+    /// Reads what is between `<<` and `>>`.
     fn binary_parts(&mut self) -> Result<(), TextFault> {
         self.quoted.clear();
         self.skip_blanks();
         match self.byte()? {
             b'>' => Ok(()),
-            b'"' => self.quoted(b'"', self.text.len(), TextFault::Memory),
+            b'"' => self.read_quoted(b'"', self.text.len(), TextFault::Memory),
             _ => self.bytes(),
         }
     }
@@ -102,7 +102,7 @@ impl Reader<'_> {
         self.skip_blanks();
         self.signs(b">>")?;
         self.out.push_str("<<")?;
-        put_row(self.alloc, &mut self.out, self.quoted.as_slice())?;
+        put_numbers(self.alloc, &mut self.out, self.quoted.as_slice())?;
         Ok(self.out.push_str(">>")?)
     }
 

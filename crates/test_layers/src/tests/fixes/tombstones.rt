@@ -1,6 +1,6 @@
 use super::*;
 
-/// A call and what it is to answer.
+/// A call and its expected answer.
 #[derive(Clone, Copy)]
 enum Row {
     /// Inserts `{key,value}`.
@@ -9,9 +9,9 @@ enum Row {
     Fix(u32),
     Release(u32),
     ReleaseAll(u32),
-    /// `first` answers this key, or the end.
+    /// `first` returns this key, or the end.
     First(Option<Integer>),
-    /// `next` of a key answers this key, or the end.
+    /// `next` of a key returns this key, or the end.
     Next(Integer, Option<Integer>),
     /// `next` of a key is badarg.
     NoNext(Integer),
@@ -19,9 +19,9 @@ enum Row {
     Has(bool, usize, usize),
 }
 
-fn next<R: Rows>(table: &Walked<R>, key: Integer, wanted: Option<Integer>) -> bool {
-    match behind(table, key) {
-        Ok(found) => is(found, wanted),
+fn has_next<R: Rows>(table: &Walked<R>, key: Integer, wanted: Option<Integer>) -> bool {
+    match key_after(table, key) {
+        Ok(found) => is_key(found, wanted),
         Err(Badarg) => false,
     }
 }
@@ -38,9 +38,9 @@ fn changes<R: Rows>(table: &mut Walked<R>, row: Row) -> bool {
 
 fn answers<R: Rows>(table: &Walked<R>, row: Row) -> bool {
     match row {
-        Row::First(wanted) => is(table.first(), wanted),
-        Row::Next(key, wanted) => next(table, key, wanted),
-        Row::NoNext(key) => behind(table, key).is_err(),
+        Row::First(wanted) => is_key(table.first(), wanted),
+        Row::Next(key, wanted) => has_next(table, key, wanted),
+        Row::NoNext(key) => key_after(table, key).is_err(),
         Row::Has(fixed, slots, objects) => {
             table.is_fixed() == fixed && table.slots() == slots && table.size() == objects
         }
@@ -48,7 +48,7 @@ fn answers<R: Rows>(table: &Walked<R>, row: Row) -> bool {
     }
 }
 
-fn does<R: Rows>(alloc: Global, table: &mut Walked<R>, row: Row) -> Option<bool> {
+fn holds<R: Rows>(alloc: Global, table: &mut Walked<R>, row: Row) -> Option<bool> {
     match row {
         Row::Insert(key, value) => insert(alloc, table, key, value),
         Row::Fix(pid) => Some(table.fix(pid).is_ok()),
@@ -56,31 +56,31 @@ fn does<R: Rows>(alloc: Global, table: &mut Walked<R>, row: Row) -> Option<bool>
     }
 }
 
-fn all_do<R: Rows>(alloc: Global, table: &mut Walked<R>, rows: &[Row]) -> Option<bool> {
+fn all_hold<R: Rows>(alloc: Global, table: &mut Walked<R>, rows: &[Row]) -> Option<bool> {
     for row in rows {
-        if !does(alloc, table, *row)? {
+        if !holds(alloc, table, *row)? {
             return Some(false);
         }
     }
     Some(true)
 }
 
-fn plain_does(alloc: Global, rows: &[Row]) -> Option<bool> {
-    let mut table = plain(alloc, Kind::Set);
-    let done = all_do(alloc, &mut table, rows);
+fn plain_holds(alloc: Global, rows: &[Row]) -> Option<bool> {
+    let mut table = plain_table(alloc, Kind::Set);
+    let done = all_hold(alloc, &mut table, rows);
     drop(table);
     done
 }
 
-fn one_bucket_does(alloc: Global, rows: &[Row]) -> Option<bool> {
-    let mut table = one_bucket(alloc, Kind::Set)?;
-    let done = all_do(alloc, &mut table, rows);
+fn one_bucket_holds(alloc: Global, rows: &[Row]) -> Option<bool> {
+    let mut table = one_bucket_table(alloc, Kind::Set)?;
+    let done = all_hold(alloc, &mut table, rows);
     drop(table);
     done
 }
 
-fn both_do(alloc: Global, rows: &[Row]) -> Option<bool> {
-    Some(plain_does(alloc, rows)? && one_bucket_does(alloc, rows)?)
+fn both_hold(alloc: Global, rows: &[Row]) -> Option<bool> {
+    Some(plain_holds(alloc, rows)? && one_bucket_holds(alloc, rows)?)
 }
 
 const DELETED_KEY_KEEPS_ITS_PLACE: [Row; 11] = [
@@ -98,11 +98,11 @@ const DELETED_KEY_KEEPS_ITS_PLACE: [Row; 11] = [
 ];
 
 #[test]
-fn deleted_key_keeps_its_place(rt: HostRuntime) {
-    assert!(rt; both_do(rt.alloc(), &DELETED_KEY_KEEPS_ITS_PLACE) == Some(true));
+fn a_deleted_key_keeps_its_place(rt: HostRuntime) {
+    assert!(rt; both_hold(rt.alloc(), &DELETED_KEY_KEEPS_ITS_PLACE) == Some(true));
 }
 
-const LAST_RELEASE_DROPS_HELD_SLOTS: [Row; 18] = [
+const LAST_RELEASE_REMOVES_TOMBSTONES: [Row; 18] = [
     Row::Insert(1, 1),
     Row::Insert(2, 1),
     Row::Insert(3, 1),
@@ -124,11 +124,11 @@ const LAST_RELEASE_DROPS_HELD_SLOTS: [Row; 18] = [
 ];
 
 #[test]
-fn last_release_drops_held_slots(rt: HostRuntime) {
-    assert!(rt; both_do(rt.alloc(), &LAST_RELEASE_DROPS_HELD_SLOTS) == Some(true));
+fn last_release_removes_tombstones(rt: HostRuntime) {
+    assert!(rt; both_hold(rt.alloc(), &LAST_RELEASE_REMOVES_TOMBSTONES) == Some(true));
 }
 
-const ALL_FIXES_OF_A_PROCESS_GO: [Row; 12] = [
+const ALL_FIXES_OF_A_PROCESS_END: [Row; 12] = [
     Row::Insert(1, 1),
     Row::Fix(7),
     Row::Fix(7),
@@ -144,8 +144,8 @@ const ALL_FIXES_OF_A_PROCESS_GO: [Row; 12] = [
 ];
 
 #[test]
-fn all_fixes_of_a_process_go(rt: HostRuntime) {
-    assert!(rt; both_do(rt.alloc(), &ALL_FIXES_OF_A_PROCESS_GO) == Some(true));
+fn all_fixes_of_a_process_end(rt: HostRuntime) {
+    assert!(rt; both_hold(rt.alloc(), &ALL_FIXES_OF_A_PROCESS_END) == Some(true));
 }
 
 const A_TABLE_THAT_NOBODY_FIXES: [Row; 16] = [
@@ -169,5 +169,5 @@ const A_TABLE_THAT_NOBODY_FIXES: [Row; 16] = [
 
 #[test]
 fn a_table_that_nobody_fixes(rt: HostRuntime) {
-    assert!(rt; both_do(rt.alloc(), &A_TABLE_THAT_NOBODY_FIXES) == Some(true));
+    assert!(rt; both_hold(rt.alloc(), &A_TABLE_THAT_NOBODY_FIXES) == Some(true));
 }

@@ -1,4 +1,4 @@
-//! Parts of the text of terms, printed plainly.
+//! A plain printer of the parts of terms.
 use super::pieces::is_name;
 use std::alloc::{AllocError, Global};
 
@@ -9,9 +9,9 @@ pub(super) fn put_number(alloc: Global, out: &mut String, n: u128) -> Result<(),
     pushed
 }
 
-/// Numbers, with a comma between two.
-pub(super) fn put_row(alloc: Global, out: &mut String, row: &[u8]) -> Result<(), AllocError> {
-    for (i, n) in row.iter().enumerate() {
+/// Prints numbers with commas between them.
+pub(super) fn put_numbers(alloc: Global, out: &mut String, bytes: &[u8]) -> Result<(), AllocError> {
+    for (i, n) in bytes.iter().enumerate() {
         if i > 0 {
             out.push(',')?;
         }
@@ -29,7 +29,7 @@ fn is_plain(text: &[u8]) -> bool {
     matches!(text.first(), Some(b'a'..=b'z'))
 }
 
-/// Characters, each quote and backslash of them after a backslash.
+/// Prints characters, with a backslash before each quote and backslash.
 fn put_characters(out: &mut String, text: &[u8]) -> Result<(), AllocError> {
     for b in text {
         if *b == b'\'' || *b == b'\\' {
