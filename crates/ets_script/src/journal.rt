@@ -1,15 +1,14 @@
 //! How a script is printed whose processes ran in threads of their own.
 ghost use Rattle.std.specs.Prelude.{◌≡◌, ◌≤◌, ◌++◌, flat_map, codes, length, [], OnOk, OnErr};
 ghost use Rattle.std.specs.Io.KnownBytes.{Appends};
-ghost use Rattle.ets_script.specs.Flows.{flow};
 ghost use Rattle.ets_script.specs.Replies.{printed};
 ghost use Rattle.ets_script.specs.Threads.{entry_text, stopped_text};
-ghost use Rattle.ets_script.specs.inside.Output.{Sends, Breaks};
+ghost use Rattle.ets_script.specs.inside.Output.{Breaks, Prints, Fails, HasWriterOf, buffered_text, writer_flow};
 ghost use Rattle.ets_script.specs.inside.Journal.{stop_text, run_text, out_text};
 
 use crate::answer::{Answer, print_reply};
 use crate::names::Names;
-use crate::output::{OutputBuffer, WriteFault};
+use crate::output::{Output, WriteFault};
 use crate::plan::PlannedAnswers;
 use crate::processes::RunResult;
 use node_shared::Entry;
@@ -19,67 +18,64 @@ use std::io::Write;
 pub fn print_out<W: Write>(
     planned: &PlannedAnswers,
     run: &RunResult,
-    output: &mut OutputBuffer,
-    writer: &mut W,
+    output: &mut Output<'_, W>,
 ) -> Result<(), WriteFault>
-    requires waiting { output.old ≡ [] }
+    requires waiting { buffered_text output.old ≡ [] }
     requires named { length run.now.left.items ≤ length planned.now.names }
-    ensures ok { OnOk result (Appends (W.contents writer.old) (W.contents writer.new)
-        (out_text planned.now run.now)) }
-    ensures err { OnErr result (Breaks (flow W.contents writer.old writer.new)
+    ensures same_writer { HasWriterOf output.old output.new }
+    ensures ok { OnOk result (Appends (W.contents output.old.writer.now)
+        (W.contents output.new.writer.now) (out_text planned.now run.now)) }
+    ensures err { OnErr result (Breaks (writer_flow W.contents output.old output.new)
         (out_text planned.now run.now)) }
 {
-    print_all(planned, run, output, writer)?;
-    output.flush(writer)
+    print_all(planned, run, output)?;
+    output.flush()
 }
 
 /// Prints the planned answers, and then the results of the processes.
 fn print_all<W: Write>(
     planned: &PlannedAnswers,
     run: &RunResult,
-    output: &mut OutputBuffer,
-    writer: &mut W,
+    output: &mut Output<'_, W>,
 ) -> Result<(), WriteFault>
     requires { length run.now.left.items ≤ length planned.now.names }
-    ensures ok { OnOk result (Sends (flow W.contents writer.old writer.new)
-        (output.old ++ out_text planned.now run.now) output.new) }
-    ensures err { OnErr result (Breaks (flow W.contents writer.old writer.new)
-        (output.old ++ out_text planned.now run.now)) }
+    ensures same_writer { HasWriterOf output.old output.new }
+    ensures ok { OnOk result (Prints W.contents output.old output.new
+        (out_text planned.now run.now)) }
+    ensures err { OnErr result (Fails W.contents output.old output.new
+        (out_text planned.now run.now)) }
 {
-    print_answers(planned.answers.as_slice(), output, writer)?;
-    print_run(&planned.names, run, output, writer)
+    print_answers(planned.answers.as_slice(), output)?;
+    print_run(&planned.names, run, output)
 }
 
 /// Prints the journal, and then the names of the processes that stopped.
 fn print_run<W: Write>(
     names: &Names,
     run: &RunResult,
-    output: &mut OutputBuffer,
-    writer: &mut W,
+    output: &mut Output<'_, W>,
 ) -> Result<(), WriteFault>
     requires { length run.now.left.items ≤ length names.now }
-    ensures ok { OnOk result (Sends (flow W.contents writer.old writer.new)
-        (output.old ++ run_text names.now run.now) output.new) }
-    ensures err { OnErr result (Breaks (flow W.contents writer.old writer.new)
-        (output.old ++ run_text names.now run.now)) }
+    ensures same_writer { HasWriterOf output.old output.new }
+    ensures ok { OnOk result (Prints W.contents output.old output.new
+        (run_text names.now run.now)) }
+    ensures err { OnErr result (Fails W.contents output.old output.new
+        (run_text names.now run.now)) }
 {
-    print_entries(names, run.entries.as_slice(), output, writer)?;
-    print_stopped(names, run.left.as_slice(), output, writer)
+    print_entries(names, run.entries.as_slice(), output)?;
+    print_stopped(names, run.left.as_slice(), output)
 }
 
 /// Prints answers, one after another.
-fn print_answers<W: Write>(
-    answers: &[Answer],
-    output: &mut OutputBuffer,
-    writer: &mut W,
-) -> Result<(), WriteFault>
-    ensures ok { OnOk result (Sends (flow W.contents writer.old writer.new)
-        (output.old ++ flat_map printed answers.now) output.new) }
-    ensures err { OnErr result (Breaks (flow W.contents writer.old writer.new)
-        (output.old ++ flat_map printed answers.now)) }
+fn print_answers<W: Write>(answers: &[Answer], output: &mut Output<'_, W>) -> Result<(), WriteFault>
+    ensures same_writer { HasWriterOf output.old output.new }
+    ensures ok { OnOk result (Prints W.contents output.old output.new
+        (flat_map printed answers.now)) }
+    ensures err { OnErr result (Fails W.contents output.old output.new
+        (flat_map printed answers.now)) }
 {
     for answer in answers {
-        answer.print(output, writer)?;
+        answer.print(output)?;
     }
     Ok(())
 }
@@ -88,16 +84,16 @@ fn print_answers<W: Write>(
 fn print_entries<W: Write>(
     names: &Names,
     entries: &[Entry],
-    output: &mut OutputBuffer,
-    writer: &mut W,
+    output: &mut Output<'_, W>,
 ) -> Result<(), WriteFault>
-    ensures ok { OnOk result (Sends (flow W.contents writer.old writer.new)
-        (output.old ++ flat_map (entry_text names.now) entries.now) output.new) }
-    ensures err { OnErr result (Breaks (flow W.contents writer.old writer.new)
-        (output.old ++ flat_map (entry_text names.now) entries.now)) }
+    ensures same_writer { HasWriterOf output.old output.new }
+    ensures ok { OnOk result (Prints W.contents output.old output.new
+        (flat_map (entry_text names.now) entries.now)) }
+    ensures err { OnErr result (Fails W.contents output.old output.new
+        (flat_map (entry_text names.now) entries.now)) }
 {
     for entry in entries {
-        print_entry(names, entry, output, writer)?;
+        print_entry(names, entry, output)?;
     }
     Ok(())
 }
@@ -106,53 +102,48 @@ fn print_entries<W: Write>(
 fn print_entry<W: Write>(
     names: &Names,
     entry: &Entry,
-    output: &mut OutputBuffer,
-    writer: &mut W,
+    output: &mut Output<'_, W>,
 ) -> Result<(), WriteFault>
-    ensures ok { OnOk result (Sends (flow W.contents writer.old writer.new)
-        (output.old ++ entry_text names.now entry.now) output.new) }
-    ensures err { OnErr result (Breaks (flow W.contents writer.old writer.new)
-        (output.old ++ entry_text names.now entry.now)) }
+    ensures same_writer { HasWriterOf output.old output.new }
+    ensures ok { OnOk result (Prints W.contents output.old output.new
+        (entry_text names.now entry.now)) }
+    ensures err { OnErr result (Fails W.contents output.old output.new
+        (entry_text names.now entry.now)) }
 {
     match entry.process() {
         Some(number) => {
-            print_name(names.name(number as usize), output, writer)?;
-            print_reply(&entry.reply, output, writer)
+            print_name(names.name(number as usize), output)?;
+            print_reply(&entry.reply, output)
         }
         None => Ok(()),
     }
 }
 
 /// Prints a name and a space.
-fn print_name<W: Write>(
-    name: &[u8],
-    output: &mut OutputBuffer,
-    writer: &mut W,
-) -> Result<(), WriteFault>
-    ensures ok { OnOk result (Sends (flow W.contents writer.old writer.new)
-        (output.old ++ (name.now ++ codes " ")) output.new) }
-    ensures err { OnErr result (Breaks (flow W.contents writer.old writer.new)
-        (output.old ++ (name.now ++ codes " "))) }
+fn print_name<W: Write>(name: &[u8], output: &mut Output<'_, W>) -> Result<(), WriteFault>
+    ensures same_writer { HasWriterOf output.old output.new }
+    ensures ok { OnOk result (Prints W.contents output.old output.new (name.now ++ codes " ")) }
+    ensures err { OnErr result (Fails W.contents output.old output.new (name.now ++ codes " ")) }
 {
-    output.add(writer, name)?;
-    output.add(writer, b" ")
+    output.add(name)?;
+    output.add(b" ")
 }
 
 /// Prints a line for each process with jobs left.
 fn print_stopped<W: Write>(
     names: &Names,
     left: &[usize],
-    output: &mut OutputBuffer,
-    writer: &mut W,
+    output: &mut Output<'_, W>,
 ) -> Result<(), WriteFault>
     requires { length left.now ≤ length names.now }
-    ensures ok { OnOk result (Sends (flow W.contents writer.old writer.new)
-        (output.old ++ stopped_text names.now left.now) output.new) }
-    ensures err { OnErr result (Breaks (flow W.contents writer.old writer.new)
-        (output.old ++ stopped_text names.now left.now)) }
+    ensures same_writer { HasWriterOf output.old output.new }
+    ensures ok { OnOk result (Prints W.contents output.old output.new
+        (stopped_text names.now left.now)) }
+    ensures err { OnErr result (Fails W.contents output.old output.new
+        (stopped_text names.now left.now)) }
 {
     for number in 0..left.len() {
-        print_stop(names.name(number), left[number], output, writer)?;
+        print_stop(names.name(number), left[number], output)?;
     }
     Ok(())
 }
@@ -161,17 +152,15 @@ fn print_stopped<W: Write>(
 fn print_stop<W: Write>(
     name: &[u8],
     left: usize,
-    output: &mut OutputBuffer,
-    writer: &mut W,
+    output: &mut Output<'_, W>,
 ) -> Result<(), WriteFault>
-    ensures ok { OnOk result (Sends (flow W.contents writer.old writer.new)
-        (output.old ++ stop_text name.now left) output.new) }
-    ensures err { OnErr result (Breaks (flow W.contents writer.old writer.new)
-        (output.old ++ stop_text name.now left)) }
+    ensures same_writer { HasWriterOf output.old output.new }
+    ensures ok { OnOk result (Prints W.contents output.old output.new (stop_text name.now left)) }
+    ensures err { OnErr result (Fails W.contents output.old output.new (stop_text name.now left)) }
 {
     if left == 0 {
         return Ok(());
     }
-    print_name(name, output, writer)?;
-    output.add(writer, b"** nomem\n")
+    print_name(name, output)?;
+    output.add(b"** nomem\n")
 }

@@ -1,12 +1,12 @@
 //! A script from its first line to its last.
-ghost use Rattle.std.specs.Prelude.{◌≡◌, [], ◌++◌, false, IfOk, IfErr, OnOk, OnErr};
+ghost use Rattle.std.specs.Prelude.{◌≡◌, [], false, IfOk, IfErr, OnOk, OnErr};
 ghost use Rattle.node_core.specs.Observable.{observable};
 ghost use Rattle.ets_script.specs.Flows.{flow};
 ghost use Rattle.ets_script.specs.Numbers.{AreTheNumbers};
 ghost use Rattle.ets_script.specs.Replies.{printed};
 ghost use Rattle.ets_script.specs.Script.{at_start};
 ghost use Rattle.ets_script.specs.Stops.{Completes, LeavesNode, Stops};
-ghost use Rattle.ets_script.specs.inside.Output.{Sends, Breaks};
+ghost use Rattle.ets_script.specs.inside.Output.{Prints, Fails, HasWriterOf, buffered_text, writer_flow};
 ghost use Rattle.ets_script.specs.inside.Answered.{AnswersNext, AnswersPart, EndsAll, BreaksAtEnd};
 
 use crate::answer::Answer;
@@ -15,7 +15,7 @@ use crate::line_buffer::LineBuffer;
 use crate::lines::NextLine;
 use crate::node_settings::NodeSettings;
 use crate::observer::{NoObserver, Observer};
-use crate::output::{OutputBuffer, WriteFault};
+use crate::output::{Output, WriteFault, output_buffer};
 use crate::script::Script;
 use crate::streams::Streams;
 use crate::why_writer::WhyWriter;
@@ -78,9 +78,10 @@ pub fn run_script_with_reasons<R: Read, W: Write, E: Write, H: KeyHash + Copy + 
         (flow R.remaining streams.old.input streams.new.input)
         (flow W.contents streams.old.output streams.new.output)) }
 {
-    let Ok(mut reasons) = WhyWriter::new(alloc, errors) else {
+    let Ok(mut bytes) = output_buffer(alloc) else {
         return Err(ScriptFault::Memory);
     };
+    let mut reasons = WhyWriter::new(alloc, Output::new(&mut bytes, errors));
     let script = Script::new(alloc, settings.limits, settings.hasher);
     let end = run_with(streams, script, MAX_READS, &mut reasons);
     reasons.flush();
@@ -105,42 +106,48 @@ fn run_with<R: Read, W: Write, H: KeyHash + Copy + Drop, L: Observer>(
     let Ok(mut buffer) = LineBuffer::new(alloc, reads) else {
         return Err(ScriptFault::Memory);
     };
-    let Ok(mut output) = OutputBuffer::new(alloc) else {
+    let Ok(mut bytes) = output_buffer(alloc) else {
         return Err(ScriptFault::Memory);
     };
-    answer_all(streams, &mut buffer, &mut output, &mut script, observer)?;
+    let mut output = Output::new(&mut bytes, &mut streams.output);
+    answer_all(
+        &mut streams.input,
+        &mut output,
+        &mut buffer,
+        &mut script,
+        observer,
+    )?;
     Ok(script.into_node())
 }
 
 /// Answers all lines, and writes all answers.
 fn answer_all<R: Read, W: Write, H: KeyHash + Copy + Drop, L: Observer>(
-    streams: &mut Streams<R, W>,
+    reader: &mut R,
+    output: &mut Output<'_, W>,
     buffer: &mut LineBuffer,
-    output: &mut OutputBuffer,
     script: &mut Script<H>,
     observer: &mut L,
 ) -> Result<(), ScriptFault>
-    requires waiting { output.old ≡ [] }
+    requires waiting { buffered_text output.old ≡ [] }
     requires held { (buffer.old.bytes ≡ []) × (buffer.old.is_skipping ≡ false) }
+    ensures same_writer { HasWriterOf output.old output.new }
     ensures ok { OnOk result (Completes script.old script.new
-        (flow R.remaining streams.old.input streams.new.input)
-        (flow W.contents streams.old.output streams.new.output)) }
+        (flow R.remaining reader.old reader.new) (writer_flow W.contents output.old output.new)) }
     ensures err { IfErr result (Stops script.old
-        (flow R.remaining streams.old.input streams.new.input)
-        (flow W.contents streams.old.output streams.new.output)) }
+        (flow R.remaining reader.old reader.new) (writer_flow W.contents output.old output.new)) }
 {
     loop {
         let Some(next) = answer_next(buffer, script, observer) else {
-            output.flush(&mut streams.output)?;
+            output.flush()?;
             observer.flush();
             buffer.skip_long();
-            if buffer.refill(&mut streams.input)? == 0 {
-                answer_last(buffer, output, &mut streams.output, script, observer)?;
+            if buffer.refill(reader)? == 0 {
+                answer_last(buffer, output, script, observer)?;
                 return Ok(());
             }
             continue;
         };
-        buffer.consume(print_line(next, output, &mut streams.output)?);
+        buffer.consume(print_line(next, output)?);
     }
 }
 
@@ -152,18 +159,13 @@ struct AnsweredLine {
 }
 
 /// Prints the answer to a line, and returns the number of buffered bytes that the line takes.
-fn print_line<W: Write>(
-    line: AnsweredLine,
-    output: &mut OutputBuffer,
-    writer: &mut W,
-) -> Result<usize, WriteFault>
+fn print_line<W: Write>(line: AnsweredLine, output: &mut Output<'_, W>) -> Result<usize, WriteFault>
     ensures taken { IfOk result (λ taken. taken ≡ line.taken) }
-    ensures ok { OnOk result (Sends (flow W.contents writer.old writer.new)
-        (output.old ++ printed line.answer) output.new) }
-    ensures err { OnErr result (Breaks (flow W.contents writer.old writer.new)
-        (output.old ++ printed line.answer)) }
+    ensures same_writer { HasWriterOf output.old output.new }
+    ensures ok { OnOk result (Prints W.contents output.old output.new (printed line.answer)) }
+    ensures err { OnErr result (Fails W.contents output.old output.new (printed line.answer)) }
 {
-    line.answer.print(output, writer)?;
+    line.answer.print(output)?;
     Ok(line.taken)
 }
 
@@ -194,20 +196,20 @@ fn answer_next<H: KeyHash + Copy + Drop, L: Observer>(
 /// Answers the last line, which has no LF, and writes all answers.
 fn answer_last<W: Write, H: KeyHash + Copy + Drop, L: Observer>(
     buffer: &LineBuffer,
-    output: &mut OutputBuffer,
-    writer: &mut W,
+    output: &mut Output<'_, W>,
     script: &mut Script<H>,
     observer: &mut L,
 ) -> Result<(), WriteFault>
-    ensures ok { OnOk result (EndsAll buffer.now script.old script.new output.old
-        (flow W.contents writer.old writer.new)) }
-    ensures err { OnErr result (BreaksAtEnd buffer.now script.old script.new output.old
-        (flow W.contents writer.old writer.new)) }
+    ensures same_writer { HasWriterOf output.old output.new }
+    ensures ok { OnOk result (EndsAll buffer.now script.old script.new (buffered_text output.old)
+        (writer_flow W.contents output.old output.new)) }
+    ensures err { OnErr result (BreaksAtEnd buffer.now script.old script.new
+        (buffered_text output.old) (writer_flow W.contents output.old output.new)) }
 {
     let answer = answer_part(buffer, script);
     observer.line_answered(script, buffer.bytes(), &answer);
-    answer.print(output, writer)?;
-    output.flush(writer)
+    answer.print(output)?;
+    output.flush()
 }
 
 /// Answers a part of a line as a line. An empty part has no answer.

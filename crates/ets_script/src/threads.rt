@@ -9,7 +9,7 @@ ghost use Rattle.ets_script.specs.inside.Processes.{RunsInput, Stops};
 use crate::fault::ScriptFault;
 use crate::journal::print_out;
 use crate::node_settings::NodeSettings;
-use crate::output::OutputBuffer;
+use crate::output::{Output, output_buffer};
 use crate::plan::PlannedAnswers;
 use crate::planning::plan_input;
 use crate::processes::{RunResult, run_jobs};
@@ -44,11 +44,12 @@ pub fn run_threads<
         (flow W.contents streams.old.output streams.new.output)) }
     ensures numbers { AreTheNumbers }
 {
-    let Ok(mut output) = OutputBuffer::new(alloc) else {
+    let Ok(mut bytes) = output_buffer(alloc) else {
         return Err(ScriptFault::Memory);
     };
     let (planned, run) = run_input(rt, alloc, &mut streams.input, settings)?;
-    print_out(&planned, &run, &mut output, &mut streams.output)?;
+    let mut output = Output::new(&mut bytes, &mut streams.output);
+    print_out(&planned, &run, &mut output)?;
     Ok(())
 }
 

@@ -1,22 +1,21 @@
 //! Reasons of refused lines, for a second writer.
-ghost use Rattle.std.specs.Prelude.{◌≡◌, ◌+◌, ◌-◌, ◌<◌, ◌^◌, IfOk};
+ghost use Rattle.std.specs.Prelude.{◌≡◌, ◌+◌, ◌-◌, ◌<◌, ◌^◌};
 
 use crate::answer::Answer;
 use crate::explain::explain;
 use crate::observer::Observer;
-use crate::output::OutputBuffer;
+use crate::output::Output;
 use crate::script::Script;
 use ets_term::KeyHash;
 use script_reasons::Diagnostic;
-use std::alloc::{AllocError, Global};
+use std::alloc::Global;
 use std::io::Write;
 
 /// Writes for each refused line, by its number, why it was refused. Once the writer has failed, it writes no more.
 #[derive(Drop)]
-pub struct WhyWriter<'a, E: Write> {
+pub struct WhyWriter<'a, E> {
     alloc: Global,
-    writer: &'a mut E,
-    output: OutputBuffer,
+    output: Output<'a, E>,
     /// The number of lines so far.
     lines: u64,
     has_failed: bool,
@@ -24,16 +23,15 @@ pub struct WhyWriter<'a, E: Write> {
 
 impl<'a, E: Write> WhyWriter<'a, E> {
     /// Creates the observer, before any line.
-    pub fn new(alloc: Global, writer: &'a mut E) -> Result<WhyWriter<'a, E>, AllocError>
-        ensures { IfOk result (λ reasons. reasons.lines ≡ 0) }
+    pub fn new(alloc: Global, output: Output<'a, E>) -> WhyWriter<'a, E>
+        ensures { result.lines ≡ 0 }
     {
-        Ok(WhyWriter {
+        WhyWriter {
             alloc,
-            writer,
-            output: OutputBuffer::new(alloc)?,
+            output,
             lines: 0,
             has_failed: false,
-        })
+        }
     }
 
     /// Returns the number of the next line; the first is line 1.
@@ -51,7 +49,7 @@ impl<'a, E: Write> WhyWriter<'a, E> {
             return;
         };
         if !self.has_failed {
-            self.has_failed = self.output.add(self.writer, text.as_bytes()).is_err();
+            self.has_failed = self.output.add(text.as_bytes()).is_err();
         }
     }
 }
@@ -71,7 +69,7 @@ impl<E: Write> Observer for WhyWriter<'_, E> {
 
     fn flush(&mut self) {
         if !self.has_failed {
-            self.has_failed = self.output.flush(self.writer).is_err();
+            self.has_failed = self.output.flush().is_err();
         }
     }
 }

@@ -1,4 +1,4 @@
-use Rattle.std.proofs.Common.{◌≡◌, ◌+◌, drop, get_or, flat_map, rules}
+use Rattle.std.proofs.Common.{◌≡◌, ◌∙◌, ◌+◌, drop, get_or, flat_map, rules}
 use Rattle.std.proofs.lemmas.Result.{err_from_is_err_and}
 use Rattle.ets_script.specs.Threads.{entry_text}
 use Rattle.ets_script.proofs.Printing.{printed-more, printed-broken, items-at}
@@ -12,7 +12,7 @@ returns-in_err-print_entry-clause-err g c =
     let x = c.entry-item.result in
     let same : get_or ts l.entry-index x ≡ x = search rules in
     rw (err_from_is_err_and c.from_residual.result c.from_residual.ensures.1).1
-    (printed-broken (g.W.Write.contents c.args.writer.now) (g.W.Write.contents l.writer) (g.W.Write.contents c.print_entry.new.writer) c.args.output.now (flat_map f ts) l.output (flat_map f (drop l.entry-index ts)) (f x) (flat_map f (drop (l.entry-index + 1) ts)) l.invariant
+    (printed-broken (g.W.Write.contents c.args.output.now.writer.now) (g.W.Write.contents l.output.writer.now) (g.W.Write.contents c.print_entry.new.output.writer.now) c.args.output.now.bytes.now.items (flat_map f ts) l.output.bytes.now.items (flat_map f (drop l.entry-index ts)) (f x) (flat_map f (drop (l.entry-index + 1) ts)) l.invariant.0
     (items-at f ts l.entry-index x c.loop-entry-test.true same) c.in_err-print_entry.ensures.err)
 
 pub loop-entry-preserved : goal.loop-entry-preserved
@@ -22,5 +22,6 @@ loop-entry-preserved g c =
     let f = entry_text c.args.names.now in
     let x = c.entry-item.result in
     let same : get_or ts l.entry-index x ≡ x = search rules in
-    printed-more (g.W.Write.contents c.args.writer.now) (g.W.Write.contents l.writer) (g.W.Write.contents c.print_entry.new.writer) c.args.output.now (flat_map f ts) l.output c.print_entry.new.output (flat_map f (drop l.entry-index ts)) (f x) (flat_map f (drop (l.entry-index + 1) ts)) l.invariant
-    (items-at f ts l.entry-index x c.loop-entry-test.true same) c.in_ok-print_entry.ensures.ok
+    (printed-more (g.W.Write.contents c.args.output.now.writer.now) (g.W.Write.contents l.output.writer.now) (g.W.Write.contents c.print_entry.new.output.writer.now) c.args.output.now.bytes.now.items (flat_map f ts) l.output.bytes.now.items c.print_entry.new.output.bytes.now.items (flat_map f (drop l.entry-index ts)) (f x) (flat_map f (drop (l.entry-index + 1) ts)) l.invariant.0
+    (items-at f ts l.entry-index x c.loop-entry-test.true same) c.in_ok-print_entry.ensures.ok,
+    c.print_entry.ensures.same_writer ∙ l.invariant.1)

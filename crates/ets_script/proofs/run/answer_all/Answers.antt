@@ -1,4 +1,4 @@
-use Rattle.std.proofs.Common.{◌≡◌, ℕ, drop, sym, subst}
+use Rattle.std.proofs.Common.{◌≡◌, ◌∙◌, ℕ, drop, refl, sym, subst}
 use Rattle.std.proofs.lemmas.Result.{err_from_is_err_and}
 use Rattle.ets_script.specs.Script.{ScriptState}
 use Rattle.ets_script.proofs.BufferedLines.{refill-end}
@@ -7,68 +7,71 @@ use Rattle.ets_script.proofs.ScriptEnds.{broken-line, flush-broken, read-broken,
 use Rattle.ets_script.proofs.run.answer_all.Goals as goal
 
 pub loop-next-init : goal.loop-next-init
-loop-next-init g c = progress-start c.args.script.now c.args.buffer.now (g.R.Read.remaining c.args.streams.now.input) c.args.output.now (g.W.Write.contents c.args.streams.now.output) c.requires.waiting c.requires.held.0 c.requires.held.1
+loop-next-init g c =
+    (progress-start c.args.script.now c.args.buffer.now (g.R.Read.remaining c.args.reader.now) c.args.output.now.bytes.now.items (g.W.Write.contents c.args.output.now.writer.now) c.requires.waiting c.requires.held.0 c.requires.held.1, refl)
 
 pub returns-in_err-flush-clause-err : goal.returns-in_err-flush-clause-err
 returns-in_err-flush-clause-err g c =
     let p = err_from_is_err_and c.from_residual.result c.from_residual.ensures.1 in
     let l = c.loop-next in
-    rw (p.1, p.2) (flush-broken c.args.script.now l.script (g.R.Read.remaining c.args.streams.now.input) (g.W.Write.contents c.args.streams.now.output) (g.W.Write.contents l.streams.output) (g.W.Write.contents c.flush.new.writer) l.buffer (g.R.Read.remaining l.streams.input) l.output l.invariant c.in_err-flush.ensures.err)
+    rw (p.1, p.2) (flush-broken c.args.script.now l.script (g.R.Read.remaining c.args.reader.now) (g.W.Write.contents c.args.output.now.writer.now) (g.W.Write.contents l.output.writer.now) (g.W.Write.contents c.flush.new.self.writer.now) l.buffer (g.R.Read.remaining l.reader) l.output.bytes.now.items l.invariant.0 c.in_err-flush.ensures.err)
 
 pub returns-in_err-refill-clause-err : goal.returns-in_err-refill-clause-err
 returns-in_err-refill-clause-err g c =
     let p = err_from_is_err_and c.from_residual-in_err-refill.result c.from_residual-in_err-refill.ensures.1 in
     let l = c.loop-next in
-    rw (p.1, p.2) (read-broken c.args.script.now l.script (g.R.Read.remaining c.args.streams.now.input) (g.W.Write.contents c.args.streams.now.output) (g.W.Write.contents l.streams.output) (g.W.Write.contents c.flush.new.writer) l.buffer c.skip_long.new.self (g.R.Read.remaining l.streams.input) (g.R.Read.remaining c.refill.new.reader) l.output c.flush.new.self
-    l.invariant c.in_default.ensures.0 c.in_ok-flush.ensures.ok c.in_ok-flush.ensures.empty c.skip_long.ensures c.in_err-refill.ensures.err.0)
+    rw (p.1, p.2) (read-broken c.args.script.now l.script (g.R.Read.remaining c.args.reader.now) (g.W.Write.contents c.args.output.now.writer.now) (g.W.Write.contents l.output.writer.now) (g.W.Write.contents c.flush.new.self.writer.now) l.buffer c.skip_long.new.self (g.R.Read.remaining l.reader) (g.R.Read.remaining c.refill.new.reader) l.output.bytes.now.items c.flush.new.self.bytes.now.items
+    l.invariant.0 c.in_default.ensures.0 c.in_ok-flush.ensures.ok c.in_ok-flush.ensures.empty c.skip_long.ensures c.in_err-refill.ensures.err.0)
 
 pub returns-in_err-answer_last-clause-err : goal.returns-in_err-answer_last-clause-err
 returns-in_err-answer_last-clause-err g c =
     let p = err_from_is_err_and c.from_residual-in_err-answer_last.result c.from_residual-in_err-answer_last.ensures.1 in
     let l = c.loop-next in
-    let before = g.R.Read.remaining c.args.streams.now.input in
+    let before = g.R.Read.remaining c.args.reader.now in
     let left = g.R.Read.remaining c.refill.new.reader in
-    let old = g.W.Write.contents c.args.streams.now.output in
-    let w = g.W.Write.contents c.flush.new.writer in
-    let going = progress-read c.args.script.now l.script before old (g.W.Write.contents l.streams.output) w l.buffer c.skip_long.new.self c.refill.new.self (g.R.Read.remaining l.streams.input) left l.output c.flush.new.self c.in_ok-refill.field-0 l.invariant c.in_default.ensures.0 c.in_ok-flush.ensures.ok c.skip_long.ensures c.in_ok-refill.ensures.ok in
-    let now = subst (λ (s : ScriptState). Progress c.args.script.now before old c.refill.new.self left c.flush.new.self w s) (sym c.in_default.ensures.1) going in
-    rw (p.1, p.2) (end-broken c.args.script.now c.answer_next.new.script c.answer_last.new.script before old w (g.W.Write.contents c.answer_last.new.writer) c.refill.new.self left c.flush.new.self now
-    (refill-end l.buffer c.skip_long.new.self c.refill.new.self (g.R.Read.remaining l.streams.input) left c.in_ok-refill.field-0 c.in_default.ensures.0 c.skip_long.ensures c.in_ok-refill.ensures.ok c.if-branch-eq0.true) c.in_err-answer_last.ensures.err)
+    let old = g.W.Write.contents c.args.output.now.writer.now in
+    let w = g.W.Write.contents c.flush.new.self.writer.now in
+    let going = progress-read c.args.script.now l.script before old (g.W.Write.contents l.output.writer.now) w l.buffer c.skip_long.new.self c.refill.new.self (g.R.Read.remaining l.reader) left l.output.bytes.now.items c.flush.new.self.bytes.now.items c.in_ok-refill.field-0 l.invariant.0 c.in_default.ensures.0 c.in_ok-flush.ensures.ok c.skip_long.ensures c.in_ok-refill.ensures.ok in
+    let now = subst (λ (s : ScriptState). Progress c.args.script.now before old c.refill.new.self left c.flush.new.self.bytes.now.items w s) (sym c.in_default.ensures.1) going in
+    rw (p.1, p.2) (end-broken c.args.script.now c.answer_next.new.script c.answer_last.new.script before old w (g.W.Write.contents c.answer_last.new.output.writer.now) c.refill.new.self left c.flush.new.self.bytes.now.items now
+    (refill-end l.buffer c.skip_long.new.self c.refill.new.self (g.R.Read.remaining l.reader) left c.in_ok-refill.field-0 c.in_default.ensures.0 c.skip_long.ensures c.in_ok-refill.ensures.ok c.if-branch-eq0.true) c.in_err-answer_last.ensures.err)
 
 pub returns-then-branch-eq0-clause-ok : goal.returns-then-branch-eq0-clause-ok
 returns-then-branch-eq0-clause-ok g c =
     let l = c.loop-next in
-    let before = g.R.Read.remaining c.args.streams.now.input in
+    let before = g.R.Read.remaining c.args.reader.now in
     let left = g.R.Read.remaining c.refill.new.reader in
-    let old = g.W.Write.contents c.args.streams.now.output in
-    let w = g.W.Write.contents c.flush.new.writer in
-    let going = progress-read c.args.script.now l.script before old (g.W.Write.contents l.streams.output) w l.buffer c.skip_long.new.self c.refill.new.self (g.R.Read.remaining l.streams.input) left l.output c.flush.new.self c.in_ok-refill.field-0 l.invariant c.in_default.ensures.0 c.in_ok-flush.ensures.ok c.skip_long.ensures c.in_ok-refill.ensures.ok in
-    let now = subst (λ (s : ScriptState). Progress c.args.script.now before old c.refill.new.self left c.flush.new.self w s) (sym c.in_default.ensures.1) going in
-    script-completes c.args.script.now c.answer_next.new.script c.answer_last.new.script before old w (g.W.Write.contents c.answer_last.new.writer) c.refill.new.self left c.flush.new.self now
-    (refill-end l.buffer c.skip_long.new.self c.refill.new.self (g.R.Read.remaining l.streams.input) left c.in_ok-refill.field-0 c.in_default.ensures.0 c.skip_long.ensures c.in_ok-refill.ensures.ok c.if-branch-eq0.true) c.in_ok-answer_last.ensures.ok
+    let old = g.W.Write.contents c.args.output.now.writer.now in
+    let w = g.W.Write.contents c.flush.new.self.writer.now in
+    let going = progress-read c.args.script.now l.script before old (g.W.Write.contents l.output.writer.now) w l.buffer c.skip_long.new.self c.refill.new.self (g.R.Read.remaining l.reader) left l.output.bytes.now.items c.flush.new.self.bytes.now.items c.in_ok-refill.field-0 l.invariant.0 c.in_default.ensures.0 c.in_ok-flush.ensures.ok c.skip_long.ensures c.in_ok-refill.ensures.ok in
+    let now = subst (λ (s : ScriptState). Progress c.args.script.now before old c.refill.new.self left c.flush.new.self.bytes.now.items w s) (sym c.in_default.ensures.1) going in
+    script-completes c.args.script.now c.answer_next.new.script c.answer_last.new.script before old w (g.W.Write.contents c.answer_last.new.output.writer.now) c.refill.new.self left c.flush.new.self.bytes.now.items now
+    (refill-end l.buffer c.skip_long.new.self c.refill.new.self (g.R.Read.remaining l.reader) left c.in_ok-refill.field-0 c.in_default.ensures.0 c.skip_long.ensures c.in_ok-refill.ensures.ok c.if-branch-eq0.true) c.in_ok-answer_last.ensures.ok
 
 pub loop-next-preserved-in_default : goal.loop-next-preserved-in_default
 loop-next-preserved-in_default g c =
     let l = c.loop-next in
-    let before = g.R.Read.remaining c.args.streams.now.input in
+    let before = g.R.Read.remaining c.args.reader.now in
     let left = g.R.Read.remaining c.refill.new.reader in
-    let old = g.W.Write.contents c.args.streams.now.output in
-    let w = g.W.Write.contents c.flush.new.writer in
-    let going = progress-read c.args.script.now l.script before old (g.W.Write.contents l.streams.output) w l.buffer c.skip_long.new.self c.refill.new.self (g.R.Read.remaining l.streams.input) left l.output c.flush.new.self c.in_ok-refill.field-0 l.invariant c.in_default.ensures.0 c.in_ok-flush.ensures.ok c.skip_long.ensures c.in_ok-refill.ensures.ok in
-    subst (λ (s : ScriptState). Progress c.args.script.now before old c.refill.new.self left c.flush.new.self w s) (sym c.in_default.ensures.1) going
+    let old = g.W.Write.contents c.args.output.now.writer.now in
+    let w = g.W.Write.contents c.flush.new.self.writer.now in
+    let going = progress-read c.args.script.now l.script before old (g.W.Write.contents l.output.writer.now) w l.buffer c.skip_long.new.self c.refill.new.self (g.R.Read.remaining l.reader) left l.output.bytes.now.items c.flush.new.self.bytes.now.items c.in_ok-refill.field-0 l.invariant.0 c.in_default.ensures.0 c.in_ok-flush.ensures.ok c.skip_long.ensures c.in_ok-refill.ensures.ok in
+    (subst (λ (s : ScriptState). Progress c.args.script.now before old c.refill.new.self left c.flush.new.self.bytes.now.items w s) (sym c.in_default.ensures.1) going,
+    c.flush.ensures.same_writer ∙ l.invariant.1)
 
 pub returns-in_err-print_line-clause-err : goal.returns-in_err-print_line-clause-err
 returns-in_err-print_line-clause-err g c =
     let p = err_from_is_err_and c.from_residual-in_err-print_line.result c.from_residual-in_err-print_line.ensures.1 in
     let l = c.loop-next in
     let n = c.in-Some.ensures in
-    rw (p.1, p.2) (broken-line c.args.script.now l.script c.answer_next.new.script (g.R.Read.remaining c.args.streams.now.input) (g.W.Write.contents c.args.streams.now.output) (g.W.Write.contents l.streams.output) (g.W.Write.contents c.print_line.new.writer) l.buffer (g.R.Read.remaining l.streams.input) l.output c.in-Some.next.taken n.line c.in-Some.next.answer
-    l.invariant n.ends n.answers c.in_err-print_line.ensures.err)
+    rw (p.1, p.2) (broken-line c.args.script.now l.script c.answer_next.new.script (g.R.Read.remaining c.args.reader.now) (g.W.Write.contents c.args.output.now.writer.now) (g.W.Write.contents l.output.writer.now) (g.W.Write.contents c.print_line.new.output.writer.now) l.buffer (g.R.Read.remaining l.reader) l.output.bytes.now.items c.in-Some.next.taken n.line c.in-Some.next.answer
+    l.invariant.0 n.ends n.answers c.in_err-print_line.ensures.err)
 
 pub loop-next-preserved : goal.loop-next-preserved
 loop-next-preserved g c =
     let l = c.loop-next in
     let n = c.in-Some.ensures in
     let held = subst (λ (k : ℕ). c.consume.new.self.bytes ≡ drop k l.buffer.bytes) c.in_ok-print_line.ensures.taken c.consume.ensures.bytes in
-    progress-line c.args.script.now l.script c.answer_next.new.script (g.R.Read.remaining c.args.streams.now.input) (g.W.Write.contents c.args.streams.now.output) (g.W.Write.contents l.streams.output) (g.W.Write.contents c.print_line.new.writer) l.buffer c.consume.new.self (g.R.Read.remaining l.streams.input) l.output c.print_line.new.output c.in-Some.next.taken n.line c.in-Some.next.answer
-    l.invariant n.ends n.answers c.in_ok-print_line.ensures.ok held c.consume.ensures.whole
+    (progress-line c.args.script.now l.script c.answer_next.new.script (g.R.Read.remaining c.args.reader.now) (g.W.Write.contents c.args.output.now.writer.now) (g.W.Write.contents l.output.writer.now) (g.W.Write.contents c.print_line.new.output.writer.now) l.buffer c.consume.new.self (g.R.Read.remaining l.reader) l.output.bytes.now.items c.print_line.new.output.bytes.now.items c.in-Some.next.taken n.line c.in-Some.next.answer
+    l.invariant.0 n.ends n.answers c.in_ok-print_line.ensures.ok held c.consume.ensures.whole,
+    c.print_line.ensures.same_writer ∙ l.invariant.1)
