@@ -1,5 +1,5 @@
 -- What calls can see of a node. A pending step doubles a table, or readies a bucket of one; so it changes nothing that a call can see.
-use Rattle.std.proofs.Common.{suc, ◌≡◌, ◌∙◌, ap, subst, refl, ℕ, Bool, true, false, List, [], ◌∷◌, Option, Some, None, Result, Ok, Err, cond}
+use Rattle.std.proofs.Common.{suc, ◌≡◌, ◌∙◌, ap, inl, inr, subst, sym, refl, ℕ, Bool, true, false, List, [], ◌∷◌, Option, Some, None, Result, Ok, Err, cond}
 use Rattle.std.specs.Prelude.{⊤, IfOk, OnErr, option_map, position, not, unwrap_or}
 use Rattle.std.specs.Option.{option_map_or}
 use Rattle.ets_term.specs.declared.term.Term.{Term}
@@ -7,12 +7,13 @@ use Rattle.ownership.specs.World.{Table, Tables, resolve}
 use Rattle.node_core.specs.State.{State, next_identifier}
 use Rattle.node_core.specs.Observable.{observable}
 use Rattle.node_core.specs.Machine.{step}
-use Rattle.node_core.specs.rules.Growth.{due, pending_from, pending_of, is_crowded}
+use Rattle.node_core.specs.rules.Growth.{due, pending_from, pending_of, is_crowded, step_on_buckets}
 use Rattle.node_core.proofs.buckets.ObservableTables.{length-observable, resolve-observable}
 use Rattle.node_core.specs.declared.step.Reply.{Reply}
 use Rattle.node_core.specs.declared.step.Step.{Step}
 use Rattle.node_core.specs.declared.step.Step.TheVariants.{Enrol, End, Ask, Grow, Ready}
 use Rattle.ets_script.specs.Script.{table_of}
+use Rattle.ets_script.specs.inside.Growth.{RunsPending}
 
 abbrev IsGrowth : Step → Type 0
 IsGrowth (Grow t) = ⊤
@@ -54,6 +55,11 @@ nothing-seen old new (Ask p call) r h made = absurd h
 pub pending_step-unseen : {E : Type 0} (old new : State) (e : Step) (done : Result Reply E) → due old ≡ Some e → IfOk done (λ r. step (observable old) e r (observable new)) → OnErr done (new ≡ old) → observable new ≡ observable old
 pending_step-unseen old new e (Ok r) is made failed = nothing-seen (observable old) (observable new) e r (due-from-growth 0 old.world.tables e is) made
 pending_step-unseen old new e (Err f) is made failed = ap observable failed
+
+-- a due step is made, or stays pending where there is no memory for it
+pub pending_step-run : {E : Type 0} (old new : State) (e : Step) (done : Result Reply E) → due old ≡ Some e → IfOk done (λ r. step_on_buckets old e r new) → OnErr done (new ≡ old) → RunsPending (due old) old new
+pending_step-run old new e (Ok r) is made failed = subst (λ (o : Option Step). RunsPending o old new) (sym is) (inl (r, made))
+pending_step-run old new e (Err f) is made failed = subst (λ (o : Option Step). RunsPending o old new) (sym is) (inr failed)
 
 -- the table that a term names is the same in the observable state, and so is the next identifier
 pub table-seen : (names : List (List ℕ)) (n : State) (t : Term) → table_of (record { names = names; node = observable n }) t ≡ unwrap_or (resolve n.world.tables t) (next_identifier n)

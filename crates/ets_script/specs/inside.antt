@@ -4,9 +4,11 @@ pub mod Answered
 pub mod Parsing
 pub mod Codes
 pub mod Enrolments
+pub mod Growth
 pub mod PlanCodes
 pub mod Planning
 pub mod Journal
 pub mod Processes
 pub mod Options
 pub mod Explanations
+pub mod Reasons

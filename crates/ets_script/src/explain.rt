@@ -1,8 +1,6 @@
 //! Why a line was refused.
-ghost use Rattle.std.specs.Prelude.{◌≡◌, IfOk};
-ghost use Rattle.node_core.specs.State.{State};
-ghost use Rattle.node_core.specs.Machine.{step};
-ghost use Rattle.ets_script.specs.inside.Explanations.{Explains, reason_of_step};
+ghost use Rattle.std.specs.Prelude.{IfOk};
+ghost use Rattle.ets_script.specs.inside.Explanations.{Explains, ExplainsCommand, ExplainsStep};
 
 use crate::answer::Answer;
 use crate::command::{Command, read_command};
@@ -20,7 +18,7 @@ pub fn explain<'a, H: KeyHash + Copy + Drop>(
     line: &'a [u8],
     answer: &Answer,
 ) -> Result<Option<Diagnostic<'a>>, AllocError>
-    ensures { IfOk result (Explains line.now answer.now) }
+    ensures { IfOk result (Explains script.now line.now answer.now) }
 {
     match answer {
         Answer::Silent => Ok(None),
@@ -41,7 +39,9 @@ fn explain_command<'a, H: KeyHash + Copy + Drop>(
     script: &Script<H>,
     command: Command<'a>,
     reply: &Reply,
-) -> Option<Diagnostic<'a>> {
+) -> Option<Diagnostic<'a>>
+    ensures { ExplainsCommand script.now command.entry reply.now result }
+{
     match command {
         Command::Faulty(_) => None,
         Command::Spawn(name) => match script.pid(name) {
@@ -72,8 +72,7 @@ fn explain_step<'a, H: KeyHash + Copy + Drop>(
     event: Step,
     reply: &Reply,
 ) -> Option<Diagnostic<'a>>
-    ensures { (new : State) → step script.now.node event reply.now new
-        → result ≡ reason_of_step script.now.node event reply.now }
+    ensures { ExplainsStep script.now.node event reply.now result }
 {
     let reason = why(script.node(), &event, reply)?;
     Some(Diagnostic::Broken(event, reason))

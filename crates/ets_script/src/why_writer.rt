@@ -1,5 +1,9 @@
 //! Reasons of refused lines, for a second writer.
-ghost use Rattle.std.specs.Prelude.{◌≡◌, ◌+◌, ◌-◌, ◌<◌, ◌^◌};
+ghost use Rattle.std.specs.Prelude.{◌≡◌, ◌+◌, ◌-◌, ◌<◌, ◌^◌, ◌⊎◌, false, OnOk, OnErr};
+ghost use Rattle.script_reasons.specs.Diagnostics.{diagnostic_text};
+ghost use Rattle.ets_script.specs.inside.Explanations.{Explains};
+ghost use Rattle.ets_script.specs.inside.Output.{HasWriterOf};
+ghost use Rattle.ets_script.specs.inside.Reasons.{KeepsOutput, WritesAll, WritesText, WritesWhy, reason_line};
 
 use crate::answer::Answer;
 use crate::explain::explain;
@@ -8,7 +12,7 @@ use crate::output::Output;
 use crate::script::Script;
 use ets_term::KeyHash;
 use script_reasons::Diagnostic;
-use std::alloc::Global;
+use std::alloc::{AllocError, Global};
 use std::io::Write;
 
 /// Writes for each refused line, by its number, why it was refused. Once the writer has failed, it writes no more.
@@ -24,7 +28,9 @@ pub struct WhyWriter<'a, E> {
 impl<'a, E: Write> WhyWriter<'a, E> {
     /// Creates the observer, before any line.
     pub fn new(alloc: Global, output: Output<'a, E>) -> WhyWriter<'a, E>
-        ensures { result.lines ≡ 0 }
+        ensures lines { result.lines ≡ 0 }
+        ensures output { result.output ≡ output.entry }
+        ensures working { result.has_failed ≡ false }
     {
         WhyWriter {
             alloc,
@@ -38,18 +44,54 @@ impl<'a, E: Write> WhyWriter<'a, E> {
     fn next_number(&mut self) -> u64
         ensures number { self.old.lines < 2 ^ 64 - 1 → result ≡ self.old.lines + 1 }
         ensures lines { self.new.lines ≡ result }
+        ensures same_output { self.new.output ≡ self.old.output }
+        ensures same_state { self.new.has_failed ≡ self.old.has_failed }
     {
         self.lines = self.lines.saturating_add(1);
         self.lines
     }
 
-    /// Writes the reason of this line.
-    fn write_reason(&mut self, number: u64, diagnostic: &Diagnostic<'_>) {
-        let Ok(text) = format!(in self.alloc; "line {number}: {diagnostic}\n") else {
-            return;
-        };
+    /// Writes the reason of this line. Without memory for its text, nothing changes.
+    fn write_reason(&mut self, number: u64, diagnostic: &Diagnostic<'_>) -> Result<(), AllocError>
+        ensures same_lines { self.new.lines ≡ self.old.lines }
+        ensures same_writer { HasWriterOf self.old.output self.new.output }
+        ensures ok { OnOk result (WritesText E.contents self.old self.new
+            (reason_line number (diagnostic_text diagnostic.now))) }
+        ensures err { OnErr result (self.new ≡ self.old) }
+    {
+        let text = format!(in self.alloc; "line {number}: {diagnostic}\n")?;
+        self.write_text(text.as_bytes());
+        Ok(())
+    }
+
+    /// Writes this text.
+    fn write_text(&mut self, text: &[u8])
+        ensures same_lines { self.new.lines ≡ self.old.lines }
+        ensures same_writer { HasWriterOf self.old.output self.new.output }
+        ensures text { WritesText E.contents self.old self.new text.now }
+    {
         if !self.has_failed {
-            self.has_failed = self.output.add(text.as_bytes()).is_err();
+            self.has_failed = self.output.add(text).is_err();
+        }
+    }
+
+    /// Writes why this line was refused, or nothing if it was not. Without memory for that, nothing changes.
+    fn write_why<H: KeyHash + Copy + Drop>(
+        &mut self,
+        number: u64,
+        script: &Script<H>,
+        line: &[u8],
+        answer: &Answer,
+    ) -> Result<(), AllocError>
+        ensures same_lines { self.new.lines ≡ self.old.lines }
+        ensures same_writer { HasWriterOf self.old.output self.new.output }
+        ensures ok { OnOk result (WritesWhy E.contents self.old self.new number
+            (Explains script.now line.now answer.now)) }
+        ensures err { OnErr result (self.new ≡ self.old) }
+    {
+        match explain(script, line, answer)? {
+            Some(diagnostic) => self.write_reason(number, &diagnostic),
+            None => Ok(()),
         }
     }
 }
@@ -60,14 +102,21 @@ impl<E: Write> Observer for WhyWriter<'_, E> {
         script: &Script<H>,
         line: &[u8],
         answer: &Answer,
-    ) {
+    )
+        ensures lines { self.old.lines < 2 ^ 64 - 1 → self.new.lines ≡ self.old.lines + 1 }
+        ensures same_writer { HasWriterOf self.old.output self.new.output }
+        ensures text { WritesWhy E.contents self.old self.new self.new.lines
+            (Explains script.now line.now answer.now) ⊎ KeepsOutput self.old self.new }
+    {
         let number = self.next_number();
-        if let Ok(Some(diagnostic)) = explain(script, line, answer) {
-            self.write_reason(number, &diagnostic);
-        }
+        let _ = self.write_why(number, script, line, answer);
     }
 
-    fn flush(&mut self) {
+    fn flush(&mut self)
+        ensures same_lines { self.new.lines ≡ self.old.lines }
+        ensures same_writer { HasWriterOf self.old.output self.new.output }
+        ensures text { WritesAll E.contents self.old self.new }
+    {
         if !self.has_failed {
             self.has_failed = self.output.flush().is_err();
         }

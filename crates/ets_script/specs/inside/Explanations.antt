@@ -1,24 +1,68 @@
 -- What private contracts say of why a line was refused.
-use Rattle.std.specs.Prelude.{◌≡◌, ℕ, List, true, Option, Some, None, option_map}
+use Rattle.std.specs.Prelude.{◌≡◌, ℕ, ◌-◌, ◌^◌, min, length, List, Bool, true, false, Option, Some, None, option_map}
 use Rattle.node_core.specs.State.{State}
+use Rattle.node_core.specs.Machine.{step}
 use Rattle.node_core.specs.declared.step.Reply.{Reply}
 use Rattle.node_core.specs.declared.step.Step.{Step}
+use Rattle.node_core.specs.declared.step.Step.TheVariants.{Enrol, End, Ask, Grow, Ready}
 use Rattle.node_core.specs.rules.Replies.{is_value}
 use Rattle.node_reasons.specs.Why.{why}
 use Rattle.script_reasons.specs.declared.diagnostic.Diagnostic.{Diagnostic}
 use Rattle.script_reasons.specs.declared.diagnostic.Diagnostic.TheVariants as diagnostic
 use Rattle.script_reasons.specs.SyntaxProblems.{diagnose_at}
+use Rattle.ets_script.specs.Commands as spec
+use Rattle.ets_script.specs.Script.{ScriptState, pid_of, table_of}
 use Rattle.ets_script.specs.declared.answer.Answer.{Answer}
-use Rattle.ets_script.specs.declared.answer.Answer.TheVariants.{Silent, Replied, NoMemory, Syntax, TooLong}
-
--- the reason of a line by its answer: none if it was not refused, and for a syntax error what is at its fault
-abbrev pub Explains : List ℕ → Answer → Option Diagnostic → Type 0
-Explains line Silent said = said ≡ None
-Explains line (Replied reply) said = is_value reply ≡ true → said ≡ None
-Explains line NoMemory said = said ≡ Some diagnostic.NoMemory
-Explains line (Syntax at) said = said ≡ Some (diagnostic.Faulty at (diagnose_at line at))
-Explains line TooLong said = said ≡ Some diagnostic.TooLong
+use Rattle.ets_script.specs.declared.answer.Answer.TheVariants as answer
+use Rattle.ets_script.specs.declared.command.Command.{Command}
+use Rattle.ets_script.specs.declared.command.Command.TheVariants as command
+use Rattle.ets_script.specs.inside.Parsing.{command_view}
 
 -- the reason of a step: the rule that it breaks
 abbrev pub reason_of_step : State → Step → Reply → Option Diagnostic
 reason_of_step s event reply = option_map (diagnostic.Broken event) (why s event reply)
+
+-- if the machine can give a step this reply, the reason is that of the step
+abbrev pub ExplainsStep : State → Step → Reply → Option Diagnostic → Type 0
+ExplainsStep s event reply said = (new : State) → step s event reply new → said ≡ reason_of_step s event reply
+
+-- the reason of a step of the process with a name; a name that was never spawned has one of its own
+abbrev pub ExplainsStepOf : Option ℕ → (ℕ → Step) → Diagnostic → State → Reply → Option Diagnostic → Type 0
+ExplainsStepOf None event unknown s reply said = said ≡ Some unknown
+ExplainsStepOf (Some p) event unknown s reply said = ExplainsStep s (event p) reply said
+
+-- the reason of a step of no process; a name that was already spawned has one of its own
+abbrev pub ExplainsSpawn : Option ℕ → Step → Diagnostic → State → Reply → Option Diagnostic → Type 0
+ExplainsSpawn None event known s reply said = ExplainsStep s event reply said
+ExplainsSpawn (Some p) event known s reply said = said ≡ Some known
+
+-- the enrolment of the next name
+abbrev pub next_enrolment : ScriptState → Step
+next_enrolment s = Enrol (min (length s.names) (2 ^ 32 - 1))
+
+-- the reason of a command that was refused with this reply
+abbrev pub ExplainsCommand : ScriptState → Command → Reply → Option Diagnostic → Type 0
+ExplainsCommand s (command.Faulty at) reply said = said ≡ None
+ExplainsCommand s (command.Spawn name) reply said =
+    ExplainsSpawn (pid_of s name.now) (next_enrolment s) (diagnostic.AlreadySpawned name) s.node reply said
+ExplainsCommand s (command.Exit name) reply said =
+    ExplainsStepOf (pid_of s name.now) (λ p. End p) (diagnostic.ExitOfUnknownName name) s.node reply said
+ExplainsCommand s (command.Ask name word terms) reply said =
+    ExplainsStepOf (pid_of s name.now) (λ p. Ask p (record { name = word; args = terms }))
+    (diagnostic.CallByUnknownName name (record { name = word; args = terms })) s.node reply said
+ExplainsCommand s (command.Grow t) reply said = ExplainsStep s.node (Grow (table_of s t)) reply said
+ExplainsCommand s (command.Ready t bucket) reply said = ExplainsStep s.node (Ready (table_of s t) bucket) reply said
+
+-- the reason of a line with this reply: none for a value, else that of its command
+abbrev pub ExplainsReply : Bool → ScriptState → List ℕ → Reply → Option Diagnostic → Type 0
+ExplainsReply true s line reply said = said ≡ None
+ExplainsReply false s line reply said =
+    (c : Command) × (command_view c ≡ spec.command line) × ExplainsCommand s c reply said
+
+-- the reason of a line by its answer: none if it was not refused, and for a syntax error what is at its fault
+abbrev pub Explains : ScriptState → List ℕ → Answer → Option Diagnostic → Type 0
+Explains s line answer.Silent said = said ≡ None
+Explains s line (answer.Replied reply) said = ExplainsReply (is_value reply) s line reply said
+Explains s line answer.NoMemory said = said ≡ Some diagnostic.NoMemory
+Explains s line (answer.Syntax at) said = said ≡ Some (diagnostic.Faulty at (diagnose_at line at))
+Explains s line answer.TooLong said = said ≡ Some diagnostic.TooLong
