@@ -2,6 +2,7 @@
 use Rattle.std.proofs.Common.{◌≡◌, ℕ, List, ◌++◌, ap, ◌∙◌, subst, Option}
 use Rattle.std.specs.Io.KnownBytes.{Appends}
 use Rattle.node_core.specs.declared.limits.Limits.{Limits}
+use Rattle.ets_script.specs.Flows.{both_flows}
 use Rattle.ets_script.specs.Threads.{ThreadsText, ThreadsEnd, ThreadsStop, threads_text}
 use Rattle.ets_script.specs.inside.Journal.{out_text}
 use Rattle.ets_script.specs.inside.Output.{Breaks}
@@ -24,15 +25,15 @@ is-text limits before after planned run r = record {
   prints = ap (λ a. threads_text a planned.names run.entries.items run.left.items) r.answers ∙ ap (λ n. threads_text r.plan.answers n run.entries.items run.left.items) r.names;
 }
 
-pub threads-end : (limits : Limits) (before after old new : Option (List ℕ)) (planned : PlannedAnswers) (run : RunResult) → RunsInput limits (between before after) planned run → Appends old new (out_text planned run) → ThreadsEnd limits (between before after) (between old new)
+pub threads-end : (limits : Limits) (before after old new : Option (List ℕ)) (planned : PlannedAnswers) (run : RunResult) → RunsInput limits (between before after) planned run → Appends old new (out_text planned run) → ThreadsEnd limits (both_flows (between before after) (between old new))
 threads-end limits before after old new planned run r written = (r.input, out_text planned run, r.consumed, r.end, written, is-text limits before after planned run r)
 
-pub threads-write_fault : (limits : Limits) (before after old new : Option (List ℕ)) (planned : PlannedAnswers) (run : RunResult) → RunsInput limits (between before after) planned run → Breaks (between old new) (out_text planned run) → ThreadsStop limits (between before after) (between old new) Write
+pub threads-write_fault : (limits : Limits) (before after old new : Option (List ℕ)) (planned : PlannedAnswers) (run : RunResult) → RunsInput limits (between before after) planned run → Breaks (between old new) (out_text planned run) → ThreadsStop limits (both_flows (between before after) (between old new)) Write
 threads-write_fault limits before after old new planned run r b =
     (r.input, b.sent, b.unsent, r.consumed, r.end, b.written, subst (λ (k : List ℕ). ThreadsText limits r.input k) b.parts (is-text limits before after planned run r))
 
 -- it stopped before anything was printed
-pub threads-stop : (limits : Limits) (before after old : Option (List ℕ)) (fault : ScriptFault) → Stops limits fault → ThreadsStop limits (between before after) (between old old) fault
+pub threads-stop : (limits : Limits) (before after old : Option (List ℕ)) (fault : ScriptFault) → Stops limits fault → ThreadsStop limits (both_flows (between before after) (between old old)) fault
 threads-stop limits before after old Read s = appends-same old
 threads-stop limits before after old Write s = absurd s
 threads-stop limits before after old Memory s = appends-same old

@@ -15,7 +15,7 @@ use Rattle.node_shared.specs.Closing.{Closes}
 use Rattle.node_shared.specs.Journal.{IsRun, of, has_entries, process_of}
 use Rattle.node_shared.specs.Records.{RecordState}
 use Rattle.node_shared.specs.Working.{job_step}
-use Rattle.ets_script.specs.Flows.{Flow}
+use Rattle.ets_script.specs.Flows.{Flows}
 use Rattle.ets_script.specs.Lines.{Line, IsCutInto}
 use Rattle.ets_script.specs.Plan.{PlanState, empty_plan, lines_plan}
 use Rattle.ets_script.specs.Replies.{printed, reply_text}
@@ -80,11 +80,11 @@ pub record ThreadsText (limits : Limits) (input output : List ℕ) : Type 0 wher
   pub prints : output ≡ threads_text plan.answers plan.names done left
 
 -- the reader had all of a script, which was read to its end, and all that it prints was written
-abbrev pub ThreadsEnd : Limits → Flow → Flow → Type 0
-ThreadsEnd limits reader writer =
+abbrev pub ThreadsEnd : Limits → Flows → Type 0
+ThreadsEnd limits streams =
     (input : List ℕ) × (output : List ℕ)
-    × Consumes reader.before reader.after input × IsAtEnd reader.after
-    × Appends writer.before writer.after output × ThreadsText limits input output
+    × Consumes streams.reader.before streams.reader.after input × IsAtEnd streams.reader.after
+    × Appends streams.writer.before streams.writer.after output × ThreadsText limits input output
 
 -- the journal of a run of the node, compared with the records of its clients, shows this fault
 abbrev pub IsUnclosed : Limits → CloseFault → Type 0
@@ -92,24 +92,24 @@ IsUnclosed limits fault = (clients : List RecordState) × Closes limits clients 
 
 -- At a write fault a prefix of the text of a whole script was written. At any other nothing was. A process differs, or
 -- is missing, only where the journal of a run of the node and the records of its clients say so.
-abbrev pub ThreadsStop : Limits → Flow → Flow → ScriptFault → Type 0
-ThreadsStop limits reader writer Write =
+abbrev pub ThreadsStop : Limits → Flows → ScriptFault → Type 0
+ThreadsStop limits streams Write =
     (input : List ℕ) × (output : List ℕ) × (unsent : List ℕ)
-    × Consumes reader.before reader.after input × IsAtEnd reader.after
-    × Appends writer.before writer.after output × ThreadsText limits input (output ++ unsent)
-ThreadsStop limits reader writer Read = Appends writer.before writer.after []
-ThreadsStop limits reader writer Memory = Appends writer.before writer.after []
-ThreadsStop limits reader writer (Differs p) =
-    Appends writer.before writer.after [] × IsUnclosed limits (close.Differs p)
-ThreadsStop limits reader writer (Missing p) =
-    Appends writer.before writer.after [] × IsUnclosed limits (close.Missing p)
+    × Consumes streams.reader.before streams.reader.after input × IsAtEnd streams.reader.after
+    × Appends streams.writer.before streams.writer.after output × ThreadsText limits input (output ++ unsent)
+ThreadsStop limits streams Read = Appends streams.writer.before streams.writer.after []
+ThreadsStop limits streams Memory = Appends streams.writer.before streams.writer.after []
+ThreadsStop limits streams (Differs p) =
+    Appends streams.writer.before streams.writer.after [] × IsUnclosed limits (close.Differs p)
+ThreadsStop limits streams (Missing p) =
+    Appends streams.writer.before streams.writer.after [] × IsUnclosed limits (close.Missing p)
 
 -- the program's status: 0 after a whole script, else 1
-abbrev pub ThreadsStatus : Limits → Flow → Flow → ℕ → Type 0
-ThreadsStatus limits reader writer status =
-    ((status ≡ 0) × ThreadsEnd limits reader writer)
-    ⊎ ((status ≡ 1) × (fault : ScriptFault) × ThreadsStop limits reader writer fault)
+abbrev pub ThreadsStatus : Limits → Flows → ℕ → Type 0
+ThreadsStatus limits streams status =
+    ((status ≡ 0) × ThreadsEnd limits streams)
+    ⊎ ((status ≡ 1) × (fault : ScriptFault) × ThreadsStop limits streams fault)
 
 -- the same with the usual limits, with this number of objects in one table
-abbrev pub ProgramThreads : ℕ → Flow → Flow → ℕ → Type 0
+abbrev pub ProgramThreads : ℕ → Flows → ℕ → Type 0
 ProgramThreads objects = ThreadsStatus (usual objects)

@@ -1,7 +1,7 @@
 //! The program, from its options to its status.
 ghost use Rattle.std.specs.Prelude.{◌≡◌, false, true, IfOk, OnOk, IfErr};
 ghost use Rattle.ets_script.specs.CommandLine.{limits_of};
-ghost use Rattle.ets_script.specs.Flows.{flow};
+ghost use Rattle.ets_script.specs.Flows.{flows};
 ghost use Rattle.ets_script.specs.Script.{ScriptState, at_start};
 ghost use Rattle.ets_script.specs.Stops.{Completes, EndsWithin, ProgramEnds, Stops};
 ghost use Rattle.ets_script.specs.Threads.{ThreadsEnd, ThreadsStop, ThreadsStatus, ProgramThreads};
@@ -29,11 +29,9 @@ pub fn answer_input<T: Threads + Wait + Sync, R: Read, W: Write, E: Write>(
     errors: &mut E,
 ) -> io::Result<u8>
     ensures alone { settings.now.threads ≡ false → IfOk result (ProgramEnds settings.now.objects
-        (flow R.remaining streams.old.input streams.new.input)
-        (flow W.contents streams.old.output streams.new.output)) }
+        (flows R.remaining W.contents streams.old streams.new)) }
     ensures threads { settings.now.threads ≡ true → IfOk result (ProgramThreads settings.now.objects
-        (flow R.remaining streams.old.input streams.new.input)
-        (flow W.contents streams.old.output streams.new.output)) }
+        (flows R.remaining W.contents streams.old streams.new)) }
 {
     let request = usual_request(settings);
     answer_request(rt, alloc, &request, streams, errors)
@@ -48,8 +46,7 @@ pub fn answer_alone<R: Read, W: Write, E: Write>(
     errors: &mut E,
 ) -> io::Result<u8>
     ensures { IfOk result (ProgramEnds settings.now.objects
-        (flow R.remaining streams.old.input streams.new.input)
-        (flow W.contents streams.old.output streams.new.output)) }
+        (flows R.remaining W.contents streams.old streams.new)) }
 {
     let request = usual_request(settings);
     answer_lines(alloc, &request, streams, errors)
@@ -79,12 +76,10 @@ pub fn answer_request<T: Threads + Wait + Sync, R: Read, W: Write, E: Write>(
 ) -> io::Result<u8>
     ensures alone { request.now.settings.threads ≡ false →
         IfOk result (EndsWithin (limits_of request.now)
-        (flow R.remaining streams.old.input streams.new.input)
-        (flow W.contents streams.old.output streams.new.output)) }
+        (flows R.remaining W.contents streams.old streams.new)) }
     ensures threads { request.now.settings.threads ≡ true →
         IfOk result (ThreadsStatus (limits_of request.now)
-        (flow R.remaining streams.old.input streams.new.input)
-        (flow W.contents streams.old.output streams.new.output)) }
+        (flows R.remaining W.contents streams.old streams.new)) }
 {
     if request.settings.threads {
         answer_in_threads(rt, alloc, request, streams, errors)
@@ -101,8 +96,7 @@ fn answer_lines<R: Read, W: Write, E: Write>(
     errors: &mut E,
 ) -> io::Result<u8>
     ensures { IfOk result (EndsWithin (limits_of request.now)
-        (flow R.remaining streams.old.input streams.new.input)
-        (flow W.contents streams.old.output streams.new.output)) }
+        (flows R.remaining W.contents streams.old streams.new)) }
 {
     if request.settings.same {
         answer_by(alloc, request, AllSame, streams, errors)
@@ -120,8 +114,7 @@ fn answer_by<H: KeyHash + Copy + Drop, R: Read, W: Write, E: Write>(
     errors: &mut E,
 ) -> io::Result<u8>
     ensures { IfOk result (EndsWithin (limits_of request.now)
-        (flow R.remaining streams.old.input streams.new.input)
-        (flow W.contents streams.old.output streams.new.output)) }
+        (flows R.remaining W.contents streams.old streams.new)) }
 {
     match run_lines(alloc, request, hasher, streams, errors) {
         Ok(_) => Ok(0),
@@ -138,11 +131,9 @@ fn run_lines<H: KeyHash + Copy + Drop, R: Read, W: Write, E: Write>(
     errors: &mut E,
 ) -> Result<Node<H>, ScriptFault>
     ensures ok { OnOk result ((end : ScriptState) × Completes (at_start (limits_of request.now)) end
-        (flow R.remaining streams.old.input streams.new.input)
-        (flow W.contents streams.old.output streams.new.output)) }
+        (flows R.remaining W.contents streams.old streams.new)) }
     ensures err { IfErr result (Stops (at_start (limits_of request.now))
-        (flow R.remaining streams.old.input streams.new.input)
-        (flow W.contents streams.old.output streams.new.output)) }
+        (flows R.remaining W.contents streams.old streams.new)) }
 {
     let settings = NodeSettings {
         limits: limits_of(request),
@@ -172,8 +163,7 @@ fn answer_in_threads<T: Threads + Wait + Sync, R: Read, W: Write, E: Write>(
     errors: &mut E,
 ) -> io::Result<u8>
     ensures { IfOk result (ThreadsStatus (limits_of request.now)
-        (flow R.remaining streams.old.input streams.new.input)
-        (flow W.contents streams.old.output streams.new.output)) }
+        (flows R.remaining W.contents streams.old streams.new)) }
 {
     match run_by(rt, alloc, request, streams) {
         Ok(()) => Ok(0),
@@ -189,11 +179,9 @@ fn run_by<T: Threads + Wait + Sync, R: Read, W: Write>(
     streams: &mut Streams<R, W>,
 ) -> Result<(), ScriptFault>
     ensures ok { OnOk result (ThreadsEnd (limits_of request.now)
-        (flow R.remaining streams.old.input streams.new.input)
-        (flow W.contents streams.old.output streams.new.output)) }
+        (flows R.remaining W.contents streams.old streams.new)) }
     ensures err { IfErr result (ThreadsStop (limits_of request.now)
-        (flow R.remaining streams.old.input streams.new.input)
-        (flow W.contents streams.old.output streams.new.output)) }
+        (flows R.remaining W.contents streams.old streams.new)) }
 {
     let limits = limits_of(request);
     if request.settings.same {

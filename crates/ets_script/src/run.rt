@@ -1,7 +1,7 @@
 //! A script from its first line to its last.
 ghost use Rattle.std.specs.Prelude.{◌≡◌, [], false, IfOk, IfErr, OnOk, OnErr};
 ghost use Rattle.node_core.specs.Observable.{observable};
-ghost use Rattle.ets_script.specs.Flows.{flow};
+ghost use Rattle.ets_script.specs.Flows.{both_flows, flow, flows};
 ghost use Rattle.ets_script.specs.Numbers.{AreTheNumbers};
 ghost use Rattle.ets_script.specs.Replies.{printed};
 ghost use Rattle.ets_script.specs.Script.{at_start};
@@ -35,11 +35,9 @@ pub fn run_script<R: Read, W: Write, H: KeyHash + Copy + Drop>(
     settings: NodeSettings<H>,
 ) -> Result<Node<H>, ScriptFault>
     ensures ok { IfOk result (λ node. LeavesNode (at_start settings.limits) (observable node)
-        (flow R.remaining streams.old.input streams.new.input)
-        (flow W.contents streams.old.output streams.new.output)) }
+        (flows R.remaining W.contents streams.old streams.new)) }
     ensures err { IfErr result (Stops (at_start settings.limits)
-        (flow R.remaining streams.old.input streams.new.input)
-        (flow W.contents streams.old.output streams.new.output)) }
+        (flows R.remaining W.contents streams.old streams.new)) }
     ensures numbers { AreTheNumbers }
 {
     run_within(alloc, streams, settings, MAX_READS)
@@ -53,11 +51,9 @@ pub fn run_within<R: Read, W: Write, H: KeyHash + Copy + Drop>(
     reads: u32,
 ) -> Result<Node<H>, ScriptFault>
     ensures ok { IfOk result (λ node. LeavesNode (at_start settings.limits) (observable node)
-        (flow R.remaining streams.old.input streams.new.input)
-        (flow W.contents streams.old.output streams.new.output)) }
+        (flows R.remaining W.contents streams.old streams.new)) }
     ensures err { IfErr result (Stops (at_start settings.limits)
-        (flow R.remaining streams.old.input streams.new.input)
-        (flow W.contents streams.old.output streams.new.output)) }
+        (flows R.remaining W.contents streams.old streams.new)) }
 {
     let script = Script::new(alloc, settings.limits, settings.hasher);
     run_with(streams, script, reads, &mut NoObserver)
@@ -72,11 +68,9 @@ pub fn run_script_with_reasons<R: Read, W: Write, E: Write, H: KeyHash + Copy + 
     settings: NodeSettings<H>,
 ) -> Result<Node<H>, ScriptFault>
     ensures ok { IfOk result (λ node. LeavesNode (at_start settings.limits) (observable node)
-        (flow R.remaining streams.old.input streams.new.input)
-        (flow W.contents streams.old.output streams.new.output)) }
+        (flows R.remaining W.contents streams.old streams.new)) }
     ensures err { IfErr result (Stops (at_start settings.limits)
-        (flow R.remaining streams.old.input streams.new.input)
-        (flow W.contents streams.old.output streams.new.output)) }
+        (flows R.remaining W.contents streams.old streams.new)) }
 {
     let Ok(mut bytes) = output_buffer(alloc) else {
         return Err(ScriptFault::Memory);
@@ -96,11 +90,9 @@ fn run_with<R: Read, W: Write, H: KeyHash + Copy + Drop, L: Observer>(
     observer: &mut L,
 ) -> Result<Node<H>, ScriptFault>
     ensures ok { IfOk result (λ node. LeavesNode script (observable node)
-        (flow R.remaining streams.old.input streams.new.input)
-        (flow W.contents streams.old.output streams.new.output)) }
+        (flows R.remaining W.contents streams.old streams.new)) }
     ensures err { IfErr result (Stops script
-        (flow R.remaining streams.old.input streams.new.input)
-        (flow W.contents streams.old.output streams.new.output)) }
+        (flows R.remaining W.contents streams.old streams.new)) }
 {
     let alloc = script.allocator();
     let Ok(mut buffer) = LineBuffer::new(alloc, reads) else {
@@ -132,9 +124,11 @@ fn answer_all<R: Read, W: Write, H: KeyHash + Copy + Drop, L: Observer>(
     requires held { (buffer.old.bytes ≡ []) × (buffer.old.is_skipping ≡ false) }
     ensures same_writer { HasWriterOf output.old output.new }
     ensures ok { OnOk result (Completes script.old script.new
-        (flow R.remaining reader.old reader.new) (writer_flow W.contents output.old output.new)) }
+        (both_flows (flow R.remaining reader.old reader.new)
+        (writer_flow W.contents output.old output.new))) }
     ensures err { IfErr result (Stops script.old
-        (flow R.remaining reader.old reader.new) (writer_flow W.contents output.old output.new)) }
+        (both_flows (flow R.remaining reader.old reader.new)
+        (writer_flow W.contents output.old output.new))) }
 {
     loop {
         let Some(next) = answer_next(buffer, script, observer) else {

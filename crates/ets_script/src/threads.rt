@@ -1,7 +1,7 @@
 //! A script whose processes run in threads of their own.
 ghost use Rattle.std.specs.Prelude.{◌≡◌, min, IfOk, IfErr, OnOk};
 ghost use Rattle.node_shared.specs.declared.pids.TheConstants.{MAX_PIDS};
-ghost use Rattle.ets_script.specs.Flows.{flow};
+ghost use Rattle.ets_script.specs.Flows.{flow, flows};
 ghost use Rattle.ets_script.specs.Numbers.{AreTheNumbers};
 ghost use Rattle.ets_script.specs.Threads.{ThreadsEnd, ThreadsStop};
 ghost use Rattle.ets_script.specs.inside.Processes.{RunsInput, Stops};
@@ -37,11 +37,9 @@ pub fn run_threads<
     settings: NodeSettings<H>,
 ) -> Result<(), ScriptFault>
     ensures ok { OnOk result (ThreadsEnd settings.limits
-        (flow R.remaining streams.old.input streams.new.input)
-        (flow W.contents streams.old.output streams.new.output)) }
+        (flows R.remaining W.contents streams.old streams.new)) }
     ensures err { IfErr result (ThreadsStop settings.limits
-        (flow R.remaining streams.old.input streams.new.input)
-        (flow W.contents streams.old.output streams.new.output)) }
+        (flows R.remaining W.contents streams.old streams.new)) }
     ensures numbers { AreTheNumbers }
 {
     let Ok(mut bytes) = output_buffer(alloc) else {
