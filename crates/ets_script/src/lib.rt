@@ -5,8 +5,8 @@
 //! has answered all whole lines before, or a prefix of their answers if a write failed. A law ties the parser of lines
 //! to the table of line forms in docs/script.md.
 //!
-//! *Weakness.* Only tests show that answers are flushed before each read, what `refuse` prints, and what
-//! `run_script_with_reasons` prints about refused lines, except for the reason of a step.
+//! *Weakness.* Only tests show that answers are flushed before each read, what `refuse` prints, and that
+//! `run_script_with_reasons` reports each refused line. Private contracts say which text it writes for one.
 //!
 //! *Mechanism.* Bytes are read in pieces. A line is found by `memchr`, parsed once from left to right, executed, and
 //! answered into a buffer, which is written before the next read.
