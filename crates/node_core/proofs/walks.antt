@@ -5,8 +5,8 @@ pub mod OthersRuns
 pub mod OthersSteps
 pub mod Replying
 pub mod Weaving
+pub mod Answering
 pub mod Turns
-pub mod WalkBuckets
 pub mod WalkEnds
 pub mod WalkParts
 mod Examples

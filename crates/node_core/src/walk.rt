@@ -2,10 +2,9 @@
 ghost use Rattle.std.specs.Prelude.{◌≡◌, ◌+◌, ℕ, [], List, vec_len, Some, Ok, OnOk, OnErr};
 ghost use Rattle.ets_term.specs.declared.term.Term as term;
 ghost use Rattle.node_core.specs.declared.step.Step as event;
-ghost use Rattle.node_core.specs.Observable.{observable};
 ghost use Rattle.node_core.specs.State.{State};
 ghost use Rattle.node_core.specs.Woven.{AddsTurn, WalksAmong};
-ghost use Rattle.node_core.specs.inside.Walker.{WalkSoFar, TurnResult, WalkResult, FixesTable, RunsOthers};
+ghost use Rattle.node_core.specs.inside.Walker.{WalkSoFar, TurnResult, WalkResult, FixIsDone, RunsOthers};
 
 use crate::node::Node;
 use crate::step::Step;
@@ -102,7 +101,7 @@ fn walk_fixed<H: KeyHash + Copy + Drop, O: Others>(
 ) -> Result<Walk, WalkFault>
     requires keys { O.keys others.old ≡ [] }
     requires steps { O.steps others.old ≡ [] }
-    requires held { (old : State) × FixesTable pid id old (Ok tt) (observable node.old) }
+    requires held { (old : State) × FixIsDone pid id old node.old }
     ensures { WalkResult pid id limit node.old (O.keys others.new) (O.steps others.new)
         result node.new }
 {
@@ -130,9 +129,8 @@ fn walk_turn<H: KeyHash + Copy + Drop, O: Others>(
     others: &mut O,
 ) -> Result<Option<Term>, WalkFault>
     requires keys { O.keys others.old ≡ keys.old.items }
-    requires stands { (old : State)
-        × WalkSoFar pid id old (O.keys others.old) (O.steps others.old) (Some key)
-        (observable node.old) }
+    requires so_far { (old : State)
+        × WalkSoFar pid id old (O.keys others.old) (O.steps others.old) (Some key) node.old }
     ensures keys { OnOk result (keys.new.items ≡ O.keys others.new) }
     ensures count { OnOk result (vec_len keys.new ≡ vec_len keys.old + 1) }
     ensures turn { TurnResult pid id (O.keys others.old) (O.steps others.old) key node.old

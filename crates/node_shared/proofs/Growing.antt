@@ -14,7 +14,7 @@ use Rattle.node_core.specs.Woven.{is_step_of}
 use Rattle.node_core.specs.rules.Growth.{due}
 use Rattle.node_core.specs.rules.Replies.{is_value}
 use Rattle.node_core.proofs.buckets.Runs.{run-on-buckets-push}
-use Rattle.node_core.proofs.calls.Table.{step-remembers}
+use Rattle.node_core.proofs.calls.EachCall.{step-remembers}
 use Rattle.node_core.proofs.calls.Enrolling.{enrolled}
 use Rattle.node_core.proofs.pending.Tending.{due-tends}
 use Rattle.node_shared.specs.declared.entry.Entry.{Entry}

@@ -1,10 +1,11 @@
 -- A run goes on by one step, or by another run.
-use Rattle.std.proofs.Common.{List, [], ◌∷◌, ◌++◌, refl, subst, ap}
+use Rattle.std.proofs.Common.{◌≡◌, List, [], ◌∷◌, ◌++◌, refl, subst, ap}
 use Rattle.node_core.specs.State.{State}
 use Rattle.node_core.specs.Observable.{observable}
 use Rattle.node_core.specs.Machine.{step, run}
 use Rattle.node_core.specs.rules.Growth.{step_on_buckets}
-use Rattle.node_core.specs.Buckets.{run_on_buckets}
+use Rattle.node_core.specs.Buckets.{run_on_buckets, observable_states}
+use Rattle.node_core.specs.laws.Walk.{states}
 use Rattle.node_core.specs.declared.step.Step.{Step}
 use Rattle.node_core.specs.declared.step.Reply.{Reply}
 
@@ -32,3 +33,11 @@ run-observable old new [] [] h = ap observable h
 run-observable old new (s ∷ ss) (r ∷ rs) h = (observable h.0, h.1, run-observable h.0 new ss rs h.3)
 run-observable old new [] (r ∷ rs) h = absurd h
 run-observable old new (s ∷ ss) [] h = absurd h
+
+pub states-observable : (old new : State) (ss : List Step) (rs : List Reply) (h : run_on_buckets old ss rs new)
+    → states (observable old) ss rs (observable new) (run-observable old new ss rs h) ≡ observable_states old ss rs new h
+unfolding run-observable
+states-observable old new [] [] h = refl
+states-observable old new (s ∷ ss) (r ∷ rs) h = ap (λ (xs : List State). observable old ∷ xs) (states-observable h.0 new ss rs h.3)
+states-observable old new [] (r ∷ rs) h = absurd h
+states-observable old new (s ∷ ss) [] h = absurd h

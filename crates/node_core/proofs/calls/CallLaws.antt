@@ -38,7 +38,7 @@ use Rattle.node_core.proofs.moves.WorldLaws.{IsLawfulOutcome, new-lawful, give-l
 use Rattle.node_core.proofs.moves.WorldMoves.{receive-moves, new-moves, gone-moves, give-moves, heir-moves}
 
 -- what is shown of a step that these processes do, where `needs` says that its reply may take memory although it changes something
-pub record WalkSoFar (own : ℕ → Bool) (needs : Bool) (old : State) (reply : Reply) (new : State) : Type 0 where
+pub record IsLawfulReply (own : ℕ → Bool) (needs : Bool) (old : State) (reply : Reply) (new : State) : Type 0 where
   pub limits : new.limits ≡ old.limits
   pub moves : Moves own old.world new.world
   pub quiet : needs ≡ false → (is_flat reply ≡ true) ⊎ (new ≡ old)
@@ -46,7 +46,7 @@ pub record WalkSoFar (own : ℕ → Bool) (needs : Bool) (old : State) (reply : 
 -- what is shown of a call: it may come to the same where the buckets are left out, and holds then
 pub record IsLawfulCall (own : ℕ → Bool) (needs : Bool) (old : State) (outcome unobservable : Outcome Reply State) : Type 0 where
   pub observable : (reply : Reply) (new : State) → outcome reply new → unobservable reply (observable new)
-  pub stands : (reply : Reply) (new : State) → outcome reply new → WalkSoFar own needs old reply new
+  pub lawful : (reply : Reply) (new : State) → outcome reply new → IsLawfulReply own needs old reply new
 
 abbrev pub Either : Bool → Outcome Reply State → Outcome Reply State → Outcome Reply State
 Either test one other reply new = MatchBool test (one reply new) (other reply new)
@@ -100,19 +100,19 @@ module _ (own : ℕ → Bool) (needs : Bool) (old : State) where
   abbrev pub Lawful : Outcome Reply State → Outcome Reply State → Type 0
   Lawful outcome unobservable = IsLawfulCall own needs old outcome unobservable
 
-  same-stands : (answer : Reply) → WalkSoFar own needs old answer old
-  same-stands answer = record { limits = refl; moves = moves-same own old.world; quiet = λ n. inr refl }
+  same-lawful : (answer : Reply) → IsLawfulReply own needs old answer old
+  same-lawful answer = record { limits = refl; moves = moves-same own old.world; quiet = λ n. inr refl }
 
-  gives-lawful : (answer : Reply) (after unobservable : State) → observable after ≡ unobservable → WalkSoFar own needs old answer after
+  gives-lawful : (answer : Reply) (after unobservable : State) → observable after ≡ unobservable → IsLawfulReply own needs old answer after
       → Lawful (gives answer after) (gives answer unobservable)
-  gives-lawful answer after unobservable same stands = record {
+  gives-lawful answer after unobservable same lawful = record {
     observable = λ reply new h. (h.0, ap observable h.1 ∙ same);
-    stands = λ reply new h. subst₂ (WalkSoFar own needs old) (sym h.0) (sym h.1) stands;
+    lawful = λ reply new h. subst₂ (IsLawfulReply own needs old) (sym h.0) (sym h.1) lawful;
   }
 
   -- a call that changes nothing
   pub tells-lawful : (answer : Reply) → Lawful (gives answer old) (gives answer (observable old))
-  tells-lawful answer = gives-lawful answer old (observable old) refl (same-stands answer)
+  tells-lawful answer = gives-lawful answer old (observable old) refl (same-lawful answer)
 
   -- one that reads the same in the observable state
   pub tells-as : (answer other : Reply) → other ≡ answer → Lawful (gives answer old) (gives other (observable old))
@@ -171,7 +171,7 @@ module _ (own : ℕ → Bool) (needs : Bool) (old : State) where
   leaves-lawful rule found lawful at = record {
     observable =
         λ reply new h. (observable_fixed h.0, lawful.unobservable found.1.fixed h.0 reply h.1, ap observable h.2 ∙ sym (with_table-observable old found.0 h.0));
-    stands = λ reply new h. subst (λ (s : State). WalkSoFar own needs old reply s) (sym h.2) (record {
+    lawful = λ reply new h. subst (λ (s : State). IsLawfulReply own needs old reply s) (sym h.2) (record {
       limits = refl;
       moves =
           record { most = refl; known = same.known; tables = follows-fixed own old.world.tables found.0 h.0 (λ was here. preserves_at reply h.0 h.1 was here) };
@@ -202,7 +202,7 @@ module _ (own : ℕ → Bool) (needs : Bool) (old : State) where
       → Lawful (asks old answer outcome) (asks (observable old) answer unobservable)
   asks-lawful answer flat lawful = record {
     observable = λ reply new h. (h.0, lawful.observable h.0 new.world h.1, h.2, ap observable h.3);
-    stands = λ reply new h. record {
+    lawful = λ reply new h. record {
       limits = ap (λ (s : State). s.limits) h.3;
       moves = lawful.keeps h.0 new.world h.1;
       quiet = λ n. inl (world-flat answer (flat n) h.0 reply h.2);

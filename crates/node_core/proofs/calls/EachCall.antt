@@ -28,7 +28,7 @@ use Rattle.node_core.specs.rules.Replies.{true_reply}
 use Rattle.node_core.specs.rules.Searching.{Match, MatchObject, Select, SelectCount}
 use Rattle.node_core.specs.rules.Walking.{First, Next, FirstLookup, NextLookup}
 use Rattle.node_core.specs.Woven.{is_step_of}
-use Rattle.node_core.proofs.calls.CallLaws.{WalkSoFar, IsLawfulCall, tells-lawful, tells-as, either-lawful, reads-lawful, changes-lawful, asks-lawful, new_call-lawful, delete_table-lawful, give_away-lawful, set_options_call-lawful, receive-lawful, whereis-lawful, info-lawful, fixtable-lawful}
+use Rattle.node_core.proofs.calls.CallLaws.{IsLawfulReply, IsLawfulCall, tells-lawful, tells-as, either-lawful, reads-lawful, changes-lawful, asks-lawful, new_call-lawful, delete_table-lawful, give_away-lawful, set_options_call-lawful, receive-lawful, whereis-lawful, info-lawful, fixtable-lawful}
 use Rattle.node_core.proofs.moves.Moves.{Follows, Moves, moves-same}
 use Rattle.node_core.proofs.calls.Rules.{IsLawful, insert-lawful, insert_new-lawful, take-lawful, delete-lawful, delete_all-lawful, delete_object-lawful, match_delete-lawful, select_delete-lawful, update_counter-lawful, update_element-lawful}
 use Rattle.node_core.proofs.buckets.ObservableTables.{at-observable}
@@ -138,12 +138,12 @@ step-lawful old (Ready t bucket) =
     tells-as (λ w. false) true old (growth_reply old t) (growth_reply (observable old) t) (growth-observable old t)
 
 module _ (old new : State) (s : Step) (reply : Reply) (h : step old s reply new) where
-  pub step-stands : WalkSoFar (λ w. is_step_of w s) true old reply new
-  step-stands = let lawful = step-lawful old s in lawful.stands reply new h
+  pub reply-lawful : IsLawfulReply (λ w. is_step_of w s) true old reply new
+  reply-lawful = let lawful = step-lawful old s in lawful.lawful reply new h
 
   -- after it each table stays or is new
   pub step-follows : Follows (λ w. is_step_of w s) old.world.tables new.world.tables
-  step-follows = step-stands.moves.tables
+  step-follows = reply-lawful.moves.tables
 
 -- no process is forgotten, and the limits stay
 pub record Remembers (old new : State) : Type 0 where
@@ -153,4 +153,4 @@ pub record Remembers (old new : State) : Type 0 where
 
 pub step-remembers : (old new : State) (s : Step) (reply : Reply) → step old s reply new → Remembers old new
 step-remembers old new s reply h =
-    let stands = step-stands old new s reply h in record { limits = stands.limits; most = stands.moves.most; known = stands.moves.known }
+    let done = reply-lawful old new s reply h in record { limits = done.limits; most = done.moves.most; known = done.moves.known }

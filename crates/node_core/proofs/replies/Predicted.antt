@@ -78,7 +78,7 @@ pub other-suffices : (old : State) (p : ℕ) (asked : Call) → None ≡ call_na
 other-suffices old p asked is = asked-suffices old p asked (Ok Nothing) (subst (λ found. SufficesForName old p found asked.args (Ok Nothing)) is (unnamed-suffices old p asked.args))
 
 pub quiet-suffices : (old : State) (p : ℕ) (name : CallName) (args : List Term) → may_need_copy name ≡ false → TakesNoMemory old (call old p name args)
-quiet-suffices old p name args quiet reply new h = ((call-lawful p false old name args (λ may. sym quiet ∙ may)).stands reply new h).quiet refl
+quiet-suffices old p name args quiet reply new h = ((call-lawful p false old name args (λ may. sym quiet ∙ may)).lawful reply new h).quiet refl
 
 -- what suffices for the updates of counters with these arguments, with and without a default
 abbrev pub SufficesForUpdates : CallName → Term → Result ReplyReserve AllocError → Type 0

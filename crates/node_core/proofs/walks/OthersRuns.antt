@@ -1,5 +1,5 @@
 -- While others do their steps the walker's fixes of a table stay, and with them the places of its keys.
-use Rattle.std.proofs.Common.{◌≡◌, ℕ, zero, suc, ◌<◌, ◌==◌, ◌⊎◌, inl, inr, Bool, true, false, ◌||◌, cond, List, [], ◌∷◌, ◌++◌, Option, None, Some, option_and_then, refl, sym, subst, ap, ◌∙◌, length, arith, true≢false, unwrap_or}
+use Rattle.std.proofs.Common.{◌≡◌, ℕ, zero, suc, ◌<◌, ◌==◌, ◌⊎◌, inl, inr, Bool, true, false, ◌||◌, cond, List, [], ◌∷◌, ◌++◌, Option, None, Some, refl, sym, subst, ap, ◌∙◌, length, arith, true≢false, unwrap_or}
 use Rattle.std.specs.Prelude.{MatchOption, is_some, nat_lt}
 use Rattle.std.specs.List.{AllByRecursion, list_any}
 use Rattle.std.specs.Map.{keys_of}
@@ -15,13 +15,12 @@ use Rattle.ownership.specs.World.{Table, Tables, table_at}
 use Rattle.node_core.specs.declared.step.Reply.{Reply}
 use Rattle.node_core.specs.declared.step.Step.{Step}
 use Rattle.node_core.specs.declared.step.Step.TheVariants.{Enrol, End, Ask, Grow, Ready}
-use Rattle.node_core.specs.CallName.{call_name}
 use Rattle.node_core.specs.State.{State}
 use Rattle.node_core.specs.Machine.{step, run}
-use Rattle.node_core.specs.laws.Kept.{slots_in, is_fixed_in}
-use Rattle.node_core.specs.laws.Walk.{states, walk_call, walk_step, Answers, Walks}
+use Rattle.node_core.specs.laws.Kept.{slots_in, is_fixed_in, StaysFixed}
+use Rattle.node_core.specs.laws.Walk.{states}
 use Rattle.node_core.specs.Woven.{is_step_of, fixes_in}
-use Rattle.node_core.specs.inside.Walker.{exists_in, IsTraversal}
+use Rattle.node_core.specs.inside.Walker.{exists_in}
 use Rattle.node_core.proofs.moves.Moves.{Came}
 use Rattle.node_core.proofs.calls.EachCall.{step-follows}
 use Rattle.node_core.proofs.walks.WholeWalks.{ground}
@@ -98,24 +97,6 @@ module _ (p t : ℕ) where
         there = λ within here. there-kept s other (table_at old.world.tables t) (table_at new.world.tables t) old.world.tables within (λ table at. follows.came t table at) here;
       }
 
-  -- it is no call of the walk
-  not-asked : (b : Bool) (o : Option (Option Term × Bool)) → b ≡ false → cond b o None ≡ None
-  not-asked true o h = absurd (true≢false h)
-  not-asked false o h = refl
-
-  passed : (old : State) (s : Step) → is_step_of p s ≡ false → walk_step old p t s ≡ None
-  passed old (Enrol q) h = refl
-  passed old (End q) h = refl
-  passed old (Ask q call) h = not-asked (q == p) (option_and_then (λ name. walk_call old t name call.args) (call_name call.name)) h
-  passed old (Grow u) h = refl
-  passed old (Ready u bucket) h = refl
-
-  first-held : (old : State) (steps : List Step) (replies : List Reply) (new : State) (done : run old steps replies new) → AllByRecursion (λ s. is_fixed_in t s ≡ true) (states old steps replies new done) → is_fixed_in t old ≡ true
-  first-held old [] [] new done all = all.0
-  first-held old (s ∷ steps) (r ∷ replies) new done all = all.0
-  first-held old [] (r ∷ replies) new done all = absurd done
-  first-held old (s ∷ steps) [] new done all = absurd done
-
   module _ (n : ℕ) where
     -- the walker has one fix more than before the walk, where the table is there
     abbrev pub Has : State → Type 0
@@ -125,14 +106,12 @@ module _ (p t : ℕ) where
     HasPlace key s = exists_in t s ≡ true → list_any (same key) (keys_of (slots_in t s)) ≡ true
 
     -- what is shown of steps of others
-    pub record Ran (old : State) (steps : List Step) (replies : List Reply) (new : State) : Type 0 where
+    pub record Ran (old : State) (steps : List Step) (replies : List Reply) (new : State) (done : run old steps replies new) : Type 0 where
       pub long : t < length new.world.tables
       pub fixes : Has new
       pub place : (key : Term) → HasPlace key old → HasPlace key new
-      pub walks : (call : Option Term) (keys : List Term) (more : List Step) (others : List Reply) (end : State) → IsTraversal p t call keys new more others end → IsTraversal p t call keys old (steps ++ more) (replies ++ others) end
-
-    still : (old : State) → t < length old.world.tables → Has old → Ran old [] [] old
-    still old within has = record { long = within; fixes = has; place = λ key h. h; walks = λ call keys more others end w. w }
+      pub there : exists_in t new ≡ true → exists_in t old ≡ true
+      pub held : exists_in t new ≡ true → StaysFixed t (states old steps replies new done)
 
     has-then : (old mid : State) → t < length old.world.tables → Has old → Kept old mid → Has mid
     has-then old mid within has kept here = let was = kept.there within here in was.1 ∙ has was.0
@@ -146,16 +125,17 @@ module _ (p t : ℕ) where
         sub-any key (keys_of (slots_in t old)) (keys_of (slots_in t mid))
         (ground old mid s r t h (fixed-before old mid within has kept here) (fixed-in p t n mid (has-then old mid within has kept here))) (had was.0)
 
-    sooner : (old mid : State) (s : Step) (r : Reply) → is_step_of p s ≡ false → step old s r mid → t < length old.world.tables → Has old → Kept old mid
-        → (call : Option Term) (keys : List Term) (more : List Step) (others : List Reply) (end : State) → IsTraversal p t call keys mid more others end → IsTraversal p t call keys old (s ∷ more) (r ∷ others) end
-    sooner old mid s r other h within has kept call keys more others end w = record {
-      done = (mid, h, w.done);
-      answers = subst (λ (o : Option (Option Term × Bool)). MatchOption o (Walks p t call keys mid more others end w.done) (λ asked. (asked.0 ≡ call) × Answers asked.1 r more keys (λ key keys. Walks p t (Some key) keys mid more others end w.done))) (sym (passed old s other)) w.answers;
-      held = (fixed-before old mid within has kept (there-fixed t mid (first-held mid more others end w.done w.held)), w.held);
+    pub others-ran : (old : State) (steps : List Step) (replies : List Reply) (new : State) (h : run old steps replies new) → AllByRecursion (λ s. is_step_of p s ≡ false) steps → t < length old.world.tables → Has old → Ran old steps replies new h
+    others-ran old [] [] new h all within has = record {
+      long = subst (λ (s : State). t < length s.world.tables) (sym h) within;
+      fixes = subst Has (sym h) has;
+      place = λ key had. subst (HasPlace key) (sym h) had;
+      there = λ here. was here;
+      held = λ here. (fixed-in p t n old (has (was here)), tt);
     }
-
-    pub others-ran : (old : State) (steps : List Step) (replies : List Reply) (new : State) → run old steps replies new → AllByRecursion (λ s. is_step_of p s ≡ false) steps → t < length old.world.tables → Has old → Ran old steps replies new
-    others-ran old [] [] new h all within has = subst (Ran old [] []) (sym h) (still old within has)
+      where
+        was : exists_in t new ≡ true → exists_in t old ≡ true
+        was here = subst (λ (s : State). exists_in t s ≡ true) h here
     others-ran old (s ∷ steps) (r ∷ replies) new h all within has =
         let mid = h.0 in
         let kept = other-kept old mid s r all.0 h.1 in
@@ -164,7 +144,8 @@ module _ (p t : ℕ) where
           long = rest.long;
           fixes = rest.fixes;
           place = λ key had. rest.place key (place-then old mid s r h.1 within has kept key had);
-          walks = λ call keys more others end w. sooner old mid s r all.0 h.1 within has kept call keys (steps ++ more) (replies ++ others) end (rest.walks call keys more others end w);
+          there = λ here. let before = kept.there within (rest.there here) in before.0;
+          held = λ here. (fixed-before old mid within has kept (rest.there here), rest.held here);
         }
     others-ran old [] (r ∷ replies) new h all within has = absurd h
     others-ran old (s ∷ steps) [] new h all within has = absurd h

@@ -12,7 +12,7 @@ module _ (p : ℕ) where
   pub own-replied : (s : Step) (r : Reply) (steps : List Step) (replies : List Reply) → is_step_of p s ≡ true → replies_to p (s ∷ steps) (r ∷ replies) ≡ r ∷ replies_to p steps replies
   own-replied s r steps replies e = ap (λ (b : Bool). if b then r ∷ replies_to p steps replies else replies_to p steps replies) e
 
-  other-replied : (s : Step) (r : Reply) (steps : List Step) (replies : List Reply) → is_step_of p s ≡ false → replies_to p (s ∷ steps) (r ∷ replies) ≡ replies_to p steps replies
+  pub other-replied : (s : Step) (r : Reply) (steps : List Step) (replies : List Reply) → is_step_of p s ≡ false → replies_to p (s ∷ steps) (r ∷ replies) ≡ replies_to p steps replies
   other-replied s r steps replies e = ap (λ (b : Bool). if b then r ∷ replies_to p steps replies else replies_to p steps replies) e
 
   -- steps of others have none

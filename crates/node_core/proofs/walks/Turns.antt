@@ -1,44 +1,40 @@
--- A walk among others' steps, turn by turn: where it is, where it stops, and what it does.
-use Rattle.std.proofs.Common.{◌≡◌, ℕ, zero, suc, ◌<◌, ◌≤◌, ◌==◌, ◌&&◌, Bool, true, false, cond, List, [], ◌∷◌, ◌++◌, Option, None, Some, Ok, Err, refl, sym, subst, subst₂, ap, ap₂, ◌∙◌, length, map, take, drop, codes, arith, append_assoc, true≢false}
-use Rattle.std.specs.Prelude.{MatchOption, is_some, option_map}
+-- A walk among others' steps, turn by turn: where it is, and where it stops.
+use Rattle.std.proofs.Common.{◌≡◌, ℕ, zero, suc, ◌<◌, inl, inr, true, false, List, [], ◌∷◌, ◌++◌, Option, None, Some, Ok, Err, refl, sym, subst, subst₂, ap, ap₂, ◌∙◌, length, map, take, drop, filter, arith, append_assoc, true≢false}
+use Rattle.std.specs.Prelude.{is_some}
 use Rattle.std.specs.List.{AllByRecursion, Contains}
 use Rattle.std.specs.Option.{option_map_or}
-use Rattle.std.proofs.lemmas.Bool.Decides.{nat_tests}
 use Rattle.std.proofs.lemmas.List.{map-append}
 use Rattle.std.proofs.lemmas.List.Elements.{Contains-append_right}
-use Rattle.ets_term.specs.declared.term.Term.{Term, out-Term}
-use Rattle.ets_term.specs.declared.term.Term.TheVariants.{Tid}
-use Rattle.ets_term.specs.Atoms.{is_atom}
-use Rattle.ownership.specs.Access.{may, may_read}
-use Rattle.ownership.specs.World.{Table, table_at, lives}
+use Rattle.ets_term.specs.declared.term.Term.{Term}
+use Rattle.fixed_walk.specs.Fixes.{fix_count}
+use Rattle.ownership.specs.World.{Table, Tables, table_at}
 use Rattle.node_core.specs.declared.step.Reply.{Reply}
 use Rattle.node_core.specs.declared.step.Reply.TheVariants.{Value}
 use Rattle.node_core.specs.declared.step.Step.{Step}
 use Rattle.node_core.specs.declared.walk.WalkFault.{WalkFault}
 use Rattle.node_core.specs.declared.walk.WalkFault.TheVariants as fault
 use Rattle.node_core.specs.State.{State}
-use Rattle.node_core.specs.Machine.{step, run}
+use Rattle.node_core.specs.Observable.{observable, KeepsBuckets}
+use Rattle.node_core.specs.Machine.{run}
+use Rattle.node_core.specs.Buckets.{run_on_buckets, observable_states}
+use Rattle.node_core.specs.rules.Growth.{HasFirstBuckets}
 use Rattle.node_core.specs.rules.Replies.{true_reply}
 use Rattle.node_core.specs.rules.Walking.{key_reply}
-use Rattle.node_core.specs.laws.Kept.{is_fixed_in}
-use Rattle.node_core.specs.laws.Walk.{is_table, walk_step, Answers, Walks, HasSoundKeys}
-use Rattle.node_core.specs.Woven.{is_step_of, replies_to, Given, AreTurns, fix, first, next, walk, can_read, fixes_in, StopReason}
-use Rattle.node_core.specs.inside.Walker.{exists_in, call_of, FindsKey, IsTraversal, Extends, WalkSoFar, WalkStopped, steps_of, StoppedAtStep}
+use Rattle.node_core.specs.laws.Kept.{is_fixed_in, StaysFixed}
+use Rattle.node_core.specs.Woven.{is_step_of, replies_to, Given, fix, first, next, walk, can_read, fixes_in, WovenRun, StopReason}
+use Rattle.node_core.specs.inside.Walker.{exists_in, AreTurns, call_of, FindsKey, FixIsDone, RunsFixed, HasFix, WalkSoFar, WalkStopped, steps_of, StoppedAtStep}
+use Rattle.node_core.proofs.moves.Moves.{follows-same}
+use Rattle.node_core.proofs.buckets.Runs.{run-on-buckets-append, run-observable, states-observable}
+use Rattle.node_core.proofs.buckets.Observable.{buckets-follow}
 use Rattle.node_core.proofs.walks.OthersRuns.{fixed-in, Ran, others-ran}
-use Rattle.node_core.proofs.buckets.Runs.{run-push}
 use Rattle.node_core.proofs.walks.Replying.{own-replied, none-replied, replied-append}
-use Rattle.node_core.proofs.walks.Weaving.{paired, walk-more, own-further, more-others, more-turns}
+use Rattle.node_core.proofs.walks.Weaving.{number-same, paired, walk-more, own-further, more-others, more-turns}
+use Rattle.node_core.proofs.walks.Answering.{readable-there}
 
 abbrev pub value : Term → Reply
 value key = Value key
 
--- ---- runs
-pub run-append : (a b c : State) (xs ys : List Step) (rs qs : List Reply) → run a xs rs b → run b ys qs c → run a (xs ++ ys) (rs ++ qs) c
-run-append a b c [] ys [] qs h k = subst (λ (s : State). run s ys qs c) h k
-run-append a b c (x ∷ xs) ys (r ∷ rs) qs h k = (h.0, h.1, run-append h.0 b c xs ys rs qs h.2 k)
-run-append a b c [] ys (r ∷ rs) qs h k = absurd h
-run-append a b c (x ∷ xs) ys [] qs h k = absurd h
-
+-- ---- lists
 pub append-none : {X : Type 0} (xs : List X) → xs ++ [] ≡ xs
 append-none [] = refl
 append-none (x ∷ xs) = ap (λ ys. x ∷ ys) (append-none xs)
@@ -56,114 +52,94 @@ steps-cut zero given = refl
 steps-cut (suc n) [] = refl
 steps-cut (suc n) (g ∷ given) = ap (λ xs. g.1 ∷ xs) (steps-cut n given)
 
--- ---- reading
-both-true : (a b : Bool) → (a && b) ≡ true → (a ≡ true) × (b ≡ true)
-both-true true true e = (refl, refl)
-both-true true false e = absurd (true≢false (sym e))
-both-true false b e = absurd (true≢false (sym e))
+there-within : (ts : Tables) (u : ℕ) → is_some (table_at ts u) ≡ true → u < length ts
+there-within [] u e = absurd (true≢false (sym e))
+there-within (x ∷ xs) zero e = omega arith
+there-within (x ∷ xs) (suc u) e = let before = there-within xs u e in omega (arith, before)
 
-number-same : (n : ℕ) → (n == n) ≡ true
-number-same n = grind (arith, nat_tests)
+-- what only reads leaves the buckets
+reads : (s : State) → KeepsBuckets s s × HasFirstBuckets s s
+reads s = buckets-follow s s (follows-same (λ w. false) s.world.tables)
 
 module _ (p t : ℕ) where
-  readable-at : (o : Option Table) → option_map_or (λ table. may_read table.metadata p) o false ≡ true → is_some o ≡ true
-  readable-at None e = absurd (true≢false (sym e))
-  readable-at (Some table) e = refl
+  counted-at : (o : Option Table) (n : ℕ) → option_map_or (λ table. fix_count table.fixed.fixes p) o 0 ≡ suc n → is_some o ≡ true
+  counted-at None n e = absurd (omega (arith, e))
+  counted-at (Some table) n e = refl
 
-  pub readable-there : (s : State) → can_read p t s ≡ true → exists_in t s ≡ true
-  readable-there s h = let parts = both-true (lives s.world.processes p) (may may_read s.world.tables p t) h in readable-at (table_at s.world.tables t) parts.1
+  within : (s : State) (n : ℕ) → fixes_in p t s ≡ suc n → t < length s.world.tables
+  within s n e = there-within s.world.tables t (counted-at (table_at s.world.tables t) n e)
 
-  -- ---- calls of the walk
-  table-at : (o : Option Table) → is_some o ≡ true → option_map_or (λ u. u == t) (option_map (λ _. t) o) false ≡ true
-  table-at None e = absurd (true≢false (sym e))
-  table-at (Some table) e = number-same t
-
-  names-table : (s : State) → exists_in t s ≡ true → is_table s t (Tid t) ≡ true
-  unfolding out-Term denote.Hole.Carrier.out
-  names-table s h = table-at (table_at s.world.tables t) h
-
-  asked-by : (b c : Bool) (o : Option (Option Term × Bool)) → b ≡ true → c ≡ true → cond b (cond c o None) None ≡ o
-  asked-by true true o e f = refl
-  asked-by true false o e f = absurd (true≢false (sym f))
-  asked-by false c o e f = absurd (true≢false (sym e))
-
-  asked : (s : State) (call : Option Term) → exists_in t s ≡ true → walk_step s p t (call_of p t call) ≡ Some (call, false)
-  asked s None h = asked-by (p == p) (is_table s t (Tid t)) (Some (None, false)) (number-same p) (names-table s h)
-  asked s (Some key) h = asked-by (p == p) (is_table s t (Tid t)) (Some (Some key, false)) (number-same p) (names-table s h)
-
-  key-front : (call : Option Term) (key : Term) (s : State) → exists_in t s ≡ true → is_fixed_in t s ≡ true → step s (call_of p t call) (key_reply (Some key)) s
-      → (further : List Term) (more : List Step) (others : List Reply) (end : State) → IsTraversal p t (Some key) further s more others end
-      → IsTraversal p t call (key ∷ further) s (call_of p t call ∷ more) (Value key ∷ others) end
-  key-front call key s there fixed h further more others end w = record {
-    done = (s, h, w.done);
-    answers = subst (λ (o : Option (Option Term × Bool)). MatchOption o (Walks p t call (key ∷ further) s more others end w.done) (λ asked. (asked.0 ≡ call) × Answers asked.1 (Value key) more (key ∷ further) (λ key keys. Walks p t (Some key) keys s more others end w.done)))
-        (sym (asked s call there)) (refl, (refl, w.answers));
-    held = (fixed, w.held);
-  }
-
-  end-front : (call : Option Term) (s : State) → exists_in t s ≡ true → is_fixed_in t s ≡ true → step s (call_of p t call) (key_reply None) s
-      → IsTraversal p t call [] s (call_of p t call ∷ []) (key_reply None ∷ []) s
-  end-front call s there fixed h = record {
-    done = (s, h, refl);
-    answers = subst (λ (o : Option (Option Term × Bool)). MatchOption o (Walks p t call [] s [] [] s refl) (λ asked. (asked.0 ≡ call) × Answers asked.1 (key_reply None) [] [] (λ key keys. Walks p t (Some key) keys s [] [] s refl)))
-        (sym (asked s call there)) (refl, (refl, refl));
-    held = (fixed, (fixed, tt));
-  }
-
-  moved : (call : Option Term) (keys keys' : List Term) (s : State) (xs xs' : List Step) (rs rs' : List Reply) (end : State) → keys' ≡ keys → xs' ≡ xs → rs' ≡ rs
-      → IsTraversal p t call keys s xs rs end → IsTraversal p t call keys' s xs' rs' end
-  moved call keys keys' s xs xs' rs rs' end e f g w =
-      subst (λ ks. IsTraversal p t call ks s xs' rs' end) (sym e) (subst₂ (λ ys qs. IsTraversal p t call keys s ys qs end) (sym f) (sym g) w)
+  -- ---- runs during which the table stays fixed
+  fixed-append : (a b c : State) (xs ys : List Step) (rs qs : List Reply) → RunsFixed p t a xs rs b → RunsFixed p t b ys qs c → RunsFixed p t a (xs ++ ys) (rs ++ qs) c
+  fixed-append a b c [] ys [] qs h k = subst (λ (s : State). RunsFixed p t s ys qs c) h.0 k
+  fixed-append a b c (x ∷ xs) ys (r ∷ rs) qs h k =
+      let ran = h.0 in
+      let held = h.1 in
+      let rest = fixed-append ran.0 b c xs ys rs qs (ran.3, held.1) k in
+      ((ran.0, ran.1, ran.2, rest.0), (held.0, rest.1))
+  fixed-append a b c [] ys (r ∷ rs) qs h k = absurd h.0
+  fixed-append a b c (x ∷ xs) ys [] qs h k = absurd h.0
 
   module _ (old : State) where
     abbrev count : ℕ
-    count = fixes_in p t old
+    count = fixes_in p t (observable old)
+
+    fixed-now : (now : State) → HasFix p t old now → can_read p t (observable now) ≡ true → is_fixed_in t (observable now) ≡ true
+    fixed-now now fixes can = fixed-in p t count (observable now) (fixes (readable-there p t (observable now) can))
+
+    -- a call of the walk
+    called : (call : Option Term) (found : Option Term) (now : State) → HasFix p t old now → FindsKey p t call (observable now) (Ok found) → RunsFixed p t now (call_of p t call ∷ []) (key_reply found ∷ []) now
+    called None found now fixes finds = ((now, finds.1, reads now, refl), (fixed-now now fixes finds.0, (fixed-now now fixes finds.0, tt)))
+    called (Some key) found now fixes finds = ((now, finds.1, reads now, refl), (fixed-now now fixes finds.0, (fixed-now now fixes finds.0, tt)))
+
+    find-reason : (call : Option Term) (why : WalkFault) (limit : ℕ) (keys : List Term) (given : Given) (now : State) (run : WovenRun p t old keys given now) → run.unseen ≡ [] → FindsKey p t call (observable now) (Err why)
+        → StopReason p t old keys given now why limit run
+    find-reason call fault.Lost limit keys given now run none h = (none, h)
+    find-reason call fault.Memory limit keys given now run none h = inl none
+    find-reason call fault.OwnStep limit keys given now run none h = absurd h
+    find-reason call fault.LimitReached limit keys given now run none h = absurd h
+    find-reason call fault.SystemLimit limit keys given now run none h = absurd h
 
     -- ---- the walk begins
-    begun-leads : (now : State) (found : Option Term) → exists_in t now ≡ true → is_fixed_in t now ≡ true → step now (first p t) (key_reply found) now
-        → Extends p t found [] now (walk p t [] []) (key_reply found ∷ []) now
-    begun-leads now None there fixed h = end-front None now there fixed h
-    begun-leads now (Some key) there fixed h = λ further more others end w. key-front None key now there fixed h further more others end w
+    module _ (now : State) (fixed : FixIsDone p t old now) where
+      has-fix : HasFix p t old now
+      has-fix here = let done = fixed.0 in done.1
 
-    pub begun : (now : State) (found : Option Term) → step old (fix p t) true_reply now → fixes_in p t now ≡ suc count → HasSoundKeys t now → t < length now.world.tables → FindsKey p t None now (Ok found) → WalkSoFar p t old [] [] found now
-    begun now found h more sound within finds = record {
-      fixed = now;
-      before = [];
-      fix_done = h;
-      sound = sound;
-      walk_done = (now, finds.1, refl);
-      leads = begun-leads now found (readable-there now finds.0) (fixed-in p t count now more) finds.1;
-      replied = own-replied p (first p t) (key_reply found) [] [] (number-same p);
-      others = tt;
-      turns = tt;
-      fixes = λ here. more;
-      long = within;
-      readable = finds.0;
-      goes_on = finds.2;
-    }
+      pub begun : (found : Option Term) → FindsKey p t None (observable now) (Ok found) → WalkSoFar p t old [] [] found now
+      begun found finds = let done = fixed.0 in record {
+        fixed = now;
+        before = [];
+        fix_done = (now, done.0, fixed.1, refl);
+        sound = done.2;
+        walk_done = called None found now has-fix finds;
+        replied = own-replied p (first p t) (key_reply found) [] [] (number-same p);
+        others = tt;
+        turns = tt;
+        fixes = has-fix;
+        long = within (observable now) count done.1;
+        readable = finds.0;
+        goes_on = finds.2;
+      }
 
-    find-reason : (call : Option Term) (now : State) (why : WalkFault) (limit : ℕ) (keys : List Term) (given : Given) (s : Step) (done left : List Step) (replies : List Reply) → FindsKey p t call now (Err why)
-        → StopReason p t why old limit keys given (s ∷ done) left replies now
-    find-reason call now fault.Lost limit keys given s done left replies h = h
-    find-reason call now fault.Memory limit keys given s done left replies h = tt
-    find-reason call now fault.OwnStep limit keys given s done left replies h = absurd h
-    find-reason call now fault.LimitReached limit keys given s done left replies h = absurd h
-    find-reason call now fault.SystemLimit limit keys given s done left replies h = absurd h
+      abbrev only_fix : WovenRun p t old [] [] now
+      only_fix = record {
+        fixed = now;
+        done = [];
+        left = first p t ∷ [];
+        replies = [];
+        unseen = [];
+        fix_done = (now, fixed.0.0, fixed.1, refl);
+        walk_done = refl;
+        order = refl;
+        turns = tt;
+        own = (first p t ∷ [], refl);
+        replied = refl;
+      }
 
-    pub not-begun : (now : State) (why : WalkFault) (limit : ℕ) → step old (fix p t) true_reply now → fixes_in p t now ≡ suc count → FindsKey p t None now (Err why) → WalkStopped p t old limit [] [] why (first p t ∷ []) now
-    not-begun now why limit h more finds = record {
-      done = [];
-      own_left = first p t ∷ [];
-      replies = [];
-      order = refl;
-      own = refl;
-      ran = (now, h, refl);
-      tells = ([], omega arith, tt, own-replied p (fix p t) true_reply [] [] (number-same p));
-      turns = tt;
-      reason = find-reason None now why limit [] [] (fix p t) [] (first p t ∷ []) (true_reply ∷ []) finds;
-      fixes = λ here. more;
-    }
+      pub not-begun : (why : WalkFault) (limit : ℕ) → FindsKey p t None (observable now) (Err why) → WalkStopped p t old limit [] [] why now
+      not-begun why limit finds = record { run = only_fix; reason = find-reason None why limit [] [] now only_fix refl finds; fixes = has-fix }
 
+    -- ---- the walk stops when some steps of others have been done
     module _ (keys : List Term) (given : Given) (found : Option Term) (now : State) (st : WalkSoFar p t old keys given found now) where
       abbrev told : List Reply
       told = st.before ++ key_reply found ∷ []
@@ -171,55 +147,44 @@ module _ (p t : ℕ) where
       abbrev so_far : List Step
       so_far = walk p t keys given
 
-      -- ---- the walk halts, some steps of others having been done
-      -- the others got these keys of those that the walk found; at most one is left
-      pub record Untold (keys' : List Term) : Type 0 where
-        pub more : List Term
-        pub few : length more ≤ 1
-        pub no_end : AllByRecursion (λ key. is_atom (codes "$end_of_table") key ≡ false) more
-        pub told : map value keys ++ key_reply found ∷ [] ≡ map value (keys' ++ more)
+      module _ (xs : List Step) (replies : List Reply) (mid : State) (ran : run_on_buckets now xs replies mid) (others : AllByRecursion (λ s. is_step_of p s ≡ false) xs) where
+        pub after : Ran p t count (observable now) xs replies (observable mid) (run-observable now mid xs replies ran)
+        after = others-ran p t count (observable now) xs replies (observable mid) (run-observable now mid xs replies ran) others st.long st.fixes
 
-      pub stopped-at : (why : WalkFault) (limit : ℕ) (keys' : List Term) (given' : Given) (xs left own_left : List Step) (replies : List Reply) (mid : State)
-          → walk p t keys' given' ≡ (so_far ++ xs) ++ left → walk p t keys' [] ≡ walk p t keys [] ++ own_left → run now xs replies mid → AllByRecursion (λ s. is_step_of p s ≡ false) xs
-          → AreTurns keys' given' → Untold keys' → StopReason p t why old limit keys' given' (fix p t ∷ (so_far ++ xs)) left (true_reply ∷ (told ++ replies)) mid → WalkStopped p t old limit keys' given' why left mid
-      stopped-at why limit keys' given' xs left own_left replies mid order own ran others turns untold reason = record {
-        done = so_far ++ xs;
-        own_left = own_left;
-        replies = told ++ replies;
-        order = order;
-        own = own ∙ ap (λ ys. ys ++ own_left) (sym (own-further p t keys given xs st.others others));
-        ran = (st.fixed, st.fix_done, run-append st.fixed now mid so_far xs told replies st.walk_done ran);
-        tells = (
-          untold.more,
-          untold.few,
-          untold.no_end,
-          own-replied p (fix p t) true_reply (so_far ++ xs) (told ++ replies) (number-same p)
-              ∙ ap (λ rs. true_reply ∷ rs) (replied-append p st.fixed now so_far xs told replies st.walk_done
-              ∙ (ap₂ (λ (rs qs : List Reply). rs ++ qs) st.replied (none-replied p now mid xs replies ran others) ∙ (append-none (map value keys ++ key_reply found ∷ []) ∙ untold.told))),
-        );
-        turns = turns;
-        reason = reason;
-        fixes = let after = others-ran p t count now xs replies mid ran others st.long st.fixes in after.fixes;
-      }
-
-      same-order : so_far ≡ (so_far ++ []) ++ []
-      same-order = sym (append-none so_far) ∙ sym (append-none (so_far ++ []))
+        abbrev stopped-run : (keys' : List Term) (given' : Given) (left own_left : List Step) (unseen : List Reply)
+            → walk p t keys' given' ≡ (so_far ++ xs) ++ left → walk p t keys' [] ≡ walk p t keys [] ++ own_left → AreTurns keys' given'
+            → map value keys ++ key_reply found ∷ [] ≡ map value keys' ++ unseen → WovenRun p t old keys' given' mid
+        stopped-run keys' given' left own_left unseen order own turns is = record {
+          fixed = st.fixed;
+          done = so_far ++ xs;
+          left = left;
+          replies = told ++ replies;
+          unseen = unseen;
+          fix_done = st.fix_done;
+          walk_done = run-on-buckets-append st.fixed now mid so_far xs told replies st.walk_done.0 ran;
+          order = order;
+          turns = turns;
+          own = (own_left, own ∙ ap (λ ys. ys ++ own_left) (sym (own-further p t keys given xs st.others others)));
+          replied =
+              replied-append p (observable st.fixed) (observable now) so_far xs told replies (run-observable st.fixed now so_far told st.walk_done.0)
+              ∙ (ap₂ (λ (rs qs : List Reply). rs ++ qs) st.replied (none-replied p (observable now) (observable mid) xs replies (run-observable now mid xs replies ran) others)
+              ∙ (append-none (map value keys ++ key_reply found ∷ []) ∙ is));
+        }
 
     -- ---- the walk stops before the others get a key that was found
     module _ (keys : List Term) (given : Given) (key : Term) (now : State) (limit : ℕ) (st : WalkSoFar p t old keys given (Some key) now) where
-      untold : Untold keys given (Some key) now st keys
-      untold = record { more = key ∷ []; few = omega arith; no_end = (st.goes_on.no_end, tt); told = sym (map-append value keys (key ∷ [])) }
+      abbrev here : WovenRun p t old keys given now
+      here =
+          stopped-run keys given (Some key) now st [] [] now refl tt keys given [] [] (Value key ∷ [])
+          (sym (append-none (walk p t keys given)) ∙ sym (append-none (walk p t keys given ++ []))) (sym (append-none (walk p t keys []))) st.turns refl
 
       -- no memory
-      pub stopped-here : WalkStopped p t old limit keys given fault.Memory [] now
-      stopped-here =
-          stopped-at keys given (Some key) now st fault.Memory limit keys given [] [] [] [] now (same-order keys given (Some key) now st) (sym (append-none (walk p t keys []))) refl tt st.turns untold tt
+      pub stopped-here : WalkStopped p t old limit keys given fault.Memory now
+      stopped-here = record { run = here; reason = inr (key, refl, st.goes_on.no_end); fixes = st.fixes }
 
       -- a key past the limit
-      pub past-limit : length keys ≡ limit → WalkStopped p t old limit keys given fault.LimitReached [] now
-      past-limit many =
-          stopped-at keys given (Some key) now st fault.LimitReached limit keys given [] [] [] [] now (same-order keys given (Some key) now st) (sym (append-none (walk p t keys []))) refl tt st.turns untold
-          (refl, many, (true_reply ∷ st.before, key, ap (λ rs. true_reply ∷ rs) (append-none (st.before ++ Value key ∷ [])), st.goes_on.no_end))
+      pub past-limit : length keys ≡ limit → WalkStopped p t old limit keys given fault.LimitReached now
+      past-limit many = record { run = here; reason = ((key, refl, st.goes_on.no_end), refl, many); fixes = st.fixes }
 
     -- ---- the turn of a key
     module _ (keys : List Term) (given : Given) (key : Term) (now : State) (st : WalkSoFar p t old keys given (Some key) now) (steps : List Step) where
@@ -235,19 +200,19 @@ module _ (p t : ℕ) where
       turns-more : AreTurns keys' given'
       turns-more = subst (λ (m : ℕ). AllByRecursion (λ g. g.0 < m) given') (sym (length-more keys key)) (more-turns given (length keys) steps st.turns)
 
-      all-told : Untold keys given (Some key) now st keys'
-      all-told = record { more = []; few = omega arith; no_end = tt; told = sym (map-append value keys (key ∷ [])) ∙ ap (map value) (sym (append-none keys')) }
+      all-told : map value keys ++ Value key ∷ [] ≡ map value keys' ++ []
+      all-told = sym (map-append value keys (key ∷ [])) ∙ sym (append-none (map value keys'))
 
       own-more : walk p t keys' [] ≡ walk p t keys [] ++ next p t key ∷ []
       own-more = walk-more p t keys key [] [] tt
 
-      stopped-reason : (why : WalkFault) (n limit : ℕ) (s : Step) (done : List Step) (replies : List Reply) (mid : State) (left : Given) → drop n (paired (length keys) steps) ≡ left → StoppedAtStep p why left
-          → StopReason p t why old limit keys' given' (s ∷ done) (steps_of left ++ next p t key ∷ []) replies mid
-      stopped-reason fault.Memory n limit s done replies mid left e h = tt
-      stopped-reason fault.OwnStep n limit s done replies mid [] e h = let none = h.1 in absurd (cc)
-      stopped-reason fault.OwnStep n limit s done replies mid (g ∷ left) e h =
-          let is : g ≡ h.0 = cc in
-          (g.0, g.1, steps_of left ++ next p t key ∷ [], refl, handed-in n (paired (length keys) steps) g left e, ap (λ (x : ℕ × Step). is_step_of p x.1) is ∙ h.2)
+      stopped-reason : (why : WalkFault) (n limit : ℕ) (mid : State) (left : Given) (run : WovenRun p t old keys' given' mid) → run.unseen ≡ [] → run.left ≡ steps_of left ++ next p t key ∷ []
+          → drop n (paired (length keys) steps) ≡ left → StoppedAtStep p why left → StopReason p t old keys' given' mid why limit run
+      stopped-reason fault.Memory n limit mid left run none is e h = inl none
+      stopped-reason fault.OwnStep n limit mid [] run none is e h = let no_step = h.1 in absurd (cc)
+      stopped-reason fault.OwnStep n limit mid (g ∷ left) run none is e h =
+          let same : g ≡ h.0 = cc in
+          (g.0, g.1, steps_of left ++ next p t key ∷ [], none, is, handed-in n (paired (length keys) steps) g left e, ap (λ (x : ℕ × Step). is_step_of p x.1) same ∙ h.2)
         where
           cut : (n : ℕ) (xs : Given) (g : ℕ × Step) (left : Given) → drop n xs ≡ g ∷ left → Contains xs g
           cut zero xs g left e = subst (λ (ys : Given). Contains ys g) (sym e) (0, omega arith, refl)
@@ -256,82 +221,82 @@ module _ (p t : ℕ) where
 
           handed-in : (n : ℕ) (xs : Given) (g : ℕ × Step) (left : Given) → drop n xs ≡ g ∷ left → Contains (given ++ xs) g
           handed-in n xs g left e = Contains-append_right given xs g (cut n xs g left e)
-      stopped-reason fault.Lost n limit s done replies mid left e h = absurd h
-      stopped-reason fault.LimitReached n limit s done replies mid left e h = absurd h
-      stopped-reason fault.SystemLimit n limit s done replies mid left e h = absurd h
+      stopped-reason fault.Lost n limit mid left run none is e h = absurd h
+      stopped-reason fault.LimitReached n limit mid left run none is e h = absurd h
+      stopped-reason fault.SystemLimit n limit mid left run none is e h = absurd h
 
       -- one of the others' steps is not done
-      pub stopped : (why : WalkFault) (n limit : ℕ) (mid : State) (replies : List Reply) → run now (steps_of (take n (paired (length keys) steps))) replies mid
-          → AllByRecursion (λ s. is_step_of p s ≡ false) (steps_of (take n (paired (length keys) steps))) → StoppedAtStep p why (drop n (paired (length keys) steps))
-          → WalkStopped p t old limit keys' given' why (steps_of (drop n (paired (length keys) steps)) ++ next p t key ∷ []) mid
-      stopped why n limit mid replies ran others at =
-          let pairs = paired (length keys) steps in
-          let xs = steps_of (take n pairs) in
-          let left = steps_of (drop n pairs) in
-          let cut : steps ≡ xs ++ left = sym (steps-paired (length keys) steps) ∙ sym (steps-cut n pairs) in
-          let order : walk p t keys' given' ≡ (walk p t keys given ++ xs) ++ (left ++ next p t key ∷ []) =
-          walk-more p t keys key given steps st.turns
-          ∙ (ap (λ ys. walk p t keys given ++ (ys ++ next p t key ∷ [])) cut
-          ∙ (ap (λ ys. walk p t keys given ++ ys) (append_assoc xs left (next p t key ∷ [])) ∙ sym (append_assoc (walk p t keys given) xs (left ++ next p t key ∷ [])))) in
-          stopped-at keys given (Some key) now st why limit keys' given' xs (left ++ next p t key ∷ []) (next p t key ∷ []) replies mid order own-more ran others turns-more all-told
-          (stopped-reason why n limit (fix p t) (walk p t keys given ++ xs) (true_reply ∷ (R ++ replies)) mid (drop n pairs) refl at)
+      module _ (n : ℕ) where
+        abbrev pairs : Given
+        pairs = paired (length keys) steps
 
-      -- the next key is not found
-      pub not-found : (why : WalkFault) (limit : ℕ) (mid : State) (replies : List Reply) → run now steps replies mid → AllByRecursion (λ s. is_step_of p s ≡ false) steps → FindsKey p t (Some key) mid (Err why)
-          → WalkStopped p t old limit keys' given' why (next p t key ∷ []) mid
-      not-found why limit mid replies ran others finds =
-          let order : walk p t keys' given' ≡ (walk p t keys given ++ steps) ++ next p t key ∷ [] =
-          walk-more p t keys key given steps st.turns ∙ sym (append_assoc (walk p t keys given) steps (next p t key ∷ [])) in
-          stopped-at keys given (Some key) now st why limit keys' given' steps (next p t key ∷ []) (next p t key ∷ []) replies mid order own-more ran others turns-more all-told
-          (find-reason (Some key) mid why limit keys' given' (fix p t) (walk p t keys given ++ steps) (next p t key ∷ []) (true_reply ∷ (R ++ replies)) finds)
+        abbrev xs : List Step
+        xs = steps_of (take n pairs)
 
-      module _ (replies : List Reply) (mid : State) (ran : run now steps replies mid) (others : AllByRecursion (λ s. is_step_of p s ≡ false) steps) where
-        after : Ran p t count now steps replies mid
-        after = others-ran p t count now steps replies mid ran others st.long st.fixes
+        abbrev left : List Step
+        left = steps_of (drop n pairs)
 
-        leads-on : (found : Option Term) → FindsKey p t (Some key) mid (Ok found) → Extends p t found keys' st.fixed (walk p t keys' given') ((R ++ replies) ++ key_reply found ∷ []) mid
-        leads-on None finds =
-            let there = readable-there mid finds.0 in
-            let fixed = fixed-in p t count mid (after.fixes there) in
-            let w = st.leads [] (steps ++ next p t key ∷ []) (replies ++ key_reply None ∷ []) mid
-            (after.walks (Some key) [] (next p t key ∷ []) (key_reply None ∷ []) mid (end-front (Some key) mid there fixed finds.1)) in
-            moved None (keys ++ key ∷ []) keys' st.fixed (walk p t keys given ++ (steps ++ next p t key ∷ [])) (walk p t keys' given') (R ++ (replies ++ key_reply None ∷ [])) ((R ++ replies) ++ key_reply None ∷ []) mid
-            refl (walk-more p t keys key given steps st.turns) (append_assoc R replies (key_reply None ∷ [])) w
-        leads-on (Some key2) finds = λ further more others2 end w.
-            let there = readable-there mid finds.0 in
-            let fixed = fixed-in p t count mid (after.fixes there) in
-            let front = key-front (Some key) key2 mid there fixed finds.1 further more others2 end w in
-            let all = st.leads (key2 ∷ further) (steps ++ next p t key ∷ more) (replies ++ Value key2 ∷ others2) end (after.walks (Some key) (key2 ∷ further) (next p t key ∷ more) (Value key2 ∷ others2) end front) in
-            moved None (keys ++ key ∷ key2 ∷ further) (keys' ++ key2 ∷ further) st.fixed (walk p t keys given ++ (steps ++ next p t key ∷ more)) (walk p t keys' given' ++ more)
-            (R ++ (replies ++ Value key2 ∷ others2)) (((R ++ replies) ++ Value key2 ∷ []) ++ others2) end
-            (append_assoc keys (key ∷ []) (key2 ∷ further))
-            (ap (λ ys. ys ++ more) (walk-more p t keys key given steps st.turns)
-            ∙ (append_assoc (walk p t keys given) (steps ++ next p t key ∷ []) more ∙ ap (λ ys. walk p t keys given ++ ys) (append_assoc steps (next p t key ∷ []) more)))
-            (append_assoc (R ++ replies) (Value key2 ∷ []) others2 ∙ append_assoc R replies (Value key2 ∷ others2)) all
+        cut : steps ≡ xs ++ left
+        cut = sym (steps-paired (length keys) steps) ∙ sym (steps-cut n pairs)
 
-        replied-on : (found : Option Term) → replies_to p (walk p t keys' given') ((R ++ replies) ++ key_reply found ∷ []) ≡ map value keys' ++ key_reply found ∷ []
-        replied-on found =
-            ap₂ (λ (xs : List Step) (rs : List Reply). replies_to p xs rs) (walk-more p t keys key given steps st.turns) (append_assoc R replies (key_reply found ∷ []))
-            ∙ (replied-append p st.fixed now (walk p t keys given) (steps ++ next p t key ∷ []) R (replies ++ key_reply found ∷ []) st.walk_done
-            ∙ (ap₂ (λ (rs qs : List Reply). rs ++ qs) (st.replied ∙ sym (map-append value keys (key ∷ [])))
-            (replied-append p now mid steps (next p t key ∷ []) replies (key_reply found ∷ []) ran
-            ∙ ap₂ (λ (rs qs : List Reply). rs ++ qs) (none-replied p now mid steps replies ran others) (own-replied p (next p t key) (key_reply found) [] [] (number-same p)))))
+        order : walk p t keys' given' ≡ (walk p t keys given ++ xs) ++ (left ++ next p t key ∷ [])
+        order =
+            walk-more p t keys key given steps st.turns
+            ∙ (ap (λ ys. walk p t keys given ++ (ys ++ next p t key ∷ [])) cut
+            ∙ (ap (λ ys. walk p t keys given ++ ys) (append_assoc xs left (next p t key ∷ [])) ∙ sym (append_assoc (walk p t keys given) xs (left ++ next p t key ∷ []))))
 
-        pub turned : (found : Option Term) → FindsKey p t (Some key) mid (Ok found) → WalkSoFar p t old keys' given' found mid
+        module _ (mid : State) (replies : List Reply) (ran : run_on_buckets now xs replies mid) (others : AllByRecursion (λ s. is_step_of p s ≡ false) xs) where
+          abbrev to_step : WovenRun p t old keys' given' mid
+          to_step = stopped-run keys given (Some key) now st xs replies mid ran others keys' given' (left ++ next p t key ∷ []) (next p t key ∷ []) [] order own-more turns-more all-told
+
+          pub stopped : (why : WalkFault) (limit : ℕ) → StoppedAtStep p why (drop n pairs) → WalkStopped p t old limit keys' given' why mid
+          stopped why limit at =
+              let made = after keys given (Some key) now st xs replies mid ran others in
+              record { run = to_step; reason = stopped-reason why n limit mid (drop n pairs) to_step refl refl refl at; fixes = made.fixes }
+
+      module _ (replies : List Reply) (mid : State) (ran : run_on_buckets now steps replies mid) (others : AllByRecursion (λ s. is_step_of p s ≡ false) steps) where
+        made : Ran p t count (observable now) steps replies (observable mid) (run-observable now mid steps replies ran)
+        made = after keys given (Some key) now st steps replies mid ran others
+
+        abbrev to_next : WovenRun p t old keys' given' mid
+        to_next =
+            stopped-run keys given (Some key) now st steps replies mid ran others keys' given' (next p t key ∷ []) (next p t key ∷ []) []
+            (walk-more p t keys key given steps st.turns ∙ sym (append_assoc (walk p t keys given) steps (next p t key ∷ []))) own-more turns-more all-told
+
+        -- the next key is not found
+        pub not-found : (why : WalkFault) (limit : ℕ) → FindsKey p t (Some key) (observable mid) (Err why) → WalkStopped p t old limit keys' given' why mid
+        not-found why limit finds = record { run = to_next; reason = find-reason (Some key) why limit keys' given' mid to_next refl finds; fixes = made.fixes }
+
+        pub turned : (found : Option Term) → FindsKey p t (Some key) (observable mid) (Ok found) → WalkSoFar p t old keys' given' found mid
         turned found finds = record {
           fixed = st.fixed;
           before = R ++ replies;
           fix_done = st.fix_done;
           sound = st.sound;
-          walk_done = subst₂ (λ (xs : List Step) (rs : List Reply). run st.fixed xs rs mid) (sym (walk-more p t keys key given steps st.turns)) (sym (append_assoc R replies (key_reply found ∷ [])))
-              (run-append st.fixed now mid (walk p t keys given) (steps ++ next p t key ∷ []) R (replies ++ key_reply found ∷ []) st.walk_done
-              (run-push now mid mid steps replies (next p t key) (key_reply found) ran finds.1));
-          leads = leads-on found finds;
-          replied = replied-on found;
+          walk_done = subst₂ (λ (xs : List Step) (rs : List Reply). RunsFixed p t st.fixed xs rs mid) (sym (walk-more p t keys key given steps st.turns)) (sym (append_assoc R replies (key_reply found ∷ [])))
+              (fixed-append st.fixed now mid (walk p t keys given) (steps ++ next p t key ∷ []) R (replies ++ key_reply found ∷ []) st.walk_done
+              (fixed-append now mid mid steps (next p t key ∷ []) replies (key_reply found ∷ []) (ran, steps-held) (called (Some key) found mid made.fixes finds)));
+          replied =
+              ap₂ (λ (xs : List Step) (rs : List Reply). replies_to p xs rs) (walk-more p t keys key given steps st.turns) (append_assoc R replies (key_reply found ∷ []))
+              ∙ (replied-append p (observable st.fixed) (observable now) (walk p t keys given) (steps ++ next p t key ∷ []) R (replies ++ key_reply found ∷ []) so_far_observable
+              ∙ (ap₂ (λ (rs qs : List Reply). rs ++ qs) (st.replied ∙ sym (map-append value keys (key ∷ [])))
+              (replied-append p (observable now) (observable mid) steps (next p t key ∷ []) replies (key_reply found ∷ []) ran_observable
+              ∙ ap₂ (λ (rs qs : List Reply). rs ++ qs) (none-replied p (observable now) (observable mid) steps replies ran_observable others) (own-replied p (next p t key) (key_reply found) [] [] (number-same p)))));
           others = more-others p t given (length keys) steps st.others others;
           turns = turns-more;
-          fixes = after.fixes;
-          long = after.long;
+          fixes = made.fixes;
+          long = made.long;
           readable = finds.0;
           goes_on = finds.2;
         }
+          where
+            ran_observable : run (observable now) steps replies (observable mid)
+            ran_observable = run-observable now mid steps replies ran
+
+            so_far_observable : run (observable st.fixed) (walk p t keys given) R (observable now)
+            so_far_observable = let done = st.walk_done in run-observable st.fixed now (walk p t keys given) R done.0
+
+            steps-held : StaysFixed t (observable_states now steps replies mid ran)
+            steps-held =
+                subst (λ (xs : List State). StaysFixed t xs) (states-observable now mid steps replies ran)
+                (made.held (readable-there p t (observable mid) finds.0))

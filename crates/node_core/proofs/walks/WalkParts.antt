@@ -1,95 +1,84 @@
--- What the turn of a key and the whole walk come to, of what calls see and of the buckets.
-use Rattle.std.proofs.Common.{◌≡◌, ℕ, Bool, List, [], ◌∷◌, ◌++◌, Option, None, Some, Result, Ok, Err, refl, sym, subst, subst₂, length, drop}
-use Rattle.std.specs.Prelude.{MatchOption}
+-- The turn of a key, as its functions tell it.
+use Rattle.std.proofs.Common.{◌≡◌, ℕ, Bool, true, false, List, [], ◌∷◌, ◌++◌, Option, Some, Result, Ok, Err, OnOk, OnErr, refl, sym, subst, subst₂, ap, ap₂, ◌∙◌, ◌-◌, length, take, drop, arith, true≢false}
+use Rattle.std.specs.List.{AllByRecursion}
+use Rattle.std.specs.Result.{is_err}
+use Rattle.std.proofs.lemmas.List.{take_all, length-drop}
 use Rattle.ets_term.specs.declared.term.Term.{Term}
-use Rattle.ownership.specs.World.{resolve}
 use Rattle.node_core.specs.declared.step.Step.{Step}
-use Rattle.node_core.specs.declared.walk.Walk.{Walk}
 use Rattle.node_core.specs.declared.walk.WalkFault.{WalkFault}
 use Rattle.node_core.specs.declared.walk.WalkFault.TheVariants as fault
 use Rattle.node_core.specs.State.{State}
 use Rattle.node_core.specs.Observable.{observable}
-use Rattle.node_core.specs.Woven.{Given, AreTurns, AddsTurn, first, next, woven, IsWalked, IsStopped, RunsWoven, WalksAmong}
-use Rattle.node_core.specs.inside.Walker.{FindsKey, FixesTable, UnfixesTable, FixOnBuckets, UnfixOnBuckets, TurnResult, WalkResult, steps_of, RunsOthers}
+use Rattle.node_core.specs.Buckets.{run_on_buckets}
+use Rattle.node_core.specs.Woven.{is_step_of, Given, AddsTurn}
+use Rattle.node_core.specs.inside.Walker.{CanContinue, FindsKey, WalkSoFar, WalkStopped, TurnResult, OthersRan, RunsOthers}
 use Rattle.node_core.proofs.walks.Weaving.{paired}
-use Rattle.node_core.proofs.walks.WalkEnds.{last-given, stopped-first, stopped-before, stopped-among, stopped-after, stands-next, ends-ok, ends-err, not-held}
-use Rattle.node_core.proofs.walks.WalkBuckets.{interleaved-none, interleaved-before, interleaved-among, interleaved-after, interleaved-next, runs-woven, runs-none}
+use Rattle.node_core.proofs.walks.Turns.{steps-paired, after, stopped-here, stopped, not-found, turned}
 
-module _ (p t : ℕ) where
-  -- ---- the turn of a key
-  module _ (now : State) (keys : List Term) (given : Given) (key : Term) (keys' : List Term) (given' : Given) where
-    -- the others do not get the key
-    pub turn-untold : keys' ≡ keys → given' ≡ given → TurnResult p t keys given key now keys' given' (Err fault.Memory) now
-    turn-untold e f = (
-      [],
-      λ old st limit. stopped-before p t old now keys given key st keys' given' e f limit,
-      λ old w. interleaved-before p t old now keys given key w keys' given' e f,
-    )
+-- ---- what a call answered
+pub on-done : {E P : Type 0} (r : Result (Unit {0}) E) → false ≡ is_err r → OnOk r P → P
+on-done (Ok done) e h = h
+on-done (Err error) e h = absurd (true≢false (sym e))
 
-    module _ (turns : AreTurns keys given) (adds : AddsTurn keys given key keys' given') (mid : State) where
-      abbrev pairs : Given
-      pairs = paired (length keys) adds.1.0
+pub on-refused : {E P : Type 0} (r : Result (Unit {0}) E) → true ≡ is_err r → OnErr r P → P
+on-refused (Ok done) e h = absurd (true≢false e)
+on-refused (Err error) e h = h
 
-      -- one of the others' steps is not done
-      pub turn-stopped : (why : WalkFault) → RunsOthers p now (drop (length given) given') (Err why) mid → TurnResult p t keys given key now keys' given' (Err why) mid
-      turn-stopped why ran =
-          let own : RunsOthers p now pairs (Err why) mid = subst (λ gs. RunsOthers p now gs (Err why) mid) (last-given keys given key keys' given' adds) ran in (
-            steps_of (drop own.0 pairs) ++ next p t key ∷ [],
-            λ old st limit. stopped-among p t old now keys given key st keys' given' adds mid why own.0 own.1 own.2 limit,
-            λ old w. interleaved-among p t old now keys given key w turns keys' given' adds mid own.0 own.1,
-          )
+-- ---- what was handed in last
+drop-all : (xs ys : Given) → drop (length xs) (xs ++ ys) ≡ ys
+drop-all [] ys = refl
+drop-all (x ∷ xs) ys = drop-all xs ys
 
-      module _ (ran : RunsOthers p now (drop (length given) given') (Ok tt) mid) where
-        -- the next key is not found
-        pub turn-unfound : (why : WalkFault) → FindsKey p t (Some key) (observable mid) (Err why) → TurnResult p t keys given key now keys' given' (Err why) mid
-        turn-unfound why finds = (
-          next p t key ∷ [],
-          λ old st limit. stopped-after p t old now keys given key st keys' given' adds mid ran why finds limit,
-          λ old w. interleaved-after p t old now keys given key w turns keys' given' adds mid ran,
-        )
+-- the slice from where those before end
+pub sliced : (before now given given' : Given) → before ≡ given → now ≡ given' → take (length now - length before) (drop (length before) now) ≡ drop (length given) given'
+sliced before now given given' e f =
+    take_all (length now - length before) (drop (length before) now) (omega (arith, length-drop (length before) now))
+    ∙ ap₂ (λ (n : ℕ) (gs : Given). drop n gs) (ap length e) f
 
-        pub turn-done : (found : Option Term) → FindsKey p t (Some key) (observable mid) (Ok found) → TurnResult p t keys given key now keys' given' (Ok found) mid
-        turn-done found finds = (
-          λ old st. stands-next p t old now keys given key st keys' given' adds mid ran found finds,
-          λ old w. interleaved-next p t old now keys given key w turns keys' given' adds mid ran found finds,
-        )
+module _ (p t : ℕ) (now : State) (keys : List Term) (given : Given) (key : Term) (keys' : List Term) (given' : Given) where
+  -- the others do not get the key
+  pub turn-untold : keys' ≡ keys → given' ≡ given → TurnResult p t keys given key now keys' given' (Err fault.Memory) now
+  turn-untold e f = λ old st limit. subst₂ (λ ks gs. WalkStopped p t old limit ks gs fault.Memory now) (sym e) (sym f) (stopped-here p t old keys given key now limit st)
 
-  -- ---- the whole walk
-  -- the first key is not found
-  pub ends-unfound : (limit : ℕ) (now : State) (why : WalkFault) → FindsKey p t None (observable now) (Err why) → WalkResult p t limit now [] [] (Err why) now
-  ends-unfound limit now why finds = (first p t ∷ [], λ old held. stopped-first p t old (observable now) why limit held finds, λ old held. interleaved-none p t old now held)
+  module _ (adds : AddsTurn keys given key keys' given') (mid : State) where
+    abbrev steps : List Step
+    steps = adds.1.0
 
-  module _ (old : State) (term : Term) (limit : ℕ) (e : resolve old.world.tables term ≡ Some t) where
-    stopped : (keys : List Term) (given : Given) (why : WalkFault) (new : State) → (left : List Step) × IsStopped p t (observable old) limit keys given why left (observable new) × RunsWoven p t old keys given left new
-        → WalksAmong old p term limit keys given (Err why) new
-    stopped keys given why new h =
-        subst (λ (o : Option ℕ). MatchOption o ((why ≡ fault.Lost) × (new ≡ old) × (keys ≡ []) × (given ≡ [])) (λ u.
-        (left : List Step) × IsStopped p u (observable old) limit keys given why left (observable new) × RunsWoven p u old keys given left new)) (sym e) h
+    abbrev pairs : Given
+    pairs = paired (length keys) steps
 
-    -- the table is not fixed
-    pub not-walked : (keys : List Term) (given : Given) (why : WalkFault) (new : State) → keys ≡ [] → given ≡ [] → FixesTable p t (observable old) (Err why) (observable new) → FixOnBuckets p t old (Err why) new
-        → WalksAmong old p term limit keys given (Err why) new
-    not-walked keys given why new none unasked h same =
-        stopped keys given why new
-        (subst₂ (λ ks gs. (left : List Step) × IsStopped p t (observable old) limit ks gs why left (observable new) × RunsWoven p t old ks gs left new) (sym none) (sym unasked)
-        (woven p t [] [], not-held p t (observable old) limit why (observable new) h, runs-none p t old new same))
+    last-given : drop (length given) given' ≡ pairs
+    last-given = ap (λ gs. drop (length given) gs) adds.1.1 ∙ drop-all given pairs
 
-    -- it is fixed, walked over and released
-    module _ (was now new : State) (held : FixesTable p t (observable old) (Ok tt) (observable was)) (on : FixOnBuckets p t old (Ok tt) was) (keys : List Term) (given : Given) where
-      pub walked-among : (result : Result Walk WalkFault) (b : Bool) → WalkResult p t limit was keys given result now → UnfixesTable p t (observable now) b (observable new) → UnfixOnBuckets p t now b new
-          → WalksAmong old p term limit keys given result new
-      walked-among (Ok walk) b ends go off =
-          let both = ends-ok p t (observable old) (observable now) limit keys given (observable new) b walk (ends.0 (observable old) held) go in
-          let ran = runs-woven p t old keys given [] now new (ends.1 old (held.0, on)) b go off in
-          (both.0, subst (λ (o : Option ℕ). MatchOption o ⊥ (λ u. IsWalked p u (observable old) limit keys given (observable new) × RunsWoven p u old keys given [] new)) (sym e) (both.1, ran))
-      walked-among (Err why) b ends go off =
-          stopped keys given why new (
-            ends.0,
-            ends-err p t (observable old) (observable now) limit keys given (observable new) b why ends.0 (ends.1 (observable old) held) go,
-            runs-woven p t old keys given ends.0 now new (ends.2 old (held.0, on)) b go off,
-          )
+    -- one of the others' steps is not done
+    pub turn-stopped : (why : WalkFault) → RunsOthers p now (drop (length given) given') (Err why) mid → TurnResult p t keys given key now keys' given' (Err why) mid
+    turn-stopped why ran = λ old st limit.
+        let own : RunsOthers p now pairs (Err why) mid = subst (λ gs. RunsOthers p now gs (Err why) mid) last-given ran in
+        let did = own.1 in
+        subst₂ (λ ks gs. WalkStopped p t old limit ks gs why mid) (sym adds.0) (sym adds.1.1) (stopped p t old keys given key now st steps own.0 mid did.replies did.ran did.others why limit own.2)
 
-pub no-table : (p : ℕ) (old : State) (term : Term) (limit : ℕ) (keys : List Term) (given : Given) → resolve old.world.tables term ≡ None → keys ≡ [] → given ≡ [] → WalksAmong old p term limit keys given (Err fault.Lost) old
-no-table p old term limit keys given e none unasked =
-    subst (λ (o : Option ℕ). MatchOption o ((fault.Lost ≡ fault.Lost) × (old ≡ old) × (keys ≡ []) × (given ≡ [])) (λ u.
-    (left : List Step) × IsStopped p u (observable old) limit keys given fault.Lost left (observable old) × RunsWoven p u old keys given left old)) (sym e) (refl, refl, none, unasked)
+    module _ (ran : RunsOthers p now (drop (length given) given') (Ok tt) mid) where
+      did : OthersRan p now pairs mid
+      did = subst (λ gs. OthersRan p now gs mid) last-given ran
+
+      did-run : run_on_buckets now steps did.replies mid
+      did-run = subst (λ xs. run_on_buckets now xs did.replies mid) (steps-paired (length keys) steps) did.ran
+
+      did-others : AllByRecursion (λ s. is_step_of p s ≡ false) steps
+      did-others = subst (λ xs. AllByRecursion (λ s. is_step_of p s ≡ false) xs) (steps-paired (length keys) steps) did.others
+
+      -- the walk can go on from the key
+      pub goes-further : (old : State) → WalkSoFar p t old keys given (Some key) now → CanContinue t (observable mid) (Some key)
+      goes-further old st =
+          let made = after p t old keys given (Some key) now st steps did.replies mid did-run did-others in
+          let before = st.goes_on in
+          record { slot = made.place key before.slot; shallow = before.shallow; no_end = before.no_end }
+
+      -- the next key is not found
+      pub turn-unfound : (why : WalkFault) → FindsKey p t (Some key) (observable mid) (Err why) → TurnResult p t keys given key now keys' given' (Err why) mid
+      turn-unfound why finds = λ old st limit.
+          subst₂ (λ ks gs. WalkStopped p t old limit ks gs why mid) (sym adds.0) (sym adds.1.1) (not-found p t old keys given key now st steps did.replies mid did-run did-others why limit finds)
+
+      pub turn-done : (found : Option Term) → FindsKey p t (Some key) (observable mid) (Ok found) → TurnResult p t keys given key now keys' given' (Ok found) mid
+      turn-done found finds = λ old st.
+          subst₂ (λ ks gs. WalkSoFar p t old ks gs found mid) (sym adds.0) (sym adds.1.1) (turned p t old keys given key now st steps did.replies mid did-run did-others found finds)

@@ -92,7 +92,7 @@ module _ (p t : ℕ) where
   others-at true turn g given e other rest = subst (λ (xs : List Step). AllByRecursion (λ s. is_step_of p s ≡ false) xs) (sym (take-in g.1 given turn g e)) (other, rest)
   others-at false turn g given e other rest = subst (λ (xs : List Step). AllByRecursion (λ s. is_step_of p s ≡ false) xs) (sym (pass-by given turn g e)) rest
 
-  others-of : (turn : ℕ) (given : Given) → AllByRecursion (λ g. is_step_of p g.1 ≡ false) given → AllByRecursion (λ s. is_step_of p s ≡ false) (steps_at turn given)
+  pub others-of : (turn : ℕ) (given : Given) → AllByRecursion (λ g. is_step_of p g.1 ≡ false) given → AllByRecursion (λ s. is_step_of p s ≡ false) (steps_at turn given)
   others-of turn [] h = tt
   others-of turn (g ∷ given) h = others-at (g.0 == turn) turn g given refl h.0 (others-of turn given h.1)
 

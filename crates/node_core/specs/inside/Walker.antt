@@ -16,17 +16,21 @@ use Rattle.node_core.specs.declared.walk.WalkFault.{WalkFault}
 use Rattle.node_core.specs.declared.walk.WalkFault.TheVariants as fault
 use Rattle.node_core.specs.State.{State}
 use Rattle.node_core.specs.Observable.{observable}
-use Rattle.node_core.specs.Machine.{step, run}
-use Rattle.node_core.specs.Buckets.{run_on_buckets}
+use Rattle.node_core.specs.Machine.{step}
+use Rattle.node_core.specs.Buckets.{run_on_buckets, observable_states}
 use Rattle.node_core.specs.rules.Growth.{step_on_buckets}
 use Rattle.node_core.specs.rules.Replies.{true_reply}
 use Rattle.node_core.specs.rules.Walking.{key_reply}
 use Rattle.node_core.specs.laws.Kept.{slots_in, StaysFixed}
-use Rattle.node_core.specs.laws.Walk.{states, Walks, HasSoundKeys}
-use Rattle.node_core.specs.Woven.{is_step_of, replies_to, Given, AreTurns, fix, release, first, next, walk, can_read, fixes_in, StopReason, OthersObserve}
+use Rattle.node_core.specs.laws.Walk.{HasSoundKeys}
+use Rattle.node_core.specs.Woven.{is_step_of, replies_to, Given, fix, release, first, next, walk, can_read, fixes_in, WovenRun, StopReason}
 
 abbrev pub exists_in : ℕ → State → Bool
 exists_in t s = is_some (table_at s.world.tables t)
+
+-- each step handed in has the index of one of these keys
+abbrev pub AreTurns : List Term → Given → Type 0
+AreTurns keys given = AllByRecursion (λ g. g.0 < length keys) given
 
 -- a key from which the traversal can go on
 pub record CanResume (t : ℕ) (s : State) (key : Term) : Type 0 where
@@ -70,61 +74,7 @@ module _ (p t : ℕ) where
       × ((n : ℕ) → fixes_in p t old ≡ suc n → fixes_in p t new ≡ n)
   UnfixesTable old false new = (can_read p t old ≡ false) × (new ≡ old)
 
-  -- a run from a state on that is a traversal from this call on, in a table that stays fixed
-  pub record IsTraversal (call : Option Term) (keys : List Term) (old : State) (steps : List Step)
-      (replies : List Reply) (new : State) : Type 0 where
-    pub done : run old steps replies new
-    pub answers : Walks p t call keys old steps replies new done
-    pub held : StaysFixed t (states old steps replies new done)
-
-  -- such a traversal was exact before, or is exact with what comes from now on
-  abbrev pub Extends : Option Term → List Term → State → List Step → List Reply → State → Type 0
-  Extends None keys fixed steps replies now = IsTraversal None keys fixed steps replies now
-  Extends (Some key) keys fixed steps replies now =
-      (further : List Term) (more : List Step) (others : List Reply) (end : State)
-      → IsTraversal (Some key) further now more others end
-      → IsTraversal None (keys ++ key ∷ further) fixed (steps ++ more) (replies ++ others) end
-
-  -- the traversal so far, when the last of its calls found this
-  pub record WalkSoFar (old : State) (keys : List Term) (given : Given) (found : Option Term)
-      (now : State) : Type 0 where
-    pub fixed : State
-    pub before : List Reply
-    pub fix_done : step old (fix p t) true_reply fixed
-    pub sound : HasSoundKeys t fixed
-    pub walk_done : run fixed (walk p t keys given) (before ++ key_reply found ∷ []) now
-    pub leads : Extends found keys fixed (walk p t keys given) (before ++ key_reply found ∷ []) now
-    pub replied : replies_to p (walk p t keys given) (before ++ key_reply found ∷ [])
-        ≡ map (λ key. Value key) keys ++ key_reply found ∷ []
-    pub others : AllByRecursion (λ g. is_step_of p g.1 ≡ false) given
-    pub turns : AreTurns keys given
-    pub fixes : exists_in t now ≡ true → fixes_in p t now ≡ suc (fixes_in p t old)
-    pub long : t < length now.world.tables
-    pub readable : can_read p t now ≡ true
-    pub goes_on : CanContinue t now found
-
-  -- a traversal that stopped and left these steps, before the release
-  pub record WalkStopped (old : State) (limit : ℕ) (keys : List Term) (given : Given)
-      (why : WalkFault) (left : List Step) (now : State) : Type 0 where
-    pub done : List Step
-    pub own_left : List Step
-    pub replies : List Reply
-    pub order : walk p t keys given ≡ done ++ left
-    pub own : walk p t keys [] ≡ filter (is_step_of p) done ++ own_left
-    pub ran : run old (fix p t ∷ done) (true_reply ∷ replies) now
-    pub tells : OthersObserve p keys given (fix p t ∷ done) (true_reply ∷ replies)
-    pub turns : AreTurns keys given
-    pub reason :
-        StopReason p t why old limit keys given (fix p t ∷ done) left (true_reply ∷ replies) now
-    pub fixes : exists_in t now ≡ true → fixes_in p t now ≡ suc (fixes_in p t old)
-
-  -- the same for the buckets:
-  -- the fix is done
-  abbrev pub FixIsDone : State → State → Type 0
-  FixIsDone old new =
-      step (observable old) (fix p t) true_reply (observable new)
-      × step_on_buckets old (fix p t) true_reply new
-
+  -- what it does to the buckets
   abbrev pub FixOnBuckets : State → Result (Unit {0}) WalkFault → State → Type 0
   FixOnBuckets old (Ok done) new = step_on_buckets old (fix p t) true_reply new
   FixOnBuckets old (Err why) new = new ≡ old
@@ -133,41 +83,65 @@ module _ (p t : ℕ) where
   UnfixOnBuckets old true new = step_on_buckets old (release p t) true_reply new
   UnfixOnBuckets old false new = new ≡ old
 
-  -- the fix is done, and of the steps of the traversal all but those left
-  pub record RunsInterleaved (old : State) (keys : List Term) (given : Given) (left : List Step)
+  -- the fix is done
+  abbrev pub FixIsDone : State → State → Type 0
+  FixIsDone old new =
+      FixesTable (observable old) (Ok tt) (observable new) × FixOnBuckets old (Ok tt) new
+
+  -- a run during which the table stays fixed
+  abbrev pub RunsFixed : State → List Step → List Reply → State → Type 0
+  RunsFixed old steps replies new =
+      (ran : run_on_buckets old steps replies new)
+      × StaysFixed t (observable_states old steps replies new ran)
+
+  -- if the table exists, the process has one fix more than before the traversal
+  abbrev pub HasFix : State → State → Type 0
+  HasFix old now =
+      exists_in t (observable now) ≡ true
+      → fixes_in p t (observable now) ≡ suc (fixes_in p t (observable old))
+
+  -- the traversal so far, when the last of its calls found this
+  pub record WalkSoFar (old : State) (keys : List Term) (given : Given) (found : Option Term)
       (now : State) : Type 0 where
-    pub done : List Step
-    pub replies : List Reply
-    pub order : walk p t keys given ≡ done ++ left
-    pub ran : run_on_buckets old (fix p t ∷ done) replies now
+    pub fixed : State
+    pub before : List Reply
+    pub fix_done : run_on_buckets old (fix p t ∷ []) (true_reply ∷ []) fixed
+    pub sound : HasSoundKeys t (observable fixed)
+    pub walk_done : RunsFixed fixed (walk p t keys given) (before ++ key_reply found ∷ []) now
+    pub replied : replies_to p (walk p t keys given) (before ++ key_reply found ∷ [])
+        ≡ map (λ key. Value key) keys ++ key_reply found ∷ []
+    pub others : AllByRecursion (λ g. is_step_of p g.1 ≡ false) given
+    pub turns : AreTurns keys given
+    pub fixes : HasFix old now
+    pub long : t < length (observable now).world.tables
+    pub readable : can_read p t (observable now) ≡ true
+    pub goes_on : CanContinue t (observable now) found
+
+  -- a traversal that stopped, before the release
+  pub record WalkStopped (old : State) (limit : ℕ) (keys : List Term) (given : Given)
+      (why : WalkFault) (last : State) : Type 0 where
+    pub run : WovenRun p t old keys given last
+    pub reason : StopReason p t old keys given last why limit run
+    pub fixes : HasFix old last
 
   -- what the turn of a key does, wherever the traversal began
   abbrev pub TurnResult : (keys : List Term) (given : Given) (key : Term) (was : State)
       (keys' : List Term) (given' : Given) → Result (Option Term) WalkFault → State → Type 0
   TurnResult keys given key was keys' given' (Ok found) now =
-      ((old : State) → WalkSoFar old keys given (Some key) (observable was)
-      → WalkSoFar old keys' given' found (observable now))
-      × ((old : State) → RunsInterleaved old keys given [] was
-      → RunsInterleaved old keys' given' [] now)
+      (old : State) → WalkSoFar old keys given (Some key) was
+      → WalkSoFar old keys' given' found now
   TurnResult keys given key was keys' given' (Err why) now =
-      (left : List Step)
-      × ((old : State) → WalkSoFar old keys given (Some key) (observable was) → (limit : ℕ)
-      → WalkStopped old limit keys' given' why left (observable now))
-      × ((old : State) → RunsInterleaved old keys given [] was
-      → RunsInterleaved old keys' given' left now)
+      (old : State) → WalkSoFar old keys given (Some key) was → (limit : ℕ)
+      → WalkStopped old limit keys' given' why now
 
   -- what the whole traversal does, before the release
   abbrev pub WalkResult : (limit : ℕ) (was : State) (keys : List Term) (given : Given)
       → Result Walk WalkFault → State → Type 0
   WalkResult limit was keys given (Ok walk) now =
-      ((old : State) → FixesTable old (Ok tt) (observable was)
-      → (walk.keys ≡ keys) × (length keys ≤ limit) × WalkSoFar old keys given None (observable now))
-      × ((old : State) → FixIsDone old was → RunsInterleaved old keys given [] now)
+      (old : State) → FixIsDone old was
+      → (walk.keys ≡ keys) × (length keys ≤ limit) × WalkSoFar old keys given None now
   WalkResult limit was keys given (Err why) now =
-      (left : List Step)
-      × ((old : State) → FixesTable old (Ok tt) (observable was)
-      → WalkStopped old limit keys given why left (observable now))
-      × ((old : State) → FixIsDone old was → RunsInterleaved old keys given left now)
+      (old : State) → FixIsDone old was → WalkStopped old limit keys given why now
 
 -- the steps handed in are done in order, none of them of this process: all, or those before one that is its own or ran
 -- out of memory

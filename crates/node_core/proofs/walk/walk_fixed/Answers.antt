@@ -1,11 +1,7 @@
-use Rattle.std.proofs.Common.{rules, arith, ◌≤◌, Err, [], ◌∙◌, sym, subst, subst₂, length}
+use Rattle.std.proofs.Common.{rules, arith, ◌≤◌, Err, ◌∙◌, sym, subst, subst₂, length}
 use Rattle.std.proofs.lemmas.Result.{err_from_is_err_and}
-use Rattle.node_core.specs.Observable.{observable}
-use Rattle.node_core.specs.inside.Walker.{WalkSoFar, RunsInterleaved, WalkResult}
-use Rattle.node_core.proofs.walks.Turns.{past-limit}
-use Rattle.node_core.proofs.walks.WalkBuckets.{interleaved-first}
-use Rattle.node_core.proofs.walks.WalkEnds.{so_far-first}
-use Rattle.node_core.proofs.walks.WalkParts.{ends-unfound}
+use Rattle.node_core.specs.inside.Walker.{WalkSoFar, WalkResult}
+use Rattle.node_core.proofs.walks.Turns.{begun, not-begun, past-limit}
 use Rattle.node_core.proofs.walk.walk_fixed.Goals as goal
 
 pub returns-in_err-found : goal.returns-in_err-found
@@ -14,7 +10,7 @@ returns-in_err-found g c =
     let why = c.in_err-found.field-0.0 in
     let p = err_from_is_err_and c.from_residual.result c.from_residual.ensures.1 in
     rw (p.1, p.2) (subst₂ (λ ks gs. WalkResult c.args.pid c.args.id c.args.limit now ks gs (Err why) now) (sym c.requires.keys) (sym c.requires.steps)
-    (ends-unfound c.args.pid c.args.id c.args.limit now why c.in_err-found.ensures))
+    (λ old held. not-begun c.args.pid c.args.id old now held why c.args.limit c.in_err-found.ensures))
 
 pub loop-at-init : goal.loop-at-init
 loop-at-init g c =
@@ -22,23 +18,17 @@ loop-at-init g c =
     record {
       told = c.requires.keys ∙ sym c.new-keys.ensures.items;
       count = search rules;
-      stands = λ old held. subst₂ (λ ks gs. WalkSoFar c.args.pid c.args.id old ks gs c.in_ok-found.found (observable now)) (sym c.new-keys.ensures.items) (sym c.requires.steps)
-          (so_far-first c.args.pid c.args.id old (observable now) c.in_ok-found.found held c.in_ok-found.ensures);
-      weaves = λ old held. subst₂ (λ ks gs. RunsInterleaved c.args.pid c.args.id old ks gs [] now) (sym c.new-keys.ensures.items) (sym c.requires.steps)
-          (interleaved-first c.args.pid c.args.id old now c.in_ok-found.found held c.in_ok-found.ensures);
+      so_far = λ old held. subst₂ (λ ks gs. WalkSoFar c.args.pid c.args.id old ks gs c.in_ok-found.found now) (sym c.new-keys.ensures.items) (sym c.requires.steps)
+          (begun c.args.pid c.args.id old now held c.in_ok-found.found c.in_ok-found.ensures);
     }
 
 pub returns-in_err-found-2 : goal.returns-in_err-found-2
 returns-in_err-found-2 g c =
     let at = c.loop-at in
     let given = g.O.Others.steps at.others in
-    let turned = c.in_err-found-2.ensures.turn in
     let p = err_from_is_err_and c.from_residual-in_err-found-2.result c.from_residual-in_err-found-2.ensures.1 in
-    rw (p.1, p.2) (
-      turned.0,
-      λ old held. turned.1 old (subst₂ (λ ks found. WalkSoFar c.args.pid c.args.id old ks given found (observable at.node)) (sym at.invariant.told) c.in-Some.is (at.invariant.stands old held)) c.args.limit,
-      λ old held. turned.2 old (subst (λ ks. RunsInterleaved c.args.pid c.args.id old ks given [] at.node) (sym at.invariant.told) (at.invariant.weaves old held)),
-    )
+    rw (p.1, p.2)
+    (λ old held. c.in_err-found-2.ensures.turn old (subst₂ (λ ks found. WalkSoFar c.args.pid c.args.id old ks given found at.node) (sym at.invariant.told) c.in-Some.is (at.invariant.so_far old held)) c.args.limit)
 
 pub loop-at-preserved : goal.loop-at-preserved
 loop-at-preserved g c =
@@ -46,49 +36,39 @@ loop-at-preserved g c =
     let given = g.O.Others.steps at.others in
     let given' = g.O.Others.steps c.walk_turn.new.others in
     let next = c.in_ok-found-2 in
-    let turned = next.ensures.turn in
     record {
       told = sym next.ensures.keys;
       count = omega (arith, next.ensures.count, at.invariant.count);
-      stands = λ old held. subst (λ ks. WalkSoFar c.args.pid c.args.id old ks given' next.found (observable c.walk_turn.new.node)) (sym next.ensures.keys)
-          (turned.0 old (subst₂ (λ ks found. WalkSoFar c.args.pid c.args.id old ks given found (observable at.node)) (sym at.invariant.told) c.in-Some.is (at.invariant.stands old held)));
-      weaves = λ old held. subst (λ ks. RunsInterleaved c.args.pid c.args.id old ks given' [] c.walk_turn.new.node) (sym next.ensures.keys)
-          (turned.1 old (subst (λ ks. RunsInterleaved c.args.pid c.args.id old ks given [] at.node) (sym at.invariant.told) (at.invariant.weaves old held)));
+      so_far = λ old held. subst (λ ks. WalkSoFar c.args.pid c.args.id old ks given' next.found c.walk_turn.new.node) (sym next.ensures.keys)
+          (next.ensures.turn old (subst₂ (λ ks found. WalkSoFar c.args.pid c.args.id old ks given found at.node) (sym at.invariant.told) c.in-Some.is (at.invariant.so_far old held)));
     }
 
 pub returns-in_default : goal.returns-in_default
 returns-in_default g c =
     let at = c.loop-at in
     let given = g.O.Others.steps at.others in
-    let few : length (g.O.Others.keys at.others) ≤ c.args.limit = search rules in (
-      λ old held. (
-        c.from_keys.ensures ∙ sym at.invariant.told,
-        few,
-        subst₂ (λ ks found. WalkSoFar c.args.pid c.args.id old ks given found (observable at.node)) (sym at.invariant.told) c.in_default.is (at.invariant.stands old held),
-      ),
-      λ old held. subst (λ ks. RunsInterleaved c.args.pid c.args.id old ks given [] at.node) (sym at.invariant.told) (at.invariant.weaves old held),
+    let few : length (g.O.Others.keys at.others) ≤ c.args.limit = search rules in
+    λ old held. (
+      c.from_keys.ensures ∙ sym at.invariant.told,
+      few,
+      subst₂ (λ ks found. WalkSoFar c.args.pid c.args.id old ks given found at.node) (sym at.invariant.told) c.in_default.is (at.invariant.so_far old held),
     )
 
 pub returns-in-None : goal.returns-in-None
 returns-in-None g c =
     let at = c.loop-at in
     let given = g.O.Others.steps at.others in
-    let few : length (g.O.Others.keys at.others) ≤ c.args.limit = search rules in (
-      λ old held. (
-        c.from_keys-in-None.ensures ∙ sym at.invariant.told,
-        few,
-        subst₂ (λ ks found. WalkSoFar c.args.pid c.args.id old ks given found (observable at.node)) (sym at.invariant.told) c.in-None.is (at.invariant.stands old held),
-      ),
-      λ old held. subst (λ ks. RunsInterleaved c.args.pid c.args.id old ks given [] at.node) (sym at.invariant.told) (at.invariant.weaves old held),
+    let few : length (g.O.Others.keys at.others) ≤ c.args.limit = search rules in
+    λ old held. (
+      c.from_keys-in-None.ensures ∙ sym at.invariant.told,
+      few,
+      subst₂ (λ ks found. WalkSoFar c.args.pid c.args.id old ks given found at.node) (sym at.invariant.told) c.in-None.is (at.invariant.so_far old held),
     )
 
 pub returns-in-Some-found : goal.returns-in-Some-found
 returns-in-Some-found g c =
     let at = c.loop-at in
     let keys = g.O.Others.keys at.others in
-    let given = g.O.Others.steps at.others in (
-      [],
-      λ old held. past-limit c.args.pid c.args.id old keys given c.in-Some-found.field-0 (observable at.node) c.args.limit
-          (subst₂ (λ ks found. WalkSoFar c.args.pid c.args.id old ks given found (observable at.node)) (sym at.invariant.told) c.in-Some-found.is (at.invariant.stands old held)) (search rules),
-      λ old held. subst (λ ks. RunsInterleaved c.args.pid c.args.id old ks given [] at.node) (sym at.invariant.told) (at.invariant.weaves old held),
-    )
+    let given = g.O.Others.steps at.others in
+    λ old held. past-limit c.args.pid c.args.id old keys given c.in-Some-found.field-0 at.node c.args.limit
+        (subst₂ (λ ks found. WalkSoFar c.args.pid c.args.id old ks given found at.node) (sym at.invariant.told) c.in-Some-found.is (at.invariant.so_far old held)) (search rules)

@@ -1,7 +1,6 @@
-use Rattle.std.proofs.Common.{◌≡◌, Ok, [], vec_len}
-use Rattle.node_core.specs.Observable.{observable}
+use Rattle.std.proofs.Common.{◌≡◌, vec_len}
 use Rattle.node_core.specs.State.{State}
-use Rattle.node_core.specs.inside.Walker.{FixesTable, WalkSoFar, FixIsDone, RunsInterleaved}
+use Rattle.node_core.specs.inside.Walker.{WalkSoFar, FixIsDone}
 use Rattle.node_core.proofs.walk.walk_fixed.Given as goal
 
 -- the traversal is as the turns so far left it, and each gave a key
@@ -9,6 +8,5 @@ abbrev pub invariant-loop-at : goal.invariant-loop-at
 invariant-loop-at g l = record {
   told : g.O.Others.keys l.others ≡ l.keys.items;
   count : vec_len l.keys ≡ l._at;
-  stands : (old : State) → FixesTable l.pid l.id old (Ok tt) (observable l.fn.node) → WalkSoFar l.pid l.id old l.keys.items (g.O.Others.steps l.others) l.found (observable l.node);
-  weaves : (old : State) → FixIsDone l.pid l.id old l.fn.node → RunsInterleaved l.pid l.id old l.keys.items (g.O.Others.steps l.others) [] l.node;
+  so_far : (old : State) → FixIsDone l.pid l.id old l.fn.node → WalkSoFar l.pid l.id old l.keys.items (g.O.Others.steps l.others) l.found l.node;
 }

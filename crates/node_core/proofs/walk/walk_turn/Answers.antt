@@ -1,8 +1,7 @@
 use Rattle.std.proofs.Common.{refl, subst, Ok, Err, length, drop}
 use Rattle.std.proofs.lemmas.Result.{err_from_is_err_and}
 use Rattle.node_core.specs.inside.Walker.{RunsOthers}
-use Rattle.node_core.proofs.walks.WalkEnds.{on-done, on-refused, sliced, goes-further}
-use Rattle.node_core.proofs.walks.WalkParts.{turn-untold, turn-stopped, turn-unfound, turn-done}
+use Rattle.node_core.proofs.walks.WalkParts.{on-done, on-refused, sliced, turn-untold, turn-stopped, goes-further, turn-unfound, turn-done}
 use Rattle.node_core.proofs.walk.walk_turn.Goals as goal
 
 pub returns-then-is_err-clause-turn : goal.returns-then-is_err-clause-turn
@@ -28,7 +27,7 @@ returns-in_err-run_steps-clause-turn g c =
     let p = err_from_is_err_and c.from_residual.result c.from_residual.ensures.1 in
     let last = sliced c.given-before.result.now c.given.result.now given given' c.given-before.ensures c.given.ensures in
     let ran : RunsOthers c.args.pid now (drop (length given) given') (Err why) mid = subst (λ gs. RunsOthers c.args.pid now gs (Err why) mid) last c.in_err-run_steps.ensures in
-    rw (p.1, p.2) (turn-stopped c.args.pid c.args.id now keys given c.args.key keys' given' c.requires.stands.1.turns (on-done c.between.result c.if-is_err-2.ensures.value c.between.ensures.ok) mid why ran)
+    rw (p.1, p.2) (turn-stopped c.args.pid c.args.id now keys given c.args.key keys' given' (on-done c.between.result c.if-is_err-2.ensures.value c.between.ensures.ok) mid why ran)
 
 pub next_key-requires : goal.next_key-requires
 next_key-requires g c =
@@ -40,7 +39,7 @@ next_key-requires g c =
     let given' = g.O.Others.steps c.between.new.self in
     let last = sliced c.given-before.result.now c.given.result.now given given' c.given-before.ensures c.given.ensures in
     let ran : RunsOthers c.args.pid now (drop (length given) given') (Ok tt) mid = subst (λ gs. RunsOthers c.args.pid now gs (Ok tt) mid) last c.in_ok-run_steps.ensures in
-    goes-further c.args.pid c.args.id c.requires.stands.0 now keys given c.args.key c.requires.stands.1 keys' given' (on-done c.between.result c.if-is_err-2.ensures.value c.between.ensures.ok) mid ran
+    goes-further c.args.pid c.args.id now keys given c.args.key keys' given' (on-done c.between.result c.if-is_err-2.ensures.value c.between.ensures.ok) mid ran c.requires.so_far.0 c.requires.so_far.1
 
 pub returns-in_err-found-clause-turn : goal.returns-in_err-found-clause-turn
 returns-in_err-found-clause-turn g c =
@@ -53,7 +52,7 @@ returns-in_err-found-clause-turn g c =
     let p = err_from_is_err_and c.from_residual-in_err-found.result c.from_residual-in_err-found.ensures.1 in
     let last = sliced c.given-before.result.now c.given.result.now given given' c.given-before.ensures c.given.ensures in
     let ran : RunsOthers c.args.pid now (drop (length given) given') (Ok tt) mid = subst (λ gs. RunsOthers c.args.pid now gs (Ok tt) mid) last c.in_ok-run_steps.ensures in
-    rw (p.1, p.2) (turn-unfound c.args.pid c.args.id now keys given c.args.key keys' given' c.requires.stands.1.turns (on-done c.between.result c.if-is_err-2.ensures.value c.between.ensures.ok) mid ran c.in_err-found.field-0.0 c.in_err-found.ensures)
+    rw (p.1, p.2) (turn-unfound c.args.pid c.args.id now keys given c.args.key keys' given' (on-done c.between.result c.if-is_err-2.ensures.value c.between.ensures.ok) mid ran c.in_err-found.field-0.0 c.in_err-found.ensures)
 
 pub returns-clause-turn : goal.returns-clause-turn
 returns-clause-turn g c =
@@ -65,4 +64,4 @@ returns-clause-turn g c =
     let given' = g.O.Others.steps c.between.new.self in
     let last = sliced c.given-before.result.now c.given.result.now given given' c.given-before.ensures c.given.ensures in
     let ran : RunsOthers c.args.pid now (drop (length given) given') (Ok tt) mid = subst (λ gs. RunsOthers c.args.pid now gs (Ok tt) mid) last c.in_ok-run_steps.ensures in
-    turn-done c.args.pid c.args.id now keys given c.args.key keys' given' c.requires.stands.1.turns (on-done c.between.result c.if-is_err-2.ensures.value c.between.ensures.ok) mid ran c.in_ok-found.found c.in_ok-found.ensures
+    turn-done c.args.pid c.args.id now keys given c.args.key keys' given' (on-done c.between.result c.if-is_err-2.ensures.value c.between.ensures.ok) mid ran c.in_ok-found.found c.in_ok-found.ensures
