@@ -115,9 +115,14 @@ module _ (p t : ℕ) where
       let later : replies_to p rest replies ≡ told keys = cc in
       subst (λ (o : Option (Option Term × Bool)). MatchOption o (Walks p t call (key ∷ keys) done.0 rest replies new done.2)
       (λ asked. (asked.0 ≡ call) × Answers asked.1 r rest (key ∷ keys) (λ key keys. Walks p t (Some key) keys done.0 rest replies new done.2)))
-      (sym (asked old call (there-fixed t old held.0)))
-      (refl, (here, walks-others (Some key) keys (steps_at turn given) (next p t key ∷ turns p t given (suc turn) keys) (others-of p t turn given others)
-      (walks-turns (suc turn) (Some key) keys given others) done.0 new replies done.2 later held.1))
+      (sym (asked old call (there-fixed t old held.0))) (
+        refl,
+        (
+          here,
+          walks-others (Some key) keys (steps_at turn given) (next p t key ∷ turns p t given (suc turn) keys) (others-of p t turn given others)
+              (walks-turns (suc turn) (Some key) keys given others) done.0 new replies done.2 later held.1,
+        ),
+      )
 
   pub walks-told : (keys : List Term) (given : Given) → AllByRecursion (λ g. is_step_of p g.1 ≡ false) given → WalksFrom None keys (walk p t keys given)
   walks-told keys given others old new replies done is held = walks-turns 0 None keys given others old new replies done is held

@@ -1,5 +1,5 @@
 -- A walk among others' steps, turn by turn: where it is, and where it stops.
-use Rattle.std.proofs.Common.{◌≡◌, ℕ, zero, suc, ◌<◌, inl, inr, true, false, List, [], ◌∷◌, ◌++◌, Option, None, Some, Ok, Err, refl, sym, subst, subst₂, ap, ap₂, ◌∙◌, length, map, take, drop, filter, arith, append_assoc, true≢false}
+use Rattle.std.proofs.Common.{◌≡◌, ℕ, zero, suc, ◌<◌, inl, inr, true, false, List, [], ◌∷◌, ◌++◌, Option, None, Some, Ok, Err, refl, sym, subst, subst₂, ap, ap₂, ◌∙◌, length, map, take, drop, arith, append_assoc, true≢false}
 use Rattle.std.specs.Prelude.{is_some}
 use Rattle.std.specs.List.{AllByRecursion, Contains}
 use Rattle.std.specs.Option.{option_map_or}
@@ -18,11 +18,10 @@ use Rattle.node_core.specs.Observable.{observable, KeepsBuckets}
 use Rattle.node_core.specs.Machine.{run}
 use Rattle.node_core.specs.Buckets.{run_on_buckets, observable_states}
 use Rattle.node_core.specs.rules.Growth.{HasFirstBuckets}
-use Rattle.node_core.specs.rules.Replies.{true_reply}
 use Rattle.node_core.specs.rules.Walking.{key_reply}
 use Rattle.node_core.specs.laws.Kept.{is_fixed_in, StaysFixed}
-use Rattle.node_core.specs.Woven.{is_step_of, replies_to, Given, fix, first, next, walk, can_read, fixes_in, WovenRun, StopReason}
-use Rattle.node_core.specs.inside.Walker.{exists_in, AreTurns, call_of, FindsKey, FixIsDone, RunsFixed, HasFix, WalkSoFar, WalkStopped, steps_of, StoppedAtStep}
+use Rattle.node_core.specs.Woven.{is_step_of, replies_to, Given, first, next, walk, can_read, fixes_in, WovenRun, StopReason}
+use Rattle.node_core.specs.inside.Walker.{AreTurns, call_of, FindsKey, FixIsDone, RunsFixed, HasFix, WalkSoFar, WalkStopped, steps_of, StoppedAtStep}
 use Rattle.node_core.proofs.moves.Moves.{follows-same}
 use Rattle.node_core.proofs.buckets.Runs.{run-on-buckets-append, run-observable, states-observable}
 use Rattle.node_core.proofs.buckets.Observable.{buckets-follow}

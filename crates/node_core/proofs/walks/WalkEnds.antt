@@ -1,5 +1,5 @@
 -- The end of a walk, as its functions tell it.
-use Rattle.std.proofs.Common.{◌≡◌, ◌⊎◌, inl, inr, ℕ, Bool, true, false, List, [], ◌∷◌, ◌++◌, Option, None, Some, Result, Ok, Err, refl, sym, subst, subst₂, ap, ◌∙◌, filter}
+use Rattle.std.proofs.Common.{◌≡◌, ◌⊎◌, inl, inr, ℕ, Bool, true, false, List, [], ◌∷◌, ◌++◌, Option, None, Some, Result, Ok, Err, refl, sym, subst, ◌∙◌, filter}
 use Rattle.std.specs.Prelude.{MatchOption}
 use Rattle.std.specs.Bool.{MatchBool}
 use Rattle.ets_term.specs.declared.term.Term.{Term}
@@ -16,7 +16,7 @@ use Rattle.node_core.specs.rules.Replies.{true_reply}
 use Rattle.node_core.specs.rules.Walking.{key_reply}
 use Rattle.node_core.specs.laws.Kept.{StaysFixed}
 use Rattle.node_core.specs.laws.Walk.{states, Walks, IsWhole}
-use Rattle.node_core.specs.Woven.{is_step_of, Given, release, walk, can_read, fixes_in, WovenRun, IsComplete, StopReason, RefusesFix, EndsWithRelease, IsNotBegun, WalksAmong}
+use Rattle.node_core.specs.Woven.{is_step_of, Given, release, walk, fixes_in, WovenRun, IsComplete, StopReason, RefusesFix, EndsWithRelease, IsNotBegun, WalksAmong}
 use Rattle.node_core.specs.inside.Walker.{FixesTable, UnfixesTable, FixOnBuckets, UnfixOnBuckets, FixIsDone, HasFix, WalkSoFar, WalkResult}
 use Rattle.node_core.proofs.buckets.Runs.{run-observable, states-observable}
 use Rattle.node_core.proofs.walks.Answering.{readable-there, walks-told}

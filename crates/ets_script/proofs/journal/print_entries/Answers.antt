@@ -21,7 +21,8 @@ loop-entry-preserved g c =
     let ts = c.args.entries.now in
     let f = entry_text c.args.names.now in
     let x = c.entry-item.result in
-    let same : get_or ts l.entry-index x ≡ x = search rules in
-    (printed-more (g.W.Write.contents c.args.output.now.writer.now) (g.W.Write.contents l.output.writer.now) (g.W.Write.contents c.print_entry.new.output.writer.now) c.args.output.now.bytes.now.items (flat_map f ts) l.output.bytes.now.items c.print_entry.new.output.bytes.now.items (flat_map f (drop l.entry-index ts)) (f x) (flat_map f (drop (l.entry-index + 1) ts)) l.invariant.0
-    (items-at f ts l.entry-index x c.loop-entry-test.true same) c.in_ok-print_entry.ensures.ok,
-    c.print_entry.ensures.same_writer ∙ l.invariant.1)
+    let same : get_or ts l.entry-index x ≡ x = search rules in (
+      printed-more (g.W.Write.contents c.args.output.now.writer.now) (g.W.Write.contents l.output.writer.now) (g.W.Write.contents c.print_entry.new.output.writer.now) c.args.output.now.bytes.now.items (flat_map f ts) l.output.bytes.now.items c.print_entry.new.output.bytes.now.items (flat_map f (drop l.entry-index ts)) (f x) (flat_map f (drop (l.entry-index + 1) ts)) l.invariant.0
+          (items-at f ts l.entry-index x c.loop-entry-test.true same) c.in_ok-print_entry.ensures.ok,
+      c.print_entry.ensures.same_writer ∙ l.invariant.1,
+    )

@@ -55,9 +55,10 @@ loop-next-preserved-in_default g c =
     let left = g.R.Read.remaining c.refill.new.reader in
     let old = g.W.Write.contents c.args.output.now.writer.now in
     let w = g.W.Write.contents c.flush.new.self.writer.now in
-    let going = progress-read c.args.script.now l.script before old (g.W.Write.contents l.output.writer.now) w l.buffer c.skip_long.new.self c.refill.new.self (g.R.Read.remaining l.reader) left l.output.bytes.now.items c.flush.new.self.bytes.now.items c.in_ok-refill.field-0 l.invariant.0 c.in_default.ensures.0 c.in_ok-flush.ensures.ok c.skip_long.ensures c.in_ok-refill.ensures.ok in
-    (subst (λ (s : ScriptState). Progress c.args.script.now before old c.refill.new.self left c.flush.new.self.bytes.now.items w s) (sym c.in_default.ensures.1) going,
-    c.flush.ensures.same_writer ∙ l.invariant.1)
+    let going = progress-read c.args.script.now l.script before old (g.W.Write.contents l.output.writer.now) w l.buffer c.skip_long.new.self c.refill.new.self (g.R.Read.remaining l.reader) left l.output.bytes.now.items c.flush.new.self.bytes.now.items c.in_ok-refill.field-0 l.invariant.0 c.in_default.ensures.0 c.in_ok-flush.ensures.ok c.skip_long.ensures c.in_ok-refill.ensures.ok in (
+      subst (λ (s : ScriptState). Progress c.args.script.now before old c.refill.new.self left c.flush.new.self.bytes.now.items w s) (sym c.in_default.ensures.1) going,
+      c.flush.ensures.same_writer ∙ l.invariant.1,
+    )
 
 pub returns-in_err-print_line-clause-err : goal.returns-in_err-print_line-clause-err
 returns-in_err-print_line-clause-err g c =
@@ -71,7 +72,8 @@ pub loop-next-preserved : goal.loop-next-preserved
 loop-next-preserved g c =
     let l = c.loop-next in
     let n = c.in-Some.ensures in
-    let held = subst (λ (k : ℕ). c.consume.new.self.bytes ≡ drop k l.buffer.bytes) c.in_ok-print_line.ensures.taken c.consume.ensures.bytes in
-    (progress-line c.args.script.now l.script c.answer_next.new.script (g.R.Read.remaining c.args.reader.now) (g.W.Write.contents c.args.output.now.writer.now) (g.W.Write.contents l.output.writer.now) (g.W.Write.contents c.print_line.new.output.writer.now) l.buffer c.consume.new.self (g.R.Read.remaining l.reader) l.output.bytes.now.items c.print_line.new.output.bytes.now.items c.in-Some.next.taken n.line c.in-Some.next.answer
-    l.invariant.0 n.ends n.answers c.in_ok-print_line.ensures.ok held c.consume.ensures.whole,
-    c.print_line.ensures.same_writer ∙ l.invariant.1)
+    let held = subst (λ (k : ℕ). c.consume.new.self.bytes ≡ drop k l.buffer.bytes) c.in_ok-print_line.ensures.taken c.consume.ensures.bytes in (
+      progress-line c.args.script.now l.script c.answer_next.new.script (g.R.Read.remaining c.args.reader.now) (g.W.Write.contents c.args.output.now.writer.now) (g.W.Write.contents l.output.writer.now) (g.W.Write.contents c.print_line.new.output.writer.now) l.buffer c.consume.new.self (g.R.Read.remaining l.reader) l.output.bytes.now.items c.print_line.new.output.bytes.now.items c.in-Some.next.taken n.line c.in-Some.next.answer
+          l.invariant.0 n.ends n.answers c.in_ok-print_line.ensures.ok held c.consume.ensures.whole,
+      c.print_line.ensures.same_writer ∙ l.invariant.1,
+    )

@@ -71,4 +71,4 @@ returns-in-Some-found g c =
     let keys = g.O.Others.keys at.others in
     let given = g.O.Others.steps at.others in
     λ old held. past-limit c.args.pid c.args.id old keys given c.in-Some-found.field-0 at.node c.args.limit
-        (subst₂ (λ ks found. WalkSoFar c.args.pid c.args.id old ks given found at.node) (sym at.invariant.told) c.in-Some-found.is (at.invariant.so_far old held)) (search rules)
+    (subst₂ (λ ks found. WalkSoFar c.args.pid c.args.id old ks given found at.node) (sym at.invariant.told) c.in-Some-found.is (at.invariant.so_far old held)) (search rules)

@@ -7,4 +7,5 @@ returns-in_ok-room-in-UpdateCounter c =
     let fits = c.in_ok-room-in-UpdateCounter.ensures in
     rw c.in-UpdateCounter.is (λ old pid x y. (
       (counter-room old pid x y c.args.updates.now None _ fits.0, fits.1),
-      λ default. (counter-room old pid x y c.args.updates.now (Some default) _ fits.0, fits.1)))
+      λ default. (counter-room old pid x y c.args.updates.now (Some default) _ fits.0, fits.1),
+    ))
