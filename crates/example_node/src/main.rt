@@ -38,10 +38,8 @@ fn store_and_look_up(alloc: Global, node: &mut Node<Fnv>) -> Result<Reply, Alloc
 fn call(node: &mut Node<Fnv>, name: Atom, args: Vec<Term>) -> Result<Reply, AllocError> {
     let reply = node.step(&Step::Ask(PID, Call::new(name, args)))?;
     for _ in 0..2 {
-        if let Some(step) = node.due() {
-            // A step that runs out of memory stays pending.
-            let _ = node.step(&step);
-        }
+        // A step that runs out of memory stays pending.
+        let _ = node.run_pending();
     }
     Ok(reply)
 }

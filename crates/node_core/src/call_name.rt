@@ -38,40 +38,65 @@ pub enum CallName {
 
 impl CallName {
     /// Reads the name of a call, such as `lookup_element`. Returns `None` if no call has this name.
+    ///
+    /// Names of the same length are compared one after another; the last group has the lengths of only one name.
     pub fn read(name: &str) -> Option<CallName>
         ensures { result ≡ call_name name.now }
     {
-        match name {
-            "delete" => Some(CallName::Delete),
-            "delete_all_objects" => Some(CallName::DeleteAllObjects),
-            "delete_object" => Some(CallName::DeleteObject),
-            "first" => Some(CallName::First),
-            "first_lookup" => Some(CallName::FirstLookup),
-            "give_away" => Some(CallName::GiveAway),
-            "info" => Some(CallName::Info),
-            "insert" => Some(CallName::Insert),
-            "insert_new" => Some(CallName::InsertNew),
-            "lookup" => Some(CallName::Lookup),
-            "lookup_element" => Some(CallName::LookupElement),
-            "match" => Some(CallName::Match),
-            "match_delete" => Some(CallName::MatchDelete),
-            "match_object" => Some(CallName::MatchObject),
-            "member" => Some(CallName::Member),
-            "new" => Some(CallName::New),
-            "next" => Some(CallName::Next),
-            "next_lookup" => Some(CallName::NextLookup),
-            "receive" => Some(CallName::Receive),
-            "safe_fixtable" => Some(CallName::SafeFixtable),
-            "select" => Some(CallName::Select),
-            "select_count" => Some(CallName::SelectCount),
-            "select_delete" => Some(CallName::SelectDelete),
-            "setopts" => Some(CallName::SetOptions),
-            "tab2list" => Some(CallName::Tab2list),
-            "take" => Some(CallName::Take),
-            "update_counter" => Some(CallName::UpdateCounter),
-            "update_element" => Some(CallName::UpdateElement),
-            "whereis" => Some(CallName::Whereis),
-            _ => None,
+        match name.len() {
+            4 => match name {
+                "info" => Some(CallName::Info),
+                "next" => Some(CallName::Next),
+                "take" => Some(CallName::Take),
+                _ => None,
+            },
+            5 => match name {
+                "first" => Some(CallName::First),
+                "match" => Some(CallName::Match),
+                _ => None,
+            },
+            6 => match name {
+                "delete" => Some(CallName::Delete),
+                "insert" => Some(CallName::Insert),
+                "lookup" => Some(CallName::Lookup),
+                "member" => Some(CallName::Member),
+                "select" => Some(CallName::Select),
+                _ => None,
+            },
+            7 => match name {
+                "receive" => Some(CallName::Receive),
+                "setopts" => Some(CallName::SetOptions),
+                "whereis" => Some(CallName::Whereis),
+                _ => None,
+            },
+            12 => match name {
+                "first_lookup" => Some(CallName::FirstLookup),
+                "match_delete" => Some(CallName::MatchDelete),
+                "match_object" => Some(CallName::MatchObject),
+                "select_count" => Some(CallName::SelectCount),
+                _ => None,
+            },
+            13 => match name {
+                "delete_object" => Some(CallName::DeleteObject),
+                "safe_fixtable" => Some(CallName::SafeFixtable),
+                "select_delete" => Some(CallName::SelectDelete),
+                _ => None,
+            },
+            14 => match name {
+                "lookup_element" => Some(CallName::LookupElement),
+                "update_counter" => Some(CallName::UpdateCounter),
+                "update_element" => Some(CallName::UpdateElement),
+                _ => None,
+            },
+            _ => match name {
+                "new" => Some(CallName::New),
+                "tab2list" => Some(CallName::Tab2list),
+                "give_away" => Some(CallName::GiveAway),
+                "insert_new" => Some(CallName::InsertNew),
+                "next_lookup" => Some(CallName::NextLookup),
+                "delete_all_objects" => Some(CallName::DeleteAllObjects),
+                _ => None,
+            },
         }
     }
 }

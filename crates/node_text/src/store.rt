@@ -1,6 +1,5 @@
 //! A node that is called by texts, its last reply, and why it refused the last call.
 ghost use Rattle.std.specs.Prelude.{◌≡◌, OnOk, OnErr};
-ghost use Rattle.node_core.specs.Observable.{observable};
 ghost use Rattle.node_text.specs.Answers.{WritesReply, WritesReason, written_reply};
 ghost use Rattle.node_text.specs.Calls.{new_store, RunsStep, StepReturns, CallReturns};
 ghost use Rattle.node_text.specs.Statuses.{AreTheStatuses};
@@ -180,22 +179,8 @@ impl Store {
     fn tend(&mut self)
         ensures { self.new ≡ self.old }
     {
-        run_pending(&mut self.node);
-        run_pending(&mut self.node);
-    }
-}
-
-/// Runs the pending growth step, if there is one: a table doubles, or readies a bucket.
-fn run_pending(node: &mut Node<Fnv>)
-    ensures { observable node.new ≡ observable node.old }
-{
-    match node.due() {
-        Some(Step::Grow(table)) => {
-            let _ = node.step(&Step::Grow(table));
+        if matches!(self.node.run_pending(), Ok(true)) {
+            let _ = self.node.run_pending();
         }
-        Some(Step::Ready(table, bucket)) => {
-            let _ = node.step(&Step::Ready(table, bucket));
-        }
-        _ => {}
     }
 }

@@ -30,17 +30,7 @@ done-buckets old new (Ask p asked) reply h = told-buckets old new (Ask p asked) 
 done-buckets old new (Grow t) reply h = h
 done-buckets old new (Ready t bucket) reply h = h
 
-module _ (old new : State) (event : Step) where
-  -- the same of what a method answers, unless memory was refused
-  pub did-observable : (r : Result Reply AllocError) → IfOk r (λ reply. StepsWithBuckets old event reply new) → IfOk r (λ reply. step (observable old) event reply (observable new))
-  did-observable (Ok reply) h = done-observable old new event reply h
-  did-observable (Err error) h = h
-
-  pub did-buckets : (r : Result Reply AllocError) → IfOk r (λ reply. StepsWithBuckets old event reply new) → IfOk r (λ reply. step_on_buckets old event reply new)
-  did-buckets (Ok reply) h = done-buckets old new event reply h
-  did-buckets (Err error) h = h
-
--- the same with a reply and its copy
+-- the same with a reply and its copy, unless memory was refused
 module _ (old new : State) (event : Step) where
   pub twice-observable : (r : Result (Reply × Reply) AllocError) → IfOk r (λ both. StepsWithBuckets old event both.0 new) → IfOk r (λ both. step (observable old) event both.0 (observable new))
   twice-observable (Ok both) h = done-observable old new event both.0 h

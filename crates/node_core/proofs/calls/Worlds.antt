@@ -1,6 +1,6 @@
 -- What the world answers is what the machine may, and what holds of it.
 use Rattle.std.proofs.Common.{◌≡◌, refl, sym, ap, subst}
-use Rattle.std.specs.Prelude.{Result, Ok, Err, IfOk, OnErr}
+use Rattle.std.specs.Prelude.{Result, Ok, Err, IfOk, OnOk, OnErr}
 use Rattle.std.specs.declared.alloc.AllocError.{AllocError}
 use Rattle.table_ops.specs.declared.refusal.Refusal.{Refusal}
 use Rattle.table_ops.specs.declared.refusal.Refusal.TheVariants as refusal
@@ -38,3 +38,12 @@ told-err outcome old new (Err refusal.Memory) (Err error) c e = c
 told-err outcome old new (Ok reply) (Err error) c e = absurd e
 told-err outcome old new (Err refusal.Badarg) (Err error) c e = absurd e
 told-err outcome old new (Err refusal.SystemLimit) (Err error) c e = absurd e
+
+-- the same of a method that writes its reply
+pub written-ok : {E : Type 0} (P : Reply → Type 0) (reply : Reply) (r : Result (Unit {0}) E) → IfOk (called.to_reply (λ _. reply) r) P → OnOk r (P reply)
+written-ok P reply (Ok x) h = h
+written-ok P reply (Err e) h = tt
+
+pub written-err : {E : Type 0} (X : Type 0) (reply : Reply) (r : Result (Unit {0}) E) → OnErr (called.to_reply (λ _. reply) r) X → OnErr r X
+written-err X reply (Ok x) h = tt
+written-err X reply (Err e) h = h

@@ -1,12 +1,15 @@
 -- A pending step doubles a table, or readies one of its buckets.
-use Rattle.std.proofs.Common.{◌≡◌, ℕ, suc, Bool, true, false, not, Option, None, Some, [], ◌∷◌, option_map, subst}
-use Rattle.std.specs.Prelude.{if◌then◌else◌, position}
+use Rattle.std.proofs.Common.{◌≡◌, ℕ, suc, Bool, true, false, not, Option, None, Some, [], ◌∷◌, option_map, subst, ap, Result, Ok, Err}
+use Rattle.std.specs.Prelude.{if◌then◌else◌, position, IfOk, OnErr}
 use Rattle.std.specs.Option.{option_map_or}
 use Rattle.fixed_walk.specs.TableState.{TableState}
 use Rattle.ownership.specs.World.{Tables}
 use Rattle.node_core.specs.declared.step.Step.{Step}
 use Rattle.node_core.specs.declared.step.Step.TheVariants.{Grow, Ready}
+use Rattle.node_core.specs.declared.step.Reply.{Reply}
 use Rattle.node_core.specs.State.{State}
+use Rattle.node_core.specs.Observable.{observable}
+use Rattle.node_core.specs.Machine.{step}
 use Rattle.node_core.specs.rules.Growth.{is_crowded, pending_of, pending_from, due}
 
 module _ (Q : Step → Type 0) (grows : (t : ℕ) → Q (Grow t)) (readies : (t bucket : ℕ) → Q (Ready t bucket)) where
@@ -34,3 +37,13 @@ module _ (Q : Step → Type 0) (grows : (t : ℕ) → Q (Grow t)) (readies : (t 
   -- so what holds of these steps holds of the pending step
   pub due-tends : (s : State) (event : Step) → due s ≡ Some event → Q event
   due-tends s event e = subst Where e (of-tables 0 s.world.tables)
+
+module _ (old new : State) (event : Step) (pending : due old ≡ Some event) where
+  made-unobserved : (r : Reply) → step (observable old) event r (observable new) → observable new ≡ observable old
+  made-unobserved r =
+      due-tends (λ event. step (observable old) event r (observable new) → observable new ≡ observable old) (λ t h. h.1) (λ t bucket h. h.1) old event pending
+
+  -- a pending step changes nothing that a call observes, whether it is made or memory is refused
+  pub pending-unobserved : {E : Type 0} (done : Result Reply E) → IfOk done (λ r. step (observable old) event r (observable new)) → OnErr done (new ≡ old) → observable new ≡ observable old
+  pending-unobserved (Ok r) made failed = made-unobserved r made
+  pending-unobserved (Err e) made failed = ap observable failed

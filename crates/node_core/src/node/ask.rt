@@ -1,12 +1,12 @@
 // Calls of a process.
-ghost use Rattle.std.specs.Prelude.{◌≡◌, IfOk, OnErr};
+ghost use Rattle.std.specs.Prelude.{◌≡◌, IfOk, OnOk, OnErr};
 ghost use Rattle.std.specs.List.{list_any};
 ghost use Rattle.ets_term.specs.Depth.{is_too_deep};
 ghost use Rattle.node_core.specs.Machine.{step};
 ghost use Rattle.node_core.specs.Observable.{observable};
 ghost use Rattle.node_core.specs.Reads.{reads_only, Reads};
 ghost use Rattle.node_core.specs.declared.step.Step.TheVariants.{Ask};
-ghost use Rattle.node_core.specs.inside.Refusals.{early_refusal, ToReply};
+ghost use Rattle.node_core.specs.inside.Refusals.{early_refusal, to_reply, ToReply};
 
 use super::Node;
 use crate::call_name::CallName;
@@ -30,26 +30,42 @@ impl<H: KeyHash + Copy + Drop> Node<H> {
         if let Some(refusal) = self.early_refusal(pid, args) {
             return Ok(Some(refusal));
         }
-        match self.read_call(pid, name, args) {
-            Some(result) => Ok(Some(into_reply(result)?)),
-            None => Ok(None),
+        let mut reply = Reply::NoProcess;
+        match self.read_call(pid, name, args, &mut reply) {
+            Some(result) => match write_refusal(result, &mut reply) {
+                Ok(()) => Ok(Some(reply)),
+                Err(error) => {
+                    drop(reply);
+                    Err(error)
+                }
+            },
+            None => {
+                drop(reply);
+                Ok(None)
+            }
         }
     }
 
-    pub(crate) fn ask(&mut self, pid: u32, call: &Call) -> Result<Reply, AllocError>
-        ensures ok { IfOk result (λ r. step self.old (Ask pid call.now) r self.new) }
+    /// Makes a call, and writes its reply.
+    pub(crate) fn ask(&mut self, pid: u32, call: &Call, reply: &mut Reply) -> Result<(), AllocError>
+        ensures ok { OnOk result (step self.old (Ask pid call.now) reply.new self.new) }
         ensures err { OnErr result (self.new ≡ self.old) }
     {
         let args = call.args.as_slice();
         if let Some(refusal) = self.early_refusal(pid, args) {
-            return Ok(refusal);
+            *reply = refusal;
+            return Ok(());
         }
         let Some(name) = CallName::read(call.name.text()) else {
-            return Ok(Reply::Badarg);
+            *reply = Reply::Badarg;
+            return Ok(());
         };
-        match self.read_call(pid, name, args) {
-            Some(result) => into_reply(result),
-            None => into_reply(self.change_call(pid, name, args)),
+        match self.read_call(pid, name, args, reply) {
+            Some(result) => write_refusal(result, reply),
+            None => {
+                let result = self.change_call(pid, name, args, reply);
+                write_refusal(result, reply)
+            }
         }
     }
 
@@ -109,6 +125,20 @@ fn is_too_deep(term: &Term) -> bool
         Term::List(_) => term.is_too_deep(),
         _ => false,
     }
+}
+
+/// Writes the refusal of a call that was refused; running out of memory is an error.
+#[inline(always)]
+fn write_refusal(call: Result<(), Refusal>, reply: &mut Reply) -> Result<(), AllocError>
+    ensures { ToReply (to_reply (λ _. reply.old) call) (to_reply (λ _. reply.new) result) }
+{
+    match call {
+        Ok(()) => {}
+        Err(Refusal::Badarg) => *reply = Reply::Badarg,
+        Err(Refusal::SystemLimit) => *reply = Reply::SystemLimit,
+        Err(Refusal::Memory) => return Err(AllocError),
+    }
+    Ok(())
 }
 
 /// Returns the reply for the result of a call.

@@ -2,47 +2,60 @@
 ghost use Rattle.std.specs.Prelude.{◌≡◌, [], ◌∷◌, false};
 ghost use Rattle.node_core.specs.Calls.{call};
 ghost use Rattle.node_core.specs.Reads.{reads_only};
-ghost use Rattle.node_core.specs.inside.Refusals.{Refines, RefinesRead};
+ghost use Rattle.node_core.specs.inside.Refusals.{RefinesInto, RefinesRead};
 
 use super::Node;
+use super::replies::{write_reply, write_true, write_truth, write_value};
 use crate::call_name::CallName;
 use crate::step::Reply;
 use ets_term::{KeyHash, Term};
 use table_ops::Refusal;
 
 impl<H: KeyHash + Copy + Drop> Node<H> {
-    /// Makes a call that changes nothing; returns `None` for any other call.
+    /// Makes a call that changes nothing, and writes its reply; returns `None` for any other call.
     pub(crate) fn read_call(
         &self,
         pid: u32,
         name: CallName,
         args: &[Term],
-    ) -> Option<Result<Reply, Refusal>>
-        ensures { RefinesRead self.now pid name args.now result }
+        reply: &mut Reply,
+    ) -> Option<Result<(), Refusal>>
+        ensures { RefinesRead self.now pid name args.now result reply.new }
     {
         match args {
-            [x] => self.read_call_of_one(pid, name, x),
-            [x, y] => self.read_call_of_two(pid, name, x, y),
+            [x] => self.read_call_of_one(pid, name, x, reply),
+            [x, y] => self.read_call_of_two(pid, name, x, y, reply),
             [x, y, z] => match name {
-                CallName::LookupElement => Some(self.lookup_element(pid, x, y, z)),
+                CallName::LookupElement => {
+                    Some(write_value(self.lookup_element(pid, x, y, z), reply))
+                }
                 _ => None,
             },
             [x, y, z, default] => match name {
-                CallName::LookupElement => Some(self.lookup_element_or(pid, x, y, z, default)),
+                CallName::LookupElement => Some(write_value(
+                    self.lookup_element_or(pid, x, y, z, default),
+                    reply,
+                )),
                 _ => None,
             },
             _ => None,
         }
     }
 
-    fn read_call_of_one(&self, pid: u32, name: CallName, x: &Term) -> Option<Result<Reply, Refusal>>
-        ensures { RefinesRead self.now pid name (x.now ∷ []) result }
+    fn read_call_of_one(
+        &self,
+        pid: u32,
+        name: CallName,
+        x: &Term,
+        reply: &mut Reply,
+    ) -> Option<Result<(), Refusal>>
+        ensures { RefinesRead self.now pid name (x.now ∷ []) result reply.new }
     {
         match name {
-            CallName::First => Some(self.first(pid, x)),
-            CallName::FirstLookup => Some(self.first_lookup(pid, x)),
-            CallName::Tab2list => Some(self.tab2list(pid, x)),
-            CallName::Whereis => Some(self.whereis(x)),
+            CallName::First => Some(write_reply(self.first(pid, x), reply)),
+            CallName::FirstLookup => Some(write_reply(self.first_lookup(pid, x), reply)),
+            CallName::Tab2list => Some(write_reply(self.tab2list(pid, x), reply)),
+            CallName::Whereis => Some(write_reply(self.whereis(x), reply)),
             _ => None,
         }
     }
@@ -53,59 +66,83 @@ impl<H: KeyHash + Copy + Drop> Node<H> {
         name: CallName,
         x: &Term,
         y: &Term,
-    ) -> Option<Result<Reply, Refusal>>
-        ensures { RefinesRead self.now pid name (x.now ∷ y.now ∷ []) result }
+        reply: &mut Reply,
+    ) -> Option<Result<(), Refusal>>
+        ensures { RefinesRead self.now pid name (x.now ∷ y.now ∷ []) result reply.new }
     {
         match name {
-            CallName::Info => Some(self.info(x, y)),
-            CallName::Lookup => Some(self.lookup(pid, x, y)),
-            CallName::Match => Some(self.match_bindings(pid, x, y)),
-            CallName::MatchObject => Some(self.match_object(pid, x, y)),
-            CallName::Member => Some(self.member(pid, x, y)),
-            CallName::Next => Some(self.next(pid, x, y)),
-            CallName::NextLookup => Some(self.next_lookup(pid, x, y)),
-            CallName::Select => Some(self.select(pid, x, y)),
-            CallName::SelectCount => Some(self.select_count(pid, x, y)),
+            CallName::Info => Some(write_reply(self.info(x, y), reply)),
+            CallName::Lookup => Some(self.lookup(pid, x, y, reply)),
+            CallName::Match => Some(write_reply(self.match_bindings(pid, x, y), reply)),
+            CallName::MatchObject => Some(write_reply(self.match_object(pid, x, y), reply)),
+            CallName::Member => Some(write_truth(self.alloc, self.member(pid, x, y), reply)),
+            CallName::Next => Some(write_reply(self.next(pid, x, y), reply)),
+            CallName::NextLookup => Some(write_reply(self.next_lookup(pid, x, y), reply)),
+            CallName::Select => Some(write_reply(self.select(pid, x, y), reply)),
+            CallName::SelectCount => Some(write_reply(self.select_count(pid, x, y), reply)),
             _ => None,
         }
     }
 
-    /// Makes any other call.
+    /// Makes any other call, and writes its reply.
     pub(crate) fn change_call(
         &mut self,
         pid: u32,
         name: CallName,
         args: &[Term],
-    ) -> Result<Reply, Refusal>
+        reply: &mut Reply,
+    ) -> Result<(), Refusal>
         requires { reads_only name args.now ≡ false }
-        ensures { Refines (call self.old pid name args.now) self.old result self.new }
+        ensures { RefinesInto (call self.old pid name args.now) self.old result reply.new self.new }
     {
         match args {
-            [] => self.change_call_of_none(pid, name),
-            [x] => self.change_call_of_one(pid, name, x),
-            [x, y] => self.change_call_of_two(pid, name, x, y),
-            [x, y, z] => self.change_call_of_three(pid, name, x, y, z),
-            [x, y, z, default] => self.change_call_of_four(pid, name, x, y, z, default),
+            [] => match name {
+                CallName::Receive => write_reply(self.receive(pid), reply),
+                _ => Err(Refusal::Badarg),
+            },
+            [x] => self.change_call_of_one(pid, name, x, reply),
+            [x, y] => self.change_call_of_two(pid, name, x, y, reply),
+            [x, y, z] => match name {
+                CallName::GiveAway => write_reply(self.give_away(pid, x, y, z), reply),
+                CallName::UpdateCounter => {
+                    write_value(self.update_counter(pid, x, y, z, None), reply)
+                }
+                CallName::UpdateElement => {
+                    let is_written = self.update_element(pid, x, y, z, None);
+                    write_truth(self.alloc, is_written, reply)
+                }
+                _ => Err(Refusal::Badarg),
+            },
+            [x, y, z, default] => match name {
+                CallName::UpdateCounter => {
+                    write_value(self.update_counter(pid, x, y, z, Some(default)), reply)
+                }
+                CallName::UpdateElement => {
+                    let is_written = self.update_element(pid, x, y, z, Some(default));
+                    write_truth(self.alloc, is_written, reply)
+                }
+                _ => Err(Refusal::Badarg),
+            },
             _ => Err(Refusal::Badarg),
         }
     }
 
-    fn change_call_of_none(&mut self, pid: u32, name: CallName) -> Result<Reply, Refusal>
-        ensures { Refines (call self.old pid name []) self.old result self.new }
-    {
-        match name {
-            CallName::Receive => self.receive(pid),
-            _ => Err(Refusal::Badarg),
-        }
-    }
-
-    fn change_call_of_one(&mut self, pid: u32, name: CallName, x: &Term) -> Result<Reply, Refusal>
+    fn change_call_of_one(
+        &mut self,
+        pid: u32,
+        name: CallName,
+        x: &Term,
+        reply: &mut Reply,
+    ) -> Result<(), Refusal>
         requires { reads_only name (x.now ∷ []) ≡ false }
-        ensures { Refines (call self.old pid name (x.now ∷ [])) self.old result self.new }
+        ensures { RefinesInto (call self.old pid name (x.now ∷ []))
+            self.old result reply.new self.new }
     {
         match name {
-            CallName::Delete => self.delete_table(pid, x),
-            CallName::DeleteAllObjects => self.delete_all_objects(pid, x),
+            CallName::Delete => write_reply(self.delete_table(pid, x), reply),
+            CallName::DeleteAllObjects => {
+                write_true(self.alloc, self.delete_all_objects(pid, x), reply)
+            }
             _ => Err(Refusal::Badarg),
         }
     }
@@ -116,61 +153,23 @@ impl<H: KeyHash + Copy + Drop> Node<H> {
         name: CallName,
         x: &Term,
         y: &Term,
-    ) -> Result<Reply, Refusal>
+        reply: &mut Reply,
+    ) -> Result<(), Refusal>
         requires { reads_only name (x.now ∷ y.now ∷ []) ≡ false }
-        ensures { Refines (call self.old pid name (x.now ∷ y.now ∷ [])) self.old result self.new }
+        ensures { RefinesInto (call self.old pid name (x.now ∷ y.now ∷ []))
+            self.old result reply.new self.new }
     {
         match name {
-            CallName::Delete => self.delete(pid, x, y),
-            CallName::DeleteObject => self.delete_object(pid, x, y),
-            CallName::Insert => self.insert(pid, x, y),
-            CallName::InsertNew => self.insert_new(pid, x, y),
-            CallName::MatchDelete => self.match_delete(pid, x, y),
-            CallName::New => self.new_call(pid, x, y),
-            CallName::SafeFixtable => self.safe_fixtable(pid, x, y),
-            CallName::SelectDelete => self.select_delete(pid, x, y),
-            CallName::SetOptions => self.set_options(pid, x, y),
-            CallName::Take => self.take(pid, x, y),
-            _ => Err(Refusal::Badarg),
-        }
-    }
-
-    fn change_call_of_three(
-        &mut self,
-        pid: u32,
-        name: CallName,
-        x: &Term,
-        y: &Term,
-        z: &Term,
-    ) -> Result<Reply, Refusal>
-        requires { reads_only name (x.now ∷ y.now ∷ z.now ∷ []) ≡ false }
-        ensures { Refines (call self.old pid name (x.now ∷ y.now ∷ z.now ∷ []))
-            self.old result self.new }
-    {
-        match name {
-            CallName::GiveAway => self.give_away(pid, x, y, z),
-            CallName::UpdateCounter => self.update_counter(pid, x, y, z, None),
-            CallName::UpdateElement => self.update_element(pid, x, y, z, None),
-            _ => Err(Refusal::Badarg),
-        }
-    }
-
-    fn change_call_of_four(
-        &mut self,
-        pid: u32,
-        name: CallName,
-        x: &Term,
-        y: &Term,
-        z: &Term,
-        default: &Term,
-    ) -> Result<Reply, Refusal>
-        requires { reads_only name (x.now ∷ y.now ∷ z.now ∷ default.now ∷ []) ≡ false }
-        ensures { Refines (call self.old pid name (x.now ∷ y.now ∷ z.now ∷ default.now ∷ []))
-            self.old result self.new }
-    {
-        match name {
-            CallName::UpdateCounter => self.update_counter(pid, x, y, z, Some(default)),
-            CallName::UpdateElement => self.update_element(pid, x, y, z, Some(default)),
+            CallName::Delete => write_true(self.alloc, self.delete(pid, x, y), reply),
+            CallName::DeleteObject => write_true(self.alloc, self.delete_object(pid, x, y), reply),
+            CallName::Insert => write_true(self.alloc, self.insert(pid, x, y), reply),
+            CallName::InsertNew => write_truth(self.alloc, self.insert_new(pid, x, y), reply),
+            CallName::MatchDelete => write_reply(self.match_delete(pid, x, y), reply),
+            CallName::New => write_reply(self.new_call(pid, x, y), reply),
+            CallName::SafeFixtable => write_reply(self.safe_fixtable(pid, x, y), reply),
+            CallName::SelectDelete => write_reply(self.select_delete(pid, x, y), reply),
+            CallName::SetOptions => write_reply(self.set_options(pid, x, y), reply),
+            CallName::Take => write_reply(self.take(pid, x, y), reply),
             _ => Err(Refusal::Badarg),
         }
     }

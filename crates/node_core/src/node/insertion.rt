@@ -2,32 +2,25 @@
 ghost use Rattle.std.specs.Prelude.{◌≡◌};
 ghost use Rattle.node_core.specs.Access.{writes};
 ghost use Rattle.node_core.specs.rules.Insertion.{objects_in, Insert, InsertNew};
-ghost use Rattle.node_core.specs.inside.Refusals.{Refines};
+ghost use Rattle.node_core.specs.rules.Replies.{true_reply, truth_reply};
+ghost use Rattle.node_core.specs.inside.Refusals.{Refines, to_reply};
 
 use super::Node;
 use super::access::Access;
-use super::replies::{true_reply, truth_reply};
-use crate::step::Reply;
 use ets_term::{KeyHash, Term};
 use std::slice;
 use table_ops::Refusal;
 
 impl<H: KeyHash + Copy + Drop> Node<H> {
-    pub(crate) fn insert(
-        &mut self,
-        pid: u32,
-        table: &Term,
-        objects: &Term,
-    ) -> Result<Reply, Refusal>
+    pub(crate) fn insert(&mut self, pid: u32, table: &Term, objects: &Term) -> Result<(), Refusal>
         ensures { Refines (writes self.old pid table.now (Insert objects.now))
-            self.old result self.new }
+            self.old (to_reply (λ _. true_reply) result) self.new }
     {
-        let alloc = self.alloc;
         let Some(table) = self.usable_mut(Access::Write, pid, table) else {
             return Err(Refusal::Badarg);
         };
         table.insert(objects_in(objects))?;
-        Ok(true_reply(alloc))
+        Ok(())
     }
 
     pub(crate) fn insert_new(
@@ -35,16 +28,15 @@ impl<H: KeyHash + Copy + Drop> Node<H> {
         pid: u32,
         table: &Term,
         objects: &Term,
-    ) -> Result<Reply, Refusal>
+    ) -> Result<bool, Refusal>
         ensures { Refines (writes self.old pid table.now (InsertNew objects.now))
-            self.old result self.new }
+            self.old (to_reply truth_reply result) self.new }
     {
-        let alloc = self.alloc;
         let Some(table) = self.usable_mut(Access::Write, pid, table) else {
             return Err(Refusal::Badarg);
         };
         let inserted = table.insert_new(objects_in(objects))?;
-        Ok(truth_reply(alloc, inserted))
+        Ok(inserted)
     }
 }
 

@@ -1,28 +1,39 @@
 // Calls that read a table.
 ghost use Rattle.node_core.specs.Access.{reads};
 ghost use Rattle.node_core.specs.rules.Reading.{Lookup, Member, LookupElement, LookupElementOr, Tab2list};
-ghost use Rattle.node_core.specs.inside.Refusals.{Refines};
+ghost use Rattle.node_core.specs.rules.Replies.{truth_reply};
+ghost use Rattle.node_core.specs.declared.step.Reply.TheVariants.{Value};
+ghost use Rattle.node_core.specs.inside.Refusals.{Refines, RefinesInto, to_reply};
 
 use super::Node;
-use super::replies::{list_reply, truth_reply};
+use super::replies::write_list;
 use crate::position::position_of;
 use crate::step::Reply;
 use ets_term::{KeyHash, Term};
 use table_ops::Refusal;
 
 impl<H: KeyHash + Copy + Drop> Node<H> {
-    pub(crate) fn lookup(&self, pid: u32, table: &Term, key: &Term) -> Result<Reply, Refusal>
-        ensures { Refines (reads self.now pid table.now (Lookup key.now)) self.now result self.now }
+    pub(crate) fn lookup(
+        &self,
+        pid: u32,
+        table: &Term,
+        key: &Term,
+        reply: &mut Reply,
+    ) -> Result<(), Refusal>
+        ensures { RefinesInto (reads self.now pid table.now (Lookup key.now))
+            self.now result reply.new self.now }
     {
         let table = self.readable(pid, table).ok_or(Refusal::Badarg)?;
-        Ok(list_reply(self.alloc, table.lookup(key))?)
+        write_list(self.alloc, table.lookup(key), reply)?;
+        Ok(())
     }
 
-    pub(crate) fn member(&self, pid: u32, table: &Term, key: &Term) -> Result<Reply, Refusal>
-        ensures { Refines (reads self.now pid table.now (Member key.now)) self.now result self.now }
+    pub(crate) fn member(&self, pid: u32, table: &Term, key: &Term) -> Result<bool, Refusal>
+        ensures { Refines (reads self.now pid table.now (Member key.now))
+            self.now (to_reply truth_reply result) self.now }
     {
         let table = self.readable(pid, table).ok_or(Refusal::Badarg)?;
-        Ok(truth_reply(self.alloc, table.member(key)))
+        Ok(table.member(key))
     }
 
     pub(crate) fn lookup_element(
@@ -31,14 +42,14 @@ impl<H: KeyHash + Copy + Drop> Node<H> {
         table: &Term,
         key: &Term,
         position: &Term,
-    ) -> Result<Reply, Refusal>
+    ) -> Result<Term, Refusal>
         ensures { Refines (reads self.now pid table.now (LookupElement key.now position.now))
-            self.now result self.now }
+            self.now (to_reply Value result) self.now }
     {
         let table = self.readable(pid, table).ok_or(Refusal::Badarg)?;
         let position = position_of(position).ok_or(Refusal::Badarg)?;
         let element = table.lookup_element(key, position)?;
-        Ok(Reply::Value(element))
+        Ok(element)
     }
 
     pub(crate) fn lookup_element_or(
@@ -48,15 +59,15 @@ impl<H: KeyHash + Copy + Drop> Node<H> {
         key: &Term,
         position: &Term,
         default: &Term,
-    ) -> Result<Reply, Refusal>
+    ) -> Result<Term, Refusal>
         ensures { Refines
             (reads self.now pid table.now (LookupElementOr key.now position.now default.now))
-            self.now result self.now }
+            self.now (to_reply Value result) self.now }
     {
         let table = self.readable(pid, table).ok_or(Refusal::Badarg)?;
         let position = position_of(position).ok_or(Refusal::Badarg)?;
         let element = table.lookup_element_or(key, position, default)?;
-        Ok(Reply::Value(element))
+        Ok(element)
     }
 
     pub(crate) fn tab2list(&self, pid: u32, table: &Term) -> Result<Reply, Refusal>

@@ -1,11 +1,11 @@
 // Calls that remove objects.
 ghost use Rattle.node_core.specs.Access.{writes};
 ghost use Rattle.node_core.specs.rules.Removal.{Take, Delete, DeleteObject, DeleteAllObjects};
-ghost use Rattle.node_core.specs.inside.Refusals.{Refines};
+ghost use Rattle.node_core.specs.rules.Replies.{true_reply};
+ghost use Rattle.node_core.specs.inside.Refusals.{Refines, to_reply};
 
 use super::Node;
 use super::access::Access;
-use super::replies::true_reply;
 use crate::step::Reply;
 use ets_term::{KeyHash, Term};
 use table_ops::Refusal;
@@ -21,16 +21,15 @@ impl<H: KeyHash + Copy + Drop> Node<H> {
         Ok(Reply::Value(Term::List(objects)))
     }
 
-    pub(crate) fn delete(&mut self, pid: u32, table: &Term, key: &Term) -> Result<Reply, Refusal>
+    pub(crate) fn delete(&mut self, pid: u32, table: &Term, key: &Term) -> Result<(), Refusal>
         ensures { Refines (writes self.old pid table.now (Delete key.now))
-            self.old result self.new }
+            self.old (to_reply (λ _. true_reply) result) self.new }
     {
-        let alloc = self.alloc;
         let Some(table) = self.usable_mut(Access::Write, pid, table) else {
             return Err(Refusal::Badarg);
         };
         table.delete_key(key);
-        Ok(true_reply(alloc))
+        Ok(())
     }
 
     pub(crate) fn delete_object(
@@ -38,27 +37,25 @@ impl<H: KeyHash + Copy + Drop> Node<H> {
         pid: u32,
         table: &Term,
         object: &Term,
-    ) -> Result<Reply, Refusal>
+    ) -> Result<(), Refusal>
         ensures { Refines (writes self.old pid table.now (DeleteObject object.now))
-            self.old result self.new }
+            self.old (to_reply (λ _. true_reply) result) self.new }
     {
-        let alloc = self.alloc;
         let Some(table) = self.usable_mut(Access::Write, pid, table) else {
             return Err(Refusal::Badarg);
         };
         table.delete_object(object)?;
-        Ok(true_reply(alloc))
+        Ok(())
     }
 
-    pub(crate) fn delete_all_objects(&mut self, pid: u32, table: &Term) -> Result<Reply, Refusal>
+    pub(crate) fn delete_all_objects(&mut self, pid: u32, table: &Term) -> Result<(), Refusal>
         ensures { Refines (writes self.old pid table.now DeleteAllObjects)
-            self.old result self.new }
+            self.old (to_reply (λ _. true_reply) result) self.new }
     {
-        let alloc = self.alloc;
         let Some(table) = self.usable_mut(Access::Write, pid, table) else {
             return Err(Refusal::Badarg);
         };
         table.delete_all();
-        Ok(true_reply(alloc))
+        Ok(())
     }
 }

@@ -1,14 +1,14 @@
 // Replies. Short atoms take no memory.
-ghost use Rattle.std.specs.Prelude.{◌≡◌, ◌≤◌, length, IfOk};
+ghost use Rattle.std.specs.Prelude.{◌≡◌, ◌<◌, ◌≤◌, length, slice_set, IfOk, OnOk};
 ghost use Rattle.ets_term.specs.Character.{IsAtomText};
 ghost use Rattle.ets_term.specs.declared.term.Term.TheVariants as term;
 ghost use Rattle.node_core.specs.declared.step.Reply.TheVariants.{Value};
 ghost use Rattle.node_core.specs.rules.Replies.{true_reply, truth_reply, list_reply};
-ghost use Rattle.node_core.specs.inside.Refusals.{refusal_of};
+ghost use Rattle.node_core.specs.inside.Refusals.{refusal_of, to_reply};
 
 use crate::step::Reply;
 use crate::terms;
-use ets_term::{Atom, Term};
+use ets_term::{Atom, Items, Term};
 use ownership::WorldFault;
 use std::alloc::{AllocError, Global};
 use table_ops::Refusal;
@@ -49,6 +49,109 @@ pub fn list_reply(alloc: Global, objects: &[Term]) -> Result<Reply, AllocError>
 {
     let copies = terms::copy_terms(alloc, objects)?;
     Ok(Reply::Value(Term::List(copies)))
+}
+
+/// Writes a list of copies of these objects. A list of the same length in its place gives its memory.
+pub fn write_list(alloc: Global, objects: &[Term], reply: &mut Reply) -> Result<(), AllocError>
+    ensures { OnOk result (reply.new ≡ list_reply objects.now) }
+{
+    if let Reply::Value(Term::List(own)) = reply {
+        if own.len() == objects.len() {
+            return write_terms(alloc, objects, own);
+        }
+    }
+    *reply = list_reply(alloc, objects)?;
+    Ok(())
+}
+
+/// Makes each term of `target` equal to the term at its index.
+fn write_terms(alloc: Global, terms: &[Term], target: &mut Items<Term>) -> Result<(), AllocError>
+    requires { length target.old ≡ length terms.now }
+    ensures { OnOk result (target.new ≡ terms.now) }
+{
+    for at in 0..terms.len() {
+        write_term(alloc, &terms[at], target, at)?;
+    }
+    Ok(())
+}
+
+/// Makes one term of `target` equal to a term.
+fn write_term(
+    alloc: Global,
+    term: &Term,
+    target: &mut Items<Term>,
+    at: usize,
+) -> Result<(), AllocError>
+    requires { at < length target.old }
+    ensures { OnOk result (target.new ≡ slice_set target.old at term.now) }
+{
+    let mut own = target.replace(at, Term::Int(0));
+    term.clone_into(alloc, &mut own)?;
+    target.replace(at, own);
+    Ok(())
+}
+
+/// Writes the reply `true`, if the call was made.
+#[inline(always)]
+pub fn write_true(
+    alloc: Global,
+    call: Result<(), Refusal>,
+    reply: &mut Reply,
+) -> Result<(), Refusal>
+    ensures { to_reply (λ _. reply.new) result ≡ to_reply (λ _. true_reply) call }
+{
+    match call {
+        Ok(()) => {
+            *reply = true_reply(alloc);
+            Ok(())
+        }
+        Err(refusal) => Err(refusal),
+    }
+}
+
+/// Writes the truth value that a call returned, if it was made.
+#[inline(always)]
+pub fn write_truth(
+    alloc: Global,
+    call: Result<bool, Refusal>,
+    reply: &mut Reply,
+) -> Result<(), Refusal>
+    ensures { to_reply (λ _. reply.new) result ≡ to_reply truth_reply call }
+{
+    match call {
+        Ok(truth) => {
+            *reply = truth_reply(alloc, truth);
+            Ok(())
+        }
+        Err(refusal) => Err(refusal),
+    }
+}
+
+/// Writes the value that a call returned, if it was made.
+#[inline(always)]
+pub fn write_value(call: Result<Term, Refusal>, reply: &mut Reply) -> Result<(), Refusal>
+    ensures { to_reply (λ _. reply.new) result ≡ to_reply Value call }
+{
+    match call {
+        Ok(value) => {
+            *reply = Reply::Value(value);
+            Ok(())
+        }
+        Err(refusal) => Err(refusal),
+    }
+}
+
+/// Writes the reply that a call returned, if it was made.
+pub fn write_reply(call: Result<Reply, Refusal>, reply: &mut Reply) -> Result<(), Refusal>
+    ensures { to_reply (λ _. reply.new) result ≡ call }
+{
+    match call {
+        Ok(made) => {
+            *reply = made;
+            Ok(())
+        }
+        Err(refusal) => Err(refusal),
+    }
 }
 
 /// Converts a refusal of the world into that of a call.

@@ -3,12 +3,12 @@ ghost use Rattle.std.specs.Prelude.{option_copied};
 ghost use Rattle.table_ops.specs.Refusals as table_refusals;
 ghost use Rattle.node_core.specs.Access.{writes};
 ghost use Rattle.node_core.specs.rules.Updates.{Counts, WritesElements, UpdateCounter, UpdateElement};
-ghost use Rattle.node_core.specs.inside.Refusals.{Refines};
+ghost use Rattle.node_core.specs.rules.Replies.{truth_reply};
+ghost use Rattle.node_core.specs.declared.step.Reply.TheVariants.{Value};
+ghost use Rattle.node_core.specs.inside.Refusals.{Refines, to_reply};
 
 use super::Node;
 use super::access::Access;
-use super::replies::truth_reply;
-use crate::step::Reply;
 use bucket_table::Rows;
 use counters::{read_element_specs, read_ops};
 use ets_term::{KeyHash, Term};
@@ -24,18 +24,18 @@ impl<H: KeyHash + Copy + Drop> Node<H> {
         key: &Term,
         updates: &Term,
         default: Option<&Term>,
-    ) -> Result<Reply, Refusal>
+    ) -> Result<Term, Refusal>
         ensures { Refines
             (writes self.old pid table.now
             (UpdateCounter key.now updates.now (option_copied default.entry)))
-            self.old result self.new }
+            self.old (to_reply Value result) self.new }
     {
         let alloc = self.alloc;
         let Some(table) = self.usable_mut(Access::Write, pid, table) else {
             return Err(Refusal::Badarg);
         };
         let answer = count(alloc, table, key, updates, default)?;
-        Ok(Reply::Value(answer))
+        Ok(answer)
     }
 
     pub(crate) fn update_element(
@@ -45,18 +45,18 @@ impl<H: KeyHash + Copy + Drop> Node<H> {
         key: &Term,
         updates: &Term,
         default: Option<&Term>,
-    ) -> Result<Reply, Refusal>
+    ) -> Result<bool, Refusal>
         ensures { Refines
             (writes self.old pid table.now
             (UpdateElement key.now updates.now (option_copied default.entry)))
-            self.old result self.new }
+            self.old (to_reply truth_reply result) self.new }
     {
         let alloc = self.alloc;
         let Some(table) = self.usable_mut(Access::Write, pid, table) else {
             return Err(Refusal::Badarg);
         };
         let is_written = write(alloc, table, key, updates, default)?;
-        Ok(truth_reply(alloc, is_written))
+        Ok(is_written)
     }
 }
 

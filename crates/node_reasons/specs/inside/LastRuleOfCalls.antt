@@ -113,7 +113,7 @@ last_rule w (Ask p asked) limited = last_rule_of_ask w p asked limited
 last_rule w (Grow t) limited = whole rule.NoTable
 last_rule w (Ready t bucket) limited = whole rule.NoTable
 
--- none of a value, the one of a limit, or the other
+-- no reason for a value, the second for a limit, and the first for any other refusal
 abbrev pub reason_by_reply : Reason → Reason → Reply → Option Reason
 reason_by_reply other limit (Value term) = None
 reason_by_reply other limit Badarg = Some other

@@ -4,7 +4,7 @@ use Rattle.fixed_walk.specs.TableState.{TableState}
 use Rattle.ownership.specs.declared.metadata.Metadata.{Metadata}
 use Rattle.ownership.specs.World.{Tables, metadata_of}
 use Rattle.node_core.specs.declared.call_name.CallName.{CallName}
-use Rattle.node_core.proofs.calls.Arguments.{two, three, four}
+use Rattle.node_core.proofs.calls.Arguments.{three, four}
 use Rattle.node_reasons.specs.Reasons.{table_of_term}
 use Rattle.node_reasons.specs.inside.LastRuleOfCalls.{fixed_of, content_in, last_rule_of_known}
 use Rattle.node_reasons.proofs.calls.last_rule_of_call.Goals as goal
@@ -13,6 +13,12 @@ one : {X : Type 0} (xs : List X) (x : X) → 1 ≤ length xs → length xs < 2 �
 one [] x h k e = absurd (omega (arith, h))
 one (a ∷ []) x h k e = λ i. sym e i ∷ []
 one (a ∷ b ∷ xs) x h k e = absurd (omega (arith, k))
+
+two : {X : Type 0} (xs : List X) (x y : X) → 2 ≤ length xs → length xs < 3 → x ≡ get_or xs 0 x → y ≡ get_or xs 1 y → xs ≡ x ∷ y ∷ []
+two [] x y h k e f = absurd (omega (arith, h))
+two (a ∷ []) x y h k e f = absurd (omega (arith, h))
+two (a ∷ b ∷ []) x y h k e f = λ i. sym e i ∷ sym f i ∷ []
+two (a ∷ b ∷ c ∷ xs) x y h k e f = absurd (omega (arith, k))
 
 -- the table that is found is that of the first argument
 found : (ts : Tables) (name : CallName) (rest : List Term) {p q : ℕ} {x y : Term} {metadata : Option Metadata} {fixed : Option TableState}

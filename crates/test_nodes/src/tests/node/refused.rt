@@ -114,3 +114,70 @@ fn wrong_again(alloc: Global, rows: &[Row]) -> Result<Option<usize>, AllocError>
 fn a_refused_step_is_done_again(rt: HostRuntime) {
     assert_eq!(rt; wrong_again(rt.alloc(), &LIFE), Ok(None));
 }
+
+/// Lists over lists of the same and of another length, with objects of the same and of another shape.
+const OVER: [Row; 14] = [
+    (Enrol(0), "<0"),
+    (Ask(0, "new(t,[named_table,bag])"), "t"),
+    (
+        Ask(0, "insert(t,[{a,1},{a,{b,[c]}},{b,2},{c,3,4}])"),
+        "true",
+    ),
+    (Ask(0, "lookup(t,b)"), "[{b,2}]"),
+    (Ask(0, "lookup(t,c)"), "[{c,3,4}]"),
+    (Ask(0, "lookup(t,b)"), "[{b,2}]"),
+    (Ask(0, "lookup(t,a)"), "[{a,1},{a,{b,[c]}}]"),
+    (Ask(0, "lookup(t,a)"), "[{a,1},{a,{b,[c]}}]"),
+    (Ask(0, "lookup(t,d)"), "[]"),
+    (Ask(0, "member(t,b)"), "true"),
+    (Ask(0, "lookup(u,b)"), "** badarg"),
+    (Ask(0, "lookup(t,c)"), "[{c,3,4}]"),
+    (Ask(1, "lookup(t,c)"), "** noproc"),
+    (Ask(0, "lookup(t,b)"), "[{b,2}]"),
+];
+
+/// Returns whether a step writes this reply over another. After out of memory the reply must be `NoProcess`.
+fn writes_again(
+    alloc: Global,
+    node: &mut Node<Fnv>,
+    step: &Step,
+    reply: &mut Reply,
+    wanted: &str,
+) -> Result<bool, AllocError> {
+    if node.step_into(step, reply).is_err() {
+        if !matches!(reply, Reply::NoProcess) {
+            return Ok(false);
+        }
+        node.step_into(step, reply)?;
+    }
+    is_again(alloc, reply, wanted)
+}
+
+/// Returns the place of the first row with another reply. Each reply is written over the one before.
+fn wrong_over_in(
+    alloc: Global,
+    node: &mut Node<Fnv>,
+    reply: &mut Reply,
+    rows: &[Row],
+) -> Result<Option<usize>, AllocError> {
+    for (place, (event, wanted)) in rows.iter().enumerate() {
+        let step = step_again(alloc, *event)?;
+        let is_right = writes_again(alloc, node, &step, reply, *wanted);
+        drop(step);
+        if !is_right? {
+            return Ok(Some(place));
+        }
+    }
+    Ok(None)
+}
+
+#[test]
+fn a_reply_is_written_over_another(rt: HostRuntime) {
+    let alloc = rt.alloc();
+    let mut node = Node::new(alloc, Limits::usual(), Fnv);
+    let mut reply = Reply::NoProcess;
+    let place = wrong_over_in(alloc, &mut node, &mut reply, &OVER);
+    drop(reply);
+    drop(node);
+    assert_eq!(rt; place, Ok(None));
+}

@@ -7,4 +7,4 @@ use Rattle.node_core.proofs.node.Node.delete.Goals as goal
 
 pub returns : goal.returns
 returns g c =
-    rw c.true_reply.ensures (changed c.args.self.now c.args.pid Write c.args.table.now c.in-Some.table.now c.delete_key.new.self c.in-Some.ensures.value (Delete c.args.key.now) true_reply (refl, c.delete_key.ensures))
+    changed c.args.self.now c.args.pid Write c.args.table.now c.in-Some.table.now c.delete_key.new.self c.in-Some.ensures.value (Delete c.args.key.now) true_reply (refl, c.delete_key.ensures)

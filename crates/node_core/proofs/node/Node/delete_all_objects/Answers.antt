@@ -7,4 +7,4 @@ use Rattle.node_core.proofs.node.Node.delete_all_objects.Goals as goal
 
 pub returns : goal.returns
 returns g c =
-    rw c.true_reply.ensures (changed c.args.self.now c.args.pid Write c.args.table.now c.in-Some.table.now c.delete_all.new.self c.in-Some.ensures.value DeleteAllObjects true_reply (refl, c.delete_all.ensures))
+    changed c.args.self.now c.args.pid Write c.args.table.now c.in-Some.table.now c.delete_all.new.self c.in-Some.ensures.value DeleteAllObjects true_reply (refl, c.delete_all.ensures)

@@ -17,5 +17,5 @@ returns-in_err-delete_object g c =
 
 pub returns : goal.returns
 returns g c =
-    rw c.true_reply.ensures (changed-ok c.args.self.now c.args.pid Write c.args.table.now c.in-Some.table.now c.delete_object.new.self c.in-Some.ensures.value (λ _. true_reply)
-    (λ table. on_content (DeletesObject (is_fixed table.fixes) c.args.object.now) table) tt c.in_ok-delete_object.ensures)
+    changed-ok c.args.self.now c.args.pid Write c.args.table.now c.in-Some.table.now c.delete_object.new.self c.in-Some.ensures.value (λ _. true_reply)
+    (λ table. on_content (DeletesObject (is_fixed table.fixes) c.args.object.now) table) tt c.in_ok-delete_object.ensures

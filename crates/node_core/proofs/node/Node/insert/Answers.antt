@@ -17,5 +17,5 @@ returns-in_err-insert g c =
 
 pub returns : goal.returns
 returns g c =
-    rw c.true_reply.ensures (changed-ok c.args.self.now c.args.pid Write c.args.table.now c.in-Some.table.now c.insert.new.self c.in-Some.ensures.value (λ _. true_reply) (on_content (Inserts (objects_in c.args.objects.now))) tt
-    (subst (λ objects. on_content (Inserts objects) c.in-Some.table.now (Ok tt) c.insert.new.self) c.objects_in.ensures c.in_ok-insert.ensures))
+    changed-ok c.args.self.now c.args.pid Write c.args.table.now c.in-Some.table.now c.insert.new.self c.in-Some.ensures.value (λ _. true_reply) (on_content (Inserts (objects_in c.args.objects.now))) tt
+    (subst (λ objects. on_content (Inserts objects) c.in-Some.table.now (Ok tt) c.insert.new.self) c.objects_in.ensures c.in_ok-insert.ensures)

@@ -17,5 +17,5 @@ returns-in_err-inserted g c =
 
 pub returns : goal.returns
 returns g c =
-    rw c.truth_reply.ensures (changed-ok c.args.self.now c.args.pid Write c.args.table.now c.in-Some.table.now c.insert_new.new.self c.in-Some.ensures.value truth_reply (on_content (InsertsNew (objects_in c.args.objects.now))) c.in_ok-inserted.inserted
-    (subst (λ objects. on_content (InsertsNew objects) c.in-Some.table.now (Ok c.in_ok-inserted.inserted) c.insert_new.new.self) c.objects_in.ensures c.in_ok-inserted.ensures))
+    changed-ok c.args.self.now c.args.pid Write c.args.table.now c.in-Some.table.now c.insert_new.new.self c.in-Some.ensures.value truth_reply (on_content (InsertsNew (objects_in c.args.objects.now))) c.in_ok-inserted.inserted
+    (subst (λ objects. on_content (InsertsNew objects) c.in-Some.table.now (Ok c.in_ok-inserted.inserted) c.insert_new.new.self) c.objects_in.ensures c.in_ok-inserted.ensures)

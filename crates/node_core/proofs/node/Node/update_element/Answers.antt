@@ -13,4 +13,4 @@ returns-in_err-is_written g c =
 
 pub returns : goal.returns
 returns g c =
-    rw c.truth_reply.ensures (changed-ok c.args.self.now c.args.pid Write c.args.table.now c.in-Some.table.now c.write.new.table c.in-Some.ensures.value truth_reply (WritesElements c.args.key.now c.args.updates.now (option_copied c.args.default)) c.in_ok-is_written.is_written c.in_ok-is_written.ensures)
+    changed-ok c.args.self.now c.args.pid Write c.args.table.now c.in-Some.table.now c.write.new.table c.in-Some.ensures.value truth_reply (WritesElements c.args.key.now c.args.updates.now (option_copied c.args.default)) c.in_ok-is_written.is_written c.in_ok-is_written.ensures
