@@ -13,7 +13,7 @@ mod LineForms
 mod Fronts
 mod Defaults
 mod CommandLine
-mod Tending
+mod NamedTables
 mod Asking
 mod Jobs
 mod Spawning

@@ -4,7 +4,6 @@ pub mod Answered
 pub mod Parsing
 pub mod Codes
 pub mod Enrolments
-pub mod Growth
 pub mod PlanCodes
 pub mod Planning
 pub mod Journal

@@ -24,6 +24,7 @@ pub enum Answer {
 
 impl Answer {
     /// Prints the answer on a line of its own, after the buffered text.
+    #[inline(always)]
     pub fn print<W: Write>(&self, output: &mut Output<'_, W>) -> Result<(), WriteFault>
         ensures same_writer { HasWriterOf output.old output.new }
         ensures ok { OnOk result (Prints W.contents output.old output.new (printed self.now)) }
@@ -40,6 +41,7 @@ impl Answer {
 }
 
 /// Prints a reply and an LF.
+#[inline(always)]
 pub fn print_reply<W: Write>(reply: &Reply, output: &mut Output<'_, W>) -> Result<(), WriteFault>
     ensures same_writer { HasWriterOf output.old output.new }
     ensures ok { OnOk result (Prints W.contents output.old output.new
@@ -55,6 +57,7 @@ pub fn print_reply<W: Write>(reply: &Reply, output: &mut Output<'_, W>) -> Resul
     }
 }
 
+#[inline(never)]
 fn print_syntax<W: Write>(at: usize, output: &mut Output<'_, W>) -> Result<(), WriteFault>
     ensures same_writer { HasWriterOf output.old output.new }
     ensures ok { OnOk result (Prints W.contents output.old output.new

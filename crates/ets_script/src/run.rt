@@ -153,6 +153,7 @@ struct AnsweredLine {
 }
 
 /// Prints the answer to a line, and returns the number of buffered bytes that the line takes.
+#[inline(always)]
 fn print_line<W: Write>(line: AnsweredLine, output: &mut Output<'_, W>) -> Result<usize, WriteFault>
     ensures taken { IfOk result (λ taken. taken ≡ line.taken) }
     ensures same_writer { HasWriterOf output.old output.new }

@@ -5,9 +5,7 @@ ghost use Rattle.ets_script.specs.Lines.{text};
 ghost use Rattle.ets_script.specs.declared.answer.Answer.TheVariants.{NoMemory};
 ghost use Rattle.ets_script.specs.inside.Parsing.{command_view};
 ghost use Rattle.ets_script.specs.Script.{pid_of, table_of, Unchanged, Steps, Spawns, Executes, AnswersLine, at_start};
-ghost use Rattle.node_core.specs.rules.Growth.{due};
 ghost use Rattle.ets_script.specs.inside.Enrolments.{Enrols};
-ghost use Rattle.ets_script.specs.inside.Growth.{RunsPending};
 ghost use Rattle.std.specs.Str.{bytes_eq};
 ghost use Rattle.indexmap.specs.IndexSet.{spare, contains_by, index_set_len};
 
@@ -157,8 +155,9 @@ impl<H: KeyHash + Copy + Drop> Script<H> {
     fn tend(&mut self)
         ensures { self.new ≡ self.old }
     {
-        run_pending(&mut self.node);
-        run_pending(&mut self.node);
+        if matches!(self.node.run_pending(), Ok(true)) {
+            let _ = self.node.run_pending();
+        }
     }
 
     /// Enrols the next number for a name. Reserves capacity for the name first.
@@ -204,15 +203,4 @@ fn enrol<H: KeyHash + Copy + Drop>(
         Ok(reply) => Answer::Replied(reply),
         Err(_) => Answer::NoMemory,
     }
-}
-
-/// Runs the pending growth step, if any. Without memory for it, it stays pending.
-fn run_pending<H: KeyHash + Copy + Drop>(node: &mut Node<H>)
-    ensures unseen { observable node.new ≡ observable node.old }
-    ensures pending { RunsPending (due node.old) node.old node.new }
-{
-    let Some(due) = node.due() else {
-        return;
-    };
-    let _ = node.step(&due);
 }

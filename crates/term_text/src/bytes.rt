@@ -35,7 +35,7 @@ pub fn is_lowercase_byte(b: u8) -> bool
 pub fn is_name_byte(b: u8) -> bool
     ensures { result ≡ is_name b }
 {
-    is_lowercase_byte(b) || (b >= b'A' && b <= b'Z') || is_digit_byte(b) || b == b'_' || b == b'@'
+    is_lowercase_byte(b) || is_digit_byte(b) || b == b'_' || (b >= b'A' && b <= b'Z') || b == b'@'
 }
 
 /// Returns whether a term can begin with the byte.

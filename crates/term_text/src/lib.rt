@@ -38,6 +38,6 @@ pub use laws::{
     printed_text_reads_as_itself,
 };
 pub use number::{Magnitude, digits_at};
-pub use print::{print_term, write_term};
+pub use print::{append_term, print_term, write_term};
 pub use reading::{read_term, read_term_bytes};
 pub use sink::{WriteFault, write_bytes};

@@ -10,6 +10,7 @@ use ets_term::{Atom, MAX_CHARACTERS, Term};
 use std::alloc::Global;
 
 /// Reads the atom that begins with a lowercase letter at this offset.
+#[inline(always)]
 pub(crate) fn name_at(alloc: Global, text: &[u8], at: usize) -> Result<(Term, usize), TextFault>
     requires within { at < length text.now }
     requires small { is_lowercase (slice_index text.now at) ≡ true }

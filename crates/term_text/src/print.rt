@@ -4,7 +4,7 @@ ghost use Rattle.term_text.specs.Printed.{printed};
 ghost use Rattle.term_text.specs.Sent.{AppendsOrFront};
 
 use crate::printer::append;
-use crate::sink::{StringSink, WriteFault};
+use crate::sink::{BytesSink, StringSink, WriteFault};
 use ets_term::Term;
 use std::alloc::{AllocError, Global};
 use std::io::Write;
@@ -26,6 +26,27 @@ pub fn print_term(alloc: Global, term: &Term, out: &mut String) -> Result<(), Al
     }
     *out = text;
     result
+}
+
+/// Appends the text of a term to the bytes. If memory runs out, the bytes are unchanged.
+pub fn append_term(term: &Term, out: &mut Vec<u8>) -> Result<(), AllocError>
+    ensures ok { OnOk result (out.new.items ≡ out.old.items ++ printed term.now) }
+    ensures err { OnErr result (out.new.items ≡ out.old.items) }
+{
+    let len = out.len();
+    let alloc = *out.allocator();
+    let mut buffer = BytesSink {
+        bytes: mem::replace(out, Vec::new(alloc)),
+    };
+    let result = append(term, &mut buffer);
+    let BytesSink { mut bytes } = buffer;
+    if let Err(error) = result {
+        bytes.truncate(len);
+        *out = bytes;
+        return Err(error);
+    }
+    *out = bytes;
+    Ok(())
 }
 
 /// Writes the text of a term and allocates nothing. If the writer fails, it has taken a prefix of the text.

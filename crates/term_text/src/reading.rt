@@ -8,7 +8,7 @@ ghost use Rattle.term_text.specs.inside.Parts.{EndsWithin, ReadsTerm, is_square}
 
 use crate::binary::{angle_at, identifier_at};
 use crate::bracket::Bracket;
-use crate::bytes::{is_digit_byte, is_first_byte, past_blanks};
+use crate::bytes::{is_digit_byte, is_first_byte, is_lowercase_byte, past_blanks};
 use crate::fault::TextFault;
 use crate::integer::integer_at;
 use crate::name::name_at;
@@ -28,6 +28,7 @@ pub fn read_term(alloc: Global, text: &str) -> Result<(Term, usize), TextFault>
 }
 
 /// Does what `read_term` does for a text in bytes.
+#[inline(always)]
 pub fn read_term_bytes(alloc: Global, text: &[u8]) -> Result<(Term, usize), TextFault>
     ensures found { IfOk result (λ x. Front text.now x.0 x.1) }
     ensures fault { IfErr result (λ f. IsFaultOrMemory text.now f) }
@@ -38,6 +39,7 @@ pub fn read_term_bytes(alloc: Global, text: &[u8]) -> Result<(Term, usize), Text
 }
 
 /// Reads the term that must begin here, after blanks, with `levels_left` levels left.
+#[inline(always)]
 #[cycle(term)]
 fn term_at(
     alloc: Global,
@@ -57,9 +59,35 @@ fn term_at(
     form_at(alloc, text, start, levels_left)
 }
 
-/// Reads the term whose first byte is here.
+/// Reads the term whose first byte is here. Most terms are atoms without quotes, or integers.
+#[inline(always)]
 #[cycle(term)]
 fn form_at(
+    alloc: Global,
+    text: &[u8],
+    at: usize,
+    levels_left: usize,
+) -> Result<(Term, usize), TextFault>
+    requires { at < length text.now }
+    ensures within { EndsWithin text.now at result }
+    ensures reads { (os : List OpenBracket) → length os + levels_left ≡ MAX_DEPTH
+        → ReadsTerm text.now (at + 1) (begin at os (slice_index text.now at)) os result }
+{
+    if levels_left > 0 {
+        if is_lowercase_byte(text[at]) {
+            return name_at(alloc, text, at);
+        }
+        if is_digit_byte(text[at]) {
+            return integer_at(text, at, at, false);
+        }
+    }
+    any_form_at(alloc, text, at, levels_left)
+}
+
+/// Reads the term of any form whose first byte is here.
+#[inline(never)]
+#[cycle(term)]
+fn any_form_at(
     alloc: Global,
     text: &[u8],
     at: usize,

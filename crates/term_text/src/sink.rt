@@ -34,6 +34,25 @@ impl Sink for StringSink {
     }
 }
 
+/// A sink of bytes in memory.
+#[derive(Drop)]
+pub(crate) struct BytesSink {
+    pub(crate) bytes: Vec<u8>,
+}
+
+impl Sink for BytesSink {
+    ghost use Rattle.std.specs.Prelude.{Some};
+
+    type Fault = AllocError;
+
+    ghost contents = { λ b. Some b.bytes.items };
+
+    #[inline(always)]
+    fn write_str(&mut self, piece: &str) -> Result<(), AllocError> {
+        self.bytes.extend_from_slice(piece.as_bytes())
+    }
+}
+
 /// Why a text was not written completely.
 #[derive(Debug, Drop)]
 pub enum WriteFault {

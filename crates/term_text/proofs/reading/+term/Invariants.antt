@@ -4,13 +4,16 @@ use Rattle.term_text.specs.inside.Parts.{Reaches, is_square}
 use Rattle.term_text.proofs.reading.+term.Given as goal
 
 abbrev pub decreases-term_at : goal.decreases-term_at
-decreases-term_at l = 3 * l.levels_left + 1
+decreases-term_at l = 4 * l.levels_left + 2
 
 abbrev pub decreases-form_at : goal.decreases-form_at
-decreases-form_at l = 3 * l.levels_left
+decreases-form_at l = 4 * l.levels_left + 1
+
+abbrev pub decreases-any_form_at : goal.decreases-any_form_at
+decreases-any_form_at l = 4 * l.levels_left
 
 abbrev pub decreases-bracket_at : goal.decreases-bracket_at
-decreases-bracket_at l = 3 * l.levels_left + 2
+decreases-bracket_at l = 4 * l.levels_left + 3
 
 abbrev pub invariant-bracket_at-loop-found : goal.invariant-bracket_at-loop-found
 invariant-bracket_at-loop-found l = record {

@@ -1,5 +1,4 @@
-use Rattle.std.proofs.Common.{◌≡◌, List, ℕ, [], length, take, ap, ◌∙◌, subst, rules}
-use Rattle.std.proofs.lemmas.List.{take_at}
+use Rattle.std.proofs.Common.{◌≡◌, List, ℕ, [], subst, rules}
 use Rattle.std.proofs.lemmas.Result.{err_from_is_err_and}
 use Rattle.std.specs.Io.KnownBytes.{Appends}
 use Rattle.term_text.specs.Printed.{printed}
@@ -9,26 +8,20 @@ use Rattle.ets_script.proofs.output.Output.put_term.Goals as goal
 
 pub returns-in_err-send-clause-err : goal.returns-in_err-send-clause-err
 returns-in_err-send-clause-err g c =
-    let front = c.in-Err.ensures in
-    let count : length c.args.self.now.bytes.now.items ≡ c.len-before.result = search rules in
-    let kept : c.truncate.new.self.items ≡ c.args.self.now.bytes.now.items = c.truncate.ensures.items ∙ ap (λ l. take c.len-before.result l) front.3 ∙ take_at c.args.self.now.bytes.now.items front.0 c.len-before.result count in
+    let kept : c.append_term.new.out.items ≡ c.args.self.now.bytes.now.items = search rules in
     let broken = subst (λ (k : List ℕ). Breaks (between (g.W.Write.contents c.args.self.now.writer.now) (g.W.Write.contents c.send.new.self.writer.now)) k) kept c.in_err-send.ensures.err in
     rw (err_from_is_err_and c.from_residual.result c.from_residual.ensures.1).1 (breaks-longer (g.W.Write.contents c.args.self.now.writer.now) (g.W.Write.contents c.send.new.self.writer.now) c.args.self.now.bytes.now.items (printed c.args.term.now) broken)
 
 pub returns-in-Ok-write_term-clause-ok : goal.returns-in-Ok-write_term-clause-ok
 returns-in-Ok-write_term-clause-ok g c =
-    let front = c.in-Err.ensures in
-    let count : length c.args.self.now.bytes.now.items ≡ c.len-before.result = search rules in
-    let kept : c.truncate.new.self.items ≡ c.args.self.now.bytes.now.items = c.truncate.ensures.items ∙ ap (λ l. take c.len-before.result l) front.3 ∙ take_at c.args.self.now.bytes.now.items front.0 c.len-before.result count in
+    let kept : c.append_term.new.out.items ≡ c.args.self.now.bytes.now.items = search rules in
     let none : c.send.new.self.bytes.now.items ≡ [] = search rules in
     let sent = subst (λ (k : List ℕ). Appends (g.W.Write.contents c.args.self.now.writer.now) (g.W.Write.contents c.send.new.self.writer.now) k) kept c.in_ok-send.ensures.ok in
-    rw none (sends-behind (g.W.Write.contents c.args.self.now.writer.now) (g.W.Write.contents c.send.new.self.writer.now) (g.W.Write.contents c.write_term-2.new.out) c.args.self.now.bytes.now.items (printed c.args.term.now) sent c.in-Ok-write_term.ensures)
+    rw none (sends-behind (g.W.Write.contents c.args.self.now.writer.now) (g.W.Write.contents c.send.new.self.writer.now) (g.W.Write.contents c.write_term.new.out) c.args.self.now.bytes.now.items (printed c.args.term.now) sent c.in-Ok-write_term.ensures)
 
 pub returns-in-Err-write_term-clause-err : goal.returns-in-Err-write_term-clause-err
 returns-in-Err-write_term-clause-err g c =
-    let front = c.in-Err.ensures in
-    let count : length c.args.self.now.bytes.now.items ≡ c.len-before.result = search rules in
-    let kept : c.truncate.new.self.items ≡ c.args.self.now.bytes.now.items = c.truncate.ensures.items ∙ ap (λ l. take c.len-before.result l) front.3 ∙ take_at c.args.self.now.bytes.now.items front.0 c.len-before.result count in
+    let kept : c.append_term.new.out.items ≡ c.args.self.now.bytes.now.items = search rules in
     let sent = subst (λ (k : List ℕ). Appends (g.W.Write.contents c.args.self.now.writer.now) (g.W.Write.contents c.send.new.self.writer.now) k) kept c.in_ok-send.ensures.ok in
     let part = c.in-Err-write_term.ensures in
-    breaks-behind (g.W.Write.contents c.args.self.now.writer.now) (g.W.Write.contents c.send.new.self.writer.now) (g.W.Write.contents c.write_term-2.new.out) c.args.self.now.bytes.now.items (printed c.args.term.now) sent (record { sent = part.0; unsent = part.1; written = part.3; parts = part.2 })
+    breaks-behind (g.W.Write.contents c.args.self.now.writer.now) (g.W.Write.contents c.send.new.self.writer.now) (g.W.Write.contents c.write_term.new.out) c.args.self.now.bytes.now.items (printed c.args.term.now) sent (record { sent = part.0; unsent = part.1; written = part.3; parts = part.2 })

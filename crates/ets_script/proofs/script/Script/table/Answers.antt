@@ -3,7 +3,7 @@ use Rattle.std.specs.Prelude.{map, unwrap_or, vec_items}
 use Rattle.ownership.specs.World.{resolve}
 use Rattle.node_core.specs.State.{next_identifier}
 use Rattle.ets_script.specs.Script.{ScriptState, table_of}
-use Rattle.ets_script.proofs.Tending.{table-seen}
+use Rattle.ets_script.proofs.NamedTables.{table-seen}
 use Rattle.ets_script.proofs.script.Script.table.Goals as goal
 
 pub returns-in-Some : goal.returns-in-Some
